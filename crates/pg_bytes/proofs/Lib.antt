@@ -1,0 +1,3 @@
+pub mod SetLemmas
+pub mod WordLemmas
+pub mod CaseLemmas

@@ -1,0 +1,81 @@
+//! The character classes of the C locale.
+ghost use Rattle.std.specs.Prelude.{◌≡◌, ◌&&◌, not, option_map};
+ghost use Rattle.pg_bytes.specs.Sets.{between, union, one};
+ghost use Rattle.pg_bytes.specs.Classes.{class, alpha, digit, alnum, graph, punct, xdigit};
+ghost use Rattle.pg_bytes.specs.ByteSets.{bytes};
+
+use crate::byte_set::ByteSet;
+
+/// The set of one byte.
+fn one(byte: u8) -> ByteSet
+    ensures { bytes result ≡ one byte }
+{
+    let mut set = ByteSet::empty();
+    set.insert(byte);
+    set
+}
+
+/// The letters.
+fn alpha() -> ByteSet
+    ensures { bytes result ≡ alpha }
+{
+    ByteSet::between(b'A', b'Z').union(ByteSet::between(b'a', b'z'))
+}
+
+/// The letters and digits.
+fn alnum() -> ByteSet
+    ensures { bytes result ≡ alnum }
+{
+    alpha().union(ByteSet::between(b'0', b'9'))
+}
+
+/// The hexadecimal digits.
+fn xdigit() -> ByteSet
+    ensures { bytes result ≡ xdigit }
+{
+    let letters = ByteSet::between(b'A', b'F').union(ByteSet::between(b'a', b'f'));
+    ByteSet::between(b'0', b'9').union(letters)
+}
+
+/// The bytes with a glyph that are neither letters nor digits.
+fn punct() -> ByteSet
+    ensures { bytes result ≡ punct }
+{
+    let other = ByteSet::between(b'!', b'~').complement();
+    other.union(alnum()).complement()
+}
+
+/// The character class of a name in the C locale (XBD 7.3.1, 9.3.5): `upper`, `lower`, `alpha`,
+/// `digit`, `alnum`, `xdigit`, `blank`, `space`, `cntrl`, `graph`, `print` or `punct`. `None` for
+/// every other name; names are compared byte for byte.
+pub fn class(name: &[u8]) -> Option<ByteSet>
+    ensures { option_map bytes result ≡ class name.now }
+{
+    if name == b"upper".as_slice() {
+        Some(ByteSet::between(b'A', b'Z'))
+    } else if name == b"lower".as_slice() {
+        Some(ByteSet::between(b'a', b'z'))
+    } else if name == b"alpha".as_slice() {
+        Some(alpha())
+    } else if name == b"digit".as_slice() {
+        Some(ByteSet::between(b'0', b'9'))
+    } else if name == b"alnum".as_slice() {
+        Some(alnum())
+    } else if name == b"xdigit".as_slice() {
+        Some(xdigit())
+    } else if name == b"blank".as_slice() {
+        Some(one(b'\t').union(one(b' ')))
+    } else if name == b"space".as_slice() {
+        Some(ByteSet::between(9, 13).union(one(b' ')))
+    } else if name == b"cntrl".as_slice() {
+        Some(ByteSet::between(0, 31).union(one(127)))
+    } else if name == b"graph".as_slice() {
+        Some(ByteSet::between(b'!', b'~'))
+    } else if name == b"print".as_slice() {
+        Some(ByteSet::between(b' ', b'~'))
+    } else if name == b"punct".as_slice() {
+        Some(punct())
+    } else {
+        None
+    }
+}

@@ -1,0 +1,12 @@
+pub mod CutLaws
+pub mod CutLemmas
+pub mod CutterLemmas
+pub mod Examples
+pub mod HitLemmas
+pub mod LineLaws
+pub mod LineLemmas
+pub mod LongLemmas
+pub mod PartLaws
+pub mod PatternLemmas
+pub mod RunLemmas
+pub mod SameLemmas

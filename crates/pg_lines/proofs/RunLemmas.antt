@@ -1,0 +1,429 @@
+-- Runs of selected lines.
+use Rattle.std.proofs.Common.{◌≡◌, ℕ, zero, suc, ◌+◌, ◌-◌, ◌<◌, ◌≤◌, ◌⊎◌, inl, inr, Bool, true, false, ◌||◌, ◌&&◌, nat_le, nat_lt, cond, List, [], ◌∷◌, ◌++◌, length, take, drop, get_or, refl, sym, ap, ◌∙◌, subst, arith, append_assoc, length-append, length-drop}
+use Rattle.std.specs.List.{AllByRecursion}
+use Rattle.std.proofs.lemmas.Bool.{cases_lt, ltb-true, ltb-false}
+use Rattle.std.proofs.lemmas.Bool.Decides.{nat_tests}
+use Rattle.std.proofs.Math.ListN.{get_or-append}
+use Rattle.std.proofs.lemmas.List.{get_or-append-add, take-append-drop, drop_at, length-take-le, get_or-take, get_or-drop, get_or_default, append-nil, drop_more, drop-drop, drop_all}
+use Rattle.std.proofs.lemmas.List.Prefix.{at_reads}
+use Rattle.memchr.specs.Find.{OccursAt, Nowhere}
+use Rattle.pg_lines.specs.Lines.{lines, IsLine, AreWhole, IsClear, Stops, terminated, start_of}
+use Rattle.pg_lines.specs.Search.{Search, IsCompiled}
+use Rattle.pg_lines.specs.Hits.{selects}
+use Rattle.pg_lines.specs.Runs.{AllLines, IsNextRun, AreRuns, is_covered}
+use Rattle.pg_lines.specs.declared.span.Span.{Span}
+use Rattle.pg_lines.proofs.HitLemmas.{occurs_selected, nowhere_unselected}
+use Rattle.pg_lines.proofs.LineLemmas.{made, around, lines-line, lines-alone, lines-append, terminated-lines, start_within, start_of-front, start_of-back, whole_append}
+
+all_by_index : (P : List ℕ → Type 0) (ls : List (List ℕ)) → ((k : ℕ) → k < length ls → P (get_or ls k [])) → AllByRecursion P ls
+all_by_index P [] h = tt
+all_by_index P (l ∷ ls) h = (h zero (omega arith), all_by_index P ls (λ k below. h (suc k) (omega arith)))
+
+all_at : (P : List ℕ → Type 0) (ls : List (List ℕ)) (k : ℕ) → AllByRecursion P ls → k < length ls → P (get_or ls k [])
+all_at P [] k h below = absurd (omega arith)
+all_at P (l ∷ ls) zero h below = h.0
+all_at P (l ∷ ls) (suc k) h below = all_at P ls k h.1 (omega arith)
+
+all_append : (P : List ℕ → Type 0) (xs ys : List (List ℕ)) → AllByRecursion P xs → AllByRecursion P ys → AllByRecursion P (xs ++ ys)
+all_append P [] ys a b = b
+all_append P (x ∷ xs) ys a b = (a.0, all_append P xs ys a.1 b)
+
+-- the lines of whole lines and of what stands behind them
+pub all_lines-append : (q : Search) (selected : Bool) (xs ys : List ℕ) → AreWhole 10 xs → AllLines q selected xs → AllLines q selected ys → AllLines q selected (xs ++ ys)
+all_lines-append q selected xs ys w a b =
+    let P : List (List ℕ) → Type 0 = λ ls. AllByRecursion (λ l. selects q l ≡ selected) ls in
+    subst P (sym (lines-append 10 xs ys w)) (all_append (λ l. selects q l ≡ selected) (lines 10 xs) (lines 10 ys) a b)
+
+-- what occurs in a part occurs in the whole
+occurs_inside : (xs front l tail p : List ℕ) (i : ℕ) → xs ≡ front ++ (l ++ tail) → OccursAt l p i → OccursAt xs p (length front + i)
+occurs_inside xs front l tail p i e o =
+    let fits : (length front + i) + length p ≤ length xs = omega (arith, ap length e, length-append front (l ++ tail), length-append l tail, o.fits) in
+    record {
+      fits = fits;
+      reads = λ j below.
+          let at : (length front + i) + j ≡ length front + (i + j) = omega arith in
+          let d : drop (length front) xs ≡ l ++ tail = ap (drop (length front)) e ∙ drop_at front (l ++ tail) (length front) refl in
+          ap (λ n. get_or xs n 0) at ∙ (at_reads 0 xs l (length front) tail d (i + j) (omega (arith, o.fits)) ∙ o.reads j below);
+    }
+
+-- bytes in which the pattern occurs nowhere have no selected line
+pub nowhere_lines : (q : Search) (p bytes : List ℕ) → IsCompiled q p → ((k : ℕ) → OccursAt bytes p k → ⊥) → AllLines q false bytes
+nowhere_lines q p bytes c none =
+    all_by_index (λ l. selects q l ≡ false) (lines 10 bytes) (λ k below.
+    let r = around 10 bytes (lines 10 bytes) (made 10 bytes) k below in
+    nowhere_unselected q p (get_or (lines 10 bytes) k []) c (λ i o.
+    none (length (terminated 10 (take k (lines 10 bytes))) + i) (occurs_inside bytes (terminated 10 (take k (lines 10 bytes))) (get_or (lines 10 bytes) k []) r.0 p i r.1 o)))
+
+-- nor have lines that end before the first place at which it occurs
+pub lines_before : (q : Search) (p bytes : List ℕ) (s k : ℕ) → IsCompiled q p → Nowhere (OccursAt bytes p) 0 k → s ≤ k → k ≤ length bytes → AllLines q false (take s bytes)
+lines_before q p bytes zero k c none low high = tt
+lines_before q p bytes (suc s) k c none low high =
+    nowhere_lines q p (take (suc s) bytes) c (λ j o.
+    let len = length-take-le (suc s) bytes (omega arith) in
+    let P : ℕ → Type 0 = λ n. OccursAt bytes p n in
+    let zero-j : 0 + j ≡ j = omega arith in
+    let here : OccursAt bytes p j = subst P zero-j (occurs_inside bytes [] (take (suc s) bytes) (drop (suc s) bytes) p j (sym (take-append-drop (suc s) bytes)) o) in
+    let some : 0 < length p = empty_needle p (λ e. none 0 (omega arith) (omega arith) (record { fits = omega (arith, ap length e); reads = λ i below. absurd (omega (arith, ap length e)) })) in
+    none j (omega arith) (omega (arith, o.fits)) here)
+  where
+    empty_needle : (p : List ℕ) → (p ≡ [] → ⊥) → 0 < length p
+    empty_needle [] ne = absurd (ne refl)
+    empty_needle (b ∷ p) ne = omega arith
+
+is_line : (bytes : List ℕ) (s e : ℕ) → e ≤ length bytes → IsClear 10 bytes s e → IsLine 10 (take (e - s) (drop s bytes))
+is_line bytes s e high none c =
+    let within : c.0 < e - s = omega (arith, c.1, length-take (e - s) (drop s bytes)) in
+    none (s + c.0) (omega arith) (omega arith)
+    (sym (get_or-drop s bytes c.0 0) ∙ (sym (get_or-take (e - s) (drop s bytes) c.0 0 within) ∙ (get_or_default (take (e - s) (drop s bytes)) c.0 0 10 c.1 ∙ c.2)))
+  where
+    length-take : (n : ℕ) (xs : List ℕ) → length (take n xs) ≤ n
+    length-take zero xs = omega arith
+    length-take (suc n) [] = omega arith
+    length-take (suc n) (x ∷ xs) = omega (arith, length-take n xs)
+
+-- what occurs within a part occurs in the part
+occurs_within : (bytes p : List ℕ) (s e k : ℕ) → e ≤ length bytes → s ≤ k → k + length p ≤ e → OccursAt bytes p k → OccursAt (take (e - s) (drop s bytes)) p (k - s)
+occurs_within bytes p s e k high low fits o =
+    let len : length (take (e - s) (drop s bytes)) ≡ e - s = length-take-le (e - s) (drop s bytes) (omega (arith, length-drop s bytes)) in
+    record {
+      fits = omega arith;
+      reads = λ j below.
+          let at : s + ((k - s) + j) ≡ k + j = omega arith in
+          get_or-take (e - s) (drop s bytes) ((k - s) + j) 0 (omega arith) ∙ (get_or-drop s bytes ((k - s) + j) 0 ∙ (ap (λ n. get_or bytes n 0) at ∙ o.reads j below));
+    }
+
+-- the first place of a pattern is no end of bytes
+pub place_below : (bytes p : List ℕ) (k : ℕ) → OccursAt bytes p k → Nowhere (OccursAt bytes p) 0 k → 0 < length bytes → k < length bytes
+place_below bytes p k o none some = elim (cases_lt k (length bytes)) [
+  | inl h ↦ h
+  | inr h ↦ absurd (none 0 (omega arith) (omega arith) (record { fits = omega (arith, o.fits); reads = λ j below. absurd (omega (arith, o.fits)) }))
+]
+
+pub line_some : (bytes : List ℕ) (s k e stop : ℕ) → s ≤ k → k ≤ e → k < length bytes → Stops 10 bytes e stop → (s < stop) × (stop ≤ length bytes)
+line_some bytes s k e stop low high below (inl h) = (omega (arith, h.0), omega (arith, h.0, h.1))
+line_some bytes s k e stop low high below (inr h) = (omega (arith, h.0, h.1), omega (arith, h.0, h.1))
+
+-- The first line in which the pattern occurs: the pattern at k, the line's text from s up to e, and behind it the next line at `stop`.
+pub line_found : (q : Search) (p bytes : List ℕ) (at s k e stop : ℕ) (line : Span) → IsCompiled q p → OccursAt bytes p k → Nowhere (OccursAt bytes p) 0 k
+    → s ≤ k → k ≤ e → AreWhole 10 (take s bytes) → IsClear 10 bytes s e → Stops 10 bytes e stop → 0 < length bytes → s < stop
+    → line.start ≡ at + s → line.end ≡ at + stop → IsNextRun q at bytes line
+line_found q p bytes at s k e stop line c o none low high front clear stops some longer start ends =
+    let bound : (s ≤ e) × (e ≤ length bytes) × (stop ≤ length bytes) × (k + length p ≤ e) = (
+      omega arith,
+      elim stops [ inl h ↦ omega (arith, h.1) | inr h ↦ omega (arith, h.1) ],
+      elim stops [ inl h ↦ omega (arith, h.0, h.1) | inr h ↦ omega (arith, h.0, h.1) ],
+      elim (cases_lt e (k + length p)) [
+        | inr fits ↦ fits
+        | inl beyond ↦ elim stops [
+          | inl h ↦ let at_e : k + (e - k) ≡ e = omega arith in
+              absurd (c.line (e - k, omega arith, get_or_default p (e - k) 10 0 (omega arith) ∙ (sym (o.reads (e - k) (omega arith)) ∙ (ap (λ n. get_or bytes n 0) at_e ∙ h.2))))
+          | inr h ↦ absurd (omega (arith, o.fits, h.1))
+        ]
+      ],
+    ) in
+    let text = take (e - s) (drop s bytes) in
+    let here : OccursAt text p (k - s) = occurs_within bytes p s e k bound.1 low bound.3 o in
+    let chosen = occurs_selected q p text (k - s) c here in
+    let len : length (take s bytes) ≡ s = length-take-le s bytes (omega (arith, bound.1)) in
+    let text_len : length text ≡ e - s = length-take-le (e - s) (drop s bytes) (omega (arith, length-drop s bytes, bound.1)) in
+    let alone : IsLine 10 text = is_line bytes s e bound.1 clear in
+    let selected : List (List ℕ) → Type 0 = λ ls. AllByRecursion (λ l. selects q l ≡ true) ls in
+    let to_e : s + (e - s) ≡ e = omega (arith, bound.0) in
+    let split_at : bytes ≡ (take s bytes ++ text) ++ drop e bytes =
+    sym (take-append-drop s bytes)
+    ∙ (ap (λ xs. take s bytes ++ xs) (sym (take-append-drop (e - s) (drop s bytes)))
+    ∙ (sym (append_assoc (take s bytes) text (drop (e - s) (drop s bytes)))
+    ∙ ap (λ xs. (take s bytes ++ text) ++ xs) (drop-drop (e - s) s bytes ∙ ap (λ n. drop n bytes) to_e))) in
+    elim stops [
+      | inl h ↦
+          let text' = text ++ 10 ∷ [] in
+          let len' : length text' ≡ (e - s) + 1 = omega (arith, length-append text (10 ∷ []), text_len) in
+          let one : lines 10 text' ≡ text ∷ [] = lines-line 10 text [] alone in
+          let next : drop e bytes ≡ 10 ∷ drop (e + 1) bytes = drop_more bytes e 0 h.1 ∙ ap (λ b. b ∷ drop (e + 1) bytes) h.2 in
+          record {
+            gap = take s bytes;
+            text = text';
+            later = drop (e + 1) bytes;
+            joins = split_at ∙ (ap (λ xs. (take s bytes ++ text) ++ xs) next ∙ regroup (take s bytes) text 10 (drop (e + 1) bytes));
+            gap_whole = front;
+            gap_unselected = lines_before q p bytes s k c none low (omega (arith, o.fits));
+            text_some = λ e'. absurd (omega (arith, ap length e'));
+            text_whole = inl (inr (text, refl));
+            text_selected = subst selected (sym one) (chosen, tt);
+            start = omega (arith, start, len);
+            stop = omega (arith, ends, len, len', h.0);
+          }
+      | inr h ↦
+          let one : lines 10 text ≡ text ∷ [] = lines-alone 10 text (omega (arith, h.0)) alone in
+          record {
+            gap = take s bytes;
+            text = text;
+            later = drop e bytes;
+            joins = split_at;
+            gap_whole = front;
+            gap_unselected = lines_before q p bytes s k c none low (omega (arith, o.fits));
+            text_some = λ e'. absurd (omega (arith, ap length e', h.0));
+            text_whole = inr (drop_all e bytes (omega (arith, h.1)));
+            text_selected = subst selected (sym one) (chosen, tt);
+            start = omega (arith, start, len);
+            stop = omega (arith, ends, len, text_len, h.0);
+          }
+    ]
+  where
+    regroup : (xs ys : List ℕ) (b : ℕ) (zs : List ℕ) → (xs ++ ys) ++ b ∷ zs ≡ (xs ++ (ys ++ b ∷ [])) ++ zs
+    regroup xs ys b zs = append_assoc xs ys (b ∷ zs) ∙ (ap (λ t. xs ++ t) (sym (append_assoc ys (b ∷ []) zs)) ∙ sym (append_assoc xs (ys ++ b ∷ []) zs))
+
+-- the same, where the line's two ends were looked for from the pattern's place
+pub line_around : (q : Search) (p bytes : List ℕ) (at s k stop : ℕ) (line : Span) → IsCompiled q p → OccursAt bytes p k → Nowhere (OccursAt bytes p) 0 k
+    → s ≤ k → IsClear 10 bytes s k → AreWhole 10 (take s bytes) → (e : ℕ) × (k ≤ e) × IsClear 10 bytes k e × Stops 10 bytes e stop → 0 < length bytes
+    → line.start ≡ at + s → line.end ≡ at + stop → IsNextRun q at bytes line
+line_around q p bytes at s k stop line c o none low before front h some start ends =
+    let clear : IsClear 10 bytes s h.0 = λ i from to. elim (cases_lt i k) [ inl below ↦ before i from below | inr above ↦ h.2 i above to ] in
+    let below = place_below bytes p k o none some in
+    line_found q p bytes at s k h.0 stop line c o none low h.1 front clear h.3 some (line_some bytes s k h.0 stop low h.1 below h.3).0 start ends
+
+-- The runs so far and an open one behind them: whatever runs follow the open one's start, together they are all runs.
+pub record IsGathered (q : Search) (bytes : List ℕ) (runs : List Span) (run : Span) : Type 0 where
+  pub within : run.end ≤ length bytes
+  pub text : List ℕ
+  pub joins : drop run.start bytes ≡ text ++ drop run.end bytes
+  pub stop : run.end ≡ run.start + length text
+  pub whole : AreWhole 10 text ⊎ (drop run.end bytes ≡ [])
+  pub selected : AllLines q true text
+  pub known : (more : List Span) → AreRuns q run.start (drop run.start bytes) more → AreRuns q 0 bytes (runs ++ more)
+
+-- before the first line
+pub gathered_none : (q : Search) (bytes : List ℕ) (run : Span) → run.start ≡ 0 → run.end ≡ 0 → IsGathered q bytes [] run
+gathered_none q bytes run s e =
+    let same : drop run.start bytes ≡ drop run.end bytes = ap (λ n. drop n bytes) (s ∙ sym e) in
+    let P : ℕ → Type 0 = λ n. (more : List Span) → AreRuns q n (drop n bytes) more → AreRuns q 0 bytes more in
+    record {
+      within = omega arith;
+      text = [];
+      joins = same;
+      stop = omega arith;
+      whole = inl (inl refl);
+      selected = tt;
+      known = subst P (sym s) (λ more h. h);
+    }
+
+-- whole lines of which none is selected, in front of runs
+gap_front : (q : Search) (at : ℕ) (gap rest : List ℕ) (runs : List Span) → AreWhole 10 gap → AllLines q false gap → AreRuns q (at + length gap) rest runs → AreRuns q at (gap ++ rest) runs
+gap_front q at gap rest [] w none h = all_lines-append q false gap rest w none h
+gap_front q at gap rest (run ∷ runs) w none h =
+    let n = h.0 in (
+      record {
+        gap = gap ++ n.gap;
+        text = n.text;
+        later = n.later;
+        joins = ap (λ xs. gap ++ xs) n.joins ∙ (sym (append_assoc gap (n.gap ++ n.text) n.later) ∙ ap (λ xs. xs ++ n.later) (sym (append_assoc gap n.gap n.text)));
+        gap_whole = whole_append 10 gap n.gap w n.gap_whole;
+        gap_unselected = all_lines-append q false gap n.gap w none n.gap_unselected;
+        text_some = n.text_some;
+        text_whole = n.text_whole;
+        text_selected = n.text_selected;
+        start = omega (arith, n.start, length-append gap n.gap);
+        stop = omega (arith, n.stop, length-append gap n.gap);
+      },
+      h.1,
+    )
+
+-- the open run closes, unless it is empty
+abbrev pub closed_run : Span → List Span
+closed_run run = cond (nat_lt run.start run.end) (run ∷ []) []
+
+close_by : (q : Search) (bytes : List ℕ) (runs : List Span) (run : Span) (t : Bool) → nat_lt run.start run.end ≡ t → IsGathered q bytes runs run
+    → (more : List Span) → AreRuns q run.end (drop run.end bytes) more → AreRuns q 0 bytes ((runs ++ cond t (run ∷ []) []) ++ more)
+close_by q bytes runs run true e g more h =
+    let P : List Span → Type 0 = λ rs. AreRuns q 0 bytes rs in
+    let some : run.start < run.end = ltb-true run.start run.end e in
+    let Q : List ℕ → Type 0 = λ xs. AreRuns q run.start xs (run ∷ more) in
+    subst P (sym (append_assoc runs (run ∷ []) more)) (g.known (run ∷ more) (subst Q (sym g.joins) (
+      record {
+        gap = [];
+        text = g.text;
+        later = drop run.end bytes;
+        joins = refl;
+        gap_whole = inl refl;
+        gap_unselected = tt;
+        text_some = λ e'. absurd (omega (arith, ap length e', g.stop));
+        text_whole = g.whole;
+        text_selected = g.selected;
+        start = omega arith;
+        stop = omega (arith, g.stop);
+      },
+      h,
+    )))
+close_by q bytes runs run false e g more h =
+    let P : List Span → Type 0 = λ rs. AreRuns q 0 bytes (rs ++ more) in
+    let none : run.end ≤ run.start = ltb-false run.start run.end e in
+    let same : run.start ≡ run.end = omega (arith, g.stop) in
+    let Q : ℕ → Type 0 = λ n. AreRuns q n (drop n bytes) more in
+    subst P (sym (append-nil runs)) (g.known more (subst Q (sym same) h))
+
+pub close : (q : Search) (bytes : List ℕ) (runs : List Span) (run : Span) → IsGathered q bytes runs run
+    → (more : List Span) → AreRuns q run.end (drop run.end bytes) more → AreRuns q 0 bytes ((runs ++ closed_run run) ++ more)
+close q bytes runs run g more h = close_by q bytes runs run (nat_lt run.start run.end) refl g more h
+
+-- no further line is selected
+pub gathered_all : (q : Search) (bytes : List ℕ) (runs : List Span) (run : Span) → IsGathered q bytes runs run → AllLines q false (drop run.end bytes) → AreRuns q 0 bytes (runs ++ closed_run run)
+gathered_all q bytes runs run g none = let P : List Span → Type 0 = λ rs. AreRuns q 0 bytes rs in subst P (append-nil (runs ++ closed_run run)) (close q bytes runs run g [] none)
+
+-- The next selected line stands behind others.
+pub gathered_gap : (q : Search) (bytes : List ℕ) (runs : List Span) (run line : Span) → IsGathered q bytes runs run → IsNextRun q run.end (drop run.end bytes) line → IsGathered q bytes (runs ++ closed_run run) line
+gathered_gap q bytes runs run line g n =
+    let n1 = n.start in
+    let n2 = n.stop in
+    let d = length-drop run.end bytes in
+    let total = ap length n.joins in
+    let parts = length-append (n.gap ++ n.text) n.later in
+    let parts' = length-append n.gap n.text in
+    let at_start : drop line.start bytes ≡ n.text ++ n.later =
+    ap (λ m. drop m bytes) n1 ∙ (sym (drop-drop (length n.gap) run.end bytes) ∙ (ap (drop (length n.gap)) (n.joins ∙ append_assoc n.gap n.text n.later) ∙ drop_at n.gap (n.text ++ n.later) (length n.gap) refl)) in
+    let at_end : drop line.end bytes ≡ n.later =
+    let e : line.end ≡ line.start + length n.text = omega arith in
+    ap (λ m. drop m bytes) e ∙ (sym (drop-drop (length n.text) line.start bytes) ∙ (ap (drop (length n.text)) at_start ∙ drop_at n.text n.later (length n.text) refl)) in
+    record {
+      within = omega (arith, g.within);
+      text = n.text;
+      joins = at_start ∙ ap (λ xs. n.text ++ xs) (sym at_end);
+      stop = omega arith;
+      whole = elim n.text_whole [ inl w ↦ inl w | inr e ↦ inr (at_end ∙ e) ];
+      selected = n.text_selected;
+      known = λ more h.
+          let P : ℕ → Type 0 = λ m. AreRuns q m (n.text ++ n.later) more in
+          let Q : List ℕ → Type 0 = λ xs. AreRuns q line.start xs more in
+          let R : List ℕ → Type 0 = λ xs. AreRuns q run.end xs more in
+          close q bytes runs run g more (subst R (sym (n.joins ∙ append_assoc n.gap n.text n.later)) (gap_front q run.end n.gap (n.text ++ n.later) more n.gap_whole n.gap_unselected (subst P n1 (subst Q at_start h))));
+    }
+
+-- The next selected line follows the open run at once.
+pub gathered_next : (q : Search) (bytes : List ℕ) (runs : List Span) (run line new : Span) → IsGathered q bytes runs run → IsNextRun q run.end (drop run.end bytes) line → line.start ≤ run.end
+    → new.start ≡ run.start → new.end ≡ line.end → IsGathered q bytes runs new
+gathered_next q bytes runs run line new g n at s e =
+    let n1 = n.start in
+    let n2 = n.stop in
+    let d = length-drop run.end bytes in
+    let total = ap length n.joins in
+    let parts = length-append (n.gap ++ n.text) n.later in
+    let parts' = length-append n.gap n.text in
+    let no_gap : n.gap ≡ [] = is_empty n.gap (omega arith) in
+    let here : drop run.end bytes ≡ n.text ++ n.later = n.joins ∙ ap (λ xs. (xs ++ n.text) ++ n.later) no_gap in
+    let len : length n.gap ≡ 0 = ap length no_gap in
+    let at_end : drop new.end bytes ≡ n.later =
+    let e' : new.end ≡ run.end + length n.text = omega arith in
+    ap (λ m. drop m bytes) e' ∙ (sym (drop-drop (length n.text) run.end bytes) ∙ (ap (drop (length n.text)) here ∙ drop_at n.text n.later (length n.text) refl)) in
+    let whole : AreWhole 10 g.text = elim g.whole [ inl w ↦ w | inr none ↦ absurd (n.text_some (front_empty n.text n.later (sym here ∙ none))) ] in
+    let P : ℕ → Type 0 = λ m. (more : List Span) → AreRuns q m (drop m bytes) more → AreRuns q 0 bytes (runs ++ more) in
+    record {
+      within = omega (arith, g.within);
+      text = g.text ++ n.text;
+      joins = ap (λ m. drop m bytes) s ∙ (g.joins ∙ (ap (λ xs. g.text ++ xs) here ∙ (sym (append_assoc g.text n.text n.later) ∙ ap (λ xs. (g.text ++ n.text) ++ xs) (sym at_end))));
+      stop = omega (arith, length-append g.text n.text, g.stop);
+      whole = elim n.text_whole [ inl w ↦ inl (whole_append 10 g.text n.text whole w) | inr none ↦ inr (at_end ∙ none) ];
+      selected = all_lines-append q true g.text n.text whole g.selected n.text_selected;
+      known = subst P (sym s) g.known;
+    }
+  where
+    is_empty : (xs : List ℕ) → length xs ≤ 0 → xs ≡ []
+    is_empty [] h = refl
+    is_empty (x ∷ xs) h = absurd (omega arith)
+
+    front_empty : (xs ys : List ℕ) → xs ++ ys ≡ [] → xs ≡ []
+    front_empty [] ys e = refl
+    front_empty (x ∷ xs) ys e = absurd (cc)
+
+before_run : (run : Span) (later : Bool) (place : ℕ) → place < run.start → later ≡ false → ((nat_le run.start place && nat_lt place run.end) || later) ≡ false
+before_run run later place low e = grind (arith, nat_tests)
+
+behind_run : (run : Span) (later : Bool) (place : ℕ) → run.end ≤ place → ((nat_le run.start place && nat_lt place run.end) || later) ≡ later
+behind_run run later place low = grind (arith, nat_tests)
+
+in_run : (run : Span) (later : Bool) (place : ℕ) → run.start ≤ place → place < run.end → ((nat_le run.start place && nat_lt place run.end) || later) ≡ true
+in_run run later place low high = grind (arith, nat_tests)
+
+-- no run covers a place before all of them
+not_covered : (q : Search) (at : ℕ) (bytes : List ℕ) (runs : List Span) (place : ℕ) → AreRuns q at bytes runs → place < at → is_covered runs place ≡ false
+not_covered q at bytes [] place h low = refl
+not_covered q at bytes (run ∷ runs) place h low =
+    let later = not_covered q run.end h.0.later runs place h.1 (omega (arith, h.0.stop)) in
+    before_run run (is_covered runs place) place (omega (arith, h.0.start)) later
+
+-- the lines of what stands before a run, of the run, and of what stands behind it
+lines_apart : (q : Search) (at : ℕ) (bytes : List ℕ) (run : Span) (n : IsNextRun q at bytes run) → lines 10 bytes ≡ lines 10 n.gap ++ (lines 10 n.text ++ lines 10 n.later)
+lines_apart q at bytes run n =
+    let back : lines 10 (n.text ++ n.later) ≡ lines 10 n.text ++ lines 10 n.later = elim n.text_whole [
+      | inl w ↦ lines-append 10 n.text n.later w
+      | inr e ↦ ap (λ xs. lines 10 (n.text ++ xs)) e ∙ (ap (lines 10) (append-nil n.text) ∙ sym (ap (λ xs. lines 10 n.text ++ lines 10 xs) e ∙ append-nil (lines 10 n.text)))
+    ] in
+    ap (lines 10) (n.joins ∙ append_assoc n.gap n.text n.later) ∙ (lines-append 10 n.gap (n.text ++ n.later) n.gap_whole ∙ ap (λ ls. lines 10 n.gap ++ ls) back)
+
+-- the line's start is in a run exactly where the line is selected
+pub covered : (q : Search) (at : ℕ) (bytes : List ℕ) (runs : List Span) → AreRuns q at bytes runs → (k : ℕ) → k < length (lines 10 bytes)
+    → is_covered runs (at + start_of 10 (lines 10 bytes) k) ≡ selects q (get_or (lines 10 bytes) k [])
+covered q at bytes [] h k below = sym (all_at (λ l. selects q l ≡ false) (lines 10 bytes) k h below)
+covered q at bytes (run ∷ runs) h k below =
+    let n = h.0 in
+    let P : List (List ℕ) → Type 0 = λ ls. k < length ls → is_covered (run ∷ runs) (at + start_of 10 ls k) ≡ selects q (get_or ls k []) in
+    subst P (sym (lines_apart q at bytes run n)) (λ within. elim (cases_lt k (length (lines 10 n.gap))) [
+      | inl low ↦ in_gap q at bytes run runs h k low
+      | inr high ↦
+          let j = k - length (lines 10 n.gap) in
+          let e : length (lines 10 n.gap) + j ≡ k = omega arith in
+          let Q : ℕ → Type 0 = λ m. is_covered (run ∷ runs) (at + start_of 10 (lines 10 n.gap ++ (lines 10 n.text ++ lines 10 n.later)) m) ≡ selects q (get_or (lines 10 n.gap ++ (lines 10 n.text ++ lines 10 n.later)) m []) in
+          subst Q e (elim (cases_lt j (length (lines 10 n.text))) [
+            | inl low ↦ in_text q at bytes run runs h j low
+            | inr high' ↦
+                let i = j - length (lines 10 n.text) in
+                let e' : length (lines 10 n.text) + i ≡ j = omega arith in
+                let R : ℕ → Type 0 = λ m. Q (length (lines 10 n.gap) + m) in
+                let few : i < length (lines 10 n.later) = omega (arith, length-append (lines 10 n.gap) (lines 10 n.text ++ lines 10 n.later), length-append (lines 10 n.text) (lines 10 n.later)) in
+                subst R e' (in_later q at bytes run runs h i few (covered q run.end n.later runs h.1 i few))
+          ])
+    ]) below
+  where
+    in_gap : (q : Search) (at : ℕ) (bytes : List ℕ) (run : Span) (runs : List Span) (h : AreRuns q at bytes (run ∷ runs)) (k : ℕ) → k < length (lines 10 h.0.gap)
+        → is_covered (run ∷ runs) (at + start_of 10 (lines 10 h.0.gap ++ (lines 10 h.0.text ++ lines 10 h.0.later)) k) ≡ selects q (get_or (lines 10 h.0.gap ++ (lines 10 h.0.text ++ lines 10 h.0.later)) k [])
+    in_gap q at bytes run runs h k low =
+        let n = h.0 in
+        let gap = lines 10 n.gap in
+        let rest = lines 10 n.text ++ lines 10 n.later in
+        let place = at + start_of 10 (gap ++ rest) k in
+        let start : start_of 10 (gap ++ rest) k ≡ start_of 10 gap k = start_of-front 10 gap rest k (omega arith) in
+        let before : place < run.start = omega (arith, start, start_within 10 n.gap k low, n.start) in
+        before_run run (is_covered runs place) place before (not_covered q run.end n.later runs place h.1 (omega (arith, n.start, n.stop)))
+        ∙ sym (ap (selects q) (get_or-append gap rest [] k low) ∙ all_at (λ l. selects q l ≡ false) gap k n.gap_unselected low)
+
+    in_text : (q : Search) (at : ℕ) (bytes : List ℕ) (run : Span) (runs : List Span) (h : AreRuns q at bytes (run ∷ runs)) (j : ℕ) → j < length (lines 10 h.0.text)
+        → is_covered (run ∷ runs) (at + start_of 10 (lines 10 h.0.gap ++ (lines 10 h.0.text ++ lines 10 h.0.later)) (length (lines 10 h.0.gap) + j)) ≡ selects q (get_or (lines 10 h.0.gap ++ (lines 10 h.0.text ++ lines 10 h.0.later)) (length (lines 10 h.0.gap) + j) [])
+    in_text q at bytes run runs h j low =
+        let n = h.0 in
+        let gap = lines 10 n.gap in
+        let text = lines 10 n.text in
+        let later = lines 10 n.later in
+        let place = at + start_of 10 (gap ++ (text ++ later)) (length gap + j) in
+        let start : start_of 10 (gap ++ (text ++ later)) (length gap + j) ≡ length (terminated 10 gap) + start_of 10 text j =
+        start_of-back 10 gap (text ++ later) j ∙ ap (λ m. length (terminated 10 gap) + m) (start_of-front 10 text later j (omega arith)) in
+        let front : length (terminated 10 gap) ≡ length n.gap = ap length (terminated-lines 10 n.gap n.gap_whole) in
+        let within = start_within 10 n.text j low in
+        in_run run (is_covered runs place) place (omega (arith, n.start, start, front)) (omega (arith, n.stop, start, front, within))
+        ∙ sym (ap (selects q) (get_or-append-add gap (text ++ later) j [] ∙ get_or-append text later [] j low) ∙ all_at (λ l. selects q l ≡ true) text j n.text_selected low)
+
+    in_later : (q : Search) (at : ℕ) (bytes : List ℕ) (run : Span) (runs : List Span) (h : AreRuns q at bytes (run ∷ runs)) (i : ℕ) → i < length (lines 10 h.0.later)
+        → is_covered runs (run.end + start_of 10 (lines 10 h.0.later) i) ≡ selects q (get_or (lines 10 h.0.later) i [])
+        → is_covered (run ∷ runs) (at + start_of 10 (lines 10 h.0.gap ++ (lines 10 h.0.text ++ lines 10 h.0.later)) (length (lines 10 h.0.gap) + (length (lines 10 h.0.text) + i))) ≡ selects q (get_or (lines 10 h.0.gap ++ (lines 10 h.0.text ++ lines 10 h.0.later)) (length (lines 10 h.0.gap) + (length (lines 10 h.0.text) + i)) [])
+    in_later q at bytes run runs h i low same =
+        let n = h.0 in
+        let gap = lines 10 n.gap in
+        let text = lines 10 n.text in
+        let later = lines 10 n.later in
+        let m = length gap + (length text + i) in
+        let front : length (terminated 10 gap) ≡ length n.gap = ap length (terminated-lines 10 n.gap n.gap_whole) in
+        let whole : AreWhole 10 n.text = elim n.text_whole [ inl w ↦ w | inr e ↦ absurd (omega (arith, ap (λ xs. length (lines 10 xs)) e)) ] in
+        let middle' : length (terminated 10 text) ≡ length n.text = ap length (terminated-lines 10 n.text whole) in
+        let start : start_of 10 (gap ++ (text ++ later)) m ≡ length (terminated 10 gap) + (length (terminated 10 text) + start_of 10 later i) =
+        start_of-back 10 gap (text ++ later) (length text + i) ∙ ap (λ k. length (terminated 10 gap) + k) (start_of-back 10 text later i) in
+        let place = at + start_of 10 (gap ++ (text ++ later)) m in
+        let at_place : place ≡ run.end + start_of 10 later i = omega (arith, start, front, middle', n.stop) in
+        behind_run run (is_covered runs place) place (omega arith)
+        ∙ (ap (is_covered runs) at_place ∙ (same ∙ sym (ap (selects q) (get_or-append-add gap (text ++ later) (length text + i) [] ∙ get_or-append-add text later i []))))

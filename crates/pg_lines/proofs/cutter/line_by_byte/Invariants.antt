@@ -1,0 +1,10 @@
+use Rattle.std.proofs.Common.{◌≡◌, ◌≤◌, drop}
+use Rattle.pg_lines.specs.Long.{has_long, open_from}
+use Rattle.pg_lines.proofs.cutter.line_by_byte.Given as goal
+
+abbrev pub invariant-loop-byte : goal.invariant-loop-byte
+invariant-loop-byte l = record {
+  fits : l.line ≤ l.longest;
+  long : has_long 10 l.longest l.line (drop l.byte-index l.piece) ≡ has_long 10 l.longest l.fn.line l.piece;
+  open_now : open_from 10 l.line (drop l.byte-index l.piece) ≡ open_from 10 l.fn.line l.piece;
+}

@@ -1,0 +1,8 @@
+use Rattle.pg_lines.proofs.CutLaws.{cut_is_cutting, cuts_are_one}
+use Rattle.pg_lines.proofs.laws.cuts_are_one.Goals as goal
+
+pub returns-clause-cutting : goal.returns-clause-cutting
+returns-clause-cutting c = cut_is_cutting
+
+pub returns-clause-one : goal.returns-clause-one
+returns-clause-one c = cuts_are_one

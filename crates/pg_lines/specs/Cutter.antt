@@ -1,0 +1,62 @@
+-- What a cutter was fed and what it has handed out.
+use Rattle.std.specs.Prelude.{◌≡◌, ℕ, ◌<◌, Option, List, [], ◌∷◌, ◌++◌, length}
+use Rattle.std.specs.List.{Any}
+use Rattle.std.specs.Option.{option_to_list}
+use Rattle.pg_lines.specs.Lines.{lines}
+use Rattle.pg_lines.specs.Blocks.{BlockData, Cuts, IsCut, AreNumbered}
+use Rattle.pg_lines.specs.Long.{open_from}
+use Rattle.pg_lines.specs.declared.cutter.Cutter.{Cutter}
+
+-- the terminator, what `new` was given, the bytes fed at Ok one after another, and the blocks handed out
+pub record Fed : Type 0 where
+  pub end : ℕ
+  pub file : ℕ
+  pub size : ℕ
+  pub longest : ℕ
+  pub bytes : List ℕ
+  pub taken : List BlockData
+
+-- a new cutter's
+abbrev pub unfed : ℕ → ℕ → ℕ → ℕ → Fed
+unfed end file size longest = record { end = end; file = file; size = size; longest = longest; bytes = []; taken = [] }
+
+abbrev pub fed : Fed → List ℕ → Fed
+fed past piece = record past { bytes = past.bytes ++ piece }
+
+abbrev pub handed : Fed → Option BlockData → Fed
+handed past block = record past { taken = past.taken ++ option_to_list block }
+
+-- the blocks handed out are all finished blocks of the bytes
+abbrev pub HasNoneLeft : Fed → Type 0
+HasNoneLeft past = (rest : List ℕ) × Cuts past.end past.size past.bytes past.taken rest
+
+-- the blocks handed out and this one are the first blocks of the file, whatever comes behind its bytes
+pub record IsNextBlock (past : Fed) (block : BlockData) : Type 0 where
+  pub numbered : AreNumbered past.file 0 (past.taken ++ block ∷ [])
+  pub cut : (later : List BlockData) × (rest : List ℕ) × Cuts past.end past.size past.bytes (past.taken ++ block ∷ later) rest
+
+-- the blocks handed out are all blocks of the file
+pub record AreAllBlocks (past : Fed) : Type 0 where
+  pub numbered : AreNumbered past.file 0 past.taken
+  pub cut : IsCut past.end past.size past.bytes past.taken
+
+-- a line would be too long
+abbrev pub HasLongLine : Fed → Type 0
+HasLongLine past = Any (λ line. past.longest < length line) (lines past.end past.bytes)
+
+-- The cutter stands after this.
+pub record Stands {A : Type 0} (cutter : Cutter A) (past : Fed) : Type 0 where
+  pub terminator : past.end ≡ 10
+  pub file : past.file ≡ cutter.file
+  pub size : past.size ≡ cutter.size
+  pub longest : past.longest ≡ cutter.longest
+  pub cut : Cuts past.end past.size past.bytes (past.taken ++ cutter.ready.items) cutter.rest.items
+  pub numbered : AreNumbered past.file 0 (past.taken ++ cutter.ready.items)
+  pub next : cutter.number ≡ length (past.taken ++ cutter.ready.items)
+  pub total : cutter.total ≡ length past.bytes
+  pub short : HasLongLine past → ⊥
+  pub line : cutter.line ≡ open_from past.end 0 past.bytes
+
+-- no finished block is held
+abbrev pub IsDrained : {A : Type 0} → Cutter A → Type 0
+IsDrained cutter = cutter.ready.items ≡ []

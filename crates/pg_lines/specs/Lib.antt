@@ -1,0 +1,11 @@
+pub mod Lines
+pub mod Search
+pub mod Hits
+pub mod Parts
+pub mod Blocks
+pub mod Runs
+pub mod Searched
+pub mod Memory
+pub mod Same
+pub mod Cutter
+pub mod Long

@@ -1,0 +1,318 @@
+//! Cuts a file that comes in pieces into blocks of whole lines.
+ghost use Rattle.std.specs.Prelude.{◌≡◌, ℕ, ◌+◌, ◌<◌, ◌≤◌, ◌^◌, ◌↔◌, ◌∷◌, ◌++◌, [], IfSome, IfNone, IfOk, OnOk, OnErr, IsErrOf, Some, None, Option, length, take, drop, if◌then◌else◌};
+ghost use Rattle.pg_lines.specs.Blocks.{IsFinished, IsUnfinished, Cuts, AreNumbered};
+ghost use Rattle.pg_lines.specs.Long.{has_long, open_from, CutsOff};
+ghost use Rattle.pg_lines.specs.declared.cutter.CutFault.TheVariants.{OutOfMemory};
+
+use crate::block::Block;
+use crate::lines::NEWLINE;
+use memchr::{memchr, memrchr};
+use std::alloc::{AllocError, Allocator, Global};
+use std::collections::VecDeque;
+use std::mem;
+use thiserror::Error;
+
+/// The most bytes of a file: 2^62.
+const MAX_FILE: u64 = 4_611_686_018_427_387_904;
+
+/// The room behind a block's size for the line that ends it. Longer lines make the block grow.
+const LINE_ROOM: usize = 4096;
+
+/// Why a piece of a file isn't taken.
+#[derive(Clone, Copy, Debug, PartialEq, Eq, Error)]
+pub enum CutFault {
+    /// A line would be longer than the cutter allows.
+    #[error("line too long")]
+    LineTooLong,
+    /// A request for memory was refused.
+    #[error("out of memory")]
+    OutOfMemory,
+    /// The file would have more than 2^62 bytes.
+    #[error("file too long")]
+    FileTooLong,
+}
+
+impl From<AllocError> for CutFault {
+    ghost from_gives = { λ _ e. e ≡ OutOfMemory };
+
+    fn from(_error: AllocError) -> CutFault {
+        CutFault::OutOfMemory
+    }
+}
+
+/// How many bytes of a piece finish the block that begins with `rest`, in which no block is finished.
+fn first_cut(rest: &[u8], size: usize, piece: &[u8]) -> Option<usize>
+    requires size { 0 < size }
+    requires unfinished { IsUnfinished 10 size rest.now }
+    ensures within { IfSome result (λ n. (0 < n) × (n ≤ length piece.now)) }
+    ensures some { IfSome result (λ n. IsFinished 10 size (rest.now ++ take n piece.now)) }
+    ensures none { IfNone result (IsUnfinished 10 size (rest.now ++ piece.now)) }
+{
+    let from = (size - 1).saturating_sub(rest.len());
+    if piece.len() <= from {
+        return None;
+    }
+    match memchr(NEWLINE, &piece[from..]) {
+        Some(len) => Some(from + len + 1),
+        None => None,
+    }
+}
+
+/// The finished blocks of some bytes, and where the rest begins.
+fn cut_all<A: Allocator + Copy>(
+    alloc: A,
+    file: u32,
+    first: u64,
+    size: usize,
+    bytes: &[u8],
+) -> Result<(VecDeque<Block<A>, A>, usize), AllocError>
+    requires size { 0 < size }
+    requires first { first + length bytes.now < 2 ^ 64 }
+    ensures within { IfOk result (λ cut. cut.1 ≤ length bytes.now) }
+    ensures few { IfOk result (λ cut. length cut.0.items ≤ cut.1) }
+    ensures cut { IfOk result (λ cut. Cuts 10 size bytes.now cut.0.items (drop cut.1 bytes.now)) }
+    ensures numbered { IfOk result (λ cut. AreNumbered file first cut.0.items) }
+{
+    let mut blocks = VecDeque::new(alloc);
+    let mut at = 0;
+    let mut number = first;
+    while let Some(len) = first_cut(&[], size, &bytes[at..]) {
+        let block = Vec::from_slice(alloc, &bytes[at..at + len])?;
+        blocks.push_back(Block {
+            file,
+            number,
+            bytes: block,
+        })?;
+        at += len;
+        number += 1;
+    }
+    Ok((blocks, at))
+}
+
+/// Room for a block of a size that begins with these bytes.
+fn block_room<A: Allocator>(alloc: A, size: usize, bytes: &[u8]) -> Result<Vec<u8, A>, AllocError>
+    requires { size ≤ 2 ^ 24 }
+    ensures { IfOk result (λ block. block.items ≡ bytes.now) }
+{
+    let mut block = Vec::with_capacity(alloc, size + LINE_ROOM)?;
+    block.extend_from_slice(bytes)?;
+    Ok(block)
+}
+
+/// The length of the line that is open behind a piece, unless a line is too long. It looks at each byte.
+fn line_by_byte(line: u32, longest: u32, piece: &[u8]) -> Option<u32>
+    requires { line ≤ longest }
+    ensures value { result ≡ (if has_long 10 longest line piece.now then None else Some (open_from 10 line piece.now)) }
+    ensures fits { IfSome result (λ n. n ≤ longest) }
+{
+    let mut line = line;
+    for byte in piece {
+        if *byte == NEWLINE {
+            line = 0;
+        } else {
+            if line == longest {
+                return None;
+            }
+            line += 1;
+        }
+    }
+    Some(line)
+}
+
+/// The length of the line that is open behind a piece, unless a line is too long.
+fn line_after(line: u32, longest: u32, piece: &[u8]) -> Option<u32>
+    requires { line ≤ longest }
+    ensures value { result ≡ (if has_long 10 longest line piece.now then None else Some (open_from 10 line piece.now)) }
+    ensures fits { IfSome result (λ n. n ≤ longest) }
+{
+    if piece.len() > (longest - line) as usize {
+        return line_by_byte(line, longest, piece);
+    }
+    match memrchr(NEWLINE, piece) {
+        Some(newline) => Some((piece.len() - newline - 1) as u32),
+        None => Some(line + piece.len() as u32),
+    }
+}
+
+/// Cuts the blocks off that a piece finishes behind `rest`, and leaves there what is behind them.
+/// The piece finishes the first of them by its byte `end - 1`. An `Err` leaves both lists as they were.
+fn cut_off<A: Allocator + Copy>(
+    alloc: A,
+    file: u32,
+    number: u64,
+    size: usize,
+    rest: &mut Vec<u8, A>,
+    ready: &mut VecDeque<Block<A>, A>,
+    piece: &[u8],
+    end: usize,
+) -> Result<u64, AllocError>
+    requires size { (0 < size) × (size ≤ 2 ^ 24) }
+    requires number { number + length piece.now < 2 ^ 63 }
+    requires end { (0 < end) × (end ≤ length piece.now) }
+    requires finished { IsFinished 10 size (rest.old.items ++ take end piece.now) }
+    ensures ok { IfOk result (CutsOff 10 size file number (rest.old.items ++ piece.now) ready.old.items ready.new.items rest.new.items) }
+    ensures few { IfOk result (λ count. count + length rest.new.items ≤ length rest.old.items + length piece.now) }
+    ensures err { OnErr result ((rest.new.items ≡ rest.old.items) × (ready.new.items ≡ ready.old.items)) }
+{
+    let (mut blocks, at) = cut_all(alloc, file, number + 1, size, &piece[end..])?;
+    let left = block_room(alloc, size, &piece[end + at..])?;
+    let count = blocks.len() as u64 + 1;
+    ready.reserve(blocks.len() + 1)?;
+    rest.extend_from_slice(&piece[..end])?;
+    ready.push_back_reserved(Block {
+        file,
+        number,
+        bytes: mem::replace(rest, left),
+    });
+    ready.append(&mut blocks).unwrap();
+    Ok(count)
+}
+
+/// Cuts the blocks off that a piece finishes behind `rest`, and leaves there what is behind them.
+/// The answer is their count. An `Err` leaves both lists as they were.
+fn cut_behind<A: Allocator + Copy>(
+    alloc: A,
+    file: u32,
+    number: u64,
+    size: usize,
+    rest: &mut Vec<u8, A>,
+    ready: &mut VecDeque<Block<A>, A>,
+    piece: &[u8],
+) -> Result<u64, AllocError>
+    requires size { (0 < size) × (size ≤ 2 ^ 24) }
+    requires number { number + length piece.now < 2 ^ 63 }
+    requires unfinished { IsUnfinished 10 size rest.old.items }
+    ensures ok { IfOk result (CutsOff 10 size file number (rest.old.items ++ piece.now) ready.old.items ready.new.items rest.new.items) }
+    ensures few { IfOk result (λ count. count + length rest.new.items ≤ length rest.old.items + length piece.now) }
+    ensures err { OnErr result ((rest.new.items ≡ rest.old.items) × (ready.new.items ≡ ready.old.items)) }
+{
+    match first_cut(rest.as_slice(), size, piece) {
+        Some(end) => cut_off(alloc, file, number, size, rest, ready, piece, end),
+        None => {
+            rest.extend_from_slice(piece)?;
+            Ok(0)
+        }
+    }
+}
+
+/// Cuts a file into blocks of whole lines.
+///
+/// A block is the shortest beginning of what follows that has at least `size` bytes and ends with a
+/// newline. What is left at the end of the file is its last block, unless it is empty. So the
+/// blocks depend on the bytes and the size, and not on the pieces that were fed.
+#[derive(Drop)]
+pub struct Cutter<A: Allocator + Copy = Global> {
+    alloc: A,
+    file: u32,
+    size: u32,
+    longest: u32,
+    number: u64,
+    total: u64,
+    line: u32,
+    ready: VecDeque<Block<A>, A>,
+    rest: Vec<u8, A>,
+    ghost sized: { (0 < size) × (size ≤ 2 ^ 24) },
+    ghost unfinished: { IsUnfinished 10 size rest.items },
+    ghost few: { total ≤ 2 ^ 62 },
+    ghost numbers: { number + length rest.items ≤ total },
+    ghost line_fits: { line ≤ longest },
+}
+
+impl<A: Allocator + Copy> Cutter<A> {
+    ghost use Rattle.pg_lines.specs.Cutter.{Fed, Stands, IsDrained, unfed, fed, handed, HasNoneLeft, IsNextBlock, AreAllBlocks, HasLongLine};
+    ghost use Rattle.pg_lines.specs.declared.cutter.CutFault.TheVariants.{LineTooLong, FileTooLong};
+
+    /// A cutter for the file of a number, which was fed nothing.
+    ///
+    /// Blocks have at least `size` bytes, from 1 to 2^24, and a line at most `longest` bytes without
+    /// its newline, from 1 to 2^30.
+    pub fn new(alloc: A, file: u32, size: u32, longest: u32) -> Cutter<A>
+        requires size { (1 ≤ size) × (size ≤ 2 ^ 24) }
+        requires longest { (1 ≤ longest) × (longest ≤ 2 ^ 30) }
+        ensures stands { Stands result (unfed 10 file size longest) }
+        ensures drained { IsDrained result }
+    {
+        Cutter {
+            alloc,
+            file,
+            size,
+            longest,
+            number: 0,
+            total: 0,
+            line: 0,
+            ready: VecDeque::new(alloc),
+            rest: Vec::new(alloc),
+        }
+    }
+
+    /// Takes the next bytes of the file. It makes all requests for memory that `take` and `finish`
+    /// would need. An `Err` changes nothing.
+    ///
+    /// `FileTooLong` comes where more than 2^62 bytes would have been fed, and else `LineTooLong`
+    /// where a line of the bytes so far would be too long. `OutOfMemory` comes where neither holds
+    /// and a request for memory was refused.
+    pub fn feed(&mut self, piece: &[u8]) -> Result<(), CutFault>
+        ensures ok { (past : Fed) → Stands self.old past → OnOk result (Stands self.new (fed past piece.now)) }
+        ensures err { (past : Fed) → Stands self.old past → OnErr result (Stands self.new past) }
+        ensures file { (past : Fed) → Stands self.old past →
+            IsErrOf result FileTooLong ↔ (2 ^ 62 < length past.bytes + length piece.now) }
+        ensures line { (past : Fed) → Stands self.old past →
+            IsErrOf result LineTooLong ↔ ((length past.bytes + length piece.now ≤ 2 ^ 62) × HasLongLine (fed past piece.now)) }
+    {
+        if piece.len() as u64 > MAX_FILE - self.total {
+            return Err(CutFault::FileTooLong);
+        }
+        let Some(line) = line_after(self.line, self.longest, piece) else {
+            return Err(CutFault::LineTooLong);
+        };
+        let count = cut_behind(
+            self.alloc,
+            self.file,
+            self.number,
+            self.size as usize,
+            &mut self.rest,
+            &mut self.ready,
+            piece,
+        )?;
+        self.number += count;
+        self.total += piece.len() as u64;
+        self.line = line;
+        Ok(())
+    }
+
+    /// The next finished block. `None` comes only where no finished block is left.
+    pub fn take(&mut self) -> Option<Block<A>>
+        ensures stands { (past : Fed) → Stands self.old past → Stands self.new (handed past result) }
+        ensures next { IfSome result (λ block. (past : Fed) → Stands self.old past → IsNextBlock past block) }
+        ensures none { IfNone result (IsDrained self.new × ((past : Fed) → Stands self.old past → HasNoneLeft past)) }
+    {
+        self.ready.pop_front()
+    }
+
+    /// The file's last block, where something is left. `take` has answered `None` since the last
+    /// `feed`.
+    pub fn finish(self) -> Option<Block<A>>
+        requires { IsDrained self }
+        ensures { (past : Fed) → Stands self past → AreAllBlocks (handed past result) }
+    {
+        let Cutter {
+            alloc: _,
+            file,
+            size: _,
+            longest: _,
+            number,
+            total: _,
+            line: _,
+            ready: _,
+            rest,
+        } = self;
+        if rest.is_empty() {
+            return None;
+        }
+        Some(Block {
+            file,
+            number,
+            bytes: rest,
+        })
+    }
+}

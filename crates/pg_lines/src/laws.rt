@@ -1,0 +1,32 @@
+//! Laws of the definitions that contracts cite. They speak of all values, and a call does nothing.
+ghost use Rattle.std.specs.Prelude.{◌≡◌, ℕ, List};
+ghost use Rattle.pg_lines.specs.Lines.{lines, AreLines};
+ghost use Rattle.pg_lines.specs.Search.{Search};
+ghost use Rattle.pg_lines.specs.Hits.{SelectsIsSelected};
+ghost use Rattle.pg_lines.specs.Parts.{AreParts, parts};
+ghost use Rattle.pg_lines.specs.Blocks.{BlockData, IsCut, IsCutting, AreNumbered};
+
+/// Some bytes have lines, and no others than these.
+pub fn lines_are_one()
+    ensures exist { (end : ℕ) (bytes : List ℕ) → AreLines end bytes (lines end bytes) }
+    ensures one { (end : ℕ) (bytes : List ℕ) (texts : List (List ℕ)) → AreLines end bytes texts → texts ≡ lines end bytes }
+{}
+
+/// The test of a line decides whether it is selected.
+pub fn selection_is_decided()
+    ensures { (q : Search) (line : List ℕ) → SelectsIsSelected q line }
+{}
+
+/// A line has matched parts, and no others than these.
+pub fn parts_are_one()
+    ensures exist { (q : Search) (line : List ℕ) → AreParts q line 0 (parts q line) }
+    ensures one { (q : Search) (line : List ℕ) (found : List (ℕ × ℕ)) → AreParts q line 0 found → found ≡ parts q line }
+{}
+
+/// The cut of a file is a cutting of it, and two cuts by a size are the same.
+pub fn cuts_are_one()
+    ensures cutting { (end size : ℕ) (bytes : List ℕ) (blocks : List BlockData) → IsCut end size bytes blocks → IsCutting end bytes blocks }
+    ensures one { (end size file : ℕ) (bytes : List ℕ) (blocks others : List BlockData)
+        → IsCut end size bytes blocks → AreNumbered file 0 blocks
+        → IsCut end size bytes others → AreNumbered file 0 others → others ≡ blocks }
+{}

@@ -1,0 +1,20 @@
+//! Queries, blocks of lines, and the search of one block.
+#![tactic(auto)]
+
+mod block;
+mod cutter;
+mod laws;
+mod lines;
+mod query;
+mod result;
+mod same;
+mod search;
+mod span;
+
+pub use block::Block;
+pub use cutter::{CutFault, Cutter};
+pub use laws::{cuts_are_one, lines_are_one, parts_are_one, selection_is_decided};
+pub use query::{Kind, PatternList, Query, QueryFault, QueryText};
+pub use result::BlockResult;
+pub use search::search_block;
+pub use span::Span;
