@@ -98,7 +98,7 @@ length-onto_first : (b : ℕ) (ls : List (List ℕ)) → 0 < length (onto_first 
 length-onto_first b [] = omega arith
 length-onto_first b (l ∷ ls) = omega arith
 
-some_line : (end b : ℕ) (bytes : List ℕ) → 0 < length (lines end (b ∷ bytes))
+pub some_line : (end b : ℕ) (bytes : List ℕ) → 0 < length (lines end (b ∷ bytes))
 some_line end b bytes = elim (eqb b end) as (λ t. 0 < length (cond t ([] ∷ lines end bytes) (onto_first b (lines end bytes)))) [ true ↦ omega arith | false ↦ length-onto_first b (lines end bytes) ]
 
 lines-ended : (end : ℕ) (front ys : List ℕ) → lines end ((front ++ end ∷ []) ++ ys) ≡ lines end (front ++ end ∷ []) ++ lines end ys

@@ -350,7 +350,7 @@ not_covered q at bytes (run ∷ runs) place h low =
     before_run run (is_covered runs place) place (omega (arith, h.0.start)) later
 
 -- the lines of what stands before a run, of the run, and of what stands behind it
-lines_apart : (q : Search) (at : ℕ) (bytes : List ℕ) (run : Span) (n : IsNextRun q at bytes run) → lines 10 bytes ≡ lines 10 n.gap ++ (lines 10 n.text ++ lines 10 n.later)
+pub lines_apart : (q : Search) (at : ℕ) (bytes : List ℕ) (run : Span) (n : IsNextRun q at bytes run) → lines 10 bytes ≡ lines 10 n.gap ++ (lines 10 n.text ++ lines 10 n.later)
 lines_apart q at bytes run n =
     let back : lines 10 (n.text ++ n.later) ≡ lines 10 n.text ++ lines 10 n.later = elim n.text_whole [
       | inl w ↦ lines-append 10 n.text n.later w

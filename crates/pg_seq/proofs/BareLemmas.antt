@@ -1,0 +1,206 @@
+-- Rows without names, numbers, a limit or context.
+use Rattle.std.proofs.Common.{◌≡◌, ◌≢◌, ℕ, zero, suc, ◌+◌, ◌-◌, ◌<◌, ◌≤◌, ◌⊎◌, inl, inr, Bool, true, false, not, ◌||◌, ◌&&◌, ◌==◌, cond, nat_lt, None, List, [], ◌∷◌, ◌++◌, length, take, drop, get_or, slice_range, refl, sym, ap, ◌∙◌, subst, arith, append_assoc, length-append}
+use Rattle.std.specs.List.{AllByRecursion, flat_map, fold, list_any}
+use Rattle.std.proofs.lemmas.Bool.{lt-ltb, ne_eqb, cases_eq}
+use Rattle.std.proofs.lemmas.List.{get_or_at, take_all, take_more, append-nil, drop_all, drop-drop, drop_at, take_at, take-append-drop, drop_more}
+use Rattle.std.proofs.lemmas.List.Concat.{flat_map-append}
+use Rattle.std.proofs.lemmas.List.Folds.{list_any-append}
+use Rattle.circular_buffer.specs.Buffer.{keep_last}
+use Rattle.pg_lines.specs.Search.{Search, terminator}
+use Rattle.pg_lines.specs.Lines.{lines, terminated, AreWhole}
+use Rattle.pg_lines.specs.Hits.{selects}
+use Rattle.pg_lines.specs.Blocks.{BlockData}
+use Rattle.pg_lines.specs.Runs.{AreRuns, IsNextRun, AllLines}
+use Rattle.pg_lines.specs.declared.span.Span.{Span}
+use Rattle.pg_lines.proofs.RunLemmas.{lines_apart}
+use Rattle.pg_lines.proofs.LineLemmas.{some_line, terminated-lines, whole_append}
+use Rattle.pg_lines.proofs.LineLaws.{lines_are_lines}
+use Rattle.pg_seq.specs.Bare.{bare, line_or_nothing, bare_rows, span_rows}
+use Rattle.pg_seq.specs.Output.{output, when, row}
+use Rattle.pg_seq.specs.Plan.{Step, Opens, Announces, Ends, Misses, IsShaped, announced, entries_of}
+use Rattle.pg_seq.specs.Trail.{Trail, step, run, run_rows, run_pieces, added, after_context, after_other, context_rows}
+use Rattle.pg_seq.specs.Cursor.{cursor_of, step_rows, block_rows}
+use Rattle.pg_seq.specs.Sink.{IsBeginning, TakesPart}
+use Rattle.pg_seq.proofs.CursorLemmas.{cursor_is, output_step}
+
+-- The rows of lines.
+
+rows_none : (q : Search) (ls : List (List ℕ)) → AllByRecursion (λ l. selects q l ≡ false) ls → flat_map (line_or_nothing q) ls ≡ []
+rows_none q [] h = refl
+rows_none q (l ∷ ls) h = ap (λ t. cond t (l ++ 10 ∷ []) [] ++ flat_map (line_or_nothing q) ls) h.0 ∙ rows_none q ls h.1
+
+rows_all : (q : Search) (ls : List (List ℕ)) → AllByRecursion (λ l. selects q l ≡ true) ls → flat_map (line_or_nothing q) ls ≡ terminated 10 ls
+rows_all q [] h = refl
+rows_all q (l ∷ ls) h = ap (λ t. cond t (l ++ 10 ∷ []) [] ++ flat_map (line_or_nothing q) ls) h.0 ∙ ap (λ xs. (l ++ 10 ∷ []) ++ xs) (rows_all q ls h.1)
+
+-- the part of the bytes that a run is
+run_text : (q : Search) (full : List ℕ) (at : ℕ) (run : Span) (n : IsNextRun q at (drop at full) run) → slice_range full run.start run.end ≡ n.text
+run_text q full at run n =
+    let len : run.end - run.start ≡ length n.text = omega (arith, n.start, n.stop) in
+    let from : drop run.start full ≡ n.text ++ n.later =
+      ap (λ m. drop m full) n.start ∙ (sym (drop-drop (length n.gap) at full) ∙ (ap (drop (length n.gap)) (n.joins ∙ append_assoc n.gap n.text n.later) ∙ drop_at n.gap (n.text ++ n.later) (length n.gap) refl)) in
+    ap (λ m. take m (drop run.start full)) len ∙ (ap (take (length n.text)) from ∙ take_at n.text n.later (length n.text) refl)
+
+run_behind : (q : Search) (full : List ℕ) (at : ℕ) (run : Span) (n : IsNextRun q at (drop at full) run) → drop run.end full ≡ n.later
+run_behind q full at run n =
+    let m : at + (length n.gap + length n.text) ≡ run.end = omega (arith, n.stop) in
+    let parts : length (n.gap ++ n.text) ≡ length n.gap + length n.text = length-append n.gap n.text in
+    ap (λ k. drop k full) (sym m) ∙ (sym (drop-drop (length n.gap + length n.text) at full) ∙ (ap (drop (length n.gap + length n.text)) n.joins ∙ drop_at (n.gap ++ n.text) n.later (length n.gap + length n.text) parts))
+
+-- the rows of a block are those of its runs
+pub rows_of_runs : (q : Search) (full : List ℕ) (at : ℕ) (runs : List Span) → AreRuns q at (drop at full) runs → bare_rows q (drop at full) ≡ flat_map (span_rows full) runs
+rows_of_runs q full at [] h = rows_none q (lines 10 (drop at full)) h
+rows_of_runs q full at (run ∷ runs) h =
+    let n = h.0 in
+    let later : AreRuns q run.end (drop run.end full) runs = (let P : List ℕ → Type 0 = λ xs. AreRuns q run.end xs runs in subst P (sym (run_behind q full at run n)) h.1) in
+    ap (flat_map (line_or_nothing q)) (lines_apart q at (drop at full) run n)
+    ∙ (flat_map-append (line_or_nothing q) (lines 10 n.gap) (lines 10 n.text ++ lines 10 n.later)
+    ∙ (ap (λ xs. xs ++ flat_map (line_or_nothing q) (lines 10 n.text ++ lines 10 n.later)) (rows_none q (lines 10 n.gap) n.gap_unselected)
+    ∙ (flat_map-append (line_or_nothing q) (lines 10 n.text) (lines 10 n.later)
+    ∙ (ap (λ xs. xs ++ flat_map (line_or_nothing q) (lines 10 n.later)) (rows_all q (lines 10 n.text) n.text_selected ∙ ap (λ xs. terminated 10 (lines 10 xs)) (sym (run_text q full at run n)))
+    ∙ ap (λ xs. span_rows full run ++ xs) (ap (bare_rows q) (sym (run_behind q full at run n)) ∙ rows_of_runs q full run.end runs later)))))
+
+pub rows_of_block : (q : Search) (bytes : List ℕ) (runs : List Span) → AreRuns q 0 bytes runs → bare_rows q bytes ≡ flat_map (span_rows bytes) runs
+rows_of_block q bytes runs h = rows_of_runs q bytes 0 runs h
+
+-- each run stands in the bytes
+pub run_within : (q : Search) (at : ℕ) (bytes : List ℕ) (runs : List Span) (total : ℕ) → AreRuns q at bytes runs → at + length bytes ≤ total → (k : ℕ) (d : Span) → k < length runs
+  → ((get_or runs k d).start ≤ (get_or runs k d).end) × ((get_or runs k d).end ≤ total)
+run_within q at bytes [] total h fits k d below = absurd (omega arith)
+run_within q at bytes (run ∷ runs) total h fits zero d below =
+    let n = h.0 in
+    let len = ap length n.joins in
+    (omega (arith, n.start, n.stop), omega (arith, n.stop, len, length-append (n.gap ++ n.text) n.later, length-append n.gap n.text))
+run_within q at bytes (run ∷ runs) total h fits (suc k) d below =
+    let n = h.0 in
+    let len = ap length n.joins in
+    run_within q run.end n.later runs total h.1 (omega (arith, n.stop, len, length-append (n.gap ++ n.text) n.later, length-append n.gap n.text)) k d (omega arith)
+
+-- a line is selected where there is a run
+pub any_selected : (q : Search) (at : ℕ) (bytes : List ℕ) (runs : List Span) → AreRuns q at bytes runs → list_any (selects q) (lines 10 bytes) ≡ nat_lt 0 (length runs)
+any_selected q at bytes [] h = none_of (lines 10 bytes) h
+  where
+    none_of : (ls : List (List ℕ)) → AllByRecursion (λ l. selects q l ≡ false) ls → list_any (selects q) ls ≡ false
+    none_of [] h = refl
+    none_of (l ∷ ls) h = ap (λ t. t || list_any (selects q) ls) h.0 ∙ none_of ls h.1
+any_selected q at bytes (run ∷ runs) h =
+    let n = h.0 in
+    ap (list_any (selects q)) (lines_apart q at bytes run n)
+    ∙ (list_any-append (selects q) (lines 10 n.gap) (lines 10 n.text ++ lines 10 n.later)
+    ∙ (ap (λ t. list_any (selects q) (lines 10 n.gap) || t) (list_any-append (selects q) (lines 10 n.text) (lines 10 n.later) ∙ ap (λ t. t || list_any (selects q) (lines 10 n.later)) (all_of (lines 10 n.text) n.text_selected (some_lines n.text n.text_some)))
+    ∙ (or_true (list_any (selects q) (lines 10 n.gap)) ∙ sym (lt-ltb 0 (length (run ∷ runs)) (omega arith)))))
+  where
+    all_of : (ls : List (List ℕ)) → AllByRecursion (λ l. selects q l ≡ true) ls → 0 < length ls → list_any (selects q) ls ≡ true
+    all_of [] h some = absurd (omega arith)
+    all_of (l ∷ ls) h some = ap (λ t. t || list_any (selects q) ls) h.0
+    some_lines : (xs : List ℕ) → xs ≢ [] → 0 < length (lines 10 xs)
+    some_lines [] ne = absurd (ne refl)
+    some_lines (x ∷ xs) ne = some_line 10 x xs
+    or_true : (b : Bool) → (b || true) ≡ true
+    or_true true = refl
+    or_true false = refl
+
+-- Bytes with their last line completed.
+
+whole_terminated : (ls : List (List ℕ)) → AreWhole 10 (terminated 10 ls)
+whole_terminated [] = inl refl
+whole_terminated (l ∷ ls) = whole_append 10 (l ++ 10 ∷ []) (terminated 10 ls) (inr (l, refl)) (whole_terminated ls)
+
+last_whole : (bytes : List ℕ) → AreWhole 10 bytes → 0 < length bytes → get_or bytes (length bytes - 1) 0 ≡ 10
+last_whole bytes (inl e) some = absurd (omega (arith, ap length e))
+last_whole bytes (inr h) some =
+    let n : length bytes - 1 ≡ length h.0 = omega (arith, ap length h.1, length-append h.0 (10 ∷ [])) in
+    ap (λ k. get_or bytes k 0) n ∙ (ap (λ xs. get_or xs (length h.0) 0) h.1 ∙ get_or_at h.0 10 [] 0 (length h.0) refl)
+
+-- the last byte is a newline
+pub whole_by_last : (bytes : List ℕ) → 0 < length bytes → get_or bytes (length bytes - 1) 0 ≡ 10 → terminated 10 (lines 10 bytes) ≡ bytes
+whole_by_last bytes some e =
+    let back : (length bytes - 1) + 1 ≡ length bytes = omega arith in
+    terminated-lines 10 bytes (inr (take (length bytes - 1) bytes,
+      sym (take_all (length bytes) bytes (omega arith)) ∙ (ap (λ k. take k bytes) (sym back) ∙ (take_more bytes (length bytes - 1) 0 (omega arith) ∙ ap (λ b. take (length bytes - 1) bytes ++ b ∷ []) e))))
+
+-- it isn't
+pub incomplete_by_last : (bytes : List ℕ) → 0 < length bytes → (get_or bytes (length bytes - 1) 0 ≡ 10 → ⊥) → terminated 10 (lines 10 bytes) ≡ bytes ++ 10 ∷ []
+incomplete_by_last bytes some ne = elim (lines_are_lines 10 bytes).whole [
+  | inl e ↦ let P : List ℕ → Type 0 = λ xs. AreWhole 10 xs in absurd (ne (last_whole bytes (subst P (sym e) (whole_terminated (lines 10 bytes))) some))
+  | inr h ↦
+    ap (terminated 10) h.joins ∙ (flat_map-append (λ (l : List ℕ). l ++ 10 ∷ []) h.front (h.last ∷ [])
+    ∙ (ap (λ xs. terminated 10 h.front ++ xs) (append-nil (h.last ++ 10 ∷ [])) ∙ (sym (append_assoc (terminated 10 h.front) h.last (10 ∷ [])) ∙ ap (λ xs. xs ++ 10 ∷ []) (sym h.whole))))
+]
+
+pub no_bytes : (bytes : List ℕ) → length bytes ≡ 0 → terminated 10 (lines 10 bytes) ≡ bytes
+no_bytes [] e = refl
+no_bytes (b ∷ bytes) e = absurd (omega arith)
+
+-- a text is a beginning of its completed lines
+pub begins_completed : (bytes : List ℕ) → IsBeginning bytes (terminated 10 (lines 10 bytes))
+begins_completed bytes = by_length (length bytes) refl
+  where
+    by_length : (n : ℕ) → length bytes ≡ n → IsBeginning bytes (terminated 10 (lines 10 bytes))
+    by_length zero e = ([], append-nil bytes ∙ sym (no_bytes bytes e))
+    by_length (suc n) e = elim (cases_eq (get_or bytes (length bytes - 1) 0) 10) [
+      | inl same ↦ ([], append-nil bytes ∙ sym (whole_by_last bytes (omega arith) same))
+      | inr ne ↦ (10 ∷ [], sym (incomplete_by_last bytes (omega arith) ne))
+    ]
+
+pub some_runs : (q : Search) (bytes : List ℕ) (runs : List Span) → AreRuns q 0 bytes runs → not (length runs == 0) ≡ list_any (selects q) (lines 10 bytes)
+some_runs q bytes [] h = sym (any_selected q 0 bytes [] h)
+some_runs q bytes (r ∷ runs) h = ap not (ne_eqb (length (r ∷ runs)) 0 (λ e. omega arith)) ∙ sym (any_selected q 0 bytes (r ∷ runs) h ∙ lt-ltb 0 (length (r ∷ runs)) (omega arith))
+
+-- Rows line by line, where no context is asked for.
+
+-- no context is still to come
+pub record IsStill (t : Trail) : Type 0 where
+  pub countdown : t.countdown ≡ 0
+  pub window : t.window ≡ []
+
+added_bare : (q : Search) (name : List ℕ) (earlier : Bool) (t : Trail) (selected : Bool) (l : List ℕ) → IsStill t → added bare 10 name earlier t selected l ≡ cond selected (l ++ 10 ∷ []) []
+added_bare q name earlier t true l h =
+    ap (λ w. context_rows bare 10 name ((t.number + 1) - length w) w ++ (l ++ 10 ∷ [])) h.window
+added_bare q name earlier t false l h = ap (λ n. when (nat_lt 0 n) (row bare 10 name (t.number + 1) 45 l)) h.countdown
+
+none_kept : (xs : List (List ℕ)) → keep_last 0 xs ≡ []
+none_kept xs = drop_all (length xs - 0) xs (omega arith)
+
+step_still : (t : Trail) (selected : Bool) (l : List ℕ) → IsStill t → IsStill (step bare t selected l)
+step_still t true l h = record { countdown = refl; window = refl }
+step_still t false l h =
+    let P : ℕ → Type 0 = λ n. IsStill (cond (nat_lt 0 n) (after_context t) (after_other bare t l)) in
+    subst P (sym h.countdown) (record { countdown = h.countdown; window = none_kept (t.window ++ l ∷ []) })
+
+run_bare : (q : Search) (name : List ℕ) (earlier : Bool) (t : Trail) (ls : List (List ℕ)) → IsStill t → run_rows q bare name earlier t ls ≡ flat_map (line_or_nothing q) ls
+run_bare q name earlier t [] h = refl
+run_bare q name earlier t (l ∷ ls) h =
+    ap (λ xs. xs ++ run_rows q bare name earlier (step bare t (selects q l) l) ls) (added_bare q name earlier t (selects q l) l h)
+    ∙ ap (λ xs. line_or_nothing q l ++ xs) (run_bare q name earlier (step bare t (selects q l) l) ls (step_still t (selects q l) l h))
+
+run_still : (q : Search) (t : Trail) (ls : List (List ℕ)) → IsStill t → IsStill (run q bare t ls)
+run_still q t [] h = h
+run_still q t (l ∷ ls) h = run_still q (step bare t (selects q l) l) ls (step_still t (selects q l) l h)
+
+cursor_still : (q : Search) (p : List Step) → IsStill (cursor_of q bare p).trail
+cursor_still q [] = record { countdown = refl; window = refl }
+cursor_still q (Opens name ∷ p) = record { countdown = refl; window = refl }
+cursor_still q (Announces b ∷ p) = run_still q (cursor_of q bare p).trail (lines 10 b.bytes) (cursor_still q p)
+cursor_still q (Ends failed ∷ p) = cursor_still q p
+cursor_still q (Misses name ∷ p) = cursor_still q p
+
+step_bare : (q : Search) (s : Step) (p : List Step) → q.pieces ≡ false
+  → flat_map (λ b. bare_rows q b.bytes) (announced p) ++ step_rows q bare (cursor_of q bare p) s ≡ flat_map (λ b. bare_rows q b.bytes) (announced (s ∷ p))
+step_bare q (Opens name) p whole = append-nil (flat_map (λ b. bare_rows q b.bytes) (announced p))
+step_bare q (Announces b) p whole =
+    let c = cursor_of q bare p in
+    let rows : block_rows q bare c b.bytes ≡ bare_rows q b.bytes =
+      ap (λ t. cond t (run_pieces q bare c.name c.trail (lines 10 b.bytes)) (run_rows q bare c.name c.earlier c.trail (lines 10 b.bytes))) whole
+      ∙ run_bare q c.name c.earlier c.trail (lines 10 b.bytes) (cursor_still q p) in
+    ap (λ xs. flat_map (λ (x : BlockData). bare_rows q x.bytes) (announced p) ++ xs) (rows ∙ sym (append-nil (bare_rows q b.bytes)))
+    ∙ sym (flat_map-append (λ (x : BlockData). bare_rows q x.bytes) (announced p) (b ∷ []))
+step_bare q (Ends failed) p whole = append-nil (flat_map (λ b. bare_rows q b.bytes) (announced p))
+step_bare q (Misses name) p whole = append-nil (flat_map (λ b. bare_rows q b.bytes) (announced p))
+
+-- the output is that of each block, one after the other
+pub output_bare : (q : Search) (p : List Step) → q.pieces ≡ false → IsShaped (terminator q) p → output q bare (entries_of p) ≡ flat_map (λ b. bare_rows q b.bytes) (announced p)
+output_bare q [] whole lawful = refl
+output_bare q (s ∷ p) whole lawful =
+    output_step q bare refl p (cursor_of q bare p) (cursor_is q bare refl p lawful.1) s lawful
+    ∙ (ap (λ xs. xs ++ step_rows q bare (cursor_of q bare p) s) (output_bare q p whole lawful.1) ∙ step_bare q s p whole)

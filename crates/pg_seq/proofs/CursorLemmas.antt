@@ -1,0 +1,219 @@
+-- The output of a plan grows by what its next step adds.
+use Rattle.std.proofs.Common.{◌≡◌, ℕ, zero, suc, ◌+◌, ◌<◌, ◌≤◌, ◌⊎◌, inl, inr, Bool, true, false, not, cond, eqb, ◌||◌, nat_lt, Option, List, [], ◌∷◌, ◌++◌, length, refl, sym, ap, ◌∙◌, subst, arith, append_assoc}
+use Rattle.std.specs.List.{flat_map, AllByRecursion, onto_first}
+use Rattle.std.proofs.lemmas.Bool.{false≢true, eq-eqb}
+use Rattle.std.proofs.lemmas.List.{append-nil}
+use Rattle.std.proofs.lemmas.List.Concat.{flat_map-append}
+use Rattle.std.proofs.lemmas.List.Elements.{recursion_from_All}
+use Rattle.pg_lines.specs.Search.{Search, terminator}
+use Rattle.pg_lines.specs.Lines.{lines}
+
+use Rattle.pg_lines.specs.Blocks.{BlockData, EndsWith, joined}
+use Rattle.pg_lines.proofs.LineLemmas.{lines-append}
+use Rattle.pg_seq.specs.declared.format.Format.{Format}
+use Rattle.pg_seq.specs.declared.format.Mode.{Mode}
+use Rattle.pg_seq.specs.declared.format.Mode.TheVariants.{Rows, Count, List as Names, Quiet}
+use Rattle.pg_seq.specs.Output.{Entry, Missed, Read, Ending, Running, Ended, Failed, output, is_running, is_nothing, file_rows, rows_in, when, is_below, line_rows, piece_rows, count_row, name_row}
+use Rattle.pg_seq.specs.Plan.{Step, Opens, Announces, Ends, Misses, IsShaped, is_open, last_blocks, entries_of, with_bytes, with_end}
+use Rattle.pg_seq.specs.Sink.{IsBeginning}
+use Rattle.pg_seq.specs.Trail.{Trail, no_lines, run, run_rows, run_pieces}
+use Rattle.pg_seq.specs.Cursor.{Cursor, at_start, moved, cursor_of, block_rows, counted, named, step_rows}
+use Rattle.pg_seq.proofs.TrailLemmas.{IsTrail, no_trail}
+use Rattle.pg_seq.proofs.FoldLemmas.{trail_more, rows_more, pieces_more, count_by_trail, name_by_trail, something, some_append, run_some}
+
+pub joined_push : (xs : List BlockData) (b : BlockData) → joined (xs ++ b ∷ []) ≡ joined xs ++ b.bytes
+joined_push xs b = flat_map-append (λ (x : BlockData). x.bytes) xs (b ∷ []) ∙ ap (λ ys. joined xs ++ ys) (append-nil b.bytes)
+
+pub closed_joined : (end : ℕ) (bs : List BlockData) → AllByRecursion (λ b. EndsWith end b.bytes) bs → (joined bs ≡ []) ⊎ EndsWith end (joined bs)
+closed_joined end [] h = inl refl
+closed_joined end (b ∷ bs) h = elim (closed_joined end bs h.1) [
+  | inl e ↦ inr (h.0.0, ap (λ ys. b.bytes ++ ys) e ∙ (append-nil b.bytes ∙ h.0.1))
+  | inr w ↦ inr (b.bytes ++ w.0, ap (λ ys. b.bytes ++ ys) w.1 ∙ sym (append_assoc b.bytes w.0 (end ∷ [])))
+]
+
+rows_split : (m : Mode) (a b r : List ℕ) → (m ≡ Rows → a ≡ b ++ r) → rows_in m a [] [] ≡ rows_in m b [] [] ++ rows_in m r [] []
+rows_split Rows a b r h = h refl
+rows_split Count a b r h = refl
+rows_split Names a b r h = refl
+rows_split Quiet a b r h = refl
+
+end_split : (m : Mode) (a c n : List ℕ) → rows_in m a c n ≡ rows_in m a [] [] ++ rows_in m [] c n
+end_split Rows a c n = sym (append-nil a)
+end_split Count a c n = refl
+end_split Names a c n = refl
+end_split Quiet a c n = refl
+
+ends_running : (failed : Bool) → is_running (cond failed Failed Ended) ≡ false
+ends_running true = refl
+ends_running false = refl
+
+nothing_in : (m : Mode) → rows_in m [] [] [] ≡ []
+nothing_in Rows = refl
+nothing_in Count = refl
+nothing_in Names = refl
+nothing_in Quiet = refl
+
+module _ (q : Search) (format : Format) (limited : is_below 0 format.limit ≡ true) where
+  abbrev end : ℕ
+  end = terminator q
+
+  abbrev IsPlain : Type 0
+  IsPlain = (format.mode ≡ Rows) × (q.pieces ≡ false)
+
+  -- the open file
+  pub record IsAtFile (p : List Step) (c : Cursor) : Type 0 where
+    pub bytes : List ℕ
+    pub rest : List Entry
+    pub entries : entries_of p ≡ Read c.name bytes Running ∷ rest
+    pub same : bytes ≡ joined (last_blocks p)
+    pub trail : IsTrail q format (lines end bytes) c.trail
+    pub earlier : IsPlain → c.earlier ≡ something (output q format rest)
+
+  pub record IsCursor (p : List Step) (c : Cursor) : Type 0 where
+    pub wrote : IsPlain → (c.earlier || c.trail.some) ≡ something (output q format (entries_of p))
+    pub file : is_open p ≡ true → IsAtFile p c
+
+  -- the rows of lines, as the mode has them
+  abbrev line_part : List ℕ → List (List ℕ) → Bool → List ℕ
+  line_part name ls earlier = cond q.pieces (piece_rows q format name ls) (line_rows q format name ls earlier)
+
+  file_running : (name bytes : List ℕ) (earlier : Bool) → file_rows q format name bytes false earlier ≡ rows_in format.mode (line_part name (lines end bytes) earlier) [] []
+  unfolding file_rows
+  file_running name bytes earlier = refl
+
+  file_ended : (name bytes : List ℕ) (earlier : Bool) → file_rows q format name bytes true earlier ≡ rows_in format.mode (line_part name (lines end bytes) earlier) (count_row q format name (lines end bytes)) (name_row q format name (lines end bytes))
+  unfolding file_rows
+  file_ended name bytes earlier = refl
+
+  part_more : (c : Cursor) (ls ms : List (List ℕ)) (earlier : Bool) → IsTrail q format ls c.trail → (q.pieces ≡ false → c.earlier ≡ earlier) →
+      line_part c.name (ls ++ ms) earlier ≡ line_part c.name ls earlier ++ cond q.pieces (run_pieces q format c.name c.trail ms) (run_rows q format c.name c.earlier c.trail ms)
+  part_more c ls ms earlier h e = go q.pieces e
+    where
+      go : (t : Bool) → (t ≡ false → c.earlier ≡ earlier) → cond t (piece_rows q format c.name (ls ++ ms)) (line_rows q format c.name (ls ++ ms) earlier) ≡ cond t (piece_rows q format c.name ls) (line_rows q format c.name ls earlier) ++ cond t (run_pieces q format c.name c.trail ms) (run_rows q format c.name c.earlier c.trail ms)
+      go true f = pieces_more q format c.name ls ms c.trail h
+      go false f = rows_more q format c.name earlier ls ms c.trail h ∙ ap (λ x. line_rows q format c.name ls earlier ++ run_rows q format c.name x c.trail ms) (sym (f refl))
+
+  open_rows : (name : List ℕ) (p : List Step) → output q format (entries_of (Opens name ∷ p)) ≡ output q format (entries_of p)
+  open_rows name p =
+      let earlier = something (output q format (entries_of p)) in
+      ap (λ xs. output q format (entries_of p) ++ xs) (file_running name [] earlier ∙ (ap (λ xs. rows_in format.mode xs [] []) (none q.pieces) ∙ nothing_in format.mode)) ∙ append-nil (output q format (entries_of p))
+    where
+      none : (t : Bool) → cond t (piece_rows q format name []) (line_rows q format name [] (something (output q format (entries_of p)))) ≡ []
+      none true = refl
+      none false = refl
+
+  module _ (p : List Step) (c : Cursor) (h : IsCursor p c) where
+    -- a block's rows
+    announce_rows : (b : BlockData) → IsShaped end (Announces b ∷ p) → output q format (entries_of (Announces b ∷ p)) ≡ output q format (entries_of p) ++ step_rows q format c (Announces b)
+    announce_rows b lawful =
+        let f = h.file lawful.0.running in
+        let closed = closed_joined end (last_blocks p) lawful.0.seam in
+        let seam : lines end (f.bytes ++ b.bytes) ≡ lines end f.bytes ++ lines end b.bytes =
+        ap (λ xs. lines end (xs ++ b.bytes)) f.same ∙ (lines-append end (joined (last_blocks p)) b.bytes closed ∙ ap (λ xs. lines end xs ++ lines end b.bytes) (sym f.same)) in
+        let before = output q format f.rest in
+        let earlier = something before in
+        let old = rows_in format.mode (line_part c.name (lines end f.bytes) earlier) [] [] in
+        ap (λ es. output q format (with_bytes b.bytes es)) f.entries
+        ∙ (ap (λ xs. before ++ xs)
+        (file_running c.name (f.bytes ++ b.bytes) earlier
+        ∙ (ap (λ ls. rows_in format.mode (line_part c.name ls earlier) [] []) seam
+        ∙ rows_split format.mode (line_part c.name (lines end f.bytes ++ lines end b.bytes) earlier) (line_part c.name (lines end f.bytes) earlier) (block_rows q format c b.bytes) (λ rows. part_more c (lines end f.bytes) (lines end b.bytes) earlier f.trail (λ whole. f.earlier (rows, whole)))))
+        ∙ (sym (append_assoc before old (rows_in format.mode (block_rows q format c b.bytes) [] []))
+        ∙ ap (λ xs. xs ++ rows_in format.mode (block_rows q format c b.bytes) [] []) (sym (ap (output q format) f.entries ∙ ap (λ xs. before ++ xs) (file_running c.name f.bytes earlier)))))
+
+    -- the rows at a file's end
+    end_rows : (failed : Bool) → is_open p ≡ true → output q format (entries_of (Ends failed ∷ p)) ≡ output q format (entries_of p) ++ step_rows q format c (Ends failed)
+    end_rows failed running =
+        let f = h.file running in
+        let before = output q format f.rest in
+        let earlier = something before in
+        let ls = lines end f.bytes in
+        let old = rows_in format.mode (line_part c.name ls earlier) [] [] in
+        ap (λ es. output q format (with_end failed es)) f.entries
+        ∙ (ap (λ t. before ++ file_rows q format c.name f.bytes (not t) earlier) (ends_running failed)
+        ∙ (ap (λ xs. before ++ xs)
+        (file_ended c.name f.bytes earlier
+        ∙ (end_split format.mode (line_part c.name ls earlier) (count_row q format c.name ls) (name_row q format c.name ls)
+        ∙ (ap (λ xs. old ++ rows_in format.mode [] xs (name_row q format c.name ls)) (count_by_trail q format c.name ls c.trail f.trail)
+        ∙ ap (λ xs. old ++ rows_in format.mode [] (counted format c) xs) (name_by_trail q format c.name ls c.trail limited f.trail))))
+        ∙ (sym (append_assoc before old (step_rows q format c (Ends failed)))
+        ∙ ap (λ xs. xs ++ step_rows q format c (Ends failed)) (sym (ap (output q format) f.entries ∙ ap (λ xs. before ++ xs) (file_running c.name f.bytes earlier))))))
+
+    pub output_step : (s : Step) → IsShaped end (s ∷ p) → output q format (entries_of (s ∷ p)) ≡ output q format (entries_of p) ++ step_rows q format c s
+    output_step (Opens name) lawful = open_rows name p ∙ sym (append-nil (output q format (entries_of p)))
+    output_step (Announces b) lawful = announce_rows b lawful
+    output_step (Ends failed) lawful = end_rows failed lawful.0
+    output_step (Misses name) lawful = sym (append-nil (output q format (entries_of p)))
+
+    cursor_open : (name : List ℕ) → IsCursor (Opens name ∷ p) (moved q format c (Opens name))
+    cursor_open name = record {
+      wrote = λ plain. or_none (c.earlier || c.trail.some) ∙ (h.wrote plain ∙ ap something (sym (open_rows name p)));
+      file = λ _. record {
+        bytes = [];
+        rest = entries_of p;
+        entries = refl;
+        same = refl;
+        trail = no_trail q format;
+        earlier = h.wrote;
+      };
+    }
+      where
+        or_none : (b : Bool) → (b || false) ≡ b
+        or_none true = refl
+        or_none false = refl
+
+    cursor_announce : (b : BlockData) → IsShaped end (Announces b ∷ p) → IsCursor (Announces b ∷ p) (moved q format c (Announces b))
+    cursor_announce b lawful =
+        let f = h.file lawful.0.running in
+        let closed = closed_joined end (last_blocks p) lawful.0.seam in
+        let seam : lines end (f.bytes ++ b.bytes) ≡ lines end f.bytes ++ lines end b.bytes =
+        ap (λ xs. lines end (xs ++ b.bytes)) f.same ∙ (lines-append end (joined (last_blocks p)) b.bytes closed ∙ ap (λ xs. lines end xs ++ lines end b.bytes) (sym f.same)) in
+        let P : List (List ℕ) → Type 0 = λ ls. IsTrail q format ls (run q format c.trail (lines end b.bytes)) in
+        let rows = run_rows q format c.name c.earlier c.trail (lines end b.bytes) in
+        record {
+          wrote = λ plain.
+              ap (λ x. c.earlier || x) (run_some q format c.name c.earlier (lines end f.bytes) (lines end b.bytes) c.trail f.trail)
+              ∙ (turn c.earlier (something rows) c.trail.some
+              ∙ (ap (λ x. x || something rows) (h.wrote plain)
+              ∙ (sym (some_append (output q format (entries_of p)) rows)
+              ∙ ap something (ap (λ xs. output q format (entries_of p) ++ xs) (sym (ap (λ m. rows_in m (block_rows q format c b.bytes) [] []) plain.0 ∙ ap (λ t. cond t (run_pieces q format c.name c.trail (lines end b.bytes)) rows) plain.1)) ∙ sym (announce_rows b lawful)))));
+          file = λ _. record {
+            bytes = f.bytes ++ b.bytes;
+            rest = f.rest;
+            entries = ap (with_bytes b.bytes) f.entries;
+            same = ap (λ xs. xs ++ b.bytes) f.same ∙ sym (joined_push (last_blocks p) b);
+            trail = subst P (sym seam) (trail_more q format (lines end f.bytes) (lines end b.bytes) c.trail f.trail);
+            earlier = f.earlier;
+          };
+        }
+      where
+        turn : (a r s : Bool) → (a || (r || s)) ≡ ((a || s) || r)
+        turn true r s = refl
+        turn false true true = refl
+        turn false true false = refl
+        turn false false true = refl
+        turn false false false = refl
+
+    cursor_end : (failed : Bool) → is_open p ≡ true → IsCursor (Ends failed ∷ p) c
+    cursor_end failed running = record {
+      wrote = λ plain. h.wrote plain ∙ ap something (sym (end_rows failed running ∙ (ap (λ m. output q format (entries_of p) ++ rows_in m [] (counted format c) (named format c)) plain.0 ∙ append-nil (output q format (entries_of p)))));
+      file = λ still. absurd (false≢true still);
+    }
+
+    cursor_step : (s : Step) → IsShaped end (s ∷ p) → IsCursor (s ∷ p) (moved q format c s)
+    cursor_step (Opens name) lawful = cursor_open name
+    cursor_step (Announces b) lawful = cursor_announce b lawful
+    cursor_step (Ends failed) lawful = cursor_end failed lawful.0
+    cursor_step (Misses name) lawful = record { wrote = h.wrote; file = λ still. absurd (false≢true (sym lawful.0 ∙ still)) }
+
+  pub cursor_is : (p : List Step) → IsShaped end p → IsCursor p (cursor_of q format p)
+  cursor_is [] lawful = record { wrote = λ plain. refl; file = λ still. absurd (false≢true still) }
+  cursor_is (s ∷ p) lawful = cursor_step p (cursor_of q format p) (cursor_is p lawful.1) s lawful
+
+  -- what a plan's output is a beginning of
+  pub plan_begins : (p : List Step) (more : List Step) → IsShaped end (more ++ p) → IsBeginning (output q format (entries_of p)) (output q format (entries_of (more ++ p)))
+  plan_begins p [] lawful = ([], append-nil (output q format (entries_of p)))
+  plan_begins p (s ∷ more) lawful =
+      let r = plan_begins p more lawful.1 in
+      let rows = step_rows q format (cursor_of q format (more ++ p)) s in
+      (r.0 ++ rows, sym (append_assoc (output q format (entries_of p)) r.0 rows) ∙ (ap (λ xs. xs ++ rows) r.1 ∙ sym (output_step (more ++ p) (cursor_of q format (more ++ p)) (cursor_is (more ++ p) lawful.1) s lawful)))

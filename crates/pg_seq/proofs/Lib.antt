@@ -1,0 +1,15 @@
+pub mod BareLemmas
+pub mod NearLemmas
+pub mod PutLemmas
+pub mod TrailLemmas
+pub mod FoldLemmas
+pub mod CursorLemmas
+pub mod Examples
+pub mod BeginLemmas
+pub mod HistorySteps
+pub mod SinkLemmas
+pub mod SlotLemmas
+pub mod FrontLemmas
+pub mod StandLemmas
+pub mod ArrivalLaws
+pub mod ArriveLemmas

@@ -1,0 +1,8 @@
+use Rattle.pg_lines.specs.Search.{terminator}
+use Rattle.pg_seq.specs.History.{plan}
+use Rattle.pg_seq.proofs.ArrivalLaws.{first_is_taken}
+use Rattle.pg_seq.proofs.BeginLemmas.{shape_of}
+use Rattle.pg_seq.proofs.laws.first_arrival_is_taken.Goals as goal
+
+pub returns : goal.returns
+returns c = λ past found lawful. first_is_taken past found (shape_of (terminator past.query) (plan past) lawful)

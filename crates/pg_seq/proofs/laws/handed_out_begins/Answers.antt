@@ -1,0 +1,7 @@
+use Rattle.pg_lines.specs.Search.{terminator}
+use Rattle.pg_seq.specs.History.{plan}
+use Rattle.pg_seq.proofs.BeginLemmas.{handed_begins, shape_of}
+use Rattle.pg_seq.proofs.laws.handed_out_begins.Goals as goal
+
+pub returns : goal.returns
+returns c = λ past room lawful. handed_begins past room (shape_of (terminator past.query) (plan past) lawful)

@@ -1,0 +1,9 @@
+pub mod Output
+pub mod Plan
+pub mod History
+pub mod Sink
+pub mod Trail
+pub mod Cursor
+pub mod Bare
+pub mod Slots
+pub mod Standing

@@ -1,0 +1,62 @@
+-- Announced blocks and their results.
+use Rattle.std.specs.Prelude.{◌≡◌, ℕ, zero, suc, ◌+◌, ◌==◌, ◌≤◌, ◌<◌, slice_get, Bool, true, false, is_some, Option, Some, None, IfSome, Result, Ok, Err, List, [], ◌∷◌, ◌++◌, map, length, take, if◌then◌else◌, ◌||◌}
+use Rattle.std.specs.List.{AllByRecursion, flat_map, prefix_len, list_any}
+use Rattle.std.specs.Str.{bytes_eq}
+use Rattle.std.specs.Arc.{arc_value}
+use Rattle.pg_lines.specs.Search.{Search, terminator}
+use Rattle.pg_lines.specs.Blocks.{BlockData, AreNumbered}
+use Rattle.pg_lines.specs.Hits.{selects}
+use Rattle.pg_lines.specs.Searched.{Searched, lines_of}
+use Rattle.pg_seq.specs.Plan.{Step, opened as opened_files, announced, IsPlan, is_open, entries_of}
+use Rattle.pg_seq.specs.Output.{is_bad}
+use Rattle.pg_seq.specs.History.{Past, plan, taken_of, is_taken, handed, if_same}
+use Rattle.pg_seq.specs.Sink.{IsBeginning}
+use Rattle.pg_seq.specs.Bare.{bare, bare_rows}
+use Rattle.pg_seq.specs.declared.format.Arrival.{Arrival}
+use Rattle.pg_seq.specs.declared.format.Arrival.TheVariants.{Taken, Double, Stranger}
+use Rattle.pg_seq.specs.declared.format.SinkFault.{SinkFault}
+use Rattle.pg_seq.specs.declared.format.SinkFault.TheVariants.{WriteFailed, Failed}
+use Rattle.pg_seq.specs.declared.slot.Slot.{Slot}
+
+abbrev pub slot_block : {A : Type 0} → Slot A → BlockData
+slot_block slot = arc_value slot.block
+
+abbrev pub has_result : {A : Type 0} → Slot A → Bool
+has_result slot = is_some slot.result
+
+abbrev pub rows_of : Option Searched → List ℕ
+rows_of None = []
+rows_of (Some r) = bare_rows r.query r.block.bytes
+
+abbrev pub slot_rows : {A : Type 0} → Slot A → List ℕ
+slot_rows slot = rows_of slot.result
+
+-- whether a slot's result has a selected line
+abbrev pub result_selects : Option Searched → Bool
+result_selects None = false
+result_selects (Some r) = list_any (selects r.query) (lines_of r)
+
+abbrev pub slot_selects : {A : Type 0} → Slot A → Bool
+slot_selects slot = result_selects slot.result
+
+-- how many slots from the first on have their results
+abbrev pub ready : {A : Type 0} → List (Slot A) → ℕ
+ready slots = prefix_len has_result slots
+
+-- what a block of the query is, by the slots
+abbrev pub arrival_at_slot : {A : Type 0} → Option (Slot A) → BlockData → Arrival
+arrival_at_slot None b = Stranger
+arrival_at_slot (Some slot) b = if has_result slot then Double else if_same (bytes_eq b.bytes (slot_block slot).bytes)
+
+abbrev pub arrival_among : {A : Type 0} → List (Slot A) → BlockData → Arrival
+arrival_among slots b = if b.file == 0 then arrival_at_slot (slice_get slots b.number) b else Stranger
+
+-- the slots with a result at a place
+abbrev pub with_result : {A : Type 0} → List (Slot A) → ℕ → Searched → List (Slot A)
+with_result [] k r = []
+with_result (slot ∷ slots) zero r = record slot { result = Some r } ∷ slots
+with_result (slot ∷ slots) (suc k) r = slot ∷ with_result slots k r
+
+abbrev pub IsResultOf : {A : Type 0} → Search → Slot A → Type 0
+IsResultOf q slot = IfSome slot.result (λ r. (r.query ≡ q) × (r.block ≡ slot_block slot))
+

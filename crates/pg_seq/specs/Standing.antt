@@ -1,0 +1,46 @@
+-- How a sequencer stands after what happened to it.
+use Rattle.std.specs.Prelude.{◌≡◌, ◌≤◌, ◌<◌, Bool, true, false, Result, Ok, Err, List, [], ◌++◌, map, length, take, ◌||◌, ℕ}
+use Rattle.std.specs.List.{AllByRecursion, flat_map, list_any}
+use Rattle.std.specs.Arc.{arc_value}
+use Rattle.pg_lines.specs.Search.{terminator}
+use Rattle.pg_lines.specs.Blocks.{AreNumbered}
+use Rattle.pg_seq.specs.Plan.{opened as opened_files, announced, IsPlan, is_open, entries_of}
+use Rattle.pg_seq.specs.Output.{is_bad}
+use Rattle.pg_seq.specs.History.{Past, plan, taken_of, is_taken, handed}
+use Rattle.pg_seq.specs.Sink.{IsBeginning}
+use Rattle.pg_seq.specs.Bare.{bare}
+use Rattle.pg_seq.specs.Slots.{slot_block, has_result, slot_rows, IsResultOf}
+use Rattle.pg_seq.specs.declared.format.SinkFault.{SinkFault}
+use Rattle.pg_seq.specs.declared.format.SinkFault.TheVariants.{WriteFailed, Failed}
+use Rattle.pg_seq.specs.declared.sequencer.Sequencer.{Sequencer}
+
+-- The sequencer stands after this.
+pub record Stands {A : Type 0} (s : Sequencer A) (past : Past) : Type 0 where
+  pub query : past.query ≡ arc_value s.query
+  pub format : past.format ≡ bare
+  pub whole : past.query.pieces ≡ false
+  pub lawful : IsPlan (terminator past.query) (plan past)
+  pub single : opened_files (plan past) ≤ 1
+  pub opened : opened_files (plan past) ≡ s.opened
+  pub running : is_open (plan past) ≡ s.running
+  pub bad : list_any is_bad (entries_of (plan past)) ≡ s.bad
+  pub blocks : announced (plan past) ≡ map slot_block s.slots.items
+  pub numbered : AreNumbered 0 0 (announced (plan past))
+  pub taken : map (is_taken (taken_of past.query past.events)) (announced (plan past)) ≡ map has_result s.slots.items
+  pub results : AllByRecursion (IsResultOf past.query) s.slots.items
+  pub known : AllByRecursion (λ key. key.1 < length s.slots.items) (taken_of past.query past.events)
+  pub failed : past.failed ≡ s.failed
+  pub written : s.failed ≡ false → past.written ≡ flat_map slot_rows (take s.handed s.slots.items)
+
+-- what a drain did that wrote a text
+abbrev pub Drained : Result (Unit {0}) SinkFault → Past → List ℕ → Type 0
+Drained (Ok u) past text = (past.failed ≡ false) × (past.written ++ text ≡ handed past)
+Drained (Err WriteFailed) past text = (past.failed ≡ false) × IsBeginning (past.written ++ text) (handed past)
+Drained (Err Failed) past text = (past.failed ≡ true) × (text ≡ [])
+
+abbrev pub fails : Result (Unit {0}) SinkFault → Bool
+fails (Ok u) = false
+fails (Err fault) = true
+
+abbrev pub drained : Past → List ℕ → Result (Unit {0}) SinkFault → Past
+drained past text result = record past { written = past.written ++ text; failed = past.failed || fails result }

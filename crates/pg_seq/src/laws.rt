@@ -1,0 +1,24 @@
+//! Laws of the definitions that contracts cite. They speak of all values, and a call does nothing.
+ghost use Rattle.std.specs.Prelude.{◌≡◌, List, false};
+ghost use Rattle.std.specs.List.{Contains};
+ghost use Rattle.pg_lines.specs.Search.{terminator};
+ghost use Rattle.pg_lines.specs.Searched.{Searched};
+ghost use Rattle.pg_seq.specs.Output.{Entry, HasRoom, output};
+ghost use Rattle.pg_seq.specs.Plan.{IsPlan, Begins, announced};
+ghost use Rattle.pg_seq.specs.History.{Past, plan, handed, answer, is_taken, taken_of};
+ghost use Rattle.pg_seq.specs.Sink.{IsBeginning};
+ghost use Rattle.pg_seq.specs.declared.format.Arrival.TheVariants.{Taken};
+
+/// What may be handed out is a beginning of the output of every list of files that the plan begins.
+pub fn handed_out_begins()
+    ensures { (past : Past) → HasRoom past.format → IsPlan (terminator past.query) (plan past) → (entries : List Entry) →
+        Begins (terminator past.query) (plan past) entries → IsBeginning (handed past) (output past.query past.format entries) }
+{
+}
+
+/// The first arrival of an announced block's result under the query is taken.
+pub fn first_arrival_is_taken()
+    ensures { (past : Past) (found : Searched) → IsPlan (terminator past.query) (plan past) → found.query ≡ past.query →
+        Contains (announced (plan past)) found.block → is_taken (taken_of past.query past.events) found.block ≡ false → answer past found ≡ Taken }
+{
+}

@@ -1,0 +1,62 @@
+//! Plain rows: selected lines, each with its newline.
+ghost use Rattle.std.specs.Prelude.{◌≡◌, ◌++◌, ◌<◌, ◌≤◌, [], ◌∷◌, OnOk, OnErr, if◌then◌else◌, EachIndex, get_or};
+ghost use Rattle.pg_lines.specs.Lines.{lines, terminated};
+ghost use Rattle.std.specs.List.{flat_map};
+ghost use Rattle.pg_seq.specs.Bare.{bare_rows, span_rows, no_span, IsWithin};
+ghost use Rattle.pg_seq.specs.Sink.{TakesPart};
+
+use std::alloc::Allocator;
+
+use pg_lines::{Block, BlockResult, Span};
+
+use crate::sink::{Sink, WriteError, write_all};
+
+/// Whether the last of some lines lacks its newline.
+fn is_incomplete(text: &[u8]) -> bool
+    ensures { terminated 10 (lines 10 text.now) ≡ (if result then text.now ++ 10 ∷ [] else text.now) }
+{
+    !text.is_empty() && text[text.len() - 1] != b'\n'
+}
+
+/// Writes some lines. A last one without a newline gets one.
+fn write_lines<W: Sink>(out: &mut W, text: &[u8]) -> Result<(), WriteError>
+    ensures all { OnOk result (W.taken out.new ≡ W.taken out.old ++ terminated 10 (lines 10 text.now)) }
+    ensures part { OnErr result (TakesPart (terminated 10 (lines 10 text.now)) (W.taken out.old) (W.taken out.new)) }
+    ensures failure { OnErr result (W.failures out.old < W.failures out.new) }
+    ensures never_falls { W.failures out.old ≤ W.failures out.new }
+{
+    write_all(out, text)?;
+    if is_incomplete(text) {
+        write_all(out, b"\n")
+    } else {
+        Ok(())
+    }
+}
+
+/// Writes the lines of some spans.
+fn write_spans<W: Sink>(out: &mut W, bytes: &[u8], spans: &[Span]) -> Result<(), WriteError>
+    requires { EachIndex spans.now (λ k. IsWithin bytes.now (get_or spans.now k no_span)) }
+    ensures all { OnOk result (W.taken out.new ≡ W.taken out.old ++ flat_map (span_rows bytes.now) spans.now) }
+    ensures part { OnErr result (TakesPart (flat_map (span_rows bytes.now) spans.now) (W.taken out.old) (W.taken out.new)) }
+    ensures failure { OnErr result (W.failures out.old < W.failures out.new) }
+    ensures never_falls { W.failures out.old ≤ W.failures out.new }
+{
+    for span in spans {
+        write_lines(out, span.of(bytes))?;
+    }
+    Ok(())
+}
+
+/// Writes the selected lines of a block.
+pub(crate) fn write_rows<A: Allocator, W: Sink>(
+    found: &BlockResult<A>,
+    out: &mut W,
+) -> Result<(), WriteError>
+    ensures all { OnOk result (W.taken out.new ≡ W.taken out.old ++ bare_rows found.now.query found.now.block.bytes) }
+    ensures part { OnErr result (TakesPart (bare_rows found.now.query found.now.block.bytes) (W.taken out.old) (W.taken out.new)) }
+    ensures failure { OnErr result (W.failures out.old < W.failures out.new) }
+    ensures never_falls { W.failures out.old ≤ W.failures out.new }
+{
+    let block: &Block<A> = found.block();
+    write_spans(out, block.bytes.as_slice(), found.runs())
+}

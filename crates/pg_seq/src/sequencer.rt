@@ -1,0 +1,278 @@
+//! Holds results until all before them have come, and writes them in order.
+ghost use Rattle.std.specs.Prelude.{◌≡◌, ℕ, ◌+◌, ◌<◌, ◌≤◌, ◌++◌, ◌∷◌, ◌↔◌, List, [], false, Option, Some, None, IsTrue, IfOk, OnOk, OnErr, IsErrOf, MatchOption, drop, take, length};
+ghost use Rattle.std.specs.List.{flat_map, list_any};
+ghost use Rattle.std.specs.Arc.{arc_value};
+ghost use Rattle.pg_seq.specs.Sink.{TakesPart};
+ghost use Rattle.pg_seq.specs.Slots.{ready, slot_rows, slot_selects, arrival_among, with_result};
+
+use std::alloc::{AllocError, Allocator, Global};
+use std::sync::Arc;
+
+use pg_lines::{Block, BlockResult, Query};
+
+use crate::format::{Arrival, Format, SinkFault};
+use crate::rows::write_rows;
+use crate::sink::{Sink, WriteError};
+use crate::slot::Slot;
+
+/// Writes the results that are ready behind the first `from` slots, and answers how many slots are ready.
+fn write_ready<A: Allocator, W: Sink>(
+    slots: &[Slot<A>],
+    from: usize,
+    out: &mut W,
+) -> Result<usize, WriteError>
+    requires { from ≤ ready slots.now }
+    ensures count { IfOk result (λ n. n ≡ ready slots.now) }
+    ensures all { OnOk result (W.taken out.new ≡ W.taken out.old ++ flat_map slot_rows (drop from (take (ready slots.now) slots.now))) }
+    ensures part { OnErr result (TakesPart (flat_map slot_rows (drop from (take (ready slots.now) slots.now))) (W.taken out.old) (W.taken out.new)) }
+    ensures failure { OnErr result (W.failures out.old < W.failures out.new) }
+    ensures never_falls { W.failures out.old ≤ W.failures out.new }
+{
+    let mut at = from;
+    while at < slots.len() {
+        match &slots[at].result {
+            Some(found) => write_rows(found, out)?,
+            None => return Ok(at),
+        }
+        at += 1;
+    }
+    Ok(at)
+}
+
+/// How many slots from the first on have their results.
+fn count_ready<A: Allocator>(slots: &[Slot<A>]) -> usize
+    ensures { result ≡ ready slots.now }
+{
+    let mut count = 0;
+    for slot in slots {
+        if slot.result.is_none() {
+            return count;
+        }
+        count += 1;
+    }
+    count
+}
+
+/// Whether some slot has a selected line.
+fn has_selected<A: Allocator>(slots: &[Slot<A>]) -> bool
+    ensures { result ≡ list_any slot_selects slots.now }
+{
+    slots.iter().any(|slot| slot.has_selected())
+}
+
+/// What a block of the sequencer's query is.
+fn arrival_in<A: Allocator>(slots: &[Slot<A>], block: &Block<A>) -> Arrival
+    ensures { result ≡ arrival_among slots.now block.now }
+{
+    if block.file != 0 || block.number >= slots.len() as u64 {
+        return Arrival::Stranger;
+    }
+    let slot = &slots[block.number as usize];
+    if slot.result.is_some() {
+        return Arrival::Double;
+    }
+    let known: &Block<A> = &slot.block;
+    if block.bytes.as_slice() == known.bytes.as_slice() {
+        Arrival::Taken
+    } else {
+        Arrival::Stranger
+    }
+}
+
+/// Keeps a result at its block's place.
+fn put_result<A: Allocator>(slots: &mut Vec<Slot<A>, A>, found: BlockResult<A>)
+    ensures { slots.new.items ≡ with_result slots.old.items found.block.number found }
+{
+    let block: &Block<A> = found.block();
+    let number = block.number;
+    if number < slots.len() as u64 {
+        slots[number as usize].result = Some(found);
+    }
+}
+
+/// Puts the results of blocks in order and writes the output of a run.
+///
+/// The plan says which files are read and which blocks they have. Results arrive in any order.
+/// What is handed out at any time is the output of the longest beginning of the plan all of whose
+/// results have come.
+///
+/// So far the rows are plain, and one file can be opened: contracts say where.
+#[derive(Drop)]
+pub struct Sequencer<A: Allocator = Global> {
+    query: Arc<Query<A>, A>,
+    opened: u32,
+    running: bool,
+    bad: bool,
+    slots: Vec<Slot<A>, A>,
+    handed: usize,
+    failed: bool,
+    ghost low: { handed ≤ ready slots.items },
+}
+
+impl<A: Allocator> Sequencer<A> {
+    ghost use Rattle.pg_lines.specs.Search.{terminator};
+    ghost use Rattle.pg_seq.specs.Plan.{opened, Opens, Announces, Ends, Misses, MayFollow};
+    ghost use Rattle.pg_seq.specs.History.{Past, start, planned, arrived, plan, answer, IsComplete, status_of};
+    ghost use Rattle.pg_seq.specs.Bare.{bare};
+    ghost use Rattle.pg_seq.specs.Standing.{Stands, Drained, drained};
+    ghost use Rattle.pg_seq.specs.declared.format.SinkFault.TheVariants.{WriteFailed};
+
+    /// A sequencer to which nothing happened, for the results of a query.
+    ///
+    /// The format is that of plain rows, and the query has no -o. A refused request for memory is
+    /// the only error.
+    pub fn new(
+        alloc: A,
+        query: Arc<Query<A>, A>,
+        format: Format,
+    ) -> Result<Sequencer<A>, AllocError>
+        requires format { format ≡ bare }
+        requires query { (arc_value query).pieces ≡ false }
+        ensures { IfOk result (λ s. Stands s (start (arc_value query) format)) }
+    {
+        let _ = format;
+        Ok(Sequencer {
+            query,
+            opened: 0,
+            running: false,
+            bad: false,
+            slots: Vec::new(alloc),
+            handed: 0,
+            failed: false,
+        })
+    }
+
+    /// Opens a file, which gets the next number from 0. No file is open and none was opened before.
+    ///
+    /// A refused request for memory is the only error, and changes nothing.
+    pub fn open(&mut self, name: &[u8]) -> Result<(), AllocError>
+        requires { (past : Past) × Stands self.old past × MayFollow (terminator past.query) (plan past) (Opens name.now) × (opened (plan past) ≡ 0) }
+        ensures ok { (past : Past) → Stands self.old past → OnOk result (Stands self.new (planned past (Opens name.now))) }
+        ensures err { (past : Past) → Stands self.old past → OnErr result (Stands self.new past) }
+    {
+        let _ = name;
+        self.opened = 1;
+        self.running = true;
+        Ok(())
+    }
+
+    /// Announces the open file's next block.
+    ///
+    /// It has the file's number and the number of blocks announced before, and bytes that aren't
+    /// empty; the blocks before it end in newlines; its lines have at most 2^30 bytes, and the file
+    /// at most 2^62. A refused request for memory is the only error, and changes nothing.
+    pub fn announce(&mut self, block: Arc<Block<A>, A>) -> Result<(), AllocError>
+        requires { (past : Past) × Stands self.old past × MayFollow (terminator past.query) (plan past) (Announces (arc_value block)) }
+        ensures ok { (past : Past) → Stands self.old past → OnOk result (Stands self.new (planned past (Announces (arc_value block)))) }
+        ensures err { (past : Past) → Stands self.old past → OnErr result (Stands self.new past) }
+    {
+        self.slots.push(Slot {
+            block,
+            result: None,
+        })?;
+        Ok(())
+    }
+
+    /// Ends the open file, whose reading has failed or has come to its end. It takes no memory.
+    pub fn end(&mut self, failed: bool)
+        requires { (past : Past) × Stands self.old past × MayFollow (terminator past.query) (plan past) (Ends failed) }
+        ensures { (past : Past) → Stands self.old past → Stands self.new (planned past (Ends failed)) }
+    {
+        self.running = false;
+        self.bad |= failed;
+    }
+
+    /// Notes a name that could not be opened or listed. No file is open.
+    ///
+    /// A refused request for memory is the only error, and changes nothing.
+    pub fn miss(&mut self, name: &[u8]) -> Result<(), AllocError>
+        requires { (past : Past) × Stands self.old past × MayFollow (terminator past.query) (plan past) (Misses name.now) }
+        ensures ok { (past : Past) → Stands self.old past → OnOk result (Stands self.new (planned past (Misses name.now))) }
+        ensures err { (past : Past) → Stands self.old past → OnErr result (Stands self.new past) }
+    {
+        let _ = name;
+        self.bad = true;
+        Ok(())
+    }
+
+    /// Takes a result, which may be of any query and block. Only `Taken` changes anything.
+    ///
+    /// Queries and blocks are compared by content. It takes no memory.
+    pub fn arrive(&mut self, found: BlockResult<A>) -> Arrival
+        ensures answer { (past : Past) → Stands self.old past → result ≡ answer past found }
+        ensures stands { (past : Past) → Stands self.old past → Stands self.new (arrived past found) }
+    {
+        match self.arrival_of(&found) {
+            Arrival::Taken => {
+                put_result(&mut self.slots, found);
+                Arrival::Taken
+            }
+            Arrival::Double => Arrival::Double,
+            Arrival::Stranger => Arrival::Stranger,
+        }
+    }
+
+    /// What a result is.
+    fn arrival_of(&self, found: &BlockResult<A>) -> Arrival
+        ensures { (past : Past) → Stands self.now past → result ≡ answer past found.now }
+    {
+        let query: &Query<A> = &self.query;
+        let other: &Query<A> = found.query();
+        if query != other {
+            return Arrival::Stranger;
+        }
+        arrival_in(self.slots.as_slice(), found.block())
+    }
+
+    /// Writes all that may be handed out and was not yet written. It takes no memory.
+    ///
+    /// # Errors
+    ///
+    /// `WriteFailed` where a write failed in this call or took no byte of a text that isn't empty;
+    /// a beginning of what was due was written. `Failed` where an earlier call answered
+    /// `WriteFailed`; nothing is written.
+    pub fn drain<W: Sink>(&mut self, out: &mut W) -> Result<(), SinkFault>
+        ensures drained { (past : Past) → Stands self.old past → (text : List ℕ)
+            × (W.taken out.new ≡ W.taken out.old ++ text) × Drained result past text × Stands self.new (drained past text result) }
+        ensures cause { IsErrOf result WriteFailed → W.failures out.old < W.failures out.new }
+        ensures never_falls { W.failures out.old ≤ W.failures out.new }
+    {
+        if self.failed {
+            return Err(SinkFault::Failed);
+        }
+        match write_ready(self.slots.as_slice(), self.handed, out) {
+            Ok(count) => {
+                self.handed = count;
+                Ok(())
+            }
+            Err(WriteError) => {
+                self.failed = true;
+                Err(SinkFault::WriteFailed)
+            }
+        }
+    }
+
+    /// Whether no file is open and the result of every announced block was taken.
+    pub fn complete(&self) -> bool
+        ensures { (past : Past) → Stands self.now past → IsTrue result ↔ IsComplete past }
+    {
+        !self.running && count_ready(self.slots.as_slice()) == self.slots.len()
+    }
+
+    /// The exit status (XCU grep, EXIT STATUS), once all is complete: 2 after a name that was missed
+    /// or a file whose reading failed, else 0 where a line was selected and 1 where none was.
+    pub fn status(&self) -> Option<u8>
+        ensures { (past : Past) → Stands self.now past → MatchOption result (IsComplete past → ⊥) (λ status. IsComplete past × (status ≡ status_of past)) }
+    {
+        if !self.complete() {
+            return None;
+        }
+        Some(if self.bad {
+            2
+        } else if has_selected(self.slots.as_slice()) {
+            0
+        } else {
+            1
+        })
+    }
+}
