@@ -1,5 +1,5 @@
 -- The first arrival of an announced block's result is taken.
-use Rattle.std.proofs.Common.{◌≡◌, ℕ, zero, suc, ◌+◌, ◌<◌, ◌≤◌, Bool, true, false, ◌&&◌, ◌==◌, inl, inr, cond, Option, Some, None, List, [], ◌∷◌, ◌++◌, length, get_or, refl, sym, ap, ◌∙◌, subst, arith, length-append}
+use Rattle.std.proofs.Common.{◌≡◌, ℕ, ◌+◌, ◌<◌, ◌≤◌, Bool, true, false, ◌&&◌, ◌==◌, inl, inr, cond, Option, Some, None, List, [], ◌∷◌, ◌++◌, length, get_or, refl, sym, ap, ◌∙◌, subst, arith}
 use Rattle.std.specs.List.{AllByRecursion, Contains, find}
 use Rattle.std.specs.Str.{bytes_eq}
 use Rattle.std.proofs.Math.ListN.{get_or-append}
@@ -44,7 +44,7 @@ other_key : (p : List Step) (b c : BlockData) → IsBelow p b → c.file + 1 ≡
 other_key p b c h file number = elim (cases_eq b.file c.file) [
   | inr ne ↦ ap (λ t. t && (b.number == c.number)) (ne_eqb b.file c.file ne)
   | inl same ↦ let n = h.1 (omega arith) in
-    ap (λ t. t && (b.number == c.number)) (eq-eqb b.file c.file same) ∙ ne_eqb b.number c.number (λ e. omega arith)
+      ap (λ t. t && (b.number == c.number)) (eq-eqb b.file c.file same) ∙ ne_eqb b.number c.number (λ e. omega arith)
 ]
 
 find_last : (p : List Step) (bs : List BlockData) (c : BlockData) → AllByRecursion (IsBelow p) bs → c.file + 1 ≡ opened p → c.number ≡ length (last_blocks p) → find (is_block c.file c.number) (bs ++ c ∷ []) ≡ Some c
@@ -70,10 +70,10 @@ found end (Misses name ∷ p) h k b below e = found end p h.1 k b below e
 found end (Announces c ∷ p) h k b below e = elim (cases_lt k (length (announced p))) [
   | inl less ↦ find_front (is_block b.file b.number) (announced p) (c ∷ []) b (found end p h.1 k b less (sym (get_or-append (announced p) (c ∷ []) b k less) ∙ e))
   | inr high ↦
-    let at : k ≡ length (announced p) = omega (arith, length_push (announced p) c) in
-    let same : c ≡ b = sym (get_or_at (announced p) c [] b (length (announced p)) refl) ∙ (ap (λ n. get_or (announced p ++ c ∷ []) n b) (sym at) ∙ e) in
-    let P : BlockData → Type 0 = λ x. find (is_block x.file x.number) (announced p ++ c ∷ []) ≡ Some x in
-    subst P same (find_last p (announced p) c (all_below end p h.1) h.0.file h.0.number)
+      let at : k ≡ length (announced p) = omega (arith, length_push (announced p) c) in
+      let same : c ≡ b = sym (get_or_at (announced p) c [] b (length (announced p)) refl) ∙ (ap (λ n. get_or (announced p ++ c ∷ []) n b) (sym at) ∙ e) in
+      let P : BlockData → Type 0 = λ x. find (is_block x.file x.number) (announced p ++ c ∷ []) ≡ Some x in
+      subst P same (find_last p (announced p) c (all_below end p h.1) h.0.file h.0.number)
 ]
 
 pub first_is_taken : (past : Past) (r : Searched) → IsShaped (terminator past.query) (plan past) → r.query ≡ past.query → Contains (announced (plan past)) r.block → is_taken (taken_of past.query past.events) r.block ≡ false → answer past r ≡ Taken

@@ -1,13 +1,12 @@
 -- What an arrival is by the slots, and what it changes in them.
-use Rattle.std.proofs.Common.{◌⊎◌, ◌≡◌, ◌≢◌, ℕ, zero, suc, ◌+◌, ◌<◌, ◌≤◌, Bool, true, false, ◌&&◌, ◌||◌, cond, eqb, is_some, Option, Some, None, IfSome, List, [], ◌∷◌, ◌++◌, length, take, get_or, set, map, slice_get, refl, sym, ap, ◌∙◌, subst, arith, inl, inr}
+use Rattle.std.proofs.Common.{◌⊎◌, ◌≡◌, ℕ, zero, suc, ◌+◌, ◌<◌, ◌≤◌, Bool, true, false, ◌&&◌, ◌||◌, cond, eqb, Some, None, List, [], ◌∷◌, length, take, get_or, set, map, slice_get, refl, sym, ap, ◌∙◌, subst, arith, inl, inr}
 use Rattle.std.specs.List.{find, AllByRecursion, list_any}
 use Rattle.std.specs.Str.{bytes_eq}
-use Rattle.std.proofs.lemmas.Bool.{false≢true, eq-eqb, ne_eqb, cases_Bool, eqb-true, eqb-false}
+use Rattle.std.proofs.lemmas.Bool.{eq-eqb, ne_eqb, cases_Bool, eqb-true}
 use Rattle.std.proofs.lemmas.Slice.Eq.{bytes_eq-Decides}
 use Rattle.pg_lines.specs.Search.{Search}
 use Rattle.pg_lines.specs.Searched.{Searched}
 use Rattle.pg_lines.specs.Blocks.{BlockData, AreNumbered}
-use Rattle.pg_seq.specs.declared.format.Arrival.{Arrival}
 use Rattle.pg_seq.specs.declared.format.Arrival.TheVariants.{Taken, Double, Stranger}
 use Rattle.pg_seq.specs.declared.slot.Slot.{Slot}
 use Rattle.pg_seq.specs.History.{arrival_at, is_taken, is_block, if_same}
@@ -89,9 +88,9 @@ module _ {A : Type 0} where
   pub among_past : (slots : List (Slot A)) (b : BlockData) → length slots ≤ b.number → arrival_among slots b ≡ Stranger
   among_past slots b h = both (eqb b.file 0) ∙ refl
     where
-    both : (t : Bool) → cond t (arrival_at_slot (slice_get slots b.number) b) Stranger ≡ Stranger
-    both true = ap (λ o. arrival_at_slot o b) (slot_past slots b.number h)
-    both false = refl
+      both : (t : Bool) → cond t (arrival_at_slot (slice_get slots b.number) b) Stranger ≡ Stranger
+      both true = ap (λ o. arrival_at_slot o b) (slot_past slots b.number h)
+      both false = refl
 
   pub at_slot : (keys : List (ℕ × ℕ)) (r : BlockData) (n : ℕ) (slots : List (Slot A)) (k : ℕ) → map (is_taken keys) (map slot_block slots) ≡ map has_result slots → AreNumbered 0 n (map slot_block slots) → r.file ≡ 0 → r.number ≡ n + k → arrival_at (slice_get (map slot_block slots) k) keys r ≡ arrival_at_slot (slice_get slots k) r
   at_slot keys r n [] k e h f m = refl
@@ -146,7 +145,7 @@ module _ {A : Type 0} where
   results_with q (x ∷ slots) (suc k) slot r e a b h = (h.0, results_with q slots k slot r e a b h.1)
 
   taken_none : (keys : List (ℕ × ℕ)) (n : ℕ) (slots : List (Slot A)) (m : ℕ) → map (is_taken keys) (map slot_block slots) ≡ map has_result slots → AreNumbered 0 n (map slot_block slots) → m < n
-    → map (is_taken ((0, m) ∷ keys)) (map slot_block slots) ≡ map has_result slots
+      → map (is_taken ((0, m) ∷ keys)) (map slot_block slots) ≡ map has_result slots
   taken_none keys n [] m e h i = refl
   taken_none keys n (x ∷ slots) m e h i =
       let b = slot_block x in
@@ -155,7 +154,7 @@ module _ {A : Type 0} where
 
   -- the marks of the blocks after one more is taken: from a place on
   pub taken_one : (keys : List (ℕ × ℕ)) (n : ℕ) (slots : List (Slot A)) (k m : ℕ) (r : Searched) → map (is_taken keys) (map slot_block slots) ≡ map has_result slots → AreNumbered 0 n (map slot_block slots) → m ≡ n + k → k < length slots
-    → map (is_taken ((0, m) ∷ keys)) (map slot_block slots) ≡ map has_result (with_result slots k r)
+      → map (is_taken ((0, m) ∷ keys)) (map slot_block slots) ≡ map has_result (with_result slots k r)
   taken_one keys n [] k m r e h i below = absurd (omega arith)
   taken_one keys n (x ∷ slots) zero m r e h i below =
       let b = slot_block x in
@@ -189,9 +188,9 @@ module _ {A : Type 0} where
   taken_means slots b h = elim (cases_Bool (eqb b.file 0)) [
     | inr e ↦ absurd (stranger_taken (sym (ap (λ t. cond t (arrival_at_slot (slice_get slots b.number) b) Stranger) e) ∙ h))
     | inl e ↦
-      let here : arrival_at_slot (slice_get slots b.number) b ≡ Taken = sym (ap (λ t. cond t (arrival_at_slot (slice_get slots b.number) b) Stranger) e) ∙ h in
-      elim (slot_named slots b.number) [
-        | inl none ↦ absurd (stranger_taken (sym (ap (λ o. arrival_at_slot o b) none) ∙ here))
-        | inr w ↦ taken_slot slots b w.0 (has_result w.0) (bytes_eq b.bytes (slot_block w.0).bytes) (eqb-true b.file 0 e) w.1 w.2 refl refl (sym (ap (λ o. arrival_at_slot o b) w.1) ∙ here)
-      ]
+        let here : arrival_at_slot (slice_get slots b.number) b ≡ Taken = sym (ap (λ t. cond t (arrival_at_slot (slice_get slots b.number) b) Stranger) e) ∙ h in
+        elim (slot_named slots b.number) [
+          | inl none ↦ absurd (stranger_taken (sym (ap (λ o. arrival_at_slot o b) none) ∙ here))
+          | inr w ↦ taken_slot slots b w.0 (has_result w.0) (bytes_eq b.bytes (slot_block w.0).bytes) (eqb-true b.file 0 e) w.1 w.2 refl refl (sym (ap (λ o. arrival_at_slot o b) w.1) ∙ here)
+        ]
   ]

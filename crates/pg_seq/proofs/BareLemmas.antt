@@ -1,8 +1,8 @@
 -- Rows without names, numbers, a limit or context.
-use Rattle.std.proofs.Common.{◌≡◌, ◌≢◌, ℕ, zero, suc, ◌+◌, ◌-◌, ◌<◌, ◌≤◌, ◌⊎◌, inl, inr, Bool, true, false, not, ◌||◌, ◌&&◌, ◌==◌, cond, nat_lt, None, List, [], ◌∷◌, ◌++◌, length, take, drop, get_or, slice_range, refl, sym, ap, ◌∙◌, subst, arith, append_assoc, length-append}
-use Rattle.std.specs.List.{AllByRecursion, flat_map, fold, list_any}
+use Rattle.std.proofs.Common.{◌≡◌, ◌≢◌, ℕ, zero, suc, ◌+◌, ◌-◌, ◌<◌, ◌≤◌, inl, inr, Bool, true, false, not, ◌||◌, ◌==◌, cond, nat_lt, List, [], ◌∷◌, ◌++◌, length, take, drop, get_or, slice_range, refl, sym, ap, ◌∙◌, subst, arith, append_assoc, length-append}
+use Rattle.std.specs.List.{AllByRecursion, flat_map, list_any}
 use Rattle.std.proofs.lemmas.Bool.{lt-ltb, ne_eqb, cases_eq}
-use Rattle.std.proofs.lemmas.List.{get_or_at, take_all, take_more, append-nil, drop_all, drop-drop, drop_at, take_at, take-append-drop, drop_more}
+use Rattle.std.proofs.lemmas.List.{get_or_at, take_all, take_more, append-nil, drop_all, drop-drop, drop_at, take_at}
 use Rattle.std.proofs.lemmas.List.Concat.{flat_map-append}
 use Rattle.std.proofs.lemmas.List.Folds.{list_any-append}
 use Rattle.circular_buffer.specs.Buffer.{keep_last}
@@ -10,7 +10,7 @@ use Rattle.pg_lines.specs.Search.{Search, terminator}
 use Rattle.pg_lines.specs.Lines.{lines, terminated, AreWhole}
 use Rattle.pg_lines.specs.Hits.{selects}
 use Rattle.pg_lines.specs.Blocks.{BlockData}
-use Rattle.pg_lines.specs.Runs.{AreRuns, IsNextRun, AllLines}
+use Rattle.pg_lines.specs.Runs.{AreRuns, IsNextRun}
 use Rattle.pg_lines.specs.declared.span.Span.{Span}
 use Rattle.pg_lines.proofs.RunLemmas.{lines_apart}
 use Rattle.pg_lines.proofs.LineLemmas.{some_line, terminated-lines, whole_append}
@@ -20,7 +20,7 @@ use Rattle.pg_seq.specs.Output.{output, when, row}
 use Rattle.pg_seq.specs.Plan.{Step, Opens, Announces, Ends, Misses, IsShaped, announced, entries_of}
 use Rattle.pg_seq.specs.Trail.{Trail, step, run, run_rows, run_pieces, added, after_context, after_other, context_rows}
 use Rattle.pg_seq.specs.Cursor.{cursor_of, step_rows, block_rows}
-use Rattle.pg_seq.specs.Sink.{IsBeginning, TakesPart}
+use Rattle.pg_seq.specs.Sink.{IsBeginning}
 use Rattle.pg_seq.proofs.CursorLemmas.{cursor_is, output_step}
 
 -- The rows of lines.
@@ -38,7 +38,7 @@ run_text : (q : Search) (full : List ℕ) (at : ℕ) (run : Span) (n : IsNextRun
 run_text q full at run n =
     let len : run.end - run.start ≡ length n.text = omega (arith, n.start, n.stop) in
     let from : drop run.start full ≡ n.text ++ n.later =
-      ap (λ m. drop m full) n.start ∙ (sym (drop-drop (length n.gap) at full) ∙ (ap (drop (length n.gap)) (n.joins ∙ append_assoc n.gap n.text n.later) ∙ drop_at n.gap (n.text ++ n.later) (length n.gap) refl)) in
+    ap (λ m. drop m full) n.start ∙ (sym (drop-drop (length n.gap) at full) ∙ (ap (drop (length n.gap)) (n.joins ∙ append_assoc n.gap n.text n.later) ∙ drop_at n.gap (n.text ++ n.later) (length n.gap) refl)) in
     ap (λ m. take m (drop run.start full)) len ∙ (ap (take (length n.text)) from ∙ take_at n.text n.later (length n.text) refl)
 
 run_behind : (q : Search) (full : List ℕ) (at : ℕ) (run : Span) (n : IsNextRun q at (drop at full) run) → drop run.end full ≡ n.later
@@ -65,7 +65,7 @@ rows_of_block q bytes runs h = rows_of_runs q bytes 0 runs h
 
 -- each run stands in the bytes
 pub run_within : (q : Search) (at : ℕ) (bytes : List ℕ) (runs : List Span) (total : ℕ) → AreRuns q at bytes runs → at + length bytes ≤ total → (k : ℕ) (d : Span) → k < length runs
-  → ((get_or runs k d).start ≤ (get_or runs k d).end) × ((get_or runs k d).end ≤ total)
+    → ((get_or runs k d).start ≤ (get_or runs k d).end) × ((get_or runs k d).end ≤ total)
 run_within q at bytes [] total h fits k d below = absurd (omega arith)
 run_within q at bytes (run ∷ runs) total h fits zero d below =
     let n = h.0 in
@@ -93,9 +93,11 @@ any_selected q at bytes (run ∷ runs) h =
     all_of : (ls : List (List ℕ)) → AllByRecursion (λ l. selects q l ≡ true) ls → 0 < length ls → list_any (selects q) ls ≡ true
     all_of [] h some = absurd (omega arith)
     all_of (l ∷ ls) h some = ap (λ t. t || list_any (selects q) ls) h.0
+
     some_lines : (xs : List ℕ) → xs ≢ [] → 0 < length (lines 10 xs)
     some_lines [] ne = absurd (ne refl)
     some_lines (x ∷ xs) ne = some_line 10 x xs
+
     or_true : (b : Bool) → (b || true) ≡ true
     or_true true = refl
     or_true false = refl
@@ -116,16 +118,18 @@ last_whole bytes (inr h) some =
 pub whole_by_last : (bytes : List ℕ) → 0 < length bytes → get_or bytes (length bytes - 1) 0 ≡ 10 → terminated 10 (lines 10 bytes) ≡ bytes
 whole_by_last bytes some e =
     let back : (length bytes - 1) + 1 ≡ length bytes = omega arith in
-    terminated-lines 10 bytes (inr (take (length bytes - 1) bytes,
-      sym (take_all (length bytes) bytes (omega arith)) ∙ (ap (λ k. take k bytes) (sym back) ∙ (take_more bytes (length bytes - 1) 0 (omega arith) ∙ ap (λ b. take (length bytes - 1) bytes ++ b ∷ []) e))))
+    terminated-lines 10 bytes (inr (
+      take (length bytes - 1) bytes,
+      sym (take_all (length bytes) bytes (omega arith)) ∙ (ap (λ k. take k bytes) (sym back) ∙ (take_more bytes (length bytes - 1) 0 (omega arith) ∙ ap (λ b. take (length bytes - 1) bytes ++ b ∷ []) e)),
+    ))
 
 -- it isn't
 pub incomplete_by_last : (bytes : List ℕ) → 0 < length bytes → (get_or bytes (length bytes - 1) 0 ≡ 10 → ⊥) → terminated 10 (lines 10 bytes) ≡ bytes ++ 10 ∷ []
 incomplete_by_last bytes some ne = elim (lines_are_lines 10 bytes).whole [
   | inl e ↦ let P : List ℕ → Type 0 = λ xs. AreWhole 10 xs in absurd (ne (last_whole bytes (subst P (sym e) (whole_terminated (lines 10 bytes))) some))
   | inr h ↦
-    ap (terminated 10) h.joins ∙ (flat_map-append (λ (l : List ℕ). l ++ 10 ∷ []) h.front (h.last ∷ [])
-    ∙ (ap (λ xs. terminated 10 h.front ++ xs) (append-nil (h.last ++ 10 ∷ [])) ∙ (sym (append_assoc (terminated 10 h.front) h.last (10 ∷ [])) ∙ ap (λ xs. xs ++ 10 ∷ []) (sym h.whole))))
+      ap (terminated 10) h.joins ∙ (flat_map-append (λ (l : List ℕ). l ++ 10 ∷ []) h.front (h.last ∷ [])
+      ∙ (ap (λ xs. terminated 10 h.front ++ xs) (append-nil (h.last ++ 10 ∷ [])) ∙ (sym (append_assoc (terminated 10 h.front) h.last (10 ∷ [])) ∙ ap (λ xs. xs ++ 10 ∷ []) (sym h.whole))))
 ]
 
 pub no_bytes : (bytes : List ℕ) → length bytes ≡ 0 → terminated 10 (lines 10 bytes) ≡ bytes
@@ -186,13 +190,13 @@ cursor_still q (Ends failed ∷ p) = cursor_still q p
 cursor_still q (Misses name ∷ p) = cursor_still q p
 
 step_bare : (q : Search) (s : Step) (p : List Step) → q.pieces ≡ false
-  → flat_map (λ b. bare_rows q b.bytes) (announced p) ++ step_rows q bare (cursor_of q bare p) s ≡ flat_map (λ b. bare_rows q b.bytes) (announced (s ∷ p))
+    → flat_map (λ b. bare_rows q b.bytes) (announced p) ++ step_rows q bare (cursor_of q bare p) s ≡ flat_map (λ b. bare_rows q b.bytes) (announced (s ∷ p))
 step_bare q (Opens name) p whole = append-nil (flat_map (λ b. bare_rows q b.bytes) (announced p))
 step_bare q (Announces b) p whole =
     let c = cursor_of q bare p in
     let rows : block_rows q bare c b.bytes ≡ bare_rows q b.bytes =
-      ap (λ t. cond t (run_pieces q bare c.name c.trail (lines 10 b.bytes)) (run_rows q bare c.name c.earlier c.trail (lines 10 b.bytes))) whole
-      ∙ run_bare q c.name c.earlier c.trail (lines 10 b.bytes) (cursor_still q p) in
+    ap (λ t. cond t (run_pieces q bare c.name c.trail (lines 10 b.bytes)) (run_rows q bare c.name c.earlier c.trail (lines 10 b.bytes))) whole
+    ∙ run_bare q c.name c.earlier c.trail (lines 10 b.bytes) (cursor_still q p) in
     ap (λ xs. flat_map (λ (x : BlockData). bare_rows q x.bytes) (announced p) ++ xs) (rows ∙ sym (append-nil (bare_rows q b.bytes)))
     ∙ sym (flat_map-append (λ (x : BlockData). bare_rows q x.bytes) (announced p) (b ∷ []))
 step_bare q (Ends failed) p whole = append-nil (flat_map (λ b. bare_rows q b.bytes) (announced p))

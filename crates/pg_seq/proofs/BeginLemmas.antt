@@ -1,5 +1,5 @@
 -- What may be handed out is a beginning of each output that can still come.
-use Rattle.std.proofs.Common.{◌≡◌, ℕ, Bool, true, false, cond, List, [], ◌∷◌, ◌++◌, sym, ap, ◌∙◌, subst, append_assoc}
+use Rattle.std.proofs.Common.{ℕ, Bool, true, false, cond, List, [], ◌∷◌, ◌++◌, sym, ap, ◌∙◌, subst, append_assoc}
 use Rattle.std.proofs.lemmas.List.{append-nil}
 use Rattle.pg_lines.specs.Search.{Search, terminator}
 use Rattle.pg_seq.specs.declared.format.Format.{Format}
@@ -13,7 +13,7 @@ pub begins_trans : (xs ys zs : List ℕ) → IsBeginning xs ys → IsBeginning y
 begins_trans xs ys zs a b = (a.0 ++ b.0, sym (append_assoc xs a.0 b.0) ∙ (ap (λ w. w ++ b.0) a.1 ∙ b.1))
 
 front_by : (q : Search) (format : Format) (room : HasRoom format) (t : Bool) (taken : List (ℕ × ℕ)) (s : Step) (p : List Step) → IsShaped (terminator q) (s ∷ p)
-  → IsBeginning (output q format (entries_of (front taken p))) (output q format (entries_of p)) → IsBeginning (output q format (entries_of (cond t (s ∷ p) (front taken p)))) (output q format (entries_of (s ∷ p)))
+    → IsBeginning (output q format (entries_of (front taken p))) (output q format (entries_of p)) → IsBeginning (output q format (entries_of (cond t (s ∷ p) (front taken p)))) (output q format (entries_of (s ∷ p)))
 front_by q format room true taken s p h ih = ([], append-nil (output q format (entries_of (s ∷ p))))
 front_by q format room false taken s p h ih = begins_trans _ _ _ ih (plan_begins q format room p (s ∷ []) h)
 

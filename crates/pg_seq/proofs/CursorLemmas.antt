@@ -1,23 +1,21 @@
 -- The output of a plan grows by what its next step adds.
-use Rattle.std.proofs.Common.{◌≡◌, ℕ, zero, suc, ◌+◌, ◌<◌, ◌≤◌, ◌⊎◌, inl, inr, Bool, true, false, not, cond, eqb, ◌||◌, nat_lt, Option, List, [], ◌∷◌, ◌++◌, length, refl, sym, ap, ◌∙◌, subst, arith, append_assoc}
-use Rattle.std.specs.List.{flat_map, AllByRecursion, onto_first}
-use Rattle.std.proofs.lemmas.Bool.{false≢true, eq-eqb}
+use Rattle.std.proofs.Common.{◌≡◌, ℕ, ◌⊎◌, inl, inr, Bool, true, false, not, cond, ◌||◌, List, [], ◌∷◌, ◌++◌, refl, sym, ap, ◌∙◌, subst, append_assoc}
+use Rattle.std.specs.List.{AllByRecursion}
+use Rattle.std.proofs.lemmas.Bool.{false≢true}
 use Rattle.std.proofs.lemmas.List.{append-nil}
 use Rattle.std.proofs.lemmas.List.Concat.{flat_map-append}
-use Rattle.std.proofs.lemmas.List.Elements.{recursion_from_All}
 use Rattle.pg_lines.specs.Search.{Search, terminator}
 use Rattle.pg_lines.specs.Lines.{lines}
-
 use Rattle.pg_lines.specs.Blocks.{BlockData, EndsWith, joined}
 use Rattle.pg_lines.proofs.LineLemmas.{lines-append}
 use Rattle.pg_seq.specs.declared.format.Format.{Format}
 use Rattle.pg_seq.specs.declared.format.Mode.{Mode}
 use Rattle.pg_seq.specs.declared.format.Mode.TheVariants.{Rows, Count, List as Names, Quiet}
-use Rattle.pg_seq.specs.Output.{Entry, Missed, Read, Ending, Running, Ended, Failed, output, is_running, is_nothing, file_rows, rows_in, when, is_below, line_rows, piece_rows, count_row, name_row}
+use Rattle.pg_seq.specs.Output.{Entry, Read, Running, Ended, Failed, output, is_running, file_rows, rows_in, is_below, line_rows, piece_rows, count_row, name_row}
 use Rattle.pg_seq.specs.Plan.{Step, Opens, Announces, Ends, Misses, IsShaped, is_open, last_blocks, entries_of, with_bytes, with_end}
 use Rattle.pg_seq.specs.Sink.{IsBeginning}
-use Rattle.pg_seq.specs.Trail.{Trail, no_lines, run, run_rows, run_pieces}
-use Rattle.pg_seq.specs.Cursor.{Cursor, at_start, moved, cursor_of, block_rows, counted, named, step_rows}
+use Rattle.pg_seq.specs.Trail.{run, run_rows, run_pieces}
+use Rattle.pg_seq.specs.Cursor.{Cursor, moved, cursor_of, block_rows, counted, named, step_rows}
 use Rattle.pg_seq.proofs.TrailLemmas.{IsTrail, no_trail}
 use Rattle.pg_seq.proofs.FoldLemmas.{trail_more, rows_more, pieces_more, count_by_trail, name_by_trail, something, some_append, run_some}
 

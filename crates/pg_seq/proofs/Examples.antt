@@ -1,5 +1,5 @@
 -- Worked examples of what is written, and of the exit status.
-use Rattle.std.proofs.Common.{◌≡◌, ℕ, Bool, true, false, Option, Some, None, List, [], ◌∷◌, refl, codes}
+use Rattle.std.proofs.Common.{◌≡◌, ℕ, true, false, Some, None, List, [], ◌∷◌, refl, codes}
 use Rattle.pg_lines.specs.Search.{Search, Split}
 use Rattle.pg_lines.specs.Hits.{has_hit}
 use Rattle.pg_lines.specs.Parts.{parts_from}
@@ -12,9 +12,8 @@ use Rattle.pg_seq.specs.Plan.{Opens, Announces, Ends}
 use Rattle.pg_seq.specs.History.{Event, Planned, Arrived, answer_after, handed_after, front_after}
 use Rattle.pg_seq.specs.declared.format.Arrival.TheVariants.{Taken, Double, Stranger}
 use Rattle.pg_seq.specs.declared.format.Format.{Format}
-use Rattle.pg_seq.specs.declared.format.Mode.{Mode}
 use Rattle.pg_seq.specs.declared.format.Mode.TheVariants.{Rows, Count, List as Names, Quiet}
-use Rattle.pg_seq.specs.Output.{output, status, file_rows, Entry, Missed, Read, Ending, Running, Ended, Failed}
+use Rattle.pg_seq.specs.Output.{output, status, file_rows, Entry, Missed, Read, Ended}
 
 abbrev query : List ℕ → Search
 query text = record { kind = Fixed; lists = Split text ∷ []; fold = false; whole = false; invert = false; pieces = false }

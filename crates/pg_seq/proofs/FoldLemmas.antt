@@ -1,14 +1,14 @@
 -- The rows of many lines, and of each beginning of them.
-use Rattle.std.proofs.Common.{◌≡◌, ℕ, zero, suc, ◌+◌, ◌-◌, ◌<◌, ◌≤◌, ◌⊎◌, inl, inr, Bool, true, false, cond, not, ◌&&◌, ◌||◌, nat_lt, Option, Some, None, List, [], ◌∷◌, ◌++◌, length, take, drop, get_or, refl, sym, ap, ◌∙◌, subst, arith, append_assoc}
-use Rattle.std.specs.List.{fold, list_any, flat_map, count_by}
+use Rattle.std.proofs.Common.{◌≡◌, ℕ, ◌+◌, ◌-◌, ◌<◌, ◌≤◌, inl, inr, Bool, true, false, cond, not, ◌||◌, nat_lt, Option, Some, None, List, [], ◌∷◌, ◌++◌, length, take, drop, get_or, refl, sym, ap, ◌∙◌, subst, arith, append_assoc}
+use Rattle.std.specs.List.{list_any, count_by}
 use Rattle.std.specs.Fmt.{decimal}
-use Rattle.std.proofs.lemmas.Bool.{false≢true, lt-ltb, le-ltb, ltb-false, ltb-true, or_right}
+use Rattle.std.proofs.lemmas.Bool.{false≢true, lt-ltb, ltb-false, ltb-true, or_right}
 use Rattle.std.proofs.lemmas.List.{append-nil, take-append-drop, drop_more, take_more}
 use Rattle.std.proofs.lemmas.List.Sums.{sum_by-append, fold_push}
 use Rattle.pg_lines.specs.Search.{Search, terminator}
 use Rattle.pg_lines.specs.Hits.{selects}
 use Rattle.pg_seq.specs.declared.format.Format.{Format}
-use Rattle.pg_seq.specs.Output.{is_below, is_kept, members, when, row, is_nothing, line_rows, piece_rows, count_row, name_row}
+use Rattle.pg_seq.specs.Output.{is_below, when, row, is_nothing, line_rows, piece_rows, count_row, name_row}
 use Rattle.pg_seq.specs.Sink.{IsBeginning}
 use Rattle.pg_seq.specs.Trail.{Trail, no_lines, step, trail_of, added, run_rows, run, added_pieces, run_pieces, keeps, after_kept, after_context, after_other, kept_rows, context_rows, gap_row}
 use Rattle.pg_seq.proofs.TrailLemmas.{IsTrail, Quota, trail_step, rows_step, pieces_step, no_trail}

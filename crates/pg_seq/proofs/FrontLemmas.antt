@@ -1,6 +1,6 @@
 -- The front of a plan: its longest beginning each of whose blocks was taken.
-use Rattle.std.proofs.Common.{◌≡◌, ℕ, suc, ◌+◌, ◌<◌, ◌≤◌, Bool, true, false, ◌&&◌, cond, is_some, Option, Some, None, IfSome, List, [], ◌∷◌, ◌++◌, length, take, map, refl, sym, ap, ◌∙◌, subst, arith}
-use Rattle.std.specs.List.{flat_map, list_all, AllByRecursion, prefix_len}
+use Rattle.std.proofs.Common.{◌≡◌, ℕ, suc, ◌+◌, Bool, true, false, ◌&&◌, cond, is_some, Option, Some, None, IfSome, List, [], ◌∷◌, ◌++◌, length, take, map, refl, sym, ap, ◌∙◌, arith}
+use Rattle.std.specs.List.{flat_map, list_all, AllByRecursion}
 use Rattle.std.proofs.lemmas.Bool.{false≢true, and_from, and_parts}
 use Rattle.pg_lines.specs.Search.{Search}
 use Rattle.pg_lines.specs.Searched.{Searched}
@@ -89,8 +89,8 @@ front_taken taken (s ∷ p) = front_taken_by taken s p (all_taken taken (s ∷ p
 module _ {A : Type 0} where
   -- the blocks at the front that were taken are the slots at the front that have results
   slot_rows_by : (q : Search) (b : BlockData) (o : Option Searched) (t : Bool) (bs : List BlockData) (rest : List (Slot A)) (slot : Slot A) → slot.result ≡ o → t ≡ is_some o → IfSome o (λ r. (r.query ≡ q) × (r.block ≡ b))
-    → flat_map (λ x. bare_rows q x.bytes) bs ≡ flat_map slot_rows (take (ready rest) rest)
-    → flat_map (λ x. bare_rows q x.bytes) (cond t (b ∷ bs) []) ≡ flat_map slot_rows (take (cond (is_some o) (1 + ready rest) 0) (slot ∷ rest))
+      → flat_map (λ x. bare_rows q x.bytes) bs ≡ flat_map slot_rows (take (ready rest) rest)
+      → flat_map (λ x. bare_rows q x.bytes) (cond t (b ∷ bs) []) ≡ flat_map slot_rows (take (cond (is_some o) (1 + ready rest) 0) (slot ∷ rest))
   slot_rows_by q b None t bs rest slot is e h ih = ap (λ v. flat_map (λ (x : BlockData). bare_rows q x.bytes) (cond v (b ∷ bs) [])) e
   slot_rows_by q b (Some r) t bs rest slot is e h ih =
       let n : 1 + ready rest ≡ suc (ready rest) = omega arith in

@@ -27,12 +27,13 @@ takes_longer text whole before after t b = (t.0, (t.1.0 ++ b.0, sym (append_asso
 
 -- behind what the first ones give, a part of what the next one gives
 pub takes_of_map : {X : Type 0} (f : X → List ℕ) (xs : List X) (k : ℕ) (d : X) (before middle after : List ℕ) → k < length xs → middle ≡ before ++ flat_map f (take k xs)
-  → TakesPart (f (get_or xs k d)) middle after → TakesPart (flat_map f xs) before after
+    → TakesPart (f (get_or xs k d)) middle after → TakesPart (flat_map f xs) before after
 takes_of_map f xs k d before middle after below m t =
     let front = flat_map f (take k xs) in
     let later = flat_map f (drop (k + 1) xs) in
     let whole : flat_map f xs ≡ front ++ (f (get_or xs k d) ++ later) =
-      ap (flat_map f) (sym (take-append-drop k xs)) ∙ (flat_map-append f (take k xs) (drop k xs) ∙ ap (λ ys. front ++ flat_map f ys) (drop_more xs k d below)) in
-    (front ++ t.0,
+    ap (flat_map f) (sym (take-append-drop k xs)) ∙ (flat_map-append f (take k xs) (drop k xs) ∙ ap (λ ys. front ++ flat_map f ys) (drop_more xs k d below)) in (
+      front ++ t.0,
       (t.1.0 ++ later, append_assoc front t.0 (t.1.0 ++ later) ∙ (ap (λ ys. front ++ ys) (sym (append_assoc t.0 t.1.0 later) ∙ ap (λ ys. ys ++ later) t.1.1) ∙ sym whole)),
-      t.2 ∙ (ap (λ ys. ys ++ t.0) m ∙ append_assoc before front t.0))
+      t.2 ∙ (ap (λ ys. ys ++ t.0) m ∙ append_assoc before front t.0),
+    )

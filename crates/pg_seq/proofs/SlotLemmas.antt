@@ -1,6 +1,6 @@
 -- Slots from the first on that have their results.
-use Rattle.std.proofs.Common.{◌≡◌, ℕ, zero, suc, ◌+◌, ◌<◌, ◌≤◌, Bool, true, false, cond, List, [], ◌∷◌, ◌++◌, length, take, drop, get_or, length-take, refl, sym, ap, ◌∙◌, subst, arith, append_assoc}
-use Rattle.std.specs.List.{flat_map, prefix_len}
+use Rattle.std.proofs.Common.{◌≡◌, ℕ, zero, suc, ◌+◌, ◌<◌, ◌≤◌, Bool, true, false, cond, List, [], ◌∷◌, ◌++◌, length, take, drop, get_or, length-take, refl, sym, ap, ◌∙◌, arith, append_assoc}
+use Rattle.std.specs.List.{flat_map}
 use Rattle.std.proofs.lemmas.List.{append-nil, take-take, take-append-drop, drop_more, drop_all, get_or-take, drop-append-le, length-take-le}
 use Rattle.std.proofs.lemmas.List.Concat.{flat_map-append}
 use Rattle.pg_seq.specs.Sink.{IsBeginning}
@@ -67,11 +67,12 @@ module _ {A : Type 0} where
   pub slots_begin : (slots : List (Slot A)) (n k m : ℕ) (d : Slot A) (part : List ℕ) → n ≤ k → k < m → k < length slots → IsBeginning part (slot_rows (get_or slots k d)) → IsBeginning (flat_map slot_rows (drop n (take k slots)) ++ part) (flat_map slot_rows (drop n (take m slots)))
   slots_begin slots n k m d part low high below b =
       let before = flat_map slot_rows (drop n (take k slots)) in
-      let more = flat_map slot_rows (drop (k + 1) (take m slots)) in
-      (b.0 ++ more,
+      let more = flat_map slot_rows (drop (k + 1) (take m slots)) in (
+        b.0 ++ more,
         append_assoc before part (b.0 ++ more)
-        ∙ (ap (λ xs. before ++ xs) (sym (append_assoc part b.0 more) ∙ ap (λ xs. xs ++ more) b.1)
-        ∙ sym (slots_split slots n k m d low high below)))
+            ∙ (ap (λ xs. before ++ xs) (sym (append_assoc part b.0 more) ∙ ap (λ xs. xs ++ more) b.1)
+            ∙ sym (slots_split slots n k m d low high below)),
+      )
 
   ready_push_by : (t : Bool) (slots : List (Slot A)) (x : Slot A) → ready slots ≤ ready (slots ++ x ∷ []) → cond t (1 + ready slots) 0 ≤ cond t (1 + ready (slots ++ x ∷ [])) 0
   ready_push_by true slots x h = omega arith

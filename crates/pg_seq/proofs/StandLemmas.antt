@@ -1,11 +1,9 @@
 -- What a sequencer stands after.
-use Rattle.std.proofs.Common.{◌⊎◌, ◌≡◌, ◌≢◌, ℕ, zero, suc, ◌+◌, ◌<◌, ◌≤◌, ◌^◌, Bool, true, false, ◌&&◌, ◌||◌, cond, eqb, is_some, Option, Some, None, IfSome, List, [], ◌∷◌, ◌++◌, length, take, drop, map, slice_get, refl, sym, ap, ◌∙◌, subst, arith, inl, inr, append_assoc, length-append}
+use Rattle.std.proofs.Common.{◌≡◌, ℕ, ◌+◌, ◌<◌, ◌≤◌, ◌^◌, Bool, true, false, ◌&&◌, ◌||◌, cond, eqb, is_some, Option, Some, None, IfSome, List, [], ◌∷◌, ◌++◌, length, take, drop, map, slice_get, refl, sym, ap, ◌∙◌, subst, arith, inl, inr, append_assoc, length-append}
 use Rattle.std.specs.List.{find, flat_map, AllByRecursion, list_any, list_all}
-use Rattle.std.specs.Str.{bytes_eq}
 use Rattle.std.proofs.lemmas.Bool.{false≢true, ne_eqb, cases_Bool, eqb-true, eqb-false}
-use Rattle.std.proofs.lemmas.List.{append-nil, length-map, map_push, take-append-le}
+use Rattle.std.proofs.lemmas.List.{length-map, map_push, take-append-le}
 use Rattle.std.proofs.lemmas.List.Folds.{list_any-append}
-use Rattle.std.proofs.Common.{Vec}
 use Rattle.pg_lines.specs.Search.{Search, terminator}
 use Rattle.pg_lines.specs.Lines.{lines}
 use Rattle.pg_lines.specs.Hits.{selects}
@@ -14,14 +12,13 @@ use Rattle.pg_lines.specs.Searched.{Searched}
 use Rattle.pg_lines.specs.Blocks.{BlockData, EndsWith, AreNumbered, joined}
 use Rattle.pg_lines.proofs.CutLemmas.{numbered_more}
 use Rattle.pg_lines.proofs.LineLemmas.{lines-append}
-use Rattle.pg_seq.specs.declared.format.Format.{Format}
 use Rattle.pg_seq.specs.declared.format.Arrival.{Arrival}
 use Rattle.pg_seq.specs.declared.format.Arrival.TheVariants.{Taken, Double, Stranger}
 use Rattle.pg_seq.specs.declared.slot.Slot.{Slot}
 use Rattle.pg_seq.specs.declared.sequencer.Sequencer.{Sequencer}
-use Rattle.pg_seq.specs.Output.{Entry, Missed, Read, Ending, Running, Ended, Failed, output, status, is_bad, has_selected}
+use Rattle.pg_seq.specs.Output.{Entry, Missed, Read, Running, Ended, Failed, output, status, is_bad, has_selected}
 use Rattle.pg_seq.specs.Plan.{Step, Opens, Announces, Ends, Misses, IsPlan, IsShaped, IsNext, IsSmall, is_open, opened, announced, last_blocks, entries_of, with_bytes, with_end}
-use Rattle.pg_seq.specs.History.{Past, plan, planned, arrived, answer, answer_after, arrival, arrival_at, taken_of, taken_after, is_taken, is_block, if_same, all_taken, front, front_of, front_after, handed, handed_after, IsComplete, status_of}
+use Rattle.pg_seq.specs.History.{Past, plan, planned, arrived, answer, answer_after, arrival_at, taken_of, taken_after, is_taken, is_block, all_taken, front, front_after, handed, handed_after, IsComplete, status_of}
 use Rattle.pg_seq.specs.Sink.{IsBeginning}
 use Rattle.pg_seq.specs.Bare.{bare, bare_rows}
 use Rattle.pg_seq.specs.Slots.{slot_block, has_result, arrival_at_slot, arrival_among, with_result, IsResultOf, slot_rows, slot_selects, result_selects, ready}
@@ -31,7 +28,7 @@ use Rattle.pg_seq.proofs.FrontLemmas.{front_shaped, front_blocks, front_all, fro
 use Rattle.pg_seq.proofs.BareLemmas.{output_bare}
 use Rattle.pg_seq.proofs.BeginLemmas.{shape_of}
 use Rattle.pg_seq.proofs.CursorLemmas.{cursor_is, closed_joined}
-use Rattle.pg_seq.proofs.ArriveLemmas.{find_other, find_at, at_slot, taken_means, IsTaken, numbered_at, piece_same, ready_before, taken_one, same_blocks, same_length, same_front, results_with, ready_grows, stranger_taken}
+use Rattle.pg_seq.proofs.ArriveLemmas.{find_other, find_at, at_slot, taken_means, IsTaken, numbered_at, piece_same, ready_before, taken_one, same_blocks, same_length, same_front, results_with, stranger_taken}
 
 -- an open file's entry ends the plan's files
 bad_ended : (failed : Bool) (es : List Entry) (name bytes : List ℕ) (rest : List Entry) → es ≡ Read name bytes Running ∷ rest → list_any is_bad (with_end failed es) ≡ (list_any is_bad es || failed)
@@ -103,7 +100,7 @@ selected_entries q (Announces b ∷ p) lawful =
     let f = (cursor_is q bare refl p lawful.1).file lawful.0.running in
     let rest = list_any (has_selected q) f.rest in
     let seam : lines 10 (f.bytes ++ b.bytes) ≡ lines 10 f.bytes ++ lines 10 b.bytes =
-      ap (λ xs. lines 10 (xs ++ b.bytes)) f.same ∙ (lines-append 10 (joined (last_blocks p)) b.bytes (closed_joined 10 (last_blocks p) lawful.0.seam) ∙ ap (λ xs. lines 10 xs ++ lines 10 b.bytes) (sym f.same)) in
+    ap (λ xs. lines 10 (xs ++ b.bytes)) f.same ∙ (lines-append 10 (joined (last_blocks p)) b.bytes (closed_joined 10 (last_blocks p) lawful.0.seam) ∙ ap (λ xs. lines 10 xs ++ lines 10 b.bytes) (sym f.same)) in
     ap (λ es. list_any (has_selected q) (with_bytes b.bytes es)) f.entries
     ∙ (ap (λ ls. list_any (selects q) ls || rest) seam
     ∙ (ap (λ t. t || rest) (list_any-append (selects q) (lines 10 f.bytes) (lines 10 b.bytes))
@@ -156,7 +153,7 @@ module _ {A : Type 0} where
 
   -- the same sequencer, whatever its memory
   pub same_stands : (s new : Sequencer A) (past : Past) → Stands s past → new.query ≡ s.query → new.opened ≡ s.opened → new.running ≡ s.running → new.bad ≡ s.bad → new.slots.items ≡ s.slots.items
-    → new.handed ≡ s.handed → new.failed ≡ s.failed → Stands new past
+      → new.handed ≡ s.handed → new.failed ≡ s.failed → Stands new past
   same_stands s new past h query opened running bad slots handed' failed =
       let R : List (Slot A) → Type 0 = λ xs. AllByRecursion (IsResultOf past.query) xs in
       let K : List (Slot A) → Type 0 = λ xs. AllByRecursion (λ (key : ℕ × ℕ). key.1 < length xs) (taken_of past.query past.events) in
@@ -180,8 +177,8 @@ module _ {A : Type 0} where
 
   -- a sequencer that differs in what it handed out
   pub after_drain : (s new : Sequencer A) (past : Past) (text : List ℕ) → Stands s past → new.query ≡ s.query → new.opened ≡ s.opened → new.running ≡ s.running → new.bad ≡ s.bad → new.slots.items ≡ s.slots.items
-    → (failed : Bool) → new.failed ≡ failed → (new.failed ≡ false → past.written ++ text ≡ flat_map slot_rows (take new.handed s.slots.items))
-    → Stands new (record past { written = past.written ++ text; failed = failed })
+      → (failed : Bool) → new.failed ≡ failed → (new.failed ≡ false → past.written ++ text ≡ flat_map slot_rows (take new.handed s.slots.items))
+      → Stands new (record past { written = past.written ++ text; failed = failed })
   after_drain s new past text h query opened running bad slots failed f w =
       let R : List (Slot A) → Type 0 = λ xs. AllByRecursion (IsResultOf past.query) xs in
       let K : List (Slot A) → Type 0 = λ xs. AllByRecursion (λ (key : ℕ × ℕ). key.1 < length xs) (taken_of past.query past.events) in
@@ -205,7 +202,7 @@ module _ {A : Type 0} where
 
   -- the file has ended
   pub ended_stands : (s new : Sequencer A) (past : Past) (failed : Bool) → is_open (plan past) ≡ true → Stands s past → new.query ≡ s.query → new.opened ≡ s.opened → new.running ≡ false → new.bad ≡ (s.bad || failed)
-    → new.slots.items ≡ s.slots.items → new.handed ≡ s.handed → new.failed ≡ s.failed → Stands new (planned past (Ends failed))
+      → new.slots.items ≡ s.slots.items → new.handed ≡ s.handed → new.failed ≡ s.failed → Stands new (planned past (Ends failed))
   ended_stands s new past failed open' h query opened running bad slots handed' failed' =
       let f = (cursor_is past.query bare refl (plan past) (shape_of 10 (plan past) h.lawful)).file open' in
       let R : List (Slot A) → Type 0 = λ xs. AllByRecursion (IsResultOf past.query) xs in
@@ -233,19 +230,21 @@ module _ {A : Type 0} where
   next_same : (s : Sequencer A) (past first : Past) (b : BlockData) → Stands s first → IsNext 10 (plan first) b × IsSmall 10 (plan first) b → Stands s past → IsNext 10 (plan past) b × IsSmall 10 (plan past) b
   next_same s past first b h0 m h =
       let l : last_blocks (plan first) ≡ last_blocks (plan past) =
-        single_last 10 (plan first) h0.lawful h0.single ∙ (h0.blocks ∙ (sym h.blocks ∙ sym (single_last 10 (plan past) h.lawful h.single))) in
+      single_last 10 (plan first) h0.lawful h0.single ∙ (h0.blocks ∙ (sym h.blocks ∙ sym (single_last 10 (plan past) h.lawful h.single))) in
       let P : List BlockData → Type 0 = λ bs. AllByRecursion (λ (x : BlockData). EndsWith 10 x.bytes) bs in
-      let Q : List BlockData → Type 0 = λ bs. length (joined bs) + length b.bytes ≤ 2 ^ 62 in
-      (record {
-        running = h.running ∙ (sym h0.running ∙ m.0.running);
-        file = m.0.file ∙ (h0.opened ∙ sym h.opened);
-        number = m.0.number ∙ ap length l;
-        some = m.0.some;
-        seam = subst P l m.0.seam;
-      }, record { short = m.1.short; small = subst Q l m.1.small })
+      let Q : List BlockData → Type 0 = λ bs. length (joined bs) + length b.bytes ≤ 2 ^ 62 in (
+        record {
+          running = h.running ∙ (sym h0.running ∙ m.0.running);
+          file = m.0.file ∙ (h0.opened ∙ sym h.opened);
+          number = m.0.number ∙ ap length l;
+          some = m.0.some;
+          seam = subst P l m.0.seam;
+        },
+        record { short = m.1.short; small = subst Q l m.1.small },
+      )
 
   pub announced_stands : (s new : Sequencer A) (past first : Past) (slot : Slot A) → Stands s first → IsNext 10 (plan first) (slot_block slot) × IsSmall 10 (plan first) (slot_block slot) → Stands s past → slot.result ≡ None
-    → new.query ≡ s.query → new.opened ≡ s.opened → new.running ≡ s.running → new.bad ≡ s.bad → new.slots.items ≡ s.slots.items ++ slot ∷ [] → new.handed ≡ s.handed → new.failed ≡ s.failed → Stands new (planned past (Announces (slot_block slot)))
+      → new.query ≡ s.query → new.opened ≡ s.opened → new.running ≡ s.running → new.bad ≡ s.bad → new.slots.items ≡ s.slots.items ++ slot ∷ [] → new.handed ≡ s.handed → new.failed ≡ s.failed → Stands new (planned past (Announces (slot_block slot)))
   announced_stands s new past first slot h0 m h none query opened' running bad slots handed' failed =
       let b = slot_block slot in
       let both = next_same s past first b h0 m h in
@@ -285,9 +284,10 @@ module _ {A : Type 0} where
   unfolding front_after
   complete_is s past h stopped =
       let taken = taken_of past.query past.events in
-      let same : all_taken taken (plan past) ≡ list_all (λ b. b) (map has_result s.slots.items) = all_map (is_taken taken) (announced (plan past)) ∙ ap (list_all (λ b. b)) h.taken in
-      (λ e. (h.running ∙ stopped, front_all taken (plan past) (same ∙ all_ready s.slots.items e)),
-       λ c. ready_all s.slots.items (sym same ∙ (ap (all_taken taken) (sym c.1) ∙ front_taken taken (plan past))))
+      let same : all_taken taken (plan past) ≡ list_all (λ b. b) (map has_result s.slots.items) = all_map (is_taken taken) (announced (plan past)) ∙ ap (list_all (λ b. b)) h.taken in (
+        λ e. (h.running ∙ stopped, front_all taken (plan past) (same ∙ all_ready s.slots.items e)),
+        λ c. ready_all s.slots.items (sym same ∙ (ap (all_taken taken) (sym c.1) ∙ front_taken taken (plan past))),
+      )
 
   -- whether a line of the files is selected, block by block
 
@@ -305,7 +305,7 @@ module _ {A : Type 0} where
   status_is s past h all =
       let q = past.query in
       let selected : list_any (has_selected q) (entries_of (plan past)) ≡ list_any slot_selects s.slots.items =
-        selected_entries q (plan past) (shape_of 10 (plan past) h.lawful) ∙ (ap (list_any (block_selects q)) h.blocks ∙ selected_slots q s.slots.items all h.results) in
+      selected_entries q (plan past) (shape_of 10 (plan past) h.lawful) ∙ (ap (list_any (block_selects q)) h.blocks ∙ selected_slots q s.slots.items all h.results) in
       ap (λ format. status q format (entries_of (plan past))) h.format ∙ (ap (λ t. cond t 2 (cond (list_any (has_selected q) (entries_of (plan past))) 0 1)) h.bad ∙ ap (λ t. cond s.bad 2 (cond t 0 1)) selected)
 
   -- by the slots an arrival is what it is by the history
@@ -319,14 +319,14 @@ module _ {A : Type 0} where
       let first : answer past r ≡ arrival_at (find (is_block b.file b.number) (announced (plan past))) keys b = ap (λ t. cond t (arrival_at (find (is_block b.file b.number) (announced (plan past))) keys b) Stranger) same in
       first ∙ elim (cases_Bool (eqb b.file 0)) [
         | inl yes' ↦
-          let f : b.file ≡ 0 = eqb-true b.file 0 yes' in
-          ap (λ x. arrival_at (find (is_block x b.number) (announced (plan past))) keys b) f
-          ∙ (ap (λ o. arrival_at o keys b) (find_at 0 (announced (plan past)) b.number b.number h.numbered (omega arith) ∙ ap (λ bs. slice_get bs b.number) h.blocks)
-          ∙ (at_slot keys b 0 s.slots.items b.number (subst known h.blocks h.taken) (subst numbered h.blocks h.numbered) f (omega arith)
-          ∙ sym (ap (λ t. cond t (arrival_at_slot (slice_get s.slots.items b.number) b) Stranger) yes')))
+            let f : b.file ≡ 0 = eqb-true b.file 0 yes' in
+            ap (λ x. arrival_at (find (is_block x b.number) (announced (plan past))) keys b) f
+            ∙ (ap (λ o. arrival_at o keys b) (find_at 0 (announced (plan past)) b.number b.number h.numbered (omega arith) ∙ ap (λ bs. slice_get bs b.number) h.blocks)
+            ∙ (at_slot keys b 0 s.slots.items b.number (subst known h.blocks h.taken) (subst numbered h.blocks h.numbered) f (omega arith)
+            ∙ sym (ap (λ t. cond t (arrival_at_slot (slice_get s.slots.items b.number) b) Stranger) yes')))
         | inr no' ↦
-          ap (λ o. arrival_at o keys b) (find_other 0 (announced (plan past)) b.file b.number h.numbered (eqb-false b.file 0 no'))
-          ∙ sym (ap (λ t. cond t (arrival_at_slot (slice_get s.slots.items b.number) b) Stranger) no')
+            ap (λ o. arrival_at o keys b) (find_other 0 (announced (plan past)) b.file b.number h.numbered (eqb-false b.file 0 no'))
+            ∙ sym (ap (λ t. cond t (arrival_at_slot (slice_get s.slots.items b.number) b) Stranger) no')
       ]
 
   -- An arrival that is not taken changes nothing.
@@ -336,9 +336,21 @@ module _ {A : Type 0} where
       let T : List (ℕ × ℕ) → Type 0 = λ keys. map (is_taken keys) (announced (plan past)) ≡ map has_result s.slots.items in
       let K : List (ℕ × ℕ) → Type 0 = λ keys. AllByRecursion (λ (key : ℕ × ℕ). key.1 < length s.slots.items) keys in
       record {
-        query = h.query; format = h.format; whole = h.whole; lawful = h.lawful; single = h.single; opened = h.opened; running = h.running; bad = h.bad;
-        blocks = h.blocks; numbered = h.numbered; taken = subst T (sym e) h.taken; results = h.results; known = subst K (sym e) h.known;
-        failed = h.failed; written = h.written;
+        query = h.query;
+        format = h.format;
+        whole = h.whole;
+        lawful = h.lawful;
+        single = h.single;
+        opened = h.opened;
+        running = h.running;
+        bad = h.bad;
+        blocks = h.blocks;
+        numbered = h.numbered;
+        taken = subst T (sym e) h.taken;
+        results = h.results;
+        known = subst K (sym e) h.known;
+        failed = h.failed;
+        written = h.written;
       }
 
   pub kept_stands : (s : Sequencer A) (past : Past) (r : Searched) (a : Arrival) → Stands s past → answer past r ≡ a → (a ≡ Taken → ⊥) → Stands s (arrived past r)
@@ -348,7 +360,7 @@ module _ {A : Type 0} where
   kept_stands s past r Stranger h e ne = same_keys s past r h (ap (λ a. taken_after a r.block (taken_of past.query past.events)) e)
 
   pub taken_stands : (s new : Sequencer A) (past : Past) (r : Searched) → Stands s past → answer past r ≡ Taken
-    → new.query ≡ s.query → new.opened ≡ s.opened → new.running ≡ s.running → new.bad ≡ s.bad → new.slots.items ≡ with_result s.slots.items r.block.number r → new.handed ≡ s.handed → new.failed ≡ s.failed → Stands new (arrived past r)
+      → new.query ≡ s.query → new.opened ≡ s.opened → new.running ≡ s.running → new.bad ≡ s.bad → new.slots.items ≡ with_result s.slots.items r.block.number r → new.handed ≡ s.handed → new.failed ≡ s.failed → Stands new (arrived past r)
   unfolding answer_after
   taken_stands s new past r h is query opened' running bad slots handed' failed =
       let old = s.slots.items in

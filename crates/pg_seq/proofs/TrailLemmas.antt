@@ -1,19 +1,19 @@
 -- The rows of one line more.
 use Rattle.std.proofs.Common.{◌≡◌, ℕ, zero, suc, ◌+◌, ◌-◌, ◌<◌, ◌≤◌, ◌⊎◌, inl, inr, Bool, true, false, not, ◌&&◌, ◌||◌, cond, nat_le, nat_lt, Option, Some, None, List, [], ◌∷◌, ◌++◌, length, take, drop, get_or, refl, sym, ap, ◌∙◌, subst, arith, append_assoc, length-append, length-drop}
-use Rattle.std.specs.List.{range_with_len, list_any, filter, flat_map, fold, count_by}
+use Rattle.std.specs.List.{range_with_len, list_any, filter, flat_map, count_by}
 use Rattle.circular_buffer.specs.Buffer.{keep_last}
-use Rattle.std.proofs.lemmas.Bool.{false≢true, or_parts, le-leb, lt-leb, lt-ltb, le-ltb, ltb-true, ltb-false, leb-true, cases_lt, cases_Bool, and_left}
+use Rattle.std.proofs.lemmas.Bool.{false≢true, le-leb, lt-leb, lt-ltb, le-ltb, ltb-true, ltb-false, cases_lt, cases_Bool}
 use Rattle.std.proofs.lemmas.List.{append-nil, get_or_append_left, get_or_push, take-append-le, take_at, length_push, drop-append-le, drop-drop, get_or-drop, drop_all}
 use Rattle.std.proofs.lemmas.List.Concat.{flat_map-append}
 use Rattle.std.proofs.lemmas.List.Elements.{filter-append}
-use Rattle.std.proofs.lemmas.List.Sums.{sum_by_push, fold_push}
+use Rattle.std.proofs.lemmas.List.Sums.{sum_by_push}
 use Rattle.pg_lines.specs.Search.{Search, terminator}
 use Rattle.pg_lines.specs.Hits.{selects}
 use Rattle.pg_lines.proofs.HitLemmas.{some_in_range}
 use Rattle.pg_seq.specs.declared.format.Format.{Format}
-use Rattle.pg_seq.specs.Output.{line_at, is_below, is_kept, is_near, is_shown, context, members, when, row, has_context, is_behind, separator, mark_of, line_rows, piece_rows}
-use Rattle.pg_seq.specs.Trail.{Trail, no_lines, keeps, after_kept, after_context, after_other, step, trail_of, gap_row, context_rows, kept_rows, added, pieces_in, added_pieces}
-use Rattle.pg_seq.proofs.NearLemmas.{range_more, any_same, IsNear, near_none, near_same, old_below, new_above, new_self, IsNear-kept, IsNear-context, IsNear-other}
+use Rattle.pg_seq.specs.Output.{line_at, is_below, is_kept, is_near, context, members, when, row, has_context, is_behind, separator, mark_of, line_rows, piece_rows}
+use Rattle.pg_seq.specs.Trail.{Trail, no_lines, keeps, after_kept, after_context, after_other, step, gap_row, context_rows, kept_rows, added, pieces_in, added_pieces}
+use Rattle.pg_seq.proofs.NearLemmas.{range_more, IsNear, near_none, near_same, old_below, new_above, new_self, IsNear-kept, IsNear-context, IsNear-other}
 use Rattle.pg_seq.proofs.PutLemmas.{put, put_first, put_same, put_none, put_all, put_split, separator_same}
 
 -- the first place of the window: the last B of the places from d to n

@@ -1,21 +1,16 @@
 -- Announced blocks and their results.
-use Rattle.std.specs.Prelude.{◌≡◌, ℕ, zero, suc, ◌+◌, ◌==◌, ◌≤◌, ◌<◌, slice_get, Bool, true, false, is_some, Option, Some, None, IfSome, Result, Ok, Err, List, [], ◌∷◌, ◌++◌, map, length, take, if◌then◌else◌, ◌||◌}
-use Rattle.std.specs.List.{AllByRecursion, flat_map, prefix_len, list_any}
+use Rattle.std.specs.Prelude.{◌≡◌, ℕ, zero, suc, ◌==◌, slice_get, Bool, false, is_some, Option, Some, None, IfSome, List, [], ◌∷◌, if◌then◌else◌}
+use Rattle.std.specs.List.{prefix_len, list_any}
 use Rattle.std.specs.Str.{bytes_eq}
 use Rattle.std.specs.Arc.{arc_value}
-use Rattle.pg_lines.specs.Search.{Search, terminator}
-use Rattle.pg_lines.specs.Blocks.{BlockData, AreNumbered}
+use Rattle.pg_lines.specs.Search.{Search}
+use Rattle.pg_lines.specs.Blocks.{BlockData}
 use Rattle.pg_lines.specs.Hits.{selects}
 use Rattle.pg_lines.specs.Searched.{Searched, lines_of}
-use Rattle.pg_seq.specs.Plan.{Step, opened as opened_files, announced, IsPlan, is_open, entries_of}
-use Rattle.pg_seq.specs.Output.{is_bad}
-use Rattle.pg_seq.specs.History.{Past, plan, taken_of, is_taken, handed, if_same}
-use Rattle.pg_seq.specs.Sink.{IsBeginning}
-use Rattle.pg_seq.specs.Bare.{bare, bare_rows}
+use Rattle.pg_seq.specs.History.{if_same}
+use Rattle.pg_seq.specs.Bare.{bare_rows}
 use Rattle.pg_seq.specs.declared.format.Arrival.{Arrival}
-use Rattle.pg_seq.specs.declared.format.Arrival.TheVariants.{Taken, Double, Stranger}
-use Rattle.pg_seq.specs.declared.format.SinkFault.{SinkFault}
-use Rattle.pg_seq.specs.declared.format.SinkFault.TheVariants.{WriteFailed, Failed}
+use Rattle.pg_seq.specs.declared.format.Arrival.TheVariants.{Double, Stranger}
 use Rattle.pg_seq.specs.declared.slot.Slot.{Slot}
 
 abbrev pub slot_block : {A : Type 0} → Slot A → BlockData
@@ -59,4 +54,3 @@ with_result (slot ∷ slots) (suc k) r = slot ∷ with_result slots k r
 
 abbrev pub IsResultOf : {A : Type 0} → Search → Slot A → Type 0
 IsResultOf q slot = IfSome slot.result (λ r. (r.query ≡ q) × (r.block ≡ slot_block slot))
-

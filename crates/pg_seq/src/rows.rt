@@ -5,11 +5,9 @@ ghost use Rattle.std.specs.List.{flat_map};
 ghost use Rattle.pg_seq.specs.Bare.{bare_rows, span_rows, no_span, IsWithin};
 ghost use Rattle.pg_seq.specs.Sink.{TakesPart};
 
-use std::alloc::Allocator;
-
-use pg_lines::{Block, BlockResult, Span};
-
 use crate::sink::{Sink, WriteError, write_all};
+use pg_lines::{Block, BlockResult, Span};
+use std::alloc::Allocator;
 
 /// Whether the last of some lines lacks its newline.
 fn is_incomplete(text: &[u8]) -> bool

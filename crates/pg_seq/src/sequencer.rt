@@ -5,15 +5,13 @@ ghost use Rattle.std.specs.Arc.{arc_value};
 ghost use Rattle.pg_seq.specs.Sink.{TakesPart};
 ghost use Rattle.pg_seq.specs.Slots.{ready, slot_rows, slot_selects, arrival_among, with_result};
 
-use std::alloc::{AllocError, Allocator, Global};
-use std::sync::Arc;
-
-use pg_lines::{Block, BlockResult, Query};
-
 use crate::format::{Arrival, Format, SinkFault};
 use crate::rows::write_rows;
 use crate::sink::{Sink, WriteError};
 use crate::slot::Slot;
+use pg_lines::{Block, BlockResult, Query};
+use std::alloc::{AllocError, Allocator, Global};
+use std::sync::Arc;
 
 /// Writes the results that are ready behind the first `from` slots, and answers how many slots are ready.
 fn write_ready<A: Allocator, W: Sink>(

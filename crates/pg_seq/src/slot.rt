@@ -2,10 +2,9 @@
 ghost use Rattle.std.specs.Prelude.{◌≡◌};
 ghost use Rattle.pg_seq.specs.Slots.{slot_selects};
 
+use pg_lines::{Block, BlockResult};
 use std::alloc::{Allocator, Global};
 use std::sync::Arc;
-
-use pg_lines::{Block, BlockResult};
 
 /// An announced block, and its result once it has come.
 #[derive(Drop)]

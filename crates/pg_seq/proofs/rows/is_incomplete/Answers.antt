@@ -1,7 +1,7 @@
-use Rattle.std.proofs.Common.{◌≡◌, ◌++◌, ◌∷◌, ◌-◌, ◌<◌, [], ℕ, Bool, true, false, not, nat_eq, cond, List, length, get_or, sym, ap, ◌∙◌, arith, refl}
-use Rattle.std.proofs.lemmas.Bool.{eqb-true, eqb-false, cases_Bool}
+use Rattle.std.proofs.Common.{◌≡◌, ◌++◌, ◌∷◌, ◌-◌, ◌<◌, [], ℕ, Bool, true, false, not, nat_eq, cond, List, length, get_or, sym, ◌∙◌, arith, refl}
+use Rattle.std.proofs.lemmas.Bool.{eqb-true, eqb-false}
 use Rattle.pg_lines.specs.Lines.{lines, terminated}
-use Rattle.pg_seq.proofs.BareLemmas.{whole_by_last, incomplete_by_last, no_bytes}
+use Rattle.pg_seq.proofs.BareLemmas.{whole_by_last, incomplete_by_last}
 use Rattle.pg_seq.proofs.rows.is_incomplete.Goals as goal
 
 by_last : (bytes : List ℕ) (t : Bool) → 0 < length bytes → nat_eq (get_or bytes (length bytes - 1) 0) 10 ≡ t → terminated 10 (lines 10 bytes) ≡ cond (not t) (bytes ++ 10 ∷ []) bytes

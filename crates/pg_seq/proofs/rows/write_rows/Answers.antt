@@ -1,8 +1,8 @@
-use Rattle.std.proofs.Common.{◌≡◌, ◌++◌, ◌+◌, ◌≤◌, List, ℕ, Result, OnOk, OnErr, length, ap, sym, ◌∙◌, subst, arith}
+use Rattle.std.proofs.Common.{◌≡◌, ◌++◌, List, ℕ, OnOk, OnErr, length, ap, sym, ◌∙◌, subst, arith}
 use Rattle.std.specs.List.{flat_map}
 use Rattle.pg_lines.specs.Blocks.{BlockData}
 use Rattle.pg_seq.specs.Sink.{TakesPart}
-use Rattle.pg_seq.specs.Bare.{bare_rows, span_rows, no_span}
+use Rattle.pg_seq.specs.Bare.{span_rows, no_span}
 use Rattle.pg_seq.proofs.BareLemmas.{rows_of_block, run_within}
 use Rattle.pg_seq.proofs.rows.write_rows.Goals as goal
 

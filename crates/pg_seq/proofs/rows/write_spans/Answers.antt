@@ -1,4 +1,4 @@
-use Rattle.std.proofs.Common.{◌<◌, arith, List, ℕ, subst}
+use Rattle.std.proofs.Common.{arith, List, ℕ, subst}
 use Rattle.std.specs.List.{flat_map}
 use Rattle.pg_lines.specs.Lines.{lines, terminated}
 use Rattle.pg_seq.specs.Sink.{TakesPart}

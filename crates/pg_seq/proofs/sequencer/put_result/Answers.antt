@@ -1,4 +1,4 @@
-use Rattle.std.proofs.Common.{◌≡◌, ◌∙◌, ap, arith, ℕ}
+use Rattle.std.proofs.Common.{◌≡◌, ◌∙◌, ap, arith}
 use Rattle.pg_lines.specs.Blocks.{BlockData}
 use Rattle.pg_seq.specs.Slots.{with_result}
 use Rattle.pg_seq.proofs.ArriveLemmas.{with_set, with_past}

@@ -1,4 +1,4 @@
-use Rattle.std.proofs.Common.{◌≡◌, ◌≤◌, List, sym, subst, refl, arith, None, is_ok}
+use Rattle.std.proofs.Common.{◌≤◌, List, sym, subst, refl, arith, None, is_ok}
 use Rattle.pg_seq.specs.Slots.{ready}
 use Rattle.pg_seq.specs.Standing.{Stands}
 use Rattle.pg_seq.specs.declared.slot.Slot.{Slot}

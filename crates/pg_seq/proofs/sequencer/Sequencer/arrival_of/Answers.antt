@@ -19,7 +19,7 @@ returns g c = λ past h.
     let s = c.args.self.now in
     let r = c.args.found.now in
     let queries : same_search past.query r.query ≡ same_search c.deref-query.result.now c.deref-other.result.now =
-      ap (λ (q : Search). same_search q r.query) (h.query ∙ sym c.deref-query.ensures) ∙ ap (λ (q : Search). same_search c.deref-query.result.now q) (sym (c.deref-other.ensures ∙ c.query.ensures)) in
+    ap (λ (q : Search). same_search q r.query) (h.query ∙ sym c.deref-query.ensures) ∙ ap (λ (q : Search). same_search c.deref-query.result.now q) (sym (c.deref-other.ensures ∙ c.query.ensures)) in
     let same : same_search past.query r.query ≡ true = queries ∙ not_false _ (sym c.ne.ensures ∙ c.if-ne.false) in
     c.arrival_in.ensures
     ∙ (ap (λ (xs : List (Slot g.row.A.Denot)). arrival_among xs c.deref.result.now) c.as_slice.ensures.value
@@ -29,5 +29,5 @@ pub returns-then-ne : goal.returns-then-ne
 returns-then-ne g c = λ past h.
     let r = c.args.found.now in
     let queries : same_search past.query r.query ≡ same_search c.deref-query.result.now c.deref-other.result.now =
-      ap (λ (q : Search). same_search q r.query) (h.query ∙ sym c.deref-query.ensures) ∙ ap (λ (q : Search). same_search c.deref-query.result.now q) (sym (c.deref-other.ensures ∙ c.query.ensures)) in
+    ap (λ (q : Search). same_search q r.query) (h.query ∙ sym c.deref-query.ensures) ∙ ap (λ (q : Search). same_search c.deref-query.result.now q) (sym (c.deref-other.ensures ∙ c.query.ensures)) in
     answer_other past r (queries ∙ not_true _ (sym c.ne.ensures ∙ c.if-ne.true))

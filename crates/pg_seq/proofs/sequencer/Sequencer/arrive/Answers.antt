@@ -1,6 +1,6 @@
-use Rattle.std.proofs.Common.{◌≡◌, ◌≤◌, List, refl, sym, subst, arith}
+use Rattle.std.proofs.Common.{◌≤◌, List, refl, sym, subst, arith}
 use Rattle.pg_seq.specs.Slots.{ready}
-use Rattle.pg_seq.specs.declared.format.Arrival.TheVariants.{Taken, Double, Stranger}
+use Rattle.pg_seq.specs.declared.format.Arrival.TheVariants.{Double, Stranger}
 use Rattle.pg_seq.specs.declared.slot.Slot.{Slot}
 use Rattle.pg_seq.proofs.ArriveLemmas.{ready_grows}
 use Rattle.pg_seq.proofs.StandLemmas.{kept_stands, taken_stands}

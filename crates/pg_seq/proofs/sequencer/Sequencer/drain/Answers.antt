@@ -1,4 +1,4 @@
-use Rattle.std.proofs.Common.{◌≡◌, ◌∙◌, ◌++◌, ◌≤◌, ◌||◌, Bool, true, false, sym, ap, refl, List, ℕ, subst, take, drop, arith}
+use Rattle.std.proofs.Common.{◌≡◌, ◌∙◌, ◌++◌, ◌||◌, Bool, true, false, sym, ap, refl, List, subst, take, drop}
 use Rattle.std.specs.List.{flat_map}
 use Rattle.std.proofs.lemmas.Bool.{false≢true}
 use Rattle.pg_seq.specs.Sink.{TakesPart}
@@ -22,16 +22,22 @@ returns-in-Ok-clause-drained g c = λ past h.
     let C : List (Slot g.row.A.Denot) → Type 0 = λ xs. c.in-Ok.count ≡ ready xs in
     let all = subst O c.as_slice.ensures.value c.in-Ok.ensures.all in
     let n = subst C c.as_slice.ensures.value c.in-Ok.ensures.count in
-    let f : s.failed ≡ false = c.if-self.false in
-    (due s, all, (h.failed ∙ f, due_is s past h f),
-     after_drain s _ past (due s) h refl refl refl refl refl _ (sym (ap (λ b. b || false) h.failed ∙ or_false s.failed))
-       (λ e. due_rows s past h f ∙ ap (λ m. flat_map slot_rows (take m s.slots.items)) (sym n)))
+    let f : s.failed ≡ false = c.if-self.false in (
+      due s,
+      all,
+      (h.failed ∙ f, due_is s past h f),
+      after_drain s _ past (due s) h refl refl refl refl refl _ (sym (ap (λ b. b || false) h.failed ∙ or_false s.failed))
+          (λ e. due_rows s past h f ∙ ap (λ m. flat_map slot_rows (take m s.slots.items)) (sym n)),
+    )
 
 pub returns-in-Err-clause-drained : goal.returns-in-Err-clause-drained
 returns-in-Err-clause-drained g c = λ past h.
     let s = c.args.self.now in
     let E : List (Slot g.row.A.Denot) → Type 0 = λ xs. TakesPart (flat_map slot_rows (drop s.handed (take (ready xs) xs))) (g.W.Sink.taken c.args.out.now) (g.W.Sink.taken c.write_ready.new.out) in
     let part = subst E c.as_slice.ensures.value c.in-Err.ensures.part in
-    let f : s.failed ≡ false = c.if-self.false in
-    (part.0, part.2, (h.failed ∙ f, part_due s past part.0 h f part.1),
-     after_drain s _ past part.0 h refl refl refl refl refl _ (sym (or_true past.failed)) (λ e. absurd (false≢true (sym e))))
+    let f : s.failed ≡ false = c.if-self.false in (
+      part.0,
+      part.2,
+      (h.failed ∙ f, part_due s past part.0 h f part.1),
+      after_drain s _ past part.0 h refl refl refl refl refl _ (sym (or_true past.failed)) (λ e. absurd (false≢true (sym e))),
+    )

@@ -1,4 +1,4 @@
-use Rattle.std.proofs.Common.{◌≡◌, ◌∙◌, sym, refl}
+use Rattle.std.proofs.Common.{◌∙◌, sym, refl}
 use Rattle.pg_seq.proofs.StandLemmas.{ended_stands}
 use Rattle.pg_seq.proofs.sequencer.Sequencer.end.Goals as goal
 

@@ -1,7 +1,7 @@
-use Rattle.std.proofs.Common.{◌≡◌, ◌∙◌, ap, sym, true, false, cond, ℕ, Bool, List}
+use Rattle.std.proofs.Common.{◌≡◌, ◌∙◌, ap, sym, true, false, cond}
 use Rattle.std.specs.List.{list_any}
 use Rattle.pg_seq.specs.Slots.{slot_selects}
-use Rattle.pg_seq.specs.History.{IsComplete, status_of}
+use Rattle.pg_seq.specs.History.{IsComplete}
 use Rattle.pg_seq.proofs.StandLemmas.{status_is, ready_of_complete}
 use Rattle.pg_seq.proofs.sequencer.Sequencer.status.Goals as goal
 

@@ -1,4 +1,4 @@
-use Rattle.std.proofs.Common.{◌≡◌, ◌∙◌, ◌==◌, ℕ, not, length, ap, sym}
+use Rattle.std.proofs.Common.{◌∙◌, not, ap, sym}
 use Rattle.pg_seq.specs.Slots.{result_selects}
 use Rattle.pg_seq.proofs.BareLemmas.{some_runs}
 use Rattle.pg_seq.proofs.slot.Slot.has_selected.Goals as goal
