@@ -60,3 +60,7 @@ pub record Stands {A : Type 0} (cutter : Cutter A) (past : Fed) : Type 0 where
 -- no finished block is held
 abbrev pub IsDrained : {A : Type 0} → Cutter A → Type 0
 IsDrained cutter = cutter.ready.items ≡ []
+
+-- how many finished blocks are held
+abbrev pub waiting : {A : Type 0} → Cutter A → ℕ
+waiting cutter = length cutter.ready.items

@@ -219,7 +219,7 @@ pub struct Cutter<A: Allocator + Copy = Global> {
 }
 
 impl<A: Allocator + Copy> Cutter<A> {
-    ghost use Rattle.pg_lines.specs.Cutter.{Fed, Stands, IsDrained, unfed, fed, handed, HasNoneLeft, IsNextBlock, AreAllBlocks, HasLongLine};
+    ghost use Rattle.pg_lines.specs.Cutter.{Fed, Stands, IsDrained, unfed, fed, handed, HasNoneLeft, IsNextBlock, AreAllBlocks, HasLongLine, waiting};
     ghost use Rattle.pg_lines.specs.declared.cutter.CutFault.TheVariants.{LineTooLong, FileTooLong};
 
     /// A cutter for the file of a number, which was fed nothing.
@@ -285,6 +285,7 @@ impl<A: Allocator + Copy> Cutter<A> {
         ensures stands { (past : Fed) → Stands self.old past → Stands self.new (handed past result) }
         ensures next { IfSome result (λ block. (past : Fed) → Stands self.old past → IsNextBlock past block) }
         ensures none { IfNone result (IsDrained self.new × ((past : Fed) → Stands self.old past → HasNoneLeft past)) }
+        ensures fewer { IfSome result (λ _. waiting self.new < waiting self.old) }
     {
         self.ready.pop_front()
     }

@@ -1,0 +1,2 @@
+pub mod HoldLemmas
+pub mod ReadLemmas

@@ -1,0 +1,17 @@
+pub mod BracketLemmas
+pub mod BracketAt
+pub mod BracketContents
+pub mod BracketSteps
+pub mod BracketRuns
+pub mod BracketWholes
+pub mod IntervalLemmas
+pub mod Complete
+pub mod Sound
+pub mod Agreement
+pub mod Proper
+pub mod SplitLemmas
+pub mod ListLemmas
+pub mod Braces
+pub mod TreeLemmas
+pub mod Literals
+pub mod TokenLoop

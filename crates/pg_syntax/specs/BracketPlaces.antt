@@ -1,0 +1,51 @@
+-- What stands where the parts of a bracket are read.
+use Rattle.std.specs.Prelude.{ℕ, ◌≡◌, ◌<◌, List, [], ◌∷◌, length, Option, Some, None, ◌⊎◌}
+use Rattle.pg_syntax.specs.Places.{Stands}
+use Rattle.pg_syntax.specs.declared.element.Element.{Element}
+use Rattle.pg_syntax.specs.declared.element.Element.TheVariants.{Single, Enclosed}
+use Rattle.pg_syntax.specs.declared.bracket.Mode.{Mode}
+use Rattle.pg_syntax.specs.declared.bracket.Mode.TheVariants.{Fresh, Held, Dashed, Ranged, Barred}
+use Rattle.pg_syntax.specs.declared.bracket.Reading.{Reading}
+use Rattle.pg_syntax.specs.declared.fault.SyntaxFault.{SyntaxFault}
+use Rattle.pg_syntax.specs.declared.fault.FaultKind.{FaultKind}
+use Rattle.pg_syntax.specs.declared.fault.FaultKind.TheVariants.{TrailingBackslash, BadEscape, BackReference, UnmatchedBracket, BadClass, BadCollating, BadRange, UnmatchedGroup, BadInterval, NothingToRepeat, EmptyOperand, TooDeep, OutOfMemory, TooLong}
+
+-- an element stands at this offset
+abbrev pub At : List ℕ → ℕ → Element → Type 0
+At text at (Single b) = at < length text
+At text at (Enclosed mark content) = (at < length text) × Stands text at (91 ∷ mark ∷ []) × ((mark ≡ 58) ⊎ ((mark ≡ 61) ⊎ (mark ≡ 46)))
+
+-- a fault of this kind can stand at this offset of a bracket
+abbrev pub BracketPlace : FaultKind → List ℕ → ℕ → Type 0
+BracketPlace TrailingBackslash text at = ⊥
+BracketPlace BadEscape text at = ⊥
+BracketPlace BackReference text at = ⊥
+BracketPlace UnmatchedBracket text at = Stands text at (91 ∷ [])
+BracketPlace BadClass text at = Stands text at (91 ∷ 58 ∷ [])
+BracketPlace BadCollating text at = Stands text at (91 ∷ 61 ∷ []) ⊎ Stands text at (91 ∷ 46 ∷ [])
+BracketPlace BadRange text at = at < length text
+BracketPlace UnmatchedGroup text at = ⊥
+BracketPlace BadInterval text at = ⊥
+BracketPlace NothingToRepeat text at = ⊥
+BracketPlace EmptyOperand text at = ⊥
+BracketPlace TooDeep text at = ⊥
+BracketPlace OutOfMemory text at = ⊥
+BracketPlace TooLong text at = ⊥
+
+abbrev pub FaultPlace : List ℕ → SyntaxFault → Type 0
+FaultPlace text f = BracketPlace f.kind text f.at
+
+abbrev pub FaultPlaced : List ℕ → Option SyntaxFault → Type 0
+FaultPlaced text None = Unit {0}
+FaultPlaced text (Some f) = FaultPlace text f
+
+abbrev pub ModePlaced : List ℕ → Mode → Type 0
+ModePlaced text Fresh = Unit {0}
+ModePlaced text (Held at a) = At text at a
+ModePlaced text (Dashed at a) = At text at a
+ModePlaced text (Ranged at) = at < length text
+ModePlaced text (Barred at) = at < length text
+
+-- the fault of a reading, and the element that it holds, stand where it says
+abbrev pub Placed : List ℕ → Reading → Type 0
+Placed text r = FaultPlaced text r.fault × ModePlaced text r.mode

@@ -1,0 +1,43 @@
+-- What stands where a fault is found.
+use Rattle.std.specs.Prelude.{ℕ, ◌≡◌, ◌≤◌, ◌<◌, List, [], ◌∷◌, ◌++◌, length, drop, ◌⊎◌}
+use Rattle.pg_syntax.specs.Grammar.{opening, closing, brace}
+use Rattle.pg_syntax.specs.declared.token.Syntax.{Syntax}
+use Rattle.pg_syntax.specs.declared.token.Syntax.TheVariants as S
+use Rattle.pg_syntax.specs.declared.token.Syntax.TheVariants.{Basic, Extended}
+use Rattle.pg_syntax.specs.declared.pattern_list.Kind.{Kind}
+use Rattle.pg_syntax.specs.declared.pattern_list.Kind.TheVariants as K
+use Rattle.pg_syntax.specs.declared.fault.FaultKind.{FaultKind}
+use Rattle.pg_syntax.specs.declared.fault.FaultKind.TheVariants.{TrailingBackslash, BadEscape, BackReference, UnmatchedBracket, BadClass, BadCollating, BadRange, UnmatchedGroup, BadInterval, NothingToRepeat, EmptyOperand, TooDeep, OutOfMemory, TooLong}
+
+-- the bytes stand in the text at this offset
+abbrev pub Stands : List ℕ → ℕ → List ℕ → Type 0
+Stands text at w = (rest : List ℕ) × (drop at text ≡ w ++ rest)
+
+-- the text is longer than 4,096 bytes, and the fault stands behind the last that may be
+abbrev pub IsPastLongest : List ℕ → ℕ → Type 0
+IsPastLongest text at = (at ≡ 4096) × (4096 < length text)
+
+-- a fault of this kind can stand at this offset of an expression: a backslash; `[`, or `[` with a mark; some byte; what
+-- closes a group; what begins an interval; what repeats; what opens a group; a bar; or the end
+abbrev pub PlaceIn : Syntax → FaultKind → List ℕ → ℕ → Type 0
+PlaceIn syntax TrailingBackslash text at = drop at text ≡ 92 ∷ []
+PlaceIn syntax BadEscape text at = Stands text at (92 ∷ [])
+PlaceIn syntax BackReference text at = (d : ℕ) × (49 ≤ d) × (d ≤ 57) × Stands text at (92 ∷ d ∷ [])
+PlaceIn syntax UnmatchedBracket text at = Stands text at (91 ∷ [])
+PlaceIn syntax BadClass text at = Stands text at (91 ∷ 58 ∷ [])
+PlaceIn syntax BadCollating text at = Stands text at (91 ∷ 61 ∷ []) ⊎ Stands text at (91 ∷ 46 ∷ [])
+PlaceIn syntax BadRange text at = at < length text
+PlaceIn syntax UnmatchedGroup text at = ((syntax ≡ Basic) × Stands text at (closing Basic)) ⊎ (at ≡ length text)
+PlaceIn syntax BadInterval text at = Stands text at (brace syntax)
+PlaceIn Basic NothingToRepeat text at = Stands text at (42 ∷ []) ⊎ Stands text at (brace Basic)
+PlaceIn Extended NothingToRepeat text at = (b : ℕ) × ((b ≡ 42) ⊎ ((b ≡ 43) ⊎ ((b ≡ 63) ⊎ (b ≡ 123)))) × Stands text at (b ∷ [])
+PlaceIn syntax EmptyOperand text at = Stands text at (closing syntax) ⊎ (((syntax ≡ Extended) × Stands text at (124 ∷ [])) ⊎ (at ≡ length text))
+PlaceIn syntax TooDeep text at = Stands text at (opening syntax)
+PlaceIn syntax OutOfMemory text at = at ≡ 0
+PlaceIn syntax TooLong text at = IsPastLongest text at
+
+-- A fault of this kind can stand at this offset of a text. A fixed string can only be too long.
+abbrev pub Place : Kind → FaultKind → List ℕ → ℕ → Type 0
+Place K.Basic kind text at = PlaceIn S.Basic kind text at
+Place K.Extended kind text at = PlaceIn S.Extended kind text at
+Place K.Fixed kind text at = (kind ≡ TooLong) × IsPastLongest text at

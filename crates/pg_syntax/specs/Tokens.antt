@@ -1,0 +1,55 @@
+-- What reading a token at an offset gives, and what a token does.
+use Rattle.std.specs.Prelude.{ℕ, ◌≡◌, ◌≤◌, ◌<◌, ◌⊎◌, List, length, drop, Option, Some, None, Result, Ok, Err}
+use Rattle.pg_bytes.specs.Sets.{Bytes}
+use Rattle.pg_bytes.specs.ByteSets.{bytes}
+use Rattle.pg_bytes.specs.declared.byte_set.ByteSet.{ByteSet}
+use Rattle.pg_syntax.specs.Patterns as P
+use Rattle.pg_syntax.specs.Machine as M
+use Rattle.pg_syntax.specs.Places.{PlaceIn}
+use Rattle.pg_syntax.specs.BracketPlaces.{BracketPlace}
+use Rattle.pg_syntax.specs.Results.{out_of_memory}
+use Rattle.pg_syntax.specs.declared.token.Syntax.{Syntax}
+use Rattle.pg_syntax.specs.declared.token.Token.{Token}
+use Rattle.pg_syntax.specs.declared.token.Token.TheVariants.{Set, Begin, LastEnd, End, Repeat, Open, Close, Bar}
+use Rattle.pg_syntax.specs.declared.fault.SyntaxFault.{SyntaxFault}
+use Rattle.pg_syntax.specs.declared.fault.FaultKind.{FaultKind}
+use Rattle.pg_syntax.specs.declared.fault.FaultKind.TheVariants.{NothingToRepeat, EmptyOperand, TooDeep, OutOfMemory}
+
+abbrev pub token_of : Token → M.Token
+token_of (Set s) = M.Part (P.Set (bytes s))
+token_of Begin = M.Anchor P.Begin
+token_of LastEnd = M.Anchor P.End
+token_of End = M.Part P.End
+token_of (Repeat m n) = M.Repeat m n
+token_of Open = M.Open
+token_of Close = M.Close
+token_of Bar = M.Bar
+
+-- the token that is found, and the offset after it; or a fault at its place, and nothing is found
+abbrev pub Finds : Syntax → List ℕ → ℕ → Result (Token × ℕ) SyntaxFault → M.Found → Type 0
+Finds syntax text at (Ok x) found = (found ≡ Some (token_of x.0, drop x.1 text)) × (at < x.1) × (x.1 ≤ length text)
+Finds syntax text at (Err f) found = (found ≡ None) × PlaceIn syntax f.kind text f.at
+
+-- the same for a bracket in an expression
+abbrev pub FindsBracket : Syntax → List ℕ → ℕ → Result (ByteSet × ℕ) SyntaxFault → Option (Bytes × List ℕ) → Type 0
+FindsBracket syntax text at (Ok x) found = (found ≡ Some (bytes x.0, drop x.1 text)) × (at < x.1) × (x.1 ≤ length text)
+FindsBracket syntax text at (Err f) found = (found ≡ None) × PlaceIn syntax f.kind text f.at
+
+-- the same for a bracket
+abbrev pub FindsSet : List ℕ → ℕ → Result (ByteSet × ℕ) SyntaxFault → Option (Bytes × List ℕ) → Type 0
+FindsSet text at (Ok x) found = (found ≡ Some (bytes x.0, drop x.1 text)) × (at < x.1) × (x.1 ≤ length text)
+FindsSet text at (Err f) found = (found ≡ None) × BracketPlace f.kind text f.at
+
+-- the fault of a token that can't come where it stands
+abbrev pub blame : M.Token → FaultKind
+blame (M.Part p) = OutOfMemory
+blame (M.Anchor p) = OutOfMemory
+blame (M.Repeat m n) = NothingToRepeat
+blame M.Open = TooDeep
+blame M.Close = EmptyOperand
+blame M.Bar = EmptyOperand
+
+-- the machine goes on with a token to another state, or memory or the machine refuses
+abbrev pub Applies : {A : Type 0} → Result A SyntaxFault → M.Token → M.State → M.State → ℕ → Type 0
+Applies (Ok x) k s s' at = M.after k s ≡ Some s'
+Applies (Err f) k s s' at = (f ≡ out_of_memory) ⊎ ((M.after k s ≡ None) × (f ≡ record { kind = blame k; at = at }))

@@ -1,0 +1,69 @@
+//! The bounds of intervals (XBD 9.3.6, 9.4.6).
+ghost use Rattle.std.specs.Prelude.{◌≡◌, ◌≤◌, ◌<◌, [], ◌∷◌, length, drop, MatchOption, Some, None};
+ghost use Rattle.pg_syntax.specs.Grammar.{unbrace};
+ghost use Rattle.pg_syntax.specs.IntervalReading.{number_at, strip, bounds};
+
+use crate::source::Source;
+use crate::token::Syntax;
+
+impl Source<'_> {
+    /// A number of one or more digits, up to 255, and the offset after it.
+    #[tactic(auto, unfolding(crate::specs::IntervalReading::number_at))]
+    fn number(&self, at: usize) -> Option<(u8, usize)>
+        requires { at ≤ length self.now.text.now }
+        ensures { MatchOption result (number_at (drop at self.now.text.now) ≡ None) (λ x. (number_at (drop at self.now.text.now) ≡ Some (x.0, drop x.1 self.now.text.now)) × (at < x.1) × (x.1 ≤ length self.now.text.now)) }
+    {
+        let mut value: u32 = 0;
+        let mut end = at;
+        while end < self.text.len() && self.text[end].is_ascii_digit() {
+            value = (10 * value + u32::from(self.text[end] - b'0')).min(256);
+            end += 1;
+        }
+        if end == at {
+            return None;
+        }
+        if value > 255 {
+            return None;
+        }
+        Some((value as u8, end))
+    }
+
+    /// The offset after a byte, if it stands at an offset.
+    fn skip(&self, at: usize, byte: u8) -> Option<usize>
+        ensures { MatchOption result (strip (byte ∷ []) (drop at self.now.text.now) ≡ None) (λ end. (strip (byte ∷ []) (drop at self.now.text.now) ≡ Some (drop end self.now.text.now)) × (at < end) × (end ≤ length self.now.text.now)) }
+    {
+        if self.byte(at)? == byte {
+            return Some(at + 1);
+        }
+        None
+    }
+
+    /// The offset after what closes an interval, if that stands at an offset.
+    fn skip_unbrace(&self, at: usize) -> Option<usize>
+        ensures { MatchOption result (strip (unbrace self.now.syntax) (drop at self.now.text.now) ≡ None) (λ end. (strip (unbrace self.now.syntax) (drop at self.now.text.now) ≡ Some (drop end self.now.text.now)) × (at < end) × (end ≤ length self.now.text.now)) }
+    {
+        match self.syntax {
+            Syntax::Basic => self.skip(self.skip(at, b'\\')?, b'}'),
+            Syntax::Extended => self.skip(at, b'}'),
+        }
+    }
+
+    /// The bounds that stand at an offset up to what closes their interval, and the offset after that.
+    #[tactic(auto, unfolding(crate::specs::IntervalReading::bounds))]
+    pub(crate) fn bounds(&self, at: usize) -> Option<(u8, Option<u8>, usize)>
+        requires { at ≤ length self.now.text.now }
+        ensures { MatchOption result (bounds (unbrace self.now.syntax) (drop at self.now.text.now) ≡ None) (λ x. (bounds (unbrace self.now.syntax) (drop at self.now.text.now) ≡ Some (x.0, x.1, drop x.2 self.now.text.now)) × (at < x.2) × (x.2 ≤ length self.now.text.now)) }
+    {
+        let (least, end) = self.number(at)?;
+        if let Some(end) = self.skip_unbrace(end) {
+            return Some((least, Some(least), end));
+        }
+        let end = self.skip(end, b',')?;
+        if let Some(end) = self.skip_unbrace(end) {
+            return Some((least, None, end));
+        }
+        let (most, end) = self.number(end)?;
+        let end = self.skip_unbrace(end)?;
+        (least <= most).then_some((least, Some(most), end))
+    }
+}

@@ -1,0 +1,28 @@
+//! Patterns of grep: from the bytes of a text to the tree that it spells.
+//!
+//! A text is a basic expression (XBD 9.3), an extended one (XBD 9.4) or a fixed string, in the C
+//! locale, and has at most 4,096 bytes. It spells at most one tree; where it spells none, a fault
+//! says why and where. A list of patterns is a text that newlines split, or a file of lines.
+#![tactic(auto)]
+
+mod bracket;
+mod builder;
+mod element;
+mod fault;
+mod interval;
+mod list;
+mod parser;
+mod pattern_list;
+mod sets;
+mod source;
+mod token;
+mod tree;
+
+pub use fault::{FaultKind, ListFault, SyntaxFault};
+pub use list::parse_list;
+pub use parser::{fixed, parse_bre, parse_ere};
+pub use pattern_list::{Kind, PatternList};
+pub use tree::Tree;
+
+#[cfg(test)]
+mod tests;

@@ -1,0 +1,199 @@
+//! From a text to its tree.
+ghost use Rattle.std.specs.Prelude.{◌≡◌, ◌↔◌, ◌≤◌, ◌<◌, length, ◌≢◌, [], IfOk, IfErr, IsErrOf};
+ghost use Rattle.pg_syntax.specs.Trees.{pattern};
+ghost use Rattle.pg_syntax.specs.Results.{IsSpelled, IsFault, too_long};
+ghost use Rattle.pg_syntax.specs.Expressions.{kind_of};
+ghost use Rattle.pg_syntax.specs.declared.pattern_list.Kind.TheVariants.{Basic, Extended, Fixed};
+ghost use Rattle.pg_syntax.specs.Grammar.{Literal};
+ghost use Rattle.pg_syntax.specs.States.{state_of};
+ghost use Rattle.pg_syntax.specs.Tokens.{token_of, Applies};
+
+use crate::builder::Builder;
+use crate::fault::{FaultKind, SyntaxFault};
+use crate::sets::{folded, one};
+use crate::source::Source;
+use crate::token::{Syntax, Token};
+use crate::tree::Tree;
+use std::alloc::{AllocError, Allocator};
+
+/// How many bytes a text may have.
+const LONGEST: usize = 4096;
+
+/// The tree that a text spells as a basic expression (XBD 9.3), with both cases of each letter where
+/// `fold` asks for it (XCU grep, -i). A text spells at most one tree.
+///
+/// The time is linear in the text's length, and so is the memory. An `Err` other than `OutOfMemory`
+/// says that the text spells no tree, and where it goes wrong first; `TooLong` is answered for each
+/// text of more than 4,096 bytes, and before all other faults.
+pub fn parse_bre<A: Allocator + Copy>(
+    alloc: A,
+    text: &[u8],
+    fold: bool,
+) -> Result<Tree<A>, SyntaxFault>
+    ensures spelled { IfOk result (λ tree. IsSpelled Basic fold text.now (pattern tree)) }
+    ensures refused { IfErr result (λ fault. IsFault Basic fold text.now fault) }
+    ensures too_long { IsErrOf result too_long ↔ (4096 < length text.now) }
+{
+    parse(
+        alloc,
+        Source {
+            text,
+            syntax: Syntax::Basic,
+            fold,
+        },
+    )
+}
+
+/// The tree that a text spells as an extended expression (XBD 9.4). The rest is as for `parse_bre`.
+pub fn parse_ere<A: Allocator + Copy>(
+    alloc: A,
+    text: &[u8],
+    fold: bool,
+) -> Result<Tree<A>, SyntaxFault>
+    ensures spelled { IfOk result (λ tree. IsSpelled Extended fold text.now (pattern tree)) }
+    ensures refused { IfErr result (λ fault. IsFault Extended fold text.now fault) }
+    ensures too_long { IsErrOf result too_long ↔ (4096 < length text.now) }
+{
+    parse(
+        alloc,
+        Source {
+            text,
+            syntax: Syntax::Extended,
+            fold,
+        },
+    )
+}
+
+/// The tree that a text spells as a fixed string: each byte stands for itself, a newline too, with
+/// both cases of each letter where `fold` asks for it (XCU grep, -F and -i).
+///
+/// The time and the memory are linear in the text's length. The only faults are `TooLong`, for each
+/// text of more than 4,096 bytes, and `OutOfMemory`.
+pub fn fixed<A: Allocator + Copy>(alloc: A, text: &[u8], fold: bool) -> Result<Tree<A>, SyntaxFault>
+    ensures spelled { IfOk result (λ tree. IsSpelled Fixed fold text.now (pattern tree)) }
+    ensures refused { IfErr result (λ fault. IsFault Fixed fold text.now fault) }
+    ensures too_long { IsErrOf result too_long ↔ (4096 < length text.now) }
+{
+    if text.len() > LONGEST {
+        return Err(SyntaxFault {
+            kind: FaultKind::TooLong,
+            at: LONGEST,
+        });
+    }
+    if text.is_empty() {
+        return Ok(Tree::Empty);
+    }
+    let tree = literal(alloc, text, fold)?;
+    Ok(tree)
+}
+
+/// The bytes of a text, one after the other.
+fn literal<A: Allocator + Copy>(alloc: A, text: &[u8], fold: bool) -> Result<Tree<A>, AllocError>
+    requires { 0 < length text.now }
+    ensures { IfOk result (λ tree. Literal fold text.now (pattern tree)) }
+{
+    let mut tree = Tree::Set(folded(one(text[0]), fold));
+    for at in 1..text.len() {
+        let next = Tree::Set(folded(one(text[at]), fold));
+        tree = Tree::cat(alloc, tree, next)?;
+    }
+    Ok(tree)
+}
+
+/// The tree of an expression.
+fn parse<A: Allocator + Copy>(alloc: A, source: Source) -> Result<Tree<A>, SyntaxFault>
+    ensures spelled { IfOk result (λ tree. IsSpelled (kind_of source.entry.syntax) source.entry.fold source.entry.text.now (pattern tree)) }
+    ensures refused { IfErr result (λ fault. IsFault (kind_of source.entry.syntax) source.entry.fold source.entry.text.now fault) }
+    ensures too_long { IsErrOf result too_long ↔ (4096 < length source.entry.text.now) }
+{
+    let len = source.text.len();
+    if len > LONGEST {
+        return Err(SyntaxFault {
+            kind: FaultKind::TooLong,
+            at: LONGEST,
+        });
+    }
+    if len == 0 {
+        return Ok(Tree::Empty);
+    }
+    parse_some(alloc, &source)
+}
+
+/// The tree of an expression that isn't empty.
+fn parse_some<A: Allocator + Copy>(alloc: A, source: &Source) -> Result<Tree<A>, SyntaxFault>
+    requires some { source.now.text.now ≢ [] }
+    requires short { length source.now.text.now ≤ 4096 }
+    ensures spelled { IfOk result (λ tree. IsSpelled (kind_of source.now.syntax) source.now.fold source.now.text.now (pattern tree)) }
+    ensures refused { IfErr result (λ fault. IsFault (kind_of source.now.syntax) source.now.fold source.now.text.now fault) }
+{
+    let len = source.text.len();
+    let mut builder = Builder::new(alloc);
+    let mut at = 0;
+    while at < len {
+        let (token, next) = source.token(&builder, at)?;
+        apply(&mut builder, token, at)?;
+        at = next;
+    }
+    if builder.has_group() {
+        return Err(SyntaxFault {
+            kind: FaultKind::UnmatchedGroup,
+            at: len,
+        });
+    }
+    match builder.take()? {
+        Some(tree) => Ok(tree),
+        None => Err(SyntaxFault {
+            kind: FaultKind::EmptyOperand,
+            at: len,
+        }),
+    }
+}
+
+/// Goes on with a token that stands at an offset.
+fn apply<A: Allocator + Copy>(
+    builder: &mut Builder<A>,
+    token: Token,
+    at: usize,
+) -> Result<(), SyntaxFault>
+    ensures { Applies result (token_of token) (state_of builder.old) (state_of builder.new) at }
+{
+    match token {
+        Token::Set(set) => builder.push(Tree::Set(set))?,
+        Token::Begin => builder.push_anchor(Tree::Begin)?,
+        Token::LastEnd => builder.push_anchor(Tree::End)?,
+        Token::End => builder.push(Tree::End)?,
+        Token::Repeat(least, most) => {
+            if !builder.repeat(least, most)? {
+                return Err(SyntaxFault {
+                    kind: FaultKind::NothingToRepeat,
+                    at,
+                });
+            }
+        }
+        Token::Open => {
+            if !builder.open()? {
+                return Err(SyntaxFault {
+                    kind: FaultKind::TooDeep,
+                    at,
+                });
+            }
+        }
+        Token::Close => {
+            if !builder.close()? {
+                return Err(SyntaxFault {
+                    kind: FaultKind::EmptyOperand,
+                    at,
+                });
+            }
+        }
+        Token::Bar => {
+            if !builder.bar()? {
+                return Err(SyntaxFault {
+                    kind: FaultKind::EmptyOperand,
+                    at,
+                });
+            }
+        }
+    }
+    Ok(())
+}
