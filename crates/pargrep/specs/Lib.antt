@@ -1,0 +1,2 @@
+pub mod Past
+pub mod Pattern

@@ -1,0 +1,86 @@
+//! The command, over any files and streams.
+ghost use Rattle.std.specs.Prelude.{◌≡◌, ℕ, ◌<◌, ◌≤◌, ◌∷◌, ◌++◌, List, [], IfOk, OnOk, OnErr};
+ghost use Rattle.pg_seq.specs.Bare.{bare};
+ghost use Rattle.pg_seq.specs.Output.{Read, Ended, output, status};
+ghost use Rattle.pg_seq.specs.Sink.{TakesPart};
+ghost use Rattle.pargrep.specs.Pattern.{fixed_string};
+
+use pg_run::first_run;
+use crate::fault::{FAULT_STATUS, Fault, report};
+use crate::pattern::compile_text;
+use crate::store::Store;
+use crate::whole::read_file;
+use crate::words::{Request, WordsFault, read_words};
+use pg_seq::{Sink, write_all};
+use std::alloc::Global;
+use std::sync::Arc;
+
+/// Does what the words of a command line ask for, which leave out the program's name. The answer is
+/// the status: 0 where a line was selected, 1 where none was, and 2 after a fault.
+///
+/// The selected lines go to `out`. The line of a fault goes to `err`, and only the first fault is
+/// looked for: first the words, then the pattern, then the file, then the search.
+pub fn command<S: Store, W: Sink, E: Sink>(
+    alloc: Global,
+    words: &[String],
+    store: &mut S,
+    out: &mut W,
+    err: &mut E,
+) -> u8
+    ensures within { result ≤ 2 }
+    ensures searched { result < 2 → (text : List ℕ)
+        × (W.taken out.new ≡ W.taken out.old ++ output (fixed_string text) bare (Read [] (S.past store.new).given Ended ∷ []))
+        × (result ≡ status (fixed_string text) bare (Read [] (S.past store.new).given Ended ∷ []))
+        × ((S.past store.old).ends < (S.past store.new).ends) }
+{
+    match read_words(alloc, words) {
+        Ok(request) => match search(alloc, &request, store, out) {
+            Ok(status) => status,
+            Err(fault) => report(alloc, fault, err),
+        },
+        Err(WordsFault::Refused(text)) => {
+            let _ = write_all(err, text.as_bytes());
+            FAULT_STATUS
+        }
+        Err(WordsFault::OutOfMemory) => report(alloc, Fault::OutOfMemory, err),
+    }
+}
+
+/// Searches the file that a request names.
+fn search<'a, S: Store, W: Sink>(
+    alloc: Global,
+    request: &Request<'a>,
+    store: &mut S,
+    out: &mut W,
+) -> Result<u8, Fault<'a>>
+    ensures rows { OnOk result (W.taken out.new ≡ W.taken out.old
+        ++ output (fixed_string request.now.text.now) bare (Read [] (S.past store.new).given Ended ∷ [])) }
+    ensures status { IfOk result (λ s. s ≡ status (fixed_string request.now.text.now) bare (Read [] (S.past store.new).given Ended ∷ [])) }
+    ensures path { OnOk result ((S.past store.new).path ≡ request.now.file.now) }
+    ensures to_the_end { OnOk result ((S.past store.old).ends < (S.past store.new).ends) }
+    ensures part { OnErr result (TakesPart (output (fixed_string request.now.text.now) bare (Read [] (S.past store.new).given Ended ∷ [])) (W.taken out.old) (W.taken out.new)) }
+{
+    let query = compile_text(alloc, request.text)?;
+    let Ok(query) = Arc::new(alloc, query) else {
+        return Err(Fault::OutOfMemory);
+    };
+    let name = shown_name(request.file);
+    let bytes = match read_file(alloc, store, request.file) {
+        Ok(bytes) => bytes,
+        Err(fault) => return Err(Fault::of_file(name, fault)),
+    };
+    let status = first_run(alloc, &query, bytes.as_slice(), request.block, out)?;
+    Ok(status)
+}
+
+/// How a file is called in rows and fault lines.
+fn shown_name(path: &str) -> &str {
+    if path == "-" {
+        "(standard input)"
+    } else {
+        path
+    }
+}
+
+#[cfg(test)]
+mod tests;

@@ -1,0 +1,62 @@
+//! Pargrep: prints the lines of a file that hold a text.
+#![tactic(auto)]
+
+mod command;
+mod disk_store;
+mod fault;
+mod mem_store;
+mod past;
+mod pattern;
+mod store;
+mod whole;
+mod words;
+
+use command::command;
+use disk_store::DiskStore;
+use fault::{FAULT_STATUS, Fault, report};
+use pg_seq::Out;
+use std::alloc::Global;
+use std::env;
+use std::io::{BufWriter, ErrorKind};
+use std::process::ExitCode;
+use std::rt::Env;
+
+/// How many bytes of output are held back until they are written, so that a write goes out for many
+/// lines.
+const OUT_BUFFER: usize = 65_536;
+
+fn main(rt: HostRuntime) -> ExitCode {
+    ExitCode::from(run(rt))
+}
+
+fn run(rt: HostRuntime) -> u8 {
+    let alloc = rt.alloc();
+    let mut err = Out::new(rt.stderr());
+    let words = match words_of(&rt) {
+        Ok(words) => words,
+        Err(fault) => return report(alloc, fault, &mut err),
+    };
+    let Ok(buffered) = BufWriter::with_capacity(alloc, OUT_BUFFER, rt.stdout()) else {
+        return report(alloc, Fault::OutOfMemory, &mut err);
+    };
+    let mut out = Out::new(buffered);
+    let mut store = DiskStore::new(&rt);
+    let status = command(alloc, words.as_slice(), &mut store, &mut out, &mut err);
+    if out.flush().is_err() && status != FAULT_STATUS {
+        return report(alloc, Fault::WriteFailed, &mut err);
+    }
+    status
+}
+
+/// The words behind the program's name.
+fn words_of<R: Env + AllocGlobal>(rt: &R) -> Result<Vec<String>, Fault<'static>> {
+    let words = match env::args(rt) {
+        Ok(words) => words,
+        Err(error) if error.kind() == ErrorKind::OutOfMemory => return Err(Fault::OutOfMemory),
+        Err(_) => return Err(Fault::NotText),
+    };
+    words
+        .skip(1)
+        .collect(rt.alloc())
+        .map_err(|_| Fault::OutOfMemory)
+}
