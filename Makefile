@@ -1,11 +1,41 @@
 # Pargrep is proved and built by the Rattle toolchain, whose command is `rt`.
 RT ?= rt
 
-.PHONY: check
+prefix ?= /usr/local
+bindir ?= $(prefix)/bin
+mandir ?= $(prefix)/share/man
+INSTALL ?= install
+
+program = crates/pargrep/out/pargrep
+
+.PHONY: all check bench install uninstall clean toolchain
+
+# Proves the program and the crates that it uses, and builds it. The program is tried on one line.
+all: toolchain
+	@echo "pargrep: proving and building, which takes a few minutes the first time"
+	@cd crates/pargrep && printf 'ready\n' | $(RT) run -- -F ready - > out.log 2>&1 \
+		|| { cat out.log >&2; rm -f out.log; echo "pargrep: the build failed; what went wrong stands above" >&2; exit 1; }
+	@rm -f crates/pargrep/out.log
+	@echo "pargrep: built $(program)"
 
 check: toolchain
 	$(RT) ci
 
-.PHONY: toolchain
+bench: all
+	bench/search.sh $(program)
+
+install: all
+	$(INSTALL) -d "$(DESTDIR)$(bindir)" "$(DESTDIR)$(mandir)/man1"
+	$(INSTALL) -m 755 $(program) "$(DESTDIR)$(bindir)/pargrep"
+	$(INSTALL) -m 644 doc/pargrep.1 "$(DESTDIR)$(mandir)/man1/pargrep.1"
+	@echo "pargrep: installed $(DESTDIR)$(bindir)/pargrep and its man page"
+	@case ":$$PATH:" in *":$(bindir):"*) ;; *) echo "pargrep: $(bindir) is not on your PATH yet" ;; esac
+
+uninstall:
+	rm -f "$(DESTDIR)$(bindir)/pargrep" "$(DESTDIR)$(mandir)/man1/pargrep.1"
+
+clean:
+	rm -rf crates/*/out
+
 toolchain:
 	@command -v $(RT) >/dev/null 2>&1 || { echo "pargrep: the Rattle toolchain is missing: put its command rt on PATH, or run make RT=/path/to/rt" >&2; exit 1; }

@@ -18,3 +18,6 @@ pub use mem_sink::MemSink;
 pub use sequencer::Sequencer;
 pub use sink::{Sink, WriteError, write_all};
 pub use writer::Out;
+
+#[cfg(test)]
+mod tests;

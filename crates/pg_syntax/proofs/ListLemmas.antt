@@ -3,7 +3,8 @@ use Rattle.std.proofs.Common.{ℕ, suc, ◌≡◌, ◌<◌, ◌≤◌, ◌+◌, 
 use Rattle.std.specs.Prelude.{position}
 use Rattle.std.specs.Borrow.{Bor}
 use Rattle.std.proofs.lemmas.List.{take_rest, drop-drop, take_more, take-append-drop, map-append}
-use Rattle.pg_syntax.specs.PatternLists.{Patterns, split, lines, patterns_in, patterns}
+use Rattle.pg_syntax.specs.PatternLists.{Patterns, split, patterns_in, patterns}
+use Rattle.pg_syntax.specs.Lines.{lines}
 use Rattle.pg_syntax.specs.Slices.{bytes_of, last_line}
 use Rattle.pg_syntax.specs.Patterns.{Pattern}
 use Rattle.pg_syntax.specs.Places.{Place}
@@ -30,22 +31,24 @@ behind text start len = drop-drop (len + 1) start text ∙ ap (λ n. drop n text
 cut : (start len : ℕ) → (start + len) - start ≡ len
 cut start len = omega arith
 
-pub split-more : (done : List (List ℕ)) (text : List ℕ) (start len : ℕ) → position newline (take (length text - start) (drop start text)) ≡ Some len → (done ++ take ((start + len) - start) (drop start text) ∷ []) ++ split (drop (start + len + 1) text) ≡ done ++ split (drop start text)
-split-more done text start len e =
-    append_assoc done (take ((start + len) - start) (drop start text) ∷ []) (split (drop (start + len + 1) text))
+pub split-more : (new done : List (List ℕ)) (text : List ℕ) (start len : ℕ) → new ≡ done ++ take ((start + len) - start) (drop start text) ∷ [] → position newline (take (length text - start) (drop start text)) ≡ Some len → new ++ split (drop (start + len + 1) text) ≡ done ++ split (drop start text)
+split-more new done text start len p e =
+    ap (λ t. t ++ split (drop (start + len + 1) text)) p
+    ∙ append_assoc done (take ((start + len) - start) (drop start text) ∷ []) (split (drop (start + len + 1) text))
     ∙ ap (λ t. done ++ t) (ap (λ n. take n (drop start text) ∷ split (drop (start + len + 1) text)) (cut start len)
     ∙ sym (split-found (drop start text) len (rest-is text start (Some len) e) ∙ ap (λ t. take len (drop start text) ∷ split t) (behind text start len)))
 
-pub lines-more : (done : List (List ℕ)) (text : List ℕ) (start len : ℕ) → position newline (take (length text - start) (drop start text)) ≡ Some len → (done ++ take ((start + len) - start) (drop start text) ∷ []) ++ lines (drop (start + len + 1) text) ≡ done ++ lines (drop start text)
-lines-more done text start len e =
-    append_assoc done (take ((start + len) - start) (drop start text) ∷ []) (lines (drop (start + len + 1) text))
-    ∙ ap (λ t. done ++ t) (ap (λ n. take n (drop start text) ∷ lines (drop (start + len + 1) text)) (cut start len)
-    ∙ sym (lines-found (drop start text) len (rest-is text start (Some len) e) ∙ ap (λ t. take len (drop start text) ∷ lines t) (behind text start len)))
+pub lines-more : (new done : List (List ℕ)) (text : List ℕ) (start len : ℕ) → new ≡ done ++ take ((start + len) - start) (drop start text) ∷ [] → position newline (take (length text - start) (drop start text)) ≡ Some len → new ++ lines 10 (drop (start + len + 1) text) ≡ done ++ lines 10 (drop start text)
+lines-more new done text start len p e =
+    ap (λ t. t ++ lines 10 (drop (start + len + 1) text)) p
+    ∙ append_assoc done (take ((start + len) - start) (drop start text) ∷ []) (lines 10 (drop (start + len + 1) text))
+    ∙ ap (λ t. done ++ t) (ap (λ n. take n (drop start text) ∷ lines 10 (drop (start + len + 1) text)) (cut start len)
+    ∙ sym (lines-found (drop start text) len (rest-is text start (Some len) e) ∙ ap (λ t. take len (drop start text) ∷ lines 10 t) (behind text start len)))
 
 pub split-end : (text : List ℕ) (start : ℕ) → position newline (take (length text - start) (drop start text)) ≡ None → take (length text - start) (drop start text) ∷ [] ≡ split (drop start text)
 split-end text start e = ap (λ t. t ∷ []) (take_rest text start) ∙ sym (split-last (drop start text) (rest-is text start None e))
 
-pub lines-end : (text : List ℕ) (start : ℕ) → position newline (take (length text - start) (drop start text)) ≡ None → last_line (take (length text - start) (drop start text)) ≡ lines (drop start text)
+pub lines-end : (text : List ℕ) (start : ℕ) → position newline (take (length text - start) (drop start text)) ≡ None → last_line (take (length text - start) (drop start text)) ≡ lines 10 (drop start text)
 lines-end text start e = ap last_line (take_rest text start) ∙ sym (lines-last (drop start text) (rest-is text start None e))
 
 -- the patterns of one more list

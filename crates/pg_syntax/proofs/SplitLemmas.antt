@@ -5,7 +5,8 @@ use Rattle.std.specs.List.{onto_first, position_or_len}
 use Rattle.std.proofs.lemmas.Bool.{false≢true}
 use Rattle.std.proofs.lemmas.Bool.Decides.{nat_tests}
 use Rattle.std.proofs.lemmas.List.Quantifiers.{position-Some}
-use Rattle.pg_syntax.specs.PatternLists.{split, lines}
+use Rattle.pg_syntax.specs.PatternLists.{split}
+use Rattle.pg_syntax.specs.Lines.{lines}
 use Rattle.pg_syntax.specs.Slices.{last_line}
 
 abbrev pub newline : ℕ → Bool
@@ -27,13 +28,13 @@ split-at (b ∷ text) (suc end) l e h =
     ∙ (ap (onto_first b) (split-at text end (omega arith) e (later b text end h))
     ∙ ap (λ n. (b ∷ take end text) ∷ split (drop n (b ∷ text))) (let f : suc (end + 1) ≡ suc end + 1 = omega arith in f))
 
-lines-at : (text : List ℕ) (end : ℕ) → end < length text → newline (get_or text end 0) ≡ true → NoneBefore text end → lines text ≡ take end text ∷ lines (drop (end + 1) text)
+lines-at : (text : List ℕ) (end : ℕ) → end < length text → newline (get_or text end 0) ≡ true → NoneBefore text end → lines 10 text ≡ take end text ∷ lines 10 (drop (end + 1) text)
 lines-at [] end l e h = absurd (omega arith)
-lines-at (b ∷ text) zero l e h = ap (λ t. cond t ([] ∷ lines text) (onto_first b (lines text))) e
+lines-at (b ∷ text) zero l e h = ap (λ t. cond t ([] ∷ lines 10 text) (onto_first b (lines 10 text))) e
 lines-at (b ∷ text) (suc end) l e h =
-    ap (λ t. cond t ([] ∷ lines text) (onto_first b (lines text))) (h 0 (omega arith))
+    ap (λ t. cond t ([] ∷ lines 10 text) (onto_first b (lines 10 text))) (h 0 (omega arith))
     ∙ (ap (onto_first b) (lines-at text end (omega arith) e (later b text end h))
-    ∙ ap (λ n. (b ∷ take end text) ∷ lines (drop n (b ∷ text))) (let f : suc (end + 1) ≡ suc end + 1 = omega arith in f))
+    ∙ ap (λ n. (b ∷ take end text) ∷ lines 10 (drop n (b ∷ text))) (let f : suc (end + 1) ≡ suc end + 1 = omega arith in f))
 
 split-whole : (text : List ℕ) → NoneBefore text (length text) → split text ≡ text ∷ []
 split-whole [] h = refl
@@ -45,10 +46,10 @@ onto-last : (b : ℕ) (text : List ℕ) → onto_first b (last_line text) ≡ (b
 onto-last b [] = refl
 onto-last b (c ∷ text) = refl
 
-lines-whole : (text : List ℕ) → NoneBefore text (length text) → lines text ≡ last_line text
+lines-whole : (text : List ℕ) → NoneBefore text (length text) → lines 10 text ≡ last_line text
 lines-whole [] h = refl
 lines-whole (b ∷ text) h =
-    ap (λ t. cond t ([] ∷ lines text) (onto_first b (lines text))) (h 0 (omega arith))
+    ap (λ t. cond t ([] ∷ lines 10 text) (onto_first b (lines 10 text))) (h 0 (omega arith))
     ∙ (ap (onto_first b) (lines-whole text (later b text (length text) h)) ∙ onto-last b text)
 
 chosen : (c d : Bool) (n : ℕ) → c ≡ d → cond c (Some n) None ≡ None → d ≡ false
@@ -83,11 +84,11 @@ found-within text end e = (position-Some newline text end 0 e).0
 pub split-found : (text : List ℕ) (end : ℕ) → position newline text ≡ Some end → split text ≡ take end text ∷ split (drop (end + 1) text)
 split-found text end e = let p = position-Some newline text end 0 e in split-at text end p.0 p.1 p.2
 
-pub lines-found : (text : List ℕ) (end : ℕ) → position newline text ≡ Some end → lines text ≡ take end text ∷ lines (drop (end + 1) text)
+pub lines-found : (text : List ℕ) (end : ℕ) → position newline text ≡ Some end → lines 10 text ≡ take end text ∷ lines 10 (drop (end + 1) text)
 lines-found text end e = let p = position-Some newline text end 0 e in lines-at text end p.0 p.1 p.2
 
 pub split-last : (text : List ℕ) → position newline text ≡ None → split text ≡ text ∷ []
 split-last text e = split-whole text (no-newline text e)
 
-pub lines-last : (text : List ℕ) → position newline text ≡ None → lines text ≡ last_line text
+pub lines-last : (text : List ℕ) → position newline text ≡ None → lines 10 text ≡ last_line text
 lines-last text e = lines-whole text (no-newline text e)

@@ -1,6 +1,8 @@
 -- What stands where the parts of a bracket are read.
-use Rattle.std.specs.Prelude.{ℕ, ◌≡◌, ◌<◌, List, [], ◌∷◌, length, Option, Some, None, ◌⊎◌}
+use Rattle.std.specs.Prelude.{ℕ, ◌≡◌, ◌≤◌, ◌<◌, List, [], ◌∷◌, length, drop, Option, Some, None, ◌⊎◌}
 use Rattle.pg_syntax.specs.Places.{Stands}
+use Rattle.pg_syntax.specs.Brackets as B
+use Rattle.pg_syntax.specs.BracketViews.{element}
 use Rattle.pg_syntax.specs.declared.element.Element.{Element}
 use Rattle.pg_syntax.specs.declared.element.Element.TheVariants.{Single, Enclosed}
 use Rattle.pg_syntax.specs.declared.bracket.Mode.{Mode}
@@ -32,13 +34,16 @@ BracketPlace TooDeep text at = ⊥
 BracketPlace OutOfMemory text at = ⊥
 BracketPlace TooLong text at = ⊥
 
+-- the fault stands at its place
 abbrev pub FaultPlace : List ℕ → SyntaxFault → Type 0
 FaultPlace text f = BracketPlace f.kind text f.at
 
+-- a fault that was found stands at its place
 abbrev pub FaultPlaced : List ℕ → Option SyntaxFault → Type 0
 FaultPlaced text None = Unit {0}
 FaultPlaced text (Some f) = FaultPlace text f
 
+-- the element that is held, or that began the range, stands where it says
 abbrev pub ModePlaced : List ℕ → Mode → Type 0
 ModePlaced text Fresh = Unit {0}
 ModePlaced text (Held at a) = At text at a
@@ -49,3 +54,8 @@ ModePlaced text (Barred at) = at < length text
 -- the fault of a reading, and the element that it holds, stand where it says
 abbrev pub Placed : List ℕ → Reading → Type 0
 Placed text r = FaultPlaced text r.fault × ModePlaced text r.mode
+
+-- the element that is found at an offset, and the offset after it
+abbrev pub FindsElement : List ℕ → ℕ → Option (Element × ℕ) → Option (B.Element × List ℕ) → Type 0
+FindsElement text at None found = found ≡ None
+FindsElement text at (Some x) found = (found ≡ Some (element x.0, drop x.1 text)) × At text at x.0 × (at < x.1) × (x.1 ≤ length text)

@@ -9,6 +9,7 @@ use Rattle.pg_syntax.specs.Brackets.{Element, Single, Enclosed, opens, member, e
 abbrev pub Content : Type 0
 Content = Option (List ℕ × List ℕ)
 
+-- one more byte stands in front
 abbrev pub with_byte : ℕ → Content → Content
 with_byte a None = None
 with_byte a (Some x) = Some (a ∷ x.0, x.1)
@@ -19,6 +20,7 @@ until c [] = None
 until c (a ∷ []) = None
 until c (a ∷ b ∷ t) = if (a == c) && (b == 93) then Some ([], t) else with_byte a (until c (b ∷ t))
 
+-- the enclosed element of a content
 abbrev pub enclosed_in : ℕ → Content → Option (Element × List ℕ)
 enclosed_in c None = None
 enclosed_in c (Some x) = Some (Enclosed c x.0, x.1)
@@ -32,6 +34,7 @@ enclosed_at (c ∷ t) = enclosed_in c (until c t)
 abbrev pub Elements : Type 0
 Elements = Option (List Element × List ℕ)
 
+-- one more element stands in front
 abbrev pub with_element : Element → Elements → Elements
 with_element e None = None
 with_element e (Some x) = Some (e ∷ x.0, x.1)
@@ -79,10 +82,12 @@ members_of (Dashed a d) (b ∷ es) = unite (range_of (end_point a) (end_point b)
 members_of Ranged (d ∷ es) = if is_dash d then members_of (Barred d) es else members_of (Held d) es
 members_of (Barred d) (b ∷ es) = None
 
+-- the set of the elements, folded and then changed by f
 abbrev pub set_of : Bool → (Bytes → Bytes) → Elements → Option (Bytes × List ℕ)
 set_of fold f None = None
 set_of fold f (Some x) = option_and_then (λ s. Some (f (folded fold s), x.1)) (members_of Fresh x.0)
 
+-- the set as it is
 abbrev pub same : Bytes → Bytes
 same s = s
 
@@ -107,9 +112,11 @@ abbrev pub add : Reading → Option Bytes → Mode → Reading
 add r None mode = record { mode = mode; set = r.set; bad = true }
 add r (Some s) mode = record { mode = mode; set = union r.set s; bad = r.bad }
 
+-- only the mode changes
 abbrev pub go : Reading → Mode → Reading
 go r mode = record { mode = mode; set = r.set; bad = r.bad }
 
+-- one more element is read in a mode
 abbrev pub put_in : Reading → Mode → Element → Reading
 put_in r Fresh a = go r (Held a)
 put_in r (Held a) d = if is_dash d then go r (Dashed a d) else add r (member a) (Held d)
@@ -121,6 +128,7 @@ put_in r (Barred d) b = add r None Ranged
 abbrev pub put : Reading → Element → Reading
 put r a = put_in r r.mode a
 
+-- no element follows in a mode
 abbrev pub finish_in : Reading → Mode → Reading
 finish_in r Fresh = r
 finish_in r (Held a) = add r (member a) Fresh

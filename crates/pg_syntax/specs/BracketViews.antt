@@ -9,13 +9,16 @@ use Rattle.pg_syntax.specs.declared.bracket.Mode.{Mode}
 use Rattle.pg_syntax.specs.declared.bracket.Mode.TheVariants.{Fresh, Held, Dashed, Ranged, Barred}
 use Rattle.pg_syntax.specs.declared.bracket.Reading.{Reading}
 
+-- the element, with its content in place of a reference
 abbrev pub element : Element → B.Element
 element (Single b) = B.Single b
 element (Enclosed mark content) = B.Enclosed mark content.now
 
+-- the single byte `-`
 abbrev pub dash : B.Element
 dash = B.Single 45
 
+-- the mode without offsets
 abbrev pub mode_of : Mode → R.Mode
 mode_of Fresh = R.Fresh
 mode_of (Held at a) = R.Held (element a)
@@ -23,5 +26,6 @@ mode_of (Dashed at a) = R.Dashed (element a) dash
 mode_of (Ranged at) = R.Ranged
 mode_of (Barred at) = R.Barred dash
 
+-- the reading without offsets and the kind of its fault
 abbrev pub reading : Reading → R.Reading
 reading r = record { mode = mode_of r.mode; set = bytes r.set; bad = is_some r.fault }

@@ -8,6 +8,7 @@ abbrev pub number_from : ℕ → List ℕ → ℕ × List ℕ
 number_from n [] = (n, [])
 number_from n (c ∷ t) = if digit c then number_from (10 * n + (c - 48)) t else (n, c ∷ t)
 
+-- a number of at most 255
 abbrev pub small : ℕ × List ℕ → Option (ℕ × List ℕ)
 small x = if nat_le x.0 255 then Some (x.0, x.1) else None
 
@@ -26,21 +27,26 @@ strip (c ∷ cs) (b ∷ t) = if b == c then strip cs t else None
 abbrev pub Bounds : Type 0
 Bounds = Option (ℕ × Option ℕ × List ℕ)
 
+-- these bounds, if their interval is closed here
 abbrev pub closed_by : List ℕ → ℕ → Option ℕ → List ℕ → Bounds
 closed_by close m n t = option_and_then (λ rest. Some (m, n, rest)) (strip close t)
 
+-- the first of two that is there
 abbrev pub or_else : Bounds → Bounds → Bounds
 or_else None b = b
 or_else (Some a) b = Some a
 
+-- the bounds from m to a number that was read
 abbrev pub upper_at : List ℕ → ℕ → Option (ℕ × List ℕ) → Bounds
 upper_at close m None = None
 upper_at close m (Some x) = if nat_le m x.0 then closed_by close m (Some x.0) x.1 else None
 
+-- the bounds behind the least count, which a comma follows
 abbrev pub most_at : List ℕ → ℕ → List ℕ → Bounds
 most_at close m [] = None
 most_at close m (c ∷ t) = if c == 44 then or_else (closed_by close m None t) (upper_at close m (number_at t)) else None
 
+-- the bounds behind a number that was read
 abbrev pub least_at : List ℕ → Option (ℕ × List ℕ) → Bounds
 least_at close None = None
 least_at close (Some x) = or_else (closed_by close x.0 (Some x.0) x.1) (most_at close x.0 x.1)

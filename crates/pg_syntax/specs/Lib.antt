@@ -5,8 +5,10 @@ pub mod Grammar
 pub mod Places
 pub mod Trees
 pub mod Results
+pub mod Lines
 pub mod PatternLists
 pub mod ListResults
+pub mod FaultTexts
 pub mod Slices
 pub mod Memory
 pub mod Same
@@ -15,6 +17,7 @@ pub mod BracketPlaces
 pub mod BracketViews
 pub mod IntervalReading
 pub mod Expressions
+pub mod Reads
 pub mod Machine
 pub mod Levels
 pub mod States

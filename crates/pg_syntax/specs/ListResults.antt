@@ -23,6 +23,7 @@ pub record IsFirstRefused (kind : Kind) (fold : Bool) (texts : List (List ℕ)) 
   pub spelled : AreSpelled kind fold front trees
   pub refused : IsRefused kind fold text f.fault
 
+-- a growth was refused
 abbrev pub no_memory : ListFault
 no_memory = record { pattern = 0; fault = out_of_memory }
 

@@ -72,24 +72,30 @@ pub data Token : Type 0 where
   Close : Token
   Bar : Token
 
+-- the state goes on with an item
 abbrev pub add : Pattern → State → State
 add p s = record { outer = s.outer; level = with_item p s.level }
 
+-- the state goes on with an anchor
 abbrev pub anchored : Pattern → State → State
 anchored p s = record { outer = s.outer; level = with_anchor p s.level }
 
+-- the item is repeated, if there is one
 abbrev pub repeated : ℕ → Option ℕ → State → Option Pattern → Option State
 repeated m n s None = None
 repeated m n s (Some p) = Some (record { outer = s.outer; level = record { alternatives = s.level.alternatives; sequence = s.level.sequence; item = Some (Rep p m n) } })
 
+-- a group is opened, if fewer than 100 are open
 abbrev pub opened : State → Option State
 opened s = if nat_lt (length s.outer) 100 then Some (record { outer = s.level ∷ s.outer; level = fresh }) else None
 
+-- the innermost group is closed, if there is one and its pattern isn't empty
 abbrev pub popped : List Level → Option Pattern → Option State
 popped [] p = None
 popped (l ∷ ls) None = None
 popped (l ∷ ls) (Some p) = Some (record { outer = ls; level = with_item p l })
 
+-- another alternative begins, if the one in front of it isn't empty
 abbrev pub barred : State → Option Pattern → Option State
 barred s None = None
 barred s (Some p) = Some (record { outer = s.outer; level = record { alternatives = Some p; sequence = None; item = None } })
@@ -113,10 +119,12 @@ ends [] = true
 ends (a ∷ []) = false
 ends (a ∷ b ∷ t) = (a == 92) && (b == 41)
 
+-- the token of a bracket
 abbrev pub set_token : Option (Bytes × List ℕ) → Found
 set_token None = None
 set_token (Some (s, t)) = Some (Part (Set s), t)
 
+-- the token of an interval
 abbrev pub repeat_token : Option (ℕ × Option ℕ × List ℕ) → Found
 repeat_token None = None
 repeat_token (Some (m, n, t)) = Some (Repeat m n, t)
@@ -131,6 +139,7 @@ basic_escape fold s (c ∷ t) =
     else if is_escaped Basic c then Some (Part (Set (folded fold (one c))), t)
     else None
 
+-- the token of a backslash, by what follows it
 unfoldable pub extended_escape : Bool → List ℕ → Found
 extended_escape fold [] = None
 extended_escape fold (c ∷ t) = if is_escaped Extended c then Some (Part (Set (folded fold (one c))), t) else None

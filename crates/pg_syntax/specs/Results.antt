@@ -7,9 +7,11 @@ use Rattle.pg_syntax.specs.declared.pattern_list.Kind.{Kind}
 use Rattle.pg_syntax.specs.declared.fault.FaultKind.TheVariants.{OutOfMemory, TooLong}
 use Rattle.pg_syntax.specs.declared.fault.SyntaxFault.{SyntaxFault}
 
+-- a growth was refused
 abbrev pub out_of_memory : SyntaxFault
 out_of_memory = record { kind = OutOfMemory; at = 0 }
 
+-- the text has more than 4,096 bytes
 abbrev pub too_long : SyntaxFault
 too_long = record { kind = TooLong; at = 4096 }
 

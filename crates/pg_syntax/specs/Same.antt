@@ -25,6 +25,7 @@ both_ways true false f g = sym (f refl)
 both_ways false true f g = g refl
 both_ways false false f g = refl
 
+-- such a test is an equivalence
 pub equivalence_of : {K : Type 0} {test : K → K → Bool} → TestsEqual test → IsEquivalence test
 equivalence_of {K} {test} h =
     let along : (x y : K) → x ≡ y → test x y ≡ true = λ x y e. let P : K → Type 0 = λ z. test x z ≡ true in subst P e (h.complete x) in
@@ -44,5 +45,10 @@ patterns_complete : (a : Patterns) → same_patterns a a ≡ true
 patterns_complete (Split a) = (bytes_eq-Decides a a).1 refl
 patterns_complete (ByLine a) = (bytes_eq-Decides a a).1 refl
 
+-- the comparison of pattern lists holds exactly of equal ones
+pub patterns_equal : TestsEqual same_patterns
+patterns_equal = record { sound = patterns_sound; complete = patterns_complete }
+
+-- the comparison of pattern lists is an equivalence
 pub same_patterns-laws : IsEquivalence same_patterns
-same_patterns-laws = equivalence_of (record { sound = patterns_sound; complete = patterns_complete })
+same_patterns-laws = equivalence_of patterns_equal

@@ -5,6 +5,7 @@ use Rattle.pg_syntax.specs.Machine.{State}
 use Rattle.pg_syntax.specs.Levels.{level_of}
 use Rattle.pg_syntax.specs.declared.builder.Builder.{Builder}
 
+-- the open groups, the innermost first, and the level that is read
 abbrev pub state_of : {A : Type 0} → Builder A → State
 state_of b = record { outer = map level_of (reverse b.outer.items); level = level_of b.level }
 

@@ -15,6 +15,7 @@ use Rattle.pg_syntax.specs.declared.fault.SyntaxFault.{SyntaxFault}
 use Rattle.pg_syntax.specs.declared.fault.FaultKind.{FaultKind}
 use Rattle.pg_syntax.specs.declared.fault.FaultKind.TheVariants.{NothingToRepeat, EmptyOperand, TooDeep, OutOfMemory}
 
+-- the token with its set as a set of numbers
 abbrev pub token_of : Token → M.Token
 token_of (Set s) = M.Part (P.Set (bytes s))
 token_of Begin = M.Anchor P.Begin
@@ -30,12 +31,12 @@ abbrev pub Finds : Syntax → List ℕ → ℕ → Result (Token × ℕ) SyntaxF
 Finds syntax text at (Ok x) found = (found ≡ Some (token_of x.0, drop x.1 text)) × (at < x.1) × (x.1 ≤ length text)
 Finds syntax text at (Err f) found = (found ≡ None) × PlaceIn syntax f.kind text f.at
 
--- the same for a bracket in an expression
+-- the set of the bracket that is found, and the offset after it; or a fault at its place in an expression
 abbrev pub FindsBracket : Syntax → List ℕ → ℕ → Result (ByteSet × ℕ) SyntaxFault → Option (Bytes × List ℕ) → Type 0
 FindsBracket syntax text at (Ok x) found = (found ≡ Some (bytes x.0, drop x.1 text)) × (at < x.1) × (x.1 ≤ length text)
 FindsBracket syntax text at (Err f) found = (found ≡ None) × PlaceIn syntax f.kind text f.at
 
--- the same for a bracket
+-- the same, with the fault at a place that any expression can have
 abbrev pub FindsSet : List ℕ → ℕ → Result (ByteSet × ℕ) SyntaxFault → Option (Bytes × List ℕ) → Type 0
 FindsSet text at (Ok x) found = (found ≡ Some (bytes x.0, drop x.1 text)) × (at < x.1) × (x.1 ≤ length text)
 FindsSet text at (Err f) found = (found ≡ None) × BracketPlace f.kind text f.at

@@ -40,9 +40,11 @@ pub(crate) struct Reading<'a> {
 impl<'a> Reading<'a> {
     /// Adds a part of the set, or the fault that it is.
     fn add(&mut self, part: Option<ByteSet>, fault: SyntaxFault)
-        ensures reads { reading self.new ≡ add (reading self.old) (option_map bytes part) (reading self.old).mode }
+        ensures reads { reading self.new ≡
+            add (reading self.old) (option_map bytes part) (reading self.old).mode }
         ensures mode { self.new.mode ≡ self.old.mode }
-        ensures placed { (text : List ℕ) → FaultPlaced text self.old.fault → FaultPlace text fault → FaultPlaced text self.new.fault }
+        ensures placed { (text : List ℕ) →
+            FaultPlaced text self.old.fault → FaultPlace text fault → FaultPlaced text self.new.fault }
     {
         match part {
             Some(set) => self.set = self.set.union(set),
@@ -61,7 +63,8 @@ impl<'a> Reading<'a> {
     /// Reads one more element, which stands at an offset.
     fn put(&mut self, at: usize, next: Element<'a>)
         ensures reads { reading self.new ≡ put (reading self.old) (element next.entry) }
-        ensures placed { (text : List ℕ) → Placed text self.old → At text at next.entry → at < length text → Placed text self.new }
+        ensures placed { (text : List ℕ) →
+            Placed text self.old → At text at next.entry → at < length text → Placed text self.new }
     {
         match self.mode {
             Mode::Fresh => self.mode = Mode::Held(at, next),
@@ -99,7 +102,9 @@ impl<'a> Reading<'a> {
 
     /// The set of what was read, where no element follows; or the first fault.
     fn finish(mut self) -> Result<ByteSet, SyntaxFault>
-        ensures reads { MatchResult result (λ s. finish (reading self.entry) ≡ Some (bytes s)) (λ _. finish (reading self.entry) ≡ None) }
+        ensures reads { MatchResult result
+            (λ s. finish (reading self.entry) ≡ Some (bytes s))
+            (λ _. finish (reading self.entry) ≡ None) }
         ensures placed { (text : List ℕ) → Placed text self.entry → IfErr result (FaultPlace text) }
     {
         match self.mode {
@@ -124,7 +129,7 @@ impl<'a> Reading<'a> {
 fn elements(text: &[u8], bracket: usize, start: usize) -> Result<(ByteSet, usize), SyntaxFault>
     requires stands { Stands text.now bracket (91 ∷ []) }
     requires within { start ≤ length text.now }
-    ensures { MatchResult result (λ x. (elements_from text.now start ≡ Some (bytes x.0, drop x.1 text.now)) × (start < x.1) × (x.1 ≤ length text.now)) (λ f. (elements_from text.now start ≡ None) × FaultPlace text.now f) }
+    ensures { FindsSet text.now start result (elements_from text.now start) }
 {
     let mut reading = Reading {
         mode: Mode::Fresh,

@@ -4,7 +4,8 @@ ghost use Rattle.pg_bytes.specs.ByteSets.{bytes};
 ghost use Rattle.pg_syntax.specs.Brackets.{member, end_point, is_dash, only_byte};
 ghost use Rattle.pg_syntax.specs.BracketReading.{range_of, until, element_at, SingleAt, EnclosedAt};
 ghost use Rattle.pg_syntax.specs.BracketViews.{element};
-ghost use Rattle.pg_syntax.specs.BracketPlaces.{At, FaultPlace};
+ghost use Rattle.pg_syntax.specs.BracketPlaces.{At, FaultPlace, FindsElement};
+ghost use Rattle.pg_syntax.specs.Reads.{EndsContent};
 
 use crate::fault::{FaultKind, SyntaxFault};
 use crate::sets::one;
@@ -92,7 +93,8 @@ impl<'a> Element<'a> {
 
     /// The fault of the range from this element, at `start`, to the last one, at `at`.
     pub(crate) fn range_fault(self, start: usize, last: Element, at: usize) -> SyntaxFault
-        ensures { (text : List ℕ) → At text start self.entry → At text at last.entry → FaultPlace text result }
+        ensures { (text : List ℕ) →
+            At text start self.entry → At text at last.entry → FaultPlace text result }
     {
         if self.member().is_none() {
             return self.fault(start);
@@ -112,7 +114,8 @@ impl<'a> Element<'a> {
 
     /// The bytes from this end point to the last one.
     pub(crate) fn range(self, last: Element) -> Option<ByteSet>
-        ensures { option_map bytes result ≡ range_of (end_point (element self.entry)) (end_point (element last.entry)) }
+        ensures { option_map bytes result ≡
+            range_of (end_point (element self.entry)) (end_point (element last.entry)) }
     {
         let low = self.end_point()?;
         let high = last.end_point()?;
@@ -128,7 +131,7 @@ impl<'a> Element<'a> {
 /// The offset of the first mark with a `]` from an offset on.
 fn content_end(text: &[u8], mark: u8, from: usize) -> Option<usize>
     requires { from ≤ length text.now }
-    ensures { MatchOption result (until mark (drop from text.now) ≡ None) (λ end. (until mark (drop from text.now) ≡ Some (take (end - from) (drop from text.now), drop (end + 2) text.now)) × (from ≤ end) × (end + 1 < length text.now)) }
+    ensures { EndsContent text.now mark from result }
 {
     let mut at = from;
     while at + 1 < text.len() {
@@ -159,7 +162,7 @@ fn mark_at(text: &[u8], at: usize) -> Option<u8>
 /// The element at an offset, and the offset after it; `None` if it has no end.
 pub(crate) fn element_at(text: &[u8], at: usize) -> Option<(Element<'_>, usize)>
     requires { at < length text.now }
-    ensures { MatchOption result (element_at (drop at text.now) ≡ None) (λ x. (element_at (drop at text.now) ≡ Some (element x.0, drop x.1 text.now)) × (At text.now at x.0) × (at < x.1) × (x.1 ≤ length text.now)) }
+    ensures { FindsElement text.now at result (element_at (drop at text.now)) }
 {
     match mark_at(text, at) {
         None => Some((Element::Single(text[at]), at + 1)),

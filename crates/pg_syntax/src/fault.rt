@@ -5,59 +5,71 @@ ghost use Rattle.std.specs.Prelude.{◌≡◌};
 use std::alloc::{AllocError, AllocFailed};
 use std::error::Error;
 use std::fmt;
-use thiserror::Error as DeriveError;
-
 /// The kinds of faults. Offsets count bytes from 0. Of several faults the one that stands first is
-/// answered.
-#[derive(Clone, Copy, Debug, PartialEq, Eq, DeriveError)]
+/// answered, and of two that stand at one offset, a `BadInterval` before a `NothingToRepeat`.
+#[derive(Clone, Copy, Debug, PartialEq, Eq)]
 pub enum FaultKind {
     /// A backslash is the last byte of the text. The fault stands at it.
-    #[error("trailing backslash")]
     TrailingBackslash,
     /// A backslash stands before a byte whose escape has no meaning. The fault stands at the backslash.
-    #[error("bad escape")]
     BadEscape,
     /// A backslash stands before a digit from 1 to 9. The fault stands at the backslash.
-    #[error("back reference")]
     BackReference,
     /// A bracket has no end (XBD 9.3.5). The fault stands at its `[`.
-    #[error("unmatched bracket")]
     UnmatchedBracket,
     /// `[:` and `:]` enclose the name of no class. The fault stands at the inner `[`.
-    #[error("bad class")]
     BadClass,
     /// `[=` and `=]`, or `[.` and `.]`, enclose other than one byte. The fault stands at the inner `[`.
-    #[error("bad collating element")]
     BadCollating,
     /// A range in a bracket ends below its start, starts or ends with a class or an equivalence class,
     /// or begins where another one ended. The fault stands at the element that begins it.
-    #[error("bad range")]
     BadRange,
     /// A `\)` of a basic expression closes no group: the fault stands at it. Or a group is still open
     /// where the text ends: it stands there.
-    #[error("unmatched group")]
     UnmatchedGroup,
     /// An interval isn't closed, or its bounds aren't one or two numbers in order, of at most 255. The
     /// fault stands at what opens it.
-    #[error("bad interval")]
     BadInterval,
     /// A repetition has nothing to its left. The fault stands at the repetition.
-    #[error("nothing to repeat")]
     NothingToRepeat,
     /// A group or an alternative is empty. The fault stands at the end of the group, at the bar behind
     /// the alternative, or where the text ends.
-    #[error("empty operand")]
     EmptyOperand,
     /// More than 100 groups are open. The fault stands at what opens the last of them.
-    #[error("groups too deep")]
     TooDeep,
     /// A request for memory was refused. The fault stands at 0.
-    #[error("out of memory")]
     OutOfMemory,
     /// The text is longer than 4,096 bytes. This fault comes before all others, and stands at 4,096.
-    #[error("pattern too long")]
     TooLong,
 }
+
+impl fmt::Display for FaultKind {
+    ghost use Rattle.std.specs.Prelude.{Some};
+    ghost use Rattle.pg_syntax.specs.FaultTexts.{kind_text};
+
+    ghost output = { λ kind. Some (kind_text kind) };
+
+    fn fmt<W: fmt::Write>(&self, f: &mut fmt::Formatter<W>) -> fmt::Result {
+        match self {
+            FaultKind::TrailingBackslash => f.write_str("trailing backslash"),
+            FaultKind::BadEscape => f.write_str("bad escape"),
+            FaultKind::BackReference => f.write_str("back reference"),
+            FaultKind::UnmatchedBracket => f.write_str("unmatched bracket"),
+            FaultKind::BadClass => f.write_str("bad class"),
+            FaultKind::BadCollating => f.write_str("bad collating element"),
+            FaultKind::BadRange => f.write_str("bad range"),
+            FaultKind::UnmatchedGroup => f.write_str("unmatched group"),
+            FaultKind::BadInterval => f.write_str("bad interval"),
+            FaultKind::NothingToRepeat => f.write_str("nothing to repeat"),
+            FaultKind::EmptyOperand => f.write_str("empty operand"),
+            FaultKind::TooDeep => f.write_str("groups too deep"),
+            FaultKind::OutOfMemory => f.write_str("out of memory"),
+            FaultKind::TooLong => f.write_str("pattern too long"),
+        }
+    }
+}
+
+impl Error for FaultKind {}
 
 /// A fault of a text, and the offset at which it stands.
 #[derive(Clone, Copy, Debug, PartialEq, Eq)]
@@ -67,6 +79,11 @@ pub struct SyntaxFault {
 }
 
 impl fmt::Display for SyntaxFault {
+    ghost use Rattle.std.specs.Prelude.{Some};
+    ghost use Rattle.pg_syntax.specs.FaultTexts.{fault_text};
+
+    ghost output = { λ fault. Some (fault_text fault) };
+
     fn fmt<W: fmt::Write>(&self, f: &mut fmt::Formatter<W>) -> fmt::Result {
         let kind = self.kind;
         let at = self.at;
@@ -99,6 +116,11 @@ pub struct ListFault {
 }
 
 impl fmt::Display for ListFault {
+    ghost use Rattle.std.specs.Prelude.{Some};
+    ghost use Rattle.pg_syntax.specs.FaultTexts.{list_text};
+
+    ghost output = { λ fault. Some (list_text fault) };
+
     fn fmt<W: fmt::Write>(&self, f: &mut fmt::Formatter<W>) -> fmt::Result {
         let pattern = self.pattern;
         let fault = self.fault;

@@ -1,6 +1,7 @@
 //! The bounds of intervals (XBD 9.3.6, 9.4.6).
 ghost use Rattle.std.specs.Prelude.{◌≡◌, ◌≤◌, ◌<◌, [], ◌∷◌, length, drop, MatchOption, Some, None};
 ghost use Rattle.pg_syntax.specs.Grammar.{unbrace};
+ghost use Rattle.pg_syntax.specs.Reads.{FindsNumber, FindsRest, FindsBounds};
 ghost use Rattle.pg_syntax.specs.IntervalReading.{number_at, strip, bounds};
 
 use crate::source::Source;
@@ -11,7 +12,7 @@ impl Source<'_> {
     #[tactic(auto, unfolding(crate::specs::IntervalReading::number_at))]
     fn number(&self, at: usize) -> Option<(u8, usize)>
         requires { at ≤ length self.now.text.now }
-        ensures { MatchOption result (number_at (drop at self.now.text.now) ≡ None) (λ x. (number_at (drop at self.now.text.now) ≡ Some (x.0, drop x.1 self.now.text.now)) × (at < x.1) × (x.1 ≤ length self.now.text.now)) }
+        ensures { FindsNumber self.now.text.now at result (number_at (drop at self.now.text.now)) }
     {
         let mut value: u32 = 0;
         let mut end = at;
@@ -30,7 +31,7 @@ impl Source<'_> {
 
     /// The offset after a byte, if it stands at an offset.
     fn skip(&self, at: usize, byte: u8) -> Option<usize>
-        ensures { MatchOption result (strip (byte ∷ []) (drop at self.now.text.now) ≡ None) (λ end. (strip (byte ∷ []) (drop at self.now.text.now) ≡ Some (drop end self.now.text.now)) × (at < end) × (end ≤ length self.now.text.now)) }
+        ensures { FindsRest self.now.text.now at result (strip (byte ∷ []) (drop at self.now.text.now)) }
     {
         if self.byte(at)? == byte {
             return Some(at + 1);
@@ -40,7 +41,8 @@ impl Source<'_> {
 
     /// The offset after what closes an interval, if that stands at an offset.
     fn skip_unbrace(&self, at: usize) -> Option<usize>
-        ensures { MatchOption result (strip (unbrace self.now.syntax) (drop at self.now.text.now) ≡ None) (λ end. (strip (unbrace self.now.syntax) (drop at self.now.text.now) ≡ Some (drop end self.now.text.now)) × (at < end) × (end ≤ length self.now.text.now)) }
+        ensures { FindsRest self.now.text.now at result
+            (strip (unbrace self.now.syntax) (drop at self.now.text.now)) }
     {
         match self.syntax {
             Syntax::Basic => self.skip(self.skip(at, b'\\')?, b'}'),
@@ -52,7 +54,8 @@ impl Source<'_> {
     #[tactic(auto, unfolding(crate::specs::IntervalReading::bounds))]
     pub(crate) fn bounds(&self, at: usize) -> Option<(u8, Option<u8>, usize)>
         requires { at ≤ length self.now.text.now }
-        ensures { MatchOption result (bounds (unbrace self.now.syntax) (drop at self.now.text.now) ≡ None) (λ x. (bounds (unbrace self.now.syntax) (drop at self.now.text.now) ≡ Some (x.0, x.1, drop x.2 self.now.text.now)) × (at < x.2) × (x.2 ≤ length self.now.text.now)) }
+        ensures { FindsBounds self.now.text.now at result
+            (bounds (unbrace self.now.syntax) (drop at self.now.text.now)) }
     {
         let (least, end) = self.number(at)?;
         if let Some(end) = self.skip_unbrace(end) {

@@ -2,7 +2,8 @@
 ghost use Rattle.std.specs.Prelude.{◌≡◌, ◌++◌, [], ◌∷◌, ◌==◌, map, position, IfOk, IfErr, OnOk};
 ghost use Rattle.pg_syntax.specs.Trees.{pattern};
 ghost use Rattle.pg_syntax.specs.Memory.{patterns_of};
-ghost use Rattle.pg_syntax.specs.PatternLists.{patterns, patterns_in, split, lines};
+ghost use Rattle.pg_syntax.specs.PatternLists.{patterns, patterns_in, split};
+ghost use Rattle.pg_syntax.specs.Lines.{lines};
 ghost use Rattle.pg_syntax.specs.Slices.{bytes_of, last_line};
 ghost use Rattle.pg_syntax.specs.Results.{IsSpelled, IsFault};
 ghost use Rattle.pg_syntax.specs.ListResults.{AreSpelled, IsListFault, no_memory};
@@ -26,8 +27,10 @@ pub fn parse_list<A: Allocator + Copy>(
     lists: &[PatternList<A>],
     fold: bool,
 ) -> Result<Vec<Tree<A>, A>, ListFault>
-    ensures spelled { IfOk result (λ trees. AreSpelled kind fold (patterns (map patterns_of lists.now)) (map pattern trees.items)) }
-    ensures refused { IfErr result (λ fault. IsListFault kind fold (patterns (map patterns_of lists.now)) fault) }
+    ensures spelled { IfOk result
+        (λ trees. AreSpelled kind fold (patterns (map patterns_of lists.now)) (map pattern trees.items)) }
+    ensures refused { IfErr result
+        (λ fault. IsListFault kind fold (patterns (map patterns_of lists.now)) fault) }
 {
     let texts = texts_of(alloc, lists)?;
     let trees = parse_texts(alloc, kind, texts.as_slice(), fold)?;
@@ -53,7 +56,8 @@ fn push_texts<'a, A: Allocator + Copy>(
     texts: &mut Vec<&'a [u8], A>,
     list: &'a PatternList<A>,
 ) -> Result<(), AllocError>
-    ensures { OnOk result (bytes_of texts.new.items ≡ bytes_of texts.old.items ++ patterns_in (patterns_of list.now)) }
+    ensures { OnOk result
+        (bytes_of texts.new.items ≡ bytes_of texts.old.items ++ patterns_in (patterns_of list.now)) }
 {
     match list {
         PatternList::Text(text) => {
@@ -75,8 +79,10 @@ fn push_ended<'a, A: Allocator + Copy>(
     texts: &mut Vec<&'a [u8], A>,
     text: &'a [u8],
 ) -> Result<&'a [u8], AllocError>
-    ensures split { IfOk result (λ last. bytes_of texts.new.items ++ last.now ∷ [] ≡ bytes_of texts.old.items ++ split text.now) }
-    ensures lines { IfOk result (λ last. bytes_of texts.new.items ++ last_line last.now ≡ bytes_of texts.old.items ++ lines text.now) }
+    ensures split { IfOk result
+        (λ last. bytes_of texts.new.items ++ last.now ∷ [] ≡ bytes_of texts.old.items ++ split text.now) }
+    ensures lines { IfOk result
+        (λ last. bytes_of texts.new.items ++ last_line last.now ≡ bytes_of texts.old.items ++ lines 10 text.now) }
 {
     let mut start = 0;
     while let Some(len) = newline(&text[start..]) {
@@ -101,7 +107,8 @@ fn parse_texts<A: Allocator + Copy>(
     texts: &[&[u8]],
     fold: bool,
 ) -> Result<Vec<Tree<A>, A>, ListFault>
-    ensures spelled { IfOk result (λ trees. AreSpelled kind fold (bytes_of texts.now) (map pattern trees.items)) }
+    ensures spelled { IfOk result
+        (λ trees. AreSpelled kind fold (bytes_of texts.now) (map pattern trees.items)) }
     ensures refused { IfErr result (λ fault. IsListFault kind fold (bytes_of texts.now) fault) }
 {
     let mut trees = Vec::new(alloc);

@@ -20,7 +20,8 @@ use std::alloc::{AllocError, Allocator};
 const LONGEST: usize = 4096;
 
 /// The tree that a text spells as a basic expression (XBD 9.3), with both cases of each letter where
-/// `fold` asks for it (XCU grep, -i). A text spells at most one tree.
+/// `fold` asks for it (XCU grep, -i). A text spells at most one tree. At most 100 groups may be open
+/// at once, and the bounds of an interval are at most 255.
 ///
 /// The time is linear in the text's length, and so is the memory. An `Err` other than `OutOfMemory`
 /// says that the text spells no tree, and where it goes wrong first; `TooLong` is answered for each
@@ -102,8 +103,10 @@ fn literal<A: Allocator + Copy>(alloc: A, text: &[u8], fold: bool) -> Result<Tre
 
 /// The tree of an expression.
 fn parse<A: Allocator + Copy>(alloc: A, source: Source) -> Result<Tree<A>, SyntaxFault>
-    ensures spelled { IfOk result (λ tree. IsSpelled (kind_of source.entry.syntax) source.entry.fold source.entry.text.now (pattern tree)) }
-    ensures refused { IfErr result (λ fault. IsFault (kind_of source.entry.syntax) source.entry.fold source.entry.text.now fault) }
+    ensures spelled { IfOk result (λ tree. IsSpelled (kind_of source.entry.syntax)
+        source.entry.fold source.entry.text.now (pattern tree)) }
+    ensures refused { IfErr result (λ fault. IsFault (kind_of source.entry.syntax)
+        source.entry.fold source.entry.text.now fault) }
     ensures too_long { IsErrOf result too_long ↔ (4096 < length source.entry.text.now) }
 {
     let len = source.text.len();
@@ -123,8 +126,10 @@ fn parse<A: Allocator + Copy>(alloc: A, source: Source) -> Result<Tree<A>, Synta
 fn parse_some<A: Allocator + Copy>(alloc: A, source: &Source) -> Result<Tree<A>, SyntaxFault>
     requires some { source.now.text.now ≢ [] }
     requires short { length source.now.text.now ≤ 4096 }
-    ensures spelled { IfOk result (λ tree. IsSpelled (kind_of source.now.syntax) source.now.fold source.now.text.now (pattern tree)) }
-    ensures refused { IfErr result (λ fault. IsFault (kind_of source.now.syntax) source.now.fold source.now.text.now fault) }
+    ensures spelled { IfOk result (λ tree. IsSpelled (kind_of source.now.syntax)
+        source.now.fold source.now.text.now (pattern tree)) }
+    ensures refused { IfErr result (λ fault. IsFault (kind_of source.now.syntax)
+        source.now.fold source.now.text.now fault) }
 {
     let len = source.text.len();
     let mut builder = Builder::new(alloc);
@@ -155,7 +160,8 @@ fn apply<A: Allocator + Copy>(
     token: Token,
     at: usize,
 ) -> Result<(), SyntaxFault>
-    ensures { Applies result (token_of token) (state_of builder.old) (state_of builder.new) at }
+    ensures { Applies result
+        (token_of token) (state_of builder.old) (state_of builder.new) at }
 {
     match token {
         Token::Set(set) => builder.push(Tree::Set(set))?,

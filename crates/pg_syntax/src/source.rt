@@ -8,6 +8,7 @@ ghost use Rattle.pg_syntax.specs.Places.{PlaceIn, Stands};
 ghost use Rattle.pg_syntax.specs.IntervalReading.{bounds};
 ghost use Rattle.pg_syntax.specs.BracketReading.{bracket};
 ghost use Rattle.pg_syntax.specs.Machine.{basic_escape, extended_escape, basic_token, extended_other, extended_token, repeat_token, token, ends, Part};
+ghost use Rattle.pg_syntax.specs.Reads.{ReadsByte};
 ghost use Rattle.pg_syntax.specs.Tokens.{Finds, FindsBracket, token_of};
 ghost use Rattle.pg_syntax.specs.States.{state_of};
 
@@ -51,7 +52,8 @@ impl Syntax {
 
 /// The fault of the backslash before a byte that it neither makes ordinary nor gives a meaning.
 fn escape_fault(byte: u8, at: usize) -> SyntaxFault
-    ensures { (syntax : Syntax) (text rest : List ℕ) → drop at text ≡ 92 ∷ byte ∷ rest → PlaceIn syntax result.kind text result.at }
+    ensures { (syntax : Syntax) (text rest : List ℕ) →
+        drop at text ≡ 92 ∷ byte ∷ rest → PlaceIn syntax result.kind text result.at }
 {
     match byte {
         b'1'..=b'9' => SyntaxFault {
@@ -68,7 +70,7 @@ fn escape_fault(byte: u8, at: usize) -> SyntaxFault
 impl Source<'_> {
     /// The byte at an offset.
     pub(crate) fn byte(&self, at: usize) -> Option<u8>
-        ensures { MatchOption result (drop at self.now.text.now ≡ []) (λ b. (drop at self.now.text.now ≡ b ∷ drop (at + 1) self.now.text.now) × (at < length self.now.text.now)) }
+        ensures { ReadsByte self.now.text.now at result }
     {
         self.text.get(at).copied()
     }
@@ -77,7 +79,8 @@ impl Source<'_> {
     fn set_of_bracket(&self, at: usize) -> Result<(ByteSet, usize), SyntaxFault>
         requires stands { drop at self.now.text.now ≡ 91 ∷ drop (at + 1) self.now.text.now }
         requires within { at < length self.now.text.now }
-        ensures { FindsBracket self.now.syntax self.now.text.now at result (bracket self.now.fold (drop at self.now.text.now)) }
+        ensures { FindsBracket self.now.syntax self.now.text.now at result
+            (bracket self.now.fold (drop at self.now.text.now)) }
     {
         bracket(self.text, at, self.fold)
     }
@@ -94,7 +97,8 @@ impl Source<'_> {
         requires opens { Stands self.now.text.now at (brace self.now.syntax) }
         requires behind { at < start }
         requires within { start ≤ length self.now.text.now }
-        ensures { Finds self.now.syntax self.now.text.now at result (repeat_token (bounds (unbrace self.now.syntax) (drop start self.now.text.now))) }
+        ensures { Finds self.now.syntax self.now.text.now at result
+            (repeat_token (bounds (unbrace self.now.syntax) (drop start self.now.text.now))) }
     {
         match self.bounds(start) {
             Some((least, most, end)) => Ok((Token::Repeat(least, most), end)),
@@ -111,7 +115,8 @@ impl Source<'_> {
         requires syntax { self.now.syntax ≡ Syntax.Basic }
         requires backslash { drop at self.now.text.now ≡ 92 ∷ drop (at + 1) self.now.text.now }
         requires within { at < length self.now.text.now }
-        ensures { Finds Syntax.Basic self.now.text.now at result (basic_escape self.now.fold (state_of builder.now) (drop (at + 1) self.now.text.now)) }
+        ensures { Finds Syntax.Basic self.now.text.now at result
+            (basic_escape self.now.fold (state_of builder.now) (drop (at + 1) self.now.text.now)) }
     {
         let next = at + 1;
         let Some(byte) = self.byte(next) else {
@@ -147,7 +152,8 @@ impl Source<'_> {
     fn extended_escape(&self, at: usize) -> Found
         requires backslash { drop at self.now.text.now ≡ 92 ∷ drop (at + 1) self.now.text.now }
         requires within { at < length self.now.text.now }
-        ensures { Finds Syntax.Extended self.now.text.now at result (extended_escape self.now.fold (drop (at + 1) self.now.text.now)) }
+        ensures { Finds Syntax.Extended self.now.text.now at result
+            (extended_escape self.now.fold (drop (at + 1) self.now.text.now)) }
     {
         let next = at + 1;
         let Some(byte) = self.byte(next) else {
@@ -178,7 +184,8 @@ impl Source<'_> {
         requires syntax { self.now.syntax ≡ Syntax.Basic }
         requires byte { drop at self.now.text.now ≡ byte ∷ drop (at + 1) self.now.text.now }
         requires within { at < length self.now.text.now }
-        ensures { Finds Syntax.Basic self.now.text.now at result (basic_token self.now.fold (state_of builder.now) byte (drop (at + 1) self.now.text.now)) }
+        ensures { Finds Syntax.Basic self.now.text.now at result
+            (basic_token self.now.fold (state_of builder.now) byte (drop (at + 1) self.now.text.now)) }
     {
         let rest = at + 1;
         if byte == b'\\' {
@@ -214,7 +221,8 @@ impl Source<'_> {
         requires syntax { self.now.syntax ≡ Syntax.Extended }
         requires byte { drop at self.now.text.now ≡ byte ∷ drop (at + 1) self.now.text.now }
         requires within { at < length self.now.text.now }
-        ensures { Finds Syntax.Extended self.now.text.now at result (extended_token self.now.fold (state_of builder.now) byte (drop (at + 1) self.now.text.now)) }
+        ensures { Finds Syntax.Extended self.now.text.now at result
+            (extended_token self.now.fold (state_of builder.now) byte (drop (at + 1) self.now.text.now)) }
     {
         let rest = at + 1;
         if byte == b'\\' {
@@ -251,7 +259,8 @@ impl Source<'_> {
     ) -> Found
         requires byte { drop at self.now.text.now ≡ byte ∷ drop (at + 1) self.now.text.now }
         requires within { at < length self.now.text.now }
-        ensures { Finds Syntax.Extended self.now.text.now at result (extended_other self.now.fold (state_of builder.now) byte (drop (at + 1) self.now.text.now)) }
+        ensures { Finds Syntax.Extended self.now.text.now at result
+            (extended_other self.now.fold (state_of builder.now) byte (drop (at + 1) self.now.text.now)) }
     {
         let rest = at + 1;
         if byte == b'(' {
@@ -275,7 +284,8 @@ impl Source<'_> {
     /// The token at an offset, and the offset after it.
     pub(crate) fn token<A: Allocator + Copy>(&self, builder: &Builder<A>, at: usize) -> Found
         requires { at < length self.now.text.now }
-        ensures { Finds self.now.syntax self.now.text.now at result (token self.now.syntax self.now.fold (state_of builder.now) (drop at self.now.text.now)) }
+        ensures { Finds self.now.syntax self.now.text.now at result
+            (token self.now.syntax self.now.fold (state_of builder.now) (drop at self.now.text.now)) }
     {
         let byte = self.text[at];
         match self.syntax {

@@ -1,6 +1,5 @@
 use Rattle.std.proofs.Common.{◌≡◌, ◌+◌, ◌-◌, ◌∷◌, [], ◌++◌, length, take, drop, Some, sym, ap, ◌∙◌}
 use Rattle.std.specs.Prelude.{position}
-use Rattle.pg_syntax.specs.PatternLists.{split, lines}
 use Rattle.pg_syntax.specs.Slices.{bytes_of}
 use Rattle.pg_syntax.proofs.SplitLemmas.{newline}
 use Rattle.pg_syntax.proofs.ListLemmas.{map-push, within-more, split-more, lines-more, split-end, lines-end}
@@ -16,8 +15,8 @@ loop-len-preserved g c =
     let pushed : bytes_of c.push.new.self.items ≡ done ++ take ((start + len) - start) (drop start text) ∷ [] = ap bytes_of c.in_ok-push.ensures.items ∙ map-push (λ s. s.now) c.loop-len.texts.items _ in
     record {
       within = within-more text start len c.loop-len.invariant.within found;
-      split = ap (λ t. t ++ split (drop (start + len + 1) text)) pushed ∙ (split-more done text start len found ∙ c.loop-len.invariant.split);
-      lines = ap (λ t. t ++ lines (drop (start + len + 1) text)) pushed ∙ (lines-more done text start len found ∙ c.loop-len.invariant.lines);
+      split = split-more (bytes_of c.push.new.self.items) done text start len pushed found ∙ c.loop-len.invariant.split;
+      lines = lines-more (bytes_of c.push.new.self.items) done text start len pushed found ∙ c.loop-len.invariant.lines;
     }
 
 pub returns-clause-split : goal.returns-clause-split

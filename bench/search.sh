@@ -1,0 +1,66 @@
+#!/bin/sh
+# Times pargrep and GNU grep side by side on the same file, and prints the ratio of their best times.
+# Usage: bench/search.sh PARGREP [MEGABYTES]
+# The file is text of short words, made once and kept in a folder of its own that is removed at the end.
+set -eu
+export LC_ALL=C
+
+pargrep=${1:?usage: bench/search.sh PARGREP [MEGABYTES]}
+megabytes=${2:-256}
+rounds=7
+
+folder=$(mktemp -d)
+trap 'rm -rf "$folder"' EXIT
+file=$folder/text
+
+# One megabyte of lines of three to twelve words, by a fixed sequence of pseudo-random numbers.
+awk 'BEGIN {
+  n = split("the of and a to in is you that it he was for on are as with his they at be this have from or one had by word but not what all were we when your can said there use an each which she do how their if will up other about out many then them these so some her would make like him into time has look two more write go see number no way could people my than first water been call who oil its now find long down day did get come made may part", word, " ")
+  seed = 1
+  while (size < 1048576) {
+    line = ""
+    seed = (seed * 69069 + 12345) % 4294967296
+    count = 3 + int(seed / 65536) % 10
+    for (i = 0; i < count; i++) {
+      seed = (seed * 69069 + 12345) % 4294967296
+      line = line (i ? " " : "") word[1 + int(seed / 65536) % n]
+    }
+    print line
+    size += length(line) + 1
+  }
+}' > "$folder/part"
+i=0
+while [ "$i" -lt "$megabytes" ]; do
+  cat "$folder/part"
+  i=$((i + 1))
+done > "$file"
+
+# best COMMAND..: the least wall time of some runs, in microseconds. Its output goes to $folder/out.
+best() {
+  least=
+  round=0
+  while [ "$round" -lt "$rounds" ]; do
+    from=$(date +%s%N)
+    "$@" > "$folder/out" || [ $? -eq 1 ]
+    to=$(date +%s%N)
+    time=$(((to - from) / 1000))
+    if [ -z "$least" ] || [ "$time" -lt "$least" ]; then
+      least=$time
+    fi
+    round=$((round + 1))
+  done
+  echo "$least"
+}
+
+echo "$(grep --version | head -n 1); $(wc -c < "$file") bytes; best of $rounds runs; load $(cut -d ' ' -f 1 /proc/loadavg)"
+for text in zzqq water the e; do
+  theirs=$(best grep -F -e "$text" "$file")
+  mv "$folder/out" "$folder/expected"
+  ours=$(best "$pargrep" -F -- "$text" "$file")
+  if ! cmp -s "$folder/out" "$folder/expected"; then
+    echo "the outputs for '$text' differ" >&2
+    exit 1
+  fi
+  awk -v text="$text" -v ours="$ours" -v theirs="$theirs" -v lines="$(wc -l < "$folder/expected")" \
+    'BEGIN { printf "%-6s %9d lines  pargrep %7.3f s  grep %7.3f s  ratio %.2f\n", text, lines, ours / 1e6, theirs / 1e6, ours / theirs }'
+done
