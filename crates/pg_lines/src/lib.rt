@@ -18,3 +18,6 @@ pub use query::{Kind, PatternList, Query, QueryFault, QueryText};
 pub use result::BlockResult;
 pub use search::search_block;
 pub use span::Span;
+
+#[cfg(test)]
+mod tests;

@@ -1,0 +1,59 @@
+-- Lines of blocks, and the plan of a sequencer's test.
+use Rattle.std.proofs.Common.{ℕ, suc, ◌+◌, ◌≤◌, ◌^◌, ◌==◌, true, false, cond, List, [], ◌∷◌, ◌++◌, length, refl, ap, ◌∙◌, arith}
+use Rattle.std.specs.List.{AllByRecursion, onto_first}
+use Rattle.std.proofs.lemmas.List.{length-append, length_push}
+use Rattle.std.proofs.lemmas.List.Concat.{flat_map-append}
+use Rattle.pg_lines.specs.Lines.{lines}
+use Rattle.pg_lines.specs.Blocks.{BlockData, joined, EndsWith}
+use Rattle.pg_seq.specs.Plan.{Announces, last_blocks}
+use Rattle.pg_seq.specs.History.{planned, plan}
+use Rattle.pg_seq.specs.Standing.{Stands}
+use Rattle.pg_seq.specs.declared.sequencer.Sequencer.{Sequencer}
+use Rattle.pg_tests.specs.Reading.{IsReading}
+
+abbrev AreShort : ℕ → List (List ℕ) → Type 0
+AreShort n ls = AllByRecursion (λ l. length l ≤ n) ls
+
+longer : (m n : ℕ) (ls : List (List ℕ)) → m ≤ n → AreShort m ls → AreShort n ls
+longer m n [] h s = tt
+longer m n (l ∷ ls) h s = (omega (arith, h, s.0), longer m n ls h s.1)
+
+one_more : (b n : ℕ) (ls : List (List ℕ)) → AreShort n ls → AreShort (suc n) (onto_first b ls)
+one_more b n [] s = (omega arith, tt)
+one_more b n (l ∷ ls) s = (omega (arith, s.0), longer n (suc n) ls (omega arith) s.1)
+
+-- a line is no longer than all bytes
+lines_within : (bytes : List ℕ) → AreShort (length bytes) (lines 10 bytes)
+lines_within [] = tt
+lines_within (b ∷ bytes) =
+    let n = length bytes in
+    elim (b == 10) as (λ t. AreShort (suc n) (cond t ([] ∷ lines 10 bytes) (onto_first b (lines 10 bytes)))) [
+      | true ↦ (omega arith, longer n (suc n) (lines 10 bytes) (omega arith) (lines_within bytes))
+      | false ↦ one_more b n (lines 10 bytes) (lines_within bytes)
+    ]
+
+pub lines_short : (bytes : List ℕ) → length bytes ≤ 100 → AllByRecursion (λ l. length l ≤ 2 ^ 30) (lines 10 bytes)
+lines_short bytes h = longer (length bytes) (2 ^ 30) (lines 10 bytes) (omega (arith, h)) (lines_within bytes)
+
+-- the block of a line: x, a letter and a newline
+abbrev pub line_block : ℕ → ℕ → BlockData
+line_block number letter = record { file = 0; number = number; bytes = 120 ∷ letter ∷ 10 ∷ [] }
+
+all_push : (bs : List BlockData) (b : BlockData) → AllByRecursion (λ x. EndsWith 10 x.bytes) bs → EndsWith 10 b.bytes → AllByRecursion (λ x. EndsWith 10 x.bytes) (bs ++ b ∷ [])
+all_push [] b h e = (e, tt)
+all_push (x ∷ bs) b h e = (h.0, all_push bs b h.1 e)
+
+-- it was announced
+pub announced : {A : Type 0} (s s' : Sequencer A) (n letter : ℕ) (r : IsReading s n) → Stands s' (planned r.past (Announces (line_block n letter))) → IsReading s' (n + 1)
+announced s s' n letter r h =
+    let blocks = last_blocks (plan r.past) in
+    let b = line_block n letter in
+    record {
+      past = planned r.past (Announces b);
+      stands = h;
+      running = r.running;
+      one = r.one;
+      number = length_push blocks b ∙ ap (λ k. k + 1) r.number;
+      seam = all_push blocks b r.seam (120 ∷ letter ∷ [], refl);
+      size = ap length (flat_map-append (λ (x : BlockData). x.bytes) blocks (b ∷ [])) ∙ (length-append (joined blocks) (120 ∷ letter ∷ 10 ∷ []) ∙ omega (arith, r.size));
+    }

@@ -1,0 +1,108 @@
+//! The run of one file, over sinks that fail and memory that is refused.
+ghost use Rattle.std.specs.Prelude.{◌≤◌, length};
+ghost use Rattle.pg_lines.specs.Lines.{IsLine};
+
+use crate::fixtures::query_of;
+use pg_run::{RunFault, first_run};
+use pg_seq::MemSink;
+use refusing::Refusing;
+use std::alloc::{AllocError, Allocator};
+use std::process::Abort;
+use std::test::Fail;
+
+const FILE: &[u8] = b"abc\nxyz\nb";
+
+/// Its lines that have a `b`.
+const OUTPUT: &[u8] = b"abc\nb\n";
+
+/// A run writes these bytes and has this status, whatever the size of its blocks.
+fn assert_run<A: Allocator + Copy>(
+    rt: &impl Abort,
+    alloc: A,
+    pattern: &[u8],
+    file: &[u8],
+    output: &[u8],
+    status: u8,
+) -> Result<(), AllocError>
+    requires line { IsLine 10 pattern.now }
+    requires short { length pattern.now ≤ 4096 }
+{
+    let query = query_of(alloc, pattern)?;
+    for block in 1..=64u32 {
+        let mut sink = MemSink::new(alloc, 100)?;
+        let ended = first_run(alloc, &query, file, block, &mut sink);
+        assert_eq!(rt; ended, Ok(status), "in blocks of {block}");
+        assert_eq!(rt; sink.bytes(), output, "in blocks of {block}");
+    }
+    Ok(())
+}
+
+#[test]
+fn small_files(rt: HostRuntime) -> Result<(), Fail> {
+    let heap = rt.alloc();
+    assert_run(&rt, heap, b"b", FILE, OUTPUT, 0)?;
+    assert_run(&rt, heap, b"q", FILE, b"", 1)?;
+    assert_run(&rt, heap, b"b", b"", b"", 1)?;
+    assert_run(&rt, heap, b"", b"", b"", 1)?;
+    assert_run(&rt, heap, b"", b"\n\n", b"\n\n", 0)?;
+    assert_run(&rt, heap, b"", FILE, b"abc\nxyz\nb\n", 0)?;
+    assert_run(&rt, heap, b"yz", b"abc\nxyz", b"xyz\n", 0)?;
+    assert_run(&rt, heap, b"ab", b"a\nb\n", b"", 1)?;
+    Ok(())
+}
+
+#[test]
+fn any_byte_is_searched_for(rt: HostRuntime) -> Result<(), Fail> {
+    let file = b"a\0\xff\n\0\n\xff\x80\n\xff\0";
+    assert_run(&rt, rt.alloc(), b"\0", file, b"a\0\xff\n\0\n\xff\0\n", 0)?;
+    assert_run(&rt, rt.alloc(), b"\xff\x80", file, b"\xff\x80\n", 0)?;
+    Ok(())
+}
+
+#[test]
+fn each_write_may_fail(rt: HostRuntime) -> Result<(), Fail> {
+    let query = query_of(rt.alloc(), b"b")?;
+    for block in 1..=10u32 {
+        for limit in 0..OUTPUT.len() {
+            let mut sink = MemSink::new(rt.alloc(), limit)?;
+            let ended = first_run(rt.alloc(), &query, FILE, block, &mut sink);
+            assert_eq!(rt; ended, Err(RunFault::Sink), "at {limit}");
+            assert_eq!(rt; sink.bytes(), &OUTPUT[..limit]);
+        }
+        let mut sink = MemSink::new(rt.alloc(), OUTPUT.len())?;
+        sink.set_write_limit(1);
+        assert_eq!(rt;
+            first_run(rt.alloc(), &query, FILE, block, &mut sink),
+            Ok(0)
+        );
+        assert_eq!(rt; sink.bytes(), OUTPUT);
+    }
+    Ok(())
+}
+
+#[test]
+fn each_request_may_be_refused(rt: HostRuntime) -> Result<(), Fail> {
+    let mut longest = 0;
+    for passes in 0..1000u64 {
+        let heap = Refusing::new(rt.alloc(), passes);
+        let Ok(query) = query_of(&heap, b"b") else {
+            continue;
+        };
+        let mut sink = MemSink::new(rt.alloc(), 100)?;
+        let ended = first_run(&heap, &query, FILE, 1, &mut sink);
+        if !heap.has_refused() {
+            assert_eq!(rt; ended, Ok(0));
+            assert_eq!(rt; sink.bytes(), OUTPUT);
+            assert_eq!(rt;
+                longest,
+                4,
+                "the first line was written before some refusals"
+            );
+            return Ok(());
+        }
+        assert_eq!(rt; ended, Err(RunFault::OutOfMemory), "at {passes}");
+        assert!(rt; OUTPUT.starts_with(sink.bytes()), "at {passes}");
+        longest = sink.bytes().len();
+    }
+    panic!(rt; "more than 1000 requests")
+}

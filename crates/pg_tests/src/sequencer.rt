@@ -1,0 +1,246 @@
+//! Results that arrive in any order, sinks that fail, and requests for memory that are refused.
+ghost use Rattle.std.specs.Prelude.{◌≡◌, ◌+◌, ◌<◌, IfOk, OnOk, false};
+ghost use Rattle.std.specs.Arc.{arc_value};
+ghost use Rattle.pg_tests.specs.Reading.{IsReading};
+
+use crate::fixtures::{query_of, search};
+use pg_lines::{Block, BlockResult, Query};
+use pg_seq::{Arrival, Format, MemSink, Mode, Sequencer, SinkFault};
+use refusing::Refusing;
+use std::alloc::{AllocError, Allocator};
+use std::process::Abort;
+use std::sync::Arc;
+use std::test::Fail;
+
+/// Selected lines and nothing else.
+const PLAIN: Format = Format {
+    names: false,
+    numbers: false,
+    mode: Mode::Rows,
+    limit: None,
+    before: None,
+    after: None,
+};
+
+/// All that is written, where the lines are selected.
+const OUTPUT: &[u8] = b"xa\nxb\nxc\n";
+
+/// A sequencer with an open file.
+fn open_file<A: Allocator + Copy>(
+    alloc: A,
+    query: &Arc<Query<A>, A>,
+) -> Result<Sequencer<A>, AllocError>
+    requires { (arc_value query.now).pieces ≡ false }
+    ensures { IfOk result (λ sequencer. IsReading sequencer 0) }
+{
+    let mut sequencer = Sequencer::new(alloc, Arc::try_clone(query)?, PLAIN)?;
+    sequencer.open(b"f")?;
+    Ok(sequencer)
+}
+
+/// Announces the next block, which is a line of `x` and a letter, and announces it again where a
+/// request for memory is refused. The answer says whether one was.
+fn announce_line<A: Allocator + Copy>(
+    alloc: A,
+    sequencer: &mut Sequencer<A>,
+    number: u64,
+    letter: u8,
+) -> Result<bool, AllocError>
+    requires reading { IsReading sequencer.old number }
+    requires few { number < 100 }
+    ensures { OnOk result (IsReading sequencer.new (number + 1)) }
+{
+    let block = Block {
+        file: 0,
+        number,
+        bytes: Vec::from_slice(alloc, &[b'x', letter, b'\n'])?,
+    };
+    let block = Arc::new(alloc, block)?;
+    let again = Arc::try_clone(&block)?;
+    match sequencer.announce(block) {
+        Ok(()) => Ok(false),
+        Err(AllocError) => {
+            sequencer.announce(again)?;
+            Ok(true)
+        }
+    }
+}
+
+/// A sequencer with a file of three blocks, `xa`, `xb` and `xc`, which has ended, and whether a
+/// request for memory of an announcement was refused.
+fn plan_lines<A: Allocator + Copy>(
+    alloc: A,
+    query: &Arc<Query<A>, A>,
+) -> Result<(Sequencer<A>, bool), AllocError>
+    requires { (arc_value query.now).pieces ≡ false }
+{
+    let mut sequencer = open_file(alloc, query)?;
+    let first = announce_line(alloc, &mut sequencer, 0, b'a')?;
+    let second = announce_line(alloc, &mut sequencer, 1, b'b')?;
+    let third = announce_line(alloc, &mut sequencer, 2, b'c')?;
+    sequencer.end(false);
+    Ok((sequencer, first || second || third))
+}
+
+/// What a search finds in a block that is a line of `x` and a letter.
+fn search_line<A: Allocator + Copy>(
+    alloc: A,
+    query: &Arc<Query<A>, A>,
+    number: u64,
+    letter: u8,
+) -> Result<BlockResult<A>, AllocError> {
+    search(alloc, query, number, &[b'x', letter, b'\n'])
+}
+
+/// The results of the three blocks arrive, the last one first.
+fn arrive_all<A: Allocator + Copy>(
+    rt: &impl Abort,
+    alloc: A,
+    query: &Arc<Query<A>, A>,
+    sequencer: &mut Sequencer<A>,
+) -> Result<(), AllocError> {
+    for (number, letter) in [(2, b'c'), (1, b'b'), (0, b'a')] {
+        let found = search_line(alloc, query, number, letter)?;
+        assert_eq!(rt; sequencer.arrive(found), Arrival::Taken);
+    }
+    Ok(())
+}
+
+/// A result that arrives before the last one is answered by `arrival`, and all that is written
+/// after a drain is `written`.
+fn assert_arrival<A: Allocator + Copy>(
+    rt: &impl Abort,
+    sequencer: &mut Sequencer<A>,
+    sink: &mut MemSink<A>,
+    found: BlockResult<A>,
+    arrival: Arrival,
+    written: &[u8],
+) {
+    assert!(rt; !sequencer.complete());
+    assert_eq!(rt; sequencer.status(), None);
+    assert_eq!(rt; sequencer.arrive(found), arrival);
+    assert_eq!(rt; sequencer.drain(sink), Ok(()));
+    assert_eq!(rt; sink.bytes(), written);
+}
+
+#[test]
+fn results_arrive_in_any_order(rt: HostRuntime) -> Result<(), Fail> {
+    let alloc = rt.alloc();
+    let query = query_of(alloc, b"x")?;
+    let other = query_of(alloc, b"b")?;
+    let (mut sequencer, _) = plan_lines(alloc, &query)?;
+    let mut sink = MemSink::new(alloc, 100)?;
+    let arrivals: [(&Arc<Query>, u64, u8, Arrival, &[u8]); 7] = [
+        (&query, 2, b'c', Arrival::Taken, b""),
+        (&query, 0, b'a', Arrival::Taken, b"xa\n"),
+        (&query, 0, b'a', Arrival::Double, b"xa\n"),
+        (&other, 1, b'b', Arrival::Stranger, b"xa\n"),
+        (&query, 1, b'q', Arrival::Stranger, b"xa\n"),
+        (&query, 3, b'd', Arrival::Stranger, b"xa\n"),
+        (&query, 1, b'b', Arrival::Taken, OUTPUT),
+    ];
+    for (asked, number, letter, arrival, written) in arrivals {
+        let found = search_line(alloc, asked, number, letter)?;
+        assert_arrival(&rt, &mut sequencer, &mut sink, found, arrival, written);
+    }
+    assert!(rt; sequencer.complete());
+    assert_eq!(rt; sequencer.status(), Some(0));
+    Ok(())
+}
+
+#[test]
+fn nothing_is_selected(rt: HostRuntime) -> Result<(), Fail> {
+    let query = query_of(rt.alloc(), b"q")?;
+    let (mut sequencer, _) = plan_lines(rt.alloc(), &query)?;
+    let mut sink = MemSink::new(rt.alloc(), 100)?;
+    arrive_all(&rt, rt.alloc(), &query, &mut sequencer)?;
+    assert_eq!(rt; sequencer.drain(&mut sink), Ok(()));
+    assert_eq!(rt; sink.bytes(), b"".as_slice());
+    assert!(rt; sequencer.complete());
+    assert_eq!(rt; sequencer.status(), Some(1));
+    Ok(())
+}
+
+#[test]
+fn open_file_is_not_complete(rt: HostRuntime) -> Result<(), Fail> {
+    let query = query_of(rt.alloc(), b"x")?;
+    let mut sequencer = open_file(rt.alloc(), &query)?;
+    assert!(rt; !sequencer.complete());
+    assert_eq!(rt; sequencer.status(), None);
+    sequencer.end(true);
+    assert!(rt; sequencer.complete());
+    assert_eq!(rt; sequencer.status(), Some(2), "its reading has failed");
+    Ok(())
+}
+
+/// A drain into a sink that takes `limits.0` bytes in all, and `limits.1` in a write, has the first
+/// answer, and later drains have the second. `written` bytes of the output are written.
+fn assert_drains<A: Allocator + Copy>(
+    rt: &impl Abort,
+    alloc: A,
+    limits: (usize, usize),
+    answers: (Result<(), SinkFault>, Result<(), SinkFault>),
+    written: usize,
+) -> Result<(), AllocError> {
+    let query = query_of(alloc, b"x")?;
+    let (mut sequencer, _) = plan_lines(alloc, &query)?;
+    arrive_all(rt, alloc, &query, &mut sequencer)?;
+    let mut sink = MemSink::new(alloc, limits.0)?;
+    sink.set_write_limit(limits.1);
+    let mut later = MemSink::new(alloc, 100)?;
+    assert_eq!(rt; sequencer.drain(&mut sink), answers.0);
+    assert_eq!(rt; sequencer.drain(&mut sink), answers.1);
+    assert_eq!(rt; sequencer.drain(&mut later), answers.1);
+    assert_eq!(rt; sink.bytes().len(), written);
+    assert!(rt; OUTPUT.starts_with(sink.bytes()));
+    assert!(rt; later.bytes().is_empty());
+    Ok(())
+}
+
+#[test]
+fn each_write_may_fail(rt: HostRuntime) -> Result<(), Fail> {
+    let failed = (Err(SinkFault::WriteFailed), Err(SinkFault::Failed));
+    for limit in 0..OUTPUT.len() {
+        assert_drains(&rt, rt.alloc(), (limit, 100), failed, limit)?;
+        assert_drains(&rt, rt.alloc(), (limit, 1), failed, limit)?;
+    }
+    assert_drains(&rt, rt.alloc(), (9, 100), (Ok(()), Ok(())), 9)?;
+    assert_drains(&rt, rt.alloc(), (9, 1), (Ok(()), Ok(())), 9)?;
+    assert_drains(&rt, rt.alloc(), (9, 0), failed, 0)?;
+    Ok(())
+}
+
+/// What a sequencer writes, and whether an announcement was refused and made again.
+fn write_lines<A: Allocator + Copy>(
+    rt: &impl Abort,
+    alloc: A,
+    sink: &mut MemSink<A>,
+) -> Result<bool, AllocError> {
+    let query = query_of(alloc, b"x")?;
+    let (mut sequencer, again) = plan_lines(alloc, &query)?;
+    arrive_all(rt, alloc, &query, &mut sequencer)?;
+    assert_eq!(rt; sequencer.drain(sink), Ok(()));
+    assert_eq!(rt; sequencer.status(), Some(0));
+    Ok(again)
+}
+
+#[test]
+fn refused_announcement_is_made_again(rt: HostRuntime) -> Result<(), Fail> {
+    let mut refused: u64 = 0;
+    for passes in 0..100u64 {
+        let heap = Refusing::new(rt.alloc(), passes);
+        let Ok(mut sink) = MemSink::new(&heap, 100) else {
+            continue;
+        };
+        if let Ok(again) = write_lines(&rt, &heap, &mut sink) {
+            assert_eq!(rt; sink.bytes(), OUTPUT);
+            assert_eq!(rt; heap.has_refused(), again, "at {passes}");
+            if !again {
+                assert!(rt; refused > 0);
+                return Ok(());
+            }
+            refused = refused.wrapping_add(1);
+        }
+    }
+    panic!(rt; "more than 100 requests")
+}
