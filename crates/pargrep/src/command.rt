@@ -5,12 +5,12 @@ ghost use Rattle.pg_seq.specs.Output.{Read, Ended, output, status};
 ghost use Rattle.pg_seq.specs.Sink.{TakesPart};
 ghost use Rattle.pargrep.specs.Pattern.{fixed_string};
 
-use pg_run::first_run;
 use crate::fault::{FAULT_STATUS, Fault, report};
 use crate::pattern::compile_text;
 use crate::store::Store;
 use crate::whole::read_file;
 use crate::words::{Request, WordsFault, read_words};
+use pg_run::first_run;
 use pg_seq::{Sink, write_all};
 use std::alloc::Global;
 use std::sync::Arc;

@@ -1,9 +1,9 @@
 //! The faults of the program.
 ghost use Rattle.std.specs.Prelude.{◌≡◌};
 
-use pg_run::RunFault;
 use crate::pattern::PatternFault;
 use crate::whole::FileFault;
+use pg_run::RunFault;
 use pg_seq::{Sink, write_all};
 use std::alloc::Global;
 use thiserror::Error;
