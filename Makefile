@@ -18,6 +18,7 @@ all: toolchain
 	@rm -f crates/pargrep/out.log
 	@echo "pargrep: built $(program)"
 
+# The gate, `rt ci`: proves every crate from nothing, tries the wrong bodies, and runs the tests and the program.
 check: toolchain
 	$(RT) ci
 
