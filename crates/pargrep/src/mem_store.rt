@@ -61,7 +61,7 @@ impl MemStore {
         Ok(())
     }
 
-    /// From now on a read gives at most so many bytes.
+    /// From now on a read gives at most so many bytes, which are at least one.
     pub fn set_read_limit(&mut self, read_limit: usize)
         requires { 1 ≤ read_limit }
     {

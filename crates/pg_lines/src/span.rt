@@ -9,7 +9,7 @@ pub struct Span {
 }
 
 impl Span {
-    /// This part of some bytes.
+    /// This part of some bytes. It doesn't end before it starts, nor behind them.
     pub fn of(self, bytes: &[u8]) -> &[u8]
         requires ordered { self.start ≤ self.end }
         requires within { self.end ≤ length bytes.now }
