@@ -1,7 +1,6 @@
 -- What a text on the command line is searched for as.
 use Rattle.std.specs.Prelude.{ℕ, false, List, [], ◌∷◌}
-use Rattle.pg_lines.specs.Search.{Search, Split}
-use Rattle.pg_lines.specs.declared.query.Kind.TheVariants.{Fixed}
+use Rattle.pg_lines.specs.Search.{Search, Split, Fixed}
 
 -- one fixed string, and no option
 abbrev pub fixed_string : List ℕ → Search

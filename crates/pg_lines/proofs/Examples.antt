@@ -1,10 +1,9 @@
 -- Worked examples of the definitions.
 use Rattle.std.specs.Prelude.{◌≡◌, ℕ, Bool, true, false, List, [], ◌∷◌, ◌++◌, codes, refl}
 use Rattle.pg_lines.specs.Lines.{lines}
-use Rattle.pg_lines.specs.Search.{Search, Split, ByLine, patterns}
+use Rattle.pg_lines.specs.Search.{Search, Split, ByLine, Fixed, patterns}
 use Rattle.pg_lines.specs.Hits.{selects, has_hit}
 use Rattle.pg_lines.specs.Parts.{parts, parts_from}
-use Rattle.pg_lines.specs.declared.query.Kind.TheVariants.{Fixed}
 
 -- a last line may lack the newline, and a newline alone is an empty line
 last_line_without : lines 10 (codes "abc" ++ 10 ∷ codes "xyz" ++ 10 ∷ codes "b") ≡ codes "abc" ∷ codes "xyz" ∷ codes "b" ∷ []

@@ -4,7 +4,8 @@ use Rattle.std.specs.List.{onto_first}
 use Rattle.std.proofs.lemmas.Bool.{ne_eqb}
 use Rattle.std.proofs.lemmas.List.{append-nil}
 use Rattle.pg_lines.specs.Lines.{IsLine}
-use Rattle.pg_lines.specs.Search.{Search, split, patterns, IsPlain, IsCompiled}
+use Rattle.pg_syntax.specs.PatternLists.{split}
+use Rattle.pg_lines.specs.Search.{Search, patterns, IsPlain, IsCompiled}
 
 -- a text without a newline is one pattern
 pub split-line : (text : List ℕ) → IsLine 10 text → split text ≡ text ∷ []

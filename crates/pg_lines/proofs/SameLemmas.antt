@@ -2,9 +2,8 @@
 use Rattle.std.proofs.Common.{◌≡◌, Bool, ◌&&◌, ◌==◌, List, [], ◌∷◌, map, refl, ap}
 use Rattle.std.specs.Cmp.Lexicographic.{pointwise}
 use denote.Enum.Bare.{sameb}
-use Rattle.pg_lines.specs.contracts.query.Kind.{the_type}
-use Rattle.pg_lines.specs.declared.query.Kind.{Kind}
-use Rattle.pg_lines.specs.declared.query.Kind.TheVariants.{Basic, Extended, Fixed}
+use Rattle.pg_syntax.specs.contracts.pattern_list.Kind.{the_type}
+use Rattle.pg_lines.specs.Search.{Kind, Basic, Extended, Fixed}
 use Rattle.pg_lines.specs.Same.{kind_number}
 
 pub kind-same : (a b : Kind) → sameb the_type a b ≡ (kind_number a == kind_number b)

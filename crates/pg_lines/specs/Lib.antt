@@ -5,7 +5,6 @@ pub mod Parts
 pub mod Blocks
 pub mod Runs
 pub mod Searched
-pub mod Memory
 pub mod Same
 pub mod Cutter
 pub mod Long

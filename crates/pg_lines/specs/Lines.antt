@@ -1,11 +1,7 @@
 -- The lines of some bytes (XBD 3.206 Line, 3.195 Incomplete Line).
-use Rattle.std.specs.Prelude.{◌≡◌, ◌≢◌, ℕ, ◌+◌, ◌<◌, ◌≤◌, ◌==◌, if◌then◌else◌, ◌⊎◌, List, [], ◌∷◌, ◌++◌, length, take, slice_index}
-use Rattle.std.specs.List.{Contains, AllByRecursion, flat_map, onto_first}
-
--- the lines that the terminator `end` cuts the bytes into: it ends the first of them, or the byte before it belongs to the first
-abbrev pub lines : ℕ → List ℕ → List (List ℕ)
-lines end [] = []
-lines end (b ∷ bytes) = if b == end then [] ∷ lines end bytes else onto_first b (lines end bytes)
+use Rattle.std.specs.Prelude.{◌≡◌, ◌≢◌, ℕ, ◌+◌, ◌<◌, ◌≤◌, ◌⊎◌, List, [], ◌∷◌, ◌++◌, length, take, slice_index}
+use Rattle.std.specs.List.{Contains, AllByRecursion, flat_map}
+pub use Rattle.pg_syntax.specs.Lines.{lines}
 
 -- a text without the terminator
 abbrev pub IsLine : ℕ → List ℕ → Type 0

@@ -1,52 +1,24 @@
 -- Queries are compared by what they were compiled from.
 use Rattle.std.specs.Prelude.{◌≡◌, ℕ, Bool, true, false, ◌&&◌, ◌==◌, List, [], ◌∷◌, refl}
-use Rattle.std.specs.Str.{bytes_eq}
 use Rattle.std.specs.Cmp.{IsEquivalence}
 use Rattle.std.specs.Cmp.Lexicographic.{pointwise}
-use Rattle.std.proofs.Common.{sym, ap, ◌∙◌, subst, arith}
+use Rattle.std.proofs.Common.{ap, ◌∙◌, arith}
 use Rattle.std.proofs.lemmas.Bool.{false≢true, and_parts, and_from, eqb-true, eq-eqb}
-use Rattle.std.proofs.lemmas.Slice.Eq.{bytes_eq-Decides}
 use mathlib.Core.Bool.{beq}
-use Rattle.pg_lines.specs.Search.{Search, Patterns, Split, ByLine}
-use Rattle.pg_lines.specs.declared.query.Kind.{Kind}
-use Rattle.pg_lines.specs.declared.query.Kind.TheVariants.{Basic, Extended, Fixed}
+use Rattle.pg_syntax.specs.Same.{same_patterns, patterns_equal, equivalence_of}
+pub use Rattle.pg_syntax.specs.Same.{TestsEqual}
+use Rattle.pg_lines.specs.Search.{Search, Patterns, Kind, Basic, Extended, Fixed}
 
 abbrev pub kind_number : Kind → ℕ
 kind_number Basic = 0
 kind_number Extended = 1
 kind_number Fixed = 2
 
-abbrev pub same_patterns : Patterns → Patterns → Bool
-same_patterns (Split a) (Split b) = bytes_eq a b
-same_patterns (Split a) (ByLine b) = false
-same_patterns (ByLine a) (Split b) = false
-same_patterns (ByLine a) (ByLine b) = bytes_eq a b
-
 -- kind, lists and options are the same
 unfoldable pub same_search : Search → Search → Bool
 same_search a b =
     (kind_number a.kind == kind_number b.kind) && pointwise same_patterns a.lists b.lists
     && beq a.fold b.fold && beq a.whole b.whole && beq a.invert b.invert && beq a.pieces b.pieces
-
--- A test that holds exactly of equal values.
-pub record TestsEqual {K : Type 0} (test : K → K → Bool) : Type 0 where
-  pub sound : (a b : K) → test a b ≡ true → a ≡ b
-  pub complete : (a : K) → test a a ≡ true
-
-both_ways : (s t : Bool) → (s ≡ true → t ≡ true) → (t ≡ true → s ≡ true) → s ≡ t
-both_ways true true f g = refl
-both_ways true false f g = sym (f refl)
-both_ways false true f g = g refl
-both_ways false false f g = refl
-
-pub equivalence_of : {K : Type 0} {test : K → K → Bool} → TestsEqual test → IsEquivalence test
-equivalence_of {K} {test} h =
-    let along : (x y : K) → x ≡ y → test x y ≡ true = λ x y e. let P : K → Type 0 = λ z. test x z ≡ true in subst P e (h.complete x) in
-    record {
-      refl = h.complete;
-      symm = λ x y. both_ways (test x y) (test y x) (λ e. along y x (sym (h.sound x y e))) (λ e. along x y (sym (h.sound y x e)));
-      congr = λ x y z e. ap (λ v. test v z) (h.sound x y e);
-    }
 
 beq_sound : (a b : Bool) → beq a b ≡ true → a ≡ b
 beq_sound true true e = refl
@@ -69,30 +41,17 @@ kind_sound Fixed Basic e = absurd (omega arith)
 kind_sound Fixed Extended e = absurd (omega arith)
 kind_sound Fixed Fixed e = refl
 
-patterns_sound : (a b : Patterns) → same_patterns a b ≡ true → a ≡ b
-patterns_sound (Split a) (Split b) e = ap Split ((bytes_eq-Decides a b).0 e)
-patterns_sound (Split a) (ByLine b) e = absurd (false≢true e)
-patterns_sound (ByLine a) (Split b) e = absurd (false≢true e)
-patterns_sound (ByLine a) (ByLine b) e = ap ByLine ((bytes_eq-Decides a b).0 e)
-
-patterns_complete : (a : Patterns) → same_patterns a a ≡ true
-patterns_complete (Split a) = (bytes_eq-Decides a a).1 refl
-patterns_complete (ByLine a) = (bytes_eq-Decides a a).1 refl
-
-pub patterns_equal : TestsEqual same_patterns
-patterns_equal = record { sound = patterns_sound; complete = patterns_complete }
-
 lists_sound : (a b : List Patterns) → pointwise same_patterns a b ≡ true → a ≡ b
 lists_sound [] [] e = refl
 lists_sound [] (y ∷ ys) e = absurd (false≢true e)
 lists_sound (x ∷ xs) [] e = absurd (false≢true e)
 lists_sound (x ∷ xs) (y ∷ ys) e =
     let p = and_parts (same_patterns x y) (pointwise same_patterns xs ys) e in
-    ap (λ z. z ∷ xs) (patterns_sound x y p.0) ∙ ap (λ zs. y ∷ zs) (lists_sound xs ys p.1)
+    ap (λ z. z ∷ xs) (patterns_equal.sound x y p.0) ∙ ap (λ zs. y ∷ zs) (lists_sound xs ys p.1)
 
 lists_complete : (a : List Patterns) → pointwise same_patterns a a ≡ true
 lists_complete [] = refl
-lists_complete (x ∷ xs) = and_from (same_patterns x x) (pointwise same_patterns xs xs) (patterns_complete x) (lists_complete xs)
+lists_complete (x ∷ xs) = and_from (same_patterns x x) (pointwise same_patterns xs xs) (patterns_equal.complete x) (lists_complete xs)
 
 search_with : (a b : Search) → a.kind ≡ b.kind → a.lists ≡ b.lists → a.fold ≡ b.fold → a.whole ≡ b.whole → a.invert ≡ b.invert → a.pieces ≡ b.pieces → a ≡ b
 search_with a b kind lists fold whole invert pieces =
@@ -127,9 +86,6 @@ search_complete a =
 
 pub search_equal : TestsEqual same_search
 search_equal = record { sound = search_sound; complete = search_complete }
-
-pub same_patterns-laws : IsEquivalence same_patterns
-same_patterns-laws = equivalence_of patterns_equal
 
 pub same_search-laws : IsEquivalence same_search
 same_search-laws = equivalence_of search_equal

@@ -1,14 +1,9 @@
 -- What is searched for, as plain data (XCU grep, OPTIONS).
-use Rattle.std.specs.Prelude.{◌≡◌, ℕ, ◌≤◌, ◌==◌, Bool, false, if◌then◌else◌, List, [], ◌∷◌, ◌++◌, length}
-use Rattle.std.specs.List.{onto_first}
-use Rattle.pg_lines.specs.Lines.{IsLine, lines}
-use Rattle.pg_lines.specs.declared.query.Kind.{Kind}
-use Rattle.pg_lines.specs.declared.query.Kind.TheVariants.{Fixed}
-
--- a pattern list: a text that each newline splits, or a file whose lines are the patterns
-pub data Patterns : Type 0 where
-  Split : (text : List ℕ) → Patterns
-  ByLine : (bytes : List ℕ) → Patterns
+use Rattle.std.specs.Prelude.{◌≡◌, ℕ, ◌≤◌, Bool, false, List, [], ◌∷◌, length}
+pub use Rattle.pg_syntax.specs.declared.pattern_list.Kind.{Kind}
+pub use Rattle.pg_syntax.specs.declared.pattern_list.Kind.TheVariants.{Basic, Extended, Fixed}
+pub use Rattle.pg_syntax.specs.PatternLists.{Patterns, Split, ByLine, patterns}
+use Rattle.pg_lines.specs.Lines.{IsLine}
 
 -- the kind of the patterns, the lists, and the options -i, -x, -v and -o
 pub record Search : Type 0 where
@@ -18,20 +13,6 @@ pub record Search : Type 0 where
   pub whole : Bool
   pub invert : Bool
   pub pieces : Bool
-
--- the texts between newlines: one more than there are newlines
-abbrev pub split : List ℕ → List (List ℕ)
-split [] = [] ∷ []
-split (b ∷ text) = if b == 10 then [] ∷ split text else onto_first b (split text)
-
-abbrev pub patterns_in : Patterns → List (List ℕ)
-patterns_in (Split text) = split text
-patterns_in (ByLine bytes) = lines 10 bytes
-
--- all patterns, in their order
-abbrev pub patterns : List Patterns → List (List ℕ)
-patterns [] = []
-patterns (list ∷ lists) = patterns_in list ++ patterns lists
 
 -- the byte that ends a line
 abbrev pub terminator : Search → ℕ

@@ -1,31 +1,12 @@
 //! What is searched for.
 ghost use Rattle.std.specs.Prelude.{◌≡◌, ℕ, List, [], ◌∷◌, IfOk, map};
 ghost use Rattle.pg_lines.specs.Search.{Split, IsPlain, IsCompiled};
-ghost use Rattle.pg_lines.specs.Memory.{patterns_of};
+ghost use Rattle.pg_syntax.specs.Memory.{patterns_of};
 
+use pg_syntax::{Kind, PatternList};
 use std::alloc::{AllocError, Allocator, Global};
 use std::marker::Model;
 use thiserror::Error;
-
-/// The syntax of the patterns (XCU grep, -E and -F).
-#[derive(Clone, Copy, Debug, PartialEq, Eq)]
-pub enum Kind {
-    /// Basic regular expressions (XBD 9.3).
-    Basic,
-    /// Extended regular expressions (XBD 9.4).
-    Extended,
-    /// Fixed strings.
-    Fixed,
-}
-
-/// Patterns that came together.
-#[derive(Drop)]
-pub enum PatternList<A: Allocator = Global> {
-    /// A text, as that of -e: each newline in it separates two patterns.
-    Text(Vec<u8, A>),
-    /// The bytes of a file, as that of -f: each of its lines is a pattern.
-    Lines(Vec<u8, A>),
-}
 
 /// What a query is compiled from: the patterns and the options that say what they match.
 #[derive(Drop)]
@@ -49,7 +30,7 @@ impl<A: Allocator> Model for QueryText<A> {
 
     ghost Value = { Search };
 
-    ghost use Rattle.pg_lines.specs.Memory.{patterns_of};
+    ghost use Rattle.pg_syntax.specs.Memory.{patterns_of};
 
     ghost view = { λ t. record { kind = t.kind; lists = map patterns_of t.lists.items; fold = t.fold; whole = t.whole; invert = t.invert; pieces = t.pieces } };
 }

@@ -1,9 +1,8 @@
 -- Worked examples of what is written, and of the exit status.
 use Rattle.std.proofs.Common.{◌≡◌, ℕ, true, false, Some, None, List, [], ◌∷◌, refl, codes}
-use Rattle.pg_lines.specs.Search.{Search, Split}
+use Rattle.pg_lines.specs.Search.{Search, Split, Fixed}
 use Rattle.pg_lines.specs.Hits.{has_hit}
 use Rattle.pg_lines.specs.Parts.{parts_from}
-use Rattle.pg_lines.specs.declared.query.Kind.TheVariants.{Fixed}
 use Rattle.std.specs.Fmt.{digits}
 use Rattle.pg_lines.specs.Blocks.{BlockData}
 use Rattle.pg_lines.specs.Searched.{Searched}

@@ -6,6 +6,8 @@ mod cutter;
 #[cfg(test)]
 mod fixtures;
 #[cfg(test)]
+mod patterns;
+#[cfg(test)]
 mod run;
 #[cfg(test)]
 mod sequencer;

@@ -1,6 +1,6 @@
 use Rattle.std.proofs.Common.{◌∙◌, ap, map}
 use Rattle.pg_lines.specs.Search.{Search}
-use Rattle.pg_lines.specs.Memory.{patterns_of}
+use Rattle.pg_syntax.specs.Memory.{patterns_of}
 use Rattle.pg_lines.proofs.PatternLemmas.{compiled}
 use Rattle.pg_lines.proofs.query.Query.compile.Goals as goal
 

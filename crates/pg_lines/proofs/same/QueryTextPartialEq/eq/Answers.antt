@@ -1,6 +1,7 @@
 use Rattle.std.proofs.Common.{◌∙◌, refl}
-use Rattle.pg_lines.specs.Memory.{patterns_of}
-use Rattle.pg_lines.specs.Same.{same_patterns, same_search}
+use Rattle.pg_syntax.specs.Memory.{patterns_of}
+use Rattle.pg_syntax.specs.Same.{same_patterns}
+use Rattle.pg_lines.specs.Same.{same_search}
 use Rattle.pg_lines.proofs.SameLemmas.{kind-same, pointwise-map}
 use Rattle.pg_lines.proofs.same.QueryTextPartialEq.eq.Goals as goal
 
