@@ -7,10 +7,8 @@ ghost use Rattle.pargrep.specs.Pattern.{fixed_string};
 
 use crate::fault::{FAULT_STATUS, Fault, report};
 use crate::pattern::compile_text;
-use crate::store::Store;
-use crate::whole::read_file;
 use crate::words::{Request, WordsFault, read_words};
-use pg_run::first_run;
+use pg_run::{ReadFault, Store, first_run};
 use pg_seq::{Sink, write_all};
 use std::alloc::Global;
 use std::sync::Arc;
@@ -19,7 +17,8 @@ use std::sync::Arc;
 /// the status: 0 where a line was selected, 1 where none was, and 2 after a fault.
 ///
 /// The selected lines go to `out`. The line of a fault goes to `err`, and only the first fault is
-/// looked for: first the words, then the pattern, then the file, then the search.
+/// looked for: first the words, then the pattern, then the file. Where a read failed, the lines of
+/// what was read before were searched.
 pub fn command<S: Store, W: Sink, E: Sink>(
     alloc: Global,
     words: &[String],
@@ -46,7 +45,7 @@ pub fn command<S: Store, W: Sink, E: Sink>(
     }
 }
 
-/// Searches the file that a request names.
+/// Opens and searches the file that a request names.
 fn search<'a, S: Store, W: Sink>(
     alloc: Global,
     request: &Request<'a>,
@@ -65,12 +64,13 @@ fn search<'a, S: Store, W: Sink>(
         return Err(Fault::OutOfMemory);
     };
     let name = shown_name(request.file);
-    let bytes = match read_file(alloc, store, request.file) {
-        Ok(bytes) => bytes,
-        Err(fault) => return Err(Fault::of_file(name, fault)),
-    };
-    let status = first_run(alloc, &query, bytes.as_slice(), request.block, out)?;
-    Ok(status)
+    if !store.open(request.file)? {
+        return Err(Fault::CannotOpen(name));
+    }
+    match first_run(alloc, &query, store, request.block, out)? {
+        Ok(status) => Ok(status),
+        Err(ReadFault) => Err(Fault::ReadFailed(name)),
+    }
 }
 
 /// How a file is called in rows and fault lines.

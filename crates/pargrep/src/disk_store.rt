@@ -1,6 +1,5 @@
 //! The system's files.
-use crate::past::StorePast;
-use crate::store::{ReadFault, Store};
+use pg_run::{ReadFault, Store, StorePast};
 use std::alloc::AllocError;
 use std::fs;
 use std::io::{ErrorKind, Read};

@@ -2,10 +2,9 @@
 ghost use Rattle.std.specs.Prelude.{◌≡◌};
 
 use crate::pattern::PatternFault;
-use crate::whole::FileFault;
 use pg_run::RunFault;
 use pg_seq::{Sink, write_all};
-use std::alloc::Global;
+use std::alloc::{AllocError, Global};
 use thiserror::Error;
 
 /// The status of a run that met a fault.
@@ -37,23 +36,18 @@ pub enum Fault<'a> {
     LineTooLong,
 }
 
+impl<'a> From<AllocError> for Fault<'a> {
+    fn from(_error: AllocError) -> Fault<'a> {
+        Fault::OutOfMemory
+    }
+}
+
 impl<'a> From<RunFault> for Fault<'a> {
     fn from(fault: RunFault) -> Fault<'a> {
         match fault {
             RunFault::OutOfMemory => Fault::OutOfMemory,
             RunFault::Sink => Fault::WriteFailed,
             RunFault::TooLong => Fault::LineTooLong,
-        }
-    }
-}
-
-impl<'a> Fault<'a> {
-    /// The fault of the file that a fault line names so.
-    pub fn of_file(name: &'a str, fault: FileFault) -> Fault<'a> {
-        match fault {
-            FileFault::CannotOpen => Fault::CannotOpen(name),
-            FileFault::ReadFailed => Fault::ReadFailed(name),
-            FileFault::OutOfMemory => Fault::OutOfMemory,
         }
     }
 }

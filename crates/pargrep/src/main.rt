@@ -4,11 +4,7 @@
 mod command;
 mod disk_store;
 mod fault;
-mod mem_store;
-mod past;
 mod pattern;
-mod store;
-mod whole;
 mod words;
 
 use command::command;

@@ -2,7 +2,7 @@
 use Rattle.std.proofs.Common.{◌≡◌, ℕ, ◌+◌, ◌<◌, ◌≤◌, ◌^◌, ◌⊎◌, inl, inr, Bool, true, false, ◌&&◌, ◌||◌, ◌==◌, Option, Some, None, Result, Ok, Err, List, [], ◌∷◌, ◌++◌, length, drop, refl, sym, ap, ◌∙◌, subst, arith, append_assoc}
 use Rattle.std.specs.List.{AllByRecursion, Contains, list_all, flat_map}
 use Rattle.std.specs.Option.{IsSome, MatchOption}
-use Rattle.std.specs.Result.{OnOk, OnErr, IsErrAnd}
+use Rattle.std.specs.Result.{OnOk, OnErr, IsErrAnd, IsErrOf}
 use Rattle.std.specs.Arc.{arc_value}
 use Rattle.std.proofs.lemmas.Bool.{eq-eqb, ne_eqb, false≢true}
 use Rattle.std.proofs.lemmas.List.{append-nil, get_or_at, length_push, length-map}
@@ -87,9 +87,9 @@ is_first {A = A} s q blocks text b h n sequencer stands r is =
     let past = planned h.past (Announces b) in
     let known : Contains (announced (plan past)) b =
     (length (announced (plan h.past)), omega (arith, length_push (announced (plan h.past)) b), get_or_at (announced (plan h.past)) b [] b (length (announced (plan h.past))) refl) in
-    let count : length s.sequencer.slots.items ≡ b.number =
-    sym (n.number ∙ (ap length (sym h.all) ∙ (ap length h.stands.blocks ∙ length-map s.sequencer.slots.items slot_block))) in
-    let new : is_taken (taken_of past.query past.events) b ≡ false = new_key (taken_of h.past.query h.past.events) b (length s.sequencer.slots.items) h.stands.known (sym count) in
+    let slots = h.stands.gone ++ s.sequencer.buffer.slots.items in
+    let count : b.number ≡ length slots = n.number ∙ (ap length (sym h.all) ∙ (ap length h.stands.blocks ∙ length-map slots slot_block)) in
+    let new : is_taken (taken_of past.query past.events) b ≡ false = new_key (taken_of h.past.query h.past.events) b (length slots) h.stands.known count in
     let F : Searched → Type 0 = λ x. answer past x ≡ Taken in
     subst F (sym is) (first_is_taken past (record { query = q; block = b }) (shape_of (terminator past.query) (plan past) stands.lawful) (sym h.query) known new)
 
@@ -207,13 +207,10 @@ cut_long {T = T} r NoMemory h e = let F : Result T RunFault → Type 0 = λ x. I
 cut_long r LineTooLong h e = inl refl
 cut_long r FileTooLong h e = inr refl
 
-pub on_ok : {T E : Type 0} (r : Result T E) (P Q : Type 0) → (P → Q) → OnOk r P → OnOk r Q
-on_ok (Ok x) P Q f h = f h
-on_ok (Err e) P Q f h = tt
-
-pub on_err_too : {T E : Type 0} (r : Result T E) (P Q : Type 0) → (P → Q) → OnErr r P → OnErr r Q
-on_err_too (Ok x) P Q f h = tt
-on_err_too (Err e) P Q f h = f h
+-- a drain whose sink had not failed before fails with it
+pub drain_cause : (fault : SinkFault) (past : Past) (text : List ℕ) (before after : ℕ) → past.failed ≡ false → Drained (Err fault) past text → (IsErrOf {T = Unit {0}} (Err fault) WriteFailed → before < after) → before < after
+drain_cause WriteFailed past text before after f d cause = cause refl
+drain_cause Failed past text before after f d cause = absurd (false≢true (sym f ∙ d.0))
 
 pub error_of : {T E : Type 0} (r : Result T E) (e fault : E) → IsErrAnd r (λ x. x ≡ e) → r ≡ Err fault → e ≡ fault
 error_of {T = T} {E = E} r e fault h is = let F : Result T E → Type 0 = λ x. IsErrAnd x (λ y. y ≡ e) in sym (subst F is h)

@@ -16,7 +16,7 @@ use Rattle.pg_seq.specs.Bare.{bare_rows, line_or_nothing}
 use Rattle.pg_seq.specs.Plan.{Opens, Announces, Ends}
 use Rattle.pg_seq.specs.Sink.{IsBeginning, TakesPart}
 use Rattle.pg_seq.proofs.BareLemmas.{output_bare}
-use Rattle.pg_run.specs.Run.{Aim, Reads, HasSearched, Holds, IsNextBlock, IsTooLong, rows_of, output_of}
+use Rattle.pg_run.specs.Run.{Aim, Reads, HasSearched, Holds, IsNextBlock, IsTooLong, rows_of, output_of, aimed}
 use Rattle.pg_run.specs.declared.searcher.Searcher.{Searcher}
 
 -- The output of a file, from its rows.
@@ -142,8 +142,21 @@ given_next cutter f b more s file longest gives =
 
 -- Reading.
 
-pub parts_of : (n : ℕ) (rest piece later : List ℕ) → piece ≡ take n rest → later ≡ drop n rest → rest ≡ piece ++ later
-parts_of n rest piece later front back = sym (take-append-drop n rest) ∙ (ap (λ xs. xs ++ drop n rest) (sym front) ∙ ap (λ xs. piece ++ xs) (sym back))
+-- the file has more bytes than were read so far
+pub reads_on : {A : Type 0} (cutter : Cutter A) (s : Searcher A) (aim : Aim) (piece after : List ℕ) → Reads cutter s aim [] after → Reads cutter s (aimed aim (aim.file ++ piece)) piece after
+reads_on cutter s aim piece after r = record {
+  fed = r.fed;
+  stands = r.stands;
+  number = r.number;
+  longest = r.longest;
+  whole = ap (λ xs. xs ++ piece) (sym (append-nil r.fed.bytes) ∙ r.whole);
+  holds = r.holds;
+  got = r.got;
+}
+
+-- a cutter takes at most 2^62 bytes
+pub reads_few : {A : Type 0} (cutter : Cutter A) (s : Searcher A) (aim : Aim) (after : List ℕ) → Reads cutter s aim [] after → length aim.file ≤ 2 ^ 62
+reads_few cutter s aim after r = omega (arith, ap length r.whole, length-append r.fed.bytes [], r.stands.total, cutter.few)
 
 pub next_in_reads : {A : Type 0} (cutter : Cutter A) (s : Searcher A) (aim : Aim) (rest after : List ℕ) (r : Reads cutter s aim rest after) (b : BlockData) → IsNextOfCutter r.fed b → IsNextBlock r.fed.taken b
 next_in_reads cutter s aim rest after r b n = let gives = gives_next cutter r.fed b r.stands n in given_next cutter r.fed b gives.0 r.stands r.number r.longest gives.1
@@ -289,5 +302,5 @@ file_too_long cutter s aim rest piece later after r parts long =
     inr (omega (arith, ap length r.whole, length-append r.fed.bytes rest, ap length parts, length-append piece later))
 
 -- a run that begins
-pub reads_new : {A : Type 0} (cutter : Cutter A) (s : Searcher A) (aim : Aim) (size : ℕ) → CutterStands cutter (unfed 10 0 size (2 ^ 30)) → Holds s aim.query [] [] → Reads cutter s aim aim.file aim.before
-reads_new cutter s aim size stands holds = record { fed = unfed 10 0 size (2 ^ 30); stands = stands; number = refl; longest = refl; whole = refl; holds = holds; got = sym (append-nil aim.before) }
+pub reads_new : {A : Type 0} (cutter : Cutter A) (s : Searcher A) (aim : Aim) (size : ℕ) → aim.file ≡ [] → CutterStands cutter (unfed 10 0 size (2 ^ 30)) → Holds s aim.query [] [] → Reads cutter s aim [] aim.before
+reads_new cutter s aim size none stands holds = record { fed = unfed 10 0 size (2 ^ 30); stands = stands; number = refl; longest = refl; whole = sym none; holds = holds; got = sym (append-nil aim.before) }

@@ -61,6 +61,10 @@ pub record Aim : Type 0 where
   pub file : List ℕ
   pub before : List ℕ
 
+-- the same in a file of these bytes
+abbrev pub aimed : Aim → List ℕ → Aim
+aimed aim file = record aim { file = file }
+
 -- the output of a file
 abbrev pub output_of : Search → List ℕ → List ℕ
 output_of q file = output q bare (Read [] file Ended ∷ [])

@@ -1,9 +1,15 @@
-//! Searches a file, one block after the other.
+//! Reads a file and searches it, one block after the other.
 #![tactic(auto)]
 
 mod fault;
+mod mem_store;
+mod past;
 mod run;
 mod searcher;
+mod store;
 
 pub use fault::RunFault;
+pub use mem_store::{Ending, MemStore};
+pub use past::StorePast;
 pub use run::first_run;
+pub use store::{ReadFault, Store};

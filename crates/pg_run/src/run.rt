@@ -1,25 +1,28 @@
 //! The run of one file.
-ghost use Rattle.std.specs.Prelude.{◌≡◌, ℕ, ◌<◌, ◌≤◌, ◌^◌, ◌∷◌, ◌++◌, List, [], false, IfOk, OnOk, OnErr, IsErrOf};
+ghost use Rattle.std.specs.Prelude.{◌≡◌, ℕ, ◌<◌, ◌≤◌, ◌^◌, ◌∷◌, ◌++◌, List, [], false, length, IfOk, OnOk, OnErr, IsErrOf, MatchResult};
 ghost use Rattle.std.specs.Arc.{arc_value};
 ghost use Rattle.pg_lines.specs.Cutter.{IsDrained};
 ghost use Rattle.pg_seq.specs.Bare.{bare};
-ghost use Rattle.pg_seq.specs.Output.{Read, Ended, output, status};
+ghost use Rattle.pg_seq.specs.Output.{Read, Ended, status};
 ghost use Rattle.pg_seq.specs.Sink.{TakesPart};
-ghost use Rattle.pg_run.specs.Run.{Aim, Reads, HasSearched, IsTooLong, output_of};
+ghost use Rattle.pg_run.specs.Past.{MeetsTheEnd, FailsToRead};
+ghost use Rattle.pg_run.specs.Run.{Aim, Reads, HasSearched, IsTooLong, aimed, output_of};
 ghost use Rattle.pg_run.specs.declared.fault.RunFault.TheVariants.{Sink as RunSink, TooLong};
 
 use crate::fault::RunFault;
 use crate::searcher::Searcher;
+use crate::store::{ReadFault, Store};
 use pg_lines::{Cutter, Query};
 use pg_seq::Sink;
-use std::alloc::Allocator;
+use std::alloc::{AllocError, Allocator};
 use std::sync::Arc;
 
 /// The most bytes of a line without its newline: 2^30.
 const LONGEST_LINE: u32 = 1_073_741_824;
 
-/// How many bytes are cut into blocks at a time, which are searched while they are near.
-const PIECE: usize = 65_536;
+/// How many bytes are asked for in one read. They are cut into blocks and searched while they are
+/// near.
+const READ_SIZE: usize = 65_536;
 
 /// Searches the blocks that are finished.
 fn search_ready<A: Allocator + Copy, W: Sink>(
@@ -43,31 +46,38 @@ fn search_ready<A: Allocator + Copy, W: Sink>(
     Ok(())
 }
 
-/// Cuts a file into blocks and searches those that are finished.
-fn search_all<A: Allocator + Copy, W: Sink>(
+/// Reads a file by way of a buffer, and searches the blocks that are finished. It ends at the file's
+/// end or with a read that fails.
+fn search_all<A: Allocator + Copy, S: Store, W: Sink>(
     cutter: &mut Cutter<A>,
     searcher: &mut Searcher<A>,
-    bytes: &[u8],
+    store: &mut S,
+    buffer: &mut [u8],
     out: &mut W,
-) -> Result<(), RunFault>
-    requires { (aim : Aim) × Reads cutter.old searcher.old aim bytes.now (W.taken out.old) × IsDrained cutter.old }
-    ensures ok { (aim : Aim) → Reads cutter.old searcher.old aim bytes.now (W.taken out.old) →
-        OnOk result (Reads cutter.new searcher.new aim [] (W.taken out.new)) }
+) -> Result<Result<(), ReadFault>, RunFault>
+    requires { (aim : Aim) × Reads cutter.old searcher.old aim [] (W.taken out.old) × (aim.file ≡ (S.past store.old).given) × IsDrained cutter.old × (0 < length buffer.old) }
+    ensures ok { (aim : Aim) → Reads cutter.old searcher.old aim [] (W.taken out.old) → aim.file ≡ (S.past store.old).given →
+        OnOk result (Reads cutter.new searcher.new (aimed aim (S.past store.new).given) [] (W.taken out.new)) }
     ensures drained { OnOk result (IsDrained cutter.new) }
-    ensures part { (aim : Aim) → Reads cutter.old searcher.old aim bytes.now (W.taken out.old) →
-        OnErr result (TakesPart (output_of aim.query aim.file) aim.before (W.taken out.new)) }
+    ensures part { (aim : Aim) → Reads cutter.old searcher.old aim [] (W.taken out.old) → aim.file ≡ (S.past store.old).given →
+        OnErr result (TakesPart (output_of aim.query (S.past store.new).given) aim.before (W.taken out.new)) }
     ensures cause { IsErrOf result RunSink → W.failures out.old < W.failures out.new }
-    ensures long { (aim : Aim) → Reads cutter.old searcher.old aim bytes.now (W.taken out.old) → IsErrOf result TooLong → IsTooLong aim.file }
+    ensures long { IsErrOf result TooLong → IsTooLong (S.past store.new).given }
     ensures never_falls { W.failures out.old ≤ W.failures out.new }
+    ensures read { IfOk result (λ end. MatchResult end
+        (λ _. MeetsTheEnd (S.past store.old) (S.past store.new)) (λ _. FailsToRead (S.past store.old) (S.past store.new))) }
+    ensures path { (S.past store.new).path ≡ (S.past store.old).path }
 {
-    let mut rest = bytes;
-    while !rest.is_empty() {
-        let (piece, later) = rest.split_at(PIECE.min(rest.len()));
-        cutter.feed(piece)?;
+    loop {
+        let Ok(count) = store.read(buffer) else {
+            return Ok(Err(ReadFault));
+        };
+        if count == 0 {
+            return Ok(Ok(()));
+        }
+        cutter.feed(&buffer[..count])?;
         search_ready(cutter, searcher, out)?;
-        rest = later;
     }
-    Ok(())
 }
 
 /// Searches what is left at the file's end.
@@ -90,33 +100,52 @@ fn search_last<A: Allocator + Copy, W: Sink>(
     }
 }
 
-/// Searches a file, whose bytes these are, in blocks of at least `block` bytes. Its selected lines
-/// go to `out`, and the answer is the exit status: 0 where a line was selected and 1 where none was.
+/// Reads the open file to its end and searches it, in blocks of at least `block` bytes. Its selected
+/// lines go to `out`, and the answer is the exit status: 0 where a line was selected and 1 where none
+/// was. Where a read failed the answer is its fault, and `out` got the selected lines of the bytes
+/// that were read before. Nothing of the file was read yet.
+///
+/// Not more of the file is held than a block and what was read ahead of it.
 ///
 /// # Errors
 ///
 /// `Sink` where a write failed or took no byte, `TooLong` where a line has more than 2^30 bytes or
 /// the file more than 2^62, and `OutOfMemory` where a request for memory was refused. `out` got a
 /// beginning of the output then.
-pub fn first_run<A: Allocator + Copy, W: Sink>(
+pub fn first_run<A: Allocator + Copy, S: Store, W: Sink>(
     alloc: A,
     query: &Arc<Query<A>, A>,
-    bytes: &[u8],
+    store: &mut S,
     block: u32,
     out: &mut W,
-) -> Result<u8, RunFault>
+) -> Result<Result<u8, ReadFault>, RunFault>
     requires query { (arc_value query.now).pieces ≡ false }
     requires block { (1 ≤ block) × (block ≤ 2 ^ 24) }
-    ensures output { OnOk result (W.taken out.new ≡ W.taken out.old ++ output (arc_value query.now) bare (Read [] bytes.now Ended ∷ [])) }
-    ensures status { IfOk result (λ s. s ≡ status (arc_value query.now) bare (Read [] bytes.now Ended ∷ [])) }
-    ensures part { OnErr result (TakesPart (output (arc_value query.now) bare (Read [] bytes.now Ended ∷ [])) (W.taken out.old) (W.taken out.new)) }
+    requires unread { (S.past store.old).given ≡ [] }
+    ensures output { OnOk result (W.taken out.new ≡ W.taken out.old ++ output_of (arc_value query.now) (S.past store.new).given) }
+    ensures status { IfOk result (λ end. IfOk end (λ s. s ≡ status (arc_value query.now) bare (Read [] (S.past store.new).given Ended ∷ []))) }
+    ensures read { IfOk result (λ end. MatchResult end
+        (λ _. MeetsTheEnd (S.past store.old) (S.past store.new)) (λ _. FailsToRead (S.past store.old) (S.past store.new))) }
+    ensures part { OnErr result (TakesPart (output_of (arc_value query.now) (S.past store.new).given) (W.taken out.old) (W.taken out.new)) }
     ensures cause { IsErrOf result RunSink → W.failures out.old < W.failures out.new }
-    ensures long { IsErrOf result TooLong → IsTooLong bytes.now }
+    ensures long { IsErrOf result TooLong → IsTooLong (S.past store.new).given }
     ensures never_falls { W.failures out.old ≤ W.failures out.new }
+    ensures path { (S.past store.new).path ≡ (S.past store.old).path }
 {
     let mut searcher = Searcher::new(alloc, query)?;
     let mut cutter = Cutter::new(alloc, 0, block, LONGEST_LINE);
-    search_all(&mut cutter, &mut searcher, bytes, out)?;
+    let mut buffer = zeros(alloc, READ_SIZE)?;
+    let end = search_all(&mut cutter, &mut searcher, store, &mut buffer, out)?;
     search_last(cutter, &mut searcher, out)?;
-    Ok(searcher.status())
+    match end {
+        Ok(()) => Ok(Ok(searcher.status())),
+        Err(ReadFault) => Ok(Err(ReadFault)),
+    }
+}
+
+/// A buffer of zeros.
+fn zeros<A: Allocator + Copy>(alloc: A, size: usize) -> Result<Vec<u8, A>, AllocError>
+    ensures { IfOk result (λ buffer. length buffer.items ≡ size) }
+{
+    vec![in alloc; 0u8; size]
 }

@@ -1,8 +1,8 @@
 -- What an arrival is by the slots, and what it changes in them.
-use Rattle.std.proofs.Common.{◌⊎◌, ◌≡◌, ℕ, zero, suc, ◌+◌, ◌<◌, ◌≤◌, Bool, true, false, ◌&&◌, ◌||◌, cond, eqb, Some, None, List, [], ◌∷◌, length, take, get_or, set, map, slice_get, refl, sym, ap, ◌∙◌, subst, arith, inl, inr}
+use Rattle.std.proofs.Common.{◌⊎◌, ◌≡◌, ℕ, zero, suc, ◌+◌, ◌<◌, ◌≤◌, Bool, true, false, ◌&&◌, ◌||◌, cond, eqb, Some, None, List, [], ◌∷◌, ◌++◌, length, get_or, set, map, slice_get, refl, sym, ap, ◌∙◌, subst, arith, inl, inr}
 use Rattle.std.specs.List.{find, AllByRecursion, list_any}
 use Rattle.std.specs.Str.{bytes_eq}
-use Rattle.std.proofs.lemmas.Bool.{eq-eqb, ne_eqb, cases_Bool, eqb-true}
+use Rattle.std.proofs.lemmas.Bool.{false≢true, eq-eqb, ne_eqb, cases_Bool, eqb-true}
 use Rattle.std.proofs.lemmas.Slice.Eq.{bytes_eq-Decides}
 use Rattle.pg_lines.specs.Search.{Search}
 use Rattle.pg_lines.specs.Searched.{Searched}
@@ -10,7 +10,7 @@ use Rattle.pg_lines.specs.Blocks.{BlockData, AreNumbered}
 use Rattle.pg_seq.specs.declared.format.Arrival.TheVariants.{Taken, Double, Stranger}
 use Rattle.pg_seq.specs.declared.slot.Slot.{Slot}
 use Rattle.pg_seq.specs.History.{arrival_at, is_taken, is_block, if_same}
-use Rattle.pg_seq.specs.Slots.{slot_block, has_result, arrival_at_slot, arrival_among, with_result, IsResultOf, ready}
+use Rattle.pg_seq.specs.Slots.{slot_block, has_result, arrival_at_slot, arrival_among, with_result, IsResultOf}
 
 -- the announced blocks are numbered
 pub find_other : (n : ℕ) (bs : List BlockData) (f m : ℕ) → AreNumbered 0 n bs → (f ≡ 0 → ⊥) → find (is_block f m) bs ≡ None
@@ -41,14 +41,6 @@ double_taken e = cc
 pub stranger_taken : Stranger ≡ Taken → ⊥
 stranger_taken e = cc
 
-ready_by : (t : Bool) (n m : ℕ) → n ≤ m → cond t (1 + n) 0 ≤ cond t (1 + m) 0
-ready_by true n m h = omega arith
-ready_by false n m h = omega arith
-
-ready_here : (t : Bool) (n : ℕ) → cond t (1 + n) 0 ≤ 1 + n
-ready_here true n = omega arith
-ready_here false n = omega arith
-
 or_right_true : (b : Bool) → (true || b) ≡ true
 or_right_true b = refl
 
@@ -69,6 +61,14 @@ module _ {A : Type 0} where
   with_past [] k r past = refl
   with_past (x ∷ slots) zero r past = absurd (omega arith)
   with_past (x ∷ slots) (suc k) r past = ap (λ ys. x ∷ ys) (with_past slots k r (omega arith))
+
+  -- the same behind slots that were given up
+  pub with_behind : (gone slots : List (Slot A)) (k n : ℕ) (slot : Slot A) (r : Searched) → n ≡ length gone + k → k < length slots → slot ≡ get_or slots k slot
+      → gone ++ set slots k (record { block = slot.block; result = Some r }) ≡ with_result (gone ++ slots) n r
+  with_behind [] slots k n slot r e below is = with_set slots k slot r below is ∙ ap (λ m. with_result slots m r) (omega (arith, e))
+  with_behind (x ∷ gone) slots k n slot r e below is =
+      let more : n ≡ suc (length gone + k) = omega (arith, e) in
+      ap (λ xs. x ∷ xs) (with_behind gone slots k (length gone + k) slot r refl below is) ∙ ap (λ m. with_result (x ∷ (gone ++ slots)) m r) (sym more)
 
   -- the slot of a number
   slot_at : (slots : List (Slot A)) (k : ℕ) (slot : Slot A) → k < length slots → slot ≡ get_or slots k slot → slice_get slots k ≡ Some slot
@@ -121,23 +121,11 @@ module _ {A : Type 0} where
   same_length (x ∷ slots) zero r = refl
   same_length (x ∷ slots) (suc k) r = ap suc (same_length slots k r)
 
-  pub same_front : (slots : List (Slot A)) (k n : ℕ) (r : Searched) → n ≤ k → take n (with_result slots k r) ≡ take n slots
-  same_front [] k n r h = refl
-  same_front (x ∷ slots) k zero r h = refl
-  same_front (x ∷ slots) zero (suc n) r h = absurd (omega arith)
-  same_front (x ∷ slots) (suc k) (suc n) r h = ap (λ ys. x ∷ ys) (same_front slots k n r (omega arith))
-
-  pub ready_grows : (slots : List (Slot A)) (k : ℕ) (r : Searched) → ready slots ≤ ready (with_result slots k r)
-  ready_grows [] k r = omega arith
-  ready_grows (x ∷ slots) zero r = ready_here (has_result x) (ready slots)
-  ready_grows (x ∷ slots) (suc k) r = ready_by (has_result x) (ready slots) (ready (with_result slots k r)) (ready_grows slots k r)
-
-  pub ready_before : (slots : List (Slot A)) (k : ℕ) (slot : Slot A) → slice_get slots k ≡ Some slot → has_result slot ≡ false → ready slots ≤ k
-  ready_before [] k slot e none = omega arith
-  ready_before (x ∷ slots) zero slot e none =
-      let same : x ≡ slot = some_same e in
-      let h : cond (has_result x) (1 + ready slots) 0 ≡ 0 = ap (λ t. cond t (1 + ready slots) 0) (ap has_result same ∙ none) in omega arith
-  ready_before (x ∷ slots) (suc k) slot e none = let h = ready_before slots k slot e none in let g = ready_here (has_result x) (ready slots) in omega arith
+  -- a slot without a result stands behind those that have theirs
+  pub held_back : (gone slots : List (Slot A)) (k : ℕ) (slot : Slot A) → AllByRecursion (λ x. has_result x ≡ true) gone → slice_get (gone ++ slots) k ≡ Some slot → has_result slot ≡ false → length gone ≤ k
+  held_back [] slots k slot h e none = omega arith
+  held_back (x ∷ gone) slots zero slot h e none = absurd (false≢true (sym none ∙ (sym (ap has_result (some_same e)) ∙ h.0)))
+  held_back (x ∷ gone) slots (suc k) slot h e none = let ih = held_back gone slots k slot h.1 e none in omega arith
 
   pub results_with : (q : Search) (slots : List (Slot A)) (k : ℕ) (slot : Slot A) (r : Searched) → slice_get slots k ≡ Some slot → r.query ≡ q → r.block ≡ slot_block slot → AllByRecursion (IsResultOf q) slots → AllByRecursion (IsResultOf q) (with_result slots k r)
   results_with q [] k slot r e a b h = tt

@@ -4,12 +4,20 @@ use Rattle.std.proofs.lemmas.List.{take-append-drop, take_rest, drop_more}
 use Rattle.std.proofs.lemmas.List.Concat.{flat_map-append}
 use Rattle.std.specs.List.{flat_map}
 use Rattle.std.proofs.Math.Seq.{take-add}
-use Rattle.std.specs.Result.{OnErr}
+use Rattle.std.specs.Result.{OnOk, OnErr}
 use Rattle.pg_seq.specs.Sink.{IsBeginning, TakesPart}
 
 pub on_err : {T E : Type 0} (P : Type 0) (r : Result T E) → P → OnErr r P
 on_err P (Ok x) p = tt
 on_err P (Err e) p = p
+
+pub on_ok : {T E : Type 0} (r : Result T E) (P Q : Type 0) → (P → Q) → OnOk r P → OnOk r Q
+on_ok (Ok x) P Q f h = f h
+on_ok (Err e) P Q f h = tt
+
+pub on_err_too : {T E : Type 0} (r : Result T E) (P Q : Type 0) → (P → Q) → OnErr r P → OnErr r Q
+on_err_too (Ok x) P Q f h = tt
+on_err_too (Err e) P Q f h = f h
 
 -- the first bytes of a text are a part of it
 pub takes_part : (text before after : List ℕ) (n : ℕ) → after ≡ before ++ take n text → TakesPart text before after

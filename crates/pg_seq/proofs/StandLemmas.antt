@@ -1,15 +1,16 @@
 -- What a sequencer stands after.
-use Rattle.std.proofs.Common.{◌≡◌, ℕ, ◌+◌, ◌<◌, ◌≤◌, ◌^◌, Bool, true, false, ◌&&◌, ◌||◌, cond, eqb, is_some, Option, Some, None, IfSome, List, [], ◌∷◌, ◌++◌, length, take, drop, map, slice_get, refl, sym, ap, ◌∙◌, subst, arith, inl, inr, append_assoc, length-append}
+use Rattle.std.proofs.Common.{◌≡◌, ◌≢◌, ℕ, ◌+◌, ◌<◌, ◌≤◌, ◌^◌, Bool, true, false, ◌&&◌, ◌||◌, cond, eqb, is_some, Option, Some, None, IfSome, List, [], ◌∷◌, ◌++◌, length, take, map, slice_get, refl, sym, ap, ◌∙◌, subst, arith, inl, inr, append_assoc, length-append}
 use Rattle.std.specs.List.{find, flat_map, AllByRecursion, list_any, list_all}
 use Rattle.std.proofs.lemmas.Bool.{false≢true, ne_eqb, cases_Bool, eqb-true, eqb-false}
-use Rattle.std.proofs.lemmas.List.{length-map, map_push, take-append-le}
+use Rattle.std.proofs.lemmas.List.{append-nil, length-map, map_push}
 use Rattle.std.proofs.lemmas.List.Folds.{list_any-append}
+use Rattle.std.proofs.lemmas.List.Concat.{flat_map-append}
 use Rattle.pg_lines.specs.Search.{Search, terminator}
 use Rattle.pg_lines.specs.Lines.{lines}
 use Rattle.pg_lines.specs.Hits.{selects}
 use Rattle.pg_lines.specs.Same.{same_search, search_equal}
 use Rattle.pg_lines.specs.Searched.{Searched}
-use Rattle.pg_lines.specs.Blocks.{BlockData, EndsWith, AreNumbered, joined}
+use Rattle.pg_lines.specs.Blocks.{BlockData, AreNumbered, joined}
 use Rattle.pg_lines.proofs.CutLemmas.{numbered_more}
 use Rattle.pg_lines.proofs.LineLemmas.{lines-append}
 use Rattle.pg_seq.specs.declared.format.Arrival.{Arrival}
@@ -22,13 +23,14 @@ use Rattle.pg_seq.specs.History.{Past, plan, planned, arrived, answer, answer_af
 use Rattle.pg_seq.specs.Sink.{IsBeginning}
 use Rattle.pg_seq.specs.Bare.{bare, bare_rows}
 use Rattle.pg_seq.specs.Slots.{slot_block, has_result, arrival_at_slot, arrival_among, with_result, IsResultOf, slot_rows, slot_selects, result_selects, ready}
+use Rattle.pg_seq.specs.Buffer.{Keeps, Pushes, Puts, IsArrival, HandsOut, HandsPart}
 use Rattle.pg_seq.specs.Standing.{Stands}
-use Rattle.pg_seq.proofs.SlotLemmas.{rows_split, ready_le, cond_pos}
-use Rattle.pg_seq.proofs.FrontLemmas.{front_shaped, front_blocks, front_all, front_taken, all_map, all_ready, ready_all, slots_front, while_all}
+use Rattle.pg_seq.proofs.SlotLemmas.{rows_behind, rows_first, rows_none, all_behind, cond_pos}
+use Rattle.pg_seq.proofs.FrontLemmas.{front_shaped, front_blocks, front_all, front_taken, all_map, ready_all, slots_front, while_all}
 use Rattle.pg_seq.proofs.BareLemmas.{output_bare}
 use Rattle.pg_seq.proofs.BeginLemmas.{shape_of}
 use Rattle.pg_seq.proofs.CursorLemmas.{cursor_is, closed_joined}
-use Rattle.pg_seq.proofs.ArriveLemmas.{find_other, find_at, at_slot, taken_means, IsTaken, numbered_at, piece_same, ready_before, taken_one, same_blocks, same_length, same_front, results_with, stranger_taken}
+use Rattle.pg_seq.proofs.ArriveLemmas.{find_other, find_at, at_slot, taken_means, IsTaken, numbered_at, piece_same, held_back, taken_one, same_blocks, same_length, results_with, stranger_taken}
 
 -- an open file's entry ends the plan's files
 bad_ended : (failed : Bool) (es : List Entry) (name bytes : List ℕ) (rest : List Entry) → es ≡ Read name bytes Running ∷ rest → list_any is_bad (with_end failed es) ≡ (list_any is_bad es || failed)
@@ -65,6 +67,21 @@ single_last end (Opens name ∷ p) h one = sym (none_announced end p h.1 (omega 
 single_last end (Announces b ∷ p) h one = ap (λ bs. bs ++ b ∷ []) (single_last end p h.1 one)
 single_last end (Ends failed ∷ p) h one = single_last end p h.1 one
 single_last end (Misses name ∷ p) h one = single_last end p h.1 one
+
+not_empty : (bytes : List ℕ) → bytes ≢ [] → 0 < length bytes
+not_empty [] h = absurd (h refl)
+not_empty (b ∷ bytes) h = omega arith
+
+-- each block has a byte
+blocks_fit : (end : ℕ) (p : List Step) → IsPlan end p → length (announced p) ≤ length (joined (announced p))
+blocks_fit end [] h = omega arith
+blocks_fit end (Opens name ∷ p) h = blocks_fit end p h.1
+blocks_fit end (Announces b ∷ p) h =
+    let before = blocks_fit end p h.1 in
+    let bytes : joined (announced p ++ b ∷ []) ≡ joined (announced p) ++ (b.bytes ++ []) = flat_map-append (λ (x : BlockData). x.bytes) (announced p) (b ∷ []) in
+    omega (arith, ap length bytes, length-append (joined (announced p)) (b.bytes ++ []), length-append b.bytes [], length-append (announced p) (b ∷ []), not_empty b.bytes h.0.0.some)
+blocks_fit end (Ends failed ∷ p) h = blocks_fit end p h.1
+blocks_fit end (Misses name ∷ p) h = blocks_fit end p h.1
 
 fresh_by : (a b : Bool) → a ≡ false → b ≡ false → (a || b) ≡ false
 fresh_by true b e f = absurd (false≢true (sym e))
@@ -124,90 +141,146 @@ pub answer_other : (past : Past) (r : Searched) → same_search past.query r.que
 unfolding answer_after
 answer_other past r e = sym (ap (λ t. cond t (arrival_at (find (is_block r.block.file r.block.number) (announced (plan past))) (taken_of past.query past.events) r.block) Stranger) e)
 
+-- more was written
+abbrev pub wrote : Past → List ℕ → Past
+wrote past text = record past { written = past.written ++ text }
+
 module _ {A : Type 0} where
+  -- the slots of all announced blocks
+  abbrev pub all : {past : Past} (s : Sequencer A) → Stands s past → List (Slot A)
+  all s h = h.gone ++ s.buffer.slots.items
+
+  -- all but the buffer and the failure is the same
+  pub record IsAlike (s new : Sequencer A) : Type 0 where
+    pub query : new.query ≡ s.query
+    pub opened : new.opened ≡ s.opened
+    pub running : new.running ≡ s.running
+    pub bad : new.bad ≡ s.bad
+
   -- what may be handed out are the rows of the slots that are ready
-  pub handed_is : (s : Sequencer A) (past : Past) → Stands s past → handed past ≡ flat_map slot_rows (take (ready s.slots.items) s.slots.items)
+  handed_all : (s : Sequencer A) (past : Past) (h : Stands s past) → handed past ≡ flat_map slot_rows (take (ready (all s h)) (all s h))
   unfolding handed_after front_after
-  handed_is s past h =
+  handed_all s past h =
       let q = past.query in
       let taken = taken_of q past.events in
       let f = front taken (plan past) in
-      let P : List BlockData → Type 0 = λ bs. map (is_taken taken) bs ≡ map has_result s.slots.items in
+      let P : List BlockData → Type 0 = λ bs. map (is_taken taken) bs ≡ map has_result (all s h) in
       ap (λ format. output q format (entries_of f)) h.format
       ∙ (output_bare q f h.whole (front_shaped (terminator q) taken (plan past) (shape_of (terminator q) (plan past) h.lawful))
       ∙ (ap (flat_map (λ (b : BlockData). bare_rows q b.bytes)) (front_blocks taken (plan past) ∙ ap (while_all (is_taken taken)) h.blocks)
-      ∙ slots_front q s.slots.items (is_taken taken) (subst P h.blocks h.taken) h.results))
+      ∙ slots_front q (all s h) (is_taken taken) (subst P h.blocks h.taken) h.results))
 
-  -- the text that a drain writes
-  abbrev pub due : Sequencer A → List ℕ
-  due s = flat_map slot_rows (drop s.handed (take (ready s.slots.items) s.slots.items))
+  -- the rows of the slots that were given up, and of those that are held and ready
+  handed_is : (s : Sequencer A) (past : Past) (h : Stands s past)
+      → handed past ≡ flat_map slot_rows h.gone ++ flat_map slot_rows (take (ready s.buffer.slots.items) s.buffer.slots.items)
+  handed_is s past h = handed_all s past h ∙ rows_behind h.gone s.buffer.slots.items h.given_up.results
 
-  pub due_rows : (s : Sequencer A) (past : Past) → Stands s past → s.failed ≡ false → past.written ++ due s ≡ flat_map slot_rows (take (ready s.slots.items) s.slots.items)
-  due_rows s past h f = ap (λ w. w ++ due s) (h.written f) ∙ rows_split s.slots.items s.handed (ready s.slots.items) s.low
+  -- where the first slot has no result, all was written
+  pub all_handed : (s : Sequencer A) (past : Past) → Stands s past → s.failed ≡ false → ready s.buffer.slots.items ≡ 0 → past.written ≡ handed past
+  all_handed s past h f none =
+      h.written f ∙ (sym (append-nil (flat_map slot_rows h.gone)) ∙ (ap (λ w. flat_map slot_rows h.gone ++ w) (sym (rows_none s.buffer.slots.items none)) ∙ sym (handed_is s past h)))
 
-  pub due_is : (s : Sequencer A) (past : Past) → Stands s past → s.failed ≡ false → past.written ++ due s ≡ handed past
-  due_is s past h f = due_rows s past h f ∙ sym (handed_is s past h)
+  -- a part of the first slot's rows
+  pub part_handed : (s : Sequencer A) (past : Past) (before after : List ℕ) → Stands s past → s.failed ≡ false → (p : HandsPart s.buffer before after) → IsBeginning (past.written ++ p.part.0) (handed past)
+  part_handed s past before after h f p =
+      let b = p.part.1 in
+      let gone = flat_map slot_rows h.gone in
+      let later = flat_map slot_rows (take (ready p.later) p.later) in
+      let first : flat_map slot_rows (take (ready s.buffer.slots.items) s.buffer.slots.items) ≡ slot_rows p.slot ++ later =
+      ap (λ xs. flat_map slot_rows (take (ready xs) xs)) p.slots ∙ rows_first p.slot p.later p.some in (
+        b.0 ++ later,
+        append_assoc past.written p.part.0 (b.0 ++ later)
+            ∙ (ap (λ w. past.written ++ w) (sym (append_assoc p.part.0 b.0 later) ∙ ap (λ w. w ++ later) b.1)
+            ∙ (ap (λ w. w ++ (slot_rows p.slot ++ later)) (h.written f) ∙ (ap (λ w. gone ++ w) (sym first) ∙ sym (handed_is s past h)))),
+      )
 
-  pub part_due : (s : Sequencer A) (past : Past) (part : List ℕ) → Stands s past → s.failed ≡ false → IsBeginning part (due s) → IsBeginning (past.written ++ part) (handed past)
-  part_due s past part h f b = (b.0, append_assoc past.written part b.0 ∙ (ap (λ w. past.written ++ w) b.1 ∙ due_is s past h f))
-
-  -- the same sequencer, whatever its memory
-  pub same_stands : (s new : Sequencer A) (past : Past) → Stands s past → new.query ≡ s.query → new.opened ≡ s.opened → new.running ≡ s.running → new.bad ≡ s.bad → new.slots.items ≡ s.slots.items
-      → new.handed ≡ s.handed → new.failed ≡ s.failed → Stands new past
-  same_stands s new past h query opened running bad slots handed' failed =
+  -- The first slot's rows were written, and it was given up.
+  pub handed_stands : (s new : Sequencer A) (past : Past) (before after : List ℕ) → Stands s past → IsAlike s new → new.failed ≡ s.failed → (o : HandsOut s.buffer new.buffer before after) → Stands new (wrote past (slot_rows o.slot))
+  handed_stands s new past before after h a failed' o =
+      let gone = h.gone ++ o.slot ∷ [] in
+      let same : all s h ≡ gone ++ new.buffer.slots.items = ap (λ xs. h.gone ++ xs) o.slots ∙ sym (append_assoc h.gone (o.slot ∷ []) new.buffer.slots.items) in
       let R : List (Slot A) → Type 0 = λ xs. AllByRecursion (IsResultOf past.query) xs in
       let K : List (Slot A) → Type 0 = λ xs. AllByRecursion (λ (key : ℕ × ℕ). key.1 < length xs) (taken_of past.query past.events) in
       record {
-        query = h.query ∙ ap (λ q. q.value) (sym query);
+        gone = gone;
+        given_up = record {
+          count = length-append h.gone (o.slot ∷ []) ∙ (ap (λ n. n + 1) h.given_up.count ∙ sym o.handed);
+          results = all_push (λ slot. has_result slot ≡ true) h.gone o.slot h.given_up.results o.some;
+        };
+        query = h.query ∙ ap (λ q. q.value) (sym a.query);
         format = h.format;
         whole = h.whole;
         lawful = h.lawful;
         single = h.single;
-        opened = h.opened ∙ sym opened;
-        running = h.running ∙ sym running;
-        bad = h.bad ∙ sym bad;
-        blocks = h.blocks ∙ ap (map slot_block) (sym slots);
+        opened = h.opened ∙ sym a.opened;
+        running = h.running ∙ sym a.running;
+        bad = h.bad ∙ sym a.bad;
+        blocks = h.blocks ∙ ap (map slot_block) same;
         numbered = h.numbered;
-        taken = h.taken ∙ ap (map has_result) (sym slots);
-        results = subst R (sym slots) h.results;
-        known = subst K (sym slots) h.known;
-        failed = h.failed ∙ sym failed;
-        written = λ e. h.written (sym failed ∙ e) ∙ (ap (λ n. flat_map slot_rows (take n s.slots.items)) (sym handed') ∙ ap (λ xs. flat_map slot_rows (take new.handed xs)) (sym slots));
+        taken = h.taken ∙ ap (map has_result) same;
+        results = subst R same h.results;
+        known = subst K same h.known;
+        failed = h.failed ∙ sym failed';
+        written = λ e. ap (λ w. w ++ slot_rows o.slot) (h.written (sym failed' ∙ e))
+            ∙ (ap (λ w. flat_map slot_rows h.gone ++ w) (sym (append-nil (slot_rows o.slot))) ∙ sym (flat_map-append slot_rows h.gone (o.slot ∷ [])));
+        selected = o.selected ∙ (ap (λ b. b || slot_selects o.slot) h.selected ∙ selected_more h.gone o.slot);
       }
+    where
+      or_none : (b : Bool) → (b || false) ≡ b
+      or_none true = refl
+      or_none false = refl
 
-  -- a sequencer that differs in what it handed out
-  pub after_drain : (s new : Sequencer A) (past : Past) (text : List ℕ) → Stands s past → new.query ≡ s.query → new.opened ≡ s.opened → new.running ≡ s.running → new.bad ≡ s.bad → new.slots.items ≡ s.slots.items
-      → (failed : Bool) → new.failed ≡ failed → (new.failed ≡ false → past.written ++ text ≡ flat_map slot_rows (take new.handed s.slots.items))
-      → Stands new (record past { written = past.written ++ text; failed = failed })
-  after_drain s new past text h query opened running bad slots failed f w =
+      selected_more : (gone : List (Slot A)) (x : Slot A) → (list_any slot_selects gone || slot_selects x) ≡ list_any slot_selects (gone ++ x ∷ [])
+      selected_more gone x = ap (λ b. list_any slot_selects gone || b) (sym (or_none (slot_selects x))) ∙ sym (list_any-append slot_selects gone (x ∷ []))
+
+  -- the same buffer, whatever its room; the text that was written counts where no write failed
+  rested : (s new : Sequencer A) (past : Past) (written : List ℕ) (failed : Bool) → Stands s past → IsAlike s new → Keeps s.buffer new.buffer → failed ≡ new.failed → (new.failed ≡ false → written ≡ past.written × (s.failed ≡ false))
+      → Stands new (record past { written = written; failed = failed })
+  rested s new past written failed h a k f w =
+      let same : all s h ≡ h.gone ++ new.buffer.slots.items = ap (λ xs. h.gone ++ xs) (sym k.slots) in
       let R : List (Slot A) → Type 0 = λ xs. AllByRecursion (IsResultOf past.query) xs in
       let K : List (Slot A) → Type 0 = λ xs. AllByRecursion (λ (key : ℕ × ℕ). key.1 < length xs) (taken_of past.query past.events) in
       record {
-        query = h.query ∙ ap (λ q. q.value) (sym query);
+        gone = h.gone;
+        given_up = record { count = h.given_up.count ∙ sym k.handed; results = h.given_up.results };
+        query = h.query ∙ ap (λ q. q.value) (sym a.query);
         format = h.format;
         whole = h.whole;
         lawful = h.lawful;
         single = h.single;
-        opened = h.opened ∙ sym opened;
-        running = h.running ∙ sym running;
-        bad = h.bad ∙ sym bad;
-        blocks = h.blocks ∙ ap (map slot_block) (sym slots);
+        opened = h.opened ∙ sym a.opened;
+        running = h.running ∙ sym a.running;
+        bad = h.bad ∙ sym a.bad;
+        blocks = h.blocks ∙ ap (map slot_block) same;
         numbered = h.numbered;
-        taken = h.taken ∙ ap (map has_result) (sym slots);
-        results = subst R (sym slots) h.results;
-        known = subst K (sym slots) h.known;
-        failed = sym f;
-        written = λ e. w e ∙ ap (λ xs. flat_map slot_rows (take new.handed xs)) (sym slots);
+        taken = h.taken ∙ ap (map has_result) same;
+        results = subst R same h.results;
+        known = subst K same h.known;
+        failed = f;
+        written = λ e. (w e).0 ∙ h.written (w e).1;
+        selected = k.selected ∙ h.selected;
       }
+
+  pub same_stands : (s new : Sequencer A) (past : Past) → Stands s past → IsAlike s new → Keeps s.buffer new.buffer → new.failed ≡ s.failed → Stands new past
+  same_stands s new past h a k f = rested s new past past.written past.failed h a k (h.failed ∙ sym f) (λ e. (refl, sym f ∙ e))
+
+  pub failed_stands : (s new : Sequencer A) (past : Past) (text : List ℕ) (failed : Bool) → Stands s past → IsAlike s new → Keeps s.buffer new.buffer → new.failed ≡ true → failed ≡ true → Stands new (record past { written = past.written ++ text; failed = failed })
+  failed_stands s new past text failed h a k f g = rested s new past (past.written ++ text) failed h a k (g ∙ sym f) (λ e. absurd (false≢true (sym e ∙ f)))
+
+  pub idle_stands : (s new : Sequencer A) (past : Past) (failed : Bool) → Stands s past → IsAlike s new → Keeps s.buffer new.buffer → new.failed ≡ s.failed → failed ≡ new.failed → Stands new (record past { failed = failed })
+  idle_stands s new past failed h a k f g = rested s new past past.written failed h a k g (λ e. (refl, sym f ∙ e))
 
   -- the file has ended
   pub ended_stands : (s new : Sequencer A) (past : Past) (failed : Bool) → is_open (plan past) ≡ true → Stands s past → new.query ≡ s.query → new.opened ≡ s.opened → new.running ≡ false → new.bad ≡ (s.bad || failed)
-      → new.slots.items ≡ s.slots.items → new.handed ≡ s.handed → new.failed ≡ s.failed → Stands new (planned past (Ends failed))
-  ended_stands s new past failed open' h query opened running bad slots handed' failed' =
+      → Keeps s.buffer new.buffer → new.failed ≡ s.failed → Stands new (planned past (Ends failed))
+  ended_stands s new past failed open' h query opened running bad k failed' =
       let f = (cursor_is past.query bare refl (plan past) (shape_of 10 (plan past) h.lawful)).file open' in
+      let same : all s h ≡ h.gone ++ new.buffer.slots.items = ap (λ xs. h.gone ++ xs) (sym k.slots) in
       let R : List (Slot A) → Type 0 = λ xs. AllByRecursion (IsResultOf past.query) xs in
       let K : List (Slot A) → Type 0 = λ xs. AllByRecursion (λ (key : ℕ × ℕ). key.1 < length xs) (taken_of past.query past.events) in
       record {
+        gone = h.gone;
+        given_up = record { count = h.given_up.count ∙ sym k.handed; results = h.given_up.results };
         query = h.query ∙ ap (λ q. q.value) (sym query);
         format = h.format;
         whole = h.whole;
@@ -216,77 +289,76 @@ module _ {A : Type 0} where
         opened = h.opened ∙ sym opened;
         running = sym running;
         bad = bad_ended failed (entries_of (plan past)) _ f.bytes f.rest f.entries ∙ (ap (λ b. b || failed) h.bad ∙ sym bad);
-        blocks = h.blocks ∙ ap (map slot_block) (sym slots);
+        blocks = h.blocks ∙ ap (map slot_block) same;
         numbered = h.numbered;
-        taken = h.taken ∙ ap (map has_result) (sym slots);
-        results = subst R (sym slots) h.results;
-        known = subst K (sym slots) h.known;
+        taken = h.taken ∙ ap (map has_result) same;
+        results = subst R same h.results;
+        known = subst K same h.known;
         failed = h.failed ∙ sym failed';
-        written = λ e. h.written (sym failed' ∙ e) ∙ (ap (λ n. flat_map slot_rows (take n s.slots.items)) (sym handed') ∙ ap (λ xs. flat_map slot_rows (take new.handed xs)) (sym slots));
+        written = λ e. h.written (sym failed' ∙ e);
+        selected = k.selected ∙ h.selected;
       }
 
   -- Announcing.
 
-  next_same : (s : Sequencer A) (past first : Past) (b : BlockData) → Stands s first → IsNext 10 (plan first) b × IsSmall 10 (plan first) b → Stands s past → IsNext 10 (plan past) b × IsSmall 10 (plan past) b
-  next_same s past first b h0 m h =
-      let l : last_blocks (plan first) ≡ last_blocks (plan past) =
-      single_last 10 (plan first) h0.lawful h0.single ∙ (h0.blocks ∙ (sym h.blocks ∙ sym (single_last 10 (plan past) h.lawful h.single))) in
-      let P : List BlockData → Type 0 = λ bs. AllByRecursion (λ (x : BlockData). EndsWith 10 x.bytes) bs in
-      let Q : List BlockData → Type 0 = λ bs. length (joined bs) + length b.bytes ≤ 2 ^ 62 in (
-        record {
-          running = h.running ∙ (sym h0.running ∙ m.0.running);
-          file = m.0.file ∙ (h0.opened ∙ sym h.opened);
-          number = m.0.number ∙ ap length l;
-          some = m.0.some;
-          seam = subst P l m.0.seam;
-        },
-        record { short = m.1.short; small = subst Q l m.1.small },
-      )
+  count_is : (s : Sequencer A) (past : Past) → Stands s past → length (announced (plan past)) ≡ s.buffer.handed + length s.buffer.slots.items
+  count_is s past h =
+      ap length h.blocks ∙ (length-map (all s h) slot_block ∙ (length-append h.gone s.buffer.slots.items ∙ ap (λ n. n + length s.buffer.slots.items) h.given_up.count))
 
-  pub announced_stands : (s new : Sequencer A) (past first : Past) (slot : Slot A) → Stands s first → IsNext 10 (plan first) (slot_block slot) × IsSmall 10 (plan first) (slot_block slot) → Stands s past → slot.result ≡ None
-      → new.query ≡ s.query → new.opened ≡ s.opened → new.running ≡ s.running → new.bad ≡ s.bad → new.slots.items ≡ s.slots.items ++ slot ∷ [] → new.handed ≡ s.handed → new.failed ≡ s.failed → Stands new (planned past (Announces (slot_block slot)))
-  announced_stands s new past first slot h0 m h none query opened' running bad slots handed' failed =
-      let b = slot_block slot in
-      let both = next_same s past first b h0 m h in
-      let n : IsNext 10 (plan past) b = both.0 in
-      let small = both.1 in
-      let old = s.slots.items in
+  -- each block has a byte, so there is room for one more
+  pub has_room : (s : Sequencer A) (past : Past) (b : BlockData) → Stands s past → IsNext 10 (plan past) b × IsSmall 10 (plan past) b → s.buffer.handed + length s.buffer.slots.items < 2 ^ 62
+  has_room s past b h m =
+      let last : last_blocks (plan past) ≡ announced (plan past) = single_last (terminator past.query) (plan past) h.lawful h.single in
+      let total : length (joined (announced (plan past))) + length b.bytes ≤ 2 ^ 62 = (let P : List BlockData → Type 0 = λ bs. length (joined bs) + length b.bytes ≤ 2 ^ 62 in subst P last m.1.small) in
+      let fits : length (announced (plan past)) ≤ length (joined (announced (plan past))) = blocks_fit (terminator past.query) (plan past) h.lawful in
+      let some : 0 < length b.bytes = not_empty b.bytes m.0.some in
+      omega (arith, count_is s past h)
+
+  pub announced_stands : (s new : Sequencer A) (past : Past) (b : BlockData) → Stands s past → IsNext 10 (plan past) b × IsSmall 10 (plan past) b → IsAlike s new → new.failed ≡ s.failed → Pushes b s.buffer new.buffer → Stands new (planned past (Announces b))
+  announced_stands s new past b h may a failed' p =
+      let n = may.0 in
+      let old = all s h in
       let keys = taken_of past.query past.events in
+      let same : old ++ p.slot ∷ [] ≡ h.gone ++ new.buffer.slots.items = append_assoc h.gone s.buffer.slots.items (p.slot ∷ []) ∙ ap (λ xs. h.gone ++ xs) (sym p.slots) in
       let count : length (announced (plan past)) ≡ length old = ap length h.blocks ∙ length-map old slot_block in
       let number : b.number ≡ length (announced (plan past)) = n.number ∙ ap length (single_last (terminator past.query) (plan past) h.lawful h.single) in
       let one = h.single in
       let zero_file : b.file ≡ 0 = omega (arith, n.file) in
       let new_key : is_taken keys b ≡ false = fresh keys (length old) b h.known (omega arith) in
-      let no_result : has_result slot ≡ false = ap (λ o. is_some o) none in
+      let no_result : has_result p.slot ≡ false = ap (λ o. is_some o) p.empty in
       let N : List (Slot A) → Type 0 = λ xs. AllByRecursion (IsResultOf past.query) xs in
       let K : List (Slot A) → Type 0 = λ xs. AllByRecursion (λ (key : ℕ × ℕ). key.1 < length xs) keys in
-      let I : Option Searched → Type 0 = λ o. IfSome o (λ r. (r.query ≡ past.query) × (r.block ≡ b)) in
+      let I : Option Searched → Type 0 = λ o. IfSome o (λ r. (r.query ≡ past.query) × (r.block ≡ slot_block p.slot)) in
       record {
-        query = h.query ∙ ap (λ q. q.value) (sym query);
+        gone = h.gone;
+        given_up = record { count = h.given_up.count ∙ sym p.handed; results = h.given_up.results };
+        query = h.query ∙ ap (λ q. q.value) (sym a.query);
         format = h.format;
         whole = h.whole;
-        lawful = ((n, small), h.lawful);
+        lawful = (may, h.lawful);
         single = h.single;
-        opened = h.opened ∙ sym opened';
-        running = h.running ∙ sym running;
-        bad = bad_more b.bytes (entries_of (plan past)) ∙ (h.bad ∙ sym bad);
-        blocks = ap (λ bs. bs ++ b ∷ []) h.blocks ∙ (sym (map_push slot_block old slot) ∙ ap (map slot_block) (sym slots));
+        opened = h.opened ∙ sym a.opened;
+        running = h.running ∙ sym a.running;
+        bad = bad_more b.bytes (entries_of (plan past)) ∙ (h.bad ∙ sym a.bad);
+        blocks = ap (λ bs. bs ++ b ∷ []) h.blocks ∙ (ap (λ x. map slot_block old ++ x ∷ []) (sym p.is) ∙ (sym (map_push slot_block old p.slot) ∙ ap (map slot_block) same));
         numbered = numbered_more 0 0 (announced (plan past)) b h.numbered zero_file (omega (arith, number));
-        taken = map_push (is_taken keys) (announced (plan past)) b ∙ (ap (λ xs. xs ++ is_taken keys b ∷ []) h.taken ∙ (ap (λ t. map has_result old ++ t ∷ []) (new_key ∙ sym no_result) ∙ (sym (map_push has_result old slot) ∙ ap (map has_result) (sym slots))));
-        results = subst N (sym slots) (all_push (IsResultOf past.query) old slot h.results (subst I (sym none) tt));
-        known = subst K (sym slots) (keys_weaker keys (length old) (length (old ++ slot ∷ [])) (omega (arith, length-append old (slot ∷ []))) h.known);
-        failed = h.failed ∙ sym failed;
-        written = λ f. h.written (sym failed ∙ f) ∙ (ap (flat_map slot_rows) (sym (take-append-le s.handed old (slot ∷ []) (omega (arith, s.low, ready_le old)))) ∙ (ap (λ k. flat_map slot_rows (take k (old ++ slot ∷ []))) (sym handed') ∙ ap (λ xs. flat_map slot_rows (take new.handed xs)) (sym slots)));
+        taken = map_push (is_taken keys) (announced (plan past)) b ∙ (ap (λ xs. xs ++ is_taken keys b ∷ []) h.taken ∙ (ap (λ t. map has_result old ++ t ∷ []) (new_key ∙ sym no_result) ∙ (sym (map_push has_result old p.slot) ∙ ap (map has_result) same)));
+        results = subst N same (all_push (IsResultOf past.query) old p.slot h.results (subst I (sym p.empty) tt));
+        known = subst K same (keys_weaker keys (length old) (length (old ++ p.slot ∷ [])) (omega (arith, length-append old (p.slot ∷ []))) h.known);
+        failed = h.failed ∙ sym failed';
+        written = λ f. h.written (sym failed' ∙ f);
+        selected = p.selected ∙ h.selected;
       }
 
-  -- all blocks were taken where all slots are ready
-  pub complete_is : (s : Sequencer A) (past : Past) → Stands s past → s.running ≡ false → (ready s.slots.items ≡ length s.slots.items → IsComplete past) × (IsComplete past → ready s.slots.items ≡ length s.slots.items)
+  -- all blocks were taken where all slots have their results
+  pub complete_is : (s : Sequencer A) (past : Past) → Stands s past → s.running ≡ false → (list_all has_result s.buffer.slots.items ≡ true → IsComplete past) × (IsComplete past → list_all has_result s.buffer.slots.items ≡ true)
   unfolding front_after
   complete_is s past h stopped =
       let taken = taken_of past.query past.events in
-      let same : all_taken taken (plan past) ≡ list_all (λ b. b) (map has_result s.slots.items) = all_map (is_taken taken) (announced (plan past)) ∙ ap (list_all (λ b. b)) h.taken in (
-        λ e. (h.running ∙ stopped, front_all taken (plan past) (same ∙ all_ready s.slots.items e)),
-        λ c. ready_all s.slots.items (sym same ∙ (ap (all_taken taken) (sym c.1) ∙ front_taken taken (plan past))),
+      let same : all_taken taken (plan past) ≡ list_all has_result s.buffer.slots.items =
+      all_map (is_taken taken) (announced (plan past)) ∙ (ap (list_all (λ b. b)) h.taken ∙ all_behind h.gone s.buffer.slots.items h.given_up.results) in (
+        λ e. (h.running ∙ stopped, front_all taken (plan past) (same ∙ e)),
+        λ c. sym same ∙ (ap (all_taken taken) (sym c.1) ∙ front_taken taken (plan past)),
       )
 
   -- whether a line of the files is selected, block by block
@@ -298,22 +370,24 @@ module _ {A : Type 0} where
       let all : cond (has_result x) (1 + ready slots) 0 ≡ 1 + ready slots = ap (λ t. cond t (1 + ready slots) 0) b in
       ap (λ t. t || list_any (block_selects q) (map slot_block slots)) (slot_selected q (slot_block x) x.result b h.0) ∙ ap (λ t. slot_selects x || t) (selected_slots q slots (omega arith) h.1)
 
-  pub ready_of_complete : (s : Sequencer A) (past : Past) → Stands s past → IsComplete past → ready s.slots.items ≡ length s.slots.items
-  ready_of_complete s past h whole = (complete_is s past h (sym h.running ∙ whole.0)).1 whole
-
-  pub status_is : (s : Sequencer A) (past : Past) → Stands s past → ready s.slots.items ≡ length s.slots.items → status_of past ≡ cond s.bad 2 (cond (list_any slot_selects s.slots.items) 0 1)
-  status_is s past h all =
+  pub status_is : (s : Sequencer A) (past : Past) → Stands s past → IsComplete past → status_of past ≡ cond s.bad 2 (cond (s.buffer.selected || list_any slot_selects s.buffer.slots.items) 0 1)
+  status_is s past h complete =
       let q = past.query in
-      let selected : list_any (has_selected q) (entries_of (plan past)) ≡ list_any slot_selects s.slots.items =
-      selected_entries q (plan past) (shape_of 10 (plan past) h.lawful) ∙ (ap (list_any (block_selects q)) h.blocks ∙ selected_slots q s.slots.items all h.results) in
+      let slots = s.buffer.slots.items in
+      let results : list_all has_result slots ≡ true = (complete_is s past h (sym h.running ∙ complete.0)).1 complete in
+      let whole : ready (all s h) ≡ length (all s h) = ready_all (all s h) (all_behind h.gone slots h.given_up.results ∙ results) in
+      let selected : list_any (has_selected q) (entries_of (plan past)) ≡ (s.buffer.selected || list_any slot_selects slots) =
+      selected_entries q (plan past) (shape_of 10 (plan past) h.lawful) ∙ (ap (list_any (block_selects q)) h.blocks ∙ (selected_slots q (all s h) whole h.results
+      ∙ (list_any-append slot_selects h.gone slots ∙ ap (λ b. b || list_any slot_selects slots) (sym h.selected)))) in
       ap (λ format. status q format (entries_of (plan past))) h.format ∙ (ap (λ t. cond t 2 (cond (list_any (has_selected q) (entries_of (plan past))) 0 1)) h.bad ∙ ap (λ t. cond s.bad 2 (cond t 0 1)) selected)
 
   -- by the slots an arrival is what it is by the history
-  pub answer_is : (s : Sequencer A) (past : Past) (r : Searched) → Stands s past → same_search past.query r.query ≡ true → answer past r ≡ arrival_among s.slots.items r.block
+  answer_all : (s : Sequencer A) (past : Past) (r : Searched) (h : Stands s past) → same_search past.query r.query ≡ true → answer past r ≡ arrival_among (all s h) r.block
   unfolding answer_after
-  answer_is s past r h same =
+  answer_all s past r h same =
       let keys = taken_of past.query past.events in
-      let known : List BlockData → Type 0 = λ bs. map (is_taken keys) bs ≡ map has_result s.slots.items in
+      let slots = all s h in
+      let known : List BlockData → Type 0 = λ bs. map (is_taken keys) bs ≡ map has_result slots in
       let numbered : List BlockData → Type 0 = λ bs. AreNumbered 0 0 bs in
       let b = r.block in
       let first : answer past r ≡ arrival_at (find (is_block b.file b.number) (announced (plan past))) keys b = ap (λ t. cond t (arrival_at (find (is_block b.file b.number) (announced (plan past))) keys b) Stranger) same in
@@ -322,20 +396,25 @@ module _ {A : Type 0} where
             let f : b.file ≡ 0 = eqb-true b.file 0 yes' in
             ap (λ x. arrival_at (find (is_block x b.number) (announced (plan past))) keys b) f
             ∙ (ap (λ o. arrival_at o keys b) (find_at 0 (announced (plan past)) b.number b.number h.numbered (omega arith) ∙ ap (λ bs. slice_get bs b.number) h.blocks)
-            ∙ (at_slot keys b 0 s.slots.items b.number (subst known h.blocks h.taken) (subst numbered h.blocks h.numbered) f (omega arith)
-            ∙ sym (ap (λ t. cond t (arrival_at_slot (slice_get s.slots.items b.number) b) Stranger) yes')))
+            ∙ (at_slot keys b 0 slots b.number (subst known h.blocks h.taken) (subst numbered h.blocks h.numbered) f (omega arith)
+            ∙ sym (ap (λ t. cond t (arrival_at_slot (slice_get slots b.number) b) Stranger) yes')))
         | inr no' ↦
             ap (λ o. arrival_at o keys b) (find_other 0 (announced (plan past)) b.file b.number h.numbered (eqb-false b.file 0 no'))
-            ∙ sym (ap (λ t. cond t (arrival_at_slot (slice_get s.slots.items b.number) b) Stranger) no')
+            ∙ sym (ap (λ t. cond t (arrival_at_slot (slice_get slots b.number) b) Stranger) no')
       ]
+
+  pub answer_is : (s : Sequencer A) (past : Past) (r : Searched) (a : Arrival) → Stands s past → same_search past.query r.query ≡ true → IsArrival s.buffer r.block a → a ≡ answer past r
+  answer_is s past r a h same i = i h.gone h.given_up ∙ sym (answer_all s past r h same)
 
   -- An arrival that is not taken changes nothing.
 
   same_keys : (s : Sequencer A) (past : Past) (r : Searched) → Stands s past → taken_of past.query (arrived past r).events ≡ taken_of past.query past.events → Stands s (arrived past r)
   same_keys s past r h e =
-      let T : List (ℕ × ℕ) → Type 0 = λ keys. map (is_taken keys) (announced (plan past)) ≡ map has_result s.slots.items in
-      let K : List (ℕ × ℕ) → Type 0 = λ keys. AllByRecursion (λ (key : ℕ × ℕ). key.1 < length s.slots.items) keys in
+      let T : List (ℕ × ℕ) → Type 0 = λ keys. map (is_taken keys) (announced (plan past)) ≡ map has_result (all s h) in
+      let K : List (ℕ × ℕ) → Type 0 = λ keys. AllByRecursion (λ (key : ℕ × ℕ). key.1 < length (all s h)) keys in
       record {
+        gone = h.gone;
+        given_up = h.given_up;
         query = h.query;
         format = h.format;
         whole = h.whole;
@@ -351,6 +430,7 @@ module _ {A : Type 0} where
         known = subst K (sym e) h.known;
         failed = h.failed;
         written = h.written;
+        selected = h.selected;
       }
 
   pub kept_stands : (s : Sequencer A) (past : Past) (r : Searched) (a : Arrival) → Stands s past → answer past r ≡ a → (a ≡ Taken → ⊥) → Stands s (arrived past r)
@@ -360,10 +440,10 @@ module _ {A : Type 0} where
   kept_stands s past r Stranger h e ne = same_keys s past r h (ap (λ a. taken_after a r.block (taken_of past.query past.events)) e)
 
   pub taken_stands : (s new : Sequencer A) (past : Past) (r : Searched) → Stands s past → answer past r ≡ Taken
-      → new.query ≡ s.query → new.opened ≡ s.opened → new.running ≡ s.running → new.bad ≡ s.bad → new.slots.items ≡ with_result s.slots.items r.block.number r → new.handed ≡ s.handed → new.failed ≡ s.failed → Stands new (arrived past r)
+      → IsAlike s new → new.failed ≡ s.failed → Puts r s.buffer new.buffer → Stands new (arrived past r)
   unfolding answer_after
-  taken_stands s new past r h is query opened' running bad slots handed' failed =
-      let old = s.slots.items in
+  taken_stands s new past r h is alike failed' p =
+      let old = all s h in
       let b = r.block in
       let k = b.number in
       let keys = taken_of past.query past.events in
@@ -371,33 +451,41 @@ module _ {A : Type 0} where
         | inl e ↦ e
         | inr e ↦ absurd (stranger_taken (sym (ap (λ t. cond t (arrival_at (find (is_block b.file b.number) (announced (plan past))) keys b) Stranger) e) ∙ is))
       ] in
-      let t : IsTaken old b = taken_means old b (sym (answer_is s past r h known_query) ∙ is) in
+      let t : IsTaken old b = taken_means old b (sym (answer_all s past r h known_query) ∙ is) in
       let numbers : AreNumbered 0 0 (map slot_block old) = (let P : List BlockData → Type 0 = λ bs. AreNumbered 0 0 bs in subst P h.blocks h.numbered) in
       let marks : map (is_taken keys) (map slot_block old) ≡ map has_result old = (let P : List BlockData → Type 0 = λ bs. map (is_taken keys) bs ≡ map has_result old in subst P h.blocks h.taken) in
       let n = numbered_at 0 old k t.slot numbers t.at in
       let block : b ≡ slot_block t.slot = piece_same b (slot_block t.slot) (t.file ∙ sym n.0) (omega (arith, n.1)) t.bytes in
       let after : taken_of past.query (arrived past r).events ≡ (b.file, b.number) ∷ keys = ap (λ a. taken_after a b keys) is in
       let zero_file : taken_of past.query (arrived past r).events ≡ (0, k) ∷ keys = after ∙ ap (λ (f : ℕ). (f, k) ∷ keys) t.file in
-      let low = ready_before old k t.slot t.at t.empty in
+      let behind : s.buffer.handed ≤ k = omega (arith, held_back h.gone s.buffer.slots.items k t.slot h.given_up.results t.at t.empty, h.given_up.count) in
+      let slots : h.gone ++ new.buffer.slots.items ≡ with_result old k r = p.slots h.gone h.given_up.count behind in
       let T : List (ℕ × ℕ) → Type 0 = λ ks. map (is_taken ks) (map slot_block old) ≡ map has_result (with_result old k r) in
       let M : List BlockData → Type 0 = λ bs. map (is_taken (taken_of past.query (arrived past r).events)) bs ≡ map has_result (with_result old k r) in
       let K : List (ℕ × ℕ) → Type 0 = λ ks. AllByRecursion (λ (key : ℕ × ℕ). key.1 < length old) ks in
       let L : ℕ → Type 0 = λ m. AllByRecursion (λ (key : ℕ × ℕ). key.1 < m) (taken_of past.query (arrived past r).events) in
       let R : List (Slot A) → Type 0 = λ xs. AllByRecursion (IsResultOf past.query) xs in
       record {
-        query = h.query ∙ ap (λ q. q.value) (sym query);
+        gone = h.gone;
+        given_up = record { count = h.given_up.count ∙ sym p.handed; results = h.given_up.results };
+        query = h.query ∙ ap (λ q. q.value) (sym alike.query);
         format = h.format;
         whole = h.whole;
         lawful = h.lawful;
         single = h.single;
-        opened = h.opened ∙ sym opened';
-        running = h.running ∙ sym running;
-        bad = h.bad ∙ sym bad;
+        opened = h.opened ∙ sym alike.opened;
+        running = h.running ∙ sym alike.running;
+        bad = h.bad ∙ sym alike.bad;
         blocks = h.blocks ∙ (sym (same_blocks old k r) ∙ ap (map slot_block) (sym slots));
         numbered = h.numbered;
         taken = subst M (sym h.blocks) (subst T (sym zero_file) (taken_one keys 0 old k k r marks numbers (omega arith) t.below)) ∙ ap (map has_result) (sym slots);
         results = subst R (sym slots) (results_with past.query old k t.slot r t.at (sym (search_equal.sound past.query r.query known_query)) block h.results);
         known = subst L (sym (same_length old k r) ∙ ap length (sym slots)) (subst K (sym zero_file) (t.below, h.known));
-        failed = h.failed ∙ sym failed;
-        written = λ f. h.written (sym failed ∙ f) ∙ (ap (flat_map slot_rows) (sym (same_front old k s.handed r (omega (arith, s.low)))) ∙ (ap (λ m. flat_map slot_rows (take m (with_result old k r))) (sym handed') ∙ ap (λ xs. flat_map slot_rows (take new.handed xs)) (sym slots)));
+        failed = h.failed ∙ sym failed';
+        written = λ f. h.written (sym failed' ∙ f);
+        selected = p.selected ∙ h.selected;
       }
+
+  -- what a drain has written so far, and one part more
+  pub then_wrote : (s : Sequencer A) (past : Past) (first more : List ℕ) (failed : Bool) → Stands s (record past { written = (past.written ++ first) ++ more; failed = failed }) → Stands s (record past { written = past.written ++ (first ++ more); failed = failed })
+  then_wrote s past first more failed h = let P : List ℕ → Type 0 = λ w. Stands s (record past { written = w; failed = failed }) in subst P (append_assoc past.written first more) h

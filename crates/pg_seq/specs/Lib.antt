@@ -6,4 +6,5 @@ pub mod Trail
 pub mod Cursor
 pub mod Bare
 pub mod Slots
+pub mod Buffer
 pub mod Standing

@@ -38,11 +38,15 @@ slot_selects slot = result_selects slot.result
 abbrev pub ready : {A : Type 0} → List (Slot A) → ℕ
 ready slots = prefix_len has_result slots
 
--- what a block of the query is, by the slots
+-- what a block with a slot's file and number is
+abbrev pub slot_arrival : {A : Type 0} → Slot A → BlockData → Arrival
+slot_arrival slot b = if has_result slot then Double else if_same (bytes_eq b.bytes (slot_block slot).bytes)
+
 abbrev pub arrival_at_slot : {A : Type 0} → Option (Slot A) → BlockData → Arrival
 arrival_at_slot None b = Stranger
-arrival_at_slot (Some slot) b = if has_result slot then Double else if_same (bytes_eq b.bytes (slot_block slot).bytes)
+arrival_at_slot (Some slot) b = slot_arrival slot b
 
+-- what a block of the query is, by the slots
 abbrev pub arrival_among : {A : Type 0} → List (Slot A) → BlockData → Arrival
 arrival_among slots b = if b.file == 0 then arrival_at_slot (slice_get slots b.number) b else Stranger
 

@@ -1,5 +1,5 @@
 -- How a sequencer stands after what happened to it.
-use Rattle.std.specs.Prelude.{◌≡◌, ◌≤◌, ◌<◌, Bool, true, false, Result, Ok, Err, List, [], ◌++◌, map, length, take, ◌||◌, ℕ}
+use Rattle.std.specs.Prelude.{◌≡◌, ◌≤◌, ◌<◌, Bool, true, false, Result, Ok, Err, List, [], ◌++◌, map, length, ◌||◌, ℕ}
 use Rattle.std.specs.List.{AllByRecursion, flat_map, list_any}
 use Rattle.std.specs.Arc.{arc_value}
 use Rattle.pg_lines.specs.Search.{terminator}
@@ -9,13 +9,17 @@ use Rattle.pg_seq.specs.Output.{is_bad}
 use Rattle.pg_seq.specs.History.{Past, plan, taken_of, is_taken, handed}
 use Rattle.pg_seq.specs.Sink.{IsBeginning}
 use Rattle.pg_seq.specs.Bare.{bare}
-use Rattle.pg_seq.specs.Slots.{slot_block, has_result, slot_rows, IsResultOf}
+use Rattle.pg_seq.specs.Slots.{slot_block, has_result, slot_rows, slot_selects, IsResultOf}
+use Rattle.pg_seq.specs.Buffer.{AreGone}
+use Rattle.pg_seq.specs.declared.slot.Slot.{Slot}
 use Rattle.pg_seq.specs.declared.format.SinkFault.{SinkFault}
 use Rattle.pg_seq.specs.declared.format.SinkFault.TheVariants.{WriteFailed, Failed}
 use Rattle.pg_seq.specs.declared.sequencer.Sequencer.{Sequencer}
 
--- The sequencer stands after this.
+-- The sequencer stands after this, where these were the slots of the blocks that were handed out.
 pub record Stands {A : Type 0} (s : Sequencer A) (past : Past) : Type 0 where
+  pub gone : List (Slot A)
+  pub given_up : AreGone s.buffer gone
   pub query : past.query ≡ arc_value s.query
   pub format : past.format ≡ bare
   pub whole : past.query.pieces ≡ false
@@ -24,13 +28,14 @@ pub record Stands {A : Type 0} (s : Sequencer A) (past : Past) : Type 0 where
   pub opened : opened_files (plan past) ≡ s.opened
   pub running : is_open (plan past) ≡ s.running
   pub bad : list_any is_bad (entries_of (plan past)) ≡ s.bad
-  pub blocks : announced (plan past) ≡ map slot_block s.slots.items
+  pub blocks : announced (plan past) ≡ map slot_block (gone ++ s.buffer.slots.items)
   pub numbered : AreNumbered 0 0 (announced (plan past))
-  pub taken : map (is_taken (taken_of past.query past.events)) (announced (plan past)) ≡ map has_result s.slots.items
-  pub results : AllByRecursion (IsResultOf past.query) s.slots.items
-  pub known : AllByRecursion (λ key. key.1 < length s.slots.items) (taken_of past.query past.events)
+  pub taken : map (is_taken (taken_of past.query past.events)) (announced (plan past)) ≡ map has_result (gone ++ s.buffer.slots.items)
+  pub results : AllByRecursion (IsResultOf past.query) (gone ++ s.buffer.slots.items)
+  pub known : AllByRecursion (λ key. key.1 < length (gone ++ s.buffer.slots.items)) (taken_of past.query past.events)
   pub failed : past.failed ≡ s.failed
-  pub written : s.failed ≡ false → past.written ≡ flat_map slot_rows (take s.handed s.slots.items)
+  pub written : s.failed ≡ false → past.written ≡ flat_map slot_rows gone
+  pub selected : s.buffer.selected ≡ list_any slot_selects gone
 
 -- what a drain did that wrote a text
 abbrev pub Drained : Result (Unit {0}) SinkFault → Past → List ℕ → Type 0

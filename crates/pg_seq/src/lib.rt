@@ -5,6 +5,7 @@ mod format;
 mod history;
 mod laws;
 mod mem_sink;
+mod reorder_buffer;
 mod rows;
 mod sequencer;
 mod sink;

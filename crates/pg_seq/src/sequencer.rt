@@ -1,92 +1,13 @@
 //! Holds results until all before them have come, and writes them in order.
-ghost use Rattle.std.specs.Prelude.{◌≡◌, ℕ, ◌+◌, ◌<◌, ◌≤◌, ◌++◌, ◌∷◌, ◌↔◌, List, [], false, Option, Some, None, IsTrue, IfOk, OnOk, OnErr, IsErrOf, MatchOption, drop, take, length};
-ghost use Rattle.std.specs.List.{flat_map, list_any};
+ghost use Rattle.std.specs.Prelude.{◌≡◌, ℕ, ◌<◌, ◌≤◌, ◌++◌, ◌↔◌, List, false, IsTrue, IfOk, OnOk, OnErr, IsErrOf, MatchOption};
 ghost use Rattle.std.specs.Arc.{arc_value};
-ghost use Rattle.pg_seq.specs.Sink.{TakesPart};
-ghost use Rattle.pg_seq.specs.Slots.{ready, slot_rows, slot_selects, arrival_among, with_result};
 
 use crate::format::{Arrival, Format, SinkFault};
-use crate::rows::write_rows;
+use crate::reorder_buffer::ReorderBuffer;
 use crate::sink::{Sink, WriteError};
-use crate::slot::Slot;
 use pg_lines::{Block, BlockResult, Query};
 use std::alloc::{AllocError, Allocator, Global};
 use std::sync::Arc;
-
-/// Writes the results that are ready behind the first `from` slots, and answers how many slots are ready.
-fn write_ready<A: Allocator, W: Sink>(
-    slots: &[Slot<A>],
-    from: usize,
-    out: &mut W,
-) -> Result<usize, WriteError>
-    requires { from ≤ ready slots.now }
-    ensures count { IfOk result (λ n. n ≡ ready slots.now) }
-    ensures all { OnOk result (W.taken out.new ≡ W.taken out.old ++ flat_map slot_rows (drop from (take (ready slots.now) slots.now))) }
-    ensures part { OnErr result (TakesPart (flat_map slot_rows (drop from (take (ready slots.now) slots.now))) (W.taken out.old) (W.taken out.new)) }
-    ensures failure { OnErr result (W.failures out.old < W.failures out.new) }
-    ensures never_falls { W.failures out.old ≤ W.failures out.new }
-{
-    let mut at = from;
-    while at < slots.len() {
-        match &slots[at].result {
-            Some(found) => write_rows(found, out)?,
-            None => return Ok(at),
-        }
-        at += 1;
-    }
-    Ok(at)
-}
-
-/// How many slots from the first on have their results.
-fn count_ready<A: Allocator>(slots: &[Slot<A>]) -> usize
-    ensures { result ≡ ready slots.now }
-{
-    let mut count = 0;
-    for slot in slots {
-        if slot.result.is_none() {
-            return count;
-        }
-        count += 1;
-    }
-    count
-}
-
-/// Whether some slot has a selected line.
-fn has_selected<A: Allocator>(slots: &[Slot<A>]) -> bool
-    ensures { result ≡ list_any slot_selects slots.now }
-{
-    slots.iter().any(|slot| slot.has_selected())
-}
-
-/// What a block of the sequencer's query is.
-fn arrival_in<A: Allocator>(slots: &[Slot<A>], block: &Block<A>) -> Arrival
-    ensures { result ≡ arrival_among slots.now block.now }
-{
-    if block.file != 0 || block.number >= slots.len() as u64 {
-        return Arrival::Stranger;
-    }
-    let slot = &slots[block.number as usize];
-    if slot.result.is_some() {
-        return Arrival::Double;
-    }
-    let known: &Block<A> = &slot.block;
-    if block.bytes.as_slice() == known.bytes.as_slice() {
-        Arrival::Taken
-    } else {
-        Arrival::Stranger
-    }
-}
-
-/// Keeps a result at its block's place.
-fn put_result<A: Allocator>(slots: &mut Vec<Slot<A>, A>, found: BlockResult<A>)
-    ensures { slots.new.items ≡ with_result slots.old.items found.block.number found }
-{
-    let block: &Block<A> = found.block();
-    let number = block.number;
-    if number < slots.len() as u64 {
-        slots[number as usize].result = Some(found);
-    }
-}
 
 /// Puts the results of blocks in order and writes the output of a run.
 ///
@@ -101,10 +22,8 @@ pub struct Sequencer<A: Allocator = Global> {
     opened: u32,
     running: bool,
     bad: bool,
-    slots: Vec<Slot<A>, A>,
-    handed: usize,
+    buffer: ReorderBuffer<A>,
     failed: bool,
-    ghost low: { handed ≤ ready slots.items },
 }
 
 impl<A: Allocator> Sequencer<A> {
@@ -134,8 +53,7 @@ impl<A: Allocator> Sequencer<A> {
             opened: 0,
             running: false,
             bad: false,
-            slots: Vec::new(alloc),
-            handed: 0,
+            buffer: ReorderBuffer::new(alloc),
             failed: false,
         })
     }
@@ -161,14 +79,11 @@ impl<A: Allocator> Sequencer<A> {
     /// at most 2^62. A refused request for memory is the only error, and changes nothing.
     pub fn announce(&mut self, block: Arc<Block<A>, A>) -> Result<(), AllocError>
         requires { (past : Past) × Stands self.old past × MayFollow (terminator past.query) (plan past) (Announces (arc_value block)) }
-        ensures ok { (past : Past) → Stands self.old past → OnOk result (Stands self.new (planned past (Announces (arc_value block)))) }
+        ensures ok { (past : Past) → Stands self.old past → MayFollow (terminator past.query) (plan past) (Announces (arc_value block)) →
+            OnOk result (Stands self.new (planned past (Announces (arc_value block)))) }
         ensures err { (past : Past) → Stands self.old past → OnErr result (Stands self.new past) }
     {
-        self.slots.push(Slot {
-            block,
-            result: None,
-        })?;
-        Ok(())
+        self.buffer.push(block)
     }
 
     /// Ends the open file, whose reading has failed or has come to its end. It takes no memory.
@@ -202,7 +117,7 @@ impl<A: Allocator> Sequencer<A> {
     {
         match self.arrival_of(&found) {
             Arrival::Taken => {
-                put_result(&mut self.slots, found);
+                self.buffer.put(found);
                 Arrival::Taken
             }
             Arrival::Double => Arrival::Double,
@@ -219,7 +134,7 @@ impl<A: Allocator> Sequencer<A> {
         if query != other {
             return Arrival::Stranger;
         }
-        arrival_in(self.slots.as_slice(), found.block())
+        self.buffer.arrival_of(found.block())
     }
 
     /// Writes all that may be handed out and was not yet written. It takes no memory.
@@ -238,14 +153,14 @@ impl<A: Allocator> Sequencer<A> {
         if self.failed {
             return Err(SinkFault::Failed);
         }
-        match write_ready(self.slots.as_slice(), self.handed, out) {
-            Ok(count) => {
-                self.handed = count;
-                Ok(())
-            }
-            Err(WriteError) => {
-                self.failed = true;
-                Err(SinkFault::WriteFailed)
+        loop {
+            match self.buffer.hand_out(out) {
+                Ok(true) => {}
+                Ok(false) => return Ok(()),
+                Err(WriteError) => {
+                    self.failed = true;
+                    return Err(SinkFault::WriteFailed);
+                }
             }
         }
     }
@@ -254,7 +169,7 @@ impl<A: Allocator> Sequencer<A> {
     pub fn complete(&self) -> bool
         ensures { (past : Past) → Stands self.now past → IsTrue result ↔ IsComplete past }
     {
-        !self.running && count_ready(self.slots.as_slice()) == self.slots.len()
+        !self.running && self.buffer.has_all_results()
     }
 
     /// The exit status (XCU grep, EXIT STATUS), once all is complete: 2 after a name that was missed
@@ -267,7 +182,7 @@ impl<A: Allocator> Sequencer<A> {
         }
         Some(if self.bad {
             2
-        } else if has_selected(self.slots.as_slice()) {
+        } else if self.buffer.has_selected() {
             0
         } else {
             1

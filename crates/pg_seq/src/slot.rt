@@ -1,7 +1,8 @@
 //! A place for the result of an announced block.
 ghost use Rattle.std.specs.Prelude.{◌≡◌};
-ghost use Rattle.pg_seq.specs.Slots.{slot_selects};
+ghost use Rattle.pg_seq.specs.Slots.{slot_selects, slot_arrival};
 
+use crate::format::Arrival;
 use pg_lines::{Block, BlockResult};
 use std::alloc::{Allocator, Global};
 use std::sync::Arc;
@@ -21,6 +22,21 @@ impl<A: Allocator> Slot<A> {
         match &self.result {
             Some(found) => !found.runs().is_empty(),
             None => false,
+        }
+    }
+
+    /// What a block with the file and the number of this one is.
+    pub(crate) fn arrival_of(&self, block: &Block<A>) -> Arrival
+        ensures { result ≡ slot_arrival self.now block.now }
+    {
+        if self.result.is_some() {
+            return Arrival::Double;
+        }
+        let known: &Block<A> = &self.block;
+        if block.bytes.as_slice() == known.bytes.as_slice() {
+            Arrival::Taken
+        } else {
+            Arrival::Stranger
         }
     }
 }

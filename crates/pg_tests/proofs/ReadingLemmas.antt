@@ -1,11 +1,12 @@
 -- Lines of blocks, and the plan of a sequencer's test.
-use Rattle.std.proofs.Common.{ℕ, suc, ◌+◌, ◌≤◌, ◌^◌, ◌==◌, true, false, cond, List, [], ◌∷◌, ◌++◌, length, refl, ap, ◌∙◌, arith}
+use Rattle.std.proofs.Common.{ℕ, suc, ◌+◌, ◌<◌, ◌≤◌, ◌^◌, ◌==◌, true, false, cond, List, [], ◌∷◌, ◌++◌, length, refl, ap, sym, ◌∙◌, arith}
 use Rattle.std.specs.List.{AllByRecursion, onto_first}
 use Rattle.std.proofs.lemmas.List.{length-append, length_push}
 use Rattle.std.proofs.lemmas.List.Concat.{flat_map-append}
 use Rattle.pg_lines.specs.Lines.{lines}
 use Rattle.pg_lines.specs.Blocks.{BlockData, joined, EndsWith}
-use Rattle.pg_seq.specs.Plan.{Announces, last_blocks}
+use Rattle.pg_lines.specs.Search.{terminator}
+use Rattle.pg_seq.specs.Plan.{Announces, MayFollow, last_blocks}
 use Rattle.pg_seq.specs.History.{planned, plan}
 use Rattle.pg_seq.specs.Standing.{Stands}
 use Rattle.pg_seq.specs.declared.sequencer.Sequencer.{Sequencer}
@@ -38,6 +39,13 @@ lines_short bytes h = longer (length bytes) (2 ^ 30) (lines 10 bytes) (omega (ar
 -- the block of a line: x, a letter and a newline
 abbrev pub line_block : ℕ → ℕ → BlockData
 line_block number letter = record { file = 0; number = number; bytes = 120 ∷ letter ∷ 10 ∷ [] }
+
+-- it may be announced
+pub may_announce : {A : Type 0} (s : Sequencer A) (n letter : ℕ) (r : IsReading s n) → n < 100 → MayFollow (terminator r.past.query) (plan r.past) (Announces (line_block n letter))
+may_announce s n letter r few = (
+  record { running = r.running; file = omega (arith, r.one); number = sym r.number; some = λ e. absurd (omega (arith, ap length e)); seam = r.seam },
+  record { short = lines_short (120 ∷ letter ∷ 10 ∷ []) (omega arith); small = omega (arith, r.size) },
+)
 
 all_push : (bs : List BlockData) (b : BlockData) → AllByRecursion (λ x. EndsWith 10 x.bytes) bs → EndsWith 10 b.bytes → AllByRecursion (λ x. EndsWith 10 x.bytes) (bs ++ b ∷ [])
 all_push [] b h e = (e, tt)

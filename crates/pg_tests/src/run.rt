@@ -1,12 +1,12 @@
 //! The run of one file, over sinks that fail and memory that is refused.
-ghost use Rattle.std.specs.Prelude.{◌≤◌, length};
+ghost use Rattle.std.specs.Prelude.{◌≡◌, ◌≤◌, [], IfOk, length};
 ghost use Rattle.pg_lines.specs.Lines.{IsLine};
 
 use crate::fixtures::query_of;
-use pg_run::{RunFault, first_run};
+use pg_run::{Ending, MemStore, ReadFault, RunFault, Store, first_run};
 use pg_seq::MemSink;
 use refusing::Refusing;
-use std::alloc::{AllocError, Allocator};
+use std::alloc::{AllocError, Allocator, Global};
 use std::process::Abort;
 use std::test::Fail;
 
@@ -15,10 +15,27 @@ const FILE: &[u8] = b"abc\nxyz\nb";
 /// Its lines that have a `b`.
 const OUTPUT: &[u8] = b"abc\nb\n";
 
-/// A run writes these bytes and has this status, whatever the size of its blocks.
-fn assert_run<A: Allocator + Copy>(
+/// A store of one file, which is open. A read gives at most so many bytes.
+fn open_file(
+    heap: Global,
+    file: &[u8],
+    ending: Ending,
+    read_limit: usize,
+) -> Result<MemStore, AllocError>
+    requires { 1 ≤ read_limit }
+    ensures { IfOk result (λ store. store.past.given ≡ []) }
+{
+    let mut store = MemStore::new(heap);
+    store.add("f", file, ending)?;
+    store.set_read_limit(read_limit);
+    store.open("f")?;
+    Ok(store)
+}
+
+/// A run writes these bytes and has this status, whatever the size of its blocks and of the reads.
+fn assert_run(
     rt: &impl Abort,
-    alloc: A,
+    alloc: Global,
     pattern: &[u8],
     file: &[u8],
     output: &[u8],
@@ -29,10 +46,13 @@ fn assert_run<A: Allocator + Copy>(
 {
     let query = query_of(alloc, pattern)?;
     for block in 1..=64u32 {
-        let mut sink = MemSink::new(alloc, 100)?;
-        let ended = first_run(alloc, &query, file, block, &mut sink);
-        assert_eq!(rt; ended, Ok(status), "in blocks of {block}");
-        assert_eq!(rt; sink.bytes(), output, "in blocks of {block}");
+        for read_limit in [1, 2, 5, 100] {
+            let mut store = open_file(alloc, file, Ending::Ends, read_limit)?;
+            let mut sink = MemSink::new(alloc, 100)?;
+            let ended = first_run(alloc, &query, &mut store, block, &mut sink);
+            assert_eq!(rt; ended, Ok(Ok(status)), "in blocks of {block}");
+            assert_eq!(rt; sink.bytes(), output, "in blocks of {block}");
+        }
     }
     Ok(())
 }
@@ -64,18 +84,42 @@ fn each_write_may_fail(rt: HostRuntime) -> Result<(), Fail> {
     let query = query_of(rt.alloc(), b"b")?;
     for block in 1..=10u32 {
         for limit in 0..OUTPUT.len() {
+            let mut store = open_file(rt.alloc(), FILE, Ending::Ends, 100)?;
             let mut sink = MemSink::new(rt.alloc(), limit)?;
-            let ended = first_run(rt.alloc(), &query, FILE, block, &mut sink);
+            let ended = first_run(rt.alloc(), &query, &mut store, block, &mut sink);
             assert_eq!(rt; ended, Err(RunFault::Sink), "at {limit}");
             assert_eq!(rt; sink.bytes(), &OUTPUT[..limit]);
         }
+        let mut store = open_file(rt.alloc(), FILE, Ending::Ends, 100)?;
         let mut sink = MemSink::new(rt.alloc(), OUTPUT.len())?;
         sink.set_write_limit(1);
         assert_eq!(rt;
-            first_run(rt.alloc(), &query, FILE, block, &mut sink),
-            Ok(0)
+            first_run(rt.alloc(), &query, &mut store, block, &mut sink),
+            Ok(Ok(0))
         );
         assert_eq!(rt; sink.bytes(), OUTPUT);
+    }
+    Ok(())
+}
+
+#[test]
+fn each_read_may_fail(rt: HostRuntime) -> Result<(), Fail> {
+    let query = query_of(rt.alloc(), b"b")?;
+    for block in 1..=10u32 {
+        for (count, output) in [
+            (0, b"".as_slice()),
+            (1, b""),
+            (2, b"ab\n"),
+            (4, b"abc\n"),
+            (8, b"abc\n"),
+            (9, OUTPUT),
+        ] {
+            let mut store = open_file(rt.alloc(), &FILE[..count], Ending::Fails, 2)?;
+            let mut sink = MemSink::new(rt.alloc(), 100)?;
+            let ended = first_run(rt.alloc(), &query, &mut store, block, &mut sink);
+            assert_eq!(rt; ended, Ok(Err(ReadFault)), "after {count}");
+            assert_eq!(rt; sink.bytes(), output, "after {count}");
+        }
     }
     Ok(())
 }
@@ -88,10 +132,11 @@ fn each_request_may_be_refused(rt: HostRuntime) -> Result<(), Fail> {
         let Ok(query) = query_of(&heap, b"b") else {
             continue;
         };
+        let mut store = open_file(rt.alloc(), FILE, Ending::Ends, 3)?;
         let mut sink = MemSink::new(rt.alloc(), 100)?;
-        let ended = first_run(&heap, &query, FILE, 1, &mut sink);
+        let ended = first_run(&heap, &query, &mut store, 1, &mut sink);
         if !heap.has_refused() {
-            assert_eq!(rt; ended, Ok(0));
+            assert_eq!(rt; ended, Ok(Ok(0)));
             assert_eq!(rt; sink.bytes(), OUTPUT);
             assert_eq!(rt;
                 longest,

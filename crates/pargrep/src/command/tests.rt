@@ -1,5 +1,5 @@
 use super::*;
-use crate::mem_store::{Ending, MemStore};
+use pg_run::{Ending, MemStore};
 use pg_seq::MemSink;
 use std::test::Fail;
 
@@ -89,7 +89,7 @@ const ROWS: &[Row] = &[
     },
     Row {
         words: &["-F", "b", "broken"],
-        out: b"",
+        out: b"b\nb\n",
         err: "pargrep: broken: read failed\n",
         status: 2,
     },
@@ -292,7 +292,7 @@ fn standard_input_has_a_name(rt: HostRuntime) -> Result<(), Fail> {
         command(alloc, words.as_slice(), &mut store, &mut out, &mut err),
         2
     );
-    assert!(rt; out.bytes().is_empty());
+    assert_eq!(rt; out.bytes(), b"b\n".as_slice());
     assert_eq!(rt;
         err.bytes(),
         b"pargrep: (standard input): read failed\n".as_slice()

@@ -1,14 +1,19 @@
-use Rattle.std.proofs.Common.{◌≤◌, length}
+use Rattle.std.proofs.Common.{◌≡◌, ◌≤◌, ◌-◌, ◌^◌, ◌<◌, [], length}
 use Rattle.pg_lines.specs.Cutter.{IsDrained}
-use Rattle.pg_run.specs.Run.{Aim, Reads}
+use Rattle.pg_run.specs.Past.{IsCalm}
+use Rattle.pg_run.specs.Run.{Aim, Reads, aimed}
 use Rattle.pg_run.proofs.run.search_all.Given as goal
 
-abbrev pub invariant-loop-rest : goal.invariant-loop-rest
-invariant-loop-rest g l = record {
-  reads : (aim : Aim) → Reads l.fn.cutter l.fn.searcher aim l.bytes (g.W.Sink.taken l.fn.out) → Reads l.cutter l.searcher aim l.rest (g.W.Sink.taken l.out);
+abbrev pub invariant-loop-count : goal.invariant-loop-count
+invariant-loop-count g l = record {
+  reads : (aim : Aim) → Reads l.fn.cutter l.fn.searcher aim [] (g.W.Sink.taken l.fn.out) → aim.file ≡ (g.S.Store.past l.fn.store).given
+      → Reads l.cutter l.searcher (aimed aim (g.S.Store.past l.store).given) [] (g.W.Sink.taken l.out);
   drained : IsDrained l.cutter;
+  room : 0 < length l.buffer;
+  calm : IsCalm (g.S.Store.past l.fn.store) (g.S.Store.past l.store);
+  path : (g.S.Store.past l.store).path ≡ (g.S.Store.past l.fn.store).path;
   never_falls : g.W.Sink.failures l.fn.out ≤ g.W.Sink.failures l.out;
 }
 
-abbrev pub decreases-loop-rest : goal.decreases-loop-rest
-decreases-loop-rest g l = length l.rest
+abbrev pub decreases-loop-count : goal.decreases-loop-count
+decreases-loop-count g l = 2 ^ 62 - length (g.S.Store.past l.store).given

@@ -1,10 +1,11 @@
-use Rattle.std.proofs.Common.{◌≡◌, ◌∙◌, List, ℕ, ap, subst}
+use Rattle.std.proofs.Common.{◌≡◌, ◌∙◌, List, ℕ, ap, sym, subst}
 use Rattle.std.specs.Arc.{arc_value}
 use Rattle.pg_lines.specs.Blocks.{BlockData}
-use Rattle.pg_seq.specs.Plan.{Announces}
-use Rattle.pg_seq.specs.History.{planned}
+use Rattle.pg_lines.specs.Search.{terminator}
+use Rattle.pg_seq.specs.Plan.{Announces, MayFollow}
+use Rattle.pg_seq.specs.History.{planned, plan}
 use Rattle.pg_seq.specs.Standing.{Stands}
-use Rattle.pg_tests.proofs.ReadingLemmas.{line_block, announced}
+use Rattle.pg_tests.proofs.ReadingLemmas.{line_block, may_announce, announced}
 use Rattle.pg_tests.proofs.sequencer.announce_line.Goals as goal
 
 pub returns-in-Ok : goal.returns-in-Ok
@@ -13,7 +14,9 @@ returns-in-Ok g c =
     let of_bytes : List ℕ → BlockData = λ bytes. record { file = 0; number = c.args.number; bytes = bytes } in
     let b : arc_value c.in_ok-block.block ≡ line_block c.args.number c.args.letter = c.in_ok-block.ensures.ok ∙ ap of_bytes c.in_ok-from_slice.ensures.items in
     let M : BlockData → Type 0 = λ x. Stands c.announce.new.self (planned r.past (Announces x)) in
-    announced c.args.sequencer.now c.announce.new.self c.args.number c.args.letter r (subst M b (c.in-Ok.ensures.ok r.past r.stands))
+    let F : BlockData → Type 0 = λ x. MayFollow (terminator r.past.query) (plan r.past) (Announces x) in
+    let may = subst F (sym b) (may_announce c.args.sequencer.now c.args.number c.args.letter r c.requires.few) in
+    announced c.args.sequencer.now c.announce.new.self c.args.number c.args.letter r (subst M b (c.in-Ok.ensures.ok r.past r.stands may))
 
 pub returns-in_ok-announce-in-Err : goal.returns-in_ok-announce-in-Err
 returns-in_ok-announce-in-Err g c =
@@ -22,5 +25,7 @@ returns-in_ok-announce-in-Err g c =
     let b : arc_value c.in_ok-again.again ≡ line_block c.args.number c.args.letter =
     c.in_ok-again.ensures ∙ (c.in_ok-block.ensures.ok ∙ ap of_bytes c.in_ok-from_slice.ensures.items) in
     let M : BlockData → Type 0 = λ x. Stands c.announce-in-Err.new.self (planned r.past (Announces x)) in
+    let F : BlockData → Type 0 = λ x. MayFollow (terminator r.past.query) (plan r.past) (Announces x) in
+    let may = subst F (sym b) (may_announce c.args.sequencer.now c.args.number c.args.letter r c.requires.few) in
     announced c.args.sequencer.now c.announce-in-Err.new.self c.args.number c.args.letter r
-    (subst M b (c.in_ok-announce-in-Err.ensures.ok r.past (c.in-Err.ensures.err r.past r.stands)))
+    (subst M b (c.in_ok-announce-in-Err.ensures.ok r.past (c.in-Err.ensures.err r.past r.stands) may))

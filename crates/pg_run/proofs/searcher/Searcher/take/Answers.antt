@@ -19,8 +19,10 @@ pub returns : goal.returns
 returns g c = λ q blocks text h n.
     let b : arc_value c.in_ok-block.block ≡ c.args.block = c.in_ok-block.ensures.ok in
     let same : arc_value c.in_ok-try_clone.field-0 ≡ c.args.block = c.in_ok-try_clone.ensures ∙ b in
+    let F : BlockData → Type 0 = λ x. MayFollow (terminator h.past.query) (plan h.past) (Announces x) in
     let M : BlockData → Type 0 = λ x. Stands c.announce.new.self (planned h.past (Announces x)) in
-    let middle = subst M b (c.in_ok-announce.ensures.ok h.past h.stands) in
+    let may = subst F (sym b) (may_announce c.args.self.now q blocks text c.args.block h n) in
+    let middle = subst M b (c.in_ok-announce.ensures.ok h.past h.stands may) in
     taken_holds c.args.self.now _ q blocks text c.args.block h n c.announce.new.self middle c.in_ok-found.found
     (c.in_ok-found.ensures ∙ (ap (λ x. record { query = arc_value c.args.self.now.query; block = x }) same ∙ ap (λ x. record { query = x; block = c.args.block }) h.same))
     (c.arrive.ensures.stands (planned h.past (Announces c.args.block)) middle) refl

@@ -1,8 +1,8 @@
-use Rattle.std.proofs.Common.{◌≡◌, ◌∙◌, ap, sym, Bool, true, false, not, List, refl}
+use Rattle.std.proofs.Common.{◌≡◌, ◌∙◌, ap, sym, subst, Bool, true, false, not, refl}
 use Rattle.pg_lines.specs.Search.{Search}
 use Rattle.pg_lines.specs.Same.{same_search}
-use Rattle.pg_seq.specs.Slots.{arrival_among}
-use Rattle.pg_seq.specs.declared.slot.Slot.{Slot}
+use Rattle.pg_lines.specs.Blocks.{BlockData}
+use Rattle.pg_seq.specs.Buffer.{IsArrival}
 use Rattle.pg_seq.proofs.StandLemmas.{answer_is, answer_other}
 use Rattle.pg_seq.proofs.sequencer.Sequencer.arrival_of.Goals as goal
 
@@ -21,9 +21,8 @@ returns g c = λ past h.
     let queries : same_search past.query r.query ≡ same_search c.deref-query.result.now c.deref-other.result.now =
     ap (λ (q : Search). same_search q r.query) (h.query ∙ sym c.deref-query.ensures) ∙ ap (λ (q : Search). same_search c.deref-query.result.now q) (sym (c.deref-other.ensures ∙ c.query.ensures)) in
     let same : same_search past.query r.query ≡ true = queries ∙ not_false _ (sym c.ne.ensures ∙ c.if-ne.false) in
-    c.arrival_in.ensures
-    ∙ (ap (λ (xs : List (Slot g.row.A.Denot)). arrival_among xs c.deref.result.now) c.as_slice.ensures.value
-    ∙ (ap (arrival_among s.slots.items) (c.deref.ensures ∙ c.block.ensures) ∙ sym (answer_is s past r h same)))
+    let I : BlockData → Type 0 = λ b. IsArrival s.buffer b c.arrival_of.result in
+    answer_is s past r c.arrival_of.result h same (subst I (c.deref.ensures ∙ c.block.ensures) c.arrival_of.ensures)
 
 pub returns-then-ne : goal.returns-then-ne
 returns-then-ne g c = λ past h.

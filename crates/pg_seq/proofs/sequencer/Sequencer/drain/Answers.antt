@@ -1,43 +1,94 @@
-use Rattle.std.proofs.Common.{◌≡◌, ◌∙◌, ◌++◌, ◌||◌, Bool, true, false, sym, ap, refl, List, subst, take, drop}
-use Rattle.std.specs.List.{flat_map}
+use Rattle.std.proofs.Common.{◌≡◌, ◌∙◌, ◌++◌, ◌||◌, Bool, true, false, ℕ, List, [], ap, sym, subst, refl, arith, append_assoc, length}
+use Rattle.std.specs.Bool.{MatchBool}
 use Rattle.std.proofs.lemmas.Bool.{false≢true}
-use Rattle.pg_seq.specs.Sink.{TakesPart}
-use Rattle.pg_seq.specs.Slots.{ready, slot_rows}
-use Rattle.pg_seq.specs.declared.slot.Slot.{Slot}
-use Rattle.pg_seq.proofs.StandLemmas.{due, due_is, part_due, after_drain, due_rows}
+use Rattle.std.proofs.lemmas.List.{append-nil}
+use Rattle.pg_seq.specs.History.{handed}
+use Rattle.pg_seq.specs.Sink.{IsBeginning}
+use Rattle.pg_seq.specs.Slots.{slot_rows}
+use Rattle.pg_seq.specs.Standing.{Stands}
+use Rattle.pg_seq.proofs.StandLemmas.{wrote, then_wrote, all_handed, part_handed, handed_stands, idle_stands, failed_stands}
 use Rattle.pg_seq.proofs.sequencer.Sequencer.drain.Goals as goal
-
-or_false : (b : Bool) → (b || false) ≡ b
-or_false true = refl
-or_false false = refl
 
 or_true : (b : Bool) → (b || true) ≡ true
 or_true true = refl
 or_true false = refl
 
-pub returns-in-Ok-clause-drained : goal.returns-in-Ok-clause-drained
-returns-in-Ok-clause-drained g c = λ past h.
-    let s = c.args.self.now in
-    let O : List (Slot g.row.A.Denot) → Type 0 = λ xs. g.W.Sink.taken c.write_ready.new.out ≡ g.W.Sink.taken c.args.out.now ++ flat_map slot_rows (drop s.handed (take (ready xs) xs)) in
-    let C : List (Slot g.row.A.Denot) → Type 0 = λ xs. c.in-Ok.count ≡ ready xs in
-    let all = subst O c.as_slice.ensures.value c.in-Ok.ensures.all in
-    let n = subst C c.as_slice.ensures.value c.in-Ok.ensures.count in
-    let f : s.failed ≡ false = c.if-self.false in (
-      due s,
-      all,
-      (h.failed ∙ f, due_is s past h f),
-      after_drain s _ past (due s) h refl refl refl refl refl _ (sym (ap (λ b. b || false) h.failed ∙ or_false s.failed))
-          (λ e. due_rows s past h f ∙ ap (λ m. flat_map slot_rows (take m s.slots.items)) (sym n)),
+or_false : (b : Bool) → (b || false) ≡ b
+or_false true = refl
+or_false false = refl
+
+is_true : (b : Bool) (P Q : Type 0) → b ≡ true → MatchBool b P Q → P
+is_true true P Q e h = h
+is_true false P Q e h = absurd (false≢true e)
+
+is_false : (b : Bool) (P Q : Type 0) → b ≡ false → MatchBool b P Q → Q
+is_false true P Q e h = absurd (false≢true (sym e))
+is_false false P Q e h = h
+
+pub loop-self-init : goal.loop-self-init
+loop-self-init g c = record {
+  drains = λ past h.
+      let P : List ℕ → Type 0 = λ w. Stands c.args.self.now (record past { written = w }) in
+      ([], sym (append-nil (g.W.Sink.taken c.args.out.now)), subst P (sym (append-nil past.written)) h);
+  alike = record { query = refl; opened = refl; running = refl; bad = refl };
+  unfailed = c.if-self.false;
+  never_falls = omega arith;
+}
+
+pub loop-self-smaller : goal.loop-self-smaller
+loop-self-smaller g c =
+    let o = is_true c.in-Ok-true.field-0 _ _ c.in-Ok-true.field-0-test c.in-Ok-true.ensures.ok in
+    omega (arith, ap length o.slots)
+
+pub loop-self-preserved : goal.loop-self-preserved
+loop-self-preserved g c =
+    let i = c.loop-self.invariant in
+    let s = c.loop-self.self in
+    let o = is_true c.in-Ok-true.field-0 _ _ c.in-Ok-true.field-0-test c.in-Ok-true.ensures.ok in
+    record {
+      drains = λ past h.
+          let d = i.drains past h in
+          let rows = slot_rows o.slot in (
+            d.0 ++ rows,
+            o.got ∙ (ap (λ w. w ++ rows) d.1 ∙ append_assoc (g.W.Sink.taken c.args.out.now) d.0 rows),
+            then_wrote _ past d.0 rows past.failed (handed_stands s _ (wrote past d.0) _ _ d.2 (record { query = refl; opened = refl; running = refl; bad = refl }) refl o),
+          );
+      alike = record { query = i.alike.query; opened = i.alike.opened; running = i.alike.running; bad = i.alike.bad };
+      unfailed = i.unfailed;
+      never_falls = omega (arith, i.never_falls, c.in-Ok-true.ensures.never_falls);
+    }
+
+pub returns-in-Ok-false-clause-drained : goal.returns-in-Ok-false-clause-drained
+returns-in-Ok-false-clause-drained g c = λ past h.
+    let i = c.loop-self.invariant in
+    let s = c.loop-self.self in
+    let d = i.drains past h in
+    let o = is_false c.in-Ok-false.field-0 _ _ c.in-Ok-false.field-0-test c.in-Ok-false.ensures.ok in (
+      d.0,
+      o.2 ∙ d.1,
+      (h.failed ∙ c.if-self.false, all_handed s (wrote past d.0) d.2 i.unfailed o.0),
+      idle_stands s _ (wrote past d.0) (past.failed || false) d.2 (record { query = refl; opened = refl; running = refl; bad = refl }) o.1 refl (or_false past.failed ∙ d.2.failed),
     )
+
+pub returns-in-Ok-false-clause-never_falls : goal.returns-in-Ok-false-clause-never_falls
+returns-in-Ok-false-clause-never_falls g c = omega (arith, c.loop-self.invariant.never_falls, c.in-Ok-false.ensures.never_falls)
 
 pub returns-in-Err-clause-drained : goal.returns-in-Err-clause-drained
 returns-in-Err-clause-drained g c = λ past h.
-    let s = c.args.self.now in
-    let E : List (Slot g.row.A.Denot) → Type 0 = λ xs. TakesPart (flat_map slot_rows (drop s.handed (take (ready xs) xs))) (g.W.Sink.taken c.args.out.now) (g.W.Sink.taken c.write_ready.new.out) in
-    let part = subst E c.as_slice.ensures.value c.in-Err.ensures.part in
-    let f : s.failed ≡ false = c.if-self.false in (
-      part.0,
-      part.2,
-      (h.failed ∙ f, part_due s past part.0 h f part.1),
-      after_drain s _ past part.0 h refl refl refl refl refl _ (sym (or_true past.failed)) (λ e. absurd (false≢true (sym e))),
+    let i = c.loop-self.invariant in
+    let s = c.loop-self.self in
+    let d = i.drains past h in
+    let p = c.in-Err.ensures.part in
+    let more = p.0.part.0 in
+    let b : IsBeginning ((past.written ++ d.0) ++ more) (handed past) = part_handed s (wrote past d.0) _ _ d.2 i.unfailed p.0 in (
+      d.0 ++ more,
+      p.0.part.2 ∙ (ap (λ w. w ++ more) d.1 ∙ append_assoc (g.W.Sink.taken c.args.out.now) d.0 more),
+      (h.failed ∙ c.if-self.false, (b.0, ap (λ w. w ++ b.0) (sym (append_assoc past.written d.0 more)) ∙ b.1)),
+      then_wrote _ past d.0 more (past.failed || true) (failed_stands s _ (wrote past d.0) more (past.failed || true) d.2 (record { query = refl; opened = refl; running = refl; bad = refl }) p.1 refl (or_true past.failed)),
     )
+
+pub returns-in-Err-clause-cause : goal.returns-in-Err-clause-cause
+returns-in-Err-clause-cause g c = λ e. omega (arith, c.loop-self.invariant.never_falls, c.in-Err.ensures.failure)
+
+pub returns-in-Err-clause-never_falls : goal.returns-in-Err-clause-never_falls
+returns-in-Err-clause-never_falls g c = omega (arith, c.loop-self.invariant.never_falls, c.in-Err.ensures.never_falls)

@@ -1,0 +1,35 @@
+-- What contracts see of a board and of its seats.
+use Rattle.std.specs.Prelude.{ℕ, Bool, List}
+use base.Stored.{Coded, coded×, coded_ℕ, coded_list, coded_via}
+use Rattle.std.specs.Coded.{coded_bool}
+use Rattle.atomic_table.specs.Seated.{TableId, table_id_coded}
+use Rattle.pg_board.specs.declared.draws.BoardSize.{BoardSize}
+
+-- a board: which one it is, the number above all that it has, and how many seats it has
+pub record BoardView : Type 0 where
+  pub table : TableId
+  pub limit : ℕ
+  pub seats : ℕ
+
+-- a seat: its board, the numbers that it drew, in order, and whether it was told that none is left
+pub record SeatView : Type 0 where
+  pub board : BoardView
+  pub drawn : List ℕ
+  pub spent : Bool
+
+abbrev pub board_view : TableId → BoardSize → BoardView
+board_view table size = record { table = table; limit = size.limit; seats = size.seats }
+
+abbrev pub size_of : BoardView → BoardSize
+size_of b = record { limit = b.limit; seats = b.seats }
+
+abbrev pub seat_view : BoardView → List ℕ → Bool → SeatView
+seat_view board drawn spent = record { board = board; drawn = drawn; spent = spent }
+
+abbrev pub board_view_coded : Coded BoardView
+board_view_coded = coded_via (coded× table_id_coded (coded× coded_ℕ coded_ℕ)) (λ (b : BoardView). (b.table, (b.limit, b.seats)))
+    (λ x y e i. record { table = (e i).0; limit = (e i).1.0; seats = (e i).1.1 })
+
+abbrev pub seat_view_coded : Coded SeatView
+seat_view_coded = coded_via (coded× board_view_coded (coded× (coded_list coded_ℕ) coded_bool)) (λ (s : SeatView). (s.board, (s.drawn, s.spent)))
+    (λ x y e i. record { board = (e i).0; drawn = (e i).1.0; spent = (e i).1.1 })

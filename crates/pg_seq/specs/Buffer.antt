@@ -1,0 +1,58 @@
+-- What the calls of a reorder buffer do to it.
+use Rattle.std.specs.Prelude.{◌≡◌, ℕ, ◌+◌, ◌≤◌, true, ◌||◌, None, List, [], ◌∷◌, ◌++◌, length}
+use Rattle.std.specs.List.{AllByRecursion}
+use Rattle.pg_lines.specs.Blocks.{BlockData}
+use Rattle.pg_lines.specs.Searched.{Searched}
+use Rattle.pg_seq.specs.Sink.{TakesPart}
+use Rattle.pg_seq.specs.Slots.{slot_block, has_result, slot_rows, slot_selects, arrival_among, with_result}
+use Rattle.pg_seq.specs.declared.format.Arrival.{Arrival}
+use Rattle.pg_seq.specs.declared.slot.Slot.{Slot}
+use Rattle.pg_seq.specs.declared.reorder_buffer.ReorderBuffer.{ReorderBuffer}
+
+-- slots that can be those of the blocks that were handed out: as many, and each with its result
+pub record AreGone {A : Type 0} (buffer : ReorderBuffer A) (gone : List (Slot A)) : Type 0 where
+  pub count : length gone ≡ buffer.handed
+  pub results : AllByRecursion (λ slot. has_result slot ≡ true) gone
+
+-- nothing but the room has changed
+pub record Keeps {A : Type 0} (old new : ReorderBuffer A) : Type 0 where
+  pub slots : new.slots.items ≡ old.slots.items
+  pub handed : new.handed ≡ old.handed
+  pub selected : new.selected ≡ old.selected
+
+-- a block without a result comes last
+pub record Pushes {A : Type 0} (block : BlockData) (old new : ReorderBuffer A) : Type 0 where
+  pub slot : Slot A
+  pub is : slot_block slot ≡ block
+  pub empty : slot.result ≡ None
+  pub slots : new.slots.items ≡ old.slots.items ++ slot ∷ []
+  pub handed : new.handed ≡ old.handed
+  pub selected : new.selected ≡ old.selected
+
+-- a block of the query is this, by the slots that are held and those that were given up
+abbrev pub IsArrival : {A : Type 0} → ReorderBuffer A → BlockData → Arrival → Type 0
+IsArrival {A} buffer block arrival = (gone : List (Slot A)) → AreGone buffer gone → arrival ≡ arrival_among (gone ++ buffer.slots.items) block
+
+-- a result stands at its block's place
+pub record Puts {A : Type 0} (found : Searched) (old new : ReorderBuffer A) : Type 0 where
+  pub slots : (gone : List (Slot A)) → length gone ≡ old.handed → old.handed ≤ found.block.number →
+      gone ++ new.slots.items ≡ with_result (gone ++ old.slots.items) found.block.number found
+  pub handed : new.handed ≡ old.handed
+  pub selected : new.selected ≡ old.selected
+
+-- the rows of the first block were written, and its slot was given up
+pub record HandsOut {A : Type 0} (old new : ReorderBuffer A) (before after : List ℕ) : Type 0 where
+  pub slot : Slot A
+  pub slots : old.slots.items ≡ slot ∷ new.slots.items
+  pub some : has_result slot ≡ true
+  pub handed : new.handed ≡ old.handed + 1
+  pub selected : new.selected ≡ (old.selected || slot_selects slot)
+  pub got : after ≡ before ++ slot_rows slot
+
+-- a part of the rows of the first block was written
+pub record HandsPart {A : Type 0} (old : ReorderBuffer A) (before after : List ℕ) : Type 0 where
+  pub slot : Slot A
+  pub later : List (Slot A)
+  pub slots : old.slots.items ≡ slot ∷ later
+  pub some : has_result slot ≡ true
+  pub part : TakesPart (slot_rows slot) before after

@@ -1,0 +1,6 @@
+pub mod Answers
+pub mod Items
+pub mod Places
+pub mod Walks
+pub mod Descent
+pub mod MemTree

@@ -1,0 +1,24 @@
+//! Laws of the definitions that contracts cite. A call does nothing.
+ghost use Rattle.std.specs.Prelude.{◌≡◌, Bool, List};
+ghost use Rattle.pg_walk.specs.Answers.{Text, Answers};
+ghost use Rattle.pg_walk.specs.Items.{Found};
+ghost use Rattle.pg_walk.specs.Walks.{FilesOf};
+ghost use Rattle.pg_walk.specs.MemTree.{nodes, answers_of};
+
+use crate::mem_tree::MemTree;
+use crate::tree::FileTree;
+use std::alloc::Allocator;
+
+/// A walk over operands gives some list of items, and no other, whatever the tree answers.
+pub fn files_are_one()
+    ensures exist { (a : Answers) (operands : List Text) (recursive : Bool) →
+        (items : List Found) × FilesOf a operands recursive items }
+    ensures one { (a : Answers) (operands : List Text) (recursive : Bool) (items others : List Found) →
+        FilesOf a operands recursive items → FilesOf a operands recursive others → others ≡ items }
+{}
+
+/// A tree in memory tells its answers, and they are those of its nodes.
+pub fn mem_tree_tells<A: Allocator + Copy>(tree: &MemTree<A>)
+    ensures tells { ⟦<MemTree<A> as FileTree>⟧.tells tree.now }
+    ensures answers { ⟦<MemTree<A> as FileTree>⟧.answers tree.now ≡ answers_of (nodes tree.now) }
+{}

@@ -1,0 +1,19 @@
+//! Trees of files, and the files and faults that a walk over operands gives, in one order.
+#![tactic(auto)]
+
+mod disk_tree;
+mod item;
+mod laws;
+mod mem_tree;
+mod tree;
+mod walker;
+
+pub use disk_tree::DiskTree;
+pub use item::{Cause, Item};
+pub use laws::{files_are_one, mem_tree_tells};
+pub use mem_tree::{MemTree, Node};
+pub use tree::{FileKind, FileTree, Listing, LookFault};
+pub use walker::walk;
+
+#[cfg(test)]
+mod tests;
