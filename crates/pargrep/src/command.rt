@@ -1,15 +1,16 @@
 //! The command, over any files and streams.
-ghost use Rattle.std.specs.Prelude.{◌≡◌, ℕ, ◌<◌, ◌≤◌, ◌∷◌, ◌++◌, List, [], IfOk, OnOk, OnErr};
+ghost use Rattle.std.specs.Prelude.{◌≡◌, ℕ, ◌<◌, ◌≤◌, ◌⊎◌, ◌∷◌, ◌++◌, List, [], IfOk, OnOk, OnErr};
 ghost use Rattle.pg_seq.specs.Bare.{bare};
 ghost use Rattle.pg_seq.specs.Output.{Read, Ended, output, status};
 ghost use Rattle.pg_seq.specs.Sink.{TakesPart};
 ghost use Rattle.pargrep.specs.Pattern.{fixed_string};
+ghost use Rattle.pargrep.specs.Told.{IsTold};
 
-use crate::fault::{FAULT_STATUS, Fault, report};
+use crate::fault::{Fault, report, report_text};
 use crate::pattern::compile_text;
 use crate::words::{Request, WordsFault, read_words};
 use pg_run::{ReadFault, Store, first_run};
-use pg_seq::{Sink, write_all};
+use pg_seq::Sink;
 use std::alloc::Global;
 use std::sync::Arc;
 
@@ -30,17 +31,16 @@ pub fn command<S: Store, W: Sink, E: Sink>(
     ensures searched { result < 2 → (text : List ℕ)
         × (W.taken out.new ≡ W.taken out.old ++ output (fixed_string text) bare (Read [] (S.past store.new).given Ended ∷ []))
         × (result ≡ status (fixed_string text) bare (Read [] (S.past store.new).given Ended ∷ []))
-        × ((S.past store.old).ends < (S.past store.new).ends) }
+        × ((S.past store.old).ends < (S.past store.new).ends)
+        × (E.taken err.new ≡ E.taken err.old) }
+    ensures told { result ≡ 2 → IsTold (E.taken err.old) (E.taken err.new) ⊎ (E.failures err.old < E.failures err.new) }
 {
     match read_words(alloc, words) {
         Ok(request) => match search(alloc, &request, store, out) {
             Ok(status) => status,
             Err(fault) => report(alloc, fault, err),
         },
-        Err(WordsFault::Refused(text)) => {
-            let _ = write_all(err, text.as_bytes());
-            FAULT_STATUS
-        }
+        Err(WordsFault::Refused(text)) => report_text(alloc, text.as_str(), err),
         Err(WordsFault::OutOfMemory) => report(alloc, Fault::OutOfMemory, err),
     }
 }

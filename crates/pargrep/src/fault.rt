@@ -1,5 +1,7 @@
 //! The faults of the program.
-ghost use Rattle.std.specs.Prelude.{◌≡◌};
+ghost use Rattle.std.specs.Prelude.{◌≡◌, ◌<◌, ◌⊎◌, IfOk};
+ghost use Rattle.std.specs.String.{string_bytes};
+ghost use Rattle.pargrep.specs.Told.{IsNamed, IsTold};
 
 use crate::pattern::PatternFault;
 use pg_run::RunFault;
@@ -52,14 +54,47 @@ impl<'a> From<RunFault> for Fault<'a> {
     }
 }
 
-/// Writes the line of a fault, in one write where there is memory for it. The answer is the status
-/// that the program ends with. If standard error fails, no more can be said.
+/// What is told where there is no memory for more.
+const NO_MEMORY: &[u8] = b"pargrep: out of memory\n";
+
+/// Writes the line of a fault. The answer is the status that the program ends with.
 pub fn report<W: Sink>(alloc: Global, fault: Fault<'_>, err: &mut W) -> u8
-    ensures { result ≡ 2 }
+    ensures status { result ≡ 2 }
+    ensures told { IsTold (W.taken err.old) (W.taken err.new) ⊎ (W.failures err.old < W.failures err.new) }
 {
-    let _ = match format!(in alloc; "pargrep: {fault}\n") {
-        Ok(line) => write_all(err, line.as_bytes()),
-        Err(_) => write_all(err, b"pargrep: out of memory\n"),
-    };
+    match format!(in alloc; "{fault}\n") {
+        Ok(text) => report_text(alloc, text.as_str(), err),
+        Err(AllocError) => tell(NO_MEMORY, err),
+    }
+}
+
+/// Writes a text, which ends with a newline, behind the program's name, in one write where there is
+/// memory for it. The answer is the status that the program ends with.
+pub fn report_text<W: Sink>(alloc: Global, text: &str, err: &mut W) -> u8
+    ensures status { result ≡ 2 }
+    ensures told { IsTold (W.taken err.old) (W.taken err.new) ⊎ (W.failures err.old < W.failures err.new) }
+{
+    match named(alloc, text) {
+        Ok(line) => tell(line.as_bytes(), err),
+        Err(AllocError) => tell(NO_MEMORY, err),
+    }
+}
+
+/// A text behind the program's name.
+fn named(alloc: Global, text: &str) -> Result<String, AllocError>
+    ensures { IfOk result (λ line. IsNamed (string_bytes line)) }
+{
+    let mut line = String::from_str(alloc, "pargrep: ")?;
+    line.push_str(text)?;
+    Ok(line)
+}
+
+/// Writes a text that begins with the program's name. If standard error fails, no more can be said.
+fn tell<W: Sink>(text: &[u8], err: &mut W) -> u8
+    requires { IsNamed text.now }
+    ensures status { result ≡ 2 }
+    ensures told { IsTold (W.taken err.old) (W.taken err.new) ⊎ (W.failures err.old < W.failures err.new) }
+{
+    let _ = write_all(err, text);
     FAULT_STATUS
 }

@@ -172,7 +172,7 @@ fn refused_words(rt: HostRuntime) -> Result<(), Fail> {
         let status = status_of(alloc, words, &mut out, &mut err)?;
         assert_eq!(rt; status, 2, "{words:?}");
         assert!(rt; out.bytes().is_empty(), "{words:?}");
-        assert!(rt; err.bytes().starts_with(b"error: "), "{words:?}");
+        assert!(rt; err.bytes().starts_with(b"pargrep: error: "), "{words:?}");
         assert!(rt; err.bytes().ends_with(b"\n"), "{words:?}");
     }
     Ok(())
