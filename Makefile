@@ -8,7 +8,7 @@ INSTALL ?= install
 
 program = crates/pargrep/out/pargrep
 
-.PHONY: all check bench install uninstall clean toolchain
+.PHONY: all check bench bench-parts install uninstall clean toolchain
 
 # Proves the program and the crates that it uses, and builds it. The program is tried on one line.
 all: toolchain
@@ -22,8 +22,14 @@ all: toolchain
 check: toolchain
 	$(RT) ci
 
+# Times the program beside GNU grep.
 bench: all
 	bench/search.sh $(program)
+
+# Times crates that the program doesn't use yet. Each is proved and built in a folder of its own.
+bench-parts: toolchain
+	bench/walk.sh $(RT)
+	bench/match.sh $(RT)
 
 install: all
 	$(INSTALL) -d "$(DESTDIR)$(bindir)" "$(DESTDIR)$(mandir)/man1"

@@ -1,4 +1,4 @@
-//! Holds results until all before them have come, and writes them in order.
+//! What a run writes, from results that arrive in any order.
 ghost use Rattle.std.specs.Prelude.{◌≡◌, ℕ, ◌<◌, ◌≤◌, ◌++◌, ◌↔◌, List, false, IsTrue, IfOk, OnOk, OnErr, IsErrOf, MatchOption};
 ghost use Rattle.std.specs.Arc.{arc_value};
 
@@ -13,7 +13,8 @@ use std::sync::Arc;
 ///
 /// The plan says which files are read and which blocks they have. Results arrive in any order.
 /// What is handed out at any time is the output of the longest beginning of the plan all of whose
-/// results have come.
+/// results have come. Blocks and results are given up once their rows were written, so what is held
+/// doesn't grow with the file.
 ///
 /// So far the rows are plain, and one file can be opened: contracts say where.
 #[derive(Drop)]

@@ -1,0 +1,9 @@
+pub mod PathLemmas
+pub mod TableLemmas
+pub mod StateSetLemmas
+pub mod ClosureLemmas
+pub mod SearchLemmas
+pub mod BuildLemmas
+pub mod HitLaws
+pub mod PatternLemmas
+pub mod SizeLemmas

@@ -1,0 +1,473 @@
+-- From one position to the next.
+use Rattle.std.proofs.Common.{◌≡◌, ◌≢◌, ℕ, zero, suc, ◌+◌, ◌-◌, ◌<◌, ◌≤◌, ◌⊎◌, ◌↔◌, inl, inr, List, length, Option, Some, None, Bool, true, false, true≢false, cond, not, ◌||◌, eqb, eq-eqb, ne_eqb, ◌^◌, refl, sym, ap, ◌∙◌, subst, arith}
+use Rattle.std.specs.Prelude.{slice_get, slice_index, IsTrue, MatchOption, is_none, is_some, nat_lt, nat_le}
+use Rattle.std.proofs.lemmas.Bool.{cases_eq, cases_lt, leb-true, leb-false, ltb-true, ltb-false, eqb-true}
+use Rattle.pg_match.specs.Automata.{Edge, Runs, Nfa, IsRunnable}
+use Rattle.pg_match.specs.StateSets.{Members, mark, IsGood, IsEmpty, Buffers, HaveRoom}
+use Rattle.pg_match.specs.Closures.{IsClosed, AllBelow, Stepped}
+use Rattle.pg_match.specs.Bounds.{MayBegin, MayEnd, may_end, is_word_byte}
+use Rattle.pg_match.specs.declared.bounds.Bounds.{Bounds}
+use Rattle.pg_match.specs.declared.bounds.Bounds.TheVariants.{Any, Word, Whole}
+use Rattle.pg_match.specs.Hits.{Hit, HasHit, HasNoNext, IsNext}
+use Rattle.pg_syntax.specs.Patterns.{Pattern}
+use Rattle.pg_match.specs.Machines.{Agrees}
+use Rattle.pg_match.specs.Searches.{Early, RunsFrom, IsBest, Alive, Seeded, winner, judged, limit_of, ending}
+use Rattle.pg_match.specs.declared.state.State.{State}
+use Rattle.pg_match.specs.declared.state.State.TheVariants.{Fail, Accept, Jump, Read, AtBegin, AtEnd, Split}
+
+-- an edge stays or reads one byte
+edge_moves : (o : Option State) (l : List ℕ) (i r k : ℕ) → Edge o l i r k → (k ≡ i) ⊎ (k ≡ i + 1)
+edge_moves None l i r k e = absurd e
+edge_moves (Some Fail) l i r k e = absurd e
+edge_moves (Some Accept) l i r k e = absurd e
+edge_moves (Some (Jump x)) l i r k e = inl e.1
+edge_moves (Some (Read s x)) l i r k e = inr e.4
+edge_moves (Some (AtBegin x)) l i r k e = inl e.2
+edge_moves (Some (AtEnd x)) l i r k e = inl e.2
+edge_moves (Some (Split x y)) l i r k e = inl e.1
+
+module _ (t : List State) (l : List ℕ) where
+  runs_forward : (n q i j : ℕ) → Runs t l n q i j → i ≤ j
+  runs_forward zero q i j run = omega (arith, run.1)
+  runs_forward (suc n) q i j run =
+      let f = runs_forward n run.0 run.1 j run.3 in
+      elim (edge_moves (slice_get t q) l i run.0 run.1 run.2) [ inl stays ↦ omega arith | inr moves ↦ omega arith ]
+
+  -- a run that goes past p goes through the set of the next position
+  crosses : (p limit : ℕ) (now next : Members) → IsClosed t l p now → Stepped t l p now next limit → (m q j : ℕ) → 0 < mark now q
+      → mark now q ≤ limit → Runs t l m q p j → p + 1 ≤ j
+      → (r : ℕ) × (n : ℕ) × (0 < mark next r) × (mark next r ≤ mark now q) × Runs t l n r (p + 1) j
+  crosses p limit now next closed step zero q j h early run past = absurd (omega (arith, run.1))
+  crosses p limit now next closed step (suc m) q j h early run past =
+      elim (edge_moves (slice_get t q) l p run.0 run.1 run.2) [
+        | inl stays ↦
+            let c = closed q h run.0 (subst (λ v. Edge (slice_get t q) l p run.0 v) stays run.2) in
+            let again = crosses p limit now next closed step m run.0 j c.0 (omega (arith, c.1)) (subst (λ v. Runs t l m run.0 v j) stays run.3) past in
+            (again.0, again.1, again.2, omega (arith, again.3, c.1), again.4)
+        | inr moves ↦
+            let g = step.goes q run.0 h early (subst (λ v. Edge (slice_get t q) l p run.0 v) moves run.2) in
+            (run.0, m, g.0, g.1, subst (λ v. Runs t l m run.0 v j) moves run.3)
+      ]
+
+  -- a run that ends at p ends in the set of p
+  ends_here : (p : ℕ) (now : Members) → IsClosed t l p now → ((q : ℕ) → slice_get t q ≡ Some Accept → q ≡ 0)
+      → (m q : ℕ) → 0 < mark now q → Runs t l m q p p → (0 < mark now 0) × (mark now 0 ≤ mark now q)
+  ends_here p now closed only zero q h run =
+      let e = only q run.0 in
+      subst (λ v. (0 < mark now v) × (mark now v ≤ mark now q)) e (h, omega arith)
+  ends_here p now closed only (suc m) q h run =
+      elim (edge_moves (slice_get t q) l p run.0 run.1 run.2) [
+        | inl stays ↦
+            let c = closed q h run.0 (subst (λ v. Edge (slice_get t q) l p run.0 v) stays run.2) in
+            let again = ends_here p now closed only m run.0 c.0 (subst (λ v. Runs t l m run.0 v p) stays run.3) in
+            (again.0, omega (arith, again.1, c.1))
+        | inr moves ↦ let f = runs_forward m run.0 run.1 p run.3 in absurd (omega arith)
+      ]
+
+  module _ (x : ℕ) (B E : ℕ → Type 0) (from : ℕ) where
+    pub alive_first : (now : Members) (best : Option (ℕ × ℕ)) → IsGood now → IsEmpty now → length now.marks ≡ length t
+        → Alive t l x B from from from now best
+    alive_first now best good empty size = record {
+      good = good;
+      size = size;
+      closed = λ q h. let z = empty.1 q in absurd (omega arith);
+      ordered = λ j k le lt. let z = empty.0 in absurd (omega arith);
+      sound = λ q h. let z = empty.1 q in absurd (omega arith);
+      complete = λ s n j ge lt. absurd (omega arith);
+    }
+
+    pub alive_seeded : (p : ℕ) (now new : Members) (wanted : Bool) (best : Option (ℕ × ℕ)) → Alive t l x B from p p now best
+        → Seeded t l x B p wanted now new → from ≤ p → (wanted ≡ false → Early best p → ⊥)
+        → Alive t l x B from (p + 1) p new best
+    alive_seeded p now new wanted best a s p_in late = record {
+      good = s.good;
+      size = s.size ∙ a.size;
+      closed = s.closed;
+      ordered = s.ordered;
+      sound = λ q h. elim (cases_lt 0 (mark now q)) [
+        | inl old ↦ let b = a.sound q old in (b.0, s.kept q old ∙ b.1, b.2, omega (arith, b.3), b.4, b.5)
+        | inr none ↦ let f = s.fresh q (omega arith) h in (p, f.0, p_in, omega arith, f.1, f.2)
+      ];
+      complete = λ v n j ge lt begins early run past. elim (cases_eq v p) [
+        | inl same ↦
+            let w = seed wanted refl (subst B same begins) (subst (Early best) same early) in
+            (x, n, w.0, omega (arith, w.1), subst (λ i. Runs t l n x i j) same run)
+        | inr other ↦
+            let b = a.complete v n j ge (omega arith) begins early run past in
+            let k = s.kept b.0 b.2 in
+            (b.0, b.1, omega (arith, b.2), omega (arith, b.3), b.4)
+      ];
+    }
+      where
+        seed : (w : Bool) → w ≡ wanted → B p → Early best p → (0 < mark new x) × (mark new x ≤ p + 1)
+        seed true e begins early = s.here (sym e) begins
+        seed false e begins early = absurd (late (sym e) early)
+
+    pub alive_judged : (p upto : ℕ) (now : Members) (best after : Option (ℕ × ℕ)) → Alive t l x B from upto p now best
+        → ((s : ℕ) → Early after s → Early best s) → Alive t l x B from upto p now after
+    alive_judged p upto now best after a mono = record {
+      good = a.good;
+      size = a.size;
+      closed = a.closed;
+      ordered = a.ordered;
+      sound = a.sound;
+      complete = λ s n j ge lt begins early run past. a.complete s n j ge lt begins (mono s early) run past;
+    }
+
+    pub alive_stepped : (p limit : ℕ) (now next : Members) (best : Option (ℕ × ℕ)) → Alive t l x B from (p + 1) p now best
+        → Stepped t l p now next limit → ((s : ℕ) → s ≤ p → Early best s → s + 1 ≤ limit)
+        → Alive t l x B from (p + 1) (p + 1) next best
+    alive_stepped p limit now next best a step wide = record {
+      good = step.good;
+      size = step.size ∙ a.size;
+      closed = step.closed;
+      ordered = step.ordered;
+      sound = λ r h.
+          let c = step.comes r h in
+          let b = a.sound c.0 c.1 in
+          (b.0, c.2 ∙ b.1, b.2, b.3, b.4, λ n j run. let u = c.3 n j run in b.5 u.0 j u.1);
+      complete = λ s n j ge lt begins early run past.
+          let b = a.complete s n j ge lt begins early run (omega arith) in
+          let w = wide s (omega arith) early in
+          let c = crosses p limit now next a.closed step b.1 b.0 j b.2 (omega (arith, b.3)) b.4 past in
+          (c.0, c.1, c.2, omega (arith, c.3, b.3), c.4);
+    }
+
+    -- the start of the match that ends at p, if there is one: no run to p starts earlier
+    pub none_earlier : (p : ℕ) (now : Members) (best : Option (ℕ × ℕ)) → Alive t l x B from (p + 1) p now best
+        → ((q : ℕ) → slice_get t q ≡ Some Accept → q ≡ 0) → (s n : ℕ) → from ≤ s → s ≤ p → B s → Early best s → Runs t l n x s p
+        → (0 < mark now 0) × (mark now 0 ≤ s + 1)
+    none_earlier p now best a only s n ge le begins early run =
+        let b = a.complete s n p ge (omega arith) begins early run (omega arith) in
+        let e = ends_here p now a.closed only b.1 b.0 b.2 b.4 in
+        (e.0, omega (arith, e.1, b.3))
+
+    pub run_here : (p : ℕ) (now : Members) (best : Option (ℕ × ℕ)) → Alive t l x B from (p + 1) p now best → slice_get t 0 ≡ Some Accept
+        → (s : ℕ) → mark now 0 ≡ s + 1 → (from ≤ s) × B s × ((n : ℕ) × Runs t l n x s p)
+    run_here p now best a accept s e =
+        let b = a.sound 0 (omega arith) in
+        let same : b.0 ≡ s = omega (arith, b.1) in
+        (omega (arith, b.2), subst B same b.4, subst (λ v. (n : ℕ) × Runs t l n x v p) same (b.5 0 p (accept, refl)))
+
+    -- what is found at p, as the code tells it: the start, plus one, or 0
+    pub record Found (p start : ℕ) (best : Option (ℕ × ℕ)) : Type 0 where
+      pub run : (s : ℕ) → start ≡ s + 1 → (from ≤ s) × RunsFrom t l x B E s p
+      pub least : (s : ℕ) → from ≤ s → s ≤ p → Early best s → RunsFrom t l x B E s p → (0 < start) × (start ≤ s + 1)
+
+    winner_early : (s p v : ℕ) (best : Option (ℕ × ℕ)) → Early (winner p s best) v → Early best v
+    winner_early s p v None h = tt
+    winner_early s p v (Some b) h = go (nat_le s b.0) refl h
+      where
+        go : (w : Bool) → nat_le s b.0 ≡ w → Early (cond w (Some (s, p)) (Some b)) v → v ≤ b.0
+        go true e h = let le = leb-true s b.0 e in omega arith
+        go false e h = h
+
+    pub judged_early : (p start v : ℕ) (best : Option (ℕ × ℕ)) → Early (judged p start best) v → Early best v
+    judged_early p zero v best h = h
+    judged_early p (suc s) v best h = go (nat_lt s p) h
+      where
+        go : (w : Bool) → Early (cond w (winner p s best) best) v → Early best v
+        go true h = winner_early s p v best h
+        go false h = h
+
+    -- the best stays where nothing that ends at p wins over it
+    still_best : (p : ℕ) (best : Option (ℕ × ℕ)) → IsBest t l x B E from p best
+        → ((s : ℕ) → from ≤ s → s < p → Early best s → RunsFrom t l x B E s p → ⊥) → IsBest t l x B E from (p + 1) best
+    still_best p None b none = λ s j ge lt le run. elim (cases_eq j p) [
+      | inl same ↦ none s ge (omega arith) tt (subst (RunsFrom t l x B E s) same run)
+      | inr other ↦ b s j ge lt (omega arith) run
+    ]
+    still_best p (Some c) b none = (
+      b.0,
+      b.1,
+      omega (arith, b.2),
+      b.3,
+      λ s j ge lt le run. elim (cases_eq j p) [
+        | inl same ↦ elim (cases_lt c.0 s) [
+          | inl later ↦ (omega arith, λ e. absurd (omega arith))
+          | inr early ↦ absurd (none s ge (omega arith) early (subst (RunsFrom t l x B E s) same run))
+        ]
+        | inr other ↦ b.4 s j ge lt (omega arith) run
+      ],
+    )
+
+    -- a span that ends at p and starts no later wins
+    new_best : (p s : ℕ) (best : Option (ℕ × ℕ)) → IsBest t l x B E from p best → from ≤ s → s < p → Early best s
+        → RunsFrom t l x B E s p
+        → ((v : ℕ) → from ≤ v → v ≤ p → Early best v → RunsFrom t l x B E v p → s ≤ v) → IsBest t l x B E from (p + 1) (Some (s, p))
+    new_best p s None b ge lt early run least = (
+      ge,
+      lt,
+      omega arith,
+      run,
+      λ v j ge' lt' le run'. elim (cases_eq j p) [
+        | inl same ↦ (least v ge' (omega arith) tt (subst (RunsFrom t l x B E v) same run'), λ e. omega arith)
+        | inr other ↦ absurd (b v j ge' lt' (omega arith) run')
+      ],
+    )
+    new_best p s (Some c) b ge lt early run least = (
+      ge,
+      lt,
+      omega arith,
+      run,
+      λ v j ge' lt' le run'. elim (cases_eq j p) [
+        | inl same ↦ elim (cases_lt c.0 v) [
+          | inl later ↦ (omega arith, λ e. omega arith)
+          | inr early' ↦ (least v ge' (omega arith) early' (subst (RunsFrom t l x B E v) same run'), λ e. omega arith)
+        ]
+        | inr other ↦ let old = b.4 v j ge' lt' (omega arith) run' in (omega (arith, old.0), λ e. omega arith)
+      ],
+    )
+
+    pub best_judged : (p start : ℕ) (best : Option (ℕ × ℕ)) → IsBest t l x B E from p best → Found p start best
+        → IsBest t l x B E from (p + 1) (judged p start best)
+    best_judged p zero best b f = still_best p best b (λ s ge lt early run. let z = f.least s ge (omega arith) early run in omega (arith, z.0))
+    best_judged p (suc s) best b f = go (nat_lt s p) refl
+      where
+        r : (from ≤ s) × RunsFrom t l x B E s p
+        r = f.run s (omega arith)
+
+        win : (best : Option (ℕ × ℕ)) → IsBest t l x B E from p best → Found p (suc s) best → s < p → IsBest t l x B E from (p + 1) (winner p s best)
+        win None b f lt = new_best p s None b (f.run s (omega arith)).0 lt tt (f.run s (omega arith)).1
+            (λ v ge le early run. let z = f.least v ge le early run in omega (arith, z.1))
+        win (Some c) b f lt = choose (nat_le s c.0) refl
+          where
+            choose : (w : Bool) → nat_le s c.0 ≡ w → IsBest t l x B E from (p + 1) (cond w (Some (s, p)) (Some c))
+            choose true e = new_best p s (Some c) b (f.run s (omega arith)).0 lt (leb-true s c.0 e) (f.run s (omega arith)).1
+                (λ v ge le early run. let z = f.least v ge le early run in omega (arith, z.1))
+            choose false e =
+                let later = leb-false s c.0 e in
+                still_best p (Some c) b (λ v ge less early run. let z = f.least v ge (omega arith) early run in omega (arith, z.1))
+
+        go : (w : Bool) → nat_lt s p ≡ w → IsBest t l x B E from (p + 1) (cond w (winner p s best) best)
+        go true e = win best b f (ltb-true s p e)
+        go false e =
+            let past = ltb-false s p e in
+            still_best p best b (λ v ge less early run. let z = f.least v ge (omega arith) early run in omega (arith, z.1))
+
+    -- nothing is left that may still win
+    pub over : (p upto : ℕ) (now : Members) (c : ℕ × ℕ) (end : ℕ) → IsBest t l x B E from p (Some c) → Alive t l x B from p p now (Some c)
+        → now.len ≡ 0 → p ≤ end → IsBest t l x B E from end (Some c)
+    over p upto now c end b a none le = (
+      b.0,
+      b.1,
+      omega (arith, b.2),
+      b.3,
+      λ s j ge lt less run. elim (cases_lt j p) [
+        | inl before ↦ b.4 s j ge lt before run
+        | inr after ↦ elim (cases_lt c.0 s) [
+          | inl later ↦ (omega arith, λ e. absurd (omega arith))
+          | inr early ↦
+              let w = a.complete s run.2.0 j ge (omega (arith, b.1, b.2)) run.0 early run.2.1 after in
+              let f = a.good.found w.0 w.2 in
+              absurd (omega (arith, f.1))
+        ]
+      ],
+    )
+
+ends_true : (b : Bounds) (l : List ℕ) (p : ℕ) → may_end b l p ≡ true → MayEnd b l p
+ends_true Any l p e = tt
+ends_true Word l p e = go (eqb p (length l)) refl (is_word_byte (slice_index l p)) refl e
+  where
+    go : (u : Bool) → eqb p (length l) ≡ u → (v : Bool) → is_word_byte (slice_index l p) ≡ v → (u || not v) ≡ true → MayEnd Word l p
+    go true a v b e = inl (eqb-true p (length l) a)
+    go false a true b e = absurd (true≢false (sym e))
+    go false a false b e = inr b
+ends_true Whole l p e = eqb-true p (length l) e
+
+ends_false : (b : Bounds) (l : List ℕ) (p : ℕ) → may_end b l p ≡ false → MayEnd b l p → ⊥
+ends_false Any l p e end = true≢false e
+ends_false Word l p e (inl end) = true≢false (sym (ap (λ u. u || not (is_word_byte (slice_index l p))) (eq-eqb p (length l) end)) ∙ e)
+ends_false Word l p e (inr end) = go (eqb p (length l)) (ap (λ v. eqb p (length l) || not v) (sym end) ∙ e)
+  where
+    go : (u : Bool) → (u || true) ≡ false → ⊥
+    go true e = true≢false e
+    go false e = true≢false e
+ends_false Whole l p e end = true≢false (sym (eq-eqb p (length l) end) ∙ e)
+
+-- what `settle` judges is what is found
+pub found_here : (m : Nfa) (l : List ℕ) (from p : ℕ) (now : Members) (best : Option (ℕ × ℕ)) → IsRunnable m
+    → Alive m.states l m.start (MayBegin m.bounds l) from (p + 1) p now best
+    → Found m.states l m.start (MayBegin m.bounds l) (MayEnd m.bounds l) from p (ending m l p now) best
+found_here m l from p now best is a = go (may_end m.bounds l p) refl
+  where
+    go : (w : Bool) → may_end m.bounds l p ≡ w
+        → Found m.states l m.start (MayBegin m.bounds l) (MayEnd m.bounds l) from p (cond w (mark now 0) 0) best
+    go true e = record {
+      run = λ s here. let r = run_here m.states l m.start (MayBegin m.bounds l) (MayEnd m.bounds l) from p now best a is.accept s here in
+          (r.0, (r.1, ends_true m.bounds l p e, r.2));
+      least = λ s ge le early run. none_earlier m.states l m.start (MayBegin m.bounds l) (MayEnd m.bounds l) from p now best a is.only s run.2.0 ge le run.0 early run.2.1;
+    }
+    go false e = record {
+      run = λ s here. absurd (omega arith);
+      least = λ s ge le early run. absurd (ends_false m.bounds l p e run.1);
+    }
+
+-- what a search keeps: the set of the position, and the best before it
+pub record Searching (m : Nfa) (l : List ℕ) (from p : ℕ) (s : Buffers) (best : Option (ℕ × ℕ)) : Type 0 where
+  pub alive : Alive m.states l m.start (MayBegin m.bounds l) from p p s.current best
+  pub next : IsGood s.next
+  pub next_size : length s.next.marks ≡ length m.states
+  pub so_far : IsBest m.states l m.start (MayBegin m.bounds l) (MayEnd m.bounds l) from p best
+
+not_late : (t : List State) (l : List ℕ) (x : ℕ) (B E : ℕ → Type 0) (from p : ℕ) (best : Option (ℕ × ℕ)) → IsBest t l x B E from p best
+    → is_none best ≡ false → Early best p → ⊥
+not_late t l x B E from p None b none early = true≢false none
+not_late t l x B E from p (Some c) b none early = omega (arith, b.1, b.2)
+
+pub searching_below : (m : Nfa) (l : List ℕ) (from p : ℕ) (s : Buffers) (best : Option (ℕ × ℕ)) → Searching m l from p s best → AllBelow s.current (p + 1)
+searching_below m l from p s best g q = elim (cases_lt 0 (mark s.current q)) [
+  | inl some ↦ let a = g.alive.sound q some in omega (arith, a.1, a.3)
+  | inr none ↦ omega arith
+]
+
+module _ (m : Nfa) (l : List ℕ) (from p : ℕ) (s u : Buffers) (best : Option (ℕ × ℕ)) (is : IsRunnable m)
+    (g : Searching m l from p s best) (le : from ≤ p) where
+  -- after the set of p is complete
+  pub settled : Seeded m.states l m.start (MayBegin m.bounds l) p (is_none best) s.current u.current
+      → Alive m.states l m.start (MayBegin m.bounds l) from (p + 1) p u.current (judged p (ending m l p u.current) best)
+      × IsBest m.states l m.start (MayBegin m.bounds l) (MayEnd m.bounds l) from (p + 1) (judged p (ending m l p u.current) best)
+  settled seeded =
+      let t = m.states in
+      let B = MayBegin m.bounds l in
+      let E = MayEnd m.bounds l in
+      let a = alive_seeded t l m.start B E from p s.current u.current (is_none best) best g.alive seeded le (not_late t l m.start B E from p best g.so_far) in (
+        alive_judged t l m.start B E from p (p + 1) u.current best (judged p (ending m l p u.current) best) a
+            (λ v early. judged_early t l m.start B E from p (ending m l p u.current) v best early),
+        best_judged t l m.start B E from p (ending m l p u.current) best g.so_far (found_here m l from p u.current best is a),
+      )
+
+wide : (t : List State) (l : List ℕ) (x : ℕ) (B E : ℕ → Type 0) (from p : ℕ) (best : Option (ℕ × ℕ)) → p < 2 ^ 31
+    → (s : ℕ) → s ≤ p → Early best s → s + 1 ≤ limit_of best
+wide t l x B E from p None short s le early = omega arith
+wide t l x B E from p (Some c) short s le early = omega arith
+
+pub limit_fits : (t : List State) (l : List ℕ) (x : ℕ) (B E : ℕ → Type 0) (from p : ℕ) (best : Option (ℕ × ℕ)) → p < 2 ^ 31
+    → IsBest t l x B E from (p + 1) best → limit_of best < 2 ^ 32
+limit_fits t l x B E from p None short b = omega arith
+limit_fits t l x B E from p (Some c) short b = omega (arith, b.1, b.2)
+
+pub searched : (m : Nfa) (l : List ℕ) (from p : ℕ) (s u : Buffers) (best : Option (ℕ × ℕ)) → p < 2 ^ 31
+    → Alive m.states l m.start (MayBegin m.bounds l) from (p + 1) p s.current best
+    → IsBest m.states l m.start (MayBegin m.bounds l) (MayEnd m.bounds l) from (p + 1) best
+    → Stepped m.states l p s.current u.current (limit_of best) → HaveRoom u (length m.states) → Searching m l from (p + 1) u best
+searched m l from p s u best short a b step fits = record {
+  alive = alive_stepped m.states l m.start (MayBegin m.bounds l) (MayEnd m.bounds l) from p (limit_of best) s.current u.current best a step
+      (wide m.states l m.start (MayBegin m.bounds l) (MayEnd m.bounds l) from p best short);
+  next = fits.next;
+  next_size = fits.next_size;
+  so_far = b;
+}
+
+pub search_first : (m : Nfa) (l : List ℕ) (from : ℕ) (s : Buffers) → IsGood s.current → IsEmpty s.current → length s.current.marks ≡ length m.states
+    → IsGood s.next → length s.next.marks ≡ length m.states → Searching m l from from s None
+search_first m l from s good empty size next next_size = record {
+  alive = alive_first m.states l m.start (MayBegin m.bounds l) (MayEnd m.bounds l) from s.current None good empty size;
+  next = next;
+  next_size = next_size;
+  so_far = λ v j ge lt less. absurd (omega arith);
+}
+
+-- a span was found, and nothing is left that may win over it
+pub search_over : (m : Nfa) (l : List ℕ) (from p : ℕ) (s : Buffers) (best : Option (ℕ × ℕ)) → Searching m l from p s best
+    → s.current.len ≡ 0 → p ≤ length l + 1 → is_some best ≡ true
+    → IsBest m.states l m.start (MayBegin m.bounds l) (MayEnd m.bounds l) from (length l + 1) best
+search_over m l from p s None g none le some = absurd (true≢false (sym some))
+search_over m l from p s (Some c) g none le some =
+    over m.states l m.start (MayBegin m.bounds l) (MayEnd m.bounds l) from p p s.current c (length l + 1) g.so_far g.alive none le
+
+module _ (m : Nfa) (trees : List Pattern) (l : List ℕ) (a : Agrees m trees) where
+  hit_runs : (i j : ℕ) → Hit trees m.bounds l i j → RunsFrom m.states l m.start (MayBegin m.bounds l) (MayEnd m.bounds l) i j
+  hit_runs i j h = (h.begins, h.ends, (a.complete l i j h.matched).1)
+
+  run_hits : (i j : ℕ) → i ≤ j → j ≤ length l → (i < j) ⊎ IsTrue m.some
+      → RunsFrom m.states l m.start (MayBegin m.bounds l) (MayEnd m.bounds l) i j → Hit trees m.bounds l i j
+  run_hits i j le within why r = record {
+    ordered = le;
+    within = within;
+    begins = r.0;
+    ends = r.1;
+    matched = a.sound l r.2.0 i j r.2.1 why;
+  }
+
+  pub next_from_best : (from : ℕ) (best : Option (ℕ × ℕ))
+      → IsBest m.states l m.start (MayBegin m.bounds l) (MayEnd m.bounds l) from (length l + 1) best
+      → MatchOption best (HasNoNext trees m.bounds l from) (λ b. IsNext trees m.bounds l from b.0 b.1)
+  next_from_best from None none = λ i j ge lt h. none i j ge lt (let w = h.within in omega arith) (hit_runs i j h)
+  next_from_best from (Some b) best = record {
+    later = best.0;
+    some = best.1;
+    hit = let lt = best.1 in let e = best.2 in run_hits b.0 b.1 (omega arith) (omega arith) (inl lt) best.3;
+    first = λ i j ge less lt h.
+        let w = h.within in
+        let c = best.4 i j ge lt (omega arith) (hit_runs i j h) in
+        omega (arith, c.0);
+    longest = λ j h.
+        let w = h.within in
+        let ge = best.0 in
+        let some = best.1 in
+        elim (cases_lt b.0 j) [
+          | inl lt ↦ (best.4 b.0 j ge lt (omega arith) (hit_runs b.0 j h)).1 refl
+          | inr empty ↦ omega arith
+        ];
+  }
+
+-- what a search for any span keeps
+pub record Looking (m : Nfa) (l : List ℕ) (p : ℕ) (s : Buffers) : Type 0 where
+  pub alive : Alive m.states l m.start (MayBegin m.bounds l) 0 p p s.current None
+  pub next : IsGood s.next
+  pub next_size : length s.next.marks ≡ length m.states
+  pub none : (i j : ℕ) → i ≤ j → j < p → RunsFrom m.states l m.start (MayBegin m.bounds l) (MayEnd m.bounds l) i j → ⊥
+
+module _ (m : Nfa) (l : List ℕ) (p : ℕ) (s u : Buffers) (is : IsRunnable m) (g : Looking m l p s)
+    (seeded : Seeded m.states l m.start (MayBegin m.bounds l) p true s.current u.current) where
+  filled : Alive m.states l m.start (MayBegin m.bounds l) 0 (p + 1) p u.current None
+  filled = alive_seeded m.states l m.start (MayBegin m.bounds l) (MayEnd m.bounds l) 0 p s.current u.current true None g.alive seeded (omega arith)
+      (λ e early. true≢false e)
+
+  pub look_found : ending m l p u.current ≢ 0 → p ≤ length l → IsTrue m.some → (trees : List Pattern) → Agrees m trees → HasHit trees m.bounds l
+  look_found some within any trees a =
+      let v : ℕ = ending m l p u.current in
+      let f = found_here m l 0 p u.current None is filled in
+      let e : v ≡ (v - 1) + 1 = omega arith in
+      let r = f.run (v - 1) e in
+      let b = runs_forward m.states l r.1.2.0 m.start (v - 1) p r.1.2.1 in
+      (v - 1, p, run_hits m trees l a (v - 1) p b within (inr any) r.1)
+
+  none_here : ending m l p u.current ≡ 0 → (i j : ℕ) → i ≤ j → j < p + 1
+      → RunsFrom m.states l m.start (MayBegin m.bounds l) (MayEnd m.bounds l) i j → ⊥
+  none_here zero_end i j le lt run = elim (cases_eq j p) [
+    | inl same ↦
+        let f = found_here m l 0 p u.current None is filled in
+        let w = f.least i (omega arith) (omega arith) tt (subst (RunsFrom m.states l m.start (MayBegin m.bounds l) (MayEnd m.bounds l) i) same run) in
+        omega (arith, w.0)
+    | inr other ↦ g.none i j le (omega arith) run
+  ]
+
+  pub look_missed : ending m l p u.current ≡ 0 → p ≡ length l → (trees : List Pattern) → Agrees m trees → HasHit trees m.bounds l → ⊥
+  look_missed zero_end end trees a h =
+      let le = h.2.ordered in
+      let w = h.2.within in
+      none_here zero_end h.0 h.1 le (omega arith) (hit_runs m trees l a h.0 h.1 h.2)
+
+  pub look_on : (v : Buffers) → ending m l p u.current ≡ 0 → p < 2 ^ 31 → Stepped m.states l p u.current v.current (limit_of None) → HaveRoom v (length m.states)
+      → Looking m l (p + 1) v
+  look_on v zero_end short step fits = record {
+    alive = alive_stepped m.states l m.start (MayBegin m.bounds l) (MayEnd m.bounds l) 0 p (limit_of None) u.current v.current None filled step
+        (wide m.states l m.start (MayBegin m.bounds l) (MayEnd m.bounds l) 0 p None short);
+    next = fits.next;
+    next_size = fits.next_size;
+    none = none_here zero_end;
+  }
+
+pub no_hit : (m : Nfa) (trees : List Pattern) (l : List ℕ) → Agrees m trees → m.some ≡ false → HasHit trees m.bounds l → ⊥
+no_hit m trees l a none h = true≢false (sym (a.complete l h.0 h.1 h.2.matched).0 ∙ none)
+
+-- the answer mark the end of the line
+pub look_over : (m : Nfa) (l : List ℕ) (s u : Buffers) (r : ℕ) → IsRunnable m → Looking m l (length l) s
+    → Seeded m.states l m.start (MayBegin m.bounds l) (length l) true s.current u.current → r ≡ ending m l (length l) u.current → IsTrue m.some
+    → (trees : List Pattern) → Agrees m trees → (IsTrue (not (eqb r 0)) ↔ HasHit trees m.bounds l)
+look_over m l s u zero is g seeded e any trees a =
+    (λ t. absurd (true≢false (sym t)), λ h. absurd (look_missed m l (length l) s u is g seeded (sym e) refl trees a h))
+look_over m l s u (suc r) is g seeded e any trees a =
+    (λ t. look_found m l (length l) s u is g seeded (λ z. (let w : suc r ≡ 0 = e ∙ z in omega arith)) (omega arith) any trees a, λ h. ap not (ne_eqb (suc r) 0 (omega arith)))

@@ -1,0 +1,55 @@
+use Rattle.std.proofs.Common.{◌≡◌, ◌<◌, ◌≤◌, ◌+◌, ◌-◌, ◌*◌, ◌^◌, ℕ, length, arith, subst}
+use Rattle.pg_match.specs.Views.{nfa, buffers}
+use Rattle.pg_match.proofs.StateSetLemmas.{few}
+use Rattle.pg_match.proofs.SearchLemmas.{Searching, settled, searched, search_over}
+use Rattle.pg_match.proofs.automaton.Automaton.find.Goals as goal
+
+pub loop-place-preserved : goal.loop-place-preserved
+loop-place-preserved g c =
+    let m = nfa c.args.self.now in
+    let l = c.args.line.now in
+    let p = c.loop-place.place in
+    let u = buffers c.settle-best.new.sets in
+    let v = buffers c.advance.new.sets in
+    let short : p < 2 ^ 31 = omega arith in
+    let n : ℕ = length m.states in
+    let both = settled m l c.args.from p (buffers c.loop-place.sets) u c.loop-place.best c.requires.runs c.loop-place.invariant.search (omega arith) c.settle-best.ensures.seeded in
+    let size = few u.current c.settle-best.ensures.room.now in
+    let size2 = c.settle-best.ensures.room.now_size in
+    let fewer : u.current.len ≤ n = omega (arith, size, size2) in
+    let turns : p + 1 - c.args.from ≡ p - c.args.from + 1 = omega arith in
+    let bound : (p + 1 - c.args.from) * n ≡ (p - c.args.from) * n + n = rw turns (omega arith) in
+    record {
+      search = searched m l c.args.from p u v c.settle-best.result short
+          (rw c.settle-best.ensures.judged both.0) (rw c.settle-best.ensures.judged both.1) c.advance.ensures.stepped c.advance.ensures.room;
+      visits = omega (arith, bound, fewer, c.loop-place.invariant.visits);
+    }
+
+pub settle-requires-clause-closed : goal.settle-requires-clause-closed
+settle-requires-clause-closed g c =
+    let m = nfa c.args.self.now in
+    let l = c.args.line.now in
+    let end : c.loop-place.place ≡ length l = omega arith in
+    (subst (λ p. Searching m l c.args.from p (buffers c.loop-place.sets) c.loop-place.best) end c.loop-place.invariant.search).alive.closed
+
+pub returns-clause-best : goal.returns-clause-best
+returns-clause-best g c =
+    let m = nfa c.args.self.now in
+    let l = c.args.line.now in
+    let end : c.loop-place.place ≡ length l = omega arith in
+    let search = subst (λ p. Searching m l c.args.from p (buffers c.loop-place.sets) c.loop-place.best) end c.loop-place.invariant.search in
+    let both = settled m l c.args.from (length l) (buffers c.loop-place.sets) (buffers c.settle.new.sets) c.loop-place.best c.requires.runs search c.requires.from_in c.settle.ensures.seeded in
+    rw c.settle.ensures.judged both.1
+
+pub returns-then-sets-eq0-clause-best : goal.returns-then-sets-eq0-clause-best
+returns-then-sets-eq0-clause-best g c =
+    let m = nfa c.args.self.now in
+    let l = c.args.line.now in
+    let p = c.loop-place.place in
+    let u = buffers c.settle-best.new.sets in
+    let v = buffers c.advance.new.sets in
+    let short : p < 2 ^ 31 = omega arith in
+    let both = settled m l c.args.from p (buffers c.loop-place.sets) u c.loop-place.best c.requires.runs c.loop-place.invariant.search (omega arith) c.settle-best.ensures.seeded in
+    let search = searched m l c.args.from p u v c.settle-best.result short
+    (rw c.settle-best.ensures.judged both.0) (rw c.settle-best.ensures.judged both.1) c.advance.ensures.stepped c.advance.ensures.room in
+    search_over m l c.args.from (p + 1) v c.settle-best.result search (omega arith) (omega arith) (cc)

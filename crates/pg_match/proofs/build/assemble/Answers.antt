@@ -1,0 +1,56 @@
+use Rattle.std.proofs.Common.{◌≡◌, length, map, arith, subst, refl, Some, ap, ◌∙◌}
+use Rattle.std.specs.Prelude.{slice_get, option_map}
+use Rattle.std.proofs.lemmas.List.{length-map}
+use Rattle.std.proofs.lemmas.Option.{slice_get_read, slice_get-map}
+use Rattle.pg_syntax.specs.Trees.{pattern}
+use Rattle.pg_match.specs.Tables.{HasFirst}
+use Rattle.pg_match.proofs.BuildLemmas.{each_proper, room_for, building_one, building_more, built, runnable, any_some, some_any}
+use Rattle.pg_match.proofs.build.assemble.Goals as goal
+use Rattle.pg_match.proofs.build.assemble.Goals.{then-i-eq0, else-i-eq0+in_ok-start}
+
+pub add-requires-clause-proper : goal.add-requires-clause-proper
+add-requires-clause-proper g c =
+    let trees = c.args.trees.now in
+    let read = slice_get_read trees (length trees) c.loop-i.i c.index-trees-i.result refl (omega arith) c.index-trees-i.is in
+    each_proper (map pattern trees) c.requires.proper c.loop-i.i (pattern c.index-trees-i.result)
+    (slice_get-map pattern trees c.loop-i.i ∙ ap (option_map pattern) read)
+
+pub add-requires-clause-fits : goal.add-requires-clause-fits
+add-requires-clause-fits g c =
+    let trees = c.args.trees.now in
+    let read = slice_get_read trees (length trees) c.loop-i.i c.index-trees-i.result refl (omega arith) c.index-trees-i.is in
+    let fits = room_for (map pattern trees) c.loop-i.i (pattern c.index-trees-i.result)
+    (slice_get-map pattern trees c.loop-i.i ∙ ap (option_map pattern) read) in
+    omega (arith, fits, c.loop-i.invariant.size, c.requires.small)
+
+pub push-requires-else-i-eq0 : goal.push-requires-else-i-eq0
+push-requires-else-i-eq0 g c =
+    let trees = c.args.trees.now in
+    let read = slice_get_read trees (length trees) c.loop-i.i c.index-trees-i.result refl (omega arith) c.index-trees-i.is in
+    let fits = room_for (map pattern trees) c.loop-i.i (pattern c.index-trees-i.result)
+    (slice_get-map pattern trees c.loop-i.i ∙ ap (option_map pattern) read) in
+    omega (arith, fits, c.loop-i.invariant.size, c.requires.small, c.in_ok-entry.ensures.size, c.if-i-eq0.false)
+
+pub loop-i-preserved : goal.loop-i-preserved
+loop-i-preserved g c =
+    let trees = c.args.trees.now in
+    let read = slice_get_read trees (length trees) c.loop-i.i c.index-trees-i.result refl (omega arith) c.index-trees-i.is in
+    let here : slice_get (map pattern trees) c.loop-i.i ≡ Some (pattern c.index-trees-i.result) = slice_get-map pattern trees c.loop-i.i ∙ ap (option_map pattern) read in
+    elim c.if-i-eq0.branch [
+      | then-i-eq0 w ↦ rw (w.states-is, w.start-is) (building_one _ _ _ _ _ _ _ w.if-i-eq0.true c.loop-i.invariant c.in_ok-entry.ensures here)
+      | else-i-eq0+in_ok-start w ↦ rw (w.states-is, w.start-is)
+          (building_more _ _ _ _ _ _ _ _ _ w.if-i-eq0.false c.loop-i.invariant c.in_ok-entry.ensures w.in_ok-start.ensures here)
+    ]
+
+pub returns-clause-runs : goal.returns-clause-runs
+returns-clause-runs g c = runnable _ _ _ c.loop-i.invariant
+
+pub returns-clause-built : goal.returns-clause-built
+returns-clause-built g c =
+    let trees = c.args.trees.now in
+    let same = length-map trees pattern in
+    let end : c.loop-i.i ≡ length (map pattern trees) = omega (arith, same) in
+    let b = subst (λ i. HasFirst c.loop-i.states.items (map pattern trees) i c.loop-i.start) end c.loop-i.invariant in
+    built _ (map pattern trees) c.requires.proper c.args.bounds b refl
+    (λ h. let n = any_some (length trees) _ c.is_empty.ensures h in omega (arith, same))
+    (λ h. some_any (length trees) _ c.is_empty.ensures (omega (arith, same)))

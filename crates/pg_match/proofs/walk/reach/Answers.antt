@@ -1,0 +1,26 @@
+use Rattle.std.proofs.Common.{arith, subst}
+use Rattle.pg_match.specs.Closures.{Followed}
+use Rattle.pg_match.specs.Views.{members}
+use Rattle.pg_match.proofs.StateSetLemmas.{read_listed, listed_in}
+use Rattle.pg_match.proofs.ClosureLemmas.{reaching_first, reaching_next}
+use Rattle.pg_match.proofs.walk.reach.Goals as goal
+
+pub loop-next-init : goal.loop-next-init
+loop-next-init g c =
+    reaching_first _ _ _ _ _ _ _ c.insert.ensures c.requires.good c.requires.closed c.requires.ordered c.requires.below
+
+pub follow-requires-clause-within : goal.follow-requires-clause-within
+follow-requires-clause-within g c =
+    let s = members c.loop-next.set in
+    let good = c.loop-next.invariant.good in
+    let e = read_listed s c.loop-next.next _ good c.loop-next-test.true c.index-from.ensures in
+    let n = listed_in s c.loop-next.next good c.loop-next-test.true in
+    omega (arith, e, n)
+
+pub loop-next-preserved : goal.loop-next-preserved
+loop-next-preserved g c =
+    let s = members c.loop-next.set in
+    let good = c.loop-next.invariant.good in
+    let e = read_listed s c.loop-next.next _ good c.loop-next-test.true c.index-from.ensures in
+    reaching_next _ _ _ _ _ _ _ _ _ c.loop-next.invariant c.loop-next-test.true
+    (subst (λ q. Followed c.args.states.now c.args.line.now c.args.place s (members c.follow.new.set) q c.args.mark) e c.follow.ensures)

@@ -1,0 +1,70 @@
+use Rattle.std.proofs.Common.{◌≡◌, ◌<◌, length, get_or, Some, arith, sym, refl, subst}
+use Rattle.std.proofs.lemmas.Option.{slice_get-get_or}
+use Rattle.std.specs.Prelude.{slice_get}
+use Rattle.pg_match.specs.declared.state.State.TheVariants.{Fail}
+use Rattle.pg_match.specs.StateSets.{listed}
+use Rattle.pg_match.specs.Views.{members}
+use Rattle.pg_match.proofs.StateSetLemmas.{read_thread, read_listed, listed_in}
+use Rattle.pg_match.proofs.ClosureLemmas.{stands, stepping_over, stepping_next, no_byte, byte_edge, byte_only, byte_none}
+use Rattle.pg_match.proofs.walk.step.Goals as goal
+use Rattle.pg_match.proofs.walk.step.Goals.{then-mark-limit+in-Read+then-contains, then-mark-limit+in-Read+else-contains, then-mark-limit+in_default, else-mark-limit}
+
+pub index-mark-requires : goal.index-mark-requires
+index-mark-requires g c =
+    let lt : c.loop-k.k < c.args.current.now.len = omega arith in
+    let e = read_listed (members c.args.current.now) c.loop-k.k _ c.requires.good lt c.index-state.ensures in
+    let n = listed_in (members c.args.current.now) c.loop-k.k c.requires.good lt in
+    omega (arith, e, n)
+
+pub bounds-states-state : goal.bounds-states-state
+bounds-states-state g c =
+    let lt : c.loop-k.k < c.args.current.now.len = omega arith in
+    let e = read_listed (members c.args.current.now) c.loop-k.k _ c.requires.good lt c.index-state.ensures in
+    let n = listed_in (members c.args.current.now) c.loop-k.k c.requires.good lt in
+    omega (arith, e, n)
+
+pub reach-requires-clause-some : goal.reach-requires-clause-some
+reach-requires-clause-some g c =
+    let lt : c.loop-k.k < c.args.current.now.len = omega arith in
+    let r = read_thread (members c.args.current.now) c.loop-k.k _ _ c.requires.good lt c.index-state.ensures c.index-mark.ensures in
+    omega (arith, r.1, r.3)
+
+pub reach-requires-clause-below : goal.reach-requires-clause-below
+reach-requires-clause-below g c =
+    let lt : c.loop-k.k < c.args.current.now.len = omega arith in
+    let r = read_thread (members c.args.current.now) c.loop-k.k _ _ c.requires.good lt c.index-state.ensures c.index-mark.ensures in
+    λ q. let b = c.loop-k.invariant.below c.loop-k.k (omega arith) lt q in omega (arith, r.1, b)
+
+pub loop-k-preserved : goal.loop-k-preserved
+loop-k-preserved g c =
+    let lt : c.loop-k.k < c.args.current.now.len = omega arith in
+    let r = read_thread (members c.args.current.now) c.loop-k.k _ _ c.requires.good lt c.index-state.ensures c.index-mark.ensures in
+    let inside : c.index-state.result.now < length c.args.states.now = omega (arith, r.0, r.2) in
+    let byte = slice_get-get_or c.args.line.now c.args.place 0 c.requires.place in
+    let t = c.args.states.now in
+    let l = c.args.line.now in
+    let i = c.args.place in
+    let now = (members c.args.current.now) in
+    let limit = c.args.limit in
+    let q0 = listed now c.loop-k.k in
+    elim c.if-mark-limit.branch [
+      | then-mark-limit+in-Read+then-contains w ↦
+          let is = rw r.0 at (stands _ _ _ inside w.in-Read.is) in
+          let reached = rw r.1 at w.reach.ensures.reached in
+          rw w.next-is
+          (stepping_next t l i now limit _ _ _ w.in-Read.to c.loop-k.invariant lt c.requires.good c.requires.ordered
+          (byte_edge t l i now limit q0 w.in-Read.to _ w.in-Read.set is byte (sym w.if-contains.ensures))
+          (λ q e. byte_only t l i now limit q0 w.in-Read.to q w.in-Read.set is e) reached)
+      | then-mark-limit+in-Read+else-contains w ↦
+          let is = rw r.0 at (stands _ _ _ inside w.in-Read.is) in
+          rw w.next-is
+          (stepping_over t l i now limit _ _ c.loop-k.invariant
+          (λ q early e. byte_none t l i now limit q0 w.in-Read.to _ q w.in-Read.set is byte (sym w.if-contains.ensures) e))
+      | then-mark-limit+in_default w ↦
+          let st = get_or t c.index-state.result.now Fail in
+          let is = subst (λ q. slice_get t q ≡ Some st) r.0 (stands _ _ _ inside refl) in
+          rw w.next-is
+          (stepping_over t l i now limit _ _ c.loop-k.invariant
+          (λ q early e. no_byte t l i now limit q0 st is w.in_default.not-Read q e))
+      | else-mark-limit w ↦ rw w.next-is (stepping_over t l i now limit _ _ c.loop-k.invariant (λ q early edge. omega (arith, r.1, w.if-mark-limit.false)))
+    ]

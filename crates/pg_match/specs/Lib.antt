@@ -1,0 +1,13 @@
+pub use Rattle.pg_syntax.specs.Patterns
+pub use Rattle.pg_syntax.specs.Trees
+pub mod Matches
+pub mod Bounds
+pub mod Hits
+pub mod Sizes
+pub mod Automata
+pub mod Machines
+pub mod Tables
+pub mod StateSets
+pub mod Closures
+pub mod Searches
+pub mod Views

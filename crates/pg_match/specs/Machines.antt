@@ -1,0 +1,27 @@
+-- What a machine was built from.
+use Rattle.std.specs.Prelude.{◌≡◌, ℕ, ◌<◌, ◌⊎◌, List, length, IsTrue}
+use Rattle.pg_syntax.specs.Patterns.{Pattern}
+use Rattle.pg_match.specs.Hits.{Matched}
+use Rattle.pg_match.specs.Sizes.{list_size}
+use Rattle.pg_match.specs.Automata.{Nfa, Runs}
+use Rattle.pg_match.specs.declared.bounds.Bounds.{Bounds}
+
+-- The automaton runs along the spans that some pattern matches, and along no others. Without any pattern it may run along empty spans.
+pub record Agrees (m : Nfa) (patterns : List Pattern) : Type 0 where
+  pub sound : (line : List ℕ) (n i j : ℕ) → Runs m.states line n m.start i j → (i < j) ⊎ IsTrue m.some → Matched patterns line i j
+  pub complete : (line : List ℕ) (i j : ℕ) → Matched patterns line i j → IsTrue m.some × ((n : ℕ) × Runs m.states line n m.start i j)
+
+-- the machine has these patterns and bounds, and as many states as the patterns' sizes ask for
+pub record IsMachineOf (m : Nfa) (patterns : List Pattern) (bounds : Bounds) : Type 0 where
+  pub agrees : Agrees m patterns
+  pub same_bounds : m.bounds ≡ bounds
+  pub size : length m.states ≡ list_size patterns
+
+-- what a scratch was made for, and how often the last search added a state to the set of a place
+pub record Room : Type 0 where
+  pub machine : Nfa
+  pub visits : ℕ
+
+-- the scratch was made for this very machine
+abbrev pub Fits : Room → Nfa → Type 0
+Fits room m = room.machine ≡ m

@@ -1,0 +1,38 @@
+//! The automaton of some patterns.
+ghost use Rattle.std.specs.Prelude.{◌≡◌, ◌↔◌, IsTrue};
+
+use crate::bounds::Bounds;
+use crate::state::{State, is_same_table};
+use std::alloc::{Allocator, Global};
+
+/// The states of some patterns. State 0 is the one where a match ends.
+#[derive(Drop)]
+pub struct Automaton<A: Allocator = Global> {
+    pub states: Vec<State, A>,
+    pub start: u32,
+    /// The states that a run may be in before its first byte, where it starts inside a line.
+    pub seeds: Vec<u32, A>,
+    pub bounds: Bounds,
+    /// Whether there is a pattern. Without one nothing matches.
+    pub some: bool,
+}
+
+impl<A: Allocator> Automaton<A> {
+    ghost use Rattle.pg_match.specs.Views.{nfa};
+
+    /// Whether two automata are the same, state by state.
+    pub fn is_same(&self, other: &Automaton<A>) -> bool
+        ensures { IsTrue result ↔ (nfa self.now ≡ nfa other.now) }
+    {
+        if self.start != other.start {
+            return false;
+        }
+        if self.bounds != other.bounds {
+            return false;
+        }
+        if self.some != other.some {
+            return false;
+        }
+        is_same_table(&self.states, &other.states)
+    }
+}

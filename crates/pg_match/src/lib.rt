@@ -1,0 +1,22 @@
+//! Automata of patterns, and the search of a line.
+//!
+//! The automaton of some patterns has exactly as many states as their size says, and a search follows all runs of
+//! it at once: for each place of the line it has the set of the states that some run has reached. So a line of n
+//! bytes costs at most n + 1 times the size, whatever the patterns are. Patterns match bytes, in the C locale.
+#![tactic(auto)]
+
+mod automaton;
+mod bounds;
+mod build;
+pub mod laws;
+mod machine;
+mod search;
+mod size;
+mod state;
+mod state_set;
+mod walk;
+
+pub use machine::{BuildFault, Machine, Scratch};
+
+#[cfg(test)]
+mod tests;

@@ -1,0 +1,202 @@
+//! Machines, and what a search needs.
+ghost use Rattle.std.specs.Prelude.{◌≡◌, ◌+◌, ◌*◌, ◌^◌, ◌<◌, ◌≤◌, ◌↔◌, List, All, length, map, IsTrue, IfOk, IsErrOf, MatchOption, if◌then◌else◌};
+ghost use Rattle.pg_syntax.specs.Patterns.{Pattern, IsProper};
+ghost use Rattle.pg_syntax.specs.Trees.{pattern};
+ghost use Rattle.pg_match.specs.Sizes.{list_size};
+ghost use Rattle.pg_match.specs.Hits.{HasHit, HasNoNext, IsNext};
+ghost use Rattle.pg_match.specs.Machines.{IsMachineOf, Fits};
+ghost use Rattle.pg_match.specs.declared.bounds.Bounds.{Bounds};
+
+use crate::automaton::Automaton;
+use crate::bounds::Bounds;
+use crate::build::assemble;
+use crate::search::StateSets;
+use crate::size::{MAX_STATES, list_size};
+use pg_syntax::Tree;
+use std::alloc::{AllocError, Allocator, Global};
+use std::marker::Model;
+use std::sync::Arc;
+use thiserror::Error;
+
+/// Why no machine is built.
+#[derive(Clone, Copy, Debug, PartialEq, Eq, Error)]
+pub enum BuildFault {
+    /// The patterns ask for more than 65,536 states.
+    #[error("pattern too large")]
+    TooManyStates,
+    /// A request for memory was refused.
+    #[error("out of memory")]
+    OutOfMemory,
+}
+
+/// The automaton of some patterns. It can be shared by threads.
+#[derive(Drop)]
+pub struct Machine<A: Allocator = Global> {
+    automaton: Arc<Automaton<A>, A>,
+}
+
+impl<A: Allocator> Model for Machine<A> {
+    ghost use Rattle.std.specs.Arc.{arc_value};
+    ghost use Rattle.pg_match.specs.Automata.{Nfa, IsRunnable};
+    ghost use Rattle.pg_match.specs.Views.{nfa, HasSeeds};
+
+    ghost Value = { Nfa };
+
+    ghost view = { λ m. nfa (arc_value m.automaton) };
+
+    ghost invariant = { λ m. IsRunnable (nfa (arc_value m.automaton)) × HasSeeds (arc_value m.automaton) };
+}
+
+/// The room that searches with one machine need, so that they ask for no memory.
+#[derive(Drop)]
+pub struct Scratch<A: Allocator = Global> {
+    automaton: Arc<Automaton<A>, A>,
+    sets: StateSets<A>,
+}
+
+impl<A: Allocator> Model for Scratch<A> {
+    ghost use Rattle.std.specs.Prelude.{length};
+    ghost use Rattle.std.specs.Arc.{arc_value};
+    ghost use Rattle.pg_match.specs.Machines.{Room};
+    ghost use Rattle.pg_match.specs.StateSets.{HaveRoom};
+    ghost use Rattle.pg_match.specs.Views.{nfa, buffers};
+
+    ghost Value = { Room };
+
+    ghost view = { λ s. record { machine = nfa (arc_value s.automaton); visits = s.sets.visits } };
+
+    ghost invariant = { λ s. HaveRoom (buffers s.sets) (length (nfa (arc_value s.automaton)).states) };
+}
+
+impl From<AllocError> for BuildFault {
+    ghost use Rattle.pg_match.specs.declared.machine.BuildFault.TheVariants.{OutOfMemory};
+
+    ghost from_gives = { λ _ e. e ≡ OutOfMemory };
+
+    fn from(_error: AllocError) -> BuildFault {
+        BuildFault::OutOfMemory
+    }
+}
+
+impl<A: Allocator> Machine<A> {
+    /// The machine of some trees, where `whole` says that only the whole line is matched (XCU grep,
+    /// -x). The trees are alternatives; without a tree nothing matches.
+    ///
+    /// # Errors
+    ///
+    /// `TooManyStates` comes exactly where the trees ask for more than 65,536 states, and before
+    /// anything is built.
+    pub fn build(alloc: A, trees: &[Tree<A>], whole: bool) -> Result<Machine<A>, BuildFault>
+    where
+        A: Copy,
+        requires { All IsProper (map pattern trees.now) }
+        ensures built { IfOk result
+            (λ machine. IsMachineOf machine (map pattern trees.now) (if whole then Bounds.Whole else Bounds.Any)) }
+        ensures large { IsErrOf result BuildFault.TooManyStates ↔ (65536 < list_size (map pattern trees.now)) }
+    {
+        let bounds = if whole { Bounds::Whole } else { Bounds::Any };
+        Machine::with_bounds(alloc, trees, bounds)
+    }
+
+    /// The machine of some trees, whose matches begin and end as the bounds say.
+    pub(crate) fn with_bounds(
+        alloc: A,
+        trees: &[Tree<A>],
+        bounds: Bounds,
+    ) -> Result<Machine<A>, BuildFault>
+    where
+        A: Copy,
+        requires { All IsProper (map pattern trees.now) }
+        ensures built { IfOk result (λ machine. IsMachineOf machine (map pattern trees.now) bounds) }
+        ensures large { IsErrOf result BuildFault.TooManyStates ↔ (65536 < list_size (map pattern trees.now)) }
+    {
+        if list_size(trees) > MAX_STATES {
+            return Err(BuildFault::TooManyStates);
+        }
+        match share(alloc, trees, bounds) {
+            Ok(machine) => Ok(machine),
+            Err(_) => Err(BuildFault::OutOfMemory),
+        }
+    }
+
+    /// Whether some span of the line is matched: the whole line, where the machine was built so.
+    pub fn selects(&self, scratch: &mut Scratch<A>, line: &[u8]) -> bool
+        requires fits { Fits scratch.old self.now }
+        requires short { length line.now ≤ 2 ^ 30 }
+        ensures fits { Fits scratch.new self.now }
+        ensures exact { (patterns : List Pattern) (bounds : Bounds) → IsMachineOf self.now patterns bounds
+            → (IsTrue result ↔ HasHit patterns bounds line.now) }
+        ensures visits { (patterns : List Pattern) (bounds : Bounds) → IsMachineOf self.now patterns bounds
+            → scratch.new.visits ≤ (length line.now + 1) * list_size patterns }
+    {
+        let automaton: &Automaton<A> = &self.automaton;
+        automaton.selects(&mut scratch.sets, line)
+    }
+
+    /// The matched part that -o shows next: of the spans from `from` on that are matched and not
+    /// empty the one that starts first, and of these the longest. Its offsets count bytes from the
+    /// line's start.
+    pub fn next_piece(
+        &self,
+        scratch: &mut Scratch<A>,
+        line: &[u8],
+        from: usize,
+    ) -> Option<(usize, usize)>
+        requires fits { Fits scratch.old self.now }
+        requires short { length line.now ≤ 2 ^ 30 }
+        requires from_in { from ≤ length line.now }
+        ensures fits { Fits scratch.new self.now }
+        ensures next { (patterns : List Pattern) (bounds : Bounds) → IsMachineOf self.now patterns bounds
+            → MatchOption result (HasNoNext patterns bounds line.now from) (λ b. IsNext patterns bounds line.now from b.0 b.1) }
+        ensures visits { (patterns : List Pattern) (bounds : Bounds) → IsMachineOf self.now patterns bounds
+            → scratch.new.visits ≤ (length line.now + 1) * list_size patterns }
+    {
+        let automaton: &Automaton<A> = &self.automaton;
+        automaton.next_piece(&mut scratch.sets, line, from)
+    }
+}
+
+/// The machine of trees that are not too large.
+fn share<A: Allocator + Copy>(
+    alloc: A,
+    trees: &[Tree<A>],
+    bounds: Bounds,
+) -> Result<Machine<A>, AllocError>
+    requires proper { All IsProper (map pattern trees.now) }
+    requires small { list_size (map pattern trees.now) ≤ 65536 }
+    ensures { IfOk result (λ machine. IsMachineOf machine (map pattern trees.now) bounds) }
+{
+    let automaton = assemble(alloc, trees, bounds)?;
+    let automaton = Arc::new(alloc, automaton)?;
+    Ok(Machine { automaton })
+}
+
+impl<A: Allocator> Scratch<A> {
+    /// Room for searches with a machine.
+    pub fn new(alloc: A, machine: &Machine<A>) -> Result<Scratch<A>, AllocError>
+    where
+        A: Copy,
+        ensures { IfOk result (λ scratch. Fits scratch machine.now) }
+    {
+        let automaton = Arc::try_clone(&machine.automaton)?;
+        let states: &Automaton<A> = &machine.automaton;
+        let sets = StateSets::new(alloc, states.states.len())?;
+        Ok(Scratch { automaton, sets })
+    }
+
+    /// Whether the scratch was made for this machine, or for one with the same automaton. The time
+    /// is at most linear in the number of states.
+    pub fn fits(&self, machine: &Machine<A>) -> bool
+        ensures { IsTrue result ↔ Fits self.now machine.now }
+    {
+        let automaton: &Automaton<A> = &self.automaton;
+        automaton.is_same(&machine.automaton)
+    }
+
+    /// How often the last search added a state to the set of a place.
+    pub fn visits(&self) -> u128
+        ensures { result ≡ self.now.visits }
+    {
+        self.sets.visits
+    }
+}

@@ -1,0 +1,295 @@
+//! The search of a line, one place after the other.
+ghost use Rattle.std.specs.Prelude.{◌≡◌, ◌+◌, ◌*◌, ◌^◌, ◌<◌, ◌≤◌, ◌↔◌, List, length, is_none, IsTrue, MatchOption, IfOk};
+ghost use Rattle.pg_syntax.specs.Patterns.{Pattern};
+ghost use Rattle.pg_match.specs.Automata.{IsRunnable};
+ghost use Rattle.pg_match.specs.Bounds.{MayBegin, MayEnd};
+ghost use Rattle.pg_match.specs.Hits.{HasHit, HasNoNext, IsNext};
+ghost use Rattle.pg_match.specs.Machines.{Agrees};
+ghost use Rattle.pg_match.specs.StateSets.{IsGood, HaveRoom};
+ghost use Rattle.pg_match.specs.Closures.{IsClosed, IsOrdered, AllBelow, Sown, Stepped};
+ghost use Rattle.pg_match.specs.Searches.{Seeded, IsBest, judged, limit_of, ending};
+ghost use Rattle.pg_match.specs.Views.{nfa, members, buffers, HasSeeds};
+
+use crate::automaton::Automaton;
+use crate::state_set::StateSet;
+use crate::walk::{reach, step};
+use std::alloc::{AllocError, Allocator, Global};
+use std::mem;
+
+/// The sets of two places, and how many states the last search added.
+#[derive(Drop)]
+pub struct StateSets<A: Allocator = Global> {
+    pub current: StateSet<A>,
+    pub next: StateSet<A>,
+    pub visits: u128,
+}
+
+impl<A: Allocator> StateSets<A> {
+    /// Empty sets with room for so many states.
+    pub fn new(alloc: A, states: usize) -> Result<StateSets<A>, AllocError>
+    where
+        A: Copy,
+        ensures { IfOk result (λ s. HaveRoom (buffers s) states) }
+    {
+        let current = StateSet::new(alloc, states)?;
+        let next = StateSet::new(alloc, states)?;
+        Ok(StateSets {
+            current,
+            next,
+            visits: 0,
+        })
+    }
+}
+
+/// The best span, where a match ends at `place` whose start, plus one, is `mark`, or none does and `mark` is 0.
+fn judge(place: usize, mark: u32, best: Option<(usize, usize)>) -> Option<(usize, usize)>
+    ensures { result ≡ judged place mark best }
+{
+    if mark == 0 {
+        return best;
+    }
+    let from = mark as usize - 1;
+    if from < place {
+        match best {
+            None => Some((from, place)),
+            Some((first, last)) => {
+                if from <= first {
+                    Some((from, place))
+                } else {
+                    Some((first, last))
+                }
+            }
+        }
+    } else {
+        best
+    }
+}
+
+/// The greatest mark of a match that may still win.
+fn limit(best: Option<(usize, usize)>) -> u32
+    requires { limit_of best < 2 ^ 32 }
+    ensures { result ≡ limit_of best }
+{
+    match best {
+        None => u32::MAX,
+        Some((first, _)) => first as u32 + 1,
+    }
+}
+
+impl<A: Allocator> Automaton<A> {
+    /// Adds the seeds, at a place inside a line.
+    #[inline(always)]
+    fn sow(&self, place: usize, set: &mut StateSet<A>)
+        requires seeds { HasSeeds self.now }
+        requires good { IsGood (members set.old) }
+        requires size { length set.old.marks.items ≡ length self.now.states.items }
+        requires ordered { IsOrdered (members set.old) }
+        requires below { AllBelow (members set.old) (place + 1) }
+        requires short { place ≤ 2 ^ 30 }
+        ensures { Sown self.now.seeds.items (members set.old) (members set.new) (place + 1) (length self.now.seeds.items) }
+    {
+        let mark = place as u32 + 1;
+        for k in 0..self.seeds.len() {
+            let state = self.seeds[k];
+            set.insert(state, mark);
+        }
+    }
+
+    /// Adds the start, where a match may begin.
+    #[inline(always)]
+    fn seed(&self, line: &[u8], place: usize, set: &mut StateSet<A>, wanted: bool)
+        requires runs { IsRunnable (nfa self.now) }
+        requires seeds { HasSeeds self.now }
+        requires good { IsGood (members set.old) }
+        requires size { length set.old.marks.items ≡ length self.now.states.items }
+        requires closed { IsClosed self.now.states.items line.now place (members set.old) }
+        requires ordered { IsOrdered (members set.old) }
+        requires below { AllBelow (members set.old) (place + 1) }
+        requires place { place ≤ length line.now }
+        requires short { length line.now ≤ 2 ^ 30 }
+        ensures { Seeded self.now.states.items line.now self.now.start (MayBegin self.now.bounds line.now) place wanted
+            (members set.old) (members set.new) }
+    {
+        if wanted && self.bounds.may_begin(line, place) {
+            if place == 0 || place == line.len() {
+                reach(&self.states, line, place, set, self.start, place as u32 + 1);
+            } else {
+                self.sow(place, set);
+            }
+        }
+    }
+
+    /// Completes the set of a place.
+    #[inline(always)]
+    fn fill(&self, sets: &mut StateSets<A>, line: &[u8], place: usize, wanted: bool)
+        requires runs { IsRunnable (nfa self.now) }
+        requires seeds { HasSeeds self.now }
+        requires room { HaveRoom (buffers sets.old) (length self.now.states.items) }
+        requires closed { IsClosed self.now.states.items line.now place (members sets.old.current) }
+        requires ordered { IsOrdered (members sets.old.current) }
+        requires below { AllBelow (members sets.old.current) (place + 1) }
+        requires place { place ≤ length line.now }
+        requires short { length line.now ≤ 2 ^ 30 }
+        requires visits { sets.old.visits < 2 ^ 100 }
+        ensures seeded { Seeded self.now.states.items line.now self.now.start (MayBegin self.now.bounds line.now) place
+            wanted (members sets.old.current) (members sets.new.current) }
+        ensures room { HaveRoom (buffers sets.new) (length self.now.states.items) }
+        ensures visits { sets.new.visits ≡ sets.old.visits + sets.new.current.len }
+    {
+        self.seed(line, place, &mut sets.current, wanted);
+        sets.visits += sets.current.len as u128;
+    }
+
+    /// Completes the set of a place, and judges the match that ends there.
+    fn settle(
+        &self,
+        sets: &mut StateSets<A>,
+        line: &[u8],
+        place: usize,
+        best: Option<(usize, usize)>,
+    ) -> Option<(usize, usize)>
+        requires runs { IsRunnable (nfa self.now) }
+        requires seeds { HasSeeds self.now }
+        requires room { HaveRoom (buffers sets.old) (length self.now.states.items) }
+        requires closed { IsClosed self.now.states.items line.now place (members sets.old.current) }
+        requires ordered { IsOrdered (members sets.old.current) }
+        requires below { AllBelow (members sets.old.current) (place + 1) }
+        requires place { place ≤ length line.now }
+        requires short { length line.now ≤ 2 ^ 30 }
+        requires visits { sets.old.visits < 2 ^ 100 }
+        ensures seeded { Seeded self.now.states.items line.now self.now.start (MayBegin self.now.bounds line.now) place
+            (is_none best) (members sets.old.current) (members sets.new.current) }
+        ensures room { HaveRoom (buffers sets.new) (length self.now.states.items) }
+        ensures judged { result ≡ judged place (ending (nfa self.now) line.now place (members sets.new.current)) best }
+        ensures visits { sets.new.visits ≡ sets.old.visits + sets.new.current.len }
+    {
+        self.fill(sets, line, place, best.is_none());
+        let mark = self.ending(&sets.current, line, place);
+        judge(place, mark, best)
+    }
+
+    /// The mark of the match that ends at `place`, or 0.
+    #[inline(always)]
+    fn ending(&self, set: &StateSet<A>, line: &[u8], place: usize) -> u32
+        requires runs { IsRunnable (nfa self.now) }
+        requires seeds { HasSeeds self.now }
+        requires size { length set.now.marks.items ≡ length self.now.states.items }
+        requires place { place ≤ length line.now }
+        ensures { result ≡ ending (nfa self.now) line.now place (members set.now) }
+    {
+        if self.bounds.may_end(line, place) {
+            set.marks[0]
+        } else {
+            0
+        }
+    }
+
+    /// Goes on to the next place.
+    #[inline(always)]
+    fn advance(
+        &self,
+        sets: &mut StateSets<A>,
+        line: &[u8],
+        place: usize,
+        best: Option<(usize, usize)>,
+    )
+        requires runs { IsRunnable (nfa self.now) }
+        requires seeds { HasSeeds self.now }
+        requires room { HaveRoom (buffers sets.old) (length self.now.states.items) }
+        requires ordered { IsOrdered (members sets.old.current) }
+        requires place { place < length line.now }
+        requires limit { limit_of best < 2 ^ 32 }
+        ensures stepped { Stepped self.now.states.items line.now place (members sets.old.current)
+            (members sets.new.current) (limit_of best) }
+        ensures room { HaveRoom (buffers sets.new) (length self.now.states.items) }
+        ensures visits { sets.new.visits ≡ sets.old.visits }
+    {
+        step(
+            &self.states,
+            line,
+            place,
+            &sets.current,
+            &mut sets.next,
+            limit(best),
+        );
+        mem::swap(&mut sets.current, &mut sets.next);
+    }
+
+    /// Whether some span of the line is a hit.
+    pub(crate) fn selects(&self, sets: &mut StateSets<A>, line: &[u8]) -> bool
+        requires runs { IsRunnable (nfa self.now) }
+        requires seeds { HasSeeds self.now }
+        requires room { HaveRoom (buffers sets.old) (length self.now.states.items) }
+        requires short { length line.now ≤ 2 ^ 30 }
+        ensures room { HaveRoom (buffers sets.new) (length self.now.states.items) }
+        ensures exact { (patterns : List Pattern) → Agrees (nfa self.now) patterns
+            → (IsTrue result ↔ HasHit patterns self.now.bounds line.now) }
+        ensures visits { sets.new.visits ≤ (length line.now + 1) * length self.now.states.items }
+    {
+        sets.current.clear();
+        sets.visits = 0;
+        if !self.some {
+            return false;
+        }
+        for place in 0..line.len() {
+            self.fill(sets, line, place, true);
+            if self.ending(&sets.current, line, place) != 0 {
+                return true;
+            }
+            self.advance(sets, line, place, None);
+        }
+        self.fill(sets, line, line.len(), true);
+        self.ending(&sets.current, line, line.len()) != 0
+    }
+
+    /// The best span from a place on, by runs of the automaton.
+    pub(crate) fn find(
+        &self,
+        sets: &mut StateSets<A>,
+        line: &[u8],
+        from: usize,
+    ) -> Option<(usize, usize)>
+        requires runs { IsRunnable (nfa self.now) }
+        requires seeds { HasSeeds self.now }
+        requires room { HaveRoom (buffers sets.old) (length self.now.states.items) }
+        requires short { length line.now ≤ 2 ^ 30 }
+        requires from_in { from ≤ length line.now }
+        ensures room { HaveRoom (buffers sets.new) (length self.now.states.items) }
+        ensures best { IsBest self.now.states.items line.now self.now.start (MayBegin self.now.bounds line.now)
+            (MayEnd self.now.bounds line.now) from (length line.now + 1) result }
+        ensures visits { sets.new.visits ≤ (length line.now + 1) * length self.now.states.items }
+    {
+        sets.current.clear();
+        sets.visits = 0;
+        let mut best = None;
+        for place in from..line.len() {
+            best = self.settle(sets, line, place, best);
+            self.advance(sets, line, place, best);
+            if best.is_some() && sets.current.len == 0 {
+                return best;
+            }
+        }
+        self.settle(sets, line, line.len(), best)
+    }
+
+    /// The hit that comes next from a place on.
+    pub(crate) fn next_piece(
+        &self,
+        sets: &mut StateSets<A>,
+        line: &[u8],
+        from: usize,
+    ) -> Option<(usize, usize)>
+        requires runs { IsRunnable (nfa self.now) }
+        requires seeds { HasSeeds self.now }
+        requires room { HaveRoom (buffers sets.old) (length self.now.states.items) }
+        requires short { length line.now ≤ 2 ^ 30 }
+        requires from_in { from ≤ length line.now }
+        ensures room { HaveRoom (buffers sets.new) (length self.now.states.items) }
+        ensures next { (patterns : List Pattern) → Agrees (nfa self.now) patterns
+            → MatchOption result (HasNoNext patterns self.now.bounds line.now from)
+            (λ b. IsNext patterns self.now.bounds line.now from b.0 b.1) }
+        ensures visits { sets.new.visits ≤ (length line.now + 1) * length self.now.states.items }
+    {
+        self.find(sets, line, from)
+    }
+}

@@ -1,0 +1,67 @@
+//! The set of states of one place of a line.
+ghost use Rattle.std.specs.Prelude.{◌≡◌, ◌<◌, IfOk, length};
+ghost use Rattle.pg_match.specs.StateSets.{IsGood, Inserted, IsEmpty};
+
+use std::alloc::{AllocError, Allocator, Global};
+
+/// A set of states, in the order in which they were added, with a mark for each.
+#[derive(Drop)]
+pub struct StateSet<A: Allocator = Global> {
+    /// The states, and behind them unused room.
+    pub order: Vec<u32, A>,
+    /// For each state its mark, or 0 where it isn't in the set.
+    pub marks: Vec<u32, A>,
+    /// How many states are in the set.
+    pub len: usize,
+}
+
+impl<A: Allocator> StateSet<A> {
+    ghost use Rattle.pg_match.specs.Views.{members};
+
+    /// An empty set with room for so many states.
+    pub fn new(alloc: A, states: usize) -> Result<StateSet<A>, AllocError>
+    where
+        A: Copy,
+        ensures good { IfOk result (λ s. IsGood (members s)) }
+        ensures empty { IfOk result (λ s. IsEmpty (members s)) }
+        ensures size { IfOk result (λ s. length s.marks.items ≡ states) }
+    {
+        let order = vec![in alloc; 0u32; states]?;
+        let marks = vec![in alloc; 0u32; states]?;
+        Ok(StateSet {
+            order,
+            marks,
+            len: 0,
+        })
+    }
+
+    /// Takes all states out.
+    #[inline(always)]
+    pub fn clear(&mut self)
+        requires { IsGood (members self.old) }
+        ensures good { IsGood (members self.new) }
+        ensures empty { IsEmpty (members self.new) }
+        ensures size { length self.new.marks.items ≡ length self.old.marks.items }
+    {
+        for k in 0..self.len {
+            let state = self.order[k];
+            self.marks[state as usize] = 0;
+        }
+        self.len = 0;
+    }
+
+    /// Adds a state with a mark, unless it is there.
+    #[inline(always)]
+    pub fn insert(&mut self, state: u32, mark: u32)
+        requires good { IsGood (members self.old) }
+        requires within { state < length self.old.marks.items }
+        requires some { 0 < mark }
+        ensures { Inserted (members self.old) (members self.new) state mark }
+    {
+        if self.marks[state as usize] == 0 {
+            self.order[self.len] = state;
+            self.marks[state as usize] = mark;
+            self.len += 1;
+        }
+    }
+}
