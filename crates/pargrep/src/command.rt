@@ -1,13 +1,15 @@
 //! The command, over any files and streams.
-ghost use Rattle.std.specs.Prelude.{◌≡◌, ℕ, ◌<◌, ◌≤◌, ◌⊎◌, ◌∷◌, ◌++◌, List, [], IfOk, OnOk, OnErr};
+ghost use Rattle.std.specs.Prelude.{◌≡◌, ℕ, ◌<◌, ◌≤◌, ◌⊎◌, ◌∷◌, ◌++◌, ◌↔◌, List, [], Contains, length, IfOk, IfErr, OnOk, OnErr, IsErrOf};
 ghost use Rattle.pg_seq.specs.Bare.{bare};
 ghost use Rattle.pg_seq.specs.Output.{Read, Ended, output, status};
 ghost use Rattle.pg_seq.specs.Sink.{TakesPart};
+ghost use Rattle.pg_run.specs.Past.{MeetsTheEnd};
+ghost use Rattle.pargrep.specs.Causes.{Explains, IsCalled};
 ghost use Rattle.pargrep.specs.Pattern.{fixed_string};
 ghost use Rattle.pargrep.specs.Told.{IsTold};
 
 use crate::fault::{Fault, report, report_text};
-use crate::pattern::compile_text;
+use crate::pattern::{PatternFault, compile_text};
 use crate::words::{Request, WordsFault, read_words};
 use pg_run::{ReadFault, Store, first_run};
 use pg_seq::Sink;
@@ -31,7 +33,7 @@ pub fn command<S: Store, W: Sink, E: Sink>(
     ensures searched { result < 2 → (text : List ℕ)
         × (W.taken out.new ≡ W.taken out.old ++ output (fixed_string text) bare (Read [] (S.past store.new).given Ended ∷ []))
         × (result ≡ status (fixed_string text) bare (Read [] (S.past store.new).given Ended ∷ []))
-        × ((S.past store.old).ends < (S.past store.new).ends)
+        × MeetsTheEnd (S.past store.old) (S.past store.new)
         × (E.taken err.new ≡ E.taken err.old) }
     ensures told { result ≡ 2 → IsTold (E.taken err.old) (E.taken err.new) ⊎ (E.failures err.old < E.failures err.new) }
 {
@@ -56,7 +58,11 @@ fn search<'a, S: Store, W: Sink>(
         ++ output (fixed_string request.now.text.now) bare (Read [] (S.past store.new).given Ended ∷ [])) }
     ensures status { IfOk result (λ s. s ≡ status (fixed_string request.now.text.now) bare (Read [] (S.past store.new).given Ended ∷ [])) }
     ensures path { OnOk result ((S.past store.new).path ≡ request.now.file.now) }
-    ensures to_the_end { OnOk result ((S.past store.old).ends < (S.past store.new).ends) }
+    ensures to_the_end { OnOk result (MeetsTheEnd (S.past store.old) (S.past store.new)) }
+    ensures cause { IfErr result (λ fault. Explains fault request.now.file.now (S.past store.old) (S.past store.new)) }
+    ensures write { IsErrOf result Fault.WriteFailed → W.failures out.old < W.failures out.new }
+    ensures several { IsErrOf result (Fault.Pattern PatternFault.Several) ↔ Contains request.now.text.now 10 }
+    ensures long { IsErrOf result (Fault.Pattern PatternFault.TooLong) ↔ ((¬ Contains request.now.text.now 10) × (4096 < length request.now.text.now)) }
     ensures part { OnErr result (TakesPart (output (fixed_string request.now.text.now) bare (Read [] (S.past store.new).given Ended ∷ [])) (W.taken out.old) (W.taken out.new)) }
 {
     let query = compile_text(alloc, request.text)?;
@@ -74,7 +80,9 @@ fn search<'a, S: Store, W: Sink>(
 }
 
 /// How a file is called in rows and fault lines.
-fn shown_name(path: &str) -> &str {
+fn shown_name(path: &str) -> &str
+    ensures { IsCalled path.now result.now }
+{
     if path == "-" {
         "(standard input)"
     } else {

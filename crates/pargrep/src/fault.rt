@@ -1,7 +1,9 @@
 //! The faults of the program.
 ghost use Rattle.std.specs.Prelude.{◌≡◌, ◌<◌, ◌⊎◌, IfOk};
 ghost use Rattle.std.specs.String.{string_bytes};
+ghost use Rattle.pargrep.specs.Causes.{fault_of_run};
 ghost use Rattle.pargrep.specs.Told.{IsNamed, IsTold};
+ghost use Rattle.pargrep.specs.declared.fault.Fault.TheVariants.{OutOfMemory, Pattern};
 
 use crate::pattern::PatternFault;
 use pg_run::RunFault;
@@ -20,7 +22,7 @@ pub enum Fault<'a> {
     NotText,
     /// The text of the command line isn't one pattern.
     #[error(transparent)]
-    Pattern(#[from] PatternFault),
+    Pattern(PatternFault),
     /// The file couldn't be opened.
     #[error("{0}: cannot open")]
     CannotOpen(&'a str),
@@ -39,12 +41,24 @@ pub enum Fault<'a> {
 }
 
 impl<'a> From<AllocError> for Fault<'a> {
+    ghost from_gives = { λ _ fault. fault ≡ OutOfMemory };
+
     fn from(_error: AllocError) -> Fault<'a> {
         Fault::OutOfMemory
     }
 }
 
+impl<'a> From<PatternFault> for Fault<'a> {
+    ghost from_gives = { λ pattern fault. fault ≡ Pattern pattern };
+
+    fn from(fault: PatternFault) -> Fault<'a> {
+        Fault::Pattern(fault)
+    }
+}
+
 impl<'a> From<RunFault> for Fault<'a> {
+    ghost from_gives = { λ run fault. fault ≡ fault_of_run run };
+
     fn from(fault: RunFault) -> Fault<'a> {
         match fault {
             RunFault::OutOfMemory => Fault::OutOfMemory,

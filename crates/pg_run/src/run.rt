@@ -67,6 +67,7 @@ fn search_all<A: Allocator + Copy, S: Store, W: Sink>(
     ensures read { IfOk result (λ end. MatchResult end
         (λ _. MeetsTheEnd (S.past store.old) (S.past store.new)) (λ _. FailsToRead (S.past store.old) (S.past store.new))) }
     ensures path { (S.past store.new).path ≡ (S.past store.old).path }
+    ensures no_miss { (S.past store.new).misses ≡ (S.past store.old).misses }
 {
     loop {
         let Ok(count) = store.read(buffer) else {
@@ -131,6 +132,7 @@ pub fn first_run<A: Allocator + Copy, S: Store, W: Sink>(
     ensures long { IsErrOf result TooLong → IsTooLong (S.past store.new).given }
     ensures never_falls { W.failures out.old ≤ W.failures out.new }
     ensures path { (S.past store.new).path ≡ (S.past store.old).path }
+    ensures no_miss { (S.past store.new).misses ≡ (S.past store.old).misses }
 {
     let mut searcher = Searcher::new(alloc, query)?;
     let mut cutter = Cutter::new(alloc, 0, block, LONGEST_LINE);
