@@ -1,15 +1,8 @@
 //! Pargrep: prints the lines of a file that hold a text.
 #![tactic(auto)]
 
-mod command;
-mod disk_store;
-mod fault;
-mod pattern;
-mod words;
-
-use command::command;
-use disk_store::DiskStore;
-use fault::{FAULT_STATUS, Fault, report};
+use pg_command::{FAULT_STATUS, Fault, command, report};
+use pg_run::DiskStore;
 use pg_seq::Out;
 use std::alloc::Global;
 use std::env;

@@ -9,6 +9,3 @@ mod classes;
 
 pub use byte_set::ByteSet;
 pub use classes::class;
-
-#[cfg(test)]
-mod tests;

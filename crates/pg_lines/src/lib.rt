@@ -19,6 +19,3 @@ pub use query::{Query, QueryFault, QueryText};
 pub use result::BlockResult;
 pub use search::search_block;
 pub use span::Span;
-
-#[cfg(test)]
-mod tests;

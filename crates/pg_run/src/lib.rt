@@ -1,6 +1,7 @@
 //! Reads a file and searches it, one block after the other.
 #![tactic(auto)]
 
+mod disk_store;
 mod fault;
 mod mem_store;
 mod past;
@@ -8,6 +9,7 @@ mod run;
 mod searcher;
 mod store;
 
+pub use disk_store::DiskStore;
 pub use fault::RunFault;
 pub use mem_store::{Ending, MemStore};
 pub use past::StorePast;

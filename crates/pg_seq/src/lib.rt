@@ -19,6 +19,3 @@ pub use mem_sink::MemSink;
 pub use sequencer::Sequencer;
 pub use sink::{Sink, WriteError, write_all};
 pub use writer::Out;
-
-#[cfg(test)]
-mod tests;

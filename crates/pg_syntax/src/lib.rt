@@ -23,6 +23,3 @@ pub use list::parse_list;
 pub use parser::{fixed, parse_bre, parse_ere};
 pub use pattern_list::{Kind, PatternList};
 pub use tree::Tree;
-
-#[cfg(test)]
-mod tests;

@@ -1,8 +1,12 @@
-//! Tests across the crates: memory that is refused, results in any order, and sinks that fail.
+//! Tests of the search, the sequencer and the command: sinks, refused memory, results in any order, command lines.
 #![tactic(auto)]
 
 #[cfg(test)]
+mod command;
+#[cfg(test)]
 mod cutter;
+#[cfg(test)]
+mod disk_store;
 #[cfg(test)]
 mod fixtures;
 #[cfg(test)]
@@ -11,3 +15,5 @@ mod patterns;
 mod run;
 #[cfg(test)]
 mod sequencer;
+#[cfg(test)]
+mod sinks;

@@ -14,6 +14,3 @@ pub use laws::{files_are_one, mem_tree_tells};
 pub use mem_tree::{MemTree, Node};
 pub use tree::{FileKind, FileTree, Listing, LookFault};
 pub use walker::walk;
-
-#[cfg(test)]
-mod tests;

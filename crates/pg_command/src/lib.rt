@@ -1,0 +1,10 @@
+//! The command: what the words of a command line ask for, over any files and streams.
+#![tactic(auto)]
+
+mod fault;
+mod pattern;
+mod search;
+
+pub use fault::{FAULT_STATUS, Fault, report};
+pub use pattern::{PatternFault, compile_text};
+pub use search::command;

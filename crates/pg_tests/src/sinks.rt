@@ -1,0 +1,162 @@
+//! Sinks over memory and over writers that fail.
+use pg_seq::{History, MemSink, Out, Sink, WriteError, write_all};
+use std::alloc::Global;
+use std::io::{self, ErrorKind, Write};
+use std::mem::size_of;
+use std::test::Fail;
+
+const TEXT: &[u8] = b"alpha\nbeta\n";
+
+#[test]
+fn a_history_has_no_bytes(rt: HostRuntime) {
+    assert_eq!(rt; size_of::<History<u64>>(), 0);
+    assert_eq!(rt; size_of::<Out<Vec<u8>>>(), size_of::<Vec<u8>>());
+    let mut history = History::new();
+    history.push(&1u64);
+    history.extend(&[2, 3]);
+}
+
+#[test]
+fn memory_fails_at_each_byte(rt: HostRuntime) -> Result<(), Fail> {
+    let alloc = rt.alloc();
+    for limit in 0..=TEXT.len() {
+        for write_limit in [usize::MAX, 2, 1] {
+            let mut sink = MemSink::new(alloc, limit)?;
+            sink.set_write_limit(write_limit);
+            let written = write_all(&mut sink, TEXT);
+            assert_eq!(rt; written.is_ok(), limit == TEXT.len(), "at {limit}");
+            assert_eq!(rt; sink.bytes(), &TEXT[..limit], "at {limit}");
+            assert_eq!(rt; sink.write(b"x"), Err(WriteError), "at {limit}");
+            assert_eq!(rt; sink.write(b""), Ok(0), "at {limit}");
+            assert_eq!(rt; sink.bytes(), &TEXT[..limit], "at {limit}");
+        }
+    }
+    Ok(())
+}
+
+#[test]
+fn memory_that_takes_no_byte(rt: HostRuntime) -> Result<(), Fail> {
+    let mut sink = MemSink::new(rt.alloc(), TEXT.len())?;
+    sink.set_write_limit(0);
+    assert_eq!(rt; sink.write(TEXT), Ok(0));
+    assert_eq!(rt; write_all(&mut sink, TEXT), Err(WriteError));
+    assert!(rt; write_all(&mut sink, b"").is_ok());
+    assert!(rt; sink.bytes().is_empty());
+    sink.set_write_limit(TEXT.len());
+    assert!(rt; write_all(&mut sink, TEXT).is_ok());
+    assert_eq!(rt; sink.bytes(), TEXT);
+    assert!(rt; MemSink::new(rt.alloc(), usize::MAX).is_err());
+    Ok(())
+}
+
+#[test]
+fn a_writer_gets_the_text(rt: HostRuntime) -> Result<(), Fail> {
+    let mut bytes = Vec::new(rt.alloc());
+    let mut out = Out::new(&mut bytes);
+    assert_eq!(rt; out.write(b""), Ok(0));
+    assert!(rt; write_all(&mut out, b"alpha\n").is_ok());
+    assert!(rt; write_all(&mut out, b"beta\n").is_ok());
+    assert!(rt; out.flush().is_ok());
+    assert_eq!(rt; bytes.as_slice(), TEXT);
+    Ok(())
+}
+
+/// What a writer does at its third call.
+#[derive(Clone, Copy, Debug)]
+enum Third {
+    Interrupted,
+    Failed,
+    Stalled,
+    Short,
+}
+
+/// A writer that takes at most two bytes a call.
+#[derive(Drop)]
+struct Faulty {
+    bytes: Vec<u8>,
+    calls: u64,
+    third: Third,
+}
+
+impl Faulty {
+    fn new(alloc: Global, third: Third) -> Faulty {
+        Faulty {
+            bytes: Vec::new(alloc),
+            calls: 0,
+            third,
+        }
+    }
+}
+
+impl Write for Faulty {
+    fn write(&mut self, text: &[u8]) -> io::Result<usize> {
+        self.calls = self.calls.wrapping_add(1);
+        let mut count = text.len().min(2);
+        if self.calls == 3 {
+            match self.third {
+                Third::Interrupted => return Err(io::Error::from(ErrorKind::Interrupted)),
+                Third::Failed => return Err(io::Error::from(ErrorKind::BrokenPipe)),
+                Third::Stalled => return Ok(0),
+                Third::Short => count = count.min(1),
+            }
+        }
+        self.bytes.extend_from_slice(&text[..count])?;
+        Ok(count)
+    }
+
+    fn flush(&mut self) -> io::Result<()> {
+        self.calls = self.calls.wrapping_add(1);
+        if self.calls == 3 {
+            return Err(io::Error::from(ErrorKind::BrokenPipe));
+        }
+        Ok(())
+    }
+}
+
+#[test]
+fn a_writer_fails_once_in_mid_stream(rt: HostRuntime) -> Result<(), Fail> {
+    for (third, whole) in [
+        (Third::Interrupted, false),
+        (Third::Failed, false),
+        (Third::Stalled, false),
+        (Third::Short, true),
+    ] {
+        let mut faulty = Faulty::new(rt.alloc(), third);
+        let mut out = Out::new(&mut faulty);
+        let written = write_all(&mut out, TEXT);
+        assert_eq!(rt; written.is_ok(), whole, "at {third:?}");
+        if !whole {
+            assert!(rt; write_all(&mut out, &TEXT[4..]).is_ok(), "at {third:?}");
+        }
+        assert_eq!(rt; faulty.bytes.as_slice(), TEXT, "at {third:?}");
+    }
+    Ok(())
+}
+
+#[test]
+fn a_flush_fails(rt: HostRuntime) -> Result<(), Fail> {
+    let mut faulty = Faulty::new(rt.alloc(), Third::Failed);
+    let mut out = Out::new(&mut faulty);
+    assert_eq!(rt; out.write(TEXT), Ok(2));
+    assert!(rt; out.flush().is_ok());
+    assert_eq!(rt; out.flush(), Err(WriteError));
+    assert!(rt; out.flush().is_ok());
+    assert_eq!(rt; faulty.bytes.as_slice(), b"al".as_slice());
+    Ok(())
+}
+
+#[test]
+fn an_error_has_its_text(rt: HostRuntime) -> Result<(), Fail> {
+    let text = format!(in rt.alloc(); "{WriteError}")?;
+    assert_eq!(rt; text.as_str(), "write failed");
+    Ok(())
+}
+
+fn needs_send<T: Send>(_value: &T) {}
+
+#[test]
+fn sinks_go_to_other_threads(rt: HostRuntime) -> Result<(), Fail> {
+    needs_send(&MemSink::new(rt.alloc(), 1)?);
+    needs_send(&Out::new(Vec::new(rt.alloc())));
+    Ok(())
+}
