@@ -1,5 +1,6 @@
 pub mod PathLemmas
 pub mod TableLemmas
+pub mod GapLemmas
 pub mod StateSetLemmas
 pub mod ClosureLemmas
 pub mod SearchLemmas

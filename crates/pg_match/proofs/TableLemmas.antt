@@ -10,25 +10,25 @@ use Rattle.pg_match.specs.Matches.{Chain}
 use Rattle.pg_syntax.specs.Patterns.{IsProper, Pattern, Empty, Set, Begin, End, Cat, Alt, Rep}
 use Rattle.pg_match.specs.Sizes.{size_of, repeated_size}
 use Rattle.pg_match.specs.Automata.{target_below, IsTidy}
-use Rattle.pg_match.specs.Tables.{Optional, Loop, AfterCopies, Implements, Keeps, NoAccept, KeepsWritten, Pushed, Added, AddedCopies, AddedOptional, AddedLoop}
+use Rattle.pg_match.specs.Tables.{Optional, Loop, AfterCopies, Implements, Keeps, NoAccept, KeepsWritten, Pushed, Added, AddedCopies, AddedOptional}
 use Rattle.pg_match.specs.declared.state.State.{State}
 use Rattle.pg_match.specs.declared.state.State.TheVariants.{Fail, Accept, Jump, Read, AtBegin, AtEnd, Split}
 
-plain_trans : (a b c : List State) → NoAccept a b → NoAccept b c → NoAccept a c
+pub plain_trans : (a b c : List State) → NoAccept a b → NoAccept b c → NoAccept a c
 plain_trans a b c f g q h = f q (g q h)
 
-keeps_trans : (a b c : List State) → Keeps a b → Keeps b c → Keeps a c
+pub keeps_trans : (a b c : List State) → Keeps a b → Keeps b c → Keeps a c
 keeps_trans a b c f g q s h = g q s (f q s h)
 
-written : (a b : List State) → Keeps a b → KeepsWritten a b
+pub written : (a b : List State) → Keeps a b → KeepsWritten a b
 written a b f q s other h = f q s h
 
-chain_kept : (R Q : ℕ → ℕ → Type 0) → ((e x : ℕ) → R e x → Q e x) → (c e x : ℕ) → Chain R c e x → Chain Q c e x
+pub chain_kept : (R Q : ℕ → ℕ → Type 0) → ((e x : ℕ) → R e x → Q e x) → (c e x : ℕ) → Chain R c e x → Chain Q c e x
 chain_kept R Q f zero e x h = h
 chain_kept R Q f (suc c) e x h = (h.0, f e h.0 h.1, chain_kept R Q f c h.0 x h.2)
 
 module _ (a b : List State) (keeps : KeepsWritten a b) where
-  optional_kept : (R Q : ℕ → ℕ → Type 0) → ((e x : ℕ) → R e x → Q e x) → (c e x : ℕ) → Optional a R c e x → Optional b Q c e x
+  pub optional_kept : (R Q : ℕ → ℕ → Type 0) → ((e x : ℕ) → R e x → Q e x) → (c e x : ℕ) → Optional a R c e x → Optional b Q c e x
   optional_kept R Q f zero e x h = h
   optional_kept R Q f (suc c) e x h =
       (h.0, h.1, keeps e (Split h.0 x) (λ w. cc) h.2, f h.0 h.1 h.3, optional_kept R Q f c h.1 x h.4)
@@ -118,58 +118,23 @@ one_added old new s r e x p tidy below is one other =
       size = omega (arith, len, one);
     }
 
-grown : (old new : List State) (r : Pattern) (e x : ℕ) → Added old new r e x → KeepsWritten old new
-grown old new r e x a = written old new a.keeps
-
-pub cat_added : (t u v : List State) (a b : Pattern) (e k x : ℕ) → Added t u b k x → Added u v a e k → Added t v (Cat a b) e x
-cat_added t u v a b e k x one two = record {
-  implements = (k, two.implements, implements_kept u v (grown u v a e k two) b k x one.implements);
-  keeps = keeps_trans t u v one.keeps two.keeps;
-  plain = plain_trans t u v one.plain two.plain;
-  tidy = two.tidy;
-  inside = two.inside;
-  size = omega (arith, one.size, two.size);
-}
-
-pub alt_added : (t u v w : List State) (a b : Pattern) (e f g x : ℕ) → Added t u b g x → Added u v a f x → Pushed v w (Split f g) e
-    → Added t w (Alt a b) e x
-alt_added t u v w a b e f g x one two three =
-    let len = pushed_length v w (Split f g) e three in
-    let keeps = pushed_keeps v w (Split f g) e three in
-    let keeps2 = keeps_trans u v w two.keeps keeps in
-    let below : target_below (length w) (Split f g) = (omega (arith, len, two.inside), omega (arith, len, one.inside, two.size)) in
-    record {
-      implements = (
-        f,
-        g,
-        pushed_is v w (Split f g) e three,
-        implements_kept v w (written v w keeps) a f x two.implements,
-        implements_kept u w (written u w keeps2) b g x one.implements,
-      );
-      keeps = keeps_trans t u w one.keeps keeps2;
-      plain = plain_trans t u w one.plain (plain_trans u v w two.plain (pushed_plain v w (Split f g) e three (λ z. cc)));
-      tidy = pushed_tidy v w (Split f g) e three two.tidy below;
-      inside = omega (arith, len, three.place);
-      size = omega (arith, len, one.size, two.size);
-    }
-
 -- the state s is written over
-set_is : (t : List State) (s : ℕ) (w : State) → s < length t → slice_get (set t s w) s ≡ Some w
+pub set_is : (t : List State) (s : ℕ) (w : State) → s < length t → slice_get (set t s w) s ≡ Some w
 set_is t s w h =
     let in' : s < length (set t s w) = omega (arith, length-set t s w) in
     slice_get-get_or (set t s w) s w in' ∙ ap Some (get_or-set_same t s w w h)
 
-set_other : (t : List State) (s q : ℕ) (w v : State) → q ≢ s → slice_get t q ≡ Some v → slice_get (set t s w) q ≡ Some v
+pub set_other : (t : List State) (s q : ℕ) (w v : State) → q ≢ s → slice_get t q ≡ Some v → slice_get (set t s w) q ≡ Some v
 set_other t s q w v other h =
     let within : q < length t = slice_get_within t q v h in
     let in' : q < length (set t s w) = omega (arith, length-set t s w) in
     slice_get-get_or (set t s w) q v in' ∙ ap Some (get_or-set_other t s q w v other ∙ get_or_from_slice_get t q v v h)
 
-set_written : (t : List State) (s : ℕ) (w : State) → slice_get t s ≡ Some Fail → KeepsWritten t (set t s w)
+pub set_written : (t : List State) (s : ℕ) (w : State) → slice_get t s ≡ Some Fail → KeepsWritten t (set t s w)
 set_written t s w was q v not_fail h =
     set_other t s q w v (λ same. let e : Some v ≡ Some Fail = sym h ∙ ap (slice_get t) same ∙ was in not_fail (cc)) h
 
-set_plain : (t : List State) (s : ℕ) (w : State) → s < length t → w ≢ Accept → NoAccept t (set t s w)
+pub set_plain : (t : List State) (s : ℕ) (w : State) → s < length t → w ≢ Accept → NoAccept t (set t s w)
 set_plain t s w s_in other q h =
     let within : q < length (set t s w) = slice_get_within (set t s w) q Accept h in
     elim (cases_eq q s) [
@@ -182,39 +147,8 @@ set_plain t s w s_in other q h =
           slice_get-get_or t q Accept q_in ∙ ap Some (sym (get_or-set_other t s q w Accept apart) ∙ e1)
     ]
 
-pub loop_added : (t u v new : List State) (r : Pattern) (s f x : ℕ) → Pushed t u Fail s → Added u v r f s
-    → x < length t → new ≡ set v s (Split f x) → AddedLoop t new r s x
-loop_added t u v new r s f x one two x_in is =
-    let len = pushed_length t u Fail s one in
-    let was : slice_get v s ≡ Some Fail = two.keeps s Fail (pushed_is t u Fail s one) in
-    let s_in : s < length v = slice_get_within v s Fail was in
-    let length' : length (set v s (Split f x)) ≡ length v = length-set v s (Split f x) in
-    let below : target_below (length v) (Split f x) = (two.inside, omega (arith, x_in, len, two.size)) in
-    let keeps1 = keeps_trans t u v (pushed_keeps t u Fail s one) two.keeps in
-    rw is record {
-      implements = (f, set_is v s (Split f x) s_in, implements_kept v (set v s (Split f x)) (set_written v s (Split f x) was) r f s two.implements);
-      keeps = λ q w h. let q_in : q < length t = slice_get_within t q w h in
-          let ne : q ≢ s = omega (arith, one.place) in set_other v s q (Split f x) w ne (keeps1 q w h);
-      plain = plain_trans t u (set v s (Split f x)) (pushed_plain t u Fail s one (λ z. cc))
-          (plain_trans u v (set v s (Split f x)) two.plain (set_plain v s (Split f x) s_in (λ z. cc)));
-      tidy = subst (λ n. All (target_below n) (set v s (Split f x))) (sym length') (All-set (target_below (length v)) v s (Split f x) below two.tidy);
-      inside = omega (arith, length', s_in);
-      size = omega (arith, length', len, two.size);
-    }
-
-rep_added : (t u v : List State) (r : Pattern) (m : ℕ) (n : Option ℕ) (e k x : ℕ)
-    → Keeps t u → NoAccept t u → AfterCopies u (Implements u r) m n k x → AddedCopies u v r m e k
-    → length t + repeated_size (size_of r) m n ≡ length u + m * size_of r → Added t v (Rep r m n) e x
-rep_added t u v r m n e k x keeps plain rest copies size =
-    let w = written u v copies.keeps in
-    record {
-      implements = (k, copies.implements, rest_kept u v w (Implements u r) (Implements v r) (implements_kept u v w r) m n k x rest);
-      keeps = keeps_trans t u v keeps copies.keeps;
-      plain = plain_trans t u v plain copies.plain;
-      tidy = copies.tidy;
-      inside = copies.inside;
-      size = omega (arith, size, copies.size);
-    }
+grown : (old new : List State) (r : Pattern) (e x : ℕ) → Added old new r e x → KeepsWritten old new
+grown old new r e x a = written old new a.keeps
 
 pub no_copies : (t : List State) (r : Pattern) (x : ℕ) → IsTidy t → x < length t → AddedCopies t t r 0 x x
 no_copies t r x tidy inside = record {
@@ -325,17 +259,3 @@ rest_added t u v r c n e k x proper less copies one same =
       inside = all.inside;
       size = omega (arith, all.size, none n (size_of r) s, none (c + 1) (size_of r) s);
     }
-
-pub loop_rep_added : (t u v : List State) (r : Pattern) (m e k x : ℕ)
-    → AddedLoop t u r k x → AddedCopies u v r m e k → Added t v (Rep r m None) e x
-loop_rep_added t u v r m e k x rest copies =
-    rep_added t u v r m None e k x rest.keeps rest.plain rest.implements copies (omega (arith, rest.size))
-
-pub few_rep_added : (t u v : List State) (r : Pattern) (m b e k x : ℕ) → m ≤ b
-    → AddedOptional t u r (b - m) k x → AddedCopies u v r m e k → Added t v (Rep r m (Some b)) e x
-few_rep_added t u v r m b e k x le rest copies =
-    let parts : (b - m) * size_of r + m * size_of r ≡ b * size_of r = product (b - m) m (size_of r) b (omega arith) in
-    rep_added t u v r m (Some b) e k x rest.keeps rest.plain rest.implements copies (omega (arith, rest.size, parts))
-  where
-    product : (d m z b : ℕ) → d + m ≡ b → d * z + m * z ≡ b * z
-    product d m z b sum = rw (← sum) (omega arith)

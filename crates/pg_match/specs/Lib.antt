@@ -7,6 +7,7 @@ pub mod Sizes
 pub mod Automata
 pub mod Machines
 pub mod Tables
+pub mod Gaps
 pub mod StateSets
 pub mod Closures
 pub mod Searches

@@ -79,15 +79,6 @@ pub record AddedOptional (old new : List State) (p : Pattern) (count e x : ℕ) 
   pub inside : e < length new
   pub size : length new ≡ length old + count * size_of p + count
 
--- the same for a loop over the pattern
-pub record AddedLoop (old new : List State) (p : Pattern) (e x : ℕ) : Type 0 where
-  pub implements : Loop new (Implements new p) e x
-  pub keeps : Keeps old new
-  pub plain : NoAccept old new
-  pub tidy : IsTidy new
-  pub inside : e < length new
-  pub size : length new ≡ length old + size_of p + 1
-
 -- from e the table matches one of the patterns 0 to k, and goes on at x
 abbrev pub Alternatives : List State → List Pattern → ℕ → ℕ → ℕ → Type 0
 Alternatives t patterns zero e x = (p : Pattern) × (slice_get patterns 0 ≡ Some p) × Implements t p e x

@@ -1,19 +1,41 @@
 //! How the states of trees are made.
-ghost use Rattle.std.specs.Prelude.{◌≡◌, ◌+◌, ◌*◌, ◌<◌, ◌≤◌, All, IfOk, length, map};
-ghost use Rattle.pg_syntax.specs.Patterns.{IsProper};
+ghost use Rattle.std.specs.Prelude.{◌≡◌, ◌+◌, ◌*◌, ◌<◌, ◌≤◌, All, IfOk, IsTrue, length, map, false};
+ghost use Rattle.pg_syntax.specs.Patterns.{Pattern, IsProper, Alt, Rep};
 ghost use Rattle.pg_syntax.specs.Trees.{pattern};
 ghost use Rattle.pg_match.specs.Sizes.{size_of, list_size};
 ghost use Rattle.pg_match.specs.Automata.{IsTidy, IsRunnable, target_below};
-ghost use Rattle.pg_match.specs.Tables.{Pushed, Added, AddedCopies, AddedOptional, AddedLoop};
+ghost use Rattle.pg_match.specs.Tables.{Pushed, Added, AddedCopies, AddedOptional};
+ghost use Rattle.pg_match.specs.Gaps.{IsHole, IsFilled, Finished, IsGap, Narrowed};
 ghost use Rattle.pg_match.specs.Machines.{IsMachineOf};
 ghost use Rattle.pg_match.specs.Views.{nfa, HasSeeds};
 
 use crate::automaton::Automaton;
 use crate::bounds::Bounds;
+use crate::size::size;
 use crate::state::State;
 use crate::walk::seeds;
 use pg_syntax::Tree;
 use std::alloc::{AllocError, Allocator};
+
+/// A `Split` that is still `Fail`, since the first of the states that it leads to isn't there yet.
+#[derive(Clone, Copy)]
+struct Hole {
+    /// The state that is to be the `Split`.
+    place: u32,
+    /// The second of the states that it is to lead to.
+    second: u32,
+    /// The state where the whole tree begins.
+    entry: u32,
+}
+
+/// Where the states go that a tree still lacks, those of its first part.
+#[derive(Clone, Copy)]
+struct Gap {
+    /// What is to lead to them. Without a hole the whole tree begins with them.
+    hole: Option<Hole>,
+    /// The state that they lead on to.
+    next: u32,
+}
 
 /// The automaton of trees that are not too large.
 pub(crate) fn assemble<A: Allocator + Copy>(
@@ -58,7 +80,50 @@ fn push<A: Allocator>(states: &mut Vec<State, A>, state: State) -> Result<u32, A
     Ok(place)
 }
 
+/// Makes the hole lead to a state, and answers the one where the whole tree begins: that very state,
+/// if there is no hole.
+fn fill<A: Allocator>(states: &mut Vec<State, A>, hole: Option<Hole>, first: u32) -> u32
+    requires { IsHole 0 states.old.items hole }
+    ensures { IsFilled states.old.items states.new.items hole first result }
+{
+    match hole {
+        None => first,
+        Some(hole) => {
+            states[hole.place as usize] = State::Split(first, hole.second);
+            hole.entry
+        }
+    }
+}
+
+/// Fills the gap with one state, and answers the one where the whole tree begins.
+fn finish<A: Allocator>(
+    states: &mut Vec<State, A>,
+    hole: Option<Hole>,
+    state: State,
+) -> Result<u32, AllocError>
+    requires room { length states.old.items < 65536 }
+    requires hole_in { IsHole 0 states.old.items hole }
+    ensures { IfOk result (λ e. Finished states.old.items states.new.items hole state e) }
+{
+    let first = push(states, state)?;
+    let entry = fill(states, hole, first);
+    Ok(entry)
+}
+
+/// Whether so many copies of a tree are known to have no state. A single copy is not looked through.
+fn are_nothing<A: Allocator>(inner: &Tree<A>, count: u8) -> bool
+    requires { IsProper (pattern inner.now) }
+    ensures nothing { IsTrue result → count * size_of (pattern inner.now) ≡ 0 }
+    ensures some { result ≡ false → 0 < count }
+{
+    count == 0 || (count > 1 && size(inner) == 0)
+}
+
 /// Adds the states of a tree, and answers the one where it begins. They lead on to `next`.
+///
+/// The left spine of the tree, over `Cat`, `Alt` and `Rep`, is walked by a loop from the whole tree to
+/// its first part, which is made last. So the calls are at most as deep as the groups of a parsed tree and the
+/// doublings of its states.
 #[cycle(build)]
 fn add<A: Allocator>(
     states: &mut Vec<State, A>,
@@ -72,68 +137,105 @@ fn add<A: Allocator>(
     ensures { IfOk result (λ e. Added states.old.items states.new.items (pattern tree.now) e next) }
 {
     let mut tree = tree;
-    let mut next = next;
+    let mut gap = Gap { hole: None, next };
     loop {
         match tree {
-            Tree::Empty => {
-                let entry = push(states, State::Jump(next))?;
-                return Ok(entry);
-            }
-            Tree::Set(set) => {
-                let entry = push(states, State::Read(*set, next))?;
-                return Ok(entry);
-            }
-            Tree::Begin => {
-                let entry = push(states, State::AtBegin(next))?;
-                return Ok(entry);
-            }
-            Tree::End => {
-                let entry = push(states, State::AtEnd(next))?;
-                return Ok(entry);
-            }
+            Tree::Empty => return finish(states, gap.hole, State::Jump(gap.next)),
+            Tree::Set(set) => return finish(states, gap.hole, State::Read(*set, gap.next)),
+            Tree::Begin => return finish(states, gap.hole, State::AtBegin(gap.next)),
+            Tree::End => return finish(states, gap.hole, State::AtEnd(gap.next)),
             Tree::Cat(first, second) => {
-                next = add(states, second, next)?;
+                gap.next = add(states, second, gap.next)?;
                 tree = first;
             }
-            Tree::Alt(one, other) => {
-                let second = add(states, other, next)?;
-                let first = add(states, one, next)?;
-                let entry = push(states, State::Split(first, second))?;
-                return Ok(entry);
+            Tree::Alt(first, second) => {
+                gap = open_choice(states, second, gap)?;
+                tree = first;
             }
             Tree::Rep(inner, least, most) => match *most {
                 None => {
-                    let rest = add_loop(states, inner, next)?;
-                    let entry = add_copies(states, inner, *least, rest)?;
-                    return Ok(entry);
+                    gap = open_loop(states, inner, *least, gap)?;
+                    tree = inner;
                 }
-                Some(most) => {
-                    let rest = add_optional(states, inner, most - *least, next)?;
-                    let entry = add_copies(states, inner, *least, rest)?;
-                    return Ok(entry);
+                Some(most) if *least < most => {
+                    gap = open_option(states, inner, *least, most, gap)?;
+                    tree = inner;
+                }
+                Some(count) => {
+                    if are_nothing(inner, count) {
+                        return Ok(fill(states, gap.hole, gap.next));
+                    }
+                    gap.next = add_copies(states, inner, count - 1, gap.next)?;
+                    tree = inner;
                 }
             },
         }
     }
 }
 
-/// Adds a loop over a tree.
+/// Adds the second of two alternatives, and answers the gap for the first.
 #[cycle(build)]
-fn add_loop<A: Allocator>(
+fn open_choice<A: Allocator>(
+    states: &mut Vec<State, A>,
+    second: &Tree<A>,
+    gap: Gap,
+) -> Result<Gap, AllocError>
+    requires proper { IsProper (pattern second.now) }
+    requires fits { length states.old.items + size_of (pattern second.now) + 1 ≤ 65536 }
+    requires gap_in { IsGap 0 states.old.items gap }
+    ensures { IfOk result
+        (λ g. (p : Pattern) → Narrowed states.old.items states.new.items gap g (Alt p (pattern second.now)) p) }
+{
+    let other = add(states, second, gap.next)?;
+    let place = push(states, State::Fail)?;
+    let entry = fill(states, gap.hole, place);
+    let hole = Hole { place, second: other, entry };
+    Ok(Gap { hole: Some(hole), next: gap.next })
+}
+
+/// Adds a loop without the tree that it repeats, and copies of the tree in front of it. Answers the gap for the tree.
+#[cycle(build)]
+fn open_loop<A: Allocator>(
     states: &mut Vec<State, A>,
     inner: &Tree<A>,
-    next: u32,
-) -> Result<u32, AllocError>
+    least: u8,
+    gap: Gap,
+) -> Result<Gap, AllocError>
     requires proper { IsProper (pattern inner.now) }
-    requires fits { length states.old.items + size_of (pattern inner.now) + 1 ≤ 65536 }
-    requires next_in { next < length states.old.items }
-    requires tidy { IsTidy states.old.items }
-    ensures { IfOk result (λ e. AddedLoop states.old.items states.new.items (pattern inner.now) e next) }
+    requires fits { length states.old.items + size_of (Rep (pattern inner.now) least None) ≤ 65536 }
+    requires gap_in { IsGap 0 states.old.items gap }
+    ensures { IfOk result
+        (λ g. Narrowed states.old.items states.new.items gap g (Rep (pattern inner.now) least None) (pattern inner.now)) }
 {
     let turn = push(states, State::Fail)?;
-    let first = add(states, inner, turn)?;
-    states[turn as usize] = State::Split(first, next);
-    Ok(turn)
+    let copies = add_copies(states, inner, least, turn)?;
+    let entry = fill(states, gap.hole, copies);
+    let hole = Hole { place: turn, second: gap.next, entry };
+    Ok(Gap { hole: Some(hole), next: turn })
+}
+
+/// Adds repetitions of a tree but for the first of those that may be left out, and answers the gap for that one.
+#[cycle(build)]
+fn open_option<A: Allocator>(
+    states: &mut Vec<State, A>,
+    inner: &Tree<A>,
+    least: u8,
+    most: u8,
+    gap: Gap,
+) -> Result<Gap, AllocError>
+    requires proper { IsProper (pattern inner.now) }
+    requires order { least < most }
+    requires fits { length states.old.items + size_of (Rep (pattern inner.now) least (Some most)) ≤ 65536 }
+    requires gap_in { IsGap 0 states.old.items gap }
+    ensures { IfOk result
+        (λ g. Narrowed states.old.items states.new.items gap g (Rep (pattern inner.now) least (Some most)) (pattern inner.now)) }
+{
+    let others = add_optional(states, inner, most - least - 1, gap.next)?;
+    let place = push(states, State::Fail)?;
+    let copies = add_copies(states, inner, least, place)?;
+    let entry = fill(states, gap.hole, copies);
+    let hole = Hole { place, second: gap.next, entry };
+    Ok(Gap { hole: Some(hole), next: others })
 }
 
 /// Adds copies of a tree that may be left out.

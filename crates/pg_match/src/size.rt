@@ -14,7 +14,7 @@ pub(crate) const MAX_STATES: u64 = 65_536;
 const TOO_MANY: u64 = MAX_STATES + 1;
 
 /// The size of a tree, or 65,537 where it is larger. The left spine of the tree is walked by a loop.
-fn size<A: Allocator>(tree: &Tree<A>) -> u64
+pub(crate) fn size<A: Allocator>(tree: &Tree<A>) -> u64
     requires { IsProper (pattern tree.now) }
     ensures { result ≡ min (size_of (pattern tree.now)) 65537 }
 {
