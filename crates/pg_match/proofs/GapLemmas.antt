@@ -155,20 +155,6 @@ completes_cat t u g a b whole k x c one new e w keeps part leads =
     let all = written_trans t u new (written t u one.keeps) keeps in
     c new e w all (k, part, implements_kept u new keeps b k g.next one.implements) leads
 
-pub has_copies : (first t u : List State) (g : Gap) (r : Pattern) (c k : ℕ) → HasGap first t g → AddedCopies t u r c k g.next
-    → HasGap first u (record { hole = g.hole; next = k })
-has_copies first t u g r c k has some = has_moved first t u g k has (grew_copies t u r c k g.next some) some.inside
-
-pub completes_copies : (t u : List State) (g : Gap) (r whole : Pattern) (c m n k x : ℕ) → m ≡ suc c → n ≡ m → Completes t g (Rep r m (Some n)) whole x
-    → AddedCopies t u r c k g.next → Completes u (record { hole = g.hole; next = k }) r whole x
-completes_copies t u g r whole c m n k x more same all some new e w keeps part leads =
-    let kept = implements_kept u new keeps r in
-    let over = written_trans t u new (written t u some.keeps) keeps in
-    let none : n - m ≡ 0 = omega arith in
-    let chain : Chain (Implements new r) m e g.next =
-        rw more (k, part, chain_kept (Implements u r) (Implements new r) kept c k g.next some.implements) in
-    all new e w over (g.next, chain, subst (λ d. Optional new (Implements new r) d g.next g.next) (sym none) refl) leads
-
 -- the gap is narrowed once more
 pub completes_narrowed : (t u : List State) (g h : Gap) (whole some part : Pattern) (x : ℕ) → Completes t g some whole x
     → Narrowed t u g h some part → Completes u h part whole x
@@ -319,6 +305,21 @@ option_narrowed t u v y z r n b c g j s k w more le is few push some filled =
           );
       size = let all = shared n c b (size_of r) (omega arith) in omega (arith, len, length', few.size, some.size, all);
     }
+
+pub copies_narrowed : (t u : List State) (r : Pattern) (n b c : ℕ) (g : Gap) (k : ℕ) → b ≡ suc c → b ≡ n → AddedCopies t u r c k g.next
+    → Narrowed t u g (record { hole = g.hole; next = k }) (Rep r n (Some b)) r
+copies_narrowed t u r n b c g k more same some = record {
+  has = λ first has. has_moved first t u g k has (grew_copies t u r c k g.next some) some.inside;
+  written = written t u some.keeps;
+  completes = λ new e w keeps part leads.
+      let kept = implements_kept u new keeps r in
+      let none : b - n ≡ 0 = omega arith in
+      let all : n ≡ suc c = omega arith in
+      let chain : Chain (Implements new r) n e g.next =
+          rw all (k, part, chain_kept (Implements u r) (Implements new r) kept c k g.next some.implements) in
+      (e, (g.next, chain, subst (λ d. Optional new (Implements new r) d g.next g.next) (sym none) refl), leads);
+  size = let all = shared 0 c b (size_of r) (omega arith) in omega (arith, some.size, all);
+}
 
 -- the gap gets one state
 pub finished_leaf : {E : Type 0} (first t v : List State) (g : Gap) (whole r leaf : Pattern) (s : State) (x : ℕ) (o : Result ℕ E)

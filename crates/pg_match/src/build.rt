@@ -1,5 +1,5 @@
 //! How the states of trees are made.
-ghost use Rattle.std.specs.Prelude.{◌≡◌, ◌+◌, ◌*◌, ◌<◌, ◌≤◌, All, IfOk, IsTrue, length, map, false};
+ghost use Rattle.std.specs.Prelude.{◌≡◌, ◌+◌, ◌*◌, ◌<◌, ◌≤◌, All, IfOk, IfSome, IsTrue, length, map, false};
 ghost use Rattle.pg_syntax.specs.Patterns.{Pattern, IsProper, Alt, Rep};
 ghost use Rattle.pg_syntax.specs.Trees.{pattern};
 ghost use Rattle.pg_match.specs.Sizes.{size_of, list_size};
@@ -110,13 +110,17 @@ fn finish<A: Allocator>(
     Ok(entry)
 }
 
-/// Whether so many copies of a tree are known to have no state. A single copy is not looked through.
-fn are_nothing<A: Allocator>(inner: &Tree<A>, count: u8) -> bool
-    requires { IsProper (pattern inner.now) }
-    ensures nothing { IsTrue result → count * size_of (pattern inner.now) ≡ 0 }
-    ensures some { result ≡ false → 0 < count }
+/// Whether repetitions of a tree are known to have no state. A single copy is not looked through.
+fn is_without_states<A: Allocator>(inner: &Tree<A>, least: u8, most: Option<u8>) -> bool
+    requires { IsProper (Rep (pattern inner.now) least most) }
+    ensures without { IsTrue result → size_of (Rep (pattern inner.now) least most) ≡ 0 }
+    ensures some { result ≡ false → IfSome most (λ n. 0 < n) }
 {
-    count == 0 || (count > 1 && size(inner) == 0)
+    match most {
+        None => false,
+        Some(0) => true,
+        Some(count) => count > 1 && least == count && size(inner) == 0,
+    }
 }
 
 /// Adds the states of a tree, and answers the one where it begins. They lead on to `next`.
@@ -152,23 +156,14 @@ fn add<A: Allocator>(
                 gap = open_choice(states, second, gap)?;
                 tree = first;
             }
-            Tree::Rep(inner, least, most) => match *most {
-                None => {
-                    gap = open_loop(states, inner, *least, gap)?;
-                    tree = inner;
+            Tree::Rep(inner, least, most) => {
+                if is_without_states(inner, *least, *most) {
+                    let entry = fill(states, gap.hole, gap.next);
+                    return Ok(entry);
                 }
-                Some(most) if *least < most => {
-                    gap = open_option(states, inner, *least, most, gap)?;
-                    tree = inner;
-                }
-                Some(count) => {
-                    if are_nothing(inner, count) {
-                        return Ok(fill(states, gap.hole, gap.next));
-                    }
-                    gap.next = add_copies(states, inner, count - 1, gap.next)?;
-                    tree = inner;
-                }
-            },
+                gap = open_repetition(states, inner, *least, *most, gap)?;
+                tree = inner;
+            }
         }
     }
 }
@@ -193,49 +188,44 @@ fn open_choice<A: Allocator>(
     Ok(Gap { hole: Some(hole), next: gap.next })
 }
 
-/// Adds a loop without the tree that it repeats, and copies of the tree in front of it. Answers the gap for the tree.
+/// Adds repetitions of a tree but for one copy, and answers the gap for that one: the copy in the loop,
+/// the first one that may be left out, or the first of all.
 #[cycle(build)]
-fn open_loop<A: Allocator>(
+fn open_repetition<A: Allocator>(
     states: &mut Vec<State, A>,
     inner: &Tree<A>,
     least: u8,
+    most: Option<u8>,
     gap: Gap,
 ) -> Result<Gap, AllocError>
-    requires proper { IsProper (pattern inner.now) }
-    requires fits { length states.old.items + size_of (Rep (pattern inner.now) least None) ≤ 65536 }
+    requires proper { IsProper (Rep (pattern inner.now) least most) }
+    requires some { IfSome most (λ n. 0 < n) }
+    requires fits { length states.old.items + size_of (Rep (pattern inner.now) least most) ≤ 65536 }
     requires gap_in { IsGap 0 states.old.items gap }
     ensures { IfOk result
-        (λ g. Narrowed states.old.items states.new.items gap g (Rep (pattern inner.now) least None) (pattern inner.now)) }
+        (λ g. Narrowed states.old.items states.new.items gap g (Rep (pattern inner.now) least most) (pattern inner.now)) }
 {
-    let turn = push(states, State::Fail)?;
-    let copies = add_copies(states, inner, least, turn)?;
-    let entry = fill(states, gap.hole, copies);
-    let hole = Hole { place: turn, second: gap.next, entry };
-    Ok(Gap { hole: Some(hole), next: turn })
-}
-
-/// Adds repetitions of a tree but for the first of those that may be left out, and answers the gap for that one.
-#[cycle(build)]
-fn open_option<A: Allocator>(
-    states: &mut Vec<State, A>,
-    inner: &Tree<A>,
-    least: u8,
-    most: u8,
-    gap: Gap,
-) -> Result<Gap, AllocError>
-    requires proper { IsProper (pattern inner.now) }
-    requires order { least < most }
-    requires fits { length states.old.items + size_of (Rep (pattern inner.now) least (Some most)) ≤ 65536 }
-    requires gap_in { IsGap 0 states.old.items gap }
-    ensures { IfOk result
-        (λ g. Narrowed states.old.items states.new.items gap g (Rep (pattern inner.now) least (Some most)) (pattern inner.now)) }
-{
-    let others = add_optional(states, inner, most - least - 1, gap.next)?;
-    let place = push(states, State::Fail)?;
-    let copies = add_copies(states, inner, least, place)?;
-    let entry = fill(states, gap.hole, copies);
-    let hole = Hole { place, second: gap.next, entry };
-    Ok(Gap { hole: Some(hole), next: others })
+    match most {
+        None => {
+            let turn = push(states, State::Fail)?;
+            let copies = add_copies(states, inner, least, turn)?;
+            let entry = fill(states, gap.hole, copies);
+            let hole = Hole { place: turn, second: gap.next, entry };
+            Ok(Gap { hole: Some(hole), next: turn })
+        }
+        Some(most) if least < most => {
+            let others = add_optional(states, inner, most - least - 1, gap.next)?;
+            let place = push(states, State::Fail)?;
+            let copies = add_copies(states, inner, least, place)?;
+            let entry = fill(states, gap.hole, copies);
+            let hole = Hole { place, second: gap.next, entry };
+            Ok(Gap { hole: Some(hole), next: others })
+        }
+        Some(count) => {
+            let next = add_copies(states, inner, count - 1, gap.next)?;
+            Ok(Gap { hole: gap.hole, next })
+        }
+    }
 }
 
 /// Adds copies of a tree that may be left out.

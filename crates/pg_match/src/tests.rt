@@ -259,30 +259,61 @@ fn large_patterns_are_refused(rt: HostRuntime) -> Result<(), Fail> {
     Ok(())
 }
 
+/// A text with so many copies of others in front of it and behind it.
+fn nested(
+    alloc: Global,
+    front: &[u8],
+    inner: &[u8],
+    back: &[u8],
+    count: u32,
+) -> Result<Vec<u8>, AllocError> {
+    let mut text = Vec::new(alloc);
+    for _ in 0..count {
+        text.extend_from_slice(front)?;
+    }
+    text.extend_from_slice(inner)?;
+    for _ in 0..count {
+        text.extend_from_slice(back)?;
+    }
+    Ok(text)
+}
+
+/// How often the middle of an expression is nested, what then stands in front of it and behind it, a line, and its first
+/// matched part.
+type Nested = (
+    u32,
+    &'static [u8],
+    &'static [u8],
+    &'static [u8],
+    &'static [u8],
+    Option<(usize, usize)>,
+);
+
 #[test]
 fn deep_trees(rt: HostRuntime) -> Result<(), Fail> {
     let alloc = rt.alloc();
-    let mut text: Vec<u8> = Vec::new(alloc);
-    text.push(b'a')?;
-    for _ in 0..4095u32 {
-        text.push(b'*')?;
+    let rows: [Nested; 10] = [
+        (4095, b"", b"a", b"*", b"baab", Some((1, 3))),
+        (2047, b"", b"b", b"|a", b"cca", Some((2, 3))),
+        (4095, b"", b"b", b"?", b"abb", Some((1, 2))),
+        (1365, b"", b"b", b"{1}", b"abb", Some((1, 2))),
+        (1365, b"", b"a", b"{0}", b"aa", None),
+        (1364, b"", b"a{0}", b"{2}", b"aa", None),
+        (15, b"", b"a", b"+", b"baab", Some((1, 3))),
+        (100, b"(", b"b", b"|a)*", b"cabc", Some((1, 3))),
+        (100, b"(a|", b"b", b")*", b"cabc", Some((1, 3))),
+        (100, b"(a|b", b"c", b"){0,1}", b"cabbc", Some((1, 2))),
+    ];
+    for (count, front, inner, back, line, want) in rows {
+        assert!(rt; line.len() <= 100);
+        let text = nested(alloc, front, inner, back, count)?;
+        let mut search = machine(alloc, &text, Bounds::Any)?;
+        assert_eq!(rt;
+            search.machine.next_piece(&mut search.scratch, line, 0),
+            want,
+            "{count} times {back:?}"
+        );
     }
-    let mut search = machine(alloc, &text, Bounds::Any)?;
-    assert_eq!(rt;
-        search.machine.next_piece(&mut search.scratch, b"baab", 0),
-        Some((1, 3))
-    );
-    let mut text: Vec<u8> = Vec::new(alloc);
-    text.push(b'b')?;
-    for _ in 0..2047u32 {
-        text.push(b'|')?;
-        text.push(b'a')?;
-    }
-    let mut search = machine(alloc, &text, Bounds::Any)?;
-    assert_eq!(rt;
-        search.machine.next_piece(&mut search.scratch, b"cca", 0),
-        Some((2, 3))
-    );
     let line = line_of_a(alloc, 4096)?;
     let trees = [fixed(alloc, &line, false)?];
     let machine = Machine::build(alloc, &trees, true)?;
