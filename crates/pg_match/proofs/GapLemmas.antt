@@ -19,10 +19,6 @@ use Rattle.pg_match.proofs.TableLemmas.{plain_trans, keeps_trans, written, chain
 written_trans : (a b c : List State) → KeepsWritten a b → KeepsWritten b c → KeepsWritten a c
 written_trans a b c f g q s other h = g q s other (f q s other h)
 
-hole_from : (n m : ℕ) (t : List State) (h : Option Hole) → m ≤ n → IsHole n t h → IsHole m t h
-hole_from n m t None le hole = tt
-hole_from n m t (Some h) le hole = (omega (arith, hole.0), hole.1, hole.2, hole.3)
-
 hole_kept : (n : ℕ) (t u : List State) (h : Option Hole) → Keeps t u → length t ≤ length u → IsHole n t h → IsHole n u h
 hole_kept n t u None keeps le hole = tt
 hole_kept n t u (Some h) keeps le hole = (hole.0, keeps h.place Fail hole.1, omega (arith, hole.2), omega (arith, hole.3))
@@ -114,22 +110,6 @@ grew_copies t u r c e x a = record { keeps = a.keeps; plain = a.plain; tidy = a.
 
 grew_optional : (t u : List State) (r : Pattern) (c e x : ℕ) → AddedOptional t u r c e x → Grew t u
 grew_optional t u r c e x a = record { keeps = a.keeps; plain = a.plain; tidy = a.tidy; longer = omega (arith, a.size) }
-
--- a gap of the whole table is one of it from any state on
-pub gap_from_first : (n : ℕ) (t : List State) (g : Gap) → IsGap n t g → IsGap 0 t g
-gap_from_first n t g is = record { tidy = is.tidy; next_in = is.next_in; hole_in = hole_from n 0 t g.hole (omega arith) is.hole_in }
-
--- at first the whole is to be added
-pub has_whole : (t : List State) (x : ℕ) → IsTidy t → x < length t → HasGap t t (record { hole = None; next = x })
-has_whole t x tidy inside = record {
-  keeps = λ q s h. h;
-  plain = λ q h. h;
-  longer = omega arith;
-  gap_in = record { tidy = tidy; next_in = inside; hole_in = tt };
-}
-
-pub completes_whole : (t : List State) (r : Pattern) (x : ℕ) → Completes t (record { hole = None; next = x }) r r x
-completes_whole t r x new e w keeps part leads = rw leads part
 
 -- the gap's end moves
 has_moved : (first t u : List State) (g : Gap) (k : ℕ) → HasGap first t g → Grew t u → k < length u
@@ -225,6 +205,13 @@ module _ (t u v : List State) (g : Gap) (e w : ℕ) (is : IsGap 0 t g) (grew : G
         };
       }
 
+-- the hole is at a state, and its second one is known
+pub narrowed_at : (t u : List State) (g : Gap) (h : Hole) (s m k : ℕ) (whole part : Pattern) → h.place ≡ s → h.second ≡ m
+    → Narrowed t u g (at_hole s m h.entry k) whole part → Narrowed t u g (record { hole = Some h; next = k }) whole part
+narrowed_at t u g h s m k whole part place second n =
+    let same : record { place = s; second = m; entry = h.entry } ≡ h = rw (← place, ← second) refl in
+    subst (λ (h : Hole). Narrowed t u g (record { hole = Some h; next = k }) whole part) same n
+
 pub choice_narrowed : (t u v z : List State) (a b : Pattern) (g : Gap) (m s w : ℕ) → IsGap 0 t g → Added t u b m g.next → Pushed u v Fail s
     → IsFilled v z g.hole s w → Narrowed t z g (at_hole s m w g.next) (Alt a b) a
 choice_narrowed t u v z a b g m s w is one push filled =
@@ -298,7 +285,7 @@ option_narrowed t u v y z r n b c g j s k w more le is few push some filled =
           let over' = written_trans u v new (written u v push'.keeps) (written_trans v y new (written v y some.keeps) over) in
           let kept' = implements_kept u new over' r in
           let rest : Optional new (Implements new r) (b - n) s g.next =
-              rw more (e, j, leads.1, part, optional_kept u new over' (Implements u r) (Implements new r) kept' c j g.next few.implements) in (
+          rw more (e, j, leads.1, part, optional_kept u new over' (Implements u r) (Implements new r) kept' c j g.next few.implements) in (
             k,
             (s, chain_kept (Implements y r) (Implements new r) kept n k s some.implements, rest),
             opened_leads t y z g k w is grew filled new w' keeps (leads.0),
@@ -316,7 +303,7 @@ copies_narrowed t u r n b c g k more same some = record {
       let none : b - n ≡ 0 = omega arith in
       let all : n ≡ suc c = omega arith in
       let chain : Chain (Implements new r) n e g.next =
-          rw all (k, part, chain_kept (Implements u r) (Implements new r) kept c k g.next some.implements) in
+      rw all (k, part, chain_kept (Implements u r) (Implements new r) kept c k g.next some.implements) in
       (e, (g.next, chain, subst (λ d. Optional new (Implements new r) d g.next g.next) (sym none) refl), leads);
   size = let all = shared 0 c b (size_of r) (omega arith) in omega (arith, some.size, all);
 }
@@ -328,5 +315,5 @@ pub finished_leaf : {E : Type 0} (first t v : List State) (g : Gap) (whole r lea
     → s ≢ Accept → IfOk o (Finished t v g.hole s) → IfOk o (λ w. Added first v whole w x)
 finished_leaf first t v g whole r leaf s x o has c size same below is one other h =
     IfOk-weaker o (Finished t v g.hole s) (λ w. Added first v whole w x) (λ w f.
-        let part = one_added t f.0 s leaf f.1 g.next f.2 has.gap_in.tidy below (is f.0 f.1) one other in
-        finished first t f.0 v g whole r f.1 w x has c (rw same part) f.3 size) h
+    let part = one_added t f.0 s leaf f.1 g.next f.2 has.gap_in.tidy below (is f.0 f.1) one other in
+    finished first t f.0 v g whole r f.1 w x has c (rw same part) f.3 size) h

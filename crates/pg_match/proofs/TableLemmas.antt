@@ -150,16 +150,6 @@ set_plain t s w s_in other q h =
 grown : (old new : List State) (r : Pattern) (e x : ℕ) → Added old new r e x → KeepsWritten old new
 grown old new r e x a = written old new a.keeps
 
-pub no_copies : (t : List State) (r : Pattern) (x : ℕ) → IsTidy t → x < length t → AddedCopies t t r 0 x x
-no_copies t r x tidy inside = record {
-  implements = refl;
-  keeps = λ q s h. h;
-  plain = λ q h. h;
-  tidy = tidy;
-  inside = inside;
-  size = omega arith;
-}
-
 pub copy_added : (t u v : List State) (r : Pattern) (c e k x : ℕ) → AddedCopies t u r c k x → Added u v r e k → AddedCopies t v r (c + 1) e x
 copy_added t u v r c e k x copies one =
     let n : c + 1 ≡ suc c = omega arith in
@@ -172,16 +162,6 @@ copy_added t u v r c e k x copies one =
       inside = one.inside;
       size = omega (arith, copies.size, one.size);
     }
-
-pub no_optional : (t : List State) (r : Pattern) (x : ℕ) → IsTidy t → x < length t → AddedOptional t t r 0 x x
-no_optional t r x tidy inside = record {
-  implements = refl;
-  keeps = λ q s h. h;
-  plain = λ q h. h;
-  tidy = tidy;
-  inside = inside;
-  size = omega arith;
-}
 
 pub option_added : (t u v w : List State) (r : Pattern) (c e f k x : ℕ) → AddedOptional t u r c k x → Added u v r f k
     → Pushed v w (Split f x) e → x < length t → AddedOptional t w r (c + 1) e x

@@ -17,10 +17,9 @@ use crate::walk::seeds;
 use pg_syntax::Tree;
 use std::alloc::{AllocError, Allocator};
 
-/// A `Split` that is still `Fail`, since the first of the states that it leads to isn't there yet.
+/// A state that is to be a `Split`. It is `Fail` until the first of the states that it leads to is there.
 #[derive(Clone, Copy)]
 struct Hole {
-    /// The state that is to be the `Split`.
     place: u32,
     /// The second of the states that it is to lead to.
     second: u32,
@@ -28,12 +27,12 @@ struct Hole {
     entry: u32,
 }
 
-/// Where the states go that a tree still lacks, those of its first part.
+/// Where the first part of a tree belongs, which is made last.
 #[derive(Clone, Copy)]
 struct Gap {
-    /// What is to lead to them. Without a hole the whole tree begins with them.
+    /// What is to lead to the part. Without a hole the whole tree begins where the part does.
     hole: Option<Hole>,
-    /// The state that they lead on to.
+    /// The state that the part leads on to.
     next: u32,
 }
 
@@ -80,8 +79,7 @@ fn push<A: Allocator>(states: &mut Vec<State, A>, state: State) -> Result<u32, A
     Ok(place)
 }
 
-/// Makes the hole lead to a state, and answers the one where the whole tree begins: that very state,
-/// if there is no hole.
+/// Makes the hole, if there is one, lead to a state, and answers the state where the whole tree begins.
 fn fill<A: Allocator>(states: &mut Vec<State, A>, hole: Option<Hole>, first: u32) -> u32
     requires { IsHole 0 states.old.items hole }
     ensures { IsFilled states.old.items states.new.items hole first result }
@@ -95,7 +93,28 @@ fn fill<A: Allocator>(states: &mut Vec<State, A>, hole: Option<Hole>, first: u32
     }
 }
 
-/// Fills the gap with one state, and answers the one where the whole tree begins.
+/// Makes the hole, if there is one, lead to a state, and answers another hole.
+fn open_hole<A: Allocator>(
+    states: &mut Vec<State, A>,
+    hole: Option<Hole>,
+    first: u32,
+    place: u32,
+    second: u32,
+) -> Hole
+    requires { IsHole 0 states.old.items hole }
+    ensures place { result.place ≡ place }
+    ensures second { result.second ≡ second }
+    ensures filled { IsFilled states.old.items states.new.items hole first result.entry }
+{
+    let entry = fill(states, hole, first);
+    Hole {
+        place,
+        second,
+        entry,
+    }
+}
+
+/// Adds the one state that is lacking, and answers the state where the whole tree begins.
 fn finish<A: Allocator>(
     states: &mut Vec<State, A>,
     hole: Option<Hole>,
@@ -110,7 +129,7 @@ fn finish<A: Allocator>(
     Ok(entry)
 }
 
-/// Whether repetitions of a tree are known to have no state. A single copy is not looked through.
+/// Whether it is known that repetitions of a tree have no state. Nothing is known of a single copy.
 fn is_without_states<A: Allocator>(inner: &Tree<A>, least: u8, most: Option<u8>) -> bool
     requires { IsProper (Rep (pattern inner.now) least most) }
     ensures without { IsTrue result → size_of (Rep (pattern inner.now) least most) ≡ 0 }
@@ -125,9 +144,9 @@ fn is_without_states<A: Allocator>(inner: &Tree<A>, least: u8, most: Option<u8>)
 
 /// Adds the states of a tree, and answers the one where it begins. They lead on to `next`.
 ///
-/// The left spine of the tree, over `Cat`, `Alt` and `Rep`, is walked by a loop from the whole tree to
-/// its first part, which is made last. So the calls are at most as deep as the groups of a parsed tree and the
-/// doublings of its states.
+/// The left spine of the tree is walked by a loop: all that stands behind its first part is made before it, and
+/// what leads to that part is left as a hole. Calls are nested for second parts, which in a parsed tree are as deep
+/// as its groups, and for further copies of a part, which at least double its states.
 #[cycle(build)]
 fn add<A: Allocator>(
     states: &mut Vec<State, A>,
@@ -183,13 +202,12 @@ fn open_choice<A: Allocator>(
 {
     let other = add(states, second, gap.next)?;
     let place = push(states, State::Fail)?;
-    let entry = fill(states, gap.hole, place);
-    let hole = Hole { place, second: other, entry };
-    Ok(Gap { hole: Some(hole), next: gap.next })
+    let hole = Some(open_hole(states, gap.hole, place, place, other));
+    Ok(Gap { hole, ..gap })
 }
 
-/// Adds repetitions of a tree but for one copy, and answers the gap for that one: the copy in the loop,
-/// the first one that may be left out, or the first of all.
+/// Adds repetitions of a tree but for one copy, and answers the gap for it: that of the loop, the first
+/// one that may be left out, or the first of all.
 #[cycle(build)]
 fn open_repetition<A: Allocator>(
     states: &mut Vec<State, A>,
@@ -209,21 +227,19 @@ fn open_repetition<A: Allocator>(
         None => {
             let turn = push(states, State::Fail)?;
             let copies = add_copies(states, inner, least, turn)?;
-            let entry = fill(states, gap.hole, copies);
-            let hole = Hole { place: turn, second: gap.next, entry };
-            Ok(Gap { hole: Some(hole), next: turn })
+            let hole = Some(open_hole(states, gap.hole, copies, turn, gap.next));
+            Ok(Gap { hole, next: turn })
         }
         Some(most) if least < most => {
             let others = add_optional(states, inner, most - least - 1, gap.next)?;
             let place = push(states, State::Fail)?;
             let copies = add_copies(states, inner, least, place)?;
-            let entry = fill(states, gap.hole, copies);
-            let hole = Hole { place, second: gap.next, entry };
-            Ok(Gap { hole: Some(hole), next: others })
+            let hole = Some(open_hole(states, gap.hole, copies, place, gap.next));
+            Ok(Gap { hole, next: others })
         }
         Some(count) => {
             let next = add_copies(states, inner, count - 1, gap.next)?;
-            Ok(Gap { hole: gap.hole, next })
+            Ok(Gap { next, ..gap })
         }
     }
 }

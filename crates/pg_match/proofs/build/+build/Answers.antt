@@ -6,7 +6,7 @@ use Rattle.pg_match.specs.Sizes.{size_of}
 use Rattle.pg_match.specs.declared.state.State.TheVariants.{Jump, Read, AtBegin, AtEnd}
 use Rattle.pg_match.proofs.PatternLemmas.{pattern-empty, pattern-set, pattern-begin, pattern-end, pattern-cat, pattern-alt, pattern-rep}
 use Rattle.pg_match.proofs.TableLemmas.{pushed_length, pushed_tidy, copy_added, option_added, rest_added}
-use Rattle.pg_match.proofs.GapLemmas.{has_cat, completes_cat, completes_narrowed, finished, finished_leaf, nothing_added, choice_narrowed, loop_narrowed, shared, hole_behind_options, option_narrowed, copies_narrowed}
+use Rattle.pg_match.proofs.GapLemmas.{has_cat, completes_cat, completes_narrowed, finished, finished_leaf, nothing_added, narrowed_at, choice_narrowed, loop_narrowed, shared, hole_behind_options, option_narrowed, copies_narrowed}
 use Rattle.pg_match.proofs.build.+build.Goals as goal
 
 pub add-returns-in-Empty : goal.add-returns-in-Empty
@@ -96,12 +96,16 @@ add-loop-tree-preserved g t c =
 
 pub open_choice-returns : goal.open_choice-returns
 open_choice-returns g t c =
-    λ p. choice_narrowed _ _ _ _ p _ _ _ _ _ c.requires.gap_in c.in_ok-other.ensures c.in_ok-place.ensures c.fill-entry.ensures
+    let opened = c.open_hole.ensures in
+    λ p. narrowed_at _ _ c.args.gap _ _ _ _ _ _ opened.place opened.second
+    (choice_narrowed _ _ _ _ p _ _ _ _ _ c.requires.gap_in c.in_ok-other.ensures c.in_ok-place.ensures opened.filled)
 
 pub open_repetition-returns-in_ok-copies-in-None : goal.open_repetition-returns-in_ok-copies-in-None
 open_repetition-returns-in_ok-copies-in-None g t c =
+    let opened = c.open_hole.ensures in
     rw c.in-None.is
-    (loop_narrowed _ _ _ _ _ _ _ _ _ _ c.requires.gap_in c.in_ok-turn-in-None.ensures c.in_ok-copies-in-None.ensures c.fill-entry.ensures)
+    (narrowed_at _ _ c.args.gap _ _ _ _ _ _ opened.place opened.second
+    (loop_narrowed _ _ _ _ _ _ _ _ _ _ c.requires.gap_in c.in_ok-turn-in-None.ensures c.in_ok-copies-in-None.ensures opened.filled))
 
 pub open_repetition-add_copies-requires-in-Some : goal.open_repetition-add_copies-requires-in-Some
 open_repetition-add_copies-requires-in-Some g t c κs within =
@@ -116,16 +120,18 @@ open_repetition-add_copies-requires-in-Some g t c κs within =
     let tidy = pushed_tidy _ _ _ _ push few.tidy tt in
     search (rules, fits, inside, tidy)
 
-pub open_repetition-fill-entry-requires-in-Some : goal.open_repetition-fill-entry-requires-in-Some
-open_repetition-fill-entry-requires-in-Some g t c =
+pub open_repetition-open_hole-requires-in-Some : goal.open_repetition-open_hole-requires-in-Some
+open_repetition-open_hole-requires-in-Some g t c =
     hole_behind_options _ _ _ _ _ _ _ c.args.gap _ _ _ c.requires.gap_in c.in_ok-others-in-Some.ensures c.in_ok-place-in-Some.ensures
     c.in_ok-copies-in-Some.ensures
 
 pub open_repetition-returns-in_ok-copies-in-Some : goal.open_repetition-returns-in_ok-copies-in-Some
 open_repetition-returns-in_ok-copies-in-Some g t c =
+    let opened = c.open_hole-in-Some.ensures in
     rw c.in-Some.is
+    (narrowed_at _ _ c.args.gap _ _ _ _ _ _ opened.place opened.second
     (option_narrowed _ _ _ _ _ _ _ _ _ _ _ _ _ _ (omega arith) (omega arith) c.requires.gap_in c.in_ok-others-in-Some.ensures
-    c.in_ok-place-in-Some.ensures c.in_ok-copies-in-Some.ensures c.fill-entry-in-Some.ensures)
+    c.in_ok-place-in-Some.ensures c.in_ok-copies-in-Some.ensures opened.filled))
 
 pub open_repetition-returns-in_ok-next-in-Some-2 : goal.open_repetition-returns-in_ok-next-in-Some-2
 open_repetition-returns-in_ok-next-in-Some-2 g t c =
