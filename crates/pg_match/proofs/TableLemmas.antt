@@ -1,14 +1,14 @@
 -- How a table grows.
 use Rattle.std.proofs.Common.{◌≡◌, ◌≢◌, ℕ, zero, suc, ◌+◌, ◌-◌, ◌*◌, ◌<◌, ◌≤◌, inl, inr, List, [], ◌∷◌, ◌++◌, length, get_or, set, Option, Some, None, refl, sym, ap, ◌∙◌, subst, arith, length-append, length-set, get_or-set_same, get_or-set_other}
-use Rattle.std.specs.Prelude.{slice_get, All}
+use Rattle.std.specs.Prelude.{slice_get}
 use Rattle.std.proofs.Math.Seq.{get_or-append_seam}
 use Rattle.std.proofs.lemmas.Bool.{cases_eq}
 use Rattle.std.proofs.lemmas.List.{get_or_append_left}
-use Rattle.std.proofs.lemmas.List.Elements.{All-weaker, All-push, All-set, All-same}
+use Rattle.std.proofs.lemmas.List.Elements.{All-weaker, All-push, All-same}
 use Rattle.std.proofs.lemmas.Option.{slice_get_within, slice_get-get_or, get_or_from_slice_get}
 use Rattle.pg_match.specs.Matches.{Chain}
 use Rattle.pg_syntax.specs.Patterns.{IsProper, Pattern, Empty, Set, Begin, End, Cat, Alt, Rep}
-use Rattle.pg_match.specs.Sizes.{size_of, repeated_size}
+use Rattle.pg_match.specs.Sizes.{size_of}
 use Rattle.pg_match.specs.Automata.{target_below, IsTidy}
 use Rattle.pg_match.specs.Tables.{Optional, Loop, AfterCopies, Implements, Keeps, NoAccept, KeepsWritten, Pushed, Added, AddedCopies, AddedOptional}
 use Rattle.pg_match.specs.declared.state.State.{State}

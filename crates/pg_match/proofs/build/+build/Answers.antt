@@ -1,4 +1,4 @@
-use Rattle.std.proofs.Common.{◌≡◌, ◌+◌, ◌-◌, ◌*◌, ◌<◌, ◌≤◌, length, arith, refl, ◌∙◌, ap, rules, Some}
+use Rattle.std.proofs.Common.{◌≡◌, ◌+◌, ◌-◌, ◌*◌, ◌<◌, ◌≤◌, length, arith, refl, rules}
 use Rattle.pg_syntax.specs.Patterns.{Empty, Set, Begin, End, Rep}
 use Rattle.pg_syntax.specs.Trees.{pattern}
 use Rattle.pg_syntax.specs.declared.tree.Tree.{the_lemmas}
