@@ -1,10 +1,14 @@
 -- What the program tells on standard error.
-use Rattle.std.specs.Prelude.{◌≡◌, ℕ, List, ◌++◌, codes}
+use Rattle.std.specs.Prelude.{◌≡◌, ◌⊎◌, ℕ, List, ◌++◌, codes}
 
--- the text begins with the program's name
-abbrev pub IsNamed : List ℕ → Type 0
-IsNamed text = (rest : List ℕ) × (text ≡ codes "pargrep: " ++ rest)
+-- a text behind the program's name
+abbrev pub named : List ℕ → List ℕ
+named text = codes "pargrep: " ++ text
 
--- a text that begins with the program's name was written behind what was written before
+-- the text was written behind the program's name, or that there is no memory for more
+abbrev pub Tells : List ℕ → List ℕ → List ℕ → Type 0
+Tells text before after = (after ≡ before ++ named text) ⊎ (after ≡ before ++ named (codes "out of memory\n"))
+
+-- some text was written behind the program's name
 abbrev pub IsTold : List ℕ → List ℕ → Type 0
-IsTold before after = (text : List ℕ) × IsNamed text × (after ≡ before ++ text)
+IsTold before after = (text : List ℕ) × (after ≡ before ++ named text)

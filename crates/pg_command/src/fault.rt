@@ -1,8 +1,8 @@
 //! The faults of the program.
-ghost use Rattle.std.specs.Prelude.{◌≡◌, ◌<◌, ◌⊎◌, IfOk};
+ghost use Rattle.std.specs.Prelude.{◌≡◌, ◌<◌, ◌⊎◌, ◌++◌, IfOk};
 ghost use Rattle.std.specs.String.{string_bytes};
 ghost use Rattle.pg_command.specs.Causes.{fault_of_run};
-ghost use Rattle.pg_command.specs.Told.{IsNamed, IsTold};
+ghost use Rattle.pg_command.specs.Told.{IsTold, Tells, named};
 ghost use Rattle.pg_command.specs.declared.fault.Fault.TheVariants.{OutOfMemory, Pattern};
 
 use crate::pattern::PatternFault;
@@ -86,7 +86,7 @@ pub fn report<W: Sink>(alloc: Global, fault: Fault<'_>, err: &mut W) -> u8
 /// memory for it. The answer is the status that the program ends with.
 pub fn report_text<W: Sink>(alloc: Global, text: &str, err: &mut W) -> u8
     ensures status { result ≡ 2 }
-    ensures told { IsTold (W.taken err.old) (W.taken err.new) ⊎ (W.failures err.old < W.failures err.new) }
+    ensures told { Tells text.now (W.taken err.old) (W.taken err.new) ⊎ (W.failures err.old < W.failures err.new) }
 {
     match named(alloc, text) {
         Ok(line) => tell(line.as_bytes(), err),
@@ -96,18 +96,17 @@ pub fn report_text<W: Sink>(alloc: Global, text: &str, err: &mut W) -> u8
 
 /// A text behind the program's name.
 fn named(alloc: Global, text: &str) -> Result<String, AllocError>
-    ensures { IfOk result (λ line. IsNamed (string_bytes line)) }
+    ensures { IfOk result (λ line. string_bytes line ≡ named text.now) }
 {
     let mut line = String::from_str(alloc, "pargrep: ")?;
     line.push_str(text)?;
     Ok(line)
 }
 
-/// Writes a text that begins with the program's name. If standard error fails, no more can be said.
+/// Writes a text. If standard error fails, no more can be said.
 fn tell<W: Sink>(text: &[u8], err: &mut W) -> u8
-    requires { IsNamed text.now }
     ensures status { result ≡ 2 }
-    ensures told { IsTold (W.taken err.old) (W.taken err.new) ⊎ (W.failures err.old < W.failures err.new) }
+    ensures told { (W.taken err.new ≡ W.taken err.old ++ text.now) ⊎ (W.failures err.old < W.failures err.new) }
 {
     let _ = write_all(err, text);
     FAULT_STATUS
