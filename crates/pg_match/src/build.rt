@@ -129,10 +129,11 @@ fn finish<A: Allocator>(
     Ok(entry)
 }
 
-/// Whether it is known that repetitions of a tree have no state. Nothing is known of a single copy.
+/// Whether repetitions of a tree have no state. A single copy is not looked through, and counts as having some.
 fn is_without_states<A: Allocator>(inner: &Tree<A>, least: u8, most: Option<u8>) -> bool
     requires { IsProper (Rep (pattern inner.now) least most) }
     ensures without { IsTrue result → size_of (Rep (pattern inner.now) least most) ≡ 0 }
+    ensures single { result ≡ false → size_of (Rep (pattern inner.now) least most) ≡ 0 → most ≡ Some 1 }
     ensures some { result ≡ false → IfSome most (λ n. 0 < n) }
 {
     match most {

@@ -278,8 +278,8 @@ fn nested(
     Ok(text)
 }
 
-/// How often the middle of an expression is nested, what then stands in front of it and behind it, a line, and its first
-/// matched part.
+/// How often a part of an expression is nested, what stands in front of it each time, the part, what stands behind it each
+/// time, a line, and the first matched part of the line.
 type Nested = (
     u32,
     &'static [u8],
