@@ -1,6 +1,7 @@
 #!/bin/sh
-# Times the search of lines by the automata of some patterns, and prints for each pattern and each kind of search how fast
-# it goes over a text of random letters, what one visit of a state costs, and how many lines or parts were found.
+# Times what patterns cost. First the longest ones: how long they take to be read, and to become an automaton. Then the
+# search of lines: for each pattern and each kind of search how fast it goes over a text of random letters, what one visit
+# of a state costs, and how many lines or parts were found.
 # Usage: bench/match.sh [RT [MEGABYTES]]
 # RT is the toolchain's command. It builds the program in a copy of the crates that it needs, which takes some minutes
 # where they weren't proved before. All is made in a folder that is removed at the end.
@@ -23,8 +24,9 @@ done
 cp "$top/HANDLES" "$folder/repository"
 echo 'match_lines: pg_match pg_syntax memchr anyhow' >> "$folder/repository/crates.txt"
 cat > "$program/src/main.rt" <<'PROGRAM'
-//! Times the search of lines: `match_lines MEGABYTES` prints, for some patterns, how fast `selects` and `next_piece`
-//! go over a text of so many megabytes, and what a visit of a state costs. Without an argument it does nothing.
+//! Times what patterns cost: `match_lines MEGABYTES` prints how long the longest patterns take to be read and built, and
+//! for some patterns how fast `selects` and `next_piece` go over a text of so many megabytes, and what a visit of a state
+//! costs. Without an argument it does nothing.
 #![tactic(auto)]
 
 ghost use Rattle.std.specs.Prelude.{◌≡◌, ◌≤◌, ◌^◌, length, IfOk};
@@ -53,6 +55,48 @@ const PATTERNS: [&'static str; 6] = [
     "[a-z]{3,9}xyz",
     "qz",
 ];
+
+/// How many bytes a pattern may have.
+const LONGEST: usize = 4096;
+
+/// Parts of extended expressions, which are repeated until the expression is as long as it may be.
+const PARTS: [&'static str; 5] = ["a", "[a-z]", "a|", "a*", "(a|b)"];
+
+/// A part, repeated while there is room, and an `a` behind it.
+fn long_pattern(alloc: Global, part: &str) -> Result<Vec<u8>, AllocError> {
+    let mut text: Vec<u8> = Vec::new(alloc);
+    for _ in 0..LONGEST {
+        if text.len().saturating_add(part.len()) >= LONGEST {
+            break;
+        }
+        text.extend_from_slice(part.as_bytes())?;
+    }
+    text.push(b'a')?;
+    Ok(text)
+}
+
+/// Prints the best times in which a pattern is read and its automaton built.
+fn report_long(rt: &(impl Clock + Print), alloc: Global, part: &str) -> Result<()> {
+    let text = long_pattern(alloc, part)?;
+    let mut read = u128::MAX;
+    let mut built = u128::MAX;
+    for _ in 0..ROUNDS {
+        let start = Instant::now(rt)?;
+        let Ok(tree) = parse_ere(alloc, &text, false) else {
+            bail!("no pattern: {part}");
+        };
+        let middle = Instant::now(rt)?;
+        let Ok(_machine) = Machine::build(alloc, &[tree], false) else {
+            bail!("no machine: {part}");
+        };
+        let end = Instant::now(rt)?;
+        read = read.min(middle.saturating_duration_since(start).as_micros());
+        built = built.min(end.saturating_duration_since(middle).as_micros());
+    }
+    let count = text.len();
+    println!(rt; "{part:6} over and over, {count} bytes: read in {read} µs, built in {built} µs")?;
+    Ok(())
+}
 
 /// Text of random letters, a sixth of them spaces, in lines.
 fn random_text(alloc: Global, megabytes: usize) -> Result<Vec<u8>, AllocError>
@@ -243,6 +287,9 @@ fn main(rt: HostRuntime) -> Result<()> {
     };
     let megabytes: usize = word.parse()?;
     ensure!(megabytes <= 256, "at most 256 megabytes");
+    for part in PARTS {
+        report_long(&rt, rt.alloc(), part)?;
+    }
     let text = random_text(rt.alloc(), megabytes)?;
     for pattern in PATTERNS {
         report(&rt, rt.alloc(), pattern, &text)?;

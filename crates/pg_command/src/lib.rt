@@ -6,5 +6,5 @@ mod pattern;
 mod search;
 
 pub use fault::{FAULT_STATUS, Fault, report};
-pub use pattern::{PatternFault, compile_text};
+pub use pattern::PatternFault;
 pub use search::command;
