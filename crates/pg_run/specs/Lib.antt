@@ -1,2 +1,3 @@
+pub mod MemStore
 pub mod Past
 pub mod Run

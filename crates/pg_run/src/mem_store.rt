@@ -1,5 +1,6 @@
 //! Files in memory, for tests.
-ghost use Rattle.std.specs.Prelude.{◌≤◌};
+ghost use Rattle.std.specs.Prelude.{◌≡◌, ◌≤◌, ◌+◌, ◌^◌, ◌⊎◌, ◌++◌, ◌∷◌, [], map, min, length, is_some, option_and_then, option_map, slice_get, IfOk, IfSome, OnOk, OnErr};
+ghost use Rattle.pg_run.specs.Past.{unopened, Opens, Reads};
 
 use crate::past::StorePast;
 use crate::store::{ReadFault, Store};
@@ -34,8 +35,13 @@ pub struct MemStore {
 }
 
 impl MemStore {
-    /// A store without files, in which no file can be opened.
-    pub fn new(alloc: Global) -> MemStore {
+    ghost use Rattle.pg_run.specs.MemStore.{stored, files, left, left_of, file_at};
+
+    /// A store without files, in which no file can be opened. A read gives as much as it can.
+    pub fn new(alloc: Global) -> MemStore
+        ensures files { files result ≡ [] }
+        ensures past { result.past ≡ unopened }
+    {
         MemStore {
             alloc,
             files: Vec::new(alloc),
@@ -51,7 +57,10 @@ impl MemStore {
     /// # Errors
     ///
     /// `AllocError` where a request for memory was refused. No file is added then.
-    pub fn add(&mut self, path: &str, bytes: &[u8], ending: Ending) -> Result<(), AllocError> {
+    pub fn add(&mut self, path: &str, bytes: &[u8], ending: Ending) -> Result<(), AllocError>
+        ensures ok { OnOk result (files self.new ≡ files self.old ++ (path.now, record { bytes = bytes.now; ending = ending }) ∷ []) }
+        ensures err { OnErr result (files self.new ≡ files self.old) }
+    {
         let file = MemFile {
             path: String::from_str(self.alloc, path)?,
             bytes: Vec::from_slice(self.alloc, bytes)?,
@@ -64,21 +73,55 @@ impl MemStore {
     /// From now on a read gives at most so many bytes, which are at least one.
     pub fn set_read_limit(&mut self, read_limit: usize)
         requires { 1 ≤ read_limit }
+        ensures files { files self.new ≡ files self.old }
+        ensures left { left self.new ≡ left self.old }
+        ensures limit { self.new.read_limit ≡ read_limit }
     {
         self.read_limit = read_limit;
+    }
+
+    /// The place of the first file at a path.
+    fn place_of(&self, path: &str) -> Option<usize>
+        ensures place { option_map (λ f. f.1) (option_and_then (slice_get (files self.now)) result) ≡ file_at (files self.now) path.now }
+        ensures found { is_some result ≡ is_some (file_at (files self.now) path.now) }
+    {
+        for (place, file) in self.files.iter().enumerate() {
+            if file.path.as_str() == path {
+                return Some(place);
+            }
+        }
+        None
+    }
+
+    /// What the file at a place has left behind its first bytes.
+    fn left_of(files: &[MemFile], place: Option<usize>, at: usize) -> Option<(&[u8], Ending)>
+        ensures left { option_map (λ left. record { bytes = left.0.now; ending = left.1 }) result ≡ left_of (map stored files.now) place at }
+        ensures room { IfSome result (λ left. (left.0.now ≡ []) ⊎ (at + length left.0.now ≤ 2 ^ 63)) }
+    {
+        let file = files.get(place?)?;
+        let bytes = file.bytes.as_slice();
+        if at <= bytes.len() {
+            Some((&bytes[at..], file.ending))
+        } else {
+            Some((&[], file.ending))
+        }
     }
 }
 
 impl Store for MemStore {
+    ghost use Rattle.pg_run.specs.MemStore.{files, left, file_at, Takes};
+
     ghost past = { λ s. s.past };
 
-    fn open(&mut self, path: &str) -> Result<bool, AllocError> {
+    fn open(&mut self, path: &str) -> Result<bool, AllocError>
+        ensures opens { Opens path.now self.old.past self.new.past result }
+        ensures found { IfOk result (λ found. found ≡ is_some (file_at (files self.old) path.now)) }
+        ensures left { left self.new ≡ file_at (files self.old) path.now }
+        ensures files { files self.new ≡ files self.old }
+    {
         self.past.turn(path);
         self.at = 0;
-        self.open = self
-            .files
-            .iter()
-            .position(|file| file.path.as_str() == path);
+        self.open = self.place_of(path);
         if self.open.is_none() {
             self.past.miss();
             return Ok(false);
@@ -86,13 +129,16 @@ impl Store for MemStore {
         Ok(true)
     }
 
-    fn read(&mut self, into: &mut [u8]) -> Result<usize, ReadFault> {
-        let Some(file) = self.open.and_then(|number| self.files.get(number)) else {
+    fn read(&mut self, into: &mut [u8]) -> Result<usize, ReadFault>
+        ensures reads { Reads into.new self.old.past self.new.past result }
+        ensures takes { Takes (left self.old) (left self.new) (min (length into.old) self.old.read_limit) into.new result }
+        ensures files { files self.new ≡ files self.old }
+    {
+        let Some((rest, ending)) = MemStore::left_of(&self.files, self.open, self.at) else {
             self.past.fail();
             return Err(ReadFault);
         };
-        let rest = file.bytes.get(self.at..).unwrap_or_default();
-        if rest.is_empty() && file.ending == Ending::Fails {
+        if rest.is_empty() && ending == Ending::Fails {
             self.past.fail();
             return Err(ReadFault);
         }

@@ -1,8 +1,8 @@
-use Rattle.std.proofs.Common.{◌≡◌, ◌∙◌, ◌++◌, ◌<◌, ◌≤◌, ◌^◌, List, ℕ, [], Err, inl, inr, rules, ap, sym, subst, arith, length, length-append, take}
+use Rattle.std.proofs.Common.{◌∙◌, ◌++◌, ◌≤◌, ◌^◌, List, ℕ, [], Err, inl, inr, rules, ap, sym, subst, arith, length, length-append, take}
 use Rattle.std.proofs.lemmas.List.{append-nil, length-take-le}
 use Rattle.pg_seq.specs.Sink.{TakesPart}
 use Rattle.pg_seq.proofs.SinkLemmas.{on_err}
-use Rattle.pg_run.specs.Run.{Aim, Reads, IsTooLong, aimed, output_of}
+use Rattle.pg_run.specs.Run.{Reads, IsTooLong, aimed, output_of}
 use Rattle.pg_run.proofs.ReadLemmas.{reads_on, reads_piece, reads_part, reads_few, line_too_long, file_too_long}
 use Rattle.pg_run.proofs.HoldLemmas.{cut_long}
 use Rattle.pg_run.proofs.run.search_all.Goals as goal
