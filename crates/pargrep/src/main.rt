@@ -1,6 +1,8 @@
 //! Pargrep: prints the lines of a file that hold a text.
 #![tactic(auto)]
 
+ghost use Rattle.std.specs.Prelude.{◌≤◌};
+
 use pg_command::{FAULT_STATUS, Fault, command, report};
 use pg_run::DiskStore;
 use pg_seq::Out;
@@ -18,7 +20,10 @@ fn main(rt: HostRuntime) -> ExitCode {
     ExitCode::from(run(rt))
 }
 
-fn run(rt: HostRuntime) -> u8 {
+/// Runs the command over the system's files and streams, and answers the exit status.
+fn run(rt: HostRuntime) -> u8
+    ensures { result ≤ 2 }
+{
     let alloc = rt.alloc();
     let mut err = Out::new(rt.stderr());
     let words = match words_of(&rt) {
