@@ -3,7 +3,7 @@
 
 ghost use Rattle.std.specs.Prelude.{◌≤◌};
 
-use pg_command::{FAULT_STATUS, Fault, command, report};
+use pg_command::{Fault, report, run};
 use pg_run::DiskStore;
 use pg_seq::Out;
 use std::alloc::Global;
@@ -17,11 +17,11 @@ use std::rt::Env;
 const OUT_BUFFER: usize = 65_536;
 
 fn main(rt: HostRuntime) -> ExitCode {
-    ExitCode::from(run(rt))
+    ExitCode::from(run_on_system(rt))
 }
 
 /// Runs the command over the system's files and streams, and answers the exit status.
-fn run(rt: HostRuntime) -> u8
+fn run_on_system(rt: HostRuntime) -> u8
     ensures { result ≤ 2 }
 {
     let alloc = rt.alloc();
@@ -33,13 +33,14 @@ fn run(rt: HostRuntime) -> u8
     let Ok(buffered) = BufWriter::with_capacity(alloc, OUT_BUFFER, rt.stdout()) else {
         return report(alloc, Fault::OutOfMemory, &mut err);
     };
-    let mut out = Out::new(buffered);
     let mut store = DiskStore::new(&rt);
-    let status = command(alloc, words.as_slice(), &mut store, &mut out, &mut err);
-    if out.flush().is_err() && status != FAULT_STATUS {
-        return report(alloc, Fault::WriteFailed, &mut err);
-    }
-    status
+    run(
+        alloc,
+        words.as_slice(),
+        &mut store,
+        &mut Out::new(buffered),
+        &mut err,
+    )
 }
 
 /// The words behind the program's name.

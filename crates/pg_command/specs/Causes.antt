@@ -1,9 +1,12 @@
 -- Which fault a search answers.
-use Rattle.std.specs.Prelude.{◌≡◌, ◌≢◌, ℕ, ◌⊎◌, List, codes}
+use Rattle.std.specs.Prelude.{◌≡◌, ◌≢◌, ℕ, ◌<◌, ◌⊎◌, List, Contains, codes, length}
 use Rattle.pg_run.specs.Past.{Past, Misses, FailsToRead}
 use Rattle.pg_run.specs.Run.{IsTooLong}
 use Rattle.pg_run.specs.declared.fault.RunFault.{RunFault}
 use Rattle.pg_run.specs.declared.fault.RunFault.TheVariants.{OutOfMemory as NoMemoryToRun, Sink, TooLong}
+use Rattle.pg_command.specs.Pattern.{IsPattern}
+use Rattle.pg_command.specs.declared.pattern.PatternFault.{PatternFault}
+use Rattle.pg_command.specs.declared.pattern.PatternFault.TheVariants.{Several, TooLong as PatternTooLong, OutOfMemory as NoMemoryForPattern}
 use Rattle.pg_command.specs.declared.fault.Fault.{Fault}
 use Rattle.pg_command.specs.declared.fault.Fault.TheVariants.{NotText, Pattern, CannotOpen, ReadFailed, OutOfMemory, WriteFailed, LineTooLong}
 
@@ -16,12 +19,19 @@ fault_of_run TooLong = LineTooLong
 abbrev pub IsCalled : List ℕ → List ℕ → Type 0
 IsCalled path name = ((path ≡ codes "-") × (name ≡ codes "(standard input)")) ⊎ ((path ≢ codes "-") × (name ≡ path))
 
--- what happened to a file that was to be searched, for the fault that says it
-abbrev pub Explains : Fault → List ℕ → Past → Past → Type 0
-Explains NotText file past past' = ⊥
-Explains (Pattern fault) file past past' = past' ≡ past
-Explains (CannotOpen name) file past past' = Misses past past' × IsCalled file name.now
-Explains (ReadFailed name) file past past' = FailsToRead past past' × IsCalled file name.now
-Explains OutOfMemory file past past' = past'.misses ≡ past.misses
-Explains WriteFailed file past past' = past'.misses ≡ past.misses
-Explains LineTooLong file past past' = (past'.misses ≡ past.misses) × IsTooLong past'.given
+-- a text isn't searched for: exactly where it holds a newline, or is too long, or want of memory
+abbrev pub ExplainsPattern : PatternFault → List ℕ → Type 0
+ExplainsPattern Several text = Contains text 10
+ExplainsPattern PatternTooLong text = (¬ (Contains text 10)) × (4096 < length text)
+ExplainsPattern NoMemoryForPattern text = IsPattern text
+
+-- what happened to the file that was to be searched for the text, for the fault that says it; so many writes had failed
+-- before and after
+abbrev pub Explains : Fault → List ℕ → List ℕ → Past → Past → ℕ → ℕ → Type 0
+Explains NotText text file past past' failed failed' = ⊥
+Explains (Pattern fault) text file past past' failed failed' = ExplainsPattern fault text × (past' ≡ past)
+Explains (CannotOpen name) text file past past' failed failed' = Misses past past' × IsCalled file name.now
+Explains (ReadFailed name) text file past past' failed failed' = FailsToRead past past' × IsCalled file name.now
+Explains OutOfMemory text file past past' failed failed' = past'.misses ≡ past.misses
+Explains WriteFailed text file past past' failed failed' = (past'.misses ≡ past.misses) × (failed < failed')
+Explains LineTooLong text file past past' failed failed' = (past'.misses ≡ past.misses) × IsTooLong past'.given

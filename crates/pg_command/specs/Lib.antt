@@ -1,3 +1,5 @@
+pub mod Answers
 pub mod Causes
+pub mod Command
 pub mod Pattern
 pub mod Told

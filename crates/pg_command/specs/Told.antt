@@ -1,14 +1,35 @@
 -- What the program tells on standard error.
-use Rattle.std.specs.Prelude.{◌≡◌, ◌⊎◌, ℕ, List, ◌++◌, codes}
+use Rattle.std.specs.Prelude.{◌≡◌, ℕ, List, [], ◌++◌, codes}
+use Rattle.pg_command.specs.declared.pattern.PatternFault.TheVariants.{Several, TooLong, OutOfMemory as NoMemoryForPattern}
+use Rattle.pg_command.specs.declared.fault.Fault.{Fault}
+use Rattle.pg_command.specs.declared.fault.Fault.TheVariants.{NotText, Pattern, CannotOpen, ReadFailed, OutOfMemory, WriteFailed, LineTooLong}
 
--- a text behind the program's name
-abbrev pub named : List ℕ → List ℕ
-named text = codes "pargrep: " ++ text
+-- the file that a fault names
+abbrev pub subject_of : Fault → List ℕ
+subject_of (CannotOpen name) = name.now
+subject_of (ReadFailed name) = name.now
+subject_of NotText = []
+subject_of (Pattern fault) = []
+subject_of OutOfMemory = []
+subject_of WriteFailed = []
+subject_of LineTooLong = []
 
--- the text was written behind the program's name, or that there is no memory for more
-abbrev pub Tells : List ℕ → List ℕ → List ℕ → Type 0
-Tells text before after = (after ≡ before ++ named text) ⊎ (after ≡ before ++ named (codes "out of memory\n"))
+-- what is said of it
+abbrev pub text_of : Fault → List ℕ
+text_of NotText = codes "an argument is not UTF-8"
+text_of (Pattern Several) = codes "one pattern only"
+text_of (Pattern TooLong) = codes "pattern 1: pattern too long at 4096"
+text_of (Pattern NoMemoryForPattern) = codes "out of memory"
+text_of (CannotOpen name) = codes ": cannot open"
+text_of (ReadFailed name) = codes ": read failed"
+text_of OutOfMemory = codes "out of memory"
+text_of WriteFailed = codes "write failed"
+text_of LineTooLong = codes "line too long"
 
--- some text was written behind the program's name
-abbrev pub IsTold : List ℕ → List ℕ → Type 0
-IsTold before after = (text : List ℕ) × (after ≡ before ++ named text)
+-- the line of a fault
+abbrev pub fault_line : Fault → List ℕ
+fault_line fault = codes "pargrep: " ++ subject_of fault ++ text_of fault ++ codes "\n"
+
+-- the line of the fault was written
+abbrev pub IsTold : Fault → List ℕ → List ℕ → Type 0
+IsTold fault before after = after ≡ before ++ fault_line fault

@@ -3,8 +3,11 @@
 
 mod fault;
 mod pattern;
+mod program;
 mod search;
+mod tell;
 
 pub use fault::{FAULT_STATUS, Fault, report};
 pub use pattern::PatternFault;
-pub use search::command;
+pub use program::{command, run};
+pub use search::answer;

@@ -1,7 +1,8 @@
 //! The pattern of the command line.
-ghost use Rattle.std.specs.Prelude.{◌≡◌, ◌<◌, ◌≤◌, ◌↔◌, Contains, length, IfOk, IsErrOf, IsOkUnless};
+ghost use Rattle.std.specs.Prelude.{◌≡◌, ◌≤◌, length, IfOk, IfErr, OnOk, IsOkUnless};
 ghost use Rattle.pg_lines.specs.Lines.{IsLine};
-ghost use Rattle.pg_command.specs.Pattern.{fixed_string};
+ghost use Rattle.pg_command.specs.Causes.{ExplainsPattern};
+ghost use Rattle.pg_command.specs.Pattern.{IsPattern, fixed_string};
 
 use pg_lines::{Kind, PatternList, Query, QueryText};
 use std::alloc::Global;
@@ -32,8 +33,8 @@ pub enum PatternFault {
 /// bytes, and `OutOfMemory` where a request for memory was refused.
 pub fn compile_text(alloc: Global, text: &str) -> Result<Query, PatternFault>
     ensures query { IfOk result (λ query. query ≡ fixed_string text.now) }
-    ensures several { IsErrOf result PatternFault.Several ↔ Contains text.now 10 }
-    ensures long { IsErrOf result PatternFault.TooLong ↔ ((¬ Contains text.now 10) × (4096 < length text.now)) }
+    ensures pattern { OnOk result (IsPattern text.now) }
+    ensures fault { IfErr result (λ fault. ExplainsPattern fault text.now) }
 {
     if text.as_bytes().contains(&b'\n') {
         return Err(PatternFault::Several);

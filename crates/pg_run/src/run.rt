@@ -38,6 +38,7 @@ fn search_ready<A: Allocator + Copy, W: Sink>(
         OnErr result (TakesPart (output_of aim.query aim.file) aim.before (W.taken out.new)) }
     ensures cause { IsErrOf result RunSink → W.failures out.old < W.failures out.new }
     ensures short { IsErrOf result TooLong → ⊥ }
+    ensures no_failure { OnOk result (W.failures out.new ≡ W.failures out.old) }
     ensures never_falls { W.failures out.old ≤ W.failures out.new }
 {
     while let Some(block) = cutter.take() {
@@ -63,6 +64,7 @@ fn search_all<A: Allocator + Copy, S: Store, W: Sink>(
         OnErr result (TakesPart (output_of aim.query (S.past store.new).given) aim.before (W.taken out.new)) }
     ensures cause { IsErrOf result RunSink → W.failures out.old < W.failures out.new }
     ensures long { IsErrOf result TooLong → IsTooLong (S.past store.new).given }
+    ensures no_failure { OnOk result (W.failures out.new ≡ W.failures out.old) }
     ensures never_falls { W.failures out.old ≤ W.failures out.new }
     ensures read { IfOk result (λ end. MatchResult end
         (λ _. MeetsTheEnd (S.past store.old) (S.past store.new)) (λ _. FailsToRead (S.past store.old) (S.past store.new))) }
@@ -93,6 +95,7 @@ fn search_last<A: Allocator + Copy, W: Sink>(
         OnErr result (TakesPart (output_of aim.query aim.file) aim.before (W.taken out.new)) }
     ensures cause { IsErrOf result RunSink → W.failures out.old < W.failures out.new }
     ensures short { IsErrOf result TooLong → ⊥ }
+    ensures no_failure { OnOk result (W.failures out.new ≡ W.failures out.old) }
     ensures never_falls { W.failures out.old ≤ W.failures out.new }
 {
     match cutter.finish() {
@@ -130,6 +133,7 @@ pub fn first_run<A: Allocator + Copy, S: Store, W: Sink>(
     ensures part { OnErr result (TakesPart (output_of (arc_value query.now) (S.past store.new).given) (W.taken out.old) (W.taken out.new)) }
     ensures cause { IsErrOf result RunSink → W.failures out.old < W.failures out.new }
     ensures long { IsErrOf result TooLong → IsTooLong (S.past store.new).given }
+    ensures no_failure { OnOk result (W.failures out.new ≡ W.failures out.old) }
     ensures never_falls { W.failures out.old ≤ W.failures out.new }
     ensures path { (S.past store.new).path ≡ (S.past store.old).path }
     ensures no_miss { (S.past store.new).misses ≡ (S.past store.old).misses }

@@ -69,6 +69,7 @@ impl<A: Allocator + Copy> Searcher<A> {
             OnErr result (TakesPart (bare_rows q block.bytes) (W.taken out.old) (W.taken out.new)) }
         ensures cause { (q : Search) → (blocks : List BlockData) → (text : List ℕ) → Holds self.old q blocks text → OnErr result (W.failures out.old < W.failures out.new) }
         ensures fault { IsErr result → IsErrOf result RunSink }
+        ensures no_failure { OnOk result (W.failures out.new ≡ W.failures out.old) }
         ensures never_falls { W.failures out.old ≤ W.failures out.new }
     {
         self.sequencer.drain(out)?;
@@ -84,6 +85,7 @@ impl<A: Allocator + Copy> Searcher<A> {
             OnErr result (TakesPart (bare_rows q block.bytes) (W.taken out.old) (W.taken out.new)) }
         ensures cause { IsErrOf result RunSink → W.failures out.old < W.failures out.new }
         ensures short { IsErrOf result TooLong → ⊥ }
+        ensures no_failure { OnOk result (W.failures out.new ≡ W.failures out.old) }
         ensures never_falls { W.failures out.old ≤ W.failures out.new }
     {
         self.take(block)?;

@@ -109,6 +109,7 @@ impl<A: Allocator> ReorderBuffer<A> {
             ((ready self.old.slots.items ≡ 0) × Keeps self.old self.new × (W.taken out.new ≡ W.taken out.old))) }
         ensures part { OnErr result (HandsPart self.old (W.taken out.old) (W.taken out.new) × Keeps self.old self.new) }
         ensures failure { OnErr result (W.failures out.old < W.failures out.new) }
+        ensures no_failure { OnOk result (W.failures out.new ≡ W.failures out.old) }
         ensures never_falls { W.failures out.old ≤ W.failures out.new }
     {
         let Some(slot) = self.slots.front() else {

@@ -21,6 +21,7 @@ fn write_lines<W: Sink>(out: &mut W, text: &[u8]) -> Result<(), WriteError>
     ensures all { OnOk result (W.taken out.new ≡ W.taken out.old ++ terminated 10 (lines 10 text.now)) }
     ensures part { OnErr result (TakesPart (terminated 10 (lines 10 text.now)) (W.taken out.old) (W.taken out.new)) }
     ensures failure { OnErr result (W.failures out.old < W.failures out.new) }
+    ensures no_failure { OnOk result (W.failures out.new ≡ W.failures out.old) }
     ensures never_falls { W.failures out.old ≤ W.failures out.new }
 {
     write_all(out, text)?;
@@ -37,6 +38,7 @@ fn write_spans<W: Sink>(out: &mut W, bytes: &[u8], spans: &[Span]) -> Result<(),
     ensures all { OnOk result (W.taken out.new ≡ W.taken out.old ++ flat_map (span_rows bytes.now) spans.now) }
     ensures part { OnErr result (TakesPart (flat_map (span_rows bytes.now) spans.now) (W.taken out.old) (W.taken out.new)) }
     ensures failure { OnErr result (W.failures out.old < W.failures out.new) }
+    ensures no_failure { OnOk result (W.failures out.new ≡ W.failures out.old) }
     ensures never_falls { W.failures out.old ≤ W.failures out.new }
 {
     for span in spans {
@@ -53,6 +55,7 @@ pub(crate) fn write_rows<A: Allocator, W: Sink>(
     ensures all { OnOk result (W.taken out.new ≡ W.taken out.old ++ bare_rows found.now.query found.now.block.bytes) }
     ensures part { OnErr result (TakesPart (bare_rows found.now.query found.now.block.bytes) (W.taken out.old) (W.taken out.new)) }
     ensures failure { OnErr result (W.failures out.old < W.failures out.new) }
+    ensures no_failure { OnOk result (W.failures out.new ≡ W.failures out.old) }
     ensures never_falls { W.failures out.old ≤ W.failures out.new }
 {
     let block: &Block<A> = found.block();

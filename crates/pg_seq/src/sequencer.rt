@@ -149,6 +149,7 @@ impl<A: Allocator> Sequencer<A> {
         ensures drained { (past : Past) → Stands self.old past → (text : List ℕ)
             × (W.taken out.new ≡ W.taken out.old ++ text) × Drained result past text × Stands self.new (drained past text result) }
         ensures cause { IsErrOf result WriteFailed → W.failures out.old < W.failures out.new }
+        ensures no_failure { OnOk result (W.failures out.new ≡ W.failures out.old) }
         ensures never_falls { W.failures out.old ≤ W.failures out.new }
     {
         if self.failed {

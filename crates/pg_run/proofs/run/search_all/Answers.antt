@@ -79,7 +79,7 @@ loop-count-preserved g c =
         no_failure = past.no_failure ∙ i.calm.no_failure;
       };
       path = past.path ∙ i.path;
-      never_falls = omega (arith, i.never_falls, c.in_ok-search_ready.ensures.never_falls);
+      no_failure = c.in_ok-search_ready.ensures.no_failure ∙ i.no_failure;
     }
 
 pub returns-in_err-search_ready-clause-part : goal.returns-in_err-search_ready-clause-part

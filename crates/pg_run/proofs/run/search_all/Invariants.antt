@@ -1,4 +1,4 @@
-use Rattle.std.proofs.Common.{◌≡◌, ◌≤◌, ◌-◌, ◌^◌, ◌<◌, [], length}
+use Rattle.std.proofs.Common.{◌≡◌, ◌-◌, ◌^◌, ◌<◌, [], length}
 use Rattle.pg_lines.specs.Cutter.{IsDrained}
 use Rattle.pg_run.specs.Past.{IsCalm}
 use Rattle.pg_run.specs.Run.{Aim, Reads, aimed}
@@ -12,7 +12,7 @@ invariant-loop-count g l = record {
   room : 0 < length l.buffer;
   calm : IsCalm (g.S.Store.past l.fn.store) (g.S.Store.past l.store);
   path : (g.S.Store.past l.store).path ≡ (g.S.Store.past l.fn.store).path;
-  never_falls : g.W.Sink.failures l.fn.out ≤ g.W.Sink.failures l.out;
+  no_failure : g.W.Sink.failures l.out ≡ g.W.Sink.failures l.fn.out;
 }
 
 abbrev pub decreases-loop-count : goal.decreases-loop-count

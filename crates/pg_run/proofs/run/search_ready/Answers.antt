@@ -1,4 +1,4 @@
-use Rattle.std.proofs.Common.{arith}
+use Rattle.std.proofs.Common.{◌∙◌, refl}
 use Rattle.pg_seq.specs.Sink.{TakesPart}
 use Rattle.pg_seq.proofs.SinkLemmas.{on_err}
 use Rattle.pg_run.specs.Run.{output_of}
@@ -6,7 +6,7 @@ use Rattle.pg_run.proofs.ReadLemmas.{next_in_reads, reads_more, reads_none, next
 use Rattle.pg_run.proofs.run.search_ready.Goals as goal
 
 pub loop-block-init : goal.loop-block-init
-loop-block-init g c = record { reads = λ aim rest r. r; never_falls = omega arith }
+loop-block-init g c = record { reads = λ aim rest r. r; no_failure = refl }
 
 pub search-requires : goal.search-requires
 search-requires g c =
@@ -21,7 +21,7 @@ loop-block-preserved g c = record {
       let n = next_in_reads c.loop-block.cutter c.loop-block.searcher aim rest _ r c.in-Some.block (c.in-Some.ensures.next r.fed r.stands) in
       let o = c.in_ok-search.ensures.ok aim.query r.fed.taken r.holds n in
       reads_more c.loop-block.cutter _ c.loop-block.searcher _ aim rest _ _ r c.in-Some.block (c.in-Some.ensures.stands r.fed r.stands) o.0 o.1;
-  never_falls = omega (arith, c.loop-block.invariant.never_falls, c.in_ok-search.ensures.never_falls);
+  no_failure = c.in_ok-search.ensures.no_failure ∙ c.loop-block.invariant.no_failure;
 }
 
 pub returns-in_err-search-clause-part : goal.returns-in_err-search-clause-part

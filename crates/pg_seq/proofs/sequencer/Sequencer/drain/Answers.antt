@@ -32,7 +32,7 @@ loop-self-init g c = record {
       ([], sym (append-nil (g.W.Sink.taken c.args.out.now)), subst P (sym (append-nil past.written)) h);
   alike = record { query = refl; opened = refl; running = refl; bad = refl };
   unfailed = c.if-self.false;
-  never_falls = omega arith;
+  no_failure = refl;
 }
 
 pub loop-self-smaller : goal.loop-self-smaller
@@ -55,7 +55,7 @@ loop-self-preserved g c =
           );
       alike = record { query = i.alike.query; opened = i.alike.opened; running = i.alike.running; bad = i.alike.bad };
       unfailed = i.unfailed;
-      never_falls = omega (arith, i.never_falls, c.in-Ok-true.ensures.never_falls);
+      no_failure = c.in-Ok-true.ensures.no_failure ∙ i.no_failure;
     }
 
 pub returns-in-Ok-false-clause-drained : goal.returns-in-Ok-false-clause-drained
@@ -70,8 +70,11 @@ returns-in-Ok-false-clause-drained g c = λ past h.
       idle_stands s _ (wrote past d.0) (past.failed || false) d.2 (record { query = refl; opened = refl; running = refl; bad = refl }) o.1 refl (or_false past.failed ∙ d.2.failed),
     )
 
+pub returns-in-Ok-false-clause-no_failure : goal.returns-in-Ok-false-clause-no_failure
+returns-in-Ok-false-clause-no_failure g c = c.in-Ok-false.ensures.no_failure ∙ c.loop-self.invariant.no_failure
+
 pub returns-in-Ok-false-clause-never_falls : goal.returns-in-Ok-false-clause-never_falls
-returns-in-Ok-false-clause-never_falls g c = omega (arith, c.loop-self.invariant.never_falls, c.in-Ok-false.ensures.never_falls)
+returns-in-Ok-false-clause-never_falls g c = omega (arith, c.loop-self.invariant.no_failure, c.in-Ok-false.ensures.never_falls)
 
 pub returns-in-Err-clause-drained : goal.returns-in-Err-clause-drained
 returns-in-Err-clause-drained g c = λ past h.
@@ -88,7 +91,7 @@ returns-in-Err-clause-drained g c = λ past h.
     )
 
 pub returns-in-Err-clause-cause : goal.returns-in-Err-clause-cause
-returns-in-Err-clause-cause g c = λ e. omega (arith, c.loop-self.invariant.never_falls, c.in-Err.ensures.failure)
+returns-in-Err-clause-cause g c = λ e. omega (arith, c.loop-self.invariant.no_failure, c.in-Err.ensures.failure)
 
 pub returns-in-Err-clause-never_falls : goal.returns-in-Err-clause-never_falls
-returns-in-Err-clause-never_falls g c = omega (arith, c.loop-self.invariant.never_falls, c.in-Err.ensures.never_falls)
+returns-in-Err-clause-never_falls g c = omega (arith, c.loop-self.invariant.no_failure, c.in-Err.ensures.never_falls)

@@ -9,7 +9,7 @@ invariant-loop-self g l = record {
   drains : (past : Past) → Stands l.fn.self past → (text : List ℕ) × (g.W.Sink.taken l.out ≡ g.W.Sink.taken l.fn.out ++ text) × Stands l.self (wrote past text);
   alike : IsAlike l.fn.self l.self;
   unfailed : l.self.failed ≡ false;
-  never_falls : g.W.Sink.failures l.fn.out ≤ g.W.Sink.failures l.out;
+  no_failure : g.W.Sink.failures l.out ≡ g.W.Sink.failures l.fn.out;
 }
 
 abbrev pub decreases-loop-self : goal.decreases-loop-self
