@@ -6,7 +6,7 @@ use Rattle.pg_syntax.specs.Grammar as G
 use Rattle.pg_syntax.specs.Grammar.{Spells, Expression, Body, Mark, opening, closing, brace, unbrace}
 use Rattle.pg_syntax.specs.Machine as M
 use Rattle.pg_syntax.proofs.Proper.{spelled_proper}
-use Rattle.pg_syntax.specs.Machine.{State, Token, Level, start, whole, grouped, token, after, next, Completes, done, step}
+use Rattle.pg_syntax.specs.Machine.{State, Token, Level, start, whole, grouped, token, after, next, Completes, done, step, Leads, onward}
 use Rattle.pg_syntax.specs.Places.{Place, PlaceIn}
 use Rattle.pg_syntax.specs.Results.{IsSpelled, IsRefused, IsFault}
 use Rattle.pg_syntax.specs.Expressions.{kind_of}
@@ -46,6 +46,9 @@ module _ (syntax : Syntax) (fold : Bool) where
     λ c. (keeps p).1 (step (next_some s s' t rest k e f) c),
   )
 
+  pub leads_on : (text : List ℕ) (s s' : State) (t rest : List ℕ) (k : Token) → token syntax fold s t ≡ Some (k, rest) → after k s ≡ Some s' → Leads syntax fold text s t → Leads syntax fold text s' rest
+  leads_on text s s' t rest k e f leads = onward leads (next_some s s' t rest k e f)
+
   nothing_spelled : (text : List ℕ) (s : State) (t : List ℕ) → text ≢ [] → t ≢ [] → next syntax fold s t ≡ None → Keeps syntax fold text s t → (p : Pattern) → Spells (kind_of syntax) fold text p → ⊥
   nothing_spelled text s t n m e keeps p h = stuck syntax fold s t p e m ((keeps p).0 (spelled syntax fold h n))
 
@@ -63,11 +66,13 @@ module _ (syntax : Syntax) (fold : Bool) where
   empty_end s p g (done w) = cc
   empty_end s p g (step f c) = cc
 
-  pub in_group : (text : List ℕ) (s : State) → length text ≤ 4096 → text ≢ [] → grouped s.outer ≡ true → Keeps syntax fold text s [] → IsRefused (kind_of syntax) fold text (record { kind = UnmatchedGroup; at = length text })
-  in_group text s l n g keeps = record { none = λ p h. open_end s p g ((keeps p).0 (spelled syntax fold h n)); place = place_of syntax UnmatchedGroup text _ (inr refl); long = λ h. absurd (omega arith) }
+  pub in_group : (text : List ℕ) (s : State) → length text ≤ 4096 → text ≢ [] → grouped s.outer ≡ true → Keeps syntax fold text s [] → Leads syntax fold text s []
+      → IsRefused (kind_of syntax) fold text (record { kind = UnmatchedGroup; at = length text })
+  in_group text s l n g keeps leads = record { none = λ p h. open_end s p g ((keeps p).0 (spelled syntax fold h n)); place = place_of syntax UnmatchedGroup text _ (inr (refl, record { fold = fold; state = s; leads = leads; «open» = g })); long = λ h. absurd (omega arith) }
 
-  pub empty_operand : (text : List ℕ) (s : State) → length text ≤ 4096 → text ≢ [] → whole s.level ≡ None → Keeps syntax fold text s [] → IsRefused (kind_of syntax) fold text (record { kind = EmptyOperand; at = length text })
-  empty_operand text s l n g keeps = record { none = λ p h. empty_end s p g ((keeps p).0 (spelled syntax fold h n)); place = place_of syntax EmptyOperand text _ (inr (inr refl)); long = λ h. absurd (omega arith) }
+  pub empty_operand : (text : List ℕ) (s : State) → length text ≤ 4096 → text ≢ [] → grouped s.outer ≡ false → whole s.level ≡ None → Keeps syntax fold text s [] → Leads syntax fold text s []
+      → IsRefused (kind_of syntax) fold text (record { kind = EmptyOperand; at = length text })
+  empty_operand text s l n o g keeps leads = record { none = λ p h. empty_end s p g ((keeps p).0 (spelled syntax fold h n)); place = place_of syntax EmptyOperand text _ (inr (inr (refl, record { fold = fold; state = s; leads = leads; closed = o; empty = g }))); long = λ h. absurd (omega arith) }
 
   finish : (ls : List Level) (l : Level) (p : Pattern) → grouped ls ≡ false → whole l ≡ Some p → Completes syntax fold (record { outer = ls; level = l }) [] p
   finish [] l p g w = done w

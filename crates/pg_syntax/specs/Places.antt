@@ -1,6 +1,7 @@
 -- What stands where a fault is found.
 use Rattle.std.specs.Prelude.{ℕ, ◌≡◌, ◌≤◌, ◌<◌, List, [], ◌∷◌, ◌++◌, length, drop, ◌⊎◌}
 use Rattle.pg_syntax.specs.Grammar.{opening, closing, brace}
+use Rattle.pg_syntax.specs.Machine.{LeavesOpen, LeavesEmpty}
 use Rattle.pg_syntax.specs.declared.token.Syntax.{Syntax}
 use Rattle.pg_syntax.specs.declared.token.Syntax.TheVariants as S
 use Rattle.pg_syntax.specs.declared.token.Syntax.TheVariants.{Basic, Extended}
@@ -18,7 +19,8 @@ abbrev pub IsPastLongest : List ℕ → ℕ → Type 0
 IsPastLongest text at = (at ≡ 4096) × (4096 < length text)
 
 -- a fault of this kind can stand at this offset of an expression: a backslash; `[`, or `[` with a mark; some byte; what
--- closes a group; what begins an interval; what repeats; what opens a group; a bar; or the end
+-- closes a group; what begins an interval; what repeats; what opens a group; a bar; or the end of a text that leaves a
+-- group open, or its last alternative empty
 abbrev pub PlaceIn : Syntax → FaultKind → List ℕ → ℕ → Type 0
 PlaceIn syntax TrailingBackslash text at = drop at text ≡ 92 ∷ []
 PlaceIn syntax BadEscape text at = Stands text at (92 ∷ [])
@@ -27,11 +29,11 @@ PlaceIn syntax UnmatchedBracket text at = Stands text at (91 ∷ [])
 PlaceIn syntax BadClass text at = Stands text at (91 ∷ 58 ∷ [])
 PlaceIn syntax BadCollating text at = Stands text at (91 ∷ 61 ∷ []) ⊎ Stands text at (91 ∷ 46 ∷ [])
 PlaceIn syntax BadRange text at = at < length text
-PlaceIn syntax UnmatchedGroup text at = ((syntax ≡ Basic) × Stands text at (closing Basic)) ⊎ (at ≡ length text)
+PlaceIn syntax UnmatchedGroup text at = ((syntax ≡ Basic) × Stands text at (closing Basic)) ⊎ ((at ≡ length text) × LeavesOpen syntax text)
 PlaceIn syntax BadInterval text at = Stands text at (brace syntax)
 PlaceIn Basic NothingToRepeat text at = Stands text at (42 ∷ []) ⊎ Stands text at (brace Basic)
 PlaceIn Extended NothingToRepeat text at = (b : ℕ) × ((b ≡ 42) ⊎ ((b ≡ 43) ⊎ ((b ≡ 63) ⊎ (b ≡ 123)))) × Stands text at (b ∷ [])
-PlaceIn syntax EmptyOperand text at = Stands text at (closing syntax) ⊎ (((syntax ≡ Extended) × Stands text at (124 ∷ [])) ⊎ (at ≡ length text))
+PlaceIn syntax EmptyOperand text at = Stands text at (closing syntax) ⊎ (((syntax ≡ Extended) × Stands text at (124 ∷ [])) ⊎ ((at ≡ length text) × LeavesEmpty syntax text))
 PlaceIn syntax TooDeep text at = Stands text at (opening syntax)
 PlaceIn syntax OutOfMemory text at = at ≡ 0
 PlaceIn syntax TooLong text at = IsPastLongest text at

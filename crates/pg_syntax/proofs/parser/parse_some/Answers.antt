@@ -2,9 +2,10 @@ use Rattle.std.proofs.Common.{drop, refl, arith, subst, ◌∙◌, sym, ap, inr}
 use Rattle.std.proofs.lemmas.List.{drop_all}
 use Rattle.std.proofs.lemmas.Result.{err_from_is_err_and}
 use Rattle.pg_syntax.specs.Trees.{pattern_of}
+use Rattle.pg_syntax.specs.Machine.{Leads, begin}
 use Rattle.pg_syntax.specs.States.{state_of}
 use Rattle.pg_syntax.specs.Tokens.{token_of}
-use Rattle.pg_syntax.proofs.TokenLoop.{Keeps, keeps_on, no_token_fault, refused_token, in_group, empty_operand, finished, nonempty_drop}
+use Rattle.pg_syntax.proofs.TokenLoop.{Keeps, keeps_on, leads_on, no_token_fault, refused_token, in_group, empty_operand, finished, nonempty_drop}
 use Rattle.pg_syntax.proofs.parser.parse_some.Goals as goal
 
 pub returns-in_err-token-clause-refused : goal.returns-in_err-token-clause-refused
@@ -19,6 +20,18 @@ returns-in_err-apply-clause-refused g c =
     let p = err_from_is_err_and c.from_residual-in_err-apply.result c.from_residual-in_err-apply.ensures.1 in
     rw (p.1, p.2) (refused_token _ _ text c.loop-at.at (state_of c.loop-at.builder) (state_of c.apply.new.builder) _ (token_of c.in_ok-token.token) (drop c.in_ok-token.next text) c.requires.short c.requires.some (nonempty_drop text c.loop-at.at (omega arith)) c.in_ok-token.ensures.0 c.in_err-apply.ensures c.loop-at.invariant.keeps)
 
+pub loop-at-init : goal.loop-at-init
+loop-at-init g c =
+    let text = c.args.source.now.text.now in
+    let syntax = c.args.source.now.syntax in
+    let fold = c.args.source.now.fold in
+    record {
+      within = omega arith;
+      whole = refl;
+      keeps = subst (λ s. Keeps syntax fold text s text) (sym c.new-builder.ensures) (λ p. (λ x. x, λ x. x));
+      leads = subst (λ s. Leads syntax fold text s text) (sym c.new-builder.ensures) begin;
+    }
+
 pub loop-at-preserved : goal.loop-at-preserved
 loop-at-preserved g c =
     let text = c.args.source.now.text.now in
@@ -26,12 +39,14 @@ loop-at-preserved g c =
       within = c.in_ok-token.ensures.2;
       whole = refl;
       keeps = keeps_on _ _ text (state_of c.loop-at.builder) _ (drop c.loop-at.at text) _ _ c.in_ok-token.ensures.0 c.in_ok-apply.ensures c.loop-at.invariant.keeps;
+      leads = leads_on _ _ text (state_of c.loop-at.builder) _ (drop c.loop-at.at text) _ _ c.in_ok-token.ensures.0 c.in_ok-apply.ensures c.loop-at.invariant.leads;
     }
 
 pub returns-then-has_group-clause-refused : goal.returns-then-has_group-clause-refused
 returns-then-has_group-clause-refused g c =
     let text = c.args.source.now.text.now in
-    inr (in_group _ _ text (state_of c.loop-at.builder) c.requires.short c.requires.some (sym c.has_group.ensures ∙ c.if-has_group.true) (subst (λ y. Keeps c.args.source.now.syntax c.args.source.now.fold text (state_of c.loop-at.builder) y) (drop_all c.loop-at.at text (omega arith)) c.loop-at.invariant.keeps))
+    inr (in_group _ _ text (state_of c.loop-at.builder) c.requires.short c.requires.some (sym c.has_group.ensures ∙ c.if-has_group.true) (subst (λ y. Keeps c.args.source.now.syntax c.args.source.now.fold text (state_of c.loop-at.builder) y) (drop_all c.loop-at.at text (omega arith)) c.loop-at.invariant.keeps)
+    (subst (λ y. Leads c.args.source.now.syntax c.args.source.now.fold text (state_of c.loop-at.builder) y) (drop_all c.loop-at.at text (omega arith)) c.loop-at.invariant.leads))
 
 pub returns-in-Some-clause-spelled : goal.returns-in-Some-clause-spelled
 returns-in-Some-clause-spelled g c =
@@ -43,4 +58,5 @@ pub returns-clause-refused : goal.returns-clause-refused
 returns-clause-refused g c =
     let text = c.args.source.now.text.now in
     let w = c.in_ok-tree.ensures in
-    inr (empty_operand _ _ text (state_of c.loop-at.builder) c.requires.short c.requires.some (sym w ∙ ap pattern_of c.in-None.is) (subst (λ y. Keeps c.args.source.now.syntax c.args.source.now.fold text (state_of c.loop-at.builder) y) (drop_all c.loop-at.at text (omega arith)) c.loop-at.invariant.keeps))
+    inr (empty_operand _ _ text (state_of c.loop-at.builder) c.requires.short c.requires.some (sym c.has_group.ensures ∙ c.if-has_group.false) (sym w ∙ ap pattern_of c.in-None.is) (subst (λ y. Keeps c.args.source.now.syntax c.args.source.now.fold text (state_of c.loop-at.builder) y) (drop_all c.loop-at.at text (omega arith)) c.loop-at.invariant.keeps)
+    (subst (λ y. Leads c.args.source.now.syntax c.args.source.now.fold text (state_of c.loop-at.builder) y) (drop_all c.loop-at.at text (omega arith)) c.loop-at.invariant.leads))
