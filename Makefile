@@ -26,15 +26,16 @@ check: toolchain
 bench: all
 	bench/search.sh $(program)
 
-# Times crates that the program doesn't use yet. Each is proved and built in a folder of its own.
+# Times crates that the program doesn't use yet.
 bench-parts: toolchain
-	bench/walk.sh $(RT)
-	bench/match.sh $(RT)
+	@cd crates/pg_bench && $(RT) run > /dev/null
+	bench/walk.sh crates/pg_bench/out/pg_bench
+	bench/patterns.sh crates/pg_bench/out/pg_bench
 
 install: all
 	$(INSTALL) -d "$(DESTDIR)$(bindir)" "$(DESTDIR)$(mandir)/man1"
 	$(INSTALL) -m 755 $(program) "$(DESTDIR)$(bindir)/pargrep"
-	$(INSTALL) -m 644 doc/pargrep.1 "$(DESTDIR)$(mandir)/man1/pargrep.1"
+	$(INSTALL) -m 644 docs/man/pargrep.1 "$(DESTDIR)$(mandir)/man1/pargrep.1"
 	@echo "pargrep: installed $(DESTDIR)$(bindir)/pargrep and its man page"
 	@case ":$$PATH:" in *":$(bindir):"*) ;; *) echo "pargrep: $(bindir) is not on your PATH yet" ;; esac
 

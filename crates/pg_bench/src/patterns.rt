@@ -1,34 +1,5 @@
-#!/bin/sh
-# Times what patterns cost. First the longest ones: how long they take to be read, and to become an automaton. Then the
-# search of lines: for each pattern and each kind of search how fast it goes over a text of random letters, what one visit
-# of a state costs, and how many lines or parts were found.
-# Usage: bench/match.sh [RT [MEGABYTES]]
-# RT is the toolchain's command. It builds the program in a copy of the crates that it needs, which takes some minutes
-# where they weren't proved before. All is made in a folder that is removed at the end.
-set -eu
-export LC_ALL=C
-
-rt=${1:-rt}
-megabytes=${2:-64}
-top=$(cd "$(dirname "$0")/.." && pwd)
-
-folder=$(mktemp -d)
-trap 'rm -rf "$folder"' EXIT
-
-program=$folder/repository/crates/match_lines
-mkdir -p "$program/src" "$program/proofs"
-for crate in pg_bytes pg_syntax pg_match refusing; do
-  cp -r "$top/crates/$crate" "$folder/repository/crates"
-  grep "^$crate:" "$top/crates.txt" >> "$folder/repository/crates.txt"
-done
-cp "$top/HANDLES" "$folder/repository"
-echo 'match_lines: pg_match pg_syntax memchr anyhow' >> "$folder/repository/crates.txt"
-cat > "$program/src/main.rt" <<'PROGRAM'
-//! Times what patterns cost: `match_lines MEGABYTES` prints how long the longest patterns take to be read and built, and
-//! for some patterns how fast `selects` and `next_piece` go over a text of so many megabytes, and what a visit of a state
-//! costs. Without an argument it does nothing.
-#![tactic(auto)]
-
+//! What patterns cost: how long the longest ones take to be read and built, and how fast `selects` and `next_piece` go
+//! over a text of random letters.
 ghost use Rattle.std.specs.Prelude.{◌≡◌, ◌≤◌, ◌^◌, length, IfOk};
 ghost use Rattle.pg_match.specs.Machines.{Fits};
 
@@ -37,8 +8,8 @@ use memchr::memchr;
 use pg_match::{Bounds, Machine, Scratch};
 use pg_syntax::parse_ere;
 use std::alloc::{AllocError, Global};
+use std::io;
 use std::time::{Clock, Instant};
-use std::{env, io};
 
 /// How many bytes have lines before the newline.
 const WIDTH: u32 = 60;
@@ -279,82 +250,15 @@ fn time_all(
     Ok(())
 }
 
-fn main(rt: HostRuntime) -> Result<()> {
-    let mut words = env::args(&rt)?;
-    let _program = words.next();
-    let Some(word) = words.next() else {
-        return Ok(());
-    };
-    let megabytes: usize = word.parse()?;
+/// Prints the times of the longest patterns, and of some patterns over a text of so many megabytes.
+pub fn time_patterns(rt: &(impl Clock + Print), alloc: Global, megabytes: usize) -> Result<()> {
     ensure!(megabytes <= 256, "at most 256 megabytes");
     for part in PARTS {
-        report_long(&rt, rt.alloc(), part)?;
+        report_long(rt, alloc, part)?;
     }
-    let text = random_text(rt.alloc(), megabytes)?;
+    let text = random_text(alloc, megabytes)?;
     for pattern in PATTERNS {
-        report(&rt, rt.alloc(), pattern, &text)?;
+        report(rt, alloc, pattern, &text)?;
     }
     Ok(())
 }
-PROGRAM
-
-# invariants FUNCTION: what its loops keep, from standard input.
-invariants() {
-  mkdir -p "$program/proofs/$1"
-  cat > "$program/proofs/$1/Invariants.antt"
-}
-invariants random_text <<'PROOF'
-use Rattle.std.proofs.Common.{◌≤◌, length}
-use Rattle.match_lines.proofs.random_text.Given as goal
-
-abbrev pub invariant-loop-count : goal.invariant-loop-count
-invariant-loop-count l = length l.text.items ≤ l.count
-PROOF
-invariants search <<'PROOF'
-use Rattle.std.proofs.Common.{◌≤◌, ◌^◌, length}
-use Rattle.pg_match.specs.Machines.{Fits}
-use Rattle.match_lines.proofs.search.Given as goal
-
-abbrev pub invariant-loop : goal.invariant-loop
-invariant-loop l = record {
-  fits : Fits l.scratch l.machine;
-  short : length l.rest ≤ 2 ^ 30;
-}
-PROOF
-invariants find_parts <<'PROOF'
-use Rattle.std.proofs.Common.{◌-◌, ◌≤◌, length}
-use Rattle.pg_match.specs.Machines.{Fits}
-use Rattle.match_lines.proofs.find_parts.Given as goal
-
-abbrev pub invariant-loop-place : goal.invariant-loop-place
-invariant-loop-place l = record {
-  fits : Fits l.scratch l.machine;
-  within : l.place ≤ length l.line;
-}
-
-abbrev pub decreases-loop-place : goal.decreases-loop-place
-decreases-loop-place l = length l.line - l.place
-PROOF
-invariants best <<'PROOF'
-use Rattle.pg_match.specs.Machines.{Fits}
-use Rattle.match_lines.proofs.best.Given as goal
-
-abbrev pub invariant-loop : goal.invariant-loop
-invariant-loop g l = Fits l.scratch l.machine
-PROOF
-invariants time_all <<'PROOF'
-use Rattle.pg_match.specs.Machines.{Fits}
-use Rattle.match_lines.proofs.time_all.Given as goal
-
-abbrev pub invariant-loop-work : goal.invariant-loop-work
-invariant-loop-work g l = Fits l.scratch l.machine
-PROOF
-
-echo "building" >&2
-(cd "$program" && "$rt" run > /dev/null 2> "$folder/log") || {
-  cat "$folder/log" >&2
-  exit 1
-}
-
-echo "$megabytes MB; best of 5 runs each; load $(cut -d ' ' -f 1 /proc/loadavg)"
-"$program/out/match_lines" "$megabytes"
