@@ -19,7 +19,7 @@ class DataFault(Exception):
 
 @dataclass
 class Entry:
-    """Something that lies in the folder where a row runs: a file, a locked file, a folder, a locked folder or a link."""
+    """What lies in the folder where a row runs: a file, a locked one, a folder, a locked one, or a link."""
 
     kind: str
     path: bytes
@@ -41,11 +41,15 @@ class Row:
     output_to: bytes | None = None
     unread: bool = False
     error: bytes = b""
-    error_begins: bool = False
     status: int = 0
     variants: list = field(default_factory=list)
     asks_grep: bool = True
     keys: set = field(default_factory=set)
+
+    @property
+    def error_begins(self):
+        """Whether only the beginning of standard error is stated."""
+        return "error-begins" in self.keys
 
 
 def unescaped(text):
@@ -137,9 +141,10 @@ def read_path(text):
     return path
 
 
-def read_flag(text, wanted):
-    if text.strip() != wanted:
-        raise DataFault(f"only {wanted!r} may stand here")
+def read_flag(text, flag):
+    if text.strip() != flag:
+        raise DataFault(f"only {flag!r} may stand here")
+    return True
 
 
 def read_status(text):
@@ -148,57 +153,30 @@ def read_status(text):
     return int(text)
 
 
-def set_words(row, text):
-    row.words = read_words(text)
-
-
-def set_error_begins(row, text):
-    row.error, row.error_begins = read_text(text), True
-
-
-def set_input_from(row, text):
-    row.input_from = read_one_word(text)
-
-
-def set_output_to(row, text):
-    row.output_to = read_one_word(text)
-
-
-def set_closed(row, text):
-    row.closed = set(text.split())
-    if not row.closed or not row.closed <= set(STREAMS):
+def read_streams(text):
+    streams = set(text.split())
+    if not streams or not streams <= set(STREAMS):
         raise DataFault(f"the streams are {', '.join(STREAMS)}")
+    return streams
 
 
-def set_unread(row, text):
-    read_flag(text, "output")
-    row.unread = True
-
-
-def set_no_variants(row, text):
-    read_flag(text, "none")
-    row.variants = []
-
-
-def set_unasked(row, text):
-    read_flag(text, "no")
-    row.asks_grep = False
-
-
+# Each key's field, and what reads its value.
 KEYS = {
-    "words": set_words,
-    "input": lambda row, text: setattr(row, "input", read_text(text)),
-    "input-from": set_input_from,
-    "closed": set_closed,
-    "unread": set_unread,
-    "output": lambda row, text: setattr(row, "output", read_text(text)),
-    "output-to": set_output_to,
-    "error": lambda row, text: setattr(row, "error", read_text(text)),
-    "error-begins": set_error_begins,
-    "status": lambda row, text: setattr(row, "status", read_status(text)),
-    "also": set_no_variants,
-    "grep": set_unasked,
+    "words": ("words", read_words),
+    "input": ("input", read_text),
+    "input-from": ("input_from", read_one_word),
+    "closed": ("closed", read_streams),
+    "unread": ("unread", lambda text: read_flag(text, "output")),
+    "output": ("output", read_text),
+    "output-to": ("output_to", read_one_word),
+    "error": ("error", read_text),
+    "error-begins": ("error", read_text),
+    "status": ("status", read_status),
+    "also": ("variants", lambda text: [] if read_flag(text, "none") else None),
+    "grep": ("asks_grep", lambda text: not read_flag(text, "no")),
 }
+
+ENTRIES = ("file", "locked", "folder", "link")
 
 # Of each pair a row states one at most.
 EXCLUDED = [
@@ -218,10 +196,8 @@ def read_entry(key, text):
         return Entry(kind, path, read_text(text))
     if kind == "link":
         return Entry(kind, path, read_one_word(text))
-    if text.strip():
-        read_flag(text, "locked")
-        return Entry("locked-folder", path)
-    return Entry("folder", path)
+    is_locked = text.strip() and read_flag(text, "locked")
+    return Entry("locked-folder" if is_locked else "folder", path)
 
 
 def key_end(line):
@@ -279,8 +255,7 @@ class Reader:
         elif key == "also":
             self.variants.append(read_words(text))
         elif key == "grep":
-            read_flag(text, "no")
-            self.asks_grep = False
+            self.asks_grep = not read_flag(text, "no")
         else:
             raise DataFault(f"unknown key {key!r} before the first row")
 
@@ -291,19 +266,19 @@ class Reader:
             raise DataFault("a name is of small letters, digits and single hyphens between them")
 
     def take_key(self, row, key, text):
-        is_entry = key.partition(" ")[0] in ("file", "locked", "folder", "link")
-        if not is_entry and key not in KEYS:
-            raise DataFault(f"unknown key {key!r}")
         if key in row.keys:
             raise DataFault(f"{key!r} stands twice in this row")
         row.keys.add(key)
-        if is_entry:
+        if key in KEYS:
+            name, read = KEYS[key]
+            setattr(row, name, read(text))
+        elif key.partition(" ")[0] in ENTRIES:
             entry = read_entry(key, text)
             if any(it.path == entry.path for it in row.entries):
                 raise DataFault("two entries have this path")
             row.entries.append(entry)
         else:
-            KEYS[key](row, text)
+            raise DataFault(f"unknown key {key!r}")
 
     def close_row(self):
         """Tells what the last row lacks, or states twice."""

@@ -23,7 +23,7 @@ PROGRAM = HERE.parent / "crates/pargrep/out/pargrep"
 CHOSEN = HERE / "chosen-differences"
 
 # A row that has not ended after so many seconds has failed.
-LIMIT = 60
+LIMIT = 20
 
 # Of a text no more bytes are shown.
 SHOWN = 200
@@ -62,8 +62,8 @@ class SetupFault(Exception):
 def cases_of(row, with_variants):
     cases = [Case(row, row.name, row.words)]
     for words in row.variants if with_variants else []:
-        shown = " ".join(os.fsdecode(word) for word in words)
-        cases.append(Case(row, f"{row.name} with {shown}", words + row.words))
+        label = f"{row.name} with {' '.join(quoted(word) for word in words)}"
+        cases.append(Case(row, label, words + row.words))
     return cases
 
 
@@ -273,8 +273,10 @@ def keep(program, case, locks_hold):
     os.mkdir(folder)
     make_entries(case.row.entries, folder, locks_hold)
     Path(room, "input").write_bytes(case.row.input)
-    row, parts = case.row, ["env -i", 'PATH="$PATH"', "LC_ALL=C", quoted(os.fsencode(program))]
-    parts += [quoted(word) for word in case.words]
+    row, parts = case.row, ["env -i", 'PATH="$PATH"', "LC_ALL=C"]
+    if os.geteuid() == 0 and any(entry.kind.startswith("locked") for entry in row.entries):
+        parts.append("setpriv --bounding-set=-dac_override,-dac_read_search")
+    parts += [quoted(word) for word in (os.fsencode(program), *case.words)]
     if "input" in row.closed:
         parts.append("<&-")
     else:
@@ -371,7 +373,7 @@ def program_faults(program):
 
 def read_arguments():
     parser = argparse.ArgumentParser(description="Runs the command lines in tests/rows on the program.")
-    parser.add_argument("names", nargs="*", metavar="NAME", help="a row with its variants, or one of these by its title")
+    parser.add_argument("names", nargs="*", metavar="NAME", help="a row with its variants, or one variant")
     parser.add_argument("--program", help="absolute path of the program (default: the one that make builds)")
     parser.add_argument("--keep", action="store_true", help="make each row's folder, and print what to type there")
     parser.add_argument("--grep", action="store_true", help="ask the machine's own grep in place of the program")
@@ -384,6 +386,8 @@ def main():
     rows, faults = read_rows(HERE / "rows", "tests/rows")
     cases, unknown = ([], []) if faults else wanted_cases(rows, given.names, not given.grep)
     faults += unknown + program_faults(program)
+    if given.keep and not given.names:
+        faults.append("--keep wants the names of rows")
     if faults:
         print(*faults, sep="\n")
         return closing(0, len(faults))
