@@ -11,6 +11,7 @@ import signal
 import subprocess
 import sys
 import tempfile
+import threading
 from concurrent.futures import ThreadPoolExecutor
 from dataclasses import dataclass, field
 from pathlib import Path
@@ -30,6 +31,9 @@ SHOWN = 200
 
 # Options that grep doesn't have; each takes a value.
 OWN_OPTIONS = (b"--block", b"--round", b"--workers")
+
+# Held while a program is started, so that no other one inherits an end of its pipes on the way.
+STARTING = threading.Lock()
 
 PR_CAPBSET_DROP = 24
 CAP_DAC_OVERRIDE = 1
@@ -158,13 +162,14 @@ def close_all(streams):
 
 def start(program, case, folder):
     """Starts the program in its folder, with the streams that the row asks for."""
-    given = given_streams(case.row, folder)
-    streams = dict.fromkeys(("stdin", "stdout", "stderr"), subprocess.PIPE) | given
     command = command_of(program, case.words, case.row.closed)
-    try:
-        return subprocess.Popen(command, cwd=folder, env=environment(), start_new_session=True, **streams)
-    finally:
-        close_all(given)
+    with STARTING:
+        given = given_streams(case.row, folder)
+        streams = dict.fromkeys(("stdin", "stdout", "stderr"), subprocess.PIPE) | given
+        try:
+            return subprocess.Popen(command, cwd=folder, env=environment(), start_new_session=True, **streams)
+        finally:
+            close_all(given)
 
 
 def outcome_of(program, case, folder):
