@@ -5,21 +5,45 @@ use pg_command::{Fault, command, report};
 use pg_run::{Ending, MemStore};
 use pg_seq::MemSink;
 use pg_words::read_words;
-use std::alloc::Global;
+use std::alloc::{AllocError, Global};
 use std::process::Abort;
 use std::test::Fail;
 
 /// The most bytes that a test writes to a stream.
 const ROOM: usize = 100;
 
-/// Standard input.
+/// What standard input and the file `broken` hold.
 const INPUT: &[u8] = b"abc\nxyz\nb";
 
-/// Its lines that hold `b`.
+/// Their lines that hold `b`.
 const OUTPUT: &[u8] = b"abc\nb\n";
 
+/// The most bytes of a read, of a write, and of all that is written to each stream.
+#[derive(Clone, Copy)]
+struct Limits {
+    read: usize,
+    write: usize,
+    out: usize,
+    err: usize,
+}
+
+const UNLIMITED: Limits = Limits {
+    read: ROOM,
+    write: ROOM,
+    out: ROOM,
+    err: ROOM,
+};
+
+/// What a command line wrote and answered.
+#[derive(Drop)]
+struct Outcome {
+    status: u8,
+    out: MemSink,
+    err: MemSink,
+}
+
 /// The words of a text, which blanks set apart.
-fn words_of(alloc: Global, text: &str) -> Result<Vec<String>, Fail> {
+fn words_of(alloc: Global, text: &str) -> Result<Vec<String>, AllocError> {
     let mut words = Vec::new(alloc);
     for word in text.split(' ') {
         words.push(String::from_str(alloc, word)?)?;
@@ -27,36 +51,58 @@ fn words_of(alloc: Global, text: &str) -> Result<Vec<String>, Fail> {
     Ok(words)
 }
 
-/// A search of standard input, of which each read and each write takes at most so many bytes.
-fn assert_searched(
-    rt: &impl Abort,
-    alloc: Global,
-    words: &[String],
-    limit: usize,
-) -> Result<(), Fail>
-    requires { 1 ≤ limit }
+/// Standard input and a file, of which a read gives at most so many bytes.
+fn store_of(alloc: Global, ending: Ending, read_limit: usize) -> Result<MemStore, AllocError>
+    requires { 1 ≤ read_limit }
 {
     let mut store = MemStore::new(alloc);
-    store.add("-", INPUT, Ending::Ends)?;
-    store.set_read_limit(limit);
-    let mut out = MemSink::new(alloc, ROOM)?;
-    out.set_write_limit(limit);
-    let mut err = MemSink::new(alloc, ROOM)?;
-    let status = command(alloc, words, &mut store, &mut out, &mut err);
-    assert_eq!(rt; status, 0, "at {limit}");
-    assert_eq!(rt; out.bytes(), OUTPUT, "at {limit}");
-    assert!(rt; err.bytes().is_empty(), "at {limit}");
-    Ok(())
+    store.add("-", INPUT, ending)?;
+    store.add("broken", INPUT, ending)?;
+    store.set_read_limit(read_limit);
+    Ok(store)
 }
+
+/// What a command line does.
+fn run(alloc: Global, text: &str, ending: Ending, limits: Limits) -> Result<Outcome, AllocError>
+    requires { 1 ≤ limits.read }
+{
+    let words = words_of(alloc, text)?;
+    let mut store = store_of(alloc, ending, limits.read)?;
+    let mut out = MemSink::new(alloc, limits.out)?;
+    out.set_write_limit(limits.write);
+    let mut err = MemSink::new(alloc, limits.err)?;
+    let status = command(alloc, words.as_slice(), &mut store, &mut out, &mut err);
+    Ok(Outcome { status, out, err })
+}
+
+fn assert_outcome(rt: &impl Abort, found: &Outcome, status: u8, out: &[u8], told: &str) {
+    assert_eq!(rt; found.status, status);
+    assert_eq!(rt; found.out.bytes(), out);
+    assert_eq!(rt; found.err.bytes(), told.as_bytes());
+}
+
+/// Command lines that differ in the size of blocks.
+const BLOCKS: &str = "\
+-F b - --block 1
+-F b - --block 2
+-F b - --block 3
+-F b - --block 4
+-F b - --block 9
+-F b - --block 10
+-F b - --block 65536
+-F b - --block 16777216";
 
 #[test]
 fn few_bytes_at_a_time(rt: HostRuntime) -> Result<(), Fail> {
-    let alloc = rt.alloc();
-    for block in "1 2 3 4 9 10 65536 16777216".split(' ') {
-        let mut words = words_of(alloc, "-F b - --block")?;
-        words.push(String::from_str(alloc, block)?)?;
+    for text in BLOCKS.lines() {
         for limit in [1, 2, 3, 9, 10] {
-            assert_searched(&rt, alloc, words.as_slice(), limit)?;
+            let limits = Limits {
+                read: limit,
+                write: limit,
+                ..UNLIMITED
+            };
+            let found = run(rt.alloc(), text, Ending::Ends, limits)?;
+            assert_outcome(&rt, &found, 0, OUTPUT, "");
         }
     }
     Ok(())
@@ -69,73 +115,53 @@ const BLOCK_SIZES: &str = "\
 16777216 --block 16777216 -F b -
 65536 -F b -";
 
+/// The size of blocks that words give in a search for `b` in standard input.
+fn block_of(alloc: Global, text: &str) -> Result<Option<u32>, AllocError> {
+    let words = words_of(alloc, text)?;
+    match read_words(alloc, words.as_slice()) {
+        Ok(request) if request.text == "b" && request.file == "-" => Ok(Some(request.block)),
+        _ => Ok(None),
+    }
+}
+
 #[test]
 fn the_last_block_size_counts(rt: HostRuntime) -> Result<(), Fail> {
     for line in BLOCK_SIZES.lines() {
-        let Some((block, text)) = line.split_once(' ') else {
-            return Err("a line has no words".into());
-        };
-        let words = words_of(rt.alloc(), text)?;
-        let Ok(request) = read_words(rt.alloc(), words.as_slice()) else {
-            return Err("the words are refused".into());
-        };
-        assert_eq!(rt; Ok(request.block), block.parse::<u32>(), "{line}");
-        assert_eq!(rt; request.text, "b", "{line}");
-        assert_eq!(rt; request.file, "-", "{line}");
+        let (size, text) = line.split_once(' ').unwrap_or(("", ""));
+        let block = block_of(rt.alloc(), text)?;
+        assert!(rt; block.is_some() && block == size.parse().ok(), "{line}");
     }
     Ok(())
 }
 
-/// Paths, and what is told where their reading fails.
+/// Command lines that name a file whose reading fails behind its bytes, and what is told.
 const BROKEN: &str = "\
-broken=pargrep: broken: read failed
--=pargrep: (standard input): read failed";
+-F b broken=pargrep: broken: read failed\n|\
+-F b -=pargrep: (standard input): read failed\n";
 
 #[test]
 fn reading_fails_in_mid_stream(rt: HostRuntime) -> Result<(), Fail> {
-    let alloc = rt.alloc();
-    for line in BROKEN.lines() {
-        let Some((path, told)) = line.split_once('=') else {
-            return Err("a line has no path".into());
-        };
-        let mut words = words_of(alloc, "-F b")?;
-        words.push(String::from_str(alloc, path)?)?;
-        let mut store = MemStore::new(alloc);
-        store.add(path, b"b\nx\nb", Ending::Fails)?;
-        let mut out = MemSink::new(alloc, ROOM)?;
-        let mut err = MemSink::new(alloc, ROOM)?;
-        let status = command(alloc, words.as_slice(), &mut store, &mut out, &mut err);
-        assert_eq!(rt; status, 2, "{path}");
-        assert_eq!(rt; out.bytes(), b"b\nb\n".as_slice(), "{path}");
-        assert_eq!(rt;
-            err.bytes().strip_suffix(b"\n"),
-            Some(told.as_bytes()),
-            "{path}"
-        );
+    for row in BROKEN.split('|') {
+        let (text, told) = row.split_once('=').unwrap_or(("", ""));
+        let found = run(rt.alloc(), text, Ending::Fails, UNLIMITED)?;
+        assert_outcome(&rt, &found, 2, OUTPUT, told);
     }
     Ok(())
-}
-
-/// The status of a search of standard input, where the streams take no more than that.
-fn status_of(alloc: Global, out: &mut MemSink, err: &mut MemSink) -> Result<u8, Fail> {
-    let words = words_of(alloc, "-F b -")?;
-    let mut store = MemStore::new(alloc);
-    store.add("-", INPUT, Ending::Ends)?;
-    Ok(command(alloc, words.as_slice(), &mut store, out, err))
 }
 
 #[test]
 fn an_output_that_fails(rt: HostRuntime) -> Result<(), Fail> {
-    let alloc = rt.alloc();
-    for limit in 0..OUTPUT.len() {
-        for write_limit in [ROOM, 1, 0] {
-            let mut out = MemSink::new(alloc, limit)?;
-            out.set_write_limit(write_limit);
-            let mut err = MemSink::new(alloc, ROOM)?;
-            assert_eq!(rt; status_of(alloc, &mut out, &mut err)?, 2, "at {limit}");
-            assert!(rt; OUTPUT.starts_with(out.bytes()), "at {limit}");
-            let told = b"pargrep: write failed\n".as_slice();
-            assert_eq!(rt; err.bytes(), told, "at {limit}");
+    for room in 0..OUTPUT.len() {
+        for write in [ROOM, 1, 0] {
+            let limits = Limits {
+                write,
+                out: room,
+                ..UNLIMITED
+            };
+            let found = run(rt.alloc(), "-F b -", Ending::Ends, limits)?;
+            let written = if write == 0 { 0 } else { room };
+            let told = "pargrep: write failed\n";
+            assert_outcome(&rt, &found, 2, &OUTPUT[..written], told);
         }
     }
     Ok(())
@@ -143,11 +169,14 @@ fn an_output_that_fails(rt: HostRuntime) -> Result<(), Fail> {
 
 #[test]
 fn both_streams_fail(rt: HostRuntime) -> Result<(), Fail> {
-    let alloc = rt.alloc();
-    for limit in 0..OUTPUT.len() {
-        let mut out = MemSink::new(alloc, limit)?;
-        let mut err = MemSink::new(alloc, 0)?;
-        assert_eq!(rt; status_of(alloc, &mut out, &mut err)?, 2, "at {limit}");
+    for room in 0..OUTPUT.len() {
+        let limits = Limits {
+            out: room,
+            err: 0,
+            ..UNLIMITED
+        };
+        let found = run(rt.alloc(), "-F b -", Ending::Ends, limits)?;
+        assert_outcome(&rt, &found, 2, &OUTPUT[..room], "");
     }
     Ok(())
 }
