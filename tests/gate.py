@@ -5,6 +5,7 @@ The rows run on the program that the command has built just now, also where the 
 """
 
 import re
+import signal
 import subprocess
 import sys
 from pathlib import Path
@@ -26,11 +27,16 @@ def followed(command):
     except OSError as fault:
         say(f"gate: {command[0]} can't be started: {fault.strerror}")
         return 127, ""
-    for line in process.stdout:
-        sys.stdout.buffer.write(line)
-        sys.stdout.buffer.flush()
-        last = line.strip() or last
-    return process.wait(), last.decode(errors="replace")
+    try:
+        for line in process.stdout:
+            sys.stdout.buffer.write(line)
+            sys.stdout.buffer.flush()
+            last = line.strip() or last
+        return process.wait(), last.decode(errors="replace")
+    finally:
+        if process.poll() is None:
+            process.terminate()
+            process.wait()
 
 
 def figures_of(command, name):
@@ -55,15 +61,15 @@ def main():
     if not command:
         say("usage: tests/gate.py COMMAND ..")
         return 2
+    signal.signal(signal.SIGTERM, lambda number, _: sys.exit(128 + number))
     PROGRAM.unlink(missing_ok=True)
-    figures = [
-        figures_of(command, " ".join(command)),
-        figures_of([sys.executable, str(HERE / "run_rows.py")], "the rows"),
-    ]
-    for name, (passed, failed) in zip((" ".join(command), "the rows"), figures):
-        say(f"gate: {name}: {passed} passed, {failed} failed")
-    failed = sum(it[1] for it in figures)
-    say(f"{sum(it[0] for it in figures)} passed, {failed} failed")
+    name = " ".join(command)
+    proofs = figures_of(command, name)
+    rows = figures_of([sys.executable, str(HERE / "run_rows.py")], "the rows")
+    for what, (passed, failed) in ((name, proofs), ("the rows", rows)):
+        say(f"gate: {what}: {passed} passed, {failed} failed")
+    failed = proofs[1] + rows[1]
+    say(f"{proofs[0] + rows[0]} passed, {failed} failed")
     return 1 if failed else 0
 
 
