@@ -1,5 +1,6 @@
 # Pargrep is proved and built by the Rattle toolchain, whose command is `rt`.
 RT ?= rt
+PYTHON ?= python3
 
 prefix ?= /usr/local
 bindir ?= $(prefix)/bin
@@ -8,7 +9,7 @@ INSTALL ?= install
 
 program = crates/pargrep/out/pargrep
 
-.PHONY: all check bench bench-parts install uninstall clean toolchain
+.PHONY: all check rows check-grep bench bench-parts install uninstall clean toolchain
 
 # Proves the program and the crates that it uses, and builds it. The program is tried on one line.
 all: toolchain
@@ -18,9 +19,18 @@ all: toolchain
 	@rm -f crates/pargrep/out.log
 	@echo "pargrep: built $(program)"
 
-# The gate, `rt ci`: proves every crate from nothing, tries the wrong bodies, and runs the tests and the program.
+# The gate. `rt ci` proves every crate from nothing, tries the wrong bodies, runs the tests and builds the program; then
+# the command lines in tests/rows are run on the program. The last line counts both.
 check: toolchain
-	$(RT) ci
+	@$(PYTHON) tests/gate.py $(RT) ci
+
+# Runs the command lines in tests/rows on the program.
+rows: all
+	@$(PYTHON) tests/run_rows.py
+
+# Asks the machine's own grep the same command lines.
+check-grep:
+	@$(PYTHON) tests/run_rows.py --grep
 
 # Times the program beside GNU grep.
 bench: all

@@ -1,318 +1,194 @@
-//! Command lines over files in memory.
+//! The command over files and streams in memory: what no command line shows on the built program.
+ghost use Rattle.std.specs.Prelude.{◌≤◌};
+
 use pg_command::{Fault, command, report};
 use pg_run::{Ending, MemStore};
 use pg_seq::MemSink;
 use pg_words::read_words;
-use std::alloc::Global;
+use std::alloc::{AllocError, Global};
+use std::process::Abort;
 use std::test::Fail;
 
 /// The most bytes that a test writes to a stream.
-const ROOM: usize = 20_000;
+const ROOM: usize = 100;
 
-const NEWLINE_AT_END: &[u8] = b"bc\nb\n\ncb\n";
+/// What standard input and the file `broken` hold.
+const INPUT: &[u8] = b"abc\nxyz\nb";
 
-/// A file whose lines hold NUL and bytes above 127.
-const BINARY: &[u8] = b"\0b\0\n\xff\xfeb\x80\n\xc3\xa9\n\0\n";
+/// Their lines that hold `b`.
+const OUTPUT: &[u8] = b"abc\nb\n";
 
-/// What a command line writes and answers.
+/// The most bytes of a read, of a write, and of all that is written to each stream.
 #[derive(Clone, Copy)]
-struct Row {
-    words: &'static [&'static str],
-    out: &'static [u8],
-    err: &'static str,
-    status: u8,
+struct Limits {
+    read: usize,
+    write: usize,
+    out: usize,
+    err: usize,
 }
 
-const ROWS: &[Row] = &[
-    Row {
-        words: &["-F", "b", "-"],
-        out: b"abc\nb\n",
-        err: "",
-        status: 0,
-    },
-    Row {
-        words: &["b", "-", "-F"],
-        out: b"abc\nb\n",
-        err: "",
-        status: 0,
-    },
-    Row {
-        words: &["-F", "-F", "--", "-x", "-"],
-        out: b"",
-        err: "",
-        status: 1,
-    },
-    Row {
-        words: &["-F", "", "-"],
-        out: b"abc\nxyz\nb\n",
-        err: "",
-        status: 0,
-    },
-    Row {
-        words: &["-F", "b", "whole"],
-        out: b"bc\nb\ncb\n",
-        err: "",
-        status: 0,
-    },
-    Row {
-        words: &["-F", "", "whole"],
-        out: NEWLINE_AT_END,
-        err: "",
-        status: 0,
-    },
-    Row {
-        words: &["-F", "b", "empty"],
-        out: b"",
-        err: "",
-        status: 1,
-    },
-    Row {
-        words: &["-F", "", "empty"],
-        out: b"",
-        err: "",
-        status: 1,
-    },
-    Row {
-        words: &["-F", "b", "binary"],
-        out: b"\0b\0\n\xff\xfeb\x80\n",
-        err: "",
-        status: 0,
-    },
-    Row {
-        words: &["-F", "é", "binary"],
-        out: b"\xc3\xa9\n",
-        err: "",
-        status: 0,
-    },
-    Row {
-        words: &["-F", "b", "missing"],
-        out: b"",
-        err: "pargrep: missing: cannot open\n",
-        status: 2,
-    },
-    Row {
-        words: &["-F", "b", "broken"],
-        out: b"b\nb\n",
-        err: "pargrep: broken: read failed\n",
-        status: 2,
-    },
-    Row {
-        words: &["-F", "a\nb", "missing"],
-        out: b"",
-        err: "pargrep: one pattern only\n",
-        status: 2,
-    },
-];
+const UNLIMITED: Limits = Limits {
+    read: ROOM,
+    write: ROOM,
+    out: ROOM,
+    err: ROOM,
+};
 
-/// Command lines that are refused with a text of the parser's own.
-const REFUSED: &[&[&str]] = &[
-    &[],
-    &["-F"],
-    &["-F", "b"],
-    &["b", "-"],
-    &["-F", "b", "-", "empty"],
-    &["-F", "-z", "b", "-"],
-    &["-F", "--wide", "b", "-"],
-    &["-F", "a\nb", "-", "--block", "0"],
-    &["-F", "b", "-", "--block", "16777217"],
-    &["-F", "b", "-", "--block", "-1"],
-    &["-F", "b", "-", "--block", "x"],
-    &["-F", "b", "-", "--block"],
-    &["-F", "b", "-", "--help"],
-];
+/// What a command line wrote and answered.
+#[derive(Drop)]
+struct Outcome {
+    status: u8,
+    out: MemSink,
+    err: MemSink,
+}
 
-fn words_of(alloc: Global, texts: &[&str]) -> Result<Vec<String>, Fail> {
+/// The words of a text, which blanks set apart.
+fn words_of(alloc: Global, text: &str) -> Result<Vec<String>, AllocError> {
     let mut words = Vec::new(alloc);
-    for text in texts {
-        words.push(String::from_str(alloc, text)?)?;
+    for word in text.split(' ') {
+        words.push(String::from_str(alloc, word)?)?;
     }
     Ok(words)
 }
 
-fn files(alloc: Global) -> Result<MemStore, Fail> {
+/// Standard input and a file, of which a read gives at most so many bytes.
+fn store_of(alloc: Global, ending: Ending, read_limit: usize) -> Result<MemStore, AllocError>
+    requires { 1 ≤ read_limit }
+{
     let mut store = MemStore::new(alloc);
-    store.add("-", b"abc\nxyz\nb", Ending::Ends)?;
-    store.add("whole", NEWLINE_AT_END, Ending::Ends)?;
-    store.add("empty", b"", Ending::Ends)?;
-    store.add("binary", BINARY, Ending::Ends)?;
-    store.add("broken", b"b\nb", Ending::Fails)?;
+    store.add("-", INPUT, ending)?;
+    store.add("broken", INPUT, ending)?;
+    store.set_read_limit(read_limit);
     Ok(store)
 }
 
-/// The status of a command, where standard output and standard error take no more than that.
-fn status_of(
-    alloc: Global,
-    texts: &[&str],
-    out: &mut MemSink,
-    err: &mut MemSink,
-) -> Result<u8, Fail> {
-    let words = words_of(alloc, texts)?;
-    let mut store = files(alloc)?;
-    Ok(command(alloc, words.as_slice(), &mut store, out, err))
+/// What a command line does.
+fn run(alloc: Global, text: &str, ending: Ending, limits: Limits) -> Result<Outcome, AllocError>
+    requires { 1 ≤ limits.read }
+{
+    let words = words_of(alloc, text)?;
+    let mut store = store_of(alloc, ending, limits.read)?;
+    let mut out = MemSink::new(alloc, limits.out)?;
+    out.set_write_limit(limits.write);
+    let mut err = MemSink::new(alloc, limits.err)?;
+    let status = command(alloc, words.as_slice(), &mut store, &mut out, &mut err);
+    Ok(Outcome { status, out, err })
 }
 
-#[test]
-fn rows(rt: HostRuntime) -> Result<(), Fail> {
-    let alloc = rt.alloc();
-    for row in ROWS {
-        let mut out = MemSink::new(alloc, ROOM)?;
-        let mut err = MemSink::new(alloc, ROOM)?;
-        let status = status_of(alloc, row.words, &mut out, &mut err)?;
-        let words = row.words;
-        assert_eq!(rt; status, row.status, "{words:?}");
-        assert_eq!(rt; out.bytes(), row.out, "{words:?}");
-        assert_eq!(rt; err.bytes(), row.err.as_bytes(), "{words:?}");
-    }
-    Ok(())
+fn assert_outcome(rt: &impl Abort, found: &Outcome, status: u8, out: &[u8], told: &str) {
+    assert_eq!(rt; found.status, status);
+    assert_eq!(rt; found.out.bytes(), out);
+    assert_eq!(rt; found.err.bytes(), told.as_bytes());
 }
 
-#[test]
-fn refused_words(rt: HostRuntime) -> Result<(), Fail> {
-    let alloc = rt.alloc();
-    for words in REFUSED {
-        let mut out = MemSink::new(alloc, ROOM)?;
-        let mut err = MemSink::new(alloc, ROOM)?;
-        let status = status_of(alloc, words, &mut out, &mut err)?;
-        assert_eq!(rt; status, 2, "{words:?}");
-        assert!(rt; out.bytes().is_empty(), "{words:?}");
-        assert!(rt; err.bytes().starts_with(b"pargrep: error: "), "{words:?}");
-        assert!(rt; err.bytes().ends_with(b"\n"), "{words:?}");
-    }
-    Ok(())
-}
+/// Command lines that differ in the size of blocks.
+const BLOCKS: &str = "\
+-F b - --block 1
+-F b - --block 2
+-F b - --block 3
+-F b - --block 4
+-F b - --block 9
+-F b - --block 10
+-F b - --block 65536
+-F b - --block 16777216";
 
 #[test]
-fn sizes_change_nothing(rt: HostRuntime) -> Result<(), Fail> {
-    let alloc = rt.alloc();
-    for block in ["1", "2", "3", "4", "9", "10", "65536", "16777216"] {
-        let words = words_of(alloc, &["-F", "b", "--block", block, "-"])?;
-        for read_limit in [1, 2, 3, 9, 10] {
-            let mut store = files(alloc)?;
-            store.set_read_limit(read_limit);
-            let mut out = MemSink::new(alloc, ROOM)?;
-            let mut err = MemSink::new(alloc, ROOM)?;
-            out.set_write_limit(read_limit);
-            let status = command(alloc, words.as_slice(), &mut store, &mut out, &mut err);
-            assert_eq!(rt; status, 0, "at {block} and {read_limit}");
-            assert_eq!(rt;
-                out.bytes(),
-                b"abc\nb\n".as_slice(),
-                "at {block} and {read_limit}"
-            );
-            assert!(rt; err.bytes().is_empty(), "at {block} and {read_limit}");
+fn few_bytes_at_a_time(rt: HostRuntime) -> Result<(), Fail> {
+    for text in BLOCKS.lines() {
+        for limit in [1, 2, 3, 9, 10] {
+            let limits = Limits {
+                read: limit,
+                write: limit,
+                ..UNLIMITED
+            };
+            let found = run(rt.alloc(), text, Ending::Ends, limits)?;
+            assert_outcome(&rt, &found, 0, OUTPUT, "");
         }
     }
     Ok(())
+}
+
+/// Block sizes, and the words that give them.
+const BLOCK_SIZES: &str = "\
+7 -F b - --block=3 --block=7
+3 --block 7 -F b --block 3 -
+16777216 --block 16777216 -F b -
+65536 -F b -";
+
+/// The size of blocks that words give in a search for `b` in standard input.
+fn block_of(alloc: Global, text: &str) -> Result<Option<u32>, AllocError> {
+    let words = words_of(alloc, text)?;
+    match read_words(alloc, words.as_slice()) {
+        Ok(request) if request.text == "b" && request.file == "-" => Ok(Some(request.block)),
+        _ => Ok(None),
+    }
 }
 
 #[test]
 fn the_last_block_size_counts(rt: HostRuntime) -> Result<(), Fail> {
-    let alloc = rt.alloc();
-    for (texts, block) in [
-        (["-F", "b", "-", "--block=3", "--block=7"].as_slice(), 7),
-        (&["--block", "16777216", "-F", "b", "-"], 16_777_216),
-        (&["-F", "b", "-"], 65_536),
-    ] {
-        let words = words_of(alloc, texts)?;
-        let Ok(request) = read_words(alloc, words.as_slice()) else {
-            return Err("the words are refused".into());
-        };
-        assert_eq!(rt; request.block, block);
-        assert_eq!(rt; request.text, "b");
-        assert_eq!(rt; request.file, "-");
+    for line in BLOCK_SIZES.lines() {
+        let (size, text) = line.split_once(' ').unwrap_or(("", ""));
+        let block = block_of(rt.alloc(), text)?;
+        assert!(rt; block.is_some() && block == size.parse().ok(), "{line}");
     }
     Ok(())
 }
 
+/// Command lines that name a file whose reading fails behind its bytes, and what is told.
+const BROKEN: &str = "\
+-F b broken=pargrep: broken: read failed\n|\
+-F b -=pargrep: (standard input): read failed\n";
+
 #[test]
-fn long_patterns(rt: HostRuntime) -> Result<(), Fail> {
-    let alloc = rt.alloc();
-    for (length, newline, status, line) in [
-        (4096, "", 0, ""),
-        (
-            4097,
-            "",
-            2,
-            "pargrep: pattern 1: pattern too long at 4096\n",
-        ),
-        (4097, "\n", 2, "pargrep: one pattern only\n"),
-    ] {
-        let mut text = String::new(alloc);
-        for _ in 0..length {
-            text.push_str("p")?;
-        }
-        text.push_str(newline)?;
-        let mut store = MemStore::new(alloc);
-        store.add("f", text.as_bytes(), Ending::Ends)?;
-        let mut out = MemSink::new(alloc, ROOM)?;
-        let mut err = MemSink::new(alloc, ROOM)?;
-        let words = words_of(alloc, &["-F", text.as_str(), "f"])?;
-        let answer = command(alloc, words.as_slice(), &mut store, &mut out, &mut err);
-        assert_eq!(rt; answer, status, "at {length}");
-        assert_eq!(rt; err.bytes(), line.as_bytes(), "at {length}");
-        text.push_str("\n")?;
-        let lines = if status == 0 { text.as_bytes() } else { b"" };
-        assert_eq!(rt; out.bytes(), lines, "at {length}");
+fn reading_fails_in_mid_stream(rt: HostRuntime) -> Result<(), Fail> {
+    for row in BROKEN.split('|') {
+        let (text, told) = row.split_once('=').unwrap_or(("", ""));
+        let found = run(rt.alloc(), text, Ending::Fails, UNLIMITED)?;
+        assert_outcome(&rt, &found, 2, OUTPUT, told);
     }
     Ok(())
 }
 
 #[test]
 fn an_output_that_fails(rt: HostRuntime) -> Result<(), Fail> {
-    let alloc = rt.alloc();
-    let whole = b"abc\nb\n".as_slice();
-    for limit in 0..whole.len() {
-        for write_limit in [ROOM, 1, 0] {
-            let mut out = MemSink::new(alloc, limit)?;
-            out.set_write_limit(write_limit);
-            let mut err = MemSink::new(alloc, ROOM)?;
-            let status = status_of(alloc, &["-F", "b", "-"], &mut out, &mut err)?;
-            assert_eq!(rt; status, 2, "at {limit}");
-            assert!(rt; whole.starts_with(out.bytes()), "at {limit}");
-            assert_eq!(rt;
-                err.bytes(),
-                b"pargrep: write failed\n".as_slice(),
-                "at {limit}"
-            );
-            let mut full = MemSink::new(alloc, 0)?;
-            let mut out = MemSink::new(alloc, limit)?;
-            let status = status_of(alloc, &["-F", "b", "-"], &mut out, &mut full)?;
-            assert_eq!(rt; status, 2, "at {limit}, and standard error is full");
+    for room in 0..OUTPUT.len() {
+        for write in [ROOM, 1, 0] {
+            let limits = Limits {
+                write,
+                out: room,
+                ..UNLIMITED
+            };
+            let found = run(rt.alloc(), "-F b -", Ending::Ends, limits)?;
+            let written = if write == 0 { 0 } else { room };
+            let told = "pargrep: write failed\n";
+            assert_outcome(&rt, &found, 2, &OUTPUT[..written], told);
         }
     }
     Ok(())
 }
 
 #[test]
-fn standard_input_has_a_name(rt: HostRuntime) -> Result<(), Fail> {
-    let alloc = rt.alloc();
-    let words = words_of(alloc, &["-F", "b", "-"])?;
-    let mut store = MemStore::new(alloc);
-    store.add("-", b"b\n", Ending::Fails)?;
-    let mut out = MemSink::new(alloc, ROOM)?;
-    let mut err = MemSink::new(alloc, ROOM)?;
-    assert_eq!(rt;
-        command(alloc, words.as_slice(), &mut store, &mut out, &mut err),
-        2
-    );
-    assert_eq!(rt; out.bytes(), b"b\n".as_slice());
-    assert_eq!(rt;
-        err.bytes(),
-        b"pargrep: (standard input): read failed\n".as_slice()
-    );
+fn both_streams_fail(rt: HostRuntime) -> Result<(), Fail> {
+    for room in 0..OUTPUT.len() {
+        let limits = Limits {
+            out: room,
+            err: 0,
+            ..UNLIMITED
+        };
+        let found = run(rt.alloc(), "-F b -", Ending::Ends, limits)?;
+        assert_outcome(&rt, &found, 2, &OUTPUT[..room], "");
+    }
     Ok(())
 }
 
 #[test]
 fn texts_of_rare_faults(rt: HostRuntime) -> Result<(), Fail> {
-    let alloc = rt.alloc();
     for (fault, line) in [
-        (Fault::NotText, "pargrep: an argument is not UTF-8\n"),
         (Fault::OutOfMemory, "pargrep: out of memory\n"),
         (Fault::LineTooLong, "pargrep: line too long\n"),
     ] {
-        let mut err = MemSink::new(alloc, ROOM)?;
-        assert_eq!(rt; report(alloc, fault, &mut err), 2);
+        let mut err = MemSink::new(rt.alloc(), ROOM)?;
+        assert_eq!(rt; report(rt.alloc(), fault, &mut err), 2);
         assert_eq!(rt; err.bytes(), line.as_bytes());
     }
     Ok(())
