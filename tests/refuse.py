@@ -1,0 +1,426 @@
+#!/usr/bin/env python3
+"""Tries wrong bodies in groups: `tests/refuse.py [--all] [--keep FOLDER] [NAME..]`
+
+An edit, `crates/CRATE/refused/NAME.edit`, turns a function into a wrong one, in the format of the edits of
+`must-fail/`. The edits of a crate that touch different functions are applied at once to a copy of the crate, which is
+checked once over what earlier checks of it proved. Callers of a wrong function see its contract alone, so each wrong
+function must be refused by a message of its own: an open goal on one of its lines, or an answer of its proof that
+doesn't fit its goal. A proof that only misses a name refuses nothing. An edit without a refusal of its own in the
+group is tried alone, as is one that touches anything but functions: there any open goal counts.
+
+A NAME is a crate or an edit, `late-double-taken` or `pg_seq/late-double-taken`; none: all. With --all those of
+`must-fail/` are tried too, and with --keep what each check said is kept in FOLDER. The command of the toolchain is
+`rt`, or what RT names. A crate that was not proved yet is proved first. The last line is `N refused, M not`; the
+status is 0 only where M is 0 and N is not.
+"""
+
+import argparse
+import os
+import pathlib
+import re
+import resource
+import shutil
+import subprocess
+import sys
+import tempfile
+from dataclasses import dataclass, field
+
+ROOT = pathlib.Path(__file__).resolve().parent.parent
+PARTS = ["src", "specs", "proofs"]
+# What a check says where a proof file names what the edited function has no more. It says nothing of a contract.
+MISSING_NAME = re.compile(
+    r"is not in scope|has no field|has no `|that can be named from here|was not admitted|is no name"
+)
+
+
+class BadEdit(Exception):
+    """An edit that can't be applied, or that makes a crate which the prover can't read."""
+
+
+@dataclass(frozen=True)
+class Pair:
+    file: str
+    old: str
+    new: str
+
+
+@dataclass(frozen=True)
+class Function:
+    """A function of a file: its lines, counted from 1, and how a check names it below its module."""
+
+    file: str
+    first: int
+    last: int
+    name: str
+
+    def path(self):
+        """The function's path as it stands in those of its proof files, `cutter/Cutter/feed`."""
+        module = self.file.removeprefix("src/").removesuffix(".rt").removesuffix("/mod")
+        return "/".join(filter(None, ["" if module in ("lib", "main") else module, self.name]))
+
+
+@dataclass
+class Edit:
+    crate: str
+    path: pathlib.Path
+    pairs: list = field(default_factory=list)
+    functions: list = field(default_factory=list)
+    # The edit touches a line outside of every function.
+    is_wider: bool = False
+
+    def label(self):
+        return f"{self.crate}/{self.path.stem}"
+
+
+def read_pairs(path):
+    """Reads an edit's file: lines 'file: PATH', 'old: TEXT' and 'new: TEXT'."""
+    pairs, file, old = [], None, None
+    for line in path.read_text(encoding="utf-8").split("\n"):
+        if line.startswith("file: "):
+            file = line.removeprefix("file: ").strip()
+        elif line.startswith("old: "):
+            old = line.removeprefix("old: ")
+        elif line.startswith("new:"):
+            if not file or not old:
+                raise BadEdit("a 'new:' line stands before any 'file:' or 'old:' line")
+            if not file.startswith("src/") or ".." in file:
+                raise BadEdit(f"{file} is no file of src/, and a wrong body stands in code")
+            pairs.append(Pair(file, old, line.removeprefix("new:").removeprefix(" ")))
+            old = None
+    if not pairs:
+        raise BadEdit("it has no 'old:' and 'new:' pair")
+    return pairs
+
+
+def applied(pairs, texts, folder):
+    """The texts with the pairs applied in turn, read from the folder where they aren't given, and each pair's place."""
+    texts, places = dict(texts), []
+    for pair in pairs:
+        if pair.file not in texts:
+            if not (folder / pair.file).is_file():
+                raise BadEdit(f"there is no file {pair.file}")
+            texts[pair.file] = (folder / pair.file).read_text(encoding="utf-8")
+        text = texts[pair.file]
+        if text.count(pair.old) != 1:
+            raise BadEdit(f"an 'old:' text is in {pair.file} {text.count(pair.old)} times, and not once")
+        places.append((pair.file, text[: text.index(pair.old)].count("\n") + 1))
+        texts[pair.file] = text.replace(pair.old, pair.new)
+    return texts, places
+
+
+def type_name(text):
+    """The name of a type without its path and its arguments."""
+    return re.sub(r"<.*", "", text.strip().lstrip("&")).split("::")[-1].strip()
+
+
+def impl_name(header):
+    """How a check names an impl: that of `Sink for Out` is `OutSink`, of `From<A> for B` it is `BFromA`."""
+    header = re.sub(r"^impl(<(?:[^<>]|<[^<>]*>)*>)?\s*", "", header).removesuffix("{").strip()
+    made, _, on = header.partition(" for ")
+    if not on:
+        return type_name(made)
+    of = re.fullmatch(r"From<(.*)>", made.strip())
+    return type_name(on) + type_name(made) + (type_name(of[1]) if of else "")
+
+
+def functions_of(file, text):
+    """The functions of a file in the layout of `rt fmt`, where each ends with a brace at its own indentation."""
+    lines = text.split("\n")
+    inside, found = "", []
+    for number, line in enumerate(lines, start=1):
+        if re.match(r"(impl|trait|pub trait)\b", line):
+            header = re.sub(r"^(pub )?trait ", "", line)
+            inside = impl_name(header) if header.startswith("impl") else type_name(re.split(r"[\s:{<]", header)[0])
+        elif line == "}":
+            inside = ""
+        made = re.match(r"(\s*)(?:pub(?:\([^)]*\))? )?(?:const |unsafe )*fn (\w+)", line)
+        if made:
+            last = last_line(lines, number, made[1])
+            name = f"{inside}/{made[2]}" if inside and made[1] else made[2]
+            found.append(Function(file, first_line(lines, number), last, name))
+    return found
+
+
+def first_line(lines, number):
+    """The first line of the function that begins at a line, with its comment and attributes, where a check may point."""
+    while number > 1 and lines[number - 2].strip() and not lines[number - 2].endswith(("{", "}", ";")):
+        number -= 1
+    return number
+
+
+def last_line(lines, number, indent):
+    """The last line of the function that begins at a line: its brace, or what stands before its trait's next item."""
+    if lines[number - 1].endswith("}"):
+        return number
+    for at in range(number, len(lines)):
+        line = lines[at]
+        if line == indent + "}":
+            return at + 1
+        # A method of a trait has no body, and ends where the next one or the trait itself does.
+        if line == "}" or re.match(rf"{indent}(pub )?fn ", line):
+            return at
+    return len(lines)
+
+
+def place_edit(edit, folder):
+    """Reads the edit, and finds the functions that it touches."""
+    edit.pairs = read_pairs(edit.path)
+    _, places = applied(edit.pairs, {}, folder)
+    for file, line in places:
+        found = functions_of(file, (folder / file).read_text(encoding="utf-8"))
+        around = [it for it in found if it.first <= line <= it.last]
+        edit.is_wider |= not around
+        edit.functions += [it for it in around if it not in edit.functions]
+
+
+def groups_of(edits, folder):
+    """Packs the edits into groups in which no two touch the same function and each can be applied over the others."""
+    groups = []
+    for edit in edits:
+        for group in [] if edit.is_wider else groups:
+            if any(it.is_wider or set(it.functions) & set(edit.functions) for it in group):
+                continue
+            try:
+                applied([pair for it in [*group, edit] for pair in it.pairs], {}, folder)
+            except BadEdit:
+                continue
+            group.append(edit)
+            break
+        else:
+            groups.append([edit])
+    return groups
+
+
+@dataclass
+class Crate:
+    """A crate: the repository's crates that it is built over, lowest first, and the copy in which it is checked."""
+
+    name: str
+    below: list
+    room: pathlib.Path = None
+
+    def folder(self):
+        return ROOT / "crates" / self.name
+
+    def copy(self):
+        return self.room / "crates" / self.name
+
+
+def read_crates():
+    """The crates of crates.txt with the crates of the repository that each is built over."""
+    deps = {}
+    for line in (ROOT / "crates.txt").read_text(encoding="utf-8").split("\n"):
+        head, colon, rest = line.partition("#")[0].partition(":")
+        if colon:
+            deps[head.split()[0]] = rest.split()
+    return {name: Crate(name, crates_below(name, deps)) for name in deps}
+
+
+def crates_below(name, deps):
+    found = []
+    for dep in filter(deps.__contains__, deps[name]):
+        found += [it for it in [*crates_below(dep, deps), dep] if it not in found]
+    return found
+
+
+def check(folder, *flags):
+    """Checks the crate in a folder over what it keeps there, and returns how that ended."""
+    words = [os.environ.get("RT", "rt"), "check", *flags]
+    how = {"stdin": subprocess.DEVNULL, "stdout": subprocess.PIPE, "stderr": subprocess.STDOUT, "errors": "replace"}
+    return subprocess.run(words, cwd=folder, **how)
+
+
+def copy_repository(crate, room):
+    """Copies the crate with its kept proofs and the crates below it, as built, into a folder of their own."""
+    crate.room = pathlib.Path(room)
+    for name in ["crates.txt", "HANDLES"]:
+        if (ROOT / name).is_file():
+            shutil.copy(ROOT / name, crate.room)
+    for folder in (ROOT / "crates").iterdir():
+        parts = [*PARTS, "out/rlib"] if folder.name in crate.below else PARTS
+        for part in parts:
+            if (folder / part).is_dir():
+                shutil.copytree(folder / part, crate.room / "crates" / folder.name / part)
+
+
+def try_edits(crate, edits):
+    """Checks a fresh copy of the crate with the edits, over the proofs that the crate has."""
+    texts, _ = applied([pair for it in edits for pair in it.pairs], {}, crate.folder())
+    for part in ["src", "out"]:
+        shutil.rmtree(crate.copy() / part, ignore_errors=True)
+        shutil.copytree(crate.folder() / part, crate.copy() / part)
+    for file, text in texts.items():
+        (crate.copy() / file).write_text(text, encoding="utf-8")
+    # One job takes the least processor time.
+    return Said(check(crate.copy(), "--jobs", "1").stdout)
+
+
+@dataclass(frozen=True)
+class Message:
+    """A message of a check, at a line of a file below the crate's folder."""
+
+    file: str
+    line: int
+    text: str
+    # It says that a goal of a contract is open, or that an answer doesn't fit its goal.
+    is_refusal: bool
+
+    def is_of(self, function):
+        """Whether it speaks of the function: at one of its lines, or in its folder of proof files."""
+        if self.file.startswith("src/"):
+            return self.file == function.file and function.first <= self.line <= function.last
+        folder = [it for it in self.file.split("/")[1:-1] if it != "fn"]
+        path = function.path().split("/")
+        # A cycle of calls is proved as one, in a folder with a `+`, where goals begin with a function's name.
+        if any(it.startswith("+") for it in folder):
+            return folder[0] == path[0] and self.text.startswith(f"`{path[-1]}-")
+        return folder[: len(path)] == path
+
+    def shown(self):
+        return f"{self.file}:{self.line}: {self.text}"[:160]
+
+
+class Said:
+    """What a check said: its messages, and how it ended."""
+
+    def __init__(self, output):
+        self.output = output
+        # The check came as far as a verdict.
+        self.has_verdict = bool(re.search(r"(?m)^logic=", output))
+        self.is_proved = bool(re.search(r"(?m)^logic=proved", output))
+        # A message goes on in the indented lines below it.
+        self.messages = [it for it in map(read_message, re.split(r"\n(?! )", output)) if it]
+
+    def refusal(self, functions=None):
+        """The first refusal, of the functions if some are given."""
+        for it in self.messages:
+            if it.is_refusal and (functions is None or any(map(it.is_of, functions))):
+                return it
+        return None
+
+    def unread(self):
+        """The first message that the edited code can't be read."""
+        return next((it for it in self.messages if it.file.startswith(("src/", "specs/")) and not it.is_refusal), None)
+
+
+def read_message(lines):
+    """Reads `note: src/F:1:2: it is not proved that ..` or `proofs/F:1:2: error: ..`; other lines are None."""
+    line, _, more = lines.partition("\n")
+    found = re.match(r"(note: )?(?:\./)?((?:src|specs|proofs)/\S+?):(\d+):\d+: (error: )?(.*)", line)
+    if not found or found[1] and found[4] or not found[1] and not found[4]:
+        return None
+    note, file, number, _, text = found.groups()
+    if note:
+        return Message(file, int(number), text, True) if text.startswith("it is not proved that ") else None
+    # An error of the front end names no goal in front; one of the prover's does.
+    is_goal = bool(re.match(r"`[^`]*`: ", text))
+    return Message(file, int(number), text, is_goal and not MISSING_NAME.search(text + more))
+
+
+def verdict_alone(said):
+    """Whether an edit was refused that was tried alone, and what to print of it."""
+    if said.is_proved:
+        return False, "NOT REFUSED: the crate is still proved with this edit"
+    unread = said.unread()
+    found = said.refusal()
+    if not said.has_verdict or unread:
+        first = unread.shown() if unread else " / ".join(said.output.strip().split("\n")[-3:])
+        return False, f"BAD EDIT: the prover can't read the edited code: {first}"
+    if not found:
+        first = said.messages[0].shown() if said.messages else "no goal is named"
+        return False, f"BAD EDIT: no contract refuses it: {first}"
+    return True, f"refused: {found.shown()}"
+
+
+def try_group(crate, group, keep):
+    """Tries a group, and alone each edit without a refusal of its own; yields each edit with its verdict."""
+    said = try_edits(crate, group)
+    keep(crate, group, said)
+    if len(group) == 1:
+        yield group[0], *verdict_alone(said)
+        return
+    for edit in group:
+        found = said.refusal(edit.functions) if said.has_verdict else None
+        if found:
+            yield edit, True, f"refused: {found.shown()}"
+            continue
+        alone = try_edits(crate, [edit])
+        keep(crate, [edit], alone)
+        well, text = verdict_alone(alone)
+        yield edit, well, f"{text} (tried alone)"
+
+
+def try_crate(crate, edits, keep):
+    """Tries the edits of a crate; yields each with whether it was refused, and what to print of it."""
+    good = []
+    for edit in edits:
+        try:
+            place_edit(edit, crate.folder())
+            good.append(edit)
+        except (BadEdit, OSError, UnicodeDecodeError) as error:
+            yield edit, False, f"BAD EDIT: {error}"
+    own = check(crate.folder())
+    if own.returncode:
+        print(own.stdout, end="")
+        sys.exit(f"refuse: {crate.name} itself isn't proved: what the check said stands above")
+    with tempfile.TemporaryDirectory(prefix="refuse-") as room:
+        copy_repository(crate, room)
+        for group in groups_of(good, crate.folder()):
+            yield from try_group(crate, group, keep)
+
+
+def wanted_edits(names, folders):
+    """The edits that the names mean, by crate."""
+    paths = [it for folder in folders for it in sorted(ROOT.glob(f"crates/*/{folder}/*.edit"))]
+    edits = [Edit(it.parent.parent.name, it) for it in paths]
+    unknown = [it for it in names if not any(it.removesuffix(".edit") in named(edit) for edit in edits)]
+    if unknown:
+        sys.exit(f"refuse: no crate or edit has the name {' or '.join(unknown)}")
+    found = {}
+    for edit in edits:
+        if not names or any(it.removesuffix(".edit") in named(edit) for it in names):
+            found.setdefault(edit.crate, []).append(edit)
+    return found
+
+
+def named(edit):
+    return edit.crate, edit.path.stem, edit.label()
+
+
+def processor_seconds():
+    used = resource.getrusage(resource.RUSAGE_CHILDREN)
+    return used.ru_utime + used.ru_stime
+
+
+def keeper(folder):
+    """Returns what keeps the output of each check in the folder, if one is given."""
+    def keep(crate, group, said):
+        if folder:
+            os.makedirs(folder, exist_ok=True)
+            number = len(os.listdir(folder)) + 1
+            tried = "".join(f"{it.label()}\n" for it in group)
+            pathlib.Path(folder, f"{number:03}-{crate.name}.txt").write_text(tried + said.output, encoding="utf-8")
+    return keep
+
+
+def main():
+    reader = argparse.ArgumentParser(description=__doc__, formatter_class=argparse.RawDescriptionHelpFormatter)
+    reader.add_argument("--all", action="store_true", help="the edits of must-fail/ too")
+    reader.add_argument("--keep", metavar="FOLDER", help="keeps what each check said in FOLDER")
+    reader.add_argument("names", nargs="*", metavar="NAME", help="a crate or an edit")
+    words = reader.parse_args()
+    crates = read_crates()
+    refused = missed = 0
+    for name, edits in wanted_edits(words.names, ["refused", *["must-fail"] * words.all]).items():
+        before = processor_seconds()
+        for edit, well, text in try_crate(crates[name], edits, keeper(words.keep)):
+            print(f"{edit.label()}: {text}", flush=True)
+            refused, missed = refused + well, missed + (not well)
+        print(f"{name}: {len(edits)} edits, {processor_seconds() - before:.0f} processor seconds", flush=True)
+    print(f"{processor_seconds():.0f} processor seconds")
+    print(f"{refused} refused, {missed} not")
+    return 0 if refused and not missed else 1
+
+
+if __name__ == "__main__":
+    sys.exit(main())
