@@ -6,7 +6,7 @@ An edit, `crates/CRATE/refused/NAME.edit`, turns a function into a wrong one, in
 checked once over what earlier checks of it proved. Callers of a wrong function see its contract alone, so each wrong
 function must be refused by a message of its own: an open goal on one of its lines, or an answer of its proof that
 doesn't fit its goal. A proof that only misses a name refuses nothing. An edit without a refusal of its own in the
-group is tried alone, as is one that touches anything but functions: there any open goal counts.
+group is tried alone, as is one that touches anything but bodies: there any open goal counts.
 
 A NAME is a crate or an edit, `late-double-taken` or `pg_seq/late-double-taken`; none: all. With --all those of
 `must-fail/` are tried too, and with --keep what each check said is kept in FOLDER. The command of the toolchain is
@@ -27,6 +27,8 @@ from dataclasses import dataclass, field
 
 ROOT = pathlib.Path(__file__).resolve().parent.parent
 PARTS = ["src", "specs", "proofs"]
+# What a check says of a goal of a contract, or of a type's invariant, that stays open.
+OPEN_GOAL = re.compile(r"it is not proved that |`search` found no proof ")
 # What a check says where a proof file names what the edited function has no more. It says nothing of a contract.
 MISSING_NAME = re.compile(
     r"is not in scope|has no field|has no `|that can be named from here|was not admitted|is no name"
@@ -46,10 +48,11 @@ class Pair:
 
 @dataclass(frozen=True)
 class Function:
-    """A function of a file: its lines, counted from 1, and how a check names it below its module."""
+    """A function of a file: its lines, counted from 1, where its body begins, and its name below its module."""
 
     file: str
     first: int
+    body: int
     last: int
     name: str
 
@@ -65,7 +68,7 @@ class Edit:
     path: pathlib.Path
     pairs: list = field(default_factory=list)
     functions: list = field(default_factory=list)
-    # The edit touches a line outside of every function.
+    # The edit touches a line outside of every body: of a type, a constant or a contract.
     is_wider: bool = False
 
     def label(self):
@@ -135,14 +138,14 @@ def functions_of(file, text):
             inside = ""
         made = re.match(r"(\s*)(?:pub(?:\([^)]*\))? )?(?:const |unsafe )*fn (\w+)", line)
         if made:
-            last = last_line(lines, number, made[1])
             name = f"{inside}/{made[2]}" if inside and made[1] else made[2]
-            found.append(Function(file, first_line(lines, number), last, name))
+            last = last_line(lines, number, made[1])
+            found.append(Function(file, first_line(lines, number), body_line(lines, number, made[1]), last, name))
     return found
 
 
 def first_line(lines, number):
-    """The first line of the function that begins at a line, with its comment and attributes, where a check may point."""
+    """The first line of the function that begins at a line, with its attributes, where a check may point."""
     while number > 1 and lines[number - 2].strip() and not lines[number - 2].endswith(("{", "}", ";")):
         number -= 1
     return number
@@ -154,12 +157,25 @@ def last_line(lines, number, indent):
         return number
     for at in range(number, len(lines)):
         line = lines[at]
-        if line == indent + "}":
+        if line in (indent + "}", indent + "{}"):
             return at + 1
         # A method of a trait has no body, and ends where the next one or the trait itself does.
         if line == "}" or re.match(rf"{indent}(pub )?fn ", line):
             return at
     return len(lines)
+
+
+def body_line(lines, number, indent):
+    """The line at which the body of the function that begins at a line opens; behind all lines for one without."""
+    if lines[number - 1].endswith(("{", "{}")):
+        return number
+    for at in range(number, len(lines)):
+        line = lines[at]
+        if line in (indent + "{", indent + "{}") or line.startswith(indent + ")") and line.endswith("{"):
+            return at + 1
+        if line == "}" or re.match(rf"{indent}(pub )?fn ", line):
+            break
+    return len(lines) + 1
 
 
 def place_edit(edit, folder):
@@ -169,7 +185,7 @@ def place_edit(edit, folder):
     for file, line in places:
         found = functions_of(file, (folder / file).read_text(encoding="utf-8"))
         around = [it for it in found if it.first <= line <= it.last]
-        edit.is_wider |= not around
+        edit.is_wider |= not any(it.body <= line for it in around)
         edit.functions += [it for it in around if it not in edit.functions]
 
 
@@ -269,12 +285,15 @@ class Message:
         """Whether it speaks of the function: at one of its lines, or in its folder of proof files."""
         if self.file.startswith("src/"):
             return self.file == function.file and function.first <= self.line <= function.last
-        folder = [it for it in self.file.split("/")[1:-1] if it != "fn"]
+        folder = self.file.split("/")[1:-1]
         path = function.path().split("/")
         # A cycle of calls is proved as one, in a folder with a `+`, where goals begin with a function's name.
         if any(it.startswith("+") for it in folder):
             return folder[0] == path[0] and self.text.startswith(f"`{path[-1]}-")
-        return folder[: len(path)] == path
+        # A closure has a folder below that of its function, in one named `fn`.
+        if "fn" in folder:
+            return [it for it in folder if it != "fn"][: len(path)] == path
+        return folder == path
 
     def shown(self):
         return f"{self.file}:{self.line}: {self.text}"[:160]
@@ -311,7 +330,7 @@ def read_message(lines):
         return None
     note, file, number, _, text = found.groups()
     if note:
-        return Message(file, int(number), text, True) if text.startswith("it is not proved that ") else None
+        return Message(file, int(number), text, True) if OPEN_GOAL.match(text) else None
     # An error of the front end names no goal in front; one of the prover's does.
     is_goal = bool(re.match(r"`[^`]*`: ", text))
     return Message(file, int(number), text, is_goal and not MISSING_NAME.search(text + more))
@@ -372,7 +391,7 @@ def try_crate(crate, edits, keep):
 def wanted_edits(names, folders):
     """The edits that the names mean, by crate."""
     paths = [it for folder in folders for it in sorted(ROOT.glob(f"crates/*/{folder}/*.edit"))]
-    edits = [Edit(it.parent.parent.name, it) for it in paths]
+    edits = sorted((Edit(it.parent.parent.name, it) for it in paths), key=lambda it: it.crate)
     unknown = [it for it in names if not any(it.removesuffix(".edit") in named(edit) for edit in edits)]
     if unknown:
         sys.exit(f"refuse: no crate or edit has the name {' or '.join(unknown)}")
@@ -394,12 +413,14 @@ def processor_seconds():
 
 def keeper(folder):
     """Returns what keeps the output of each check in the folder, if one is given."""
+
     def keep(crate, group, said):
         if folder:
             os.makedirs(folder, exist_ok=True)
             number = len(os.listdir(folder)) + 1
             tried = "".join(f"{it.label()}\n" for it in group)
             pathlib.Path(folder, f"{number:03}-{crate.name}.txt").write_text(tried + said.output, encoding="utf-8")
+
     return keep
 
 
