@@ -34,7 +34,7 @@ ghost use Rattle.pg_match.specs.Machines.{Fits};
 
 use anyhow::{Result, bail, ensure};
 use memchr::memchr;
-use pg_match::{Machine, Scratch};
+use pg_match::{Bounds, Machine, Scratch};
 use pg_syntax::parse_ere;
 use std::alloc::{AllocError, Global};
 use std::time::{Clock, Instant};
@@ -86,7 +86,7 @@ fn report_long(rt: &(impl Clock + Print), alloc: Global, part: &str) -> Result<(
             bail!("no pattern: {part}");
         };
         let middle = Instant::now(rt)?;
-        let Ok(_machine) = Machine::build(alloc, &[tree], false) else {
+        let Ok(_machine) = Machine::build(alloc, &[tree], Bounds::Any) else {
             bail!("no machine: {part}");
         };
         let end = Instant::now(rt)?;
@@ -242,7 +242,7 @@ fn report(rt: &(impl Clock + Print), alloc: Global, pattern: &str, text: &[u8]) 
     let Ok(tree) = parse_ere(alloc, pattern.as_bytes(), false) else {
         bail!("no pattern: {pattern}");
     };
-    let Ok(machine) = Machine::build(alloc, &[tree], false) else {
+    let Ok(machine) = Machine::build(alloc, &[tree], Bounds::Any) else {
         bail!("no machine: {pattern}");
     };
     let mut scratch = Scratch::new(alloc, &machine)?;

@@ -16,6 +16,7 @@ mod state;
 mod state_set;
 mod walk;
 
+pub use bounds::Bounds;
 pub use machine::{BuildFault, Machine, Scratch};
 
 #[cfg(test)]

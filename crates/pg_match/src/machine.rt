@@ -1,5 +1,5 @@
 //! Machines, and what a search needs.
-ghost use Rattle.std.specs.Prelude.{◌≡◌, ◌+◌, ◌*◌, ◌^◌, ◌<◌, ◌≤◌, ◌↔◌, List, All, length, map, IsTrue, IfOk, IsErrOf, MatchOption, if◌then◌else◌};
+ghost use Rattle.std.specs.Prelude.{◌≡◌, ◌+◌, ◌*◌, ◌^◌, ◌<◌, ◌≤◌, ◌↔◌, List, All, length, map, IsTrue, IfOk, IsErrOf, MatchOption};
 ghost use Rattle.pg_syntax.specs.Patterns.{Pattern, IsProper};
 ghost use Rattle.pg_syntax.specs.Trees.{pattern};
 ghost use Rattle.pg_match.specs.Sizes.{list_size};
@@ -79,31 +79,14 @@ impl From<AllocError> for BuildFault {
 }
 
 impl<A: Allocator> Machine<A> {
-    /// The machine of some trees, where `whole` says that only the whole line is matched (XCU grep,
-    /// -x). The trees are alternatives; without a tree nothing matches.
+    /// The machine of some trees, whose matches begin and end as the bounds say. The trees are
+    /// alternatives; without a tree nothing matches.
     ///
     /// # Errors
     ///
     /// `TooManyStates` comes exactly where the trees ask for more than 65,536 states, and before
     /// anything is built.
-    pub fn build(alloc: A, trees: &[Tree<A>], whole: bool) -> Result<Machine<A>, BuildFault>
-    where
-        A: Copy,
-        requires { All IsProper (map pattern trees.now) }
-        ensures built { IfOk result
-            (λ machine. IsMachineOf machine (map pattern trees.now) (if whole then Bounds.Whole else Bounds.Any)) }
-        ensures large { IsErrOf result BuildFault.TooManyStates ↔ (65536 < list_size (map pattern trees.now)) }
-    {
-        let bounds = if whole { Bounds::Whole } else { Bounds::Any };
-        Machine::with_bounds(alloc, trees, bounds)
-    }
-
-    /// The machine of some trees, whose matches begin and end as the bounds say.
-    pub(crate) fn with_bounds(
-        alloc: A,
-        trees: &[Tree<A>],
-        bounds: Bounds,
-    ) -> Result<Machine<A>, BuildFault>
+    pub fn build(alloc: A, trees: &[Tree<A>], bounds: Bounds) -> Result<Machine<A>, BuildFault>
     where
         A: Copy,
         requires { All IsProper (map pattern trees.now) }
@@ -119,7 +102,7 @@ impl<A: Allocator> Machine<A> {
         }
     }
 
-    /// Whether some span of the line is matched: the whole line, where the machine was built so.
+    /// Whether some span of the line is matched, as the machine's bounds allow.
     pub fn selects(&self, scratch: &mut Scratch<A>, line: &[u8]) -> bool
         requires fits { Fits scratch.old self.now }
         requires short { length line.now ≤ 2 ^ 30 }

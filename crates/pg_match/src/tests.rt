@@ -3,9 +3,8 @@ ghost use Rattle.pg_syntax.specs.Patterns.{IsProper};
 ghost use Rattle.pg_syntax.specs.Trees.{pattern};
 ghost use Rattle.pg_match.specs.Machines.{Fits};
 
-use crate::bounds::Bounds;
 use crate::laws::next_piece_is_one;
-use crate::{BuildFault, Machine, Scratch};
+use crate::{Bounds, BuildFault, Machine, Scratch};
 use pg_syntax::{Tree, fixed, parse_bre, parse_ere};
 use refusing::Refusing;
 use std::alloc::{AllocError, Allocator, Global};
@@ -31,7 +30,7 @@ fn machine(alloc: Global, text: &[u8], bounds: Bounds) -> Result<Search, Fail>
     ensures { IfOk result (λ s. Fits s.scratch s.machine) }
 {
     let trees = [extended(alloc, text)?];
-    let machine = Machine::with_bounds(alloc, &trees, bounds)?;
+    let machine = Machine::build(alloc, &trees, bounds)?;
     let scratch = Scratch::new(alloc, &machine)?;
     Ok(Search { machine, scratch })
 }
@@ -240,7 +239,7 @@ fn visits_with_word_bounds(rt: HostRuntime) -> Result<(), Fail> {
 /// What the machine of an extended expression is refused for, if it is.
 fn fault_of(alloc: Global, text: &[u8]) -> Result<Option<BuildFault>, Fail> {
     let trees = [extended(alloc, text)?];
-    Ok(Machine::build(alloc, &trees, false).err())
+    Ok(Machine::build(alloc, &trees, Bounds::Any).err())
 }
 
 #[test]
@@ -316,7 +315,7 @@ fn deep_trees(rt: HostRuntime) -> Result<(), Fail> {
     }
     let line = line_of_a(alloc, 4096)?;
     let trees = [fixed(alloc, &line, false)?];
-    let machine = Machine::build(alloc, &trees, true)?;
+    let machine = Machine::build(alloc, &trees, Bounds::Whole)?;
     let mut scratch = Scratch::new(alloc, &machine)?;
     assert!(rt; machine.selects(&mut scratch, &line));
     Ok(())
@@ -341,7 +340,7 @@ fn scratches_fit_their_machine(rt: HostRuntime) -> Result<(), Fail> {
 fn lists_of_patterns(rt: HostRuntime) -> Result<(), Fail> {
     let alloc = rt.alloc();
     let none: [Tree; 0] = [];
-    let machine = Machine::build(alloc, &none, false)?;
+    let machine = Machine::build(alloc, &none, Bounds::Any)?;
     let mut scratch = Scratch::new(alloc, &machine)?;
     assert!(rt; !machine.selects(&mut scratch, b""));
     assert!(rt; !machine.selects(&mut scratch, b"a"));
@@ -350,7 +349,7 @@ fn lists_of_patterns(rt: HostRuntime) -> Result<(), Fail> {
         parse_bre(alloc, b"ab", false)?,
         parse_bre(alloc, b"b*", false)?,
     ];
-    let machine = Machine::build(alloc, &two, false)?;
+    let machine = Machine::build(alloc, &two, Bounds::Any)?;
     let mut scratch = Scratch::new(alloc, &machine)?;
     assert!(rt; machine.selects(&mut scratch, b""));
     assert_eq!(rt; machine.next_piece(&mut scratch, b"cabb", 0), Some((1, 3)));
@@ -363,7 +362,7 @@ fn lists_of_patterns(rt: HostRuntime) -> Result<(), Fail> {
 fn search_once<A: Allocator + Copy>(alloc: A, trees: &[Tree<A>]) -> Result<bool, BuildFault>
     requires { All IsProper (map pattern trees.now) }
 {
-    let machine = Machine::build(alloc, trees, false)?;
+    let machine = Machine::build(alloc, trees, Bounds::Any)?;
     let mut scratch = Scratch::new(alloc, &machine)?;
     Ok(machine.selects(&mut scratch, b"xaab"))
 }
