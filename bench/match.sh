@@ -17,7 +17,7 @@ trap 'rm -rf "$folder"' EXIT
 
 program=$folder/repository/crates/match_lines
 mkdir -p "$program/src" "$program/proofs"
-for crate in pg_bytes pg_syntax pg_match refusing; do
+for crate in pg_bytes pg_syntax pg_match; do
   cp -r "$top/crates/$crate" "$folder/repository/crates"
   grep "^$crate:" "$top/crates.txt" >> "$folder/repository/crates.txt"
 done

@@ -6,6 +6,12 @@ mod bytes;
 #[cfg(test)]
 mod lines;
 #[cfg(test)]
+mod machine;
+#[cfg(test)]
+mod rows;
+#[cfg(test)]
+mod sets;
+#[cfg(test)]
 mod syntax;
 #[cfg(test)]
 mod walk;

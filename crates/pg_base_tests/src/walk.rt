@@ -1,4 +1,5 @@
 //! Walks over trees in memory.
+use crate::rows::halves;
 use pg_walk::{FileKind, FileTree, Item, Listing, LookFault, MemTree, Node, walk};
 use refusing::Refusing;
 use std::alloc::{AllocError, Allocator, Global};
@@ -6,9 +7,6 @@ use std::cell::Cell;
 use std::test::Fail;
 
 mod disk;
-
-/// Operands, whether the walk is recursive, and the items that are wanted, as `shown` shows them.
-type Row = (&'static str, bool, &'static str);
 
 /// What stands at a path, by a word of the trees below, and the names that are listed there.
 fn node_of(alloc: Global, kind: &str, names: &[&str]) -> Result<Node, AllocError> {
@@ -38,15 +36,20 @@ fn node_of(alloc: Global, kind: &str, names: &[&str]) -> Result<Node, AllocError
     })
 }
 
-/// A tree of lines: a path, a word for what stands there, and the names that are listed there.
-fn tree_of(alloc: Global, lines: &[&str]) -> Result<MemTree, AllocError> {
+/// Adds a node by a line: a path, a word for what stands there, and the names that are listed there.
+fn add_node(alloc: Global, tree: &mut MemTree, line: &str) -> Result<(), AllocError> {
+    let mut words = line.split(' ');
+    let path = words.next().unwrap_or("");
+    let kind = words.next().unwrap_or("");
+    let names: Vec<&str> = words.collect(alloc)?;
+    tree.add(path, node_of(alloc, kind, names.as_slice())?)
+}
+
+/// The tree of a text's lines.
+fn tree_of(alloc: Global, text: &str) -> Result<MemTree, AllocError> {
     let mut tree = MemTree::new(alloc);
-    for line in lines {
-        let mut words = line.split(' ');
-        let path = words.next().unwrap_or("");
-        let kind = words.next().unwrap_or("");
-        let names: Vec<&str> = words.collect(alloc)?;
-        tree.add(path, node_of(alloc, kind, names.as_slice())?)?;
+    for line in text.lines() {
+        add_node(alloc, &mut tree, line)?;
     }
     Ok(tree)
 }
@@ -91,118 +94,123 @@ fn walked<T: FileTree>(
     shown(alloc, items.as_slice())
 }
 
-#[test]
-fn operands_in_their_order(rt: HostRuntime) -> Result<(), Fail> {
-    let lines = [
-        "d directory z a.txt a",
-        "d/a directory b",
-        "d/a/b file",
-        "d/a.txt file",
-        "d/z file",
-        "e/ directory x",
-        "e/x file",
-        "empty directory",
-        "f file",
-        "null device",
-        "l link-to-directory x",
-        "l/x file",
-        "dead link-to-nothing",
-        "self link-to-itself",
-        "- directory x",
-        "-/x file",
-    ];
-    let tree = tree_of(rt.alloc(), lines.as_slice())?;
-    let rows: [Row; 14] = [
-        ("", true, ""),
-        ("d", true, "d/a/b d/a.txt d/z"),
-        ("d", false, "d:IsDirectory"),
-        ("e/", true, "e/x"),
-        ("empty", true, ""),
-        ("f", true, "f"),
-        ("f", false, "f"),
-        ("null", true, "null"),
-        ("l", true, "l/x"),
-        ("l", false, "l:IsDirectory"),
-        ("dead self", true, "dead:CannotOpen self:CannotOpen"),
-        ("missing", false, "missing:CannotOpen"),
-        ("-", true, "-"),
-        (
-            "z f d - f l",
-            true,
-            "z:CannotOpen f d/a/b d/a.txt d/z - f l/x",
-        ),
-    ];
-    for (operands, recursive, want) in rows {
-        let got = walked(rt.alloc(), &tree, operands, recursive)?;
-        assert_eq!(rt; got.as_str(), want, "of {operands}, recursive {recursive}");
-    }
-    Ok(())
-}
+/// Trees, with an empty line between them, and behind each what walks over its operands give: `walk` with all that is
+/// below them, `look` without.
+const WALKS: &str = "d directory z a.txt a
+d/a directory b
+d/a/b file
+d/a.txt file
+d/z file
+e/ directory x
+e/x file
+empty directory
+f file
+null device
+l link-to-directory x
+l/x file
+dead link-to-nothing
+self link-to-itself
+- directory x
+-/x file
+walk =>
+walk d => d/a/b d/a.txt d/z
+look d => d:IsDirectory
+walk e/ => e/x
+walk empty =>
+walk f => f
+look f => f
+walk null => null
+walk l => l/x
+look l => l:IsDirectory
+walk dead self => dead:CannotOpen self:CannotOpen
+look missing => missing:CannotOpen
+walk - => -
+walk z f d - f l => z:CannotOpen f d/a/b d/a.txt d/z - f l/x
+
+d directory a a.txt ab
+d/a directory b
+d/a/b file
+d/a.txt file
+d/ab file
+walk d => d/a/b d/a.txt d/ab
+
+d directory a ab a.txt
+d/a directory b
+d/a/b file
+d/a.txt file
+d/ab file
+walk d => d/a/b d/a.txt d/ab
+
+d directory a.txt a ab
+d/a directory b
+d/a/b file
+d/a.txt file
+d/ab file
+walk d => d/a/b d/a.txt d/ab
+
+d directory a.txt ab a
+d/a directory b
+d/a/b file
+d/a.txt file
+d/ab file
+walk d => d/a/b d/a.txt d/ab
+
+d directory ab a a.txt
+d/a directory b
+d/a/b file
+d/a.txt file
+d/ab file
+walk d => d/a/b d/a.txt d/ab
+
+d directory ab a.txt a
+d/a directory b
+d/a/b file
+d/a.txt file
+d/ab file
+walk d => d/a/b d/a.txt d/ab
+
+d directory ab ab a a.txt a ab
+d/a directory b
+d/a/b file
+d/a.txt file
+d/ab file
+walk d => d/a/b d/a.txt d/ab
+
+d directory \u{e9} ~ b B 10 9 -
+d/\u{e9} file
+d/~ file
+d/b file
+d/B file
+d/10 file
+d/9 file
+d/- file
+walk d => d/- d/10 d/9 d/B d/b d/~ d/\u{e9}
+
+d nameless k n u x g i z
+d/k link-to-directory y
+d/k/y file
+d/n device
+d/u unlisted
+d/x directory up
+d/x/up link-to-directory k n u x g i z
+d/g link-to-nothing
+d/z nameless
+walk d => d:BadName d/i:CannotOpen d/u:CannotList d/z:BadName
+walk d/u d/k d/z/ => d/u:CannotList d/k/y d/z/:CannotOpen";
 
 #[test]
-fn names_in_the_order_of_their_bytes(rt: HostRuntime) -> Result<(), Fail> {
-    let orders = [
-        "d directory a a.txt ab",
-        "d directory a ab a.txt",
-        "d directory a.txt a ab",
-        "d directory a.txt ab a",
-        "d directory ab a a.txt",
-        "d directory ab a.txt a",
-        "d directory ab ab a a.txt a ab",
-    ];
-    for names in orders {
-        let lines = [
-            names,
-            "d/a directory b",
-            "d/a/b file",
-            "d/a.txt file",
-            "d/ab file",
-        ];
-        let tree = tree_of(rt.alloc(), lines.as_slice())?;
-        let got = walked(rt.alloc(), &tree, "d", true)?;
-        assert_eq!(rt; got.as_str(), "d/a/b d/a.txt d/ab", "listed as {names}");
-    }
-    let lines = [
-        "d directory \u{e9} ~ b B 10 9 -",
-        "d/\u{e9} file",
-        "d/~ file",
-        "d/b file",
-        "d/B file",
-        "d/10 file",
-        "d/9 file",
-        "d/- file",
-    ];
-    let tree = tree_of(rt.alloc(), lines.as_slice())?;
-    let got = walked(rt.alloc(), &tree, "d", true)?;
-    assert_eq!(rt; got.as_str(), "d/- d/10 d/9 d/B d/b d/~ d/\u{e9}");
-    Ok(())
-}
-
-#[test]
-fn faults_links_and_devices(rt: HostRuntime) -> Result<(), Fail> {
-    let lines = [
-        "d nameless k n u x g i z",
-        "d/k link-to-directory y",
-        "d/k/y file",
-        "d/n device",
-        "d/u unlisted",
-        "d/x directory up",
-        "d/x/up link-to-directory k n u x g i z",
-        "d/g link-to-nothing",
-        "d/z nameless",
-    ];
-    let tree = tree_of(rt.alloc(), lines.as_slice())?;
-    let rows: [Row; 2] = [
-        (
-            "d",
-            true,
-            "d:BadName d/i:CannotOpen d/u:CannotList d/z:BadName",
-        ),
-        ("d/u d/k d/z/", true, "d/u:CannotList d/k/y d/z/:CannotOpen"),
-    ];
-    for (operands, recursive, want) in rows {
-        let got = walked(rt.alloc(), &tree, operands, recursive)?;
-        assert_eq!(rt; got.as_str(), want, "of {operands}");
+fn walks(rt: HostRuntime) -> Result<(), Fail> {
+    let mut tree = MemTree::new(rt.alloc());
+    for line in WALKS.lines() {
+        if let Some((asked, want)) = halves(line) {
+            let operands = asked.get(4..).unwrap_or("");
+            let got = walked(rt.alloc(), &tree, operands, asked.starts_with("walk"))?;
+            assert_eq!(rt; got.as_str(), want, "{line}");
+        } else if line.is_empty() {
+            tree = MemTree::new(rt.alloc());
+        } else {
+            add_node(rt.alloc(), &mut tree, line)?;
+        }
     }
     Ok(())
 }
@@ -267,56 +275,63 @@ impl FileTree for Failing<'_> {
     }
 }
 
+/// A tree, of which one answer fails in turn.
+const FAILING: &str = "d directory c b a
+d/a nameless x
+d/a/x file
+d/b link-to-directory
+d/c file
+f file";
+
+/// What a walk over `d` and `f` gives where the first answer fails, where the second one does, and so on, and at last
+/// where none fails.
+const FAILED: &str = "d:CannotOpen f
+d:CannotList f
+d/a:CannotOpen d/c f
+d/a:CannotList d/c f
+d/a:BadName d/a/x:CannotOpen d/c f
+d/a:BadName d/a/x d/b:CannotOpen d/c f
+d/a:BadName d/a/x d/c:CannotOpen f
+d/a:BadName d/a/x d/c f:CannotOpen
+d/a:BadName d/a/x d/c f";
+
+/// Walks over `d` and `f` where the answer behind so many others fails.
+fn walked_failing(
+    alloc: Global,
+    tree: &MemTree,
+    passes: u32,
+    fault: LookFault,
+) -> Result<String, AllocError> {
+    let failing = Failing {
+        tree,
+        passes,
+        fault,
+        asked: Cell::new(0),
+    };
+    walked(alloc, &failing, "d f", true)
+}
+
 #[test]
 fn each_answer_may_fail(rt: HostRuntime) -> Result<(), Fail> {
-    let lines = [
-        "d directory c b a",
-        "d/a nameless x",
-        "d/a/x file",
-        "d/b link-to-directory",
-        "d/c file",
-        "f file",
-    ];
-    let tree = tree_of(rt.alloc(), lines.as_slice())?;
-    let wanted = [
-        "d:CannotOpen f",
-        "d:CannotList f",
-        "d/a:CannotOpen d/c f",
-        "d/a:CannotList d/c f",
-        "d/a:BadName d/a/x:CannotOpen d/c f",
-        "d/a:BadName d/a/x d/b:CannotOpen d/c f",
-        "d/a:BadName d/a/x d/c:CannotOpen f",
-        "d/a:BadName d/a/x d/c f:CannotOpen",
-        "d/a:BadName d/a/x d/c f",
-    ];
-    let mut passes = 0u32;
-    for want in wanted {
-        let mut failing = Failing {
-            tree: &tree,
-            passes,
-            fault: LookFault::Failed,
-            asked: Cell::new(0),
-        };
-        let got = walked(rt.alloc(), &failing, "d f", true)?;
+    let tree = tree_of(rt.alloc(), FAILING)?;
+    for (passes, want) in (0u32..).zip(FAILED.lines()) {
+        let got = walked_failing(rt.alloc(), &tree, passes, LookFault::Failed)?;
         assert_eq!(rt; got.as_str(), want, "at {passes}");
-        failing.fault = LookFault::OutOfMemory;
-        failing.asked.set(0);
-        let got = walked(rt.alloc(), &failing, "d f", true);
+        let got = walked_failing(rt.alloc(), &tree, passes, LookFault::OutOfMemory);
         assert_eq!(rt; got.is_err(), passes < 8, "out of memory at {passes}");
-        passes = passes.wrapping_add(1);
     }
     Ok(())
 }
 
+/// A tree that is walked while requests for memory are refused.
+const REFUSED: &str = "d directory b a
+d/a nameless x
+d/a/x file
+d/b unlisted";
+
 #[test]
 fn each_request_of_a_walk_may_be_refused(rt: HostRuntime) -> Result<(), Fail> {
-    let lines = [
-        "d directory b a",
-        "d/a nameless x",
-        "d/a/x file",
-        "d/b unlisted",
-    ];
-    let tree = tree_of(rt.alloc(), lines.as_slice())?;
+    let tree = tree_of(rt.alloc(), REFUSED)?;
     let operands = texts(rt.alloc(), "d d - gone")?;
     for passes in 0..200u64 {
         let heap = Refusing::new(rt.alloc(), passes);

@@ -23,48 +23,68 @@ fn make_tree(rt: &HostRuntime, root: &str, pipe: &str) -> io::Result<()> {
     symlink(rt, pipe, format!(in alloc; "{root}/pipe")?)
 }
 
-/// Asks for kinds below the root, and walks over it.
+/// Paths, `root` for the root, and the kinds of what stands there and behind its links.
+const KINDS: &str = "root/a => Ok(Directory) Ok(Directory)
+root/a.txt => Ok(Regular) Ok(Regular)
+root/file-link => Ok(Link) Ok(Regular)
+root/a/up => Ok(Link) Ok(Directory)
+root/pipe => Ok(Link) Ok(Other)
+root/dead => Ok(Link) Err(Failed)
+root/self => Ok(Link) Err(Failed)
+root/missing => Err(Failed) Err(Failed)
+root/a.txt/b => Err(Failed) Err(Failed)
+/dev/null => Ok(Other) Ok(Other)";
+
+/// Operands, and what walks over them give.
+const WALKS: &str = "root => root/.hidden root/a/b root/a.txt
+root/ => root/.hidden root/a/b root/a.txt
+root/pipe => root/pipe
+root/dead => root/dead:CannotOpen
+root/a/empty =>
+root/a/up/up => root/a/up/up/b";
+
+/// Asks for kinds below the root.
+fn ask_kinds<R: Files + AllocGlobal + Abort + Clone + Drop>(
+    rt: &R,
+    root: &str,
+) -> Result<(), Fail> {
+    let tree = DiskTree::new(rt);
+    for row in KINDS.lines() {
+        let (path, want) = halves(row).ok_or("a row")?;
+        let path = path.replace(rt.alloc(), "root", root)?;
+        let kind = tree.kind(path.as_str(), false);
+        let target = tree.kind(path.as_str(), true);
+        let got = format!(in rt.alloc(); "{kind:?} {target:?}")?;
+        assert_eq!(rt; got.as_str(), want, "{row}");
+    }
+    Ok(())
+}
+
+/// Walks over operands below the root.
+fn walk_around<R: Files + AllocGlobal + Abort + Clone + Drop>(
+    rt: &R,
+    root: &str,
+) -> Result<(), Fail> {
+    let tree = DiskTree::new(rt);
+    for row in WALKS.lines() {
+        let (operands, want) = halves(row).ok_or("a row")?;
+        let operands = operands.replace(rt.alloc(), "root", root)?;
+        let got = walked(rt.alloc(), &tree, operands.as_str(), true)?;
+        let got = got.replace(rt.alloc(), root, "root")?;
+        assert_eq!(rt; got.as_str(), want, "{row}");
+    }
+    let file = format!(in rt.alloc(); "{root}/a.txt")?;
+    assert!(rt; tree.entries(rt.alloc(), file.as_str()).is_err());
+    Ok(())
+}
+
+/// Asks for kinds below the root, and walks.
 fn look_around<R: Files + AllocGlobal + Abort + Clone + Drop>(
     rt: &R,
     root: &str,
 ) -> Result<(), Fail> {
-    let alloc = rt.alloc();
-    let tree = DiskTree::new(rt);
-    let kinds = [
-        ("a", Ok(FileKind::Directory), Ok(FileKind::Directory)),
-        ("a.txt", Ok(FileKind::Regular), Ok(FileKind::Regular)),
-        ("file-link", Ok(FileKind::Link), Ok(FileKind::Regular)),
-        ("a/up", Ok(FileKind::Link), Ok(FileKind::Directory)),
-        ("pipe", Ok(FileKind::Link), Ok(FileKind::Other)),
-        ("dead", Ok(FileKind::Link), Err(LookFault::Failed)),
-        ("self", Ok(FileKind::Link), Err(LookFault::Failed)),
-        ("missing", Err(LookFault::Failed), Err(LookFault::Failed)),
-        ("a.txt/b", Err(LookFault::Failed), Err(LookFault::Failed)),
-    ];
-    for (name, kind, target) in kinds {
-        let path = format!(in alloc; "{root}/{name}")?;
-        assert_eq!(rt; tree.kind(path.as_str(), false), kind, "of {name}");
-        assert_eq!(rt; tree.kind(path.as_str(), true), target, "behind {name}");
-    }
-    assert_eq!(rt; tree.kind("/dev/null", false), Ok(FileKind::Other));
-    assert!(rt;
-        tree.entries(alloc, format!(in alloc; "{root}/a.txt")?.as_str())
-            .is_err()
-    );
-    for (names, want) in [
-        ("", "/.hidden /a/b /a.txt"),
-        ("/", "/.hidden /a/b /a.txt"),
-        ("/pipe", "/pipe"),
-        ("/dead", "/dead:CannotOpen"),
-        ("/a/empty", ""),
-        ("/a/up/up", "/a/up/up/b"),
-    ] {
-        let operands = format!(in alloc; "{root}{names}")?;
-        let got = walked(alloc, &tree, operands.as_str(), true)?;
-        let got = got.replace(alloc, root, "")?;
-        assert_eq!(rt; got.as_str(), want, "of {names}");
-    }
-    Ok(())
+    ask_kinds(rt, root)?;
+    walk_around(rt, root)
 }
 
 /// The path of a new directory's place, which is the test's own.
@@ -92,15 +112,21 @@ fn a_directory_of_the_system(rt: HostRuntime) -> Result<(), Fail> {
 /// The stack of the thread that walks, in bytes: 4 KiB for each level of directories.
 const SMALL_STACK: usize = 0x10_0000;
 
+/// Makes directories below the root that are one level too deep, and answers the path of the deepest that a walk names.
+fn make_deep(rt: &HostRuntime, root: &str) -> io::Result<String> {
+    let mut deepest = String::from_str(rt.alloc(), root)?;
+    for _ in 0..257u32 {
+        deepest.push_str("/e")?;
+    }
+    fs::create_dir_all(rt, format!(in rt.alloc(); "{deepest}/e")?)?;
+    Ok(deepest)
+}
+
 #[test]
 fn a_small_stack_holds_all_levels(rt: HostRuntime) -> Result<(), Fail> {
     let alloc = rt.alloc();
     let root = new_root(&rt, "deep")?;
-    let mut deepest = String::from_str(alloc, root.as_str())?;
-    for _ in 0..257u32 {
-        deepest.push_str("/e")?;
-    }
-    fs::create_dir_all(&rt, format!(in alloc; "{deepest}/e")?)?;
+    let deepest = make_deep(&rt, root.as_str())?;
     let operand = String::from_str(alloc, root.as_str())?;
     let thread = thread::Builder::new()
         .stack_size(SMALL_STACK)
@@ -109,15 +135,17 @@ fn a_small_stack_holds_all_levels(rt: HostRuntime) -> Result<(), Fail> {
         });
     let got = thread?.join(&rt);
     fs::remove_dir_all(&rt, root.as_str())?;
-    deepest.push_str(":TooDeep")?;
-    assert_eq!(rt; got?.as_str(), deepest.as_str());
+    assert_eq!(rt;
+        got?.as_str().strip_suffix(":TooDeep"),
+        Some(deepest.as_str())
+    );
     Ok(())
 }
 
 /// A runtime that stands in for the system, with a directory `d/`.
 #[derive(Clone, Copy)]
 struct StandIn {
-    /// What the directory reads as: the names of its entries, each ended by a NUL.
+    /// What the directory reads as: the names of its entries, each ended by a NUL, which `|` stands for.
     names: &'static str,
     /// A byte that stands for each `?` in them.
     unknown: u8,
@@ -145,11 +173,10 @@ impl Read for OpenDirectory {
         let names = self.directory.names.as_bytes();
         let count = names.len().min(buffer.len());
         for at in 0..count {
-            let byte = names[at];
-            buffer[at] = if byte == b'?' {
-                self.directory.unknown
-            } else {
-                byte
+            buffer[at] = match names[at] {
+                b'?' => self.directory.unknown,
+                b'|' => 0,
+                byte => byte,
             };
         }
         Ok(count)
@@ -222,38 +249,49 @@ fn walked_over<R: Files + Drop>(alloc: Global, rt: R, operand: &str) -> Result<S
     walked(alloc, &DiskTree::new(rt), operand, true)
 }
 
+/// What a directory reads as, the byte for `?`, whether its end can't be read, and what a walk over it gives.
+const NAMES: &str = ".|..| 255 false =>
+b|.|..|a| 255 false => d/a d/b
+b|?|...|a| 255 false => d:BadName d/... d/a d/b
+b|?b| 195 false => d:BadName d/b
+b|?| 97 false => d/a d/b
+b|?| 255 true => d:CannotList";
+
 #[test]
 fn names_that_are_not_utf8(rt: HostRuntime) -> Result<(), Fail> {
-    let rows = [
-        (".\0..\0", 255, false, ""),
-        ("b\0.\0..\0a\0", 255, false, "d/a d/b"),
-        ("b\0?\0...\0a\0", 255, false, "d:BadName d/... d/a d/b"),
-        ("b\0?b\0", 0xc3, false, "d:BadName d/b"),
-        ("b\0?\0", b'a', false, "d/a d/b"),
-        ("b\0?\0", 255, true, "d:CannotList"),
-    ];
-    for (names, unknown, fails, want) in rows {
+    for row in NAMES.lines() {
+        let (asked, want) = halves(row).ok_or("a row")?;
+        let (names, faults) = asked.split_once(' ').ok_or("names")?;
+        let (unknown, fails) = faults.split_once(' ').ok_or("a byte")?;
         let system = StandIn {
             names,
-            unknown,
-            fails,
+            unknown: unknown.parse()?,
+            fails: fails == "true",
         };
         let got = walked_over(rt.alloc(), system, "d")?;
-        assert_eq!(rt; got.as_str(), want);
-        let got = walked_over(rt.alloc(), system, "locked")?;
-        assert_eq!(rt; got.as_str(), "locked:CannotList");
-        assert!(rt; walked_over(rt.alloc(), system, "full").is_err());
+        assert_eq!(rt; got.as_str(), want, "{row}");
     }
+    Ok(())
+}
+
+/// A directory with the names `a`, `b` and one that isn't UTF-8.
+const SOME: StandIn = StandIn {
+    names: "b|?|a|",
+    unknown: 255,
+    fails: false,
+};
+
+#[test]
+fn a_directory_that_cannot_be_opened(rt: HostRuntime) -> Result<(), Fail> {
+    let got = walked_over(rt.alloc(), SOME, "locked")?;
+    assert_eq!(rt; got.as_str(), "locked:CannotList");
+    assert!(rt; walked_over(rt.alloc(), SOME, "full").is_err());
     Ok(())
 }
 
 #[test]
 fn each_request_of_a_listing_may_be_refused(rt: HostRuntime) -> Result<(), Fail> {
-    let tree = DiskTree::new(StandIn {
-        names: "b\0?\0a\0",
-        unknown: 255,
-        fails: false,
-    });
+    let tree = DiskTree::new(SOME);
     for passes in 0..100u64 {
         let heap = Refusing::new(rt.alloc(), passes);
         match tree.entries(&heap, "d") {
