@@ -34,7 +34,7 @@ fn shown(alloc: Global, set: &ByteSet) -> Result<String, AllocError> {
 #[test]
 fn classes(rt: HostRuntime) -> Result<(), Fail> {
     for row in CLASSES.lines() {
-        let (name, want) = halves(row).ok_or("a row")?;
+        let (name, want) = halves(row);
         let got = match class(name.as_bytes()) {
             Some(set) => shown(rt.alloc(), &set)?,
             None => String::from_str(rt.alloc(), "none")?,

@@ -2,7 +2,7 @@
 ghost use Rattle.std.specs.Prelude.{◌≤◌, length};
 ghost use Rattle.pg_lines.specs.Lines.{IsLine};
 
-use crate::rows::{bytes_of, halves, show_bytes};
+use crate::rows::{bytes_of, cut, halves, show_bytes};
 use pg_lines::{
     Block, BlockResult, CutFault, Cutter, Kind, PatternList, Query, QueryFault, QueryText,
     search_block,
@@ -128,17 +128,22 @@ q on abc%0Axyz%0Ab => -abc -xyz -b
 ab on a%0Ab%0A => -a -b
 %00%FF on a%00%FF%0A%00%0A%FF%80 => +a%00%FF -%00 -%FF%80 0-4";
 
+/// What is found, as `shown` shows it, where the pattern and the block are fields.
+fn find(rt: &impl Abort, alloc: Global, pattern: &str, block: &str) -> Result<String, Fail> {
+    let pattern = bytes_of(alloc, pattern)?;
+    assert!(rt; pattern.len() <= 100 && !pattern.contains(&b'\n'));
+    let block = bytes_of(alloc, block)?;
+    assert!(rt; block.len() <= 100);
+    let found = search_for(alloc, &pattern, &block)?;
+    Ok(shown(alloc, &found)?)
+}
+
 #[test]
 fn lines_with_the_pattern_are_selected(rt: HostRuntime) -> Result<(), Fail> {
     for row in FOUND.lines() {
-        let (asked, want) = halves(row).ok_or("a row")?;
-        let (pattern, bytes) = asked.split_once(" on ").ok_or("a block")?;
-        let pattern = bytes_of(rt.alloc(), pattern)?;
-        let bytes = bytes_of(rt.alloc(), bytes)?;
-        assert!(rt; pattern.len() <= 100 && bytes.len() <= 100);
-        assert!(rt; !pattern.contains(&b'\n'));
-        let found = search_for(rt.alloc(), &pattern, &bytes)?;
-        let got = shown(rt.alloc(), &found)?;
+        let (asked, want) = halves(row);
+        let (pattern, block) = cut(asked, " on ");
+        let got = find(&rt, rt.alloc(), pattern, block)?;
         assert_eq!(rt; got.as_str().trim_end(), want, "{row}");
     }
     Ok(())

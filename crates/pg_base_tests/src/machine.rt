@@ -4,7 +4,7 @@ ghost use Rattle.pg_syntax.specs.Patterns.{IsProper};
 ghost use Rattle.pg_syntax.specs.Trees.{pattern};
 ghost use Rattle.pg_match.specs.Machines.{Fits};
 
-use crate::rows::{bytes_of, halves, repeated};
+use crate::rows::{bytes_of, cut, halves, repeated};
 use pg_match::laws::next_piece_is_one;
 use pg_match::{Bounds, BuildFault, Machine, Scratch};
 use pg_syntax::{Tree, fixed, parse_bre, parse_ere};
@@ -121,9 +121,9 @@ any ((((a{0}){255}){255}){255}){255} on b => true";
 #[test]
 fn lines_are_selected(rt: HostRuntime) -> Result<(), Fail> {
     for row in LINES.lines() {
-        let (asked, want) = halves(row).ok_or("a row")?;
-        let (bounds, asked) = asked.split_once(' ').ok_or("an expression")?;
-        let (text, line) = asked.split_once(" on ").ok_or("a line")?;
+        let (asked, want) = halves(row);
+        let (bounds, asked) = cut(asked, " ");
+        let (text, line) = cut(asked, " on ");
         let text = bytes_of(rt.alloc(), text)?;
         let line = bytes_of(rt.alloc(), line)?;
         for bounds in bounds.split(',') {
@@ -171,17 +171,28 @@ any b on %00b%FF%FFb => 1-2 4-5
 any a? on  =>
 any [^x]{2} on abcde => 0-2 2-4";
 
+/// The matched parts of a line, where the expression and the line are fields.
+fn parts_of(
+    rt: &impl Abort,
+    alloc: Global,
+    bounds: Bounds,
+    text: &str,
+    line: &str,
+) -> Result<String, Fail> {
+    let text = bytes_of(alloc, text)?;
+    let mut search = machine(alloc, &text, bounds)?;
+    let line = bytes_of(alloc, line)?;
+    assert!(rt; line.len() <= 100);
+    Ok(parts(alloc, &mut search, &line)?)
+}
+
 #[test]
 fn parts_of_lines(rt: HostRuntime) -> Result<(), Fail> {
     for row in PARTS.lines() {
-        let (asked, want) = halves(row).ok_or("a row")?;
-        let (bounds, asked) = asked.split_once(' ').ok_or("an expression")?;
-        let (text, line) = asked.split_once(" on ").ok_or("a line")?;
-        let text = bytes_of(rt.alloc(), text)?;
-        let line = bytes_of(rt.alloc(), line)?;
-        assert!(rt; line.len() <= 100);
-        let mut search = machine(rt.alloc(), &text, bounds_of(bounds))?;
-        let got = parts(rt.alloc(), &mut search, &line)?;
+        let (asked, want) = halves(row);
+        let (bounds, asked) = cut(asked, " ");
+        let (text, line) = cut(asked, " on ");
+        let got = parts_of(&rt, rt.alloc(), bounds_of(bounds), text, line)?;
         assert_eq!(rt; got.as_str().trim_start(), want, "{row}");
     }
     Ok(())
@@ -204,9 +215,9 @@ word  on :1 => (true, 2, None, 2)";
 #[test]
 fn visits(rt: HostRuntime) -> Result<(), Fail> {
     for row in VISITS.lines() {
-        let (asked, want) = halves(row).ok_or("a row")?;
-        let (bounds, asked) = asked.split_once(' ').ok_or("an expression")?;
-        let (text, line) = asked.split_once(" on ").ok_or("a line")?;
+        let (asked, want) = halves(row);
+        let (bounds, asked) = cut(asked, " ");
+        let (text, line) = cut(asked, " on ");
         let line = repeated(rt.alloc(), line)?;
         let bounds = bounds_of(bounds);
         let found = find_in(&rt, rt.alloc(), bounds, text.as_bytes(), &line)?;
@@ -232,8 +243,8 @@ a:1 +:15 on baab => Some((1, 3))
 #[test]
 fn deep_trees(rt: HostRuntime) -> Result<(), Fail> {
     for row in DEEP.lines() {
-        let (asked, want) = halves(row).ok_or("a row")?;
-        let (text, line) = asked.split_once(" on ").ok_or("a line")?;
+        let (asked, want) = halves(row);
+        let (text, line) = cut(asked, " on ");
         let text = repeated(rt.alloc(), text)?;
         let found = find_in(&rt, rt.alloc(), Bounds::Any, &text, line.as_bytes())?;
         let part = found.part;

@@ -29,8 +29,13 @@ pub(crate) fn repeated(alloc: Global, parts: &str) -> Result<Vec<u8>, Fail> {
     Ok(text)
 }
 
+/// What stands before a mark and what stands behind it. Without the mark nothing stands behind.
+pub(crate) fn cut<'a>(text: &'a str, mark: &str) -> (&'a str, &'a str) {
+    text.split_once(mark).unwrap_or((text, ""))
+}
+
 /// What a row asks, and behind `=>` what is wanted of it.
-pub(crate) fn halves(row: &str) -> Option<(&str, &str)> {
-    let (asked, want) = row.split_once(" =>")?;
-    Some((asked, want.trim_start()))
+pub(crate) fn halves(row: &str) -> (&str, &str) {
+    let (asked, want) = cut(row, " =>");
+    (asked, want.trim_start())
 }

@@ -1,5 +1,5 @@
 //! Expressions and lists of patterns.
-use crate::rows::{bytes_of, halves, repeated};
+use crate::rows::{bytes_of, cut, halves, repeated};
 use crate::sets::show_set;
 use pg_syntax::{
     FaultKind, Kind, ListFault, PatternList, SyntaxFault, Tree, fixed, parse_bre, parse_ere,
@@ -185,8 +185,8 @@ fn parsed(alloc: Global, parser: &str, text: &[u8]) -> Result<Tree, SyntaxFault>
 #[test]
 fn expressions(rt: HostRuntime) -> Result<(), Fail> {
     for row in EXPRESSIONS.lines() {
-        let (asked, want) = halves(row).ok_or("a row")?;
-        let (parsers, text) = asked.split_once(' ').ok_or("a text")?;
+        let (asked, want) = halves(row);
+        let (parsers, text) = cut(asked, " ");
         let text = bytes_of(rt.alloc(), text)?;
         for parser in parsers.split(',') {
             let got = shown(rt.alloc(), parsed(rt.alloc(), parser, &text))?;
@@ -199,8 +199,8 @@ fn expressions(rt: HostRuntime) -> Result<(), Fail> {
 #[test]
 fn large_texts(rt: HostRuntime) -> Result<(), Fail> {
     for row in LARGE.lines() {
-        let (asked, want) = halves(row).ok_or("a row")?;
-        let (parsers, parts) = asked.split_once(' ').ok_or("a text")?;
+        let (asked, want) = halves(row);
+        let (parsers, parts) = cut(asked, " ");
         let text = repeated(rt.alloc(), parts)?;
         for parser in parsers.split(',') {
             let got = shown(rt.alloc(), parsed(rt.alloc(), parser, &text))?;
@@ -214,7 +214,7 @@ fn large_texts(rt: HostRuntime) -> Result<(), Fail> {
 #[test]
 fn deep_trees(rt: HostRuntime) -> Result<(), Fail> {
     for row in DEEP.lines() {
-        let (parsers, parts) = row.split_once(' ').ok_or("a row")?;
+        let (parsers, parts) = cut(row, " ");
         let text = repeated(rt.alloc(), parts)?;
         for parser in parsers.split(',') {
             let tree = parsed(rt.alloc(), parser, &text)?;
@@ -300,7 +300,7 @@ fn lists_of(alloc: Global, words: &str) -> Result<Vec<PatternList>, AllocError> 
 #[test]
 fn pattern_lists(rt: HostRuntime) -> Result<(), Fail> {
     for row in LISTS.lines() {
-        let (asked, want) = halves(row).ok_or("a row")?;
+        let (asked, want) = halves(row);
         let kind = match asked.split(' ').next() {
             Some("Basic") => Kind::Basic,
             Some("Extended") => Kind::Extended,
@@ -322,7 +322,7 @@ text:a file:a => false";
 #[test]
 fn lists_compare_by_contents(rt: HostRuntime) -> Result<(), Fail> {
     for row in PAIRS.lines() {
-        let (asked, want) = halves(row).ok_or("a row")?;
+        let (asked, want) = halves(row);
         let lists = lists_of(rt.alloc(), asked)?;
         assert_eq!(rt; lists.len(), 2);
         assert_eq!(rt; lists[0] == lists[1], want == "true", "{row}");

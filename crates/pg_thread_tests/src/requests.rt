@@ -1,6 +1,7 @@
 //! Requests for memory that are refused.
 use refusing::Refusing;
 use std::alloc::{AllocError, Allocator, Global};
+use std::process::Abort;
 use std::test::Fail;
 use std::thread;
 use std::thread::Threads;
@@ -15,24 +16,27 @@ fn fill<A: Allocator>(bytes: &mut Vec<u8, A>) -> usize {
     bytes.len()
 }
 
+/// Pushes until the request behind so many others is refused, and then once more. It returns how many were pushed before.
+fn push_refused(rt: &impl Abort, alloc: Global, passes: u64) -> Result<usize, AllocError> {
+    let heap = Refusing::new(alloc, passes);
+    let mut bytes = Vec::new(&heap);
+    let pushed = fill(&mut bytes);
+    assert!(rt; heap.has_refused());
+    assert_eq!(rt; heap.requests(), passes.wrapping_add(1));
+    assert_eq!(rt; pushed, bytes.capacity());
+    bytes.push(b'b')?;
+    assert_eq!(rt; heap.requests(), passes.wrapping_add(2));
+    assert_eq!(rt; bytes.last(), Some(&b'b'));
+    assert_eq!(rt; bytes.len(), pushed.wrapping_add(1));
+    Ok(pushed)
+}
+
 #[test]
 fn a_push_is_refused_once(rt: HostRuntime) -> Result<(), Fail> {
-    let mut lengths = Vec::new(rt.alloc());
-    for passes in 0..3u64 {
-        let heap = Refusing::new(rt.alloc(), passes);
-        let mut bytes = Vec::new(&heap);
-        let pushed = fill(&mut bytes);
-        assert!(rt; heap.has_refused(), "at {passes}");
-        assert_eq!(rt; heap.requests(), passes.wrapping_add(1));
-        assert_eq!(rt; pushed, bytes.capacity(), "at {passes}");
-        lengths.push(pushed)?;
-        bytes.push(b'b')?;
-        assert_eq!(rt; heap.requests(), passes.wrapping_add(2));
-        assert_eq!(rt; bytes.last(), Some(&b'b'));
-        assert_eq!(rt; bytes.len(), pushed.wrapping_add(1));
-    }
-    assert_eq!(rt; lengths.len(), 3);
-    assert!(rt; lengths[0] == 0 && lengths[1] > 0 && lengths[1] < lengths[2]);
+    let none = push_refused(&rt, rt.alloc(), 0)?;
+    let some = push_refused(&rt, rt.alloc(), 1)?;
+    let more = push_refused(&rt, rt.alloc(), 2)?;
+    assert!(rt; none == 0 && some > 0 && some < more);
     Ok(())
 }
 

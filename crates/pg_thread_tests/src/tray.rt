@@ -1,7 +1,7 @@
 //! Trays that threads put into, and one takes from.
 ghost use Rattle.std.specs.Prelude.{◌≡◌};
 
-use pg_board::{PutPass, TakePass, Tray};
+use pg_board::{Delivered, PutPass, TakePass, Tray};
 use refusing::Refusing;
 use std::alloc::{AllocError, Allocator, Global};
 use std::sync::{Arc, Wait};
@@ -190,6 +190,17 @@ fn put_numbers<R: Wait, A: Allocator>(
     refused
 }
 
+/// Whether the numbers from 1 to 99 are left, in their order, and nothing else.
+fn is_rest<R: Wait, A: Allocator>(rt: &R, left: Delivered<u32, A>) -> bool {
+    let mut left = left;
+    for number in 1..100u32 {
+        if left.next(rt) != Some(number) {
+            return false;
+        }
+    }
+    left.next(rt) == None
+}
+
 #[test]
 fn each_request_of_a_tray_may_be_refused(rt: HostRuntime) -> Result<(), Fail> {
     for requests in 0..100u64 {
@@ -203,11 +214,8 @@ fn each_request_of_a_tray_may_be_refused(rt: HostRuntime) -> Result<(), Fail> {
         assert_eq!(rt; refused, u32::from(heap.has_refused()), "at {requests}");
         let made = heap.requests();
         assert_eq!(rt; tray.take(&rt, &mut take), Some(0));
-        let mut left = tray.close(passes, take);
-        for number in 1..100u32 {
-            assert_eq!(rt; left.next(&rt), Some(number), "at {requests}");
-        }
-        assert_eq!(rt; left.next(&rt), None);
+        let left = tray.close(passes, take);
+        assert!(rt; is_rest(&rt, left), "at {requests}");
         assert_eq!(rt; heap.requests(), made);
         if refused == 0 {
             return Ok(());

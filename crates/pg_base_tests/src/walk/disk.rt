@@ -1,5 +1,6 @@
 //! The system's tree, over a directory that the test makes, and over a runtime that stands in for the system.
 use super::*;
+use crate::rows::cut;
 use pg_walk::DiskTree;
 use std::fs::{File, Metadata, OpenOptions};
 use std::io::{ErrorKind, Read};
@@ -50,7 +51,7 @@ fn ask_kinds<R: Files + AllocGlobal + Abort + Clone + Drop>(
 ) -> Result<(), Fail> {
     let tree = DiskTree::new(rt);
     for row in KINDS.lines() {
-        let (path, want) = halves(row).ok_or("a row")?;
+        let (path, want) = halves(row);
         let path = path.replace(rt.alloc(), "root", root)?;
         let kind = tree.kind(path.as_str(), false);
         let target = tree.kind(path.as_str(), true);
@@ -67,7 +68,7 @@ fn walk_around<R: Files + AllocGlobal + Abort + Clone + Drop>(
 ) -> Result<(), Fail> {
     let tree = DiskTree::new(rt);
     for row in WALKS.lines() {
-        let (operands, want) = halves(row).ok_or("a row")?;
+        let (operands, want) = halves(row);
         let operands = operands.replace(rt.alloc(), "root", root)?;
         let got = walked(rt.alloc(), &tree, operands.as_str(), true)?;
         let got = got.replace(rt.alloc(), root, "root")?;
@@ -260,9 +261,9 @@ b|?| 255 true => d:CannotList";
 #[test]
 fn names_that_are_not_utf8(rt: HostRuntime) -> Result<(), Fail> {
     for row in NAMES.lines() {
-        let (asked, want) = halves(row).ok_or("a row")?;
-        let (names, faults) = asked.split_once(' ').ok_or("names")?;
-        let (unknown, fails) = faults.split_once(' ').ok_or("a byte")?;
+        let (asked, want) = halves(row);
+        let (names, faults) = cut(asked, " ");
+        let (unknown, fails) = cut(faults, " ");
         let system = StandIn {
             names,
             unknown: unknown.parse()?,
