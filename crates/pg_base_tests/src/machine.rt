@@ -47,7 +47,7 @@ fn machine(alloc: Global, text: &[u8], bounds: Bounds) -> Result<Search, Fail>
 }
 
 /// What searches of a line give.
-#[derive(Debug, Drop)]
+#[derive(Drop)]
 struct Found {
     selected: bool,
     visits: u128,
@@ -201,8 +201,8 @@ fn parts_of_lines(rt: HostRuntime) -> Result<(), Fail> {
 /// Bounds, an extended expression, and a line in parts; whether it is selected and after how many visits, the first
 /// matched part, and the visits of its search.
 ///
-/// At most the size of the expression is visited for each byte of the line and once more: 50,005, 40,004, 623,193, 30, 24,
-/// 4, 4 and 2 states.
+/// For each byte of the line and once more at most the size of the expression is visited: 50,005, 40,004, 623,193, 30,
+/// 24, 4, 4 and 2 states.
 const VISITS: &str = "any (a*)*b on a:10000 => (false, 40004, None, 40004)
 any a*b on a:10000 => (false, 30003, None, 30003)
 any ((a{0,100}){0,100})*b on a:30 => (false, 102362, None, 102362)

@@ -8,7 +8,8 @@ type Queue = RuledSegQueue<Entry<u32>, PassView<u32>, MergeRule, Global>;
 
 type Ticket = SegPass<Entry<u32>, PassView<u32>, Global>;
 
-/// Each field of a tray and of its passes has the type that is named here, and there is no other field: so there is no lock.
+/// Each field of a tray and of its passes has the type that is named here, and there is no other field: so there is no
+/// lock.
 #[test]
 fn a_tray_has_no_lock(rt: HostRuntime) -> Result<(), Fail> {
     let (tray, passes, take) = Tray::<u32>::open(rt.alloc(), 1)?;

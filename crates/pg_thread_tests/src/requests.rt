@@ -16,7 +16,8 @@ fn fill<A: Allocator>(bytes: &mut Vec<u8, A>) -> usize {
     bytes.len()
 }
 
-/// Pushes until the request behind so many others is refused, and then once more. It returns how many were pushed before.
+/// Pushes until the request behind so many others is refused, and then once more. It returns how many were pushed
+/// before.
 fn push_refused(rt: &impl Abort, alloc: Global, passes: u64) -> Result<usize, AllocError> {
     let heap = Refusing::new(alloc, passes);
     let mut bytes = Vec::new(&heap);
