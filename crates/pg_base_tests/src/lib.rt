@@ -1,4 +1,4 @@
-//! Tests of the crates below the search: sets of bytes, expressions, lines, and walks.
+//! Tests of the crates below the search: sets of bytes, expressions, automata, and lines.
 #![tactic(auto)]
 
 #[cfg(test)]
@@ -13,5 +13,3 @@ mod rows;
 mod sets;
 #[cfg(test)]
 mod syntax;
-#[cfg(test)]
-mod walk;

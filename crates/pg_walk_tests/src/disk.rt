@@ -1,13 +1,15 @@
 //! The system's tree, over a directory that the test makes, and over a runtime that stands in for the system.
-use super::*;
-use crate::rows::cut;
-use pg_walk::DiskTree;
+use crate::memory::{halves, walked};
+use pg_walk::{DiskTree, FileKind, FileTree, LookFault};
+use refusing::Refusing;
+use std::alloc::{AllocError, Allocator, Global};
 use std::fs::{File, Metadata, OpenOptions};
 use std::io::{ErrorKind, Read};
 use std::os::fd::AsRawFd;
 use std::os::unix::fs::symlink;
 use std::process::Abort;
 use std::rt::Files;
+use std::test::Fail;
 use std::{env, fs, io, process, thread};
 
 /// Makes the directory that the test below walks. `pipe` is the path of a pipe.
@@ -262,8 +264,8 @@ b|?| 255 true => d:CannotList";
 fn names_that_are_not_utf8(rt: HostRuntime) -> Result<(), Fail> {
     for row in NAMES.lines() {
         let (asked, want) = halves(row);
-        let (names, faults) = cut(asked, " ");
-        let (unknown, fails) = cut(faults, " ");
+        let (names, faults) = asked.split_once(' ').unwrap_or((asked, ""));
+        let (unknown, fails) = faults.split_once(' ').unwrap_or((faults, ""));
         let system = StandIn {
             names,
             unknown: unknown.parse()?,

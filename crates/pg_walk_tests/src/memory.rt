@@ -1,12 +1,9 @@
 //! Walks over trees in memory.
-use crate::rows::halves;
 use pg_walk::{FileKind, FileTree, Item, Listing, LookFault, MemTree, Node, walk};
 use refusing::Refusing;
 use std::alloc::{AllocError, Allocator, Global};
 use std::cell::Cell;
 use std::test::Fail;
-
-mod disk;
 
 /// What stands at a path, by a word of the trees below, and the names that are listed there.
 fn node_of(alloc: Global, kind: &str, names: &[&str]) -> Result<Node, AllocError> {
@@ -82,8 +79,14 @@ fn shown<A: Allocator>(alloc: Global, items: &[Item<A>]) -> Result<String, Alloc
     Ok(out)
 }
 
+/// What a row asks, and behind `=>` what is wanted of it.
+pub(crate) fn halves(row: &str) -> (&str, &str) {
+    let (asked, want) = row.split_once(" =>").unwrap_or((row, ""));
+    (asked, want.trim_start())
+}
+
 /// Walks over operands, and shows the items.
-fn walked<T: FileTree>(
+pub(crate) fn walked<T: FileTree>(
     alloc: Global,
     tree: &T,
     operands: &str,
