@@ -1,97 +1,97 @@
 //! Sets of bytes and the classes.
+use crate::rows::halves;
+use crate::sets::show_set;
 use pg_bytes::{ByteSet, class};
+use std::alloc::{AllocError, Global};
 use std::test::Fail;
 
-/// The bytes of each class, by its definition in XBD 7.3.1.
-fn is_in_class(name: &[u8], byte: u8) -> bool {
-    if name == b"upper".as_slice() {
-        (65..=90).contains(&byte)
-    } else if name == b"lower".as_slice() {
-        (97..=122).contains(&byte)
-    } else if name == b"alpha".as_slice() {
-        byte.is_ascii_alphabetic()
-    } else if name == b"digit".as_slice() {
-        (48..=57).contains(&byte)
-    } else if name == b"alnum".as_slice() {
-        byte.is_ascii_alphanumeric()
-    } else if name == b"xdigit".as_slice() {
-        byte.is_ascii_hexdigit()
-    } else if name == b"blank".as_slice() {
-        byte == 9 || byte == 32
-    } else if name == b"space".as_slice() {
-        (9..=13).contains(&byte) || byte == 32
-    } else if name == b"cntrl".as_slice() {
-        byte < 32 || byte == 127
-    } else if name == b"graph".as_slice() {
-        (33..=126).contains(&byte)
-    } else if name == b"print".as_slice() {
-        (32..=126).contains(&byte)
-    } else {
-        byte.is_ascii_punctuation()
-    }
+/// Names, and the ranges of the bytes in the class of that name (XBD 7.3.1), if there is one.
+const CLASSES: &str = "upper => {65-90,}
+lower => {97-122,}
+alpha => {65-90,97-122,}
+digit => {48-57,}
+alnum => {48-57,65-90,97-122,}
+xdigit => {48-57,65-70,97-102,}
+blank => {9,32,}
+space => {9-13,32,}
+cntrl => {0-31,127,}
+graph => {33-126,}
+print => {32-126,}
+punct => {33-47,58-64,91-96,123-126,}
+ => none
+foo => none
+Alpha => none
+alph => none
+alphas => none
+alpha: => none";
+
+fn shown(alloc: Global, set: &ByteSet) -> Result<String, AllocError> {
+    let mut out = String::new(alloc);
+    show_set(set, &mut out)?;
+    Ok(out)
 }
 
 #[test]
 fn classes(rt: HostRuntime) -> Result<(), Fail> {
-    let names: [&[u8]; 12] = [
-        b"upper", b"lower", b"alpha", b"digit", b"alnum", b"xdigit", b"blank", b"space", b"cntrl",
-        b"graph", b"print", b"punct",
-    ];
-    for name in names {
-        let set = class(name).ok_or("a class")?;
-        for byte in 0..=255_u8 {
-            assert_eq!(rt;
-                set.contains(byte),
-                is_in_class(name, byte),
-                "{byte} in {name:?}"
-            );
-        }
-    }
-    let others: [&[u8]; 6] = [b"", b"foo", b"Alpha", b"alph", b"alphas", b"alpha:"];
-    for name in others {
-        assert!(rt; class(name).is_none(), "{name:?}");
+    for row in CLASSES.lines() {
+        let (name, want) = halves(row);
+        let got = match class(name.as_bytes()) {
+            Some(set) => shown(rt.alloc(), &set)?,
+            None => String::from_str(rt.alloc(), "none")?,
+        };
+        assert_eq!(rt; got.as_str(), want, "{name}");
     }
     Ok(())
 }
 
-#[test]
-fn sets(rt: HostRuntime) -> Result<(), Fail> {
+/// A set with `a`, 0, 63, 64, and 250 to 255.
+fn some_set() -> ByteSet {
     let mut set = ByteSet::empty();
     set.insert(b'a');
     set.insert(0);
     set.insert_range(250, 255);
     set.insert_range(63, 64);
     set.insert_range(9, 8);
-    let want = |byte: u8| byte == b'a' || byte == 0 || byte >= 250 || (63..=64).contains(&byte);
-    let closed = set.close_case();
-    let other = set.complement();
-    for byte in 0..=255_u8 {
-        let is_in = want(byte);
-        assert_eq!(rt; set.contains(byte), is_in, "{byte}");
-        assert_eq!(rt; other.contains(byte), !is_in, "{byte} in the complement");
-        let is_closed = is_in || byte == b'A' || byte == b'a';
-        assert_eq!(rt;
-            closed.contains(byte),
-            is_closed,
-            "{byte} in the closed set"
-        );
-    }
-    assert_eq!(rt; set.union(other), ByteSet::empty().complement());
-    assert_eq!(rt; other.complement(), set);
-    assert!(rt; closed != set);
+    set
+}
+
+#[test]
+fn sets(rt: HostRuntime) -> Result<(), Fail> {
+    let set = some_set();
+    let got = shown(rt.alloc(), &set)?;
+    assert_eq!(rt; got.as_str(), "{0,63-64,97,250-255,}");
+    let got = shown(rt.alloc(), &set.complement())?;
+    assert_eq!(rt; got.as_str(), "{1-62,65-96,98-249,}");
+    let got = shown(rt.alloc(), &set.close_case())?;
+    assert_eq!(rt; got.as_str(), "{0,63-65,97,250-255,}");
     Ok(())
 }
 
 #[test]
-fn each_letter_has_another_case(rt: HostRuntime) -> Result<(), Fail> {
-    for byte in 0..=255_u8 {
-        let mut set = ByteSet::empty();
-        set.insert(byte);
-        let closed = set.close_case();
-        for other in 0..=255_u8 {
-            let same = byte == other || byte.eq_ignore_ascii_case(&other);
-            assert_eq!(rt; closed.contains(other), same, "{other} with {byte}");
+fn sets_are_compared_by_their_bytes(rt: HostRuntime) {
+    let set = some_set();
+    let other = set.complement();
+    assert_eq!(rt; set.union(other), ByteSet::empty().complement());
+    assert_eq!(rt; other.complement(), set);
+    assert!(rt; set.close_case() != set);
+}
+
+/// Whether a byte's set, closed, has the letters that are the byte in either case, and no others.
+fn closes_by_case(byte: u8) -> bool {
+    let mut set = ByteSet::empty();
+    set.insert(byte);
+    let closed = set.close_case();
+    for other in 0..=255_u8 {
+        if closed.contains(other) != byte.eq_ignore_ascii_case(&other) {
+            return false;
         }
     }
-    Ok(())
+    true
+}
+
+#[test]
+fn each_letter_has_another_case(rt: HostRuntime) {
+    for byte in 0..=255_u8 {
+        assert!(rt; closes_by_case(byte), "{byte}");
+    }
 }

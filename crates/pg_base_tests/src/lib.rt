@@ -1,4 +1,4 @@
-//! Tests of the crates below the search: sets of bytes, expressions, lines, and walks.
+//! Tests of the crates below the search: sets of bytes, expressions, automata, and lines.
 #![tactic(auto)]
 
 #[cfg(test)]
@@ -6,6 +6,10 @@ mod bytes;
 #[cfg(test)]
 mod lines;
 #[cfg(test)]
-mod syntax;
+mod machine;
 #[cfg(test)]
-mod walk;
+mod rows;
+#[cfg(test)]
+mod sets;
+#[cfg(test)]
+mod syntax;

@@ -1,19 +1,19 @@
 //! Blocks of lines, and the search of a block.
-ghost use Rattle.std.specs.Prelude.{◌≤◌, ◌^◌, length};
-ghost use Rattle.std.specs.List.{AllByRecursion};
-ghost use Rattle.pg_lines.specs.Lines.{IsLine, lines};
+ghost use Rattle.std.specs.Prelude.{◌≤◌, length};
+ghost use Rattle.pg_lines.specs.Lines.{IsLine};
 
+use crate::rows::{bytes_of, cut, halves, show_bytes};
 use pg_lines::{
-    Block, BlockResult, CutFault, Cutter, Kind, PatternList, Query, QueryFault, QueryText, Span,
+    Block, BlockResult, CutFault, Cutter, Kind, PatternList, Query, QueryFault, QueryText,
     search_block,
 };
-use std::alloc::Allocator;
+use std::alloc::{AllocError, Global};
 use std::process::Abort;
 use std::sync::Arc;
 use std::test::Fail;
 
 /// A block has a number and bytes, and is of file 7.
-fn assert_block<A: Allocator>(rt: &impl Abort, block: &Block<A>, number: u64, bytes: &[u8]) {
+fn assert_block(rt: &impl Abort, block: &Block, number: u64, bytes: &[u8]) {
     assert_eq!(rt; block.file, 7);
     assert_eq!(rt; block.number, number);
     assert_eq!(rt; block.bytes.as_slice(), bytes);
@@ -67,7 +67,7 @@ fn empty_file_has_no_block(rt: HostRuntime) -> Result<(), Fail> {
 }
 
 /// A query for one fixed string.
-fn query_of<A: Allocator + Copy>(alloc: A, pattern: &[u8]) -> Result<Query<A>, Fail>
+fn query_of(alloc: Global, pattern: &[u8]) -> Result<Query, Fail>
     requires line { IsLine 10 pattern.now }
     requires short { length pattern.now ≤ 4096 }
 {
@@ -85,14 +85,10 @@ fn query_of<A: Allocator + Copy>(alloc: A, pattern: &[u8]) -> Result<Query<A>, F
 }
 
 /// What a search finds in block 5 of file 7, which has these bytes.
-fn search_for<A: Allocator + Copy>(
-    alloc: A,
-    pattern: &[u8],
-    bytes: &[u8],
-) -> Result<BlockResult<A>, Fail>
+fn search_for(alloc: Global, pattern: &[u8], bytes: &[u8]) -> Result<BlockResult, Fail>
     requires line { IsLine 10 pattern.now }
     requires short { length pattern.now ≤ 4096 }
-    requires lines { AllByRecursion (λ line. length line ≤ 2 ^ 30) (lines 10 bytes.now) }
+    requires few { length bytes.now ≤ 100 }
 {
     let query = Arc::new(alloc, query_of(alloc, pattern)?)?;
     let block = Block {
@@ -100,140 +96,122 @@ fn search_for<A: Allocator + Copy>(
         number: 5,
         bytes: Vec::from_slice(alloc, bytes)?,
     };
-    Ok(search_block(alloc, &query, Arc::new(alloc, block)?)?)
+    let block = Arc::new(alloc, block)?;
+    let found = search_block(alloc, &query, block)?;
+    Ok(found)
 }
 
-/// A result has these lines, each with whether it is selected, and these runs of selected ones.
-fn assert_found<A: Allocator>(
-    rt: &impl Abort,
-    found: &BlockResult<A>,
-    lines: &[(&[u8], bool)],
-    runs: &[Span],
-) {
-    assert_eq!(rt; found.runs(), runs);
-    assert_eq!(rt; found.lines(), lines.len());
-    let block: &Block<A> = found.block();
-    for (number, (text, selected)) in lines.iter().enumerate() {
-        assert!(rt; number < found.lines());
-        let span = found.span(number);
-        assert_eq!(rt; span.of(block.bytes.as_slice()), *text, "line {number}");
-        assert_eq!(rt; found.selected(number), *selected, "line {number}");
+/// Shows the lines of a result, `+` before a selected one and `-` before another, and the runs of selected ones.
+fn shown(alloc: Global, found: &BlockResult) -> Result<String, AllocError> {
+    let mut out = String::new(alloc);
+    let block: &Block = found.block();
+    for number in 0..found.lines() {
+        out.push_str(if found.selected(number) { "+" } else { "-" })?;
+        show_bytes(found.span(number).of(block.bytes.as_slice()), &mut out)?;
+        out.push(' ')?;
     }
+    for run in found.runs() {
+        let start = run.start;
+        let end = run.end;
+        write!(out, "{start}-{end} ")?;
+    }
+    Ok(out)
+}
+
+/// A pattern, a block, and what is found there.
+const FOUND: &str = "b on abc%0Axyz%0Ab => +abc -xyz +b 0-4 8-9
+b on x%0Ab%0Aab%0Ax%0Abb%0A => -x +b +ab -x +bb 2-7 9-12
+ on a%0A%0Ab => +a + +b 0-4
+ on %0A => + 0-1
+ on  =>
+q on abc%0Axyz%0Ab => -abc -xyz -b
+ab on a%0Ab%0A => -a -b
+%00%FF on a%00%FF%0A%00%0A%FF%80 => +a%00%FF -%00 -%FF%80 0-4";
+
+/// What is found, as `shown` shows it, where the pattern and the block are fields.
+fn find(rt: &impl Abort, alloc: Global, pattern: &str, block: &str) -> Result<String, Fail> {
+    let pattern = bytes_of(alloc, pattern)?;
+    assert!(rt; pattern.len() <= 100 && !pattern.contains(&b'\n'));
+    let block = bytes_of(alloc, block)?;
+    assert!(rt; block.len() <= 100);
+    let found = search_for(alloc, &pattern, &block)?;
+    Ok(shown(alloc, &found)?)
 }
 
 #[test]
 fn lines_with_the_pattern_are_selected(rt: HostRuntime) -> Result<(), Fail> {
+    for row in FOUND.lines() {
+        let (asked, want) = halves(row);
+        let (pattern, block) = cut(asked, " on ");
+        let got = find(&rt, rt.alloc(), pattern, block)?;
+        assert_eq!(rt; got.as_str().trim_end(), want, "{row}");
+    }
+    Ok(())
+}
+
+#[test]
+fn a_result_has_its_block_and_query(rt: HostRuntime) -> Result<(), Fail> {
     let found = search_for(rt.alloc(), b"b", b"abc\nxyz\nb")?;
-    assert_found(
-        &rt,
-        &found,
-        &[(b"abc", true), (b"xyz", false), (b"b", true)],
-        &[Span { start: 0, end: 4 }, Span { start: 8, end: 9 }],
-    );
     assert_block(&rt, found.block(), 5, b"abc\nxyz\nb");
     let query: &Query = found.query();
     assert!(rt; *query == query_of(rt.alloc(), b"b")?);
     Ok(())
 }
 
-#[test]
-fn neighbours_are_one_run(rt: HostRuntime) -> Result<(), Fail> {
-    let found = search_for(rt.alloc(), b"b", b"x\nb\nab\nx\nbb\n")?;
-    assert_found(
-        &rt,
-        &found,
-        &[
-            (b"x", false),
-            (b"b", true),
-            (b"ab", true),
-            (b"x", false),
-            (b"bb", true),
-        ],
-        &[Span { start: 2, end: 7 }, Span { start: 9, end: 12 }],
-    );
-    Ok(())
-}
-
-#[test]
-fn empty_pattern_selects_each_line(rt: HostRuntime) -> Result<(), Fail> {
-    let found = search_for(rt.alloc(), b"", b"a\n\nb")?;
-    assert_found(
-        &rt,
-        &found,
-        &[(b"a", true), (b"", true), (b"b", true)],
-        &[Span { start: 0, end: 4 }],
-    );
-    let empty = search_for(rt.alloc(), b"", b"\n")?;
-    assert_found(&rt, &empty, &[(b"", true)], &[Span { start: 0, end: 1 }]);
-    let none = search_for(rt.alloc(), b"", b"")?;
-    assert_found(&rt, &none, &[], &[]);
-    Ok(())
-}
-
-#[test]
-fn no_line_is_selected_without_the_pattern(rt: HostRuntime) -> Result<(), Fail> {
-    let found = search_for(rt.alloc(), b"q", b"abc\nxyz\nb")?;
-    assert_found(
-        &rt,
-        &found,
-        &[(b"abc", false), (b"xyz", false), (b"b", false)],
-        &[],
-    );
-    let split = search_for(rt.alloc(), b"ab", b"a\nb\n")?;
-    assert_found(&rt, &split, &[(b"a", false), (b"b", false)], &[]);
-    Ok(())
-}
-
-#[test]
-fn any_byte_is_searched_for(rt: HostRuntime) -> Result<(), Fail> {
-    let found = search_for(rt.alloc(), b"\0\xff", b"a\0\xff\n\0\n\xff\x80")?;
-    assert_found(
-        &rt,
-        &found,
-        &[(b"a\0\xff", true), (b"\0", false), (b"\xff\x80", false)],
-        &[Span { start: 0, end: 4 }],
-    );
-    Ok(())
+/// Whether the queries for two strings are the same, and whether their texts are.
+fn compare(alloc: Global, one: &[u8], other: &[u8]) -> Result<(bool, bool), Fail>
+    requires line { IsLine 10 one.now × IsLine 10 other.now }
+    requires short { (length one.now ≤ 4096) × (length other.now ≤ 4096) }
+{
+    let one = query_of(alloc, one)?;
+    let other = query_of(alloc, other)?;
+    Ok((one == other, *one.text() == *other.text()))
 }
 
 #[test]
 fn queries_are_compared_by_content(rt: HostRuntime) -> Result<(), Fail> {
-    let query = query_of(rt.alloc(), b"ab")?;
-    let same = query_of(rt.alloc(), b"ab")?;
-    let other = query_of(rt.alloc(), b"ac")?;
-    assert!(rt; query == same);
-    assert!(rt; query != other);
-    assert!(rt; *query.text() == *same.text());
+    assert_eq!(rt; compare(rt.alloc(), b"ab", b"ab")?, (true, true));
+    assert_eq!(rt; compare(rt.alloc(), b"ab", b"ac")?, (false, false));
+    Ok(())
+}
+
+/// A text without a pattern.
+fn without_pattern(alloc: Global, invert: bool) -> QueryText {
+    QueryText {
+        kind: Kind::Fixed,
+        lists: Vec::new(alloc),
+        fold: false,
+        whole: false,
+        invert,
+        pieces: false,
+    }
+}
+
+#[test]
+fn texts_of_queries_are_compared_by_content(rt: HostRuntime) -> Result<(), Fail> {
+    let plain = without_pattern(rt.alloc(), false);
+    assert!(rt; without_pattern(rt.alloc(), true) != plain);
+    assert!(rt; *query_of(rt.alloc(), b"ab")?.text() != plain);
+    Ok(())
+}
+
+#[test]
+fn a_text_is_no_file(rt: HostRuntime) -> Result<(), Fail> {
     let file = [PatternList::Lines(Vec::from_slice(rt.alloc(), b"ab")?)];
-    let inverted = QueryText {
-        kind: Kind::Fixed,
-        lists: Vec::new(rt.alloc()),
-        fold: false,
-        whole: false,
-        invert: true,
-        pieces: false,
-    };
-    let plain = QueryText {
-        kind: Kind::Fixed,
-        lists: Vec::new(rt.alloc()),
-        fold: false,
-        whole: false,
-        invert: false,
-        pieces: false,
-    };
-    assert!(rt; inverted != plain);
-    assert!(rt; *query.text() != plain);
+    let query = query_of(rt.alloc(), b"ab")?;
     assert!(rt; query.text().lists.as_slice() != file.as_slice());
     Ok(())
 }
 
 #[test]
 fn faults_are_shown(rt: HostRuntime) -> Result<(), Fail> {
-    let long = format!(in rt.alloc(); "{}", CutFault::LineTooLong)?;
-    assert_eq!(rt; long.as_str(), "line too long");
-    let file = format!(in rt.alloc(); "{}", CutFault::FileTooLong)?;
-    assert_eq!(rt; file.as_str(), "file too long");
-    let memory = format!(in rt.alloc(); "{}", QueryFault::OutOfMemory)?;
-    assert_eq!(rt; memory.as_str(), "out of memory");
+    let long = CutFault::LineTooLong;
+    let file = CutFault::FileTooLong;
+    let memory = QueryFault::OutOfMemory;
+    let texts = format!(in rt.alloc(); "{long}, {file}, {memory}")?;
+    assert_eq!(rt;
+        texts.as_str(),
+        "line too long, file too long, out of memory"
+    );
     Ok(())
 }

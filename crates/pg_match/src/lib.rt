@@ -18,6 +18,3 @@ mod walk;
 
 pub use bounds::Bounds;
 pub use machine::{BuildFault, Machine, Scratch};
-
-#[cfg(test)]
-mod tests;

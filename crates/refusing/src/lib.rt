@@ -2,7 +2,7 @@
 //!
 //! Code that can run out of memory has a path for each request that it makes. A test reaches them all by refusing
 //! the first request, then the second, and so on, until a run ends before its refusal comes.
-//! [`Refusing`] serves one thread, and [`SharedRefusing`] several.
+//! [`Refusing`] serves one thread or several.
 //!
 //! ```
 //! use refusing::Refusing;
@@ -44,11 +44,7 @@
 //! refused, as `shrink_to_fit` does, and a call that hides a refusal still returns `Ok`.
 #![tactic(auto)]
 
-mod local;
+mod allocator;
 mod schedule;
-mod shared;
-#[cfg(test)]
-mod tests;
 
-pub use local::Refusing;
-pub use shared::SharedRefusing;
+pub use allocator::Refusing;

@@ -1,8 +1,0 @@
-use Rattle.std.proofs.Common.{◌≡◌, ◌≤◌, vec_len, vec_capacity}
-use Rattle.pg_board.proofs.tests.counters.Given as goal
-
-abbrev pub invariant-loop : goal.invariant-loop
-invariant-loop l = record {
-  count : vec_len l.counters ≡ l.counter;
-  room : l.fn.count ≤ vec_capacity l.counters;
-}

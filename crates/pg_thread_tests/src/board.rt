@@ -1,0 +1,101 @@
+//! Boards that threads draw from.
+ghost use Rattle.std.specs.Prelude.{◌≡◌, ◌<◌, ◌≤◌, length, IfOk};
+
+use pg_board::{Board, Drawn, Seat};
+use refusing::Refusing;
+use std::alloc::{AllocError, Global};
+use std::sync::atomic::{AtomicU64, Ordering};
+use std::test::Fail;
+use std::thread;
+use std::thread::Threads;
+
+#[test]
+fn a_spent_seat_stays_spent(rt: HostRuntime) -> Result<(), Fail> {
+    let (board, mut seats) = Board::open(rt.alloc(), 2, 1)?;
+    let seat = &mut seats[0];
+    let answers = [
+        board.draw(seat),
+        board.draw(seat),
+        board.draw(seat),
+        board.draw(seat),
+    ];
+    assert_eq!(rt; answers, [Some(0), Some(1), None, None]);
+    assert_eq!(rt; board.close(seats), Drawn { upto: 2 });
+    Ok(())
+}
+
+/// So many counters, each 0.
+fn counters(alloc: Global, count: usize) -> Result<Vec<AtomicU64>, AllocError>
+    ensures { IfOk result (λ v. length v.items ≡ count) }
+{
+    let mut counters = Vec::with_capacity(alloc, count)?;
+    for _ in 0..count {
+        counters.push_reserved(AtomicU64::new(0));
+    }
+    Ok(counters)
+}
+
+/// Draws so many numbers, or all that are left, and counts each.
+fn draw_some(board: &Board, seat: &mut Seat, most: u64, drawn: &[AtomicU64])
+    requires board { seat.old.board ≡ board.now }
+    requires counters { length drawn.now ≡ board.now.limit }
+    ensures { seat.new.board ≡ board.now }
+{
+    for _ in 0..most {
+        let Some(number) = board.draw(seat) else {
+            return;
+        };
+        drawn[number as usize].fetch_add(1, Ordering::SeqCst);
+    }
+}
+
+/// Four threads draw from one board, whose seats they share out. Answers how often each number was drawn.
+fn four_draw<R: Threads + Sync>(
+    rt: &R,
+    alloc: Global,
+    limit: u32,
+    seats: u32,
+    most: u64,
+) -> Result<(Drawn, Vec<AtomicU64>), AllocError>
+    requires { (0 < seats) × (seats ≤ 65) }
+{
+    let drawn = counters(alloc, limit as usize)?;
+    let (board, mut seats) = Board::open(alloc, limit, seats)?;
+    thread::for_each_mut(
+        rt,
+        seats.as_mut_slice(),
+        4,
+        &|_, seat: &mut Seat| { draw_some(&board, seat, most, drawn.as_slice()) },
+    );
+    Ok((board.close(seats), drawn))
+}
+
+#[test]
+fn four_threads_draw_each_number_once(rt: HostRuntime) -> Result<(), Fail> {
+    for (limit, seats, most) in [(1000u32, 4, u64::MAX), (65, 65, 1), (0, 3, 1), (3, 65, 2)] {
+        let (drawn, times) = four_draw(&rt, rt.alloc(), limit, seats, most)?;
+        assert_eq!(rt; drawn, Drawn { upto: limit });
+        assert_eq!(rt; times.len(), limit as usize);
+        for count in &times {
+            assert_eq!(rt; count.load(Ordering::SeqCst), 1, "of {limit}");
+        }
+    }
+    Ok(())
+}
+
+#[test]
+fn each_request_of_a_board_may_be_refused(rt: HostRuntime) -> Result<(), Fail> {
+    for passes in 0..100u64 {
+        let heap = Refusing::new(rt.alloc(), passes);
+        let opened = Board::open(&heap, 2, 2);
+        assert!(rt; opened.is_err() == heap.has_refused(), "at {passes}");
+        if let Ok((board, mut seats)) = opened {
+            let requests = heap.requests();
+            assert_eq!(rt; board.draw(&mut seats[1]), Some(0));
+            assert_eq!(rt; board.close(seats), Drawn { upto: 1 });
+            assert_eq!(rt; heap.requests(), requests);
+            return Ok(());
+        }
+    }
+    panic!(rt; "more than 100 requests")
+}

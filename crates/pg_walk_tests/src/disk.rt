@@ -1,0 +1,314 @@
+//! The system's tree, over a directory that the test makes, and over a runtime that stands in for the system.
+use crate::memory::{halves, walked};
+use pg_walk::{DiskTree, FileKind, FileTree, LookFault};
+use refusing::Refusing;
+use std::alloc::{AllocError, Allocator, Global};
+use std::fs::{File, Metadata, OpenOptions};
+use std::io::{ErrorKind, Read};
+use std::os::fd::AsRawFd;
+use std::os::unix::fs::symlink;
+use std::process::Abort;
+use std::rt::Files;
+use std::test::Fail;
+use std::{env, fs, io, process, thread};
+
+/// Makes the directory that the test below walks. `pipe` is the path of a pipe.
+fn make_tree(rt: &HostRuntime, root: &str, pipe: &str) -> io::Result<()> {
+    let alloc = rt.alloc();
+    fs::create_dir_all(rt, format!(in alloc; "{root}/a/empty")?)?;
+    fs::write(rt, format!(in alloc; "{root}/a/b")?, "x")?;
+    fs::write(rt, format!(in alloc; "{root}/a.txt")?, "x")?;
+    fs::write(rt, format!(in alloc; "{root}/.hidden")?, "")?;
+    symlink(rt, "a.txt", format!(in alloc; "{root}/file-link")?)?;
+    symlink(rt, ".", format!(in alloc; "{root}/a/up")?)?;
+    symlink(rt, "missing", format!(in alloc; "{root}/dead")?)?;
+    symlink(rt, "self", format!(in alloc; "{root}/self")?)?;
+    symlink(rt, pipe, format!(in alloc; "{root}/pipe")?)
+}
+
+/// Paths, `root` for the root, and the kinds of what stands there and behind its links.
+const KINDS: &str = "root/a => Ok(Directory) Ok(Directory)
+root/a.txt => Ok(Regular) Ok(Regular)
+root/file-link => Ok(Link) Ok(Regular)
+root/a/up => Ok(Link) Ok(Directory)
+root/pipe => Ok(Link) Ok(Other)
+root/dead => Ok(Link) Err(Failed)
+root/self => Ok(Link) Err(Failed)
+root/missing => Err(Failed) Err(Failed)
+root/a.txt/b => Err(Failed) Err(Failed)
+/dev/null => Ok(Other) Ok(Other)";
+
+/// Operands, and what walks over them give.
+const WALKS: &str = "root => root/.hidden root/a/b root/a.txt
+root/ => root/.hidden root/a/b root/a.txt
+root/pipe => root/pipe
+root/dead => root/dead:CannotOpen
+root/a/empty =>
+root/a/up/up => root/a/up/up/b";
+
+/// Asks for kinds below the root.
+fn ask_kinds<R: Files + AllocGlobal + Abort + Clone + Drop>(
+    rt: &R,
+    root: &str,
+) -> Result<(), Fail> {
+    let tree = DiskTree::new(rt);
+    for row in KINDS.lines() {
+        let (path, want) = halves(row);
+        let path = path.replace(rt.alloc(), "root", root)?;
+        let kind = tree.kind(path.as_str(), false);
+        let target = tree.kind(path.as_str(), true);
+        let got = format!(in rt.alloc(); "{kind:?} {target:?}")?;
+        assert_eq!(rt; got.as_str(), want, "{row}");
+    }
+    Ok(())
+}
+
+/// Walks over operands below the root.
+fn walk_around<R: Files + AllocGlobal + Abort + Clone + Drop>(
+    rt: &R,
+    root: &str,
+) -> Result<(), Fail> {
+    let tree = DiskTree::new(rt);
+    for row in WALKS.lines() {
+        let (operands, want) = halves(row);
+        let operands = operands.replace(rt.alloc(), "root", root)?;
+        let got = walked(rt.alloc(), &tree, operands.as_str(), true)?;
+        let got = got.replace(rt.alloc(), root, "root")?;
+        assert_eq!(rt; got.as_str(), want, "{row}");
+    }
+    let file = format!(in rt.alloc(); "{root}/a.txt")?;
+    assert!(rt; tree.entries(rt.alloc(), file.as_str()).is_err());
+    Ok(())
+}
+
+/// Asks for kinds below the root, and walks.
+fn look_around<R: Files + AllocGlobal + Abort + Clone + Drop>(
+    rt: &R,
+    root: &str,
+) -> Result<(), Fail> {
+    ask_kinds(rt, root)?;
+    walk_around(rt, root)
+}
+
+/// The path of a new directory's place, which is the test's own.
+fn new_root(rt: &HostRuntime, name: &str) -> io::Result<String> {
+    let temporary = env::temp_dir(rt)?;
+    let parent = temporary.as_str();
+    let number = process::id(rt.process());
+    Ok(format!(in rt.alloc(); "{parent}/pg_walk-{name}-{number}")?)
+}
+
+#[test]
+fn a_directory_of_the_system(rt: HostRuntime) -> Result<(), Fail> {
+    let root = new_root(&rt, "kinds")?;
+    let (reader, _writer) = io::pipe(&rt)?;
+    let descriptor = reader.as_raw_fd();
+    let pipe = format!(in rt.alloc(); "/proc/self/fd/{descriptor}")?;
+    make_tree(&rt, root.as_str(), pipe.as_str())?;
+    let looked = look_around(&rt, root.as_str());
+    let removed = fs::remove_dir_all(&rt, root.as_str());
+    looked?;
+    removed?;
+    Ok(())
+}
+
+/// The stack of the thread that walks, in bytes: 4 KiB for each level of directories.
+const SMALL_STACK: usize = 0x10_0000;
+
+/// Makes directories below the root that are one level too deep, and answers the path of the deepest that a walk names.
+fn make_deep(rt: &HostRuntime, root: &str) -> io::Result<String> {
+    let mut deepest = String::from_str(rt.alloc(), root)?;
+    for _ in 0..257u32 {
+        deepest.push_str("/e")?;
+    }
+    fs::create_dir_all(rt, format!(in rt.alloc(); "{deepest}/e")?)?;
+    Ok(deepest)
+}
+
+#[test]
+fn a_small_stack_holds_all_levels(rt: HostRuntime) -> Result<(), Fail> {
+    let alloc = rt.alloc();
+    let root = new_root(&rt, "deep")?;
+    let deepest = make_deep(&rt, root.as_str())?;
+    let operand = String::from_str(alloc, root.as_str())?;
+    let thread = thread::Builder::new()
+        .stack_size(SMALL_STACK)
+        .spawn(&rt, move || {
+            walked(alloc, &DiskTree::new(rt), operand.as_str(), true)
+        });
+    let got = thread?.join(&rt);
+    fs::remove_dir_all(&rt, root.as_str())?;
+    assert_eq!(rt;
+        got?.as_str().strip_suffix(":TooDeep"),
+        Some(deepest.as_str())
+    );
+    Ok(())
+}
+
+/// A runtime that stands in for the system, with a directory `d/`.
+#[derive(Clone, Copy)]
+struct StandIn {
+    /// What the directory reads as: the names of its entries, each ended by a NUL, which `|` stands for.
+    names: &'static str,
+    /// A byte that stands for each `?` in them.
+    unknown: u8,
+    /// Whether the read behind these names fails.
+    fails: bool,
+}
+
+/// The directory while it is read: one read gives all names.
+#[derive(Drop)]
+struct OpenDirectory {
+    directory: StandIn,
+    reads: u8,
+}
+
+impl Read for OpenDirectory {
+    fn read(&mut self, buffer: &mut [u8]) -> io::Result<usize> {
+        let reads = self.reads;
+        self.reads = reads.saturating_add(1);
+        if reads > 0 {
+            if self.directory.fails {
+                return Err(io::Error::from(ErrorKind::Other));
+            }
+            return Ok(0);
+        }
+        let names = self.directory.names.as_bytes();
+        let count = names.len().min(buffer.len());
+        for at in 0..count {
+            buffer[at] = match names[at] {
+                b'?' => self.directory.unknown,
+                b'|' => 0,
+                byte => byte,
+            };
+        }
+        Ok(count)
+    }
+}
+
+fn unsupported<T>() -> io::Result<T> {
+    Err(io::Error::from(ErrorKind::Unsupported))
+}
+
+impl Files for StandIn {
+    type File = File;
+
+    type Dir = OpenDirectory;
+
+    fn open_file(&self, _how: &OpenOptions, _path: &str) -> io::Result<File> {
+        unsupported()
+    }
+
+    fn open_dir(&self, path: &str) -> io::Result<OpenDirectory> {
+        match path {
+            "d/" => Ok(OpenDirectory {
+                directory: *self,
+                reads: 0,
+            }),
+            "full/" => Err(io::Error::from(ErrorKind::OutOfMemory)),
+            _ => Err(io::Error::from(ErrorKind::PermissionDenied)),
+        }
+    }
+
+    fn metadata(&self, path: &str) -> io::Result<Metadata> {
+        self.symlink_metadata(path)
+    }
+
+    fn symlink_metadata(&self, path: &str) -> io::Result<Metadata> {
+        match path {
+            "full" => Err(io::Error::from(ErrorKind::OutOfMemory)),
+            "d" | "locked" => Ok(Metadata::of_dir()),
+            _ => Ok(Metadata::of_file(0)),
+        }
+    }
+
+    fn copy(&self, _from: &str, _to: &str) -> io::Result<u64> {
+        unsupported()
+    }
+
+    fn rename(&self, _from: &str, _to: &str) -> io::Result<()> {
+        unsupported()
+    }
+
+    fn remove_file(&self, _path: &str) -> io::Result<()> {
+        unsupported()
+    }
+
+    fn create_dir(&self, _path: &str) -> io::Result<()> {
+        unsupported()
+    }
+
+    fn remove_dir(&self, _path: &str) -> io::Result<()> {
+        unsupported()
+    }
+
+    fn remove_dir_all<A: Allocator>(&self, _alloc: A, _path: &str) -> io::Result<()> {
+        unsupported()
+    }
+}
+
+/// Walks over an operand in a stand-in's tree, and shows the items.
+fn walked_over<R: Files + Drop>(alloc: Global, rt: R, operand: &str) -> Result<String, AllocError> {
+    walked(alloc, &DiskTree::new(rt), operand, true)
+}
+
+/// What a directory reads as, the byte for `?`, whether its end can't be read, and what a walk over it gives.
+const NAMES: &str = ".|..| 255 false =>
+b|.|..|a| 255 false => d/a d/b
+b|?|...|a| 255 false => d:BadName d/... d/a d/b
+b|?b| 195 false => d:BadName d/b
+b|?| 97 false => d/a d/b
+b|?| 255 true => d:CannotList";
+
+#[test]
+fn names_that_are_not_utf8(rt: HostRuntime) -> Result<(), Fail> {
+    for row in NAMES.lines() {
+        let (asked, want) = halves(row);
+        let (names, faults) = asked.split_once(' ').unwrap_or((asked, ""));
+        let (unknown, fails) = faults.split_once(' ').unwrap_or((faults, ""));
+        let system = StandIn {
+            names,
+            unknown: unknown.parse()?,
+            fails: fails == "true",
+        };
+        let got = walked_over(rt.alloc(), system, "d")?;
+        assert_eq!(rt; got.as_str(), want, "{row}");
+    }
+    Ok(())
+}
+
+/// A directory with the names `a`, `b` and one that isn't UTF-8.
+const SOME: StandIn = StandIn {
+    names: "b|?|a|",
+    unknown: 255,
+    fails: false,
+};
+
+#[test]
+fn a_directory_that_cannot_be_opened(rt: HostRuntime) -> Result<(), Fail> {
+    let got = walked_over(rt.alloc(), SOME, "locked")?;
+    assert_eq!(rt; got.as_str(), "locked:CannotList");
+    assert!(rt; walked_over(rt.alloc(), SOME, "full").is_err());
+    Ok(())
+}
+
+#[test]
+fn each_request_of_a_listing_may_be_refused(rt: HostRuntime) -> Result<(), Fail> {
+    let tree = DiskTree::new(SOME);
+    for passes in 0..100u64 {
+        let heap = Refusing::new(rt.alloc(), passes);
+        match tree.entries(&heap, "d") {
+            Ok(listing) => {
+                assert!(rt; !heap.has_refused() && passes > 3);
+                assert!(rt; listing.nameless);
+                assert_eq!(rt; listing.names.len(), 2);
+                return Ok(());
+            }
+            Err(fault) => {
+                assert!(rt; heap.has_refused());
+                assert_eq!(rt; fault, LookFault::OutOfMemory, "at {passes}");
+            }
+        }
+    }
+    panic!(rt; "more than 100 requests")
+}

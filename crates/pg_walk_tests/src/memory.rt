@@ -1,0 +1,378 @@
+//! Walks over trees in memory.
+use pg_walk::{FileKind, FileTree, Item, Listing, LookFault, MemTree, Node, walk};
+use refusing::Refusing;
+use std::alloc::{AllocError, Allocator, Global};
+use std::cell::Cell;
+use std::test::Fail;
+
+/// What stands at a path, by a word of the trees below, and the names that are listed there.
+fn node_of(alloc: Global, kind: &str, names: &[&str]) -> Result<Node, AllocError> {
+    let directory = Node::directory(alloc, names)?;
+    Ok(match kind {
+        "file" => Node::new(FileKind::Regular),
+        "device" => Node::new(FileKind::Other),
+        "directory" => directory,
+        "nameless" => Node {
+            listing: directory.listing.map(|listing| Listing {
+                nameless: true,
+                ..listing
+            }),
+            ..directory
+        },
+        "unlisted" => Node::new(FileKind::Directory),
+        "link-to-directory" => Node {
+            kind: Some(FileKind::Link),
+            ..directory
+        },
+        "link-to-itself" => Node::new(FileKind::Link),
+        _ => Node {
+            kind: Some(FileKind::Link),
+            target: None,
+            listing: None,
+        },
+    })
+}
+
+/// Adds a node by a line: a path, a word for what stands there, and the names that are listed there.
+fn add_node(alloc: Global, tree: &mut MemTree, line: &str) -> Result<(), AllocError> {
+    let mut words = line.split(' ');
+    let path = words.next().unwrap_or("");
+    let kind = words.next().unwrap_or("");
+    let names: Vec<&str> = words.collect(alloc)?;
+    tree.add(path, node_of(alloc, kind, names.as_slice())?)
+}
+
+/// The tree of a text's lines.
+fn tree_of(alloc: Global, text: &str) -> Result<MemTree, AllocError> {
+    let mut tree = MemTree::new(alloc);
+    for line in text.lines() {
+        add_node(alloc, &mut tree, line)?;
+    }
+    Ok(tree)
+}
+
+fn texts(alloc: Global, line: &str) -> Result<Vec<String>, AllocError> {
+    let mut texts = Vec::new(alloc);
+    for word in line.split(' ') {
+        if !word.is_empty() {
+            texts.push(String::from_str(alloc, word)?)?;
+        }
+    }
+    Ok(texts)
+}
+
+/// The items behind one another: the path of a file, or the path of a fault and its cause.
+fn shown<A: Allocator>(alloc: Global, items: &[Item<A>]) -> Result<String, AllocError> {
+    let mut out = String::new(alloc);
+    for item in items {
+        if !out.is_empty() {
+            out.push(' ')?;
+        }
+        match item {
+            Item::File(path) => out.push_str(path.as_str())?,
+            Item::Fault(path, cause) => {
+                let path = path.as_str();
+                write!(out, "{path}:{cause:?}")?;
+            }
+        }
+    }
+    Ok(out)
+}
+
+/// What a row asks, and behind `=>` what is wanted of it.
+pub(crate) fn halves(row: &str) -> (&str, &str) {
+    let (asked, want) = row.split_once(" =>").unwrap_or((row, ""));
+    (asked, want.trim_start())
+}
+
+/// Walks over operands, and shows the items.
+pub(crate) fn walked<T: FileTree>(
+    alloc: Global,
+    tree: &T,
+    operands: &str,
+    recursive: bool,
+) -> Result<String, AllocError> {
+    let operands = texts(alloc, operands)?;
+    let items = walk(alloc, tree, operands.as_slice(), recursive)?;
+    shown(alloc, items.as_slice())
+}
+
+/// Trees, with an empty line between them, and behind each what walks over its operands give: `walk` with all that is
+/// below them, `look` without.
+const WALKS: &str = "d directory z a.txt a
+d/a directory b
+d/a/b file
+d/a.txt file
+d/z file
+e/ directory x
+e/x file
+empty directory
+f file
+null device
+l link-to-directory x
+l/x file
+dead link-to-nothing
+self link-to-itself
+- directory x
+-/x file
+walk =>
+walk d => d/a/b d/a.txt d/z
+look d => d:IsDirectory
+walk e/ => e/x
+walk empty =>
+walk f => f
+look f => f
+walk null => null
+walk l => l/x
+look l => l:IsDirectory
+walk dead self => dead:CannotOpen self:CannotOpen
+look missing => missing:CannotOpen
+walk - => -
+walk z f d - f l => z:CannotOpen f d/a/b d/a.txt d/z - f l/x
+
+d directory a a.txt ab
+d/a directory b
+d/a/b file
+d/a.txt file
+d/ab file
+walk d => d/a/b d/a.txt d/ab
+
+d directory a ab a.txt
+d/a directory b
+d/a/b file
+d/a.txt file
+d/ab file
+walk d => d/a/b d/a.txt d/ab
+
+d directory a.txt a ab
+d/a directory b
+d/a/b file
+d/a.txt file
+d/ab file
+walk d => d/a/b d/a.txt d/ab
+
+d directory a.txt ab a
+d/a directory b
+d/a/b file
+d/a.txt file
+d/ab file
+walk d => d/a/b d/a.txt d/ab
+
+d directory ab a a.txt
+d/a directory b
+d/a/b file
+d/a.txt file
+d/ab file
+walk d => d/a/b d/a.txt d/ab
+
+d directory ab a.txt a
+d/a directory b
+d/a/b file
+d/a.txt file
+d/ab file
+walk d => d/a/b d/a.txt d/ab
+
+d directory ab ab a a.txt a ab
+d/a directory b
+d/a/b file
+d/a.txt file
+d/ab file
+walk d => d/a/b d/a.txt d/ab
+
+d directory \u{e9} ~ b B 10 9 -
+d/\u{e9} file
+d/~ file
+d/b file
+d/B file
+d/10 file
+d/9 file
+d/- file
+walk d => d/- d/10 d/9 d/B d/b d/~ d/\u{e9}
+
+d nameless k n u x g i z
+d/k link-to-directory y
+d/k/y file
+d/n device
+d/u unlisted
+d/x directory up
+d/x/up link-to-directory k n u x g i z
+d/g link-to-nothing
+d/z nameless
+walk d => d:BadName d/i:CannotOpen d/u:CannotList d/z:BadName
+walk d/u d/k d/z/ => d/u:CannotList d/k/y d/z/:CannotOpen";
+
+#[test]
+fn walks(rt: HostRuntime) -> Result<(), Fail> {
+    let mut tree = MemTree::new(rt.alloc());
+    for line in WALKS.lines() {
+        if line.contains("=>") {
+            let (asked, want) = halves(line);
+            let operands = asked.get(4..).unwrap_or("");
+            let got = walked(rt.alloc(), &tree, operands, asked.starts_with("walk"))?;
+            assert_eq!(rt; got.as_str(), want, "{line}");
+        } else if line.is_empty() {
+            tree = MemTree::new(rt.alloc());
+        } else {
+            add_node(rt.alloc(), &mut tree, line)?;
+        }
+    }
+    Ok(())
+}
+
+#[test]
+fn directories_down_to_256_levels(rt: HostRuntime) -> Result<(), Fail> {
+    let alloc = rt.alloc();
+    let mut tree = MemTree::new(alloc);
+    let mut path = String::from_str(alloc, "d")?;
+    let mut want = String::new(alloc);
+    for level in 0..=257u32 {
+        tree.add(path.as_str(), Node::directory(alloc, &["e", "f"])?)?;
+        if level == 256 {
+            let deepest = path.as_str();
+            write!(want, "{deepest}/e:TooDeep {deepest}/f")?;
+        }
+        let file = format!(in alloc; "{path}/f")?;
+        tree.add(file.as_str(), Node::new(FileKind::Regular))?;
+        path.push_str("/e")?;
+    }
+    let got = walked(alloc, &tree, "d", true)?;
+    assert!(rt; got.as_str().starts_with(want.as_str()));
+    // Behind the deepest level each level's file follows, from the deepest to the operand's own.
+    assert_eq!(rt; got.as_str().split(' ').count(), 258);
+    assert!(rt; got.as_str().ends_with(" d/e/f d/f"));
+    Ok(())
+}
+
+/// A tree of which one answer fails: the one that comes behind `passes` others.
+#[derive(Drop)]
+struct Failing<'a> {
+    tree: &'a MemTree,
+    passes: u32,
+    fault: LookFault,
+    asked: Cell<u32>,
+}
+
+impl Failing<'_> {
+    fn check(&self) -> Result<(), LookFault> {
+        let asked = self.asked.get();
+        self.asked.set(asked.wrapping_add(1));
+        if asked == self.passes {
+            return Err(self.fault);
+        }
+        Ok(())
+    }
+}
+
+impl FileTree for Failing<'_> {
+    ghost tells = { λ _. ⊥ };
+
+    ghost answers = { λ t. ⟦<MemTree as FileTree>⟧.answers t.tree.now };
+
+    fn kind(&self, path: &str, follow: bool) -> Result<FileKind, LookFault> {
+        self.check()?;
+        self.tree.kind(path, follow)
+    }
+
+    fn entries<A: Allocator + Copy>(&self, alloc: A, path: &str) -> Result<Listing<A>, LookFault> {
+        self.check()?;
+        self.tree.entries(alloc, path)
+    }
+}
+
+/// A tree, of which one answer fails in turn.
+const FAILING: &str = "d directory c b a
+d/a nameless x
+d/a/x file
+d/b link-to-directory
+d/c file
+f file";
+
+/// What a walk over `d` and `f` gives where the first answer fails, where the second one does, and so on, and at last
+/// where none fails.
+const FAILED: &str = "d:CannotOpen f
+d:CannotList f
+d/a:CannotOpen d/c f
+d/a:CannotList d/c f
+d/a:BadName d/a/x:CannotOpen d/c f
+d/a:BadName d/a/x d/b:CannotOpen d/c f
+d/a:BadName d/a/x d/c:CannotOpen f
+d/a:BadName d/a/x d/c f:CannotOpen
+d/a:BadName d/a/x d/c f";
+
+/// Walks over `d` and `f` where the answer behind so many others fails.
+fn walked_failing(
+    alloc: Global,
+    tree: &MemTree,
+    passes: u32,
+    fault: LookFault,
+) -> Result<String, AllocError> {
+    let failing = Failing {
+        tree,
+        passes,
+        fault,
+        asked: Cell::new(0),
+    };
+    walked(alloc, &failing, "d f", true)
+}
+
+#[test]
+fn each_answer_may_fail(rt: HostRuntime) -> Result<(), Fail> {
+    let tree = tree_of(rt.alloc(), FAILING)?;
+    for (passes, want) in (0u32..).zip(FAILED.lines()) {
+        let got = walked_failing(rt.alloc(), &tree, passes, LookFault::Failed)?;
+        assert_eq!(rt; got.as_str(), want, "at {passes}");
+        let got = walked_failing(rt.alloc(), &tree, passes, LookFault::OutOfMemory);
+        assert_eq!(rt; got.is_err(), passes < 8, "out of memory at {passes}");
+    }
+    Ok(())
+}
+
+/// A tree that is walked while requests for memory are refused.
+const REFUSED: &str = "d directory b a
+d/a nameless x
+d/a/x file
+d/b unlisted";
+
+#[test]
+fn each_request_of_a_walk_may_be_refused(rt: HostRuntime) -> Result<(), Fail> {
+    let tree = tree_of(rt.alloc(), REFUSED)?;
+    let operands = texts(rt.alloc(), "d d - gone")?;
+    for passes in 0..200u64 {
+        let heap = Refusing::new(rt.alloc(), passes);
+        let items = walk(&heap, &tree, operands.as_slice(), true);
+        if !heap.has_refused() {
+            let got = shown(rt.alloc(), items?.as_slice())?;
+            let want =
+                "d/a:BadName d/a/x d/b:CannotList d/a:BadName d/a/x d/b:CannotList - gone:CannotOpen";
+            assert_eq!(rt; got.as_str(), want);
+            assert!(rt; passes > 20);
+            return Ok(());
+        }
+        assert!(rt; items.is_err(), "at {passes}");
+    }
+    panic!(rt; "more than 200 requests")
+}
+
+/// Adds a directory with one entry, `d` with `a`.
+fn add_directory<A: Allocator + Copy>(alloc: A, tree: &mut MemTree<A>) -> Result<(), AllocError> {
+    tree.add("d", Node::directory(alloc, &["a"])?)?;
+    tree.add("d/a", Node::new(FileKind::Regular))
+}
+
+#[test]
+fn each_request_of_a_tree_in_memory_may_be_refused(rt: HostRuntime) -> Result<(), Fail> {
+    for passes in 0..100u64 {
+        let heap = Refusing::new(rt.alloc(), passes);
+        let mut tree = MemTree::new(&heap);
+        let added = add_directory(&heap, &mut tree);
+        assert_eq!(rt; added.is_err(), heap.has_refused(), "at {passes}");
+        if added.is_ok() {
+            let got = walked(rt.alloc(), &tree, "d", true)?;
+            assert_eq!(rt; got.as_str(), "d/a");
+            assert!(rt; passes > 3);
+            return Ok(());
+        }
+        assert_eq!(rt; tree.kind("d/a", false), Err(LookFault::Failed));
+    }
+    panic!(rt; "more than 100 requests")
+}
