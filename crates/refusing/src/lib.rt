@@ -25,7 +25,6 @@
 //!     Ok(pair)
 //! }
 //!
-//! #[test]
 //! fn each_request_may_be_refused(rt: HostRuntime) -> Result<(), Fail> {
 //!     for passes in 0..100u64 {
 //!         let heap = Refusing::new(rt.alloc(), passes);
