@@ -26,7 +26,8 @@ AllButLastEnd end [] = Unit {0}
 AllButLastEnd end (b ∷ []) = Unit {0}
 AllButLastEnd end (b ∷ c ∷ blocks) = EndsWith end b.bytes × AllButLastEnd end (c ∷ blocks)
 
--- any cutting of a file into blocks: they make up its bytes, none is empty, and all but the last end with the terminator
+-- any cutting of a file into blocks: they make up its bytes, none is empty, and all but the last end with the
+-- terminator
 pub record IsCutting (end : ℕ) (bytes : List ℕ) (blocks : List BlockData) : Type 0 where
   pub whole : joined blocks ≡ bytes
   pub some : AllByRecursion (λ b. b.bytes ≢ []) blocks

@@ -33,7 +33,8 @@ HasNoneLeft past = (rest : List ℕ) × Cuts past.end past.size past.bytes past.
 -- the blocks handed out and this one are the first blocks of the file, whatever comes behind its bytes
 pub record IsNextBlock (past : Fed) (block : BlockData) : Type 0 where
   pub numbered : AreNumbered past.file 0 (past.taken ++ block ∷ [])
-  pub cut : (later : List BlockData) × (rest : List ℕ) × Cuts past.end past.size past.bytes (past.taken ++ block ∷ later) rest
+  pub cut : (later : List BlockData) × (rest : List ℕ)
+      × Cuts past.end past.size past.bytes (past.taken ++ block ∷ later) rest
 
 -- the blocks handed out are all blocks of the file
 pub record AreAllBlocks (past : Fed) : Type 0 where

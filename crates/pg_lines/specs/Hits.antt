@@ -1,11 +1,13 @@
 -- Which spans of a line are matched, and which lines are selected (XCU grep, DESCRIPTION, -F, -v, -x).
-use Rattle.std.specs.Prelude.{◌≡◌, ◌==◌, ℕ, ◌+◌, ◌≤◌, nat_le, Bool, true, not, ◌&&◌, ◌||◌, List, length, slice_range, if◌then◌else◌}
+use Rattle.std.specs.Prelude.{◌≡◌, ◌==◌, ℕ, ◌+◌, ◌≤◌, nat_le, Bool, true, not, ◌&&◌, ◌||◌, if◌then◌else◌}
+use Rattle.std.specs.Prelude.{List, length, slice_range}
 use Rattle.std.specs.Bool.{MatchBool, OnTrue}
 use Rattle.std.specs.List.{Contains, list_any, range_with_len}
 use Rattle.std.specs.Str.{bytes_eq}
 use Rattle.pg_lines.specs.Search.{Search, patterns}
 
--- With fixed strings the span from one place of the line up to another is matched where some pattern is its text. With -x only the whole line counts.
+-- With fixed strings the span from one place of the line up to another is matched where some pattern is its text. With
+-- -x only the whole line counts.
 pub record Hit (q : Search) (line : List ℕ) (from to : ℕ) : Type 0 where
   pub ordered : from ≤ to
   pub within : to ≤ length line

@@ -19,7 +19,8 @@ pub record EndsIncomplete (end : ℕ) (bytes : List ℕ) (texts : List (List ℕ
   pub joins : texts ≡ front ++ last ∷ []
   pub whole : bytes ≡ terminated end front ++ last
 
--- These are the lines of the bytes: texts without the terminator that make up the bytes, each followed by it. The last line may lack it.
+-- These are the lines of the bytes: texts without the terminator that make up the bytes, each followed by it. The last
+-- line may lack it.
 pub record AreLines (end : ℕ) (bytes : List ℕ) (texts : List (List ℕ)) : Type 0 where
   pub each : AllByRecursion (IsLine end) texts
   pub whole : (bytes ≡ terminated end texts) ⊎ EndsIncomplete end bytes texts
@@ -36,7 +37,9 @@ start_of end texts line = length (terminated end (take line texts))
 abbrev pub IsClear : ℕ → List ℕ → ℕ → ℕ → Type 0
 IsClear end bytes from to = (i : ℕ) → from ≤ i → i < to → slice_index bytes i ≡ end → ⊥
 
--- a line's text ends at a place, and what follows the line starts at the next: behind the terminator, or where the bytes end
+-- a line's text ends at a place, and what follows the line starts at the next: behind the terminator, or where the
+-- bytes end
 abbrev pub Stops : ℕ → List ℕ → ℕ → ℕ → Type 0
 Stops end bytes place next =
-    ((next ≡ place + 1) × (place < length bytes) × (slice_index bytes place ≡ end)) ⊎ ((next ≡ place) × (place ≡ length bytes))
+    ((next ≡ place + 1) × (place < length bytes) × (slice_index bytes place ≡ end))
+        ⊎ ((next ≡ place) × (place ≡ length bytes))

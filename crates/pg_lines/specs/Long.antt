@@ -14,7 +14,8 @@ has_long end longest n (b ∷ bytes) =
     if b == end then has_long end longest 0 bytes else (nat_lt longest (n + 1) || has_long end longest (n + 1) bytes)
 
 -- the finished blocks that a piece adds behind what was left, and what is left behind them
-pub record CutsOff (end size file number : ℕ) (bytes : List ℕ) (ready ready' : List BlockData) (rest : List ℕ) (count : ℕ) : Type 0 where
+pub record CutsOff (end size file number : ℕ) (bytes : List ℕ) (ready ready' : List BlockData) (rest : List ℕ)
+    (count : ℕ) : Type 0 where
   pub blocks : List BlockData
   pub cuts : Cuts end size bytes blocks rest
   pub numbered : AreNumbered file number blocks

@@ -1,5 +1,6 @@
 -- The matched parts of a line that -o shows (GNU grep -o; XBD 9.1: the leftmost match, and of these the longest).
-use Rattle.std.specs.Prelude.{ℕ, zero, suc, ◌+◌, ◌-◌, ◌<◌, ◌≤◌, if◌then◌else◌, List, [], ◌∷◌, length, Option, None, Some}
+use Rattle.std.specs.Prelude.{ℕ, zero, suc, ◌+◌, ◌-◌, ◌<◌, ◌≤◌, if◌then◌else◌}
+use Rattle.std.specs.Prelude.{List, [], ◌∷◌, length, Option, None, Some}
 use Rattle.pg_lines.specs.Search.{Search}
 use Rattle.pg_lines.specs.Hits.{Hit, is_hit}
 
@@ -14,7 +15,8 @@ pub record IsNextPart (q : Search) (line : List ℕ) (place from to : ℕ) : Typ
 -- the parts from a place on: each goes on from the end of the one before it
 pub data AreParts (q : Search) (line : List ℕ) : ℕ → List (ℕ × ℕ) → Type 0 where
   none : {place : ℕ} → ((from to : ℕ) → IsNextPart q line place from to → ⊥) → AreParts q line place []
-  more : {place from to : ℕ} {parts : List (ℕ × ℕ)} → IsNextPart q line place from to → AreParts q line to parts → AreParts q line place ((from, to) ∷ parts)
+  more : {place from to : ℕ} {parts : List (ℕ × ℕ)} → IsNextPart q line place from to → AreParts q line to parts →
+      AreParts q line place ((from, to) ∷ parts)
 
 -- The same by looking at each span.
 
@@ -30,7 +32,8 @@ at_or_later from None later = later
 -- the next part among those that start at one of the n places from a place on
 abbrev pub next_part : Search → List ℕ → ℕ → ℕ → Option (ℕ × ℕ)
 next_part q line from zero = None
-next_part q line from (suc n) = at_or_later from (longest q line from (length line - from)) (next_part q line (from + 1) n)
+next_part q line from (suc n) =
+    at_or_later from (longest q line from (length line - from)) (next_part q line (from + 1) n)
 
 abbrev pub behind : Option (ℕ × ℕ) → (ℕ → List (ℕ × ℕ)) → List (ℕ × ℕ)
 behind None later = []

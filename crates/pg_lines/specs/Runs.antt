@@ -1,5 +1,6 @@
 -- Where the selected lines of some bytes stand.
-use Rattle.std.specs.Prelude.{◌≡◌, ◌≢◌, ℕ, ◌+◌, ◌⊎◌, Bool, true, false, ◌&&◌, nat_le, nat_lt, List, [], ◌∷◌, ◌++◌, length}
+use Rattle.std.specs.Prelude.{◌≡◌, ◌≢◌, ℕ, ◌+◌, ◌⊎◌, Bool, true, false, ◌&&◌, nat_le, nat_lt}
+use Rattle.std.specs.Prelude.{List, [], ◌∷◌, ◌++◌, length}
 use Rattle.std.specs.List.{AllByRecursion, list_any}
 use Rattle.pg_lines.specs.Lines.{lines, AreWhole}
 use Rattle.pg_lines.specs.Search.{Search, terminator}
@@ -10,7 +11,8 @@ use Rattle.pg_lines.specs.declared.span.Span.{Span}
 abbrev pub AllLines : Search → Bool → List ℕ → Type 0
 AllLines q selected bytes = AllByRecursion (λ l. selects q l ≡ selected) (lines (terminator q) bytes)
 
--- The first run of selected lines in bytes that stand from a place on: before it are whole lines of which none is selected.
+-- The first run of selected lines in bytes that stand from a place on: before it are whole lines of which none is
+-- selected.
 -- Its last line may be incomplete where the bytes end with it.
 pub record IsNextRun (q : Search) (at : ℕ) (bytes : List ℕ) (run : Span) : Type 0 where
   pub gap : List ℕ

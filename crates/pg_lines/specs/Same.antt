@@ -51,9 +51,11 @@ lists_sound (x ∷ xs) (y ∷ ys) e =
 
 lists_complete : (a : List Patterns) → pointwise same_patterns a a ≡ true
 lists_complete [] = refl
-lists_complete (x ∷ xs) = and_from (same_patterns x x) (pointwise same_patterns xs xs) (patterns_equal.complete x) (lists_complete xs)
+lists_complete (x ∷ xs) =
+    and_from (same_patterns x x) (pointwise same_patterns xs xs) (patterns_equal.complete x) (lists_complete xs)
 
-search_with : (a b : Search) → a.kind ≡ b.kind → a.lists ≡ b.lists → a.fold ≡ b.fold → a.whole ≡ b.whole → a.invert ≡ b.invert → a.pieces ≡ b.pieces → a ≡ b
+search_with : (a b : Search) → a.kind ≡ b.kind → a.lists ≡ b.lists → a.fold ≡ b.fold → a.whole ≡ b.whole →
+    a.invert ≡ b.invert → a.pieces ≡ b.pieces → a ≡ b
 search_with a b kind lists fold whole invert pieces =
     let K : Kind → Search = λ x. record a { kind = x } in
     let L : List Patterns → Search = λ x. record a { kind = b.kind; lists = x } in
@@ -82,7 +84,11 @@ search_sound a b e =
 search_complete : (a : Search) → same_search a a ≡ true
 unfolding same_search
 search_complete a =
-    and_from _ _ (and_from _ _ (and_from _ _ (and_from _ _ (and_from _ _ (eq-eqb (kind_number a.kind) _ refl) (lists_complete a.lists)) (beq_complete a.fold)) (beq_complete a.whole)) (beq_complete a.invert)) (beq_complete a.pieces)
+    let p1 = and_from _ _ (eq-eqb (kind_number a.kind) _ refl) (lists_complete a.lists) in
+    let p2 = and_from _ _ p1 (beq_complete a.fold) in
+    let p3 = and_from _ _ p2 (beq_complete a.whole) in
+    let p4 = and_from _ _ p3 (beq_complete a.invert) in
+    and_from _ _ p4 (beq_complete a.pieces)
 
 pub search_equal : TestsEqual same_search
 search_equal = record { sound = search_sound; complete = search_complete }

@@ -1,5 +1,6 @@
 //! Cuts a file that comes in pieces into blocks of whole lines.
-ghost use Rattle.std.specs.Prelude.{◌≡◌, ℕ, ◌+◌, ◌<◌, ◌≤◌, ◌^◌, ◌↔◌, ◌∷◌, ◌++◌, [], IfSome, IfNone, IfOk, OnOk, OnErr, IsErrOf, Some, None, Option, length, take, drop, if◌then◌else◌};
+ghost use Rattle.std.specs.Prelude.{◌≡◌, ℕ, ◌+◌, ◌<◌, ◌≤◌, ◌^◌, ◌↔◌, ◌∷◌, ◌++◌, [], IfSome, IfNone, IfOk, OnOk, OnErr};
+ghost use Rattle.std.specs.Prelude.{IsErrOf, Some, None, Option, length, take, drop, if◌then◌else◌};
 ghost use Rattle.pg_lines.specs.Blocks.{IsFinished, IsUnfinished, Cuts, AreNumbered};
 ghost use Rattle.pg_lines.specs.Long.{has_long, open_from, CutsOff};
 ghost use Rattle.pg_lines.specs.declared.cutter.CutFault.TheVariants.{OutOfMemory};
@@ -150,7 +151,8 @@ fn cut_off<A: Allocator + Copy>(
     requires number { number + length piece.now < 2 ^ 63 }
     requires end { (0 < end) × (end ≤ length piece.now) }
     requires finished { IsFinished 10 size (rest.old.items ++ take end piece.now) }
-    ensures ok { IfOk result (CutsOff 10 size file number (rest.old.items ++ piece.now) ready.old.items ready.new.items rest.new.items) }
+    ensures ok { IfOk result
+        (CutsOff 10 size file number (rest.old.items ++ piece.now) ready.old.items ready.new.items rest.new.items) }
     ensures few { IfOk result (λ count. count + length rest.new.items ≤ length rest.old.items + length piece.now) }
     ensures err { OnErr result ((rest.new.items ≡ rest.old.items) × (ready.new.items ≡ ready.old.items)) }
 {
@@ -182,7 +184,8 @@ fn cut_behind<A: Allocator + Copy>(
     requires size { (0 < size) × (size ≤ 2 ^ 24) }
     requires number { number + length piece.now < 2 ^ 63 }
     requires unfinished { IsUnfinished 10 size rest.old.items }
-    ensures ok { IfOk result (CutsOff 10 size file number (rest.old.items ++ piece.now) ready.old.items ready.new.items rest.new.items) }
+    ensures ok { IfOk result
+        (CutsOff 10 size file number (rest.old.items ++ piece.now) ready.old.items ready.new.items rest.new.items) }
     ensures few { IfOk result (λ count. count + length rest.new.items ≤ length rest.old.items + length piece.now) }
     ensures err { OnErr result ((rest.new.items ≡ rest.old.items) × (ready.new.items ≡ ready.old.items)) }
 {
@@ -219,7 +222,8 @@ pub struct Cutter<A: Allocator + Copy = Global> {
 }
 
 impl<A: Allocator + Copy> Cutter<A> {
-    ghost use Rattle.pg_lines.specs.Cutter.{Fed, Stands, IsDrained, unfed, fed, handed, HasNoneLeft, IsNextBlock, AreAllBlocks, HasLongLine, waiting};
+    ghost use Rattle.pg_lines.specs.Cutter.{Fed, Stands, IsDrained, unfed, fed, handed, HasNoneLeft, IsNextBlock};
+    ghost use Rattle.pg_lines.specs.Cutter.{AreAllBlocks, HasLongLine, waiting};
     ghost use Rattle.pg_lines.specs.declared.cutter.CutFault.TheVariants.{LineTooLong, FileTooLong};
 
     /// A cutter for the file of a number, which was fed nothing.
@@ -257,7 +261,8 @@ impl<A: Allocator + Copy> Cutter<A> {
         ensures file { (past : Fed) → Stands self.old past →
             IsErrOf result FileTooLong ↔ (2 ^ 62 < length past.bytes + length piece.now) }
         ensures line { (past : Fed) → Stands self.old past →
-            IsErrOf result LineTooLong ↔ ((length past.bytes + length piece.now ≤ 2 ^ 62) × HasLongLine (fed past piece.now)) }
+            IsErrOf result LineTooLong
+                ↔ ((length past.bytes + length piece.now ≤ 2 ^ 62) × HasLongLine (fed past piece.now)) }
     {
         if piece.len() as u64 > MAX_FILE - self.total {
             return Err(CutFault::FileTooLong);

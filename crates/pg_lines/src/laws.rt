@@ -9,7 +9,8 @@ ghost use Rattle.pg_lines.specs.Blocks.{BlockData, IsCut, IsCutting, AreNumbered
 /// Some bytes have lines, and no others than these.
 pub fn lines_are_one()
     ensures exist { (end : ℕ) (bytes : List ℕ) → AreLines end bytes (lines end bytes) }
-    ensures one { (end : ℕ) (bytes : List ℕ) (texts : List (List ℕ)) → AreLines end bytes texts → texts ≡ lines end bytes }
+    ensures one { (end : ℕ) (bytes : List ℕ) (texts : List (List ℕ)) → AreLines end bytes texts →
+        texts ≡ lines end bytes }
 {}
 
 /// The test of a line decides whether it is selected.
@@ -25,7 +26,8 @@ pub fn parts_are_one()
 
 /// The cut of a file is a cutting of it, and two cuts by a size are the same.
 pub fn cuts_are_one()
-    ensures cutting { (end size : ℕ) (bytes : List ℕ) (blocks : List BlockData) → IsCut end size bytes blocks → IsCutting end bytes blocks }
+    ensures cutting { (end size : ℕ) (bytes : List ℕ) (blocks : List BlockData) → IsCut end size bytes blocks →
+        IsCutting end bytes blocks }
     ensures one { (end size file : ℕ) (bytes : List ℕ) (blocks others : List BlockData)
         → IsCut end size bytes blocks → AreNumbered file 0 blocks
         → IsCut end size bytes others → AreNumbered file 0 others → others ≡ blocks }

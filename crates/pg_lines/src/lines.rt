@@ -12,7 +12,8 @@ pub(crate) fn line_end(bytes: &[u8], start: usize) -> usize
     requires { start < length bytes.now }
     ensures low { start ≤ result }
     ensures high { result ≤ length bytes.now }
-    ensures line { lines 10 (drop start bytes.now) ≡ slice_range bytes.now start result ∷ lines 10 (drop (result + 1) bytes.now) }
+    ensures line { lines 10 (drop start bytes.now)
+        ≡ slice_range bytes.now start result ∷ lines 10 (drop (result + 1) bytes.now) }
 {
     match memchr(NEWLINE, &bytes[start..]) {
         Some(len) => start + len,
@@ -36,7 +37,8 @@ pub(crate) fn begin_of_line(bytes: &[u8], place: usize) -> usize
 /// Where the line that a place is in ends, with its terminator.
 pub(crate) fn end_of_line(bytes: &[u8], place: usize) -> usize
     requires { place ≤ length bytes.now }
-    ensures { (text_end : ℕ) × (place ≤ text_end) × IsClear 10 bytes.now place text_end × Stops 10 bytes.now text_end result }
+    ensures { (text_end : ℕ) × (place ≤ text_end) × IsClear 10 bytes.now place text_end
+        × Stops 10 bytes.now text_end result }
 {
     match memchr(NEWLINE, &bytes[place..]) {
         Some(len) => place + len + 1,

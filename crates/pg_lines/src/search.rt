@@ -1,5 +1,6 @@
 //! The search of one block.
-ghost use Rattle.std.specs.Prelude.{◌≡◌, ◌+◌, ◌<◌, ◌≤◌, ◌^◌, ◌++◌, ◌∷◌, [], IfOk, IfSome, IfNone, OnOk, length, drop, false, nat_lt, if◌then◌else◌};
+ghost use Rattle.std.specs.Prelude.{◌≡◌, ◌+◌, ◌<◌, ◌≤◌, ◌^◌, ◌++◌, ◌∷◌, [], IfOk, IfSome, IfNone, OnOk, length, drop};
+ghost use Rattle.std.specs.Prelude.{false, nat_lt, if◌then◌else◌};
 ghost use Rattle.std.specs.Arc.{arc_value};
 ghost use Rattle.std.specs.List.{AllByRecursion};
 ghost use Rattle.pg_lines.specs.Lines.{lines};
@@ -18,7 +19,8 @@ use std::sync::Arc;
 /// The first line at or behind a place that holds the needle, with its terminator.
 fn next_line(needle: &Finder<'_>, bytes: &[u8], at: usize) -> Option<Span>
     requires { at ≤ length bytes.now }
-    ensures within { IfSome result (λ line. (at ≤ line.start) × (line.start < line.end) × (line.end ≤ length bytes.now)) }
+    ensures within { IfSome result (λ line. (at ≤ line.start) × (line.start < line.end)
+        × (line.end ≤ length bytes.now)) }
     ensures some { (q : Search) → IsCompiled q needle.now → IfSome result (IsNextRun q at (drop at bytes.now)) }
     ensures none { (q : Search) → IsCompiled q needle.now → IfNone result (AllLines q false (drop at bytes.now)) }
 {
@@ -88,7 +90,8 @@ pub fn search_block<A: Allocator>(
     query: &Arc<Query<A>, A>,
     block: Arc<Block<A>, A>,
 ) -> Result<BlockResult<A>, AllocError>
-    requires { AllByRecursion (λ line. length line ≤ 2 ^ 30) (lines (terminator (arc_value query.now)) (arc_value block).bytes) }
+    requires { AllByRecursion (λ line. length line ≤ 2 ^ 30)
+        (lines (terminator (arc_value query.now)) (arc_value block).bytes) }
     ensures { IfOk result (λ found. found ≡ record { query = arc_value query.now; block = arc_value block }) }
 {
     let query = Arc::try_clone(query)?;

@@ -1,5 +1,6 @@
 -- What a store in memory holds, and what it has left of the open file.
-use Rattle.std.specs.Prelude.{◌≡◌, ℕ, nat_eq, min, List, [], ◌∷◌, map, length, take, drop, Option, Some, None, Result, Ok, Err, slice_get, if◌then◌else◌, option_and_then, option_map}
+use Rattle.std.specs.Prelude.{◌≡◌, ℕ, nat_eq, min, List, [], ◌∷◌, map, length, take, drop, Option, Some, None, Result}
+use Rattle.std.specs.Prelude.{Ok, Err, slice_get, if◌then◌else◌, option_and_then, option_map}
 use Rattle.std.specs.String.{string_bytes}
 use lib.Pointwise.{pointwise}
 use Rattle.pg_run.specs.declared.mem_store.Ending.{Ending}
@@ -36,10 +37,12 @@ left_of fs place at = option_map (λ f. behind at f.1) (option_and_then (slice_g
 abbrev pub left : MemStore → Option Content
 left store = left_of (files store) store.open store.at
 
--- A read with room for so many bytes gives as many of those that are left as it may, and into a buffer. It fails where no file is open, or nothing is left of one that fails.
+-- A read with room for so many bytes gives as many of those that are left as it may, and into a buffer. It fails where
+-- no file is open, or nothing is left of one that fails.
 abbrev pub Takes : {E : Type 0} → Option Content → Option Content → ℕ → List ℕ → Result ℕ E → Type 0
 Takes None after room into (Ok count) = ⊥
 Takes None after room into (Err _) = after ≡ None
 Takes (Some content) after room into (Ok count) =
-    (count ≡ min (length content.bytes) room) × (take count into ≡ take count content.bytes) × (after ≡ Some (behind count content))
+    (count ≡ min (length content.bytes) room) × (take count into ≡ take count content.bytes)
+        × (after ≡ Some (behind count content))
 Takes (Some content) after room into (Err _) = (content.bytes ≡ []) × (content.ending ≡ Fails) × (after ≡ Some content)

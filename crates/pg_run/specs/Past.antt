@@ -1,7 +1,9 @@
 -- What a store gave.
 use Rattle.std.specs.Prelude.{◌≡◌, ◌≢◌, ℕ, ◌<◌, ◌≤◌, List, [], ◌++◌, length, take, Bool, true, false, Result, Ok, Err}
+use Rattle.std.specs.Result.{MatchResult}
 
--- the path that was opened last, the bytes that its file gave, how often a file could not be opened, how often a read met the end, and how often one failed
+-- the path that was opened last, the bytes that its file gave, how often a file could not be opened, how often a read
+-- met the end, and how often one failed
 pub record Past : Type 0 where
   pub path : List ℕ
   pub given : List ℕ
@@ -30,6 +32,10 @@ pub record FailsToRead (past past' : Past) : Type 0 where
   pub failure : past.failures < past'.failures
   pub no_miss : past'.misses ≡ past.misses
   pub no_end : past'.ends ≡ past.ends
+
+-- reads of a file went on to its end, or to one that failed, by the answer
+abbrev pub EndsOrFails : {T E : Type 0} → Past → Past → Result T E → Type 0
+EndsOrFails past past' end = MatchResult end (λ _. MeetsTheEnd past past') (λ _. FailsToRead past past')
 
 -- a file could not be opened
 pub record Misses (past past' : Past) : Type 0 where

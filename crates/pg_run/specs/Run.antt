@@ -11,7 +11,7 @@ use Rattle.pg_lines.specs.declared.cutter.CutFault.{CutFault}
 use Rattle.pg_lines.specs.declared.cutter.CutFault.TheVariants.{OutOfMemory as NoMemory, LineTooLong, FileTooLong}
 use Rattle.pg_seq.specs.Bare.{bare, bare_rows}
 use Rattle.pg_seq.specs.Plan.{announced, is_open, opened, last_blocks, entries_of}
-use Rattle.pg_seq.specs.Output.{Read, Running, Ended, output}
+use Rattle.pg_seq.specs.Output.{Read, Running, Ended, output, status}
 use Rattle.pg_seq.specs.History.{Past, plan, taken_of, all_taken}
 use Rattle.pg_seq.specs.Standing.{Stands}
 use Rattle.pg_run.specs.declared.fault.RunFault.{RunFault}
@@ -31,7 +31,8 @@ IsTooLong file = Any (λ line. 2 ^ 30 < length line) (lines 10 file) ⊎ (2 ^ 62
 abbrev pub rows_of : Search → List BlockData → List ℕ
 rows_of q blocks = flat_map (λ b. bare_rows q b.bytes) blocks
 
--- the block may follow on these: they end with newlines, it isn't empty, its number is their count, and its lines and the file aren't too long
+-- the block may follow on these: they end with newlines, it isn't empty, its number is their count, and its lines and
+-- the file aren't too long
 pub record IsNextBlock (blocks : List BlockData) (block : BlockData) : Type 0 where
   pub file : block.file ≡ 0
   pub number : block.number ≡ length blocks
@@ -41,7 +42,8 @@ pub record IsNextBlock (blocks : List BlockData) (block : BlockData) : Type 0 wh
   pub small : length (joined blocks) + length block.bytes ≤ 2 ^ 62
 
 -- The searcher's sequencer has an open file of these blocks, took the results of all of them, and wrote this text.
-pub record Holds {A : Type 0} (searcher : Searcher A) (q : Search) (blocks : List BlockData) (text : List ℕ) : Type 0 where
+pub record Holds {A : Type 0} (searcher : Searcher A) (q : Search) (blocks : List BlockData) (text : List ℕ)
+    : Type 0 where
   pub past : Past
   pub stands : Stands searcher.sequencer past
   pub same : arc_value searcher.query ≡ q
@@ -54,6 +56,20 @@ pub record Holds {A : Type 0} (searcher : Searcher A) (q : Search) (blocks : Lis
   pub taken : all_taken (taken_of past.query past.events) (plan past) ≡ true
   pub written : past.written ≡ text
   pub failed : past.failed ≡ false
+
+-- The rows of all these blocks were written, and the block may follow.
+abbrev pub IsReadyFor : {A : Type 0} → Searcher A → Search → List BlockData → BlockData → Type 0
+IsReadyFor searcher q blocks block = Holds searcher q blocks (rows_of q blocks) × IsNextBlock blocks block
+
+-- The rows of these blocks were written, and all but those of the block, which is the last.
+abbrev pub HoldsUnwritten : {A : Type 0} → Searcher A → Search → List BlockData → BlockData → Type 0
+HoldsUnwritten searcher q blocks block = Holds searcher q (blocks ++ block ∷ []) (rows_of q blocks)
+
+-- The rows of the blocks and of the last one were written, the latter to a sink that had taken this before.
+abbrev pub HasAdded : {A : Type 0} → Searcher A → Search → List BlockData → BlockData → List ℕ → List ℕ → Type 0
+HasAdded searcher q blocks block before after =
+    Holds searcher q (blocks ++ block ∷ []) (rows_of q (blocks ++ block ∷ []))
+        × (after ≡ before ++ bare_rows q block.bytes)
 
 -- what is searched for in which file, and what the sink took before
 pub record Aim : Type 0 where
@@ -69,8 +85,14 @@ aimed aim file = record aim { file = file }
 abbrev pub output_of : Search → List ℕ → List ℕ
 output_of q file = output q bare (Read [] file Ended ∷ [])
 
--- The cutter was fed all of the file but this rest. The blocks that it gave were searched, and the sink took their rows.
-pub record Reads {A : Type 0} (cutter : Cutter A) (searcher : Searcher A) (aim : Aim) (rest after : List ℕ) : Type 0 where
+-- the status that belongs to it
+abbrev pub status_of : Search → List ℕ → ℕ
+status_of q file = status q bare (Read [] file Ended ∷ [])
+
+-- The cutter was fed all of the file but this rest. The blocks that it gave were searched, and the sink took their
+-- rows.
+pub record Reads {A : Type 0} (cutter : Cutter A) (searcher : Searcher A) (aim : Aim) (rest after : List ℕ)
+    : Type 0 where
   pub fed : Fed
   pub stands : CutterStands cutter fed
   pub number : fed.file ≡ 0

@@ -1,5 +1,6 @@
 //! Files in memory, for tests.
-ghost use Rattle.std.specs.Prelude.{◌≡◌, ◌≤◌, ◌+◌, ◌^◌, ◌⊎◌, ◌++◌, ◌∷◌, [], map, min, length, is_some, option_and_then, option_map, slice_get, IfOk, IfSome, OnOk, OnErr};
+ghost use Rattle.std.specs.Prelude.{◌≡◌, ◌≤◌, ◌+◌, ◌^◌, ◌⊎◌, ◌++◌, ◌∷◌, [], map, min, length, is_some, option_and_then};
+ghost use Rattle.std.specs.Prelude.{option_map, slice_get, IfOk, IfSome, OnOk, OnErr};
 ghost use Rattle.pg_run.specs.Past.{unopened, Opens, Reads};
 
 use crate::past::StorePast;
@@ -58,7 +59,8 @@ impl MemStore {
     ///
     /// `AllocError` where a request for memory was refused. No file is added then.
     pub fn add(&mut self, path: &str, bytes: &[u8], ending: Ending) -> Result<(), AllocError>
-        ensures ok { OnOk result (files self.new ≡ files self.old ++ (path.now, record { bytes = bytes.now; ending = ending }) ∷ []) }
+        ensures ok { OnOk result
+            (files self.new ≡ files self.old ++ (path.now, record { bytes = bytes.now; ending = ending }) ∷ []) }
         ensures err { OnErr result (files self.new ≡ files self.old) }
     {
         let file = MemFile {
@@ -82,7 +84,8 @@ impl MemStore {
 
     /// The place of the first file at a path.
     fn place_of(&self, path: &str) -> Option<usize>
-        ensures place { option_map (λ f. f.1) (option_and_then (slice_get (files self.now)) result) ≡ file_at (files self.now) path.now }
+        ensures place { option_map (λ f. f.1) (option_and_then (slice_get (files self.now)) result)
+            ≡ file_at (files self.now) path.now }
         ensures found { is_some result ≡ is_some (file_at (files self.now) path.now) }
     {
         for (place, file) in self.files.iter().enumerate() {
@@ -95,7 +98,8 @@ impl MemStore {
 
     /// What the file at a place has left behind its first bytes.
     fn left_of(files: &[MemFile], place: Option<usize>, at: usize) -> Option<(&[u8], Ending)>
-        ensures left { option_map (λ left. record { bytes = left.0.now; ending = left.1 }) result ≡ left_of (map stored files.now) place at }
+        ensures left { option_map (λ left. record { bytes = left.0.now; ending = left.1 }) result
+            ≡ left_of (map stored files.now) place at }
         ensures room { IfSome result (λ left. (left.0.now ≡ []) ⊎ (at + length left.0.now ≤ 2 ^ 63)) }
     {
         let file = files.get(place?)?;
@@ -131,7 +135,8 @@ impl Store for MemStore {
 
     fn read(&mut self, into: &mut [u8]) -> Result<usize, ReadFault>
         ensures reads { Reads into.new self.old.past self.new.past result }
-        ensures takes { Takes (left self.old) (left self.new) (min (length into.old) self.old.read_limit) into.new result }
+        ensures takes {
+            Takes (left self.old) (left self.new) (min (length into.old) self.old.read_limit) into.new result }
         ensures files { files self.new ≡ files self.old }
     {
         let Some((rest, ending)) = MemStore::left_of(&self.files, self.open, self.at) else {

@@ -1,12 +1,11 @@
 //! The run of one file.
-ghost use Rattle.std.specs.Prelude.{◌≡◌, ℕ, ◌<◌, ◌≤◌, ◌^◌, ◌∷◌, ◌++◌, List, [], false, length, IfOk, OnOk, OnErr, IsErrOf, MatchResult};
+ghost use Rattle.std.specs.Prelude.{◌≡◌, ℕ, ◌<◌, ◌≤◌, ◌^◌, ◌++◌, List, [], false, length};
+ghost use Rattle.std.specs.Prelude.{IfOk, OnOk, OnErr, IsErrOf};
 ghost use Rattle.std.specs.Arc.{arc_value};
 ghost use Rattle.pg_lines.specs.Cutter.{IsDrained};
-ghost use Rattle.pg_seq.specs.Bare.{bare};
-ghost use Rattle.pg_seq.specs.Output.{Read, Ended, status};
 ghost use Rattle.pg_seq.specs.Sink.{TakesPart};
-ghost use Rattle.pg_run.specs.Past.{MeetsTheEnd, FailsToRead};
-ghost use Rattle.pg_run.specs.Run.{Aim, Reads, HasSearched, IsTooLong, aimed, output_of};
+ghost use Rattle.pg_run.specs.Past.{EndsOrFails};
+ghost use Rattle.pg_run.specs.Run.{Aim, Reads, HasSearched, IsTooLong, aimed, output_of, status_of};
 ghost use Rattle.pg_run.specs.declared.fault.RunFault.TheVariants.{Sink as RunSink, TooLong};
 
 use crate::fault::RunFault;
@@ -56,18 +55,20 @@ fn search_all<A: Allocator + Copy, S: Store, W: Sink>(
     buffer: &mut [u8],
     out: &mut W,
 ) -> Result<Result<(), ReadFault>, RunFault>
-    requires { (aim : Aim) × Reads cutter.old searcher.old aim [] (W.taken out.old) × (aim.file ≡ (S.past store.old).given) × IsDrained cutter.old × (0 < length buffer.old) }
-    ensures ok { (aim : Aim) → Reads cutter.old searcher.old aim [] (W.taken out.old) → aim.file ≡ (S.past store.old).given →
+    requires { (aim : Aim) × Reads cutter.old searcher.old aim [] (W.taken out.old)
+        × (aim.file ≡ (S.past store.old).given) × IsDrained cutter.old × (0 < length buffer.old) }
+    ensures ok { (aim : Aim) → Reads cutter.old searcher.old aim [] (W.taken out.old) →
+        aim.file ≡ (S.past store.old).given →
         OnOk result (Reads cutter.new searcher.new (aimed aim (S.past store.new).given) [] (W.taken out.new)) }
     ensures drained { OnOk result (IsDrained cutter.new) }
-    ensures part { (aim : Aim) → Reads cutter.old searcher.old aim [] (W.taken out.old) → aim.file ≡ (S.past store.old).given →
+    ensures part { (aim : Aim) → Reads cutter.old searcher.old aim [] (W.taken out.old) →
+        aim.file ≡ (S.past store.old).given →
         OnErr result (TakesPart (output_of aim.query (S.past store.new).given) aim.before (W.taken out.new)) }
     ensures cause { IsErrOf result RunSink → W.failures out.old < W.failures out.new }
     ensures long { IsErrOf result TooLong → IsTooLong (S.past store.new).given }
     ensures no_failure { OnOk result (W.failures out.new ≡ W.failures out.old) }
     ensures never_falls { W.failures out.old ≤ W.failures out.new }
-    ensures read { IfOk result (λ end. MatchResult end
-        (λ _. MeetsTheEnd (S.past store.old) (S.past store.new)) (λ _. FailsToRead (S.past store.old) (S.past store.new))) }
+    ensures read { IfOk result (EndsOrFails (S.past store.old) (S.past store.new)) }
     ensures path { (S.past store.new).path ≡ (S.past store.old).path }
     ensures no_miss { (S.past store.new).misses ≡ (S.past store.old).misses }
 {
@@ -90,7 +91,8 @@ fn search_last<A: Allocator + Copy, W: Sink>(
     out: &mut W,
 ) -> Result<(), RunFault>
     requires { (aim : Aim) × Reads cutter searcher.old aim [] (W.taken out.old) × IsDrained cutter }
-    ensures ok { (aim : Aim) → Reads cutter searcher.old aim [] (W.taken out.old) → OnOk result (HasSearched searcher.new aim (W.taken out.new)) }
+    ensures ok { (aim : Aim) → Reads cutter searcher.old aim [] (W.taken out.old) →
+        OnOk result (HasSearched searcher.new aim (W.taken out.new)) }
     ensures part { (aim : Aim) → Reads cutter searcher.old aim [] (W.taken out.old) →
         OnErr result (TakesPart (output_of aim.query aim.file) aim.before (W.taken out.new)) }
     ensures cause { IsErrOf result RunSink → W.failures out.old < W.failures out.new }
@@ -126,11 +128,12 @@ pub fn first_run<A: Allocator + Copy, S: Store, W: Sink>(
     requires query { (arc_value query.now).pieces ≡ false }
     requires block { (1 ≤ block) × (block ≤ 2 ^ 24) }
     requires unread { (S.past store.old).given ≡ [] }
-    ensures output { OnOk result (W.taken out.new ≡ W.taken out.old ++ output_of (arc_value query.now) (S.past store.new).given) }
-    ensures status { IfOk result (λ end. IfOk end (λ s. s ≡ status (arc_value query.now) bare (Read [] (S.past store.new).given Ended ∷ []))) }
-    ensures read { IfOk result (λ end. MatchResult end
-        (λ _. MeetsTheEnd (S.past store.old) (S.past store.new)) (λ _. FailsToRead (S.past store.old) (S.past store.new))) }
-    ensures part { OnErr result (TakesPart (output_of (arc_value query.now) (S.past store.new).given) (W.taken out.old) (W.taken out.new)) }
+    ensures output { OnOk result
+        (W.taken out.new ≡ W.taken out.old ++ output_of (arc_value query.now) (S.past store.new).given) }
+    ensures status { IfOk result (λ end. IfOk end (λ s. s ≡ status_of (arc_value query.now) (S.past store.new).given)) }
+    ensures read { IfOk result (EndsOrFails (S.past store.old) (S.past store.new)) }
+    ensures part { OnErr result
+        (TakesPart (output_of (arc_value query.now) (S.past store.new).given) (W.taken out.old) (W.taken out.new)) }
     ensures cause { IsErrOf result RunSink → W.failures out.old < W.failures out.new }
     ensures long { IsErrOf result TooLong → IsTooLong (S.past store.new).given }
     ensures no_failure { OnOk result (W.failures out.new ≡ W.failures out.old) }

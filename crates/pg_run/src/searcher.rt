@@ -3,10 +3,9 @@ ghost use Rattle.std.specs.Prelude.{◌≡◌, ℕ, ◌<◌, ◌≤◌, ◌∷�
 ghost use Rattle.std.specs.Arc.{arc_value};
 ghost use Rattle.pg_lines.specs.Search.{Search};
 ghost use Rattle.pg_lines.specs.Blocks.{BlockData, joined};
-ghost use Rattle.pg_seq.specs.Bare.{bare, bare_rows};
-ghost use Rattle.pg_seq.specs.Output.{Read, Ended, status};
+ghost use Rattle.pg_seq.specs.Bare.{bare_rows};
 ghost use Rattle.pg_seq.specs.Sink.{TakesPart};
-ghost use Rattle.pg_run.specs.Run.{Holds, IsNextBlock, rows_of};
+ghost use Rattle.pg_run.specs.Run.{Holds, IsNextBlock, IsReadyFor, HoldsUnwritten, HasAdded, rows_of, status_of};
 ghost use Rattle.pg_run.specs.declared.fault.RunFault.TheVariants.{Sink as RunSink, TooLong};
 
 use crate::fault::RunFault;
@@ -50,9 +49,10 @@ impl<A: Allocator + Copy> Searcher<A> {
 
     /// Searches the file's next block, and gives the sequencer its result.
     fn take(&mut self, block: Block<A>) -> Result<(), AllocError>
-        requires { (q : Search) × (blocks : List BlockData) × (text : List ℕ) × Holds self.old q blocks text × IsNextBlock blocks block }
-        ensures { (q : Search) → (blocks : List BlockData) → (text : List ℕ) → Holds self.old q blocks text → IsNextBlock blocks block →
-            OnOk result (Holds self.new q (blocks ++ block ∷ []) text) }
+        requires { (q : Search) × (blocks : List BlockData) × (text : List ℕ) × Holds self.old q blocks text
+            × IsNextBlock blocks block }
+        ensures { (q : Search) → (blocks : List BlockData) → (text : List ℕ) → Holds self.old q blocks text →
+            IsNextBlock blocks block → OnOk result (Holds self.new q (blocks ++ block ∷ []) text) }
     {
         let block = Arc::new(self.alloc, block)?;
         let found = search_block(self.alloc, &self.query, Arc::try_clone(&block)?)?;
@@ -63,11 +63,14 @@ impl<A: Allocator + Copy> Searcher<A> {
 
     /// Writes the rows of the last block. Those of the blocks before it were written.
     fn drain<W: Sink>(&mut self, out: &mut W) -> Result<(), RunFault>
-        ensures ok { (q : Search) → (blocks : List BlockData) → (block : BlockData) → Holds self.old q (blocks ++ block ∷ []) (rows_of q blocks) →
-            OnOk result (Holds self.new q (blocks ++ block ∷ []) (rows_of q (blocks ++ block ∷ [])) × (W.taken out.new ≡ W.taken out.old ++ bare_rows q block.bytes)) }
-        ensures part { (q : Search) → (blocks : List BlockData) → (block : BlockData) → Holds self.old q (blocks ++ block ∷ []) (rows_of q blocks) →
+        ensures ok { (q : Search) → (blocks : List BlockData) → (block : BlockData) →
+            HoldsUnwritten self.old q blocks block →
+            OnOk result (HasAdded self.new q blocks block (W.taken out.old) (W.taken out.new)) }
+        ensures part { (q : Search) → (blocks : List BlockData) → (block : BlockData) →
+            HoldsUnwritten self.old q blocks block →
             OnErr result (TakesPart (bare_rows q block.bytes) (W.taken out.old) (W.taken out.new)) }
-        ensures cause { (q : Search) → (blocks : List BlockData) → (text : List ℕ) → Holds self.old q blocks text → OnErr result (W.failures out.old < W.failures out.new) }
+        ensures cause { (q : Search) → (blocks : List BlockData) → (text : List ℕ) → Holds self.old q blocks text →
+            OnErr result (W.failures out.old < W.failures out.new) }
         ensures fault { IsErr result → IsErrOf result RunSink }
         ensures no_failure { OnOk result (W.failures out.new ≡ W.failures out.old) }
         ensures never_falls { W.failures out.old ≤ W.failures out.new }
@@ -78,10 +81,10 @@ impl<A: Allocator + Copy> Searcher<A> {
 
     /// Searches the file's next block, and writes its rows.
     pub(crate) fn search<W: Sink>(&mut self, block: Block<A>, out: &mut W) -> Result<(), RunFault>
-        requires { (q : Search) × (blocks : List BlockData) × Holds self.old q blocks (rows_of q blocks) × IsNextBlock blocks block }
-        ensures ok { (q : Search) → (blocks : List BlockData) → Holds self.old q blocks (rows_of q blocks) → IsNextBlock blocks block →
-            OnOk result (Holds self.new q (blocks ++ block ∷ []) (rows_of q (blocks ++ block ∷ [])) × (W.taken out.new ≡ W.taken out.old ++ bare_rows q block.bytes)) }
-        ensures part { (q : Search) → (blocks : List BlockData) → Holds self.old q blocks (rows_of q blocks) → IsNextBlock blocks block →
+        requires { (q : Search) × (blocks : List BlockData) × IsReadyFor self.old q blocks block }
+        ensures ok { (q : Search) → (blocks : List BlockData) → IsReadyFor self.old q blocks block →
+            OnOk result (HasAdded self.new q blocks block (W.taken out.old) (W.taken out.new)) }
+        ensures part { (q : Search) → (blocks : List BlockData) → IsReadyFor self.old q blocks block →
             OnErr result (TakesPart (bare_rows q block.bytes) (W.taken out.old) (W.taken out.new)) }
         ensures cause { IsErrOf result RunSink → W.failures out.old < W.failures out.new }
         ensures short { IsErrOf result TooLong → ⊥ }
@@ -95,7 +98,8 @@ impl<A: Allocator + Copy> Searcher<A> {
     /// The exit status, once the file has ended.
     pub(crate) fn status(&mut self) -> u8
         requires { (q : Search) × (blocks : List BlockData) × (text : List ℕ) × Holds self.old q blocks text }
-        ensures { (q : Search) → (blocks : List BlockData) → (text : List ℕ) → Holds self.old q blocks text → result ≡ status q bare (Read [] (joined blocks) Ended ∷ []) }
+        ensures { (q : Search) → (blocks : List BlockData) → (text : List ℕ) → Holds self.old q blocks text →
+            result ≡ status_of q (joined blocks) }
     {
         self.sequencer.end(false);
         self.sequencer.status().unwrap()

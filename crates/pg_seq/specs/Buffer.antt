@@ -31,7 +31,8 @@ pub record Pushes {A : Type 0} (block : BlockData) (old new : ReorderBuffer A) :
 
 -- a block of the query is this, by the slots that are held and those that were given up
 abbrev pub IsArrival : {A : Type 0} → ReorderBuffer A → BlockData → Arrival → Type 0
-IsArrival {A} buffer block arrival = (gone : List (Slot A)) → AreGone buffer gone → arrival ≡ arrival_among (gone ++ buffer.slots.items) block
+IsArrival {A} buffer block arrival =
+    (gone : List (Slot A)) → AreGone buffer gone → arrival ≡ arrival_among (gone ++ buffer.slots.items) block
 
 -- a result stands at its block's place
 pub record Puts {A : Type 0} (found : Searched) (old new : ReorderBuffer A) : Type 0 where

@@ -40,7 +40,9 @@ arrival_at (Some known) taken b = if is_taken taken b then Double else if_same (
 -- what the next arrival is
 abbrev pub arrival : Search → List Step → List (ℕ × ℕ) → Searched → Arrival
 arrival q plan taken r =
-    if same_search q r.query then arrival_at (find (is_block r.block.file r.block.number) (announced plan)) taken r.block else Stranger
+    if same_search q r.query
+    then arrival_at (find (is_block r.block.file r.block.number) (announced plan)) taken r.block
+    else Stranger
 
 abbrev pub taken_after : Arrival → BlockData → List (ℕ × ℕ) → List (ℕ × ℕ)
 taken_after Taken b taken = (b.file, b.number) ∷ taken
@@ -51,7 +53,8 @@ taken_after Stranger b taken = taken
 abbrev pub taken_of : Search → List Event → List (ℕ × ℕ)
 taken_of q [] = []
 taken_of q (Planned step ∷ events) = taken_of q events
-taken_of q (Arrived r ∷ events) = taken_after (arrival q (plan_of events) (taken_of q events) r) r.block (taken_of q events)
+taken_of q (Arrived r ∷ events) =
+    taken_after (arrival q (plan_of events) (taken_of q events) r) r.block (taken_of q events)
 
 abbrev pub all_taken : List (ℕ × ℕ) → List Step → Bool
 all_taken taken plan = list_all (is_taken taken) (announced plan)

@@ -1,5 +1,7 @@
 -- What is written for files, and the exit status (XCU grep, STDOUT and EXIT STATUS; GNU grep for -m, -A, -B, -C, -o).
-use Rattle.std.specs.Prelude.{◌≡◌, ℕ, zero, suc, ◌+◌, nat_lt, nat_le, Bool, true, false, not, ◌&&◌, ◌||◌, if◌then◌else◌, is_some, Option, Some, None, List, [], ◌∷◌, ◌++◌, length, take, slice_range, slice_index_or, unwrap_or}
+use Rattle.std.specs.Prelude.{◌≡◌, ℕ, zero, suc, ◌+◌, nat_lt, nat_le, Bool, true, false, not, ◌&&◌, ◌||◌, if◌then◌else◌}
+use Rattle.std.specs.Prelude.{is_some, Option, Some, None, List, [], ◌∷◌, ◌++◌, length, take, slice_range}
+use Rattle.std.specs.Prelude.{slice_index_or, unwrap_or}
 use Rattle.std.specs.List.{list_any, filter, flat_map, range_with_len, count_by}
 use Rattle.std.specs.Fmt.{decimal}
 use Rattle.pg_lines.specs.Search.{Search, terminator}
@@ -27,16 +29,19 @@ HasRoom format = is_below 0 format.limit ≡ true
 abbrev pub is_kept : Search → Option ℕ → List (List ℕ) → ℕ → Bool
 is_kept q limit ls i = selects q (line_at ls i) && is_below (count_by (selects q) (take i ls)) limit
 
--- among the first n places one in the set has the place among the `before` places before it or the `after` places after it, or is it
+-- among the first n places one in the set has the place among the `before` places before it or the `after` places after
+-- it, or is it
 abbrev pub is_near : (ℕ → Bool) → ℕ → ℕ → ℕ → ℕ → Bool
-is_near kept before after n i = list_any (λ j. kept j && (nat_le j (i + before) && nat_le i (j + after))) (range_with_len 0 n)
+is_near kept before after n i =
+    list_any (λ j. kept j && (nat_le j (i + before) && nat_le i (j + after))) (range_with_len 0 n)
 
 abbrev pub context : Option ℕ → ℕ
 context given = unwrap_or given 0
 
 -- the lines that are shown
 abbrev pub is_shown : Search → Format → List (List ℕ) → ℕ → Bool
-is_shown q format ls i = is_near (is_kept q format.limit ls) (context format.before) (context format.after) (length ls) i
+is_shown q format ls i =
+    is_near (is_kept q format.limit ls) (context format.before) (context format.after) (length ls) i
 
 abbrev pub members : (ℕ → Bool) → List (List ℕ) → List ℕ
 members set ls = filter set (range_with_len 0 (length ls))
@@ -59,7 +64,8 @@ is_behind set (suc i) = set i
 -- two hyphens stand before a shown line that doesn't follow a shown line, unless it is the run's first
 abbrev pub separator : Format → ℕ → (ℕ → Bool) → Bool → ℕ → List ℕ
 separator format end shown earlier i =
-    when (has_context format && not (is_behind shown i) && (earlier || list_any shown (range_with_len 0 i))) (45 ∷ 45 ∷ end ∷ [])
+    when (has_context format && not (is_behind shown i) && (earlier || list_any shown (range_with_len 0 i)))
+    (45 ∷ 45 ∷ end ∷ [])
 
 -- a colon marks a kept line, a hyphen its context
 abbrev pub mark_of : Bool → ℕ
@@ -73,12 +79,14 @@ line_rows q format name ls earlier =
 
 abbrev pub piece_rows : Search → Format → List ℕ → List (List ℕ) → List ℕ
 piece_rows q format name ls =
-    flat_map (λ i. flat_map (λ p. row format (terminator q) name (i + 1) 58 (slice_range (line_at ls i) p.0 p.1)) (parts q (line_at ls i)))
+    flat_map (λ i. flat_map (λ p. row format (terminator q) name (i + 1) 58 (slice_range (line_at ls i) p.0 p.1))
+    (parts q (line_at ls i)))
     (members (is_kept q format.limit ls) ls)
 
 -- the rows of -c and -l, which end with a newline whatever the terminator
 abbrev pub count_row : Search → Format → List ℕ → List (List ℕ) → List ℕ
-count_row q format name ls = when format.names (name ++ 58 ∷ []) ++ decimal (length (members (is_kept q format.limit ls) ls)) ++ 10 ∷ []
+count_row q format name ls =
+    when format.names (name ++ 58 ∷ []) ++ decimal (length (members (is_kept q format.limit ls) ls)) ++ 10 ∷ []
 
 abbrev pub name_row : Search → Format → List ℕ → List (List ℕ) → List ℕ
 name_row q format name ls = when (list_any (selects q) ls) (name ++ 10 ∷ [])
@@ -131,7 +139,8 @@ abbrev pub output : Search → Format → List Entry → List ℕ
 output q format [] = []
 output q format (Missed name ∷ entries) = output q format entries
 output q format (Read name bytes ending ∷ entries) =
-    output q format entries ++ file_rows q format name bytes (not (is_running ending)) (not (is_nothing (output q format entries)))
+    output q format entries
+        ++ file_rows q format name bytes (not (is_running ending)) (not (is_nothing (output q format entries)))
 
 abbrev pub is_bad : Entry → Bool
 is_bad (Missed name) = true
@@ -147,7 +156,8 @@ is_quiet Count = false
 is_quiet Names = false
 is_quiet Quiet = true
 
--- 2 after a file that is missed or failed, but with -q 0 where a line was selected; else 0 where one was, and 1 where none was
+-- 2 after a file that is missed or failed, but with -q 0 where a line was selected; else 0 where one was, and 1 where
+-- none was
 abbrev pub status : Search → Format → List Entry → ℕ
 status q format entries =
     let selected = list_any (has_selected q) entries in

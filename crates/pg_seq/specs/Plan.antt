@@ -1,5 +1,6 @@
 -- The plan of a run: the files and blocks that were announced. The newest step stands first.
-use Rattle.std.specs.Prelude.{◌≡◌, ◌≢◌, ℕ, ◌+◌, ◌-◌, ◌<◌, ◌≤◌, ◌^◌, Bool, true, false, if◌then◌else◌, List, [], ◌∷◌, ◌++◌, length}
+use Rattle.std.specs.Prelude.{◌≡◌, ◌≢◌, ℕ, ◌+◌, ◌-◌, ◌<◌, ◌≤◌, ◌^◌, Bool, true, false, if◌then◌else◌, List, [], ◌∷◌}
+use Rattle.std.specs.Prelude.{◌++◌, length}
 use Rattle.std.specs.List.{AllByRecursion}
 use Rattle.pg_lines.specs.Blocks.{BlockData, joined, EndsWith}
 use Rattle.pg_lines.specs.Lines.{lines}
@@ -104,4 +105,5 @@ entries_of (Misses name ∷ plan) = Missed name ∷ entries_of plan
 -- A list of files that the plan begins: some plan that goes on from it and leaves no file open has these files.
 -- Limits have no part in this, so that it also speaks of files that are too long.
 abbrev pub Begins : ℕ → List Step → List Entry → Type 0
-Begins end plan entries = (more : List Step) × IsShaped end (more ++ plan) × (is_open (more ++ plan) ≡ false) × (entries_of (more ++ plan) ≡ entries)
+Begins end plan entries = (more : List Step) × IsShaped end (more ++ plan) × (is_open (more ++ plan) ≡ false)
+    × (entries_of (more ++ plan) ≡ entries)

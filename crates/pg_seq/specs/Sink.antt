@@ -18,7 +18,8 @@ pub record Refuses (before after : List ℕ) (failed failed' : ℕ) : Type 0 whe
   pub taken : after ≡ before
   pub failure : failed < failed'
 
--- One write of a text: Ok(k) took its first k bytes, Err none. The count of failures never falls; it rises at Err and at Ok(0) for a text that isn't empty, and else stays.
+-- One write of a text: Ok(k) took its first k bytes, Err none. The count of failures never falls; it rises at Err and
+-- at Ok(0) for a text that isn't empty, and else stays.
 pub record Writes {E : Type 0} (text before after : List ℕ) (failed failed' : ℕ) (result : Result ℕ E) : Type 0 where
   pub never_falls : failed ≤ failed'
   pub outcome : MatchResult result (Takes text before after failed failed') (λ _. Refuses before after failed failed')
@@ -38,7 +39,8 @@ pub record MemSinkData : Type 0 where
   pub limit : ℕ
   pub write_limit : ℕ
 
--- a sink over a writer as plain data: what it took, how often it failed, and the bytes that the writer holds, where the writer tells them
+-- a sink over a writer as plain data: what it took, how often it failed, and the bytes that the writer holds, where the
+-- writer tells them
 pub record OutData : Type 0 where
   pub taken : List ℕ
   pub failures : ℕ

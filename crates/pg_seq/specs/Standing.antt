@@ -4,7 +4,7 @@ use Rattle.std.specs.List.{AllByRecursion, flat_map, list_any}
 use Rattle.std.specs.Arc.{arc_value}
 use Rattle.pg_lines.specs.Search.{terminator}
 use Rattle.pg_lines.specs.Blocks.{AreNumbered}
-use Rattle.pg_seq.specs.Plan.{opened as opened_files, announced, IsPlan, is_open, entries_of}
+use Rattle.pg_seq.specs.Plan.{Step, opened as opened_files, announced, IsPlan, MayFollow, is_open, entries_of}
 use Rattle.pg_seq.specs.Output.{is_bad}
 use Rattle.pg_seq.specs.History.{Past, plan, taken_of, is_taken, handed}
 use Rattle.pg_seq.specs.Sink.{IsBeginning}
@@ -30,12 +30,17 @@ pub record Stands {A : Type 0} (s : Sequencer A) (past : Past) : Type 0 where
   pub bad : list_any is_bad (entries_of (plan past)) ≡ s.bad
   pub blocks : announced (plan past) ≡ map slot_block (gone ++ s.buffer.slots.items)
   pub numbered : AreNumbered 0 0 (announced (plan past))
-  pub taken : map (is_taken (taken_of past.query past.events)) (announced (plan past)) ≡ map has_result (gone ++ s.buffer.slots.items)
+  pub taken : map (is_taken (taken_of past.query past.events)) (announced (plan past))
+      ≡ map has_result (gone ++ s.buffer.slots.items)
   pub results : AllByRecursion (IsResultOf past.query) (gone ++ s.buffer.slots.items)
   pub known : AllByRecursion (λ key. key.1 < length (gone ++ s.buffer.slots.items)) (taken_of past.query past.events)
   pub failed : past.failed ≡ s.failed
   pub written : s.failed ≡ false → past.written ≡ flat_map slot_rows gone
   pub selected : s.buffer.selected ≡ list_any slot_selects gone
+
+-- the sequencer stands after this, and the step may follow
+abbrev pub IsReadyFor : {A : Type 0} → Sequencer A → Past → Step → Type 0
+IsReadyFor s past step = Stands s past × MayFollow (terminator past.query) (plan past) step
 
 -- what a drain did that wrote a text
 abbrev pub Drained : Result (Unit {0}) SinkFault → Past → List ℕ → Type 0

@@ -36,7 +36,8 @@ fn write_lines<W: Sink>(out: &mut W, text: &[u8]) -> Result<(), WriteError>
 fn write_spans<W: Sink>(out: &mut W, bytes: &[u8], spans: &[Span]) -> Result<(), WriteError>
     requires { EachIndex spans.now (λ k. IsWithin bytes.now (get_or spans.now k no_span)) }
     ensures all { OnOk result (W.taken out.new ≡ W.taken out.old ++ flat_map (span_rows bytes.now) spans.now) }
-    ensures part { OnErr result (TakesPart (flat_map (span_rows bytes.now) spans.now) (W.taken out.old) (W.taken out.new)) }
+    ensures part { OnErr result
+        (TakesPart (flat_map (span_rows bytes.now) spans.now) (W.taken out.old) (W.taken out.new)) }
     ensures failure { OnErr result (W.failures out.old < W.failures out.new) }
     ensures no_failure { OnOk result (W.failures out.new ≡ W.failures out.old) }
     ensures never_falls { W.failures out.old ≤ W.failures out.new }
@@ -53,7 +54,8 @@ pub(crate) fn write_rows<A: Allocator, W: Sink>(
     out: &mut W,
 ) -> Result<(), WriteError>
     ensures all { OnOk result (W.taken out.new ≡ W.taken out.old ++ bare_rows found.now.query found.now.block.bytes) }
-    ensures part { OnErr result (TakesPart (bare_rows found.now.query found.now.block.bytes) (W.taken out.old) (W.taken out.new)) }
+    ensures part { OnErr result
+        (TakesPart (bare_rows found.now.query found.now.block.bytes) (W.taken out.old) (W.taken out.new)) }
     ensures failure { OnErr result (W.failures out.old < W.failures out.new) }
     ensures no_failure { OnOk result (W.failures out.new ≡ W.failures out.old) }
     ensures never_falls { W.failures out.old ≤ W.failures out.new }

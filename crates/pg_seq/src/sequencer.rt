@@ -1,5 +1,6 @@
 //! What a run writes, from results that arrive in any order.
-ghost use Rattle.std.specs.Prelude.{◌≡◌, ℕ, ◌<◌, ◌≤◌, ◌++◌, ◌↔◌, List, false, IsTrue, IfOk, OnOk, OnErr, IsErrOf, MatchOption};
+ghost use Rattle.std.specs.Prelude.{◌≡◌, ℕ, ◌<◌, ◌≤◌, ◌++◌, ◌↔◌, List, false, IsTrue, IfOk, OnOk, OnErr, IsErrOf};
+ghost use Rattle.std.specs.Prelude.{MatchOption};
 ghost use Rattle.std.specs.Arc.{arc_value};
 
 use crate::format::{Arrival, Format, SinkFault};
@@ -32,7 +33,7 @@ impl<A: Allocator> Sequencer<A> {
     ghost use Rattle.pg_seq.specs.Plan.{opened, Opens, Announces, Ends, Misses, MayFollow};
     ghost use Rattle.pg_seq.specs.History.{Past, start, planned, arrived, plan, answer, IsComplete, status_of};
     ghost use Rattle.pg_seq.specs.Bare.{bare};
-    ghost use Rattle.pg_seq.specs.Standing.{Stands, Drained, drained};
+    ghost use Rattle.pg_seq.specs.Standing.{Stands, IsReadyFor, Drained, drained};
     ghost use Rattle.pg_seq.specs.declared.format.SinkFault.TheVariants.{WriteFailed};
 
     /// A sequencer to which nothing happened, for the results of a query.
@@ -63,8 +64,10 @@ impl<A: Allocator> Sequencer<A> {
     ///
     /// A refused request for memory is the only error, and changes nothing.
     pub fn open(&mut self, name: &[u8]) -> Result<(), AllocError>
-        requires { (past : Past) × Stands self.old past × MayFollow (terminator past.query) (plan past) (Opens name.now) × (opened (plan past) ≡ 0) }
-        ensures ok { (past : Past) → Stands self.old past → OnOk result (Stands self.new (planned past (Opens name.now))) }
+        requires { (past : Past) × Stands self.old past × MayFollow (terminator past.query) (plan past) (Opens name.now)
+            × (opened (plan past) ≡ 0) }
+        ensures ok { (past : Past) → Stands self.old past →
+            OnOk result (Stands self.new (planned past (Opens name.now))) }
         ensures err { (past : Past) → Stands self.old past → OnErr result (Stands self.new past) }
     {
         let _ = name;
@@ -79,8 +82,9 @@ impl<A: Allocator> Sequencer<A> {
     /// empty; the blocks before it end in newlines; its lines have at most 2^30 bytes, and the file
     /// at most 2^62. A refused request for memory is the only error, and changes nothing.
     pub fn announce(&mut self, block: Arc<Block<A>, A>) -> Result<(), AllocError>
-        requires { (past : Past) × Stands self.old past × MayFollow (terminator past.query) (plan past) (Announces (arc_value block)) }
-        ensures ok { (past : Past) → Stands self.old past → MayFollow (terminator past.query) (plan past) (Announces (arc_value block)) →
+        requires { (past : Past) × IsReadyFor self.old past (Announces (arc_value block)) }
+        ensures ok { (past : Past) → Stands self.old past →
+            MayFollow (terminator past.query) (plan past) (Announces (arc_value block)) →
             OnOk result (Stands self.new (planned past (Announces (arc_value block)))) }
         ensures err { (past : Past) → Stands self.old past → OnErr result (Stands self.new past) }
     {
@@ -89,7 +93,7 @@ impl<A: Allocator> Sequencer<A> {
 
     /// Ends the open file, whose reading has failed or has come to its end. It takes no memory.
     pub fn end(&mut self, failed: bool)
-        requires { (past : Past) × Stands self.old past × MayFollow (terminator past.query) (plan past) (Ends failed) }
+        requires { (past : Past) × IsReadyFor self.old past (Ends failed) }
         ensures { (past : Past) → Stands self.old past → Stands self.new (planned past (Ends failed)) }
     {
         self.running = false;
@@ -100,8 +104,9 @@ impl<A: Allocator> Sequencer<A> {
     ///
     /// A refused request for memory is the only error, and changes nothing.
     pub fn miss(&mut self, name: &[u8]) -> Result<(), AllocError>
-        requires { (past : Past) × Stands self.old past × MayFollow (terminator past.query) (plan past) (Misses name.now) }
-        ensures ok { (past : Past) → Stands self.old past → OnOk result (Stands self.new (planned past (Misses name.now))) }
+        requires { (past : Past) × IsReadyFor self.old past (Misses name.now) }
+        ensures ok { (past : Past) → Stands self.old past →
+            OnOk result (Stands self.new (planned past (Misses name.now))) }
         ensures err { (past : Past) → Stands self.old past → OnErr result (Stands self.new past) }
     {
         let _ = name;
@@ -147,7 +152,8 @@ impl<A: Allocator> Sequencer<A> {
     /// `WriteFailed`; nothing is written.
     pub fn drain<W: Sink>(&mut self, out: &mut W) -> Result<(), SinkFault>
         ensures drained { (past : Past) → Stands self.old past → (text : List ℕ)
-            × (W.taken out.new ≡ W.taken out.old ++ text) × Drained result past text × Stands self.new (drained past text result) }
+            × (W.taken out.new ≡ W.taken out.old ++ text)
+            × Drained result past text × Stands self.new (drained past text result) }
         ensures cause { IsErrOf result WriteFailed → W.failures out.old < W.failures out.new }
         ensures no_failure { OnOk result (W.failures out.new ≡ W.failures out.old) }
         ensures never_falls { W.failures out.old ≤ W.failures out.new }
@@ -177,7 +183,8 @@ impl<A: Allocator> Sequencer<A> {
     /// The exit status (XCU grep, EXIT STATUS), once all is complete: 2 after a name that was missed
     /// or a file whose reading failed, else 0 where a line was selected and 1 where none was.
     pub fn status(&self) -> Option<u8>
-        ensures { (past : Past) → Stands self.now past → MatchOption result (IsComplete past → ⊥) (λ status. IsComplete past × (status ≡ status_of past)) }
+        ensures { (past : Past) → Stands self.now past →
+            MatchOption result (IsComplete past → ⊥) (λ status. IsComplete past × (status ≡ status_of past)) }
     {
         if !self.complete() {
             return None;

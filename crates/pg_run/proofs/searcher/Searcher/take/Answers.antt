@@ -13,7 +13,8 @@ announce-requires g c =
     let h = c.requires.3 in
     let b : arc_value c.in_ok-block.block ≡ c.args.block = c.in_ok-block.ensures.ok in
     let M : BlockData → Type 0 = λ x. MayFollow (terminator h.past.query) (plan h.past) (Announces x) in
-    (h.past, h.stands, subst M (sym b) (may_announce c.args.self.now c.requires.0 c.requires.1 c.requires.2 c.args.block h c.requires.4))
+    let may = may_announce c.args.self.now c.requires.0 c.requires.1 c.requires.2 c.args.block h c.requires.4 in
+    (h.past, (h.stands, subst M (sym b) may))
 
 pub returns : goal.returns
 returns g c = λ q blocks text h n.

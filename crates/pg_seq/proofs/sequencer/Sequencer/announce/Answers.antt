@@ -5,7 +5,7 @@ use Rattle.pg_seq.proofs.StandLemmas.{same_stands, announced_stands, has_room}
 use Rattle.pg_seq.proofs.sequencer.Sequencer.announce.Goals as goal
 
 pub push-requires : goal.push-requires
-push-requires g c = has_room c.args.self.now c.requires.0 (arc_value c.args.block) c.requires.1 c.requires.2
+push-requires g c = has_room c.args.self.now c.requires.0 (arc_value c.args.block) c.requires.1.0 c.requires.1.1
 
 pub returns-clause-ok : goal.returns-clause-ok
 returns-clause-ok g c = λ past h may.
