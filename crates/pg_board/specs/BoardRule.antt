@@ -24,7 +24,8 @@ abbrev pub first_drawn : List Draws → List ℕ
 first_drawn [] = []
 first_drawn (d ∷ ds) = d.drawn
 
--- The draws of all seats are lawful, as many numbers were drawn as stand below the word and the limit, and each token that stands for a seat knows the board's size.
+-- The draws of all seats are lawful, as many numbers were drawn as stand below the word and the limit, and each token
+-- that stands for a seat knows the board's size.
 pub record Keeps (size : BoardSize) (word : ℕ) (views : List TokenView) : Type 0 where
   pub fits : (size.limit < 2 ^ 32) × (size.seats < 2 ^ 32)
   pub lawful : IsLawful size word (seats_of views)
@@ -40,5 +41,7 @@ abbrev pub DrawsOne : Step (Unit {0}) → Me (Unit {0}) TokenView → ℕ → Me
 DrawsOne _ m found w =
     let drawn : List ℕ = first_drawn m.0.seats in let more : List ℕ = drawn ++ found ∷ [] in
     (w.1 ≡ m.1)
-    × (found < m.0.size.limit → (w.0 ≡ token_view m.0.size (draws more false ∷ [])) × IsDraw m.0.size found (draws drawn false) (draws more false))
-    × (m.0.size.limit ≤ found → (w.0 ≡ token_view m.0.size (draws drawn true ∷ [])) × IsDraw m.0.size found (draws drawn false) (draws drawn true))
+    × (found < m.0.size.limit →
+    (w.0 ≡ token_view m.0.size (draws more false ∷ [])) × IsDraw m.0.size found (draws drawn false) (draws more false))
+    × (m.0.size.limit ≤ found →
+    (w.0 ≡ token_view m.0.size (draws drawn true ∷ [])) × IsDraw m.0.size found (draws drawn false) (draws drawn true))

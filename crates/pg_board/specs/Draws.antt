@@ -16,13 +16,15 @@ all_drawn seats = flat_map (λ d. d.drawn) seats
 abbrev pub spent_count : List Draws → ℕ
 spent_count seats = total (λ d. if d.spent then 1 else 0) seats
 
--- The draws of all seats of a board whose word is this number: each number below the word and the limit was drawn once and no other at all, and the word counts the numbers drawn and the spent seats.
+-- The draws of all seats of a board whose word is this number: each number below the word and the limit was drawn once
+-- and no other at all, and the word counts the numbers drawn and the spent seats.
 pub record IsLawful (size : BoardSize) (word : ℕ) (seats : List Draws) : Type 0 where
   pub all_seats : length seats ≡ size.seats
   pub each_once : (x : ℕ) → times x (all_drawn seats) ≡ once_below x (min word size.limit)
   pub counted : word ≡ length (all_drawn seats) + spent_count seats
 
--- One draw of one seat, which took the word from this number to the next: the draws of all seats were lawful before it and are after it, and the other seats' are the same.
+-- One draw of one seat, which took the word from this number to the next: the draws of all seats were lawful before it
+-- and are after it, and the other seats' are the same.
 pub record IsDraw (size : BoardSize) (word : ℕ) (before after : Draws) : Type 0 where
   pub front : List Draws
   pub back : List Draws

@@ -7,7 +7,8 @@ module _ {T : Type 0} where
   given_to k [] = []
   given_to k (g ∷ given) = if g.0 == k then g.1 ∷ given_to k given else given_to k given
 
-  -- Each member of the whole can be given to one of the lists, so that what is given to a list is that list, in its order.
+  -- Each member of the whole can be given to one of the lists, so that what is given to a list is that list, in its
+  -- order.
   pub record IsMerge (lists : List (List T)) (whole : List T) : Type 0 where
     pub given : List (ℕ × T)
     pub is_whole : map (λ g. g.1) given ≡ whole

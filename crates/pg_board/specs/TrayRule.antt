@@ -40,12 +40,15 @@ module _ {T : Type 0} where
   abbrev pub passes_numbered : ℕ → List (Puts T) → ℕ
   passes_numbered n passes = total (λ p. if p.pass == n then 1 else 0) passes
 
-  -- What a view knows is so: the one that takes knows what was taken and how many passes were made, and of each of its passes it knows all that the pass put.
+  -- What a view knows is so: the one that takes knows what was taken and how many passes were made, and of each of its
+  -- passes it knows all that the pass put.
   pub record Knows (made : ℕ) (taken items : List (Entry T)) (v : PassView T) : Type 0 where
     pub taker : 0 < v.takers → (v.taken ≡ taken) × (v.made ≡ made)
     pub putters : AllByRecursion (λ p. p.values ≡ put_by p.pass (taken ++ items)) v.passes
 
-  -- One view takes; the passes have the numbers below the count of those made, each once; each value has the number of a pass; and each view knows what is so. So what was taken, and then what the queue holds, is a merge of what the passes put.
+  -- One view takes; the passes have the numbers below the count of those made, each once; each value has the number of
+  -- a pass; and each view knows what is so. So what was taken, and then what the queue holds, is a merge of what the
+  -- passes put.
   pub record KeepsTray (items : List (Entry T)) (views : List (PassView T)) : Type 0 where
     pub made : ℕ
     pub taken : List (Entry T)

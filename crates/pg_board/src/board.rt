@@ -1,8 +1,10 @@
 //! Numbers that threads draw, each once.
-ghost use Rattle.std.specs.Prelude.{◌≡◌, ℕ, ◌+◌, ◌<◌, ◌≤◌, [], ◌∷◌, ◌++◌, All, Any, true, false, Option, Some, None, IfOk, IfSome, IfNone, length, vec_len, map, flat_map, replicate};
+ghost use Rattle.std.specs.Prelude.{◌≡◌, ℕ, ◌+◌, ◌<◌, ◌≤◌, [], All, Any, true, false, Option, Some, None};
+ghost use Rattle.std.specs.Prelude.{IfOk, IfSome, IfNone, length, vec_len, map, flat_map, replicate};
 ghost use Rattle.pg_board.specs.Counts.{times, once_below};
-ghost use Rattle.pg_board.specs.Draws.{draws, all_drawn, spent_count, IsDraw};
-ghost use Rattle.pg_board.specs.Board.{board_view, size_of, seat_view};
+ghost use Rattle.pg_board.specs.Draws.{draws, all_drawn, spent_count};
+ghost use Rattle.pg_board.specs.Board.{board_view, seat_view, SeatsAll, IsTokenOf};
+ghost use Rattle.pg_board.specs.Board.{HasDrawn, IsDrawOf, IsToldNone};
 ghost use Rattle.pg_board.specs.BoardRule.{token_view};
 
 use crate::draws::{AllSeats, BoardSize, DrawOne, DrawRule, FirstSeat, TokenView};
@@ -24,7 +26,7 @@ pub struct Board<A: Allocator = Global> {
 
 impl<A: Allocator> Model for Board<A> {
     ghost use Rattle.std.specs.Prelude.{◌≡◌, ◌<◌};
-    ghost use Rattle.pg_board.specs.Board.{BoardView, board_view_coded, board_view};
+    ghost use Rattle.pg_board.specs.Board.{BoardView, board_view_coded, board_view, IsWordOf};
 
     ghost Value = { BoardView };
 
@@ -32,7 +34,7 @@ impl<A: Allocator> Model for Board<A> {
 
     ghost view = { λ b. board_view b.word.shared.table_id b.size };
 
-    ghost invariant = { λ b. (b.word.shared.table_id.words ≡ 1) × (b.word.shared.table_id.slots ≡ 0) × (b.word.shared.key ≡ b.size) × (0 < b.size.seats) };
+    ghost invariant = { λ b. IsWordOf b.size b.word.shared.table_id b.word.shared.key };
 }
 
 /// Which numbers the seats of a closed board have drawn.
@@ -49,9 +51,10 @@ fn cut<A: Allocator>(
     mut whole: Token,
     size: BoardSize,
 ) -> Result<Vec<Seat, A>, AllocError>
-    requires word { (whole.table_id ≡ word.now.shared.table_id) × (word.now.shared.table_id.words ≡ 1) × (word.now.shared.key ≡ size) × (0 < size.seats) }
+    requires word { SeatsAll size whole.table_id word.now.shared.table_id word.now.shared.key }
     requires whole { whole.me ≡ (token_view size (replicate size.seats (draws [] false)), []) }
-    ensures { IfOk result (λ v. v.items ≡ replicate size.seats (seat_view (board_view word.now.shared.table_id size) [] false)) }
+    ensures { IfOk result
+        (λ v. v.items ≡ replicate size.seats (seat_view (board_view word.now.shared.table_id size) [] false)) }
 {
     let mut seats = Vec::with_capacity(alloc, size.seats as usize)?;
     for _ in 1..size.seats {
@@ -88,7 +91,7 @@ fn join<A: Allocator>(word: &Word<A>, mut seats: Vec<Seat, A>, size: BoardSize) 
 
 /// Below which number all were drawn, once all seats are in one token.
 fn finish<A: Allocator>(word: Word<A>, whole: Token, size: BoardSize) -> u32
-    requires word { (whole.table_id ≡ word.shared.table_id) × (word.shared.table_id.words ≡ 1) × (word.shared.table_id.slots ≡ 0) × (word.shared.key ≡ size) }
+    requires word { IsTokenOf size whole.table_id word.shared.table_id word.shared.key }
     requires all { length whole.me.0.seats ≡ size.seats }
     ensures drawn { (x : ℕ) → times x (all_drawn whole.me.0.seats) ≡ once_below x result }
     ensures limit { result ≤ size.limit }
@@ -130,12 +133,12 @@ impl<A: Allocator> Board<A> {
         requires { seat.old.board ≡ self.now }
         ensures board { seat.new.board ≡ self.now }
         ensures below { IfSome result (λ k. k < self.now.limit) }
-        ensures some { IfSome result (λ k. (seat.old.spent ≡ false) × (seat.new.spent ≡ false) × (seat.new.drawn ≡ seat.old.drawn ++ k ∷ [])) }
+        ensures some { IfSome result (λ k. HasDrawn seat.old seat.new k) }
         // In this one step the draws of all seats went from lawful ones without the number to lawful ones with it.
-        ensures some_draw { IfSome result (λ k. IsDraw (size_of self.now) k (draws seat.old.drawn false) (draws seat.new.drawn false)) }
+        ensures some_draw { IfSome result (λ k. IsDrawOf self.now seat.old seat.new k) }
         ensures none { IfNone result ((seat.new.spent ≡ true) × (seat.new.drawn ≡ seat.old.drawn)) }
         // In this one step the word was past the limit, so the seats had drawn all numbers.
-        ensures none_draw { seat.old.spent ≡ false → IfNone result ((word : ℕ) × (self.now.limit ≤ word) × IsDraw (size_of self.now) word (draws seat.old.drawn false) (draws seat.new.drawn true)) }
+        ensures none_draw { seat.old.spent ≡ false → IfNone result (IsToldNone self.now seat.old seat.new) }
         ensures spent { seat.old.spent ≡ true → result ≡ None }
     {
         if seat.spent {

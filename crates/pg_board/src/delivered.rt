@@ -27,8 +27,9 @@ impl<T, A: Allocator> Model for Delivered<T, A> {
 
     ghost view = { λ d. delivered (lists_of d.ticket.me.view.client.passes) (values_of d.ticket.me.view.client.taken) };
 
-    ghost invariant = { λ d. (d.ticket.web ≡ d.queue.web) × (d.ticket.heap ≡ d.queue.heap) × (d.ticket.me.hand ≡ None) × (d.ticket.me.spare ≡ None)
-        × (d.ticket.me.view.client.takers ≡ 1) × (d.ticket.me.view.client.made ≡ length d.ticket.me.view.client.passes) };
+    ghost invariant = { λ d. (d.ticket.web ≡ d.queue.web) × (d.ticket.heap ≡ d.queue.heap)
+        × (d.ticket.me.hand ≡ None) × (d.ticket.me.spare ≡ None) × (d.ticket.me.view.client.takers ≡ 1)
+        × (d.ticket.me.view.client.made ≡ length d.ticket.me.view.client.passes) };
 }
 
 impl<T: Drop, A: Allocator> Delivered<T, A> {

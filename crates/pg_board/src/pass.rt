@@ -25,9 +25,11 @@ impl<T, A: Allocator> Model for PutPass<T, A> {
 
     ghost Value = { PutView T A };
 
-    ghost view = { λ p. put_view record { web = p.ticket.web; heap = p.ticket.heap } (first_values p.ticket.me.view.client.passes) };
+    ghost view = { λ p. put_view record { web = p.ticket.web; heap = p.ticket.heap }
+        (first_values p.ticket.me.view.client.passes) };
 
-    ghost invariant = { λ p. (p.ticket.me.hand ≡ None) × (p.ticket.me.spare ≡ None) × (p.ticket.me.view.client.takers ≡ 0)
+    ghost invariant = { λ p. (p.ticket.me.hand ≡ None) × (p.ticket.me.spare ≡ None)
+        × (p.ticket.me.view.client.takers ≡ 0)
         × (p.ticket.me.view.client.passes ≡ puts p.number (first_values p.ticket.me.view.client.passes) ∷ []) };
 }
 
@@ -58,7 +60,9 @@ impl<T, A: Allocator> Model for TakePass<T, A> {
 
     ghost Value = { TakeView T A };
 
-    ghost view = { λ p. take_view record { web = p.ticket.web; heap = p.ticket.heap } p.ticket.me.view.client.made (values_of p.ticket.me.view.client.taken) };
+    ghost view = { λ p. take_view record { web = p.ticket.web; heap = p.ticket.heap }
+        p.ticket.me.view.client.made (values_of p.ticket.me.view.client.taken) };
 
-    ghost invariant = { λ p. (p.ticket.me.hand ≡ None) × (p.ticket.me.spare ≡ None) × (p.ticket.me.view.client.takers ≡ 1) × (p.ticket.me.view.client.passes ≡ []) };
+    ghost invariant = { λ p. (p.ticket.me.hand ≡ None) × (p.ticket.me.spare ≡ None)
+        × (p.ticket.me.view.client.takers ≡ 1) × (p.ticket.me.view.client.passes ≡ []) };
 }

@@ -27,9 +27,11 @@ impl Model for Seat {
 
     ghost coded = { seat_view_coded };
 
-    ghost view = { λ s. seat_view (board_view s.token.table_id s.token.me.0.size) (first_drawn s.token.me.0.seats) s.spent };
+    ghost view = { λ s. seat_view (board_view s.token.table_id s.token.me.0.size)
+        (first_drawn s.token.me.0.seats) s.spent };
 
-    ghost invariant = { λ s. (s.token.me.1 ≡ []) × (s.token.me.0.seats ≡ draws (first_drawn s.token.me.0.seats) s.spent ∷ []) };
+    ghost invariant = { λ s. (s.token.me.1 ≡ [])
+        × (s.token.me.0.seats ≡ draws (first_drawn s.token.me.0.seats) s.spent ∷ []) };
 }
 
 impl Seat {

@@ -1,5 +1,6 @@
 //! Results on their way from several threads to one.
-ghost use Rattle.std.specs.Prelude.{◌≡◌, ◌<◌, ◌≤◌, [], ◌∷◌, ◌++◌, All, IfOk, IfErr, IfSome, IfNone, OnOk, vec_len, map, replicate};
+ghost use Rattle.std.specs.Prelude.{◌≡◌, ◌<◌, ◌≤◌, [], ◌∷◌, ◌++◌, All, vec_len, map, replicate};
+ghost use Rattle.std.specs.Prelude.{IfOk, IfErr, IfSome, IfNone, OnOk};
 ghost use Rattle.crossbeam_queue.specs.SegTies.{IsSegPassOf};
 ghost use Rattle.pg_board.specs.Tray.{put_view, take_view, delivered};
 ghost use Rattle.pg_board.specs.TrayRule.{lists_of};
@@ -37,9 +38,12 @@ fn gather<T: Drop, A: Allocator>(
     mut passes: Vec<PutPass<T, A>, A>,
     ticket: &mut Ticket<T, A>,
 )
-    requires ticket { IsSegPassOf queue.now ticket.old × (ticket.old.me.view.client.takers ≡ 1) × (ticket.old.me.view.client.passes ≡ []) }
+    requires ticket { IsSegPassOf queue.now ticket.old
+        × (ticket.old.me.view.client.takers ≡ 1) × (ticket.old.me.view.client.passes ≡ []) }
     requires all { All (λ p. p.tray ≡ queue.now) passes.items }
-    ensures ticket { IsSegPassOf queue.now ticket.new × (ticket.new.me.view.client.takers ≡ 1) × (ticket.new.me.view.client.made ≡ ticket.old.me.view.client.made) × (ticket.new.me.view.client.taken ≡ ticket.old.me.view.client.taken) }
+    ensures ticket { IsSegPassOf queue.now ticket.new × (ticket.new.me.view.client.takers ≡ 1)
+        × (ticket.new.me.view.client.made ≡ ticket.old.me.view.client.made)
+        × (ticket.new.me.view.client.taken ≡ ticket.old.me.view.client.taken) }
     ensures lists { lists_of ticket.new.me.view.client.passes ≡ map (λ p. p.put) passes.items }
 {
     while let Some(pass) = passes.pop() {

@@ -6,9 +6,11 @@ use Rattle.pg_run.specs.declared.fault.RunFault.{RunFault}
 use Rattle.pg_run.specs.declared.fault.RunFault.TheVariants.{OutOfMemory as NoMemoryToRun, Sink, TooLong}
 use Rattle.pg_command.specs.Pattern.{IsPattern}
 use Rattle.pg_command.specs.declared.pattern.PatternFault.{PatternFault}
-use Rattle.pg_command.specs.declared.pattern.PatternFault.TheVariants.{Several, TooLong as PatternTooLong, OutOfMemory as NoMemoryForPattern}
+use Rattle.pg_command.specs.declared.pattern.PatternFault.TheVariants.{Several, TooLong as PatternTooLong}
+use Rattle.pg_command.specs.declared.pattern.PatternFault.TheVariants.{OutOfMemory as NoMemoryForPattern}
 use Rattle.pg_command.specs.declared.fault.Fault.{Fault}
-use Rattle.pg_command.specs.declared.fault.Fault.TheVariants.{NotText, Pattern, CannotOpen, ReadFailed, OutOfMemory, WriteFailed, LineTooLong}
+use Rattle.pg_command.specs.declared.fault.Fault.TheVariants.{NotText, Pattern, CannotOpen, ReadFailed}
+use Rattle.pg_command.specs.declared.fault.Fault.TheVariants.{OutOfMemory, WriteFailed, LineTooLong}
 
 abbrev pub fault_of_run : RunFault → Fault
 fault_of_run NoMemoryToRun = OutOfMemory

@@ -9,7 +9,8 @@ pub record Refuses (past past' : Past) (out out' err err' : Stream) (s : ℕ) : 
   pub status : s ≡ 2
   pub unopened : past' ≡ past
   pub unwritten : out' ≡ out
-  pub told : ((text : List ℕ) × (err'.taken ≡ err.taken ++ (codes "pargrep: " ++ text))) ⊎ (err.failures < err'.failures)
+  pub told : ((text : List ℕ) × (err'.taken ≡ err.taken ++ (codes "pargrep: " ++ text)))
+      ⊎ (err.failures < err'.failures)
 
 -- The words asked for some search, which was answered, or weren't taken. What they ask for is the parser's to say.
 abbrev pub Commands : (past past' : Past) (out out' err err' : Stream) → ℕ → Type 0
@@ -26,4 +27,5 @@ pub record Runs (past past' : Past) (out out' err err' : Stream) (s : ℕ) : Typ
   pub command : Commands past past' out middle err told before
   pub taken : out'.taken ≡ middle.taken
   pub kept : s < 2 → (s ≡ before) × (out'.failures ≡ out.failures) × (err' ≡ told)
-  pub failed : s ≡ 2 → ((before ≡ 2) × (err' ≡ told)) ⊎ ((middle.failures < out'.failures) × Tells WriteFailed told err')
+  pub failed : s ≡ 2
+      → ((before ≡ 2) × (err' ≡ told)) ⊎ ((middle.failures < out'.failures) × Tells WriteFailed told err')

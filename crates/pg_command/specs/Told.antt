@@ -1,8 +1,10 @@
 -- What the program tells on standard error.
 use Rattle.std.specs.Prelude.{◌≡◌, ℕ, List, [], ◌++◌, codes}
-use Rattle.pg_command.specs.declared.pattern.PatternFault.TheVariants.{Several, TooLong, OutOfMemory as NoMemoryForPattern}
+use Rattle.pg_command.specs.declared.pattern.PatternFault.TheVariants.{Several, TooLong}
+use Rattle.pg_command.specs.declared.pattern.PatternFault.TheVariants.{OutOfMemory as NoMemoryForPattern}
 use Rattle.pg_command.specs.declared.fault.Fault.{Fault}
-use Rattle.pg_command.specs.declared.fault.Fault.TheVariants.{NotText, Pattern, CannotOpen, ReadFailed, OutOfMemory, WriteFailed, LineTooLong}
+use Rattle.pg_command.specs.declared.fault.Fault.TheVariants.{NotText, Pattern, CannotOpen, ReadFailed}
+use Rattle.pg_command.specs.declared.fault.Fault.TheVariants.{OutOfMemory, WriteFailed, LineTooLong}
 
 -- the file that a fault names
 abbrev pub subject_of : Fault → List ℕ

@@ -1,5 +1,6 @@
 -- Automata as plain data, and what they do.
-use Rattle.std.specs.Prelude.{◌≡◌, ℕ, zero, suc, ◌+◌, ◌<◌, true, ◌⊎◌, Bool, List, length, Option, Some, None, All, slice_get}
+use Rattle.std.specs.Prelude.{◌≡◌, ℕ, zero, suc, ◌+◌, ◌<◌, true, ◌⊎◌, Bool, List}
+use Rattle.std.specs.Prelude.{length, Option, Some, None, All, slice_get}
 use Rattle.pg_bytes.specs.ByteSets.{bytes}
 use Rattle.pg_match.specs.declared.bounds.Bounds.{Bounds}
 use Rattle.pg_match.specs.declared.state.State.{State}

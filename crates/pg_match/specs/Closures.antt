@@ -34,8 +34,10 @@ pub record Followed (t : List State) (l : List ℕ) (i : ℕ) (old new : Members
   pub size : length new.marks ≡ length old.marks
   pub kept : (r : ℕ) → 0 < mark old r → mark new r ≡ mark old r
   pub fresh : (r : ℕ) → mark old r ≡ 0 → 0 < mark new r
-      → (mark new r ≡ start) × Edge (slice_get t q) l i r i × ((k : ℕ) × (old.len ≤ k) × (k < new.len) × (listed new k ≡ r))
-  pub recent : (k : ℕ) → old.len ≤ k → k < new.len → (mark new (listed new k) ≡ start) × Edge (slice_get t q) l i (listed new k) i
+      → (mark new r ≡ start) × Edge (slice_get t q) l i r i
+      × ((k : ℕ) × (old.len ≤ k) × (k < new.len) × (listed new k ≡ r))
+  pub recent : (k : ℕ) → old.len ≤ k → k < new.len
+      → (mark new (listed new k) ≡ start) × Edge (slice_get t q) l i (listed new k) i
   pub all : (r : ℕ) → Edge (slice_get t q) l i r i → 0 < mark new r
   pub list : (k : ℕ) → k < old.len → listed new k ≡ listed old k
   pub longer : old.len ≤ new.len
@@ -76,7 +78,8 @@ pub record Stepped (t : List State) (l : List ℕ) (i : ℕ) (now next : Members
   pub size : length next.marks ≡ length now.marks
   pub closed : IsClosed t l (i + 1) next
   pub ordered : IsOrdered next
-  pub comes : (r : ℕ) → 0 < mark next r → (q : ℕ) × (0 < mark now q) × (mark next r ≡ mark now q) × Leads t l q i r (i + 1)
+  pub comes : (r : ℕ) → 0 < mark next r
+      → (q : ℕ) × (0 < mark now q) × (mark next r ≡ mark now q) × Leads t l q i r (i + 1)
   pub goes : (q r : ℕ) → 0 < mark now q → mark now q ≤ limit → Edge (slice_get t q) l i r (i + 1)
       → (0 < mark next r) × (mark next r ≤ mark now q)
 
@@ -87,17 +90,21 @@ pub record Stepping (t : List State) (l : List ℕ) (i : ℕ) (now next : Member
   pub closed : IsClosed t l (i + 1) next
   pub ordered : IsOrdered next
   pub below : (j : ℕ) → k ≤ j → j < now.len → AllBelow next (mark now (listed now j))
-  pub comes : (r : ℕ) → 0 < mark next r → (q : ℕ) × (0 < mark now q) × (mark next r ≡ mark now q) × Leads t l q i r (i + 1)
-  pub goes : (j r : ℕ) → j < k → j < now.len → mark now (listed now j) ≤ limit → Edge (slice_get t (listed now j)) l i r (i + 1)
+  pub comes : (r : ℕ) → 0 < mark next r
+      → (q : ℕ) × (0 < mark now q) × (mark next r ≡ mark now q) × Leads t l q i r (i + 1)
+  pub goes : (j r : ℕ) → j < k → j < now.len → mark now (listed now j) ≤ limit
+      → Edge (slice_get t (listed now j)) l i r (i + 1)
       → (0 < mark next r) × (mark next r ≤ mark now (listed now j))
 
 -- The states that x leads to, without a byte, at any place that is neither the start nor the end of a line.
 pub record AreSeeds (t : List State) (x : ℕ) (seeds : List ℕ) : Type 0 where
   pub inside : (k : ℕ) → k < length seeds → slice_index seeds k < length t
   pub first : (k : ℕ) × (k < length seeds) × (slice_index seeds k ≡ x)
-  pub closed : (l : List ℕ) (i : ℕ) → i ≢ 0 → i ≢ length l → (k r : ℕ) → k < length seeds → Edge (slice_get t (slice_index seeds k)) l i r i
+  pub closed : (l : List ℕ) (i : ℕ) → i ≢ 0 → i ≢ length l → (k r : ℕ) → k < length seeds
+      → Edge (slice_get t (slice_index seeds k)) l i r i
       → (j : ℕ) × (j < length seeds) × (slice_index seeds j ≡ r)
-  pub leads : (l : List ℕ) (i : ℕ) → i ≢ 0 → i ≢ length l → (k : ℕ) → k < length seeds → Leads t l x i (slice_index seeds k) i
+  pub leads : (l : List ℕ) (i : ℕ) → i ≢ 0 → i ≢ length l → (k : ℕ) → k < length seeds
+      → Leads t l x i (slice_index seeds k) i
 
 -- the first k seeds were added
 pub record Sown (seeds : List ℕ) (old new : Members) (start k : ℕ) : Type 0 where
@@ -106,5 +113,6 @@ pub record Sown (seeds : List ℕ) (old new : Members) (start k : ℕ) : Type 0 
   pub ordered : IsOrdered new
   pub below : AllBelow new start
   pub kept : (q : ℕ) → 0 < mark old q → mark new q ≡ mark old q
-  pub fresh : (q : ℕ) → mark old q ≡ 0 → 0 < mark new q → (mark new q ≡ start) × ((j : ℕ) × (j < k) × (slice_index seeds j ≡ q))
+  pub fresh : (q : ℕ) → mark old q ≡ 0 → 0 < mark new q
+      → (mark new q ≡ start) × ((j : ℕ) × (j < k) × (slice_index seeds j ≡ q))
   pub here : (j : ℕ) → j < k → 0 < mark new (slice_index seeds j)

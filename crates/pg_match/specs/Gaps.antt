@@ -44,7 +44,8 @@ pub record HasGap (old new : List State) (g : Gap) : Type 0 where
 -- each table that has a part in the gap, from the state e on, has the whole, which goes on at the state x
 abbrev pub Completes : List State → Gap → Pattern → Pattern → ℕ → Type 0
 Completes t g part whole x =
-    (new : List State) (e w : ℕ) → KeepsWritten t new → Implements new part e g.next → Leads new g.hole e w → Implements new whole w x
+    (new : List State) (e w : ℕ) → KeepsWritten t new → Implements new part e g.next → Leads new g.hole e w
+    → Implements new whole w x
 
 -- the table grew, so that the gap for a pattern is one for its first part
 pub record Narrowed (old new : List State) (g h : Gap) (whole part : Pattern) : Type 0 where

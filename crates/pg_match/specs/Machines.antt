@@ -6,10 +6,13 @@ use Rattle.pg_match.specs.Sizes.{list_size}
 use Rattle.pg_match.specs.Automata.{Nfa, Runs}
 use Rattle.pg_match.specs.declared.bounds.Bounds.{Bounds}
 
--- The automaton runs along the spans that some pattern matches, and along no others. Without any pattern it may run along empty spans.
+-- The automaton runs along the spans that some pattern matches, and along no others. Without any pattern it may run
+-- along empty spans.
 pub record Agrees (m : Nfa) (patterns : List Pattern) : Type 0 where
-  pub sound : (line : List ℕ) (n i j : ℕ) → Runs m.states line n m.start i j → (i < j) ⊎ IsTrue m.some → Matched patterns line i j
-  pub complete : (line : List ℕ) (i j : ℕ) → Matched patterns line i j → IsTrue m.some × ((n : ℕ) × Runs m.states line n m.start i j)
+  pub sound : (line : List ℕ) (n i j : ℕ) → Runs m.states line n m.start i j → (i < j) ⊎ IsTrue m.some
+      → Matched patterns line i j
+  pub complete : (line : List ℕ) (i j : ℕ) → Matched patterns line i j
+      → IsTrue m.some × ((n : ℕ) × Runs m.states line n m.start i j)
 
 -- the machine has these patterns and bounds, and as many states as the patterns' sizes ask for
 pub record IsMachineOf (m : Nfa) (patterns : List Pattern) (bounds : Bounds) : Type 0 where

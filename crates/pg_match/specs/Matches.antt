@@ -7,9 +7,10 @@ abbrev pub Chain : (ℕ → ℕ → Type 0) → ℕ → ℕ → ℕ → Type 0
 Chain Span zero i j = i ≡ j
 Chain Span (suc count) i j = (k : ℕ) × Span i k × Chain Span count k j
 
--- The pattern matches the line from one place to another. The empty string is matched everywhere; a set matches one byte that is
--- in it (XBD 9.3.2 to 9.3.5); the anchors match the empty string where the line begins and where it ends (XBD 9.3.8);
--- a repetition matches as many spans, one behind the other, as its counts allow (XBD 9.3.6, items 4 and 5).
+-- The pattern matches the line from one place to another. The empty string is matched everywhere; a set matches one
+-- byte that is in it (XBD 9.3.2 to 9.3.5); the anchors match the empty string where the line begins and where it ends
+-- (XBD 9.3.8); a repetition matches as many spans, one behind the other, as its counts allow (XBD 9.3.6, items 4 and
+-- 5).
 abbrev pub Match : Pattern → List ℕ → ℕ → ℕ → Type 0
 Match Empty line i j = i ≡ j
 Match (Set s) line i j = (b : ℕ) × (slice_get line i ≡ Some b) × (s b ≡ true) × (j ≡ i + 1)

@@ -1,5 +1,6 @@
 -- What a search has found so far, and what it may still find.
-use Rattle.std.specs.Prelude.{◌≡◌, ℕ, zero, suc, ◌+◌, ◌-◌, ◌^◌, ◌<◌, ◌≤◌, Bool, List, length, Option, Some, None, nat_lt, nat_le, if◌then◌else◌, IsTrue}
+use Rattle.std.specs.Prelude.{◌≡◌, ℕ, zero, suc, ◌+◌, ◌-◌, ◌^◌, ◌<◌, ◌≤◌, Bool, List, length}
+use Rattle.std.specs.Prelude.{Option, Some, None, nat_lt, nat_le, if◌then◌else◌, IsTrue}
 use Rattle.pg_match.specs.Bounds.{may_end}
 use Rattle.pg_match.specs.Automata.{Nfa, Runs}
 use Rattle.pg_match.specs.StateSets.{Members, mark, IsGood}
@@ -23,17 +24,20 @@ IsBest t l x B E from p (Some b) =
     × ((s j : ℕ) → from ≤ s → s < j → j < p → RunsFrom t l x B E s j → (b.0 ≤ s) × (s ≡ b.0 → j ≤ b.1))
 
 -- the set of position p holds what the starts from `from` to before `upto` that may still win lead to
-pub record Alive (t : List State) (l : List ℕ) (x : ℕ) (B : ℕ → Type 0) (from upto p : ℕ) (now : Members) (best : Option (ℕ × ℕ)) : Type 0 where
+pub record Alive (t : List State) (l : List ℕ) (x : ℕ) (B : ℕ → Type 0) (from upto p : ℕ) (now : Members)
+    (best : Option (ℕ × ℕ)) : Type 0 where
   pub good : IsGood now
   pub size : length now.marks ≡ length t
   pub closed : IsClosed t l p now
   pub ordered : IsOrdered now
-  pub sound : (q : ℕ) → 0 < mark now q → (s : ℕ) × (mark now q ≡ s + 1) × (from ≤ s) × (s < upto) × B s × Leads t l x s q p
+  pub sound : (q : ℕ) → 0 < mark now q
+      → (s : ℕ) × (mark now q ≡ s + 1) × (from ≤ s) × (s < upto) × B s × Leads t l x s q p
   pub complete : (s n j : ℕ) → from ≤ s → s < upto → B s → Early best s → Runs t l n x s j → p ≤ j
       → (q : ℕ) × (m : ℕ) × (0 < mark now q) × (mark now q ≤ s + 1) × Runs t l m q p j
 
 -- x was added at p, if it is wanted and B allows it
-pub record Seeded (t : List State) (l : List ℕ) (x : ℕ) (B : ℕ → Type 0) (p : ℕ) (wanted : Bool) (old new : Members) : Type 0 where
+pub record Seeded (t : List State) (l : List ℕ) (x : ℕ) (B : ℕ → Type 0) (p : ℕ) (wanted : Bool)
+    (old new : Members) : Type 0 where
   pub good : IsGood new
   pub size : length new.marks ≡ length old.marks
   pub closed : IsClosed t l p new

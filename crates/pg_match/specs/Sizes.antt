@@ -2,7 +2,8 @@
 use Rattle.std.specs.Prelude.{ℕ, ◌+◌, ◌-◌, ◌*◌, List, length, sum_by, Option, Some, None}
 use Rattle.pg_syntax.specs.Patterns.{Pattern, Empty, Set, Begin, End, Cat, Alt, Rep}
 
--- a repetition of a pattern of a size: its copies, and a state for each of them that may be left out, or one for the loop
+-- a repetition of a pattern of a size: its copies, and a state for each of them that may be left out, or one for the
+-- loop
 abbrev pub repeated_size : ℕ → ℕ → Option ℕ → ℕ
 repeated_size size least None = (least + 1) * size + 1
 repeated_size size least (Some most) = most * size + (most - least)

@@ -31,7 +31,8 @@ pub record Inserted (old new : Members) (q m : ℕ) : Type 0 where
   pub good : IsGood new
   pub size : length new.marks ≡ length old.marks
   pub kept : (r : ℕ) → 0 < mark old r → mark new r ≡ mark old r
-  pub fresh : (r : ℕ) → mark old r ≡ 0 → 0 < mark new r → (r ≡ q) × (mark new r ≡ m) × (listed new old.len ≡ r) × (new.len ≡ old.len + 1)
+  pub fresh : (r : ℕ) → mark old r ≡ 0 → 0 < mark new r
+      → (r ≡ q) × (mark new r ≡ m) × (listed new old.len ≡ r) × (new.len ≡ old.len + 1)
   pub here : 0 < mark new q
   pub list : (k : ℕ) → k < old.len → listed new k ≡ listed old k
   pub longer : old.len ≤ new.len

@@ -222,7 +222,8 @@ fn open_repetition<A: Allocator>(
     requires fits { length states.old.items + size_of (Rep (pattern inner.now) least most) ≤ 65536 }
     requires gap_in { IsGap 0 states.old.items gap }
     ensures { IfOk result
-        (λ g. Narrowed states.old.items states.new.items gap g (Rep (pattern inner.now) least most) (pattern inner.now)) }
+        (λ g. Narrowed states.old.items states.new.items gap g
+        (Rep (pattern inner.now) least most) (pattern inner.now)) }
 {
     match most {
         None => {

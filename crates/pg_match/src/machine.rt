@@ -1,5 +1,6 @@
 //! Machines, and what a search needs.
-ghost use Rattle.std.specs.Prelude.{◌≡◌, ◌+◌, ◌*◌, ◌^◌, ◌<◌, ◌≤◌, ◌↔◌, List, All, length, map, IsTrue, IfOk, IsErrOf, MatchOption};
+ghost use Rattle.std.specs.Prelude.{◌≡◌, ◌+◌, ◌*◌, ◌^◌, ◌<◌, ◌≤◌, ◌↔◌, List, All};
+ghost use Rattle.std.specs.Prelude.{length, map, IsTrue, IfOk, IsErrOf, MatchOption};
 ghost use Rattle.pg_syntax.specs.Patterns.{Pattern, IsProper};
 ghost use Rattle.pg_syntax.specs.Trees.{pattern};
 ghost use Rattle.pg_match.specs.Sizes.{list_size};
@@ -130,7 +131,8 @@ impl<A: Allocator> Machine<A> {
         requires from_in { from ≤ length line.now }
         ensures fits { Fits scratch.new self.now }
         ensures next { (patterns : List Pattern) (bounds : Bounds) → IsMachineOf self.now patterns bounds
-            → MatchOption result (HasNoNext patterns bounds line.now from) (λ b. IsNext patterns bounds line.now from b.0 b.1) }
+            → MatchOption result (HasNoNext patterns bounds line.now from)
+            (λ b. IsNext patterns bounds line.now from b.0 b.1) }
         ensures visits { (patterns : List Pattern) (bounds : Bounds) → IsMachineOf self.now patterns bounds
             → scratch.new.visits ≤ (length line.now + 1) * list_size patterns }
     {

@@ -1,5 +1,6 @@
 //! The search of a line, one place after the other.
-ghost use Rattle.std.specs.Prelude.{◌≡◌, ◌+◌, ◌*◌, ◌^◌, ◌<◌, ◌≤◌, ◌↔◌, List, length, is_none, IsTrue, MatchOption, IfOk};
+ghost use Rattle.std.specs.Prelude.{◌≡◌, ◌+◌, ◌*◌, ◌^◌, ◌<◌, ◌≤◌, ◌↔◌, List};
+ghost use Rattle.std.specs.Prelude.{length, is_none, IsTrue, MatchOption, IfOk};
 ghost use Rattle.pg_syntax.specs.Patterns.{Pattern};
 ghost use Rattle.pg_match.specs.Automata.{IsRunnable};
 ghost use Rattle.pg_match.specs.Bounds.{MayBegin, MayEnd};
@@ -86,7 +87,8 @@ impl<A: Allocator> Automaton<A> {
         requires ordered { IsOrdered (members set.old) }
         requires below { AllBelow (members set.old) (place + 1) }
         requires short { place ≤ 2 ^ 30 }
-        ensures { Sown self.now.seeds.items (members set.old) (members set.new) (place + 1) (length self.now.seeds.items) }
+        ensures { Sown self.now.seeds.items (members set.old) (members set.new)
+            (place + 1) (length self.now.seeds.items) }
     {
         let mark = place as u32 + 1;
         for k in 0..self.seeds.len() {

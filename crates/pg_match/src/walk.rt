@@ -2,7 +2,8 @@
 ghost use Rattle.std.specs.Prelude.{◌≡◌, ◌<◌, length, IfOk};
 ghost use Rattle.pg_match.specs.Automata.{IsTidy};
 ghost use Rattle.pg_match.specs.StateSets.{IsGood};
-ghost use Rattle.pg_match.specs.Closures.{AreSeeds, HasPaths, Followed, Reached, Stepped, IsClosed, IsOrdered, AllBelow};
+ghost use Rattle.pg_match.specs.Closures.{AreSeeds, HasPaths, Followed, Reached};
+ghost use Rattle.pg_match.specs.Closures.{Stepped, IsClosed, IsOrdered, AllBelow};
 ghost use Rattle.pg_match.specs.Views.{members};
 
 use crate::state::State;

@@ -10,12 +10,16 @@ use Rattle.pg_syntax.specs.declared.bracket.Mode.TheVariants.{Fresh, Held, Dashe
 use Rattle.pg_syntax.specs.declared.bracket.Reading.{Reading}
 use Rattle.pg_syntax.specs.declared.fault.SyntaxFault.{SyntaxFault}
 use Rattle.pg_syntax.specs.declared.fault.FaultKind.{FaultKind}
-use Rattle.pg_syntax.specs.declared.fault.FaultKind.TheVariants.{TrailingBackslash, BadEscape, BackReference, UnmatchedBracket, BadClass, BadCollating, BadRange, UnmatchedGroup, BadInterval, NothingToRepeat, EmptyOperand, TooDeep, OutOfMemory, TooLong}
+use Rattle.pg_syntax.specs.declared.fault.FaultKind.TheVariants.{TrailingBackslash, BadEscape, BackReference}
+use Rattle.pg_syntax.specs.declared.fault.FaultKind.TheVariants.{UnmatchedBracket, BadClass, BadCollating, BadRange}
+use Rattle.pg_syntax.specs.declared.fault.FaultKind.TheVariants.{UnmatchedGroup, BadInterval, NothingToRepeat}
+use Rattle.pg_syntax.specs.declared.fault.FaultKind.TheVariants.{EmptyOperand, TooDeep, OutOfMemory, TooLong}
 
 -- an element stands at this offset
 abbrev pub At : List ℕ → ℕ → Element → Type 0
 At text at (Single b) = at < length text
-At text at (Enclosed mark content) = (at < length text) × Stands text at (91 ∷ mark ∷ []) × ((mark ≡ 58) ⊎ ((mark ≡ 61) ⊎ (mark ≡ 46)))
+At text at (Enclosed mark content) =
+    (at < length text) × Stands text at (91 ∷ mark ∷ []) × ((mark ≡ 58) ⊎ ((mark ≡ 61) ⊎ (mark ≡ 46)))
 
 -- a fault of this kind can stand at this offset of a bracket
 abbrev pub BracketPlace : FaultKind → List ℕ → ℕ → Type 0
@@ -58,4 +62,5 @@ Placed text r = FaultPlaced text r.fault × ModePlaced text r.mode
 -- the element that is found at an offset, and the offset after it
 abbrev pub FindsElement : List ℕ → ℕ → Option (Element × ℕ) → Option (B.Element × List ℕ) → Type 0
 FindsElement text at None found = found ≡ None
-FindsElement text at (Some x) found = (found ≡ Some (element x.0, drop x.1 text)) × At text at x.0 × (at < x.1) × (x.1 ≤ length text)
+FindsElement text at (Some x) found =
+    (found ≡ Some (element x.0, drop x.1 text)) × At text at x.0 × (at < x.1) × (x.1 ≤ length text)

@@ -1,6 +1,7 @@
 -- How the functions of this crate read a bracket from left to right. They are proved against this; what a bracket is
 -- stands in Brackets, and the two are proved to agree.
-use Rattle.std.specs.Prelude.{ℕ, zero, suc, ◌+◌, ◌-◌, ◌≡◌, ◌<◌, Bool, true, false, not, ◌&&◌, ◌==◌, nat_le, List, [], ◌∷◌, length, drop, slice_index, ◌⊎◌, Option, Some, None, option_and_then, if◌then◌else◌}
+use Rattle.std.specs.Prelude.{ℕ, zero, suc, ◌+◌, ◌-◌, ◌≡◌, ◌<◌, Bool, true, false, not, ◌&&◌, ◌==◌, nat_le, List, []}
+use Rattle.std.specs.Prelude.{◌∷◌, length, drop, slice_index, ◌⊎◌, Option, Some, None, option_and_then, if◌then◌else◌}
 use Rattle.pg_bytes.specs.Sets.{Bytes, empty, between, union, complement}
 use Rattle.pg_syntax.specs.Patterns.{folded}
 use Rattle.pg_syntax.specs.Brackets.{Element, Single, Enclosed, opens, member, end_point, is_dash}
@@ -45,7 +46,8 @@ inside_at zero first t = None
 inside_at (suc n) first [] = None
 inside_at (suc n) first (b ∷ t) =
     if (b == 93) && not first then Some ([], t)
-    else if (b == 91) && opens t then option_and_then (λ (e, rest). with_element e (inside_at n false rest)) (enclosed_at t)
+    else if (b == 91) && opens t then
+    option_and_then (λ (e, rest). with_element e (inside_at n false rest)) (enclosed_at t)
     else with_element (Single b) (inside_at n false t)
 
 -- the union of two sets that are both there
@@ -77,7 +79,8 @@ members_of (Dashed a d) [] = unite (member a) (unite (member d) (Some empty))
 members_of Ranged [] = Some empty
 members_of (Barred d) [] = unite (member d) (Some empty)
 members_of Fresh (a ∷ es) = members_of (Held a) es
-members_of (Held a) (d ∷ es) = if is_dash d then members_of (Dashed a d) es else unite (member a) (members_of (Held d) es)
+members_of (Held a) (d ∷ es) =
+    if is_dash d then members_of (Dashed a d) es else unite (member a) (members_of (Held d) es)
 members_of (Dashed a d) (b ∷ es) = unite (range_of (end_point a) (end_point b)) (members_of Ranged es)
 members_of Ranged (d ∷ es) = if is_dash d then members_of (Barred d) es else members_of (Held d) es
 members_of (Barred d) (b ∷ es) = None
@@ -95,7 +98,9 @@ same s = s
 unfoldable pub bracket : Bool → List ℕ → Option (Bytes × List ℕ)
 bracket fold [] = None
 bracket fold (b ∷ []) = None
-bracket fold (b ∷ c ∷ t) = if c == 94 then set_of fold complement (inside_at (length t) true t) else set_of fold same (inside_at (length t + 1) true (c ∷ t))
+bracket fold (b ∷ c ∷ t) =
+    if c == 94 then set_of fold complement (inside_at (length t) true t)
+    else set_of fold same (inside_at (length t + 1) true (c ∷ t))
 
 -- how far the elements are read: what the last of them may still do, the set of those before, and whether one was bad
 pub record Reading : Type 0 where

@@ -1,5 +1,6 @@
 -- Bracket expressions (XBD 9.3.5, 9.4.5).
-use Rattle.std.specs.Prelude.{ℕ, ◌≡◌, ◌≤◌, Bool, true, false, not, ◌&&◌, ◌||◌, ◌==◌, List, [], ◌∷◌, ◌++◌, Option, Some, None, option_and_then, if◌then◌else◌}
+use Rattle.std.specs.Prelude.{ℕ, ◌≡◌, ◌≤◌, Bool, true, false, not, ◌&&◌, ◌||◌, ◌==◌, List, []}
+use Rattle.std.specs.Prelude.{◌∷◌, ◌++◌, Option, Some, None, option_and_then, if◌then◌else◌}
 use Rattle.pg_bytes.specs.Sets.{Bytes, empty, one, between, union, complement}
 use Rattle.pg_bytes.specs.Classes.{class}
 use Rattle.pg_syntax.specs.Patterns.{folded}
@@ -24,8 +25,11 @@ has_end c (a ∷ b ∷ t) = ((a == c) && (b == 93)) || has_end c (b ∷ t)
 -- mark begins an element that runs to the first such mark with a `]` (rules 4 to 6).
 pub data Inside : Bool → List ℕ → List Element → Type 0 where
   close : Inside false (93 ∷ []) []
-  single : {first : Bool} {b : ℕ} {t : List ℕ} {es : List Element} → ((b == 93) && not first) ≡ false → ((b == 91) && opens t) ≡ false → Inside false t es → Inside first (b ∷ t) (Single b ∷ es)
-  enclosed : {first : Bool} {c : ℕ} {content t : List ℕ} {es : List Element} → opens (c ∷ []) ≡ true → has_end c content ≡ false → Inside false t es → Inside first (91 ∷ c ∷ content ++ (c ∷ 93 ∷ t)) (Enclosed c content ∷ es)
+  single : {first : Bool} {b : ℕ} {t : List ℕ} {es : List Element} → ((b == 93) && not first) ≡ false
+      → ((b == 91) && opens t) ≡ false → Inside false t es → Inside first (b ∷ t) (Single b ∷ es)
+  enclosed : {first : Bool} {c : ℕ} {content t : List ℕ} {es : List Element} → opens (c ∷ []) ≡ true
+      → has_end c content ≡ false → Inside false t es
+      → Inside first (91 ∷ c ∷ content ++ (c ∷ 93 ∷ t)) (Enclosed c content ∷ es)
 
 -- the byte of a content of one byte
 abbrev pub only_byte : List ℕ → Option ℕ
@@ -59,8 +63,11 @@ ranges (d ∷ b ∷ es) = is_dash d
 -- other one may begin.
 pub data Members : List Element → Bytes → Type 0 where
   none : Members [] empty
-  alone : {a : Element} {es : List Element} {s t : Bytes} → member a ≡ Some s → ranges es ≡ false → Members es t → Members (a ∷ es) (union s t)
-  range : {a d b : Element} {es : List Element} {m n : ℕ} {t : Bytes} → is_dash d ≡ true → end_point a ≡ Some m → end_point b ≡ Some n → m ≤ n → ranges es ≡ false → Members es t → Members (a ∷ d ∷ b ∷ es) (union (between m n) t)
+  alone : {a : Element} {es : List Element} {s t : Bytes} → member a ≡ Some s → ranges es ≡ false → Members es t
+      → Members (a ∷ es) (union s t)
+  range : {a d b : Element} {es : List Element} {m n : ℕ} {t : Bytes} → is_dash d ≡ true → end_point a ≡ Some m
+      → end_point b ≡ Some n → m ≤ n → ranges es ≡ false → Members es t
+      → Members (a ∷ d ∷ b ∷ es) (union (between m n) t)
 
 -- a `^` stands at the front
 abbrev pub negates : List ℕ → Bool
@@ -69,5 +76,7 @@ negates (b ∷ t) = b == 94
 
 -- A bracket and its set. With a `^` behind the `[` it is the complement (rule 3), taken after case was folded.
 pub data IsBracket (fold : Bool) : List ℕ → Bytes → Type 0 where
-  plain : {t : List ℕ} {es : List Element} {s : Bytes} → negates t ≡ false → Inside true t es → Members es s → IsBracket fold (91 ∷ t) (folded fold s)
-  negated : {t : List ℕ} {es : List Element} {s : Bytes} → Inside true t es → Members es s → IsBracket fold (91 ∷ 94 ∷ t) (complement (folded fold s))
+  plain : {t : List ℕ} {es : List Element} {s : Bytes} → negates t ≡ false → Inside true t es → Members es s
+      → IsBracket fold (91 ∷ t) (folded fold s)
+  negated : {t : List ℕ} {es : List Element} {s : Bytes} → Inside true t es → Members es s
+      → IsBracket fold (91 ∷ 94 ∷ t) (complement (folded fold s))

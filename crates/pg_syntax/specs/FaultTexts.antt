@@ -2,7 +2,10 @@
 use Rattle.std.specs.Prelude.{ℕ, List, ◌++◌, codes}
 use Rattle.std.specs.Fmt.{decimal}
 use Rattle.pg_syntax.specs.declared.fault.FaultKind.{FaultKind}
-use Rattle.pg_syntax.specs.declared.fault.FaultKind.TheVariants.{TrailingBackslash, BadEscape, BackReference, UnmatchedBracket, BadClass, BadCollating, BadRange, UnmatchedGroup, BadInterval, NothingToRepeat, EmptyOperand, TooDeep, OutOfMemory, TooLong}
+use Rattle.pg_syntax.specs.declared.fault.FaultKind.TheVariants.{TrailingBackslash, BadEscape, BackReference}
+use Rattle.pg_syntax.specs.declared.fault.FaultKind.TheVariants.{UnmatchedBracket, BadClass, BadCollating, BadRange}
+use Rattle.pg_syntax.specs.declared.fault.FaultKind.TheVariants.{UnmatchedGroup, BadInterval, NothingToRepeat}
+use Rattle.pg_syntax.specs.declared.fault.FaultKind.TheVariants.{EmptyOperand, TooDeep, OutOfMemory, TooLong}
 use Rattle.pg_syntax.specs.declared.fault.SyntaxFault.{SyntaxFault}
 use Rattle.pg_syntax.specs.declared.fault.ListFault.{ListFault}
 
@@ -34,4 +37,6 @@ fault_text f = text_by_kind f.kind (kind_text f.kind) (kind_text f.kind ++ (code
 
 -- in which pattern what is wrong, and where
 abbrev pub list_text : ListFault → List ℕ
-list_text f = text_by_kind f.fault.kind (fault_text f.fault) (codes "pattern " ++ (decimal f.pattern ++ (codes ": " ++ fault_text f.fault)))
+list_text f =
+    text_by_kind f.fault.kind (fault_text f.fault)
+    (codes "pattern " ++ (decimal f.pattern ++ (codes ": " ++ fault_text f.fault)))

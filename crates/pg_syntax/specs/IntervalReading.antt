@@ -1,6 +1,7 @@
 -- How the functions of this crate read bounds from left to right. They are proved against this; what bounds are stands
 -- in Intervals, and the two are proved to agree.
-use Rattle.std.specs.Prelude.{ℕ, ◌+◌, ◌-◌, ◌*◌, ◌==◌, nat_le, List, [], ◌∷◌, Option, Some, None, if◌then◌else◌, option_and_then}
+use Rattle.std.specs.Prelude.{ℕ, ◌+◌, ◌-◌, ◌*◌, ◌==◌, nat_le, List, [], ◌∷◌}
+use Rattle.std.specs.Prelude.{Option, Some, None, if◌then◌else◌, option_and_then}
 use Rattle.pg_bytes.specs.Classes.{digit}
 
 -- the number that the digits at the front write behind n, and what is left after them

@@ -12,7 +12,8 @@ AreSpelled kind fold [] (p ∷ ps) = ⊥
 AreSpelled kind fold (text ∷ texts) [] = ⊥
 AreSpelled kind fold (text ∷ texts) (p ∷ ps) = IsSpelled kind fold text p × AreSpelled kind fold texts ps
 
--- The fault is that of the first text that spells no pattern, counted from 1: those in front of it spell their patterns.
+-- The fault is that of the first text that spells no pattern, counted from 1: those in front of it spell their
+-- patterns.
 pub record IsFirstRefused (kind : Kind) (fold : Bool) (texts : List (List ℕ)) (f : ListFault) : Type 0 where
   pub front : List (List ℕ)
   pub text : List ℕ

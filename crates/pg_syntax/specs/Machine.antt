@@ -1,6 +1,7 @@
 -- How the functions of this crate read an expression from left to right, token by token. They are proved against this;
 -- what a text spells stands in Grammar, and the two are proved to agree.
-use Rattle.std.specs.Prelude.{ℕ, ◌≡◌, Bool, true, false, ◌&&◌, ◌==◌, nat_lt, List, [], ◌∷◌, length, Option, Some, None, is_some, is_none, option_and_then, if◌then◌else◌}
+use Rattle.std.specs.Prelude.{ℕ, ◌≡◌, Bool, true, false, ◌&&◌, ◌==◌, nat_lt, List, [], ◌∷◌, length}
+use Rattle.std.specs.Prelude.{Option, Some, None, is_some, is_none, option_and_then, if◌then◌else◌}
 use Rattle.pg_bytes.specs.Sets.{Bytes, one, all}
 use Rattle.pg_syntax.specs.Patterns.{Pattern, Set, Begin, End, Cat, Alt, Rep, folded}
 use Rattle.pg_syntax.specs.BracketReading.{bracket}
@@ -83,7 +84,10 @@ anchored p s = record { outer = s.outer; level = with_anchor p s.level }
 -- the item is repeated, if there is one
 abbrev pub repeated : ℕ → Option ℕ → State → Option Pattern → Option State
 repeated m n s None = None
-repeated m n s (Some p) = Some (record { outer = s.outer; level = record { alternatives = s.level.alternatives; sequence = s.level.sequence; item = Some (Rep p m n) } })
+repeated m n s (Some p) = Some (record {
+  outer = s.outer;
+  level = record { alternatives = s.level.alternatives; sequence = s.level.sequence; item = Some (Rep p m n) };
+})
 
 -- a group is opened, if fewer than 100 are open
 abbrev pub opened : State → Option State
@@ -98,7 +102,8 @@ popped (l ∷ ls) (Some p) = Some (record { outer = ls; level = with_item p l })
 -- another alternative begins, if the one in front of it isn't empty
 abbrev pub barred : State → Option Pattern → Option State
 barred s None = None
-barred s (Some p) = Some (record { outer = s.outer; level = record { alternatives = Some p; sequence = None; item = None } })
+barred s (Some p) =
+    Some (record { outer = s.outer; level = record { alternatives = Some p; sequence = None; item = None } })
 
 -- the state after a token
 abbrev pub after : Token → State → Option State
@@ -185,17 +190,20 @@ token Extended fold s (b ∷ t) = extended_token fold s b t
 
 -- the state after the token at the front, and the rest of the text
 abbrev pub next : Syntax → Bool → State → List ℕ → Option (State × List ℕ)
-next syntax fold s t = option_and_then (λ (k, rest). option_and_then (λ s'. Some (s', rest)) (after k s)) (token syntax fold s t)
+next syntax fold s t =
+    option_and_then (λ (k, rest). option_and_then (λ s'. Some (s', rest)) (after k s)) (token syntax fold s t)
 
 -- From this state on, the rest of the text makes the pattern.
 pub data Completes (syntax : Syntax) (fold : Bool) : State → List ℕ → Pattern → Type 0 where
   done : {l : Level} {p : Pattern} → whole l ≡ Some p → Completes syntax fold (record { outer = []; level = l }) [] p
-  step : {s s' : State} {t rest : List ℕ} {p : Pattern} → next syntax fold s t ≡ Some (s', rest) → Completes syntax fold s' rest p → Completes syntax fold s t p
+  step : {s s' : State} {t rest : List ℕ} {p : Pattern} → next syntax fold s t ≡ Some (s', rest)
+      → Completes syntax fold s' rest p → Completes syntax fold s t p
 
 -- Read from its start, the text leads to the state, and this rest is left.
 pub data Leads (syntax : Syntax) (fold : Bool) (text : List ℕ) : State → List ℕ → Type 0 where
   begin : Leads syntax fold text start text
-  onward : {s s' : State} {t rest : List ℕ} → Leads syntax fold text s t → next syntax fold s t ≡ Some (s', rest) → Leads syntax fold text s' rest
+  onward : {s s' : State} {t rest : List ℕ} → Leads syntax fold text s t → next syntax fold s t ≡ Some (s', rest)
+      → Leads syntax fold text s' rest
 
 -- a group is open where the text ends
 pub record LeavesOpen (syntax : Syntax) (text : List ℕ) : Type 0 where

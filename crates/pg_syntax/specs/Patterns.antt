@@ -2,8 +2,8 @@
 use Rattle.std.specs.Prelude.{ℕ, ◌≤◌, Bool, Option, IfSome, if◌then◌else◌}
 use Rattle.pg_bytes.specs.Sets.{Bytes, closed}
 
--- the empty string, one byte of a set, the ends of a line, two parts in their order, one of two, and repetitions between
--- a least count and, where it is given, a greatest
+-- the empty string, one byte of a set, the ends of a line, two parts in their order, one of two, and repetitions
+-- between a least count and, where it is given, a greatest
 pub data Pattern : Type 0 where
   Empty : Pattern
   Set : Bytes → Pattern

@@ -8,7 +8,10 @@ use Rattle.pg_syntax.specs.declared.token.Syntax.TheVariants.{Basic, Extended}
 use Rattle.pg_syntax.specs.declared.pattern_list.Kind.{Kind}
 use Rattle.pg_syntax.specs.declared.pattern_list.Kind.TheVariants as K
 use Rattle.pg_syntax.specs.declared.fault.FaultKind.{FaultKind}
-use Rattle.pg_syntax.specs.declared.fault.FaultKind.TheVariants.{TrailingBackslash, BadEscape, BackReference, UnmatchedBracket, BadClass, BadCollating, BadRange, UnmatchedGroup, BadInterval, NothingToRepeat, EmptyOperand, TooDeep, OutOfMemory, TooLong}
+use Rattle.pg_syntax.specs.declared.fault.FaultKind.TheVariants.{TrailingBackslash, BadEscape, BackReference}
+use Rattle.pg_syntax.specs.declared.fault.FaultKind.TheVariants.{UnmatchedBracket, BadClass, BadCollating, BadRange}
+use Rattle.pg_syntax.specs.declared.fault.FaultKind.TheVariants.{UnmatchedGroup, BadInterval, NothingToRepeat}
+use Rattle.pg_syntax.specs.declared.fault.FaultKind.TheVariants.{EmptyOperand, TooDeep, OutOfMemory, TooLong}
 
 -- the bytes stand in the text at this offset
 abbrev pub Stands : List ℕ → ℕ → List ℕ → Type 0
@@ -29,11 +32,15 @@ PlaceIn syntax UnmatchedBracket text at = Stands text at (91 ∷ [])
 PlaceIn syntax BadClass text at = Stands text at (91 ∷ 58 ∷ [])
 PlaceIn syntax BadCollating text at = Stands text at (91 ∷ 61 ∷ []) ⊎ Stands text at (91 ∷ 46 ∷ [])
 PlaceIn syntax BadRange text at = at < length text
-PlaceIn syntax UnmatchedGroup text at = ((syntax ≡ Basic) × Stands text at (closing Basic)) ⊎ ((at ≡ length text) × LeavesOpen syntax text)
+PlaceIn syntax UnmatchedGroup text at =
+    ((syntax ≡ Basic) × Stands text at (closing Basic)) ⊎ ((at ≡ length text) × LeavesOpen syntax text)
 PlaceIn syntax BadInterval text at = Stands text at (brace syntax)
 PlaceIn Basic NothingToRepeat text at = Stands text at (42 ∷ []) ⊎ Stands text at (brace Basic)
-PlaceIn Extended NothingToRepeat text at = (b : ℕ) × ((b ≡ 42) ⊎ ((b ≡ 43) ⊎ ((b ≡ 63) ⊎ (b ≡ 123)))) × Stands text at (b ∷ [])
-PlaceIn syntax EmptyOperand text at = Stands text at (closing syntax) ⊎ (((syntax ≡ Extended) × Stands text at (124 ∷ [])) ⊎ ((at ≡ length text) × LeavesEmpty syntax text))
+PlaceIn Extended NothingToRepeat text at =
+    (b : ℕ) × ((b ≡ 42) ⊎ ((b ≡ 43) ⊎ ((b ≡ 63) ⊎ (b ≡ 123)))) × Stands text at (b ∷ [])
+PlaceIn syntax EmptyOperand text at =
+    Stands text at (closing syntax)
+    ⊎ (((syntax ≡ Extended) × Stands text at (124 ∷ [])) ⊎ ((at ≡ length text) × LeavesEmpty syntax text))
 PlaceIn syntax TooDeep text at = Stands text at (opening syntax)
 PlaceIn syntax OutOfMemory text at = at ≡ 0
 PlaceIn syntax TooLong text at = IsPastLongest text at

@@ -26,4 +26,5 @@ FindsBounds text at (Some x) found = (found ≡ Some (x.0, x.1, drop x.2 text)) 
 abbrev pub EndsContent : List ℕ → ℕ → ℕ → Option ℕ → Type 0
 EndsContent text mark from None = until mark (drop from text) ≡ None
 EndsContent text mark from (Some end) =
-    (until mark (drop from text) ≡ Some (take (end - from) (drop from text), drop (end + 2) text)) × (from ≤ end) × (end + 1 < length text)
+    (until mark (drop from text) ≡ Some (take (end - from) (drop from text), drop (end + 2) text)) × (from ≤ end)
+    × (end + 1 < length text)

@@ -28,10 +28,12 @@ both_ways false false f g = refl
 -- such a test is an equivalence
 pub equivalence_of : {K : Type 0} {test : K → K → Bool} → TestsEqual test → IsEquivalence test
 equivalence_of {K} {test} h =
-    let along : (x y : K) → x ≡ y → test x y ≡ true = λ x y e. let P : K → Type 0 = λ z. test x z ≡ true in subst P e (h.complete x) in
+    let along : (x y : K) → x ≡ y → test x y ≡ true =
+    λ x y e. let P : K → Type 0 = λ z. test x z ≡ true in subst P e (h.complete x) in
     record {
       refl = h.complete;
-      symm = λ x y. both_ways (test x y) (test y x) (λ e. along y x (sym (h.sound x y e))) (λ e. along x y (sym (h.sound y x e)));
+      symm = λ x y. both_ways (test x y) (test y x) (λ e. along y x (sym (h.sound x y e)))
+          (λ e. along x y (sym (h.sound y x e)));
       congr = λ x y z e. ap (λ v. test v z) (h.sound x y e);
     }
 

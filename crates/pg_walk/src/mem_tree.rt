@@ -1,5 +1,6 @@
 //! A tree of files in memory, for tests.
-ghost use Rattle.std.specs.Prelude.{◌≡◌, ◌++◌, ◌∷◌, [], Some, None, false, map, option_map, option_copied, OnOk, OnErr, IfOk};
+ghost use Rattle.std.specs.Prelude.{◌≡◌, ◌++◌, ◌∷◌, [], Some, None, false, map};
+ghost use Rattle.std.specs.Prelude.{option_map, option_copied, OnOk, OnErr, IfOk};
 ghost use Rattle.std.specs.String.{string_bytes};
 ghost use Rattle.pg_walk.specs.declared.tree.FileKind.TheVariants.{Directory};
 ghost use Rattle.pg_walk.specs.MemTree.{node_data, stored, node_at};

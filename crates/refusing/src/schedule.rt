@@ -13,7 +13,8 @@ pub(crate) struct Schedule {
 impl Schedule {
     /// Whether the request with this number is refused.
     pub fn refuses(&self, number: u64) -> bool
-        ensures { IsTrue result ↔ ((number ≡ self.now.passes) ⊎ (IsTrue self.now.is_lasting × (self.now.passes ≤ number))) }
+        ensures { IsTrue result
+            ↔ ((number ≡ self.now.passes) ⊎ (IsTrue self.now.is_lasting × (self.now.passes ≤ number))) }
     {
         number == self.passes || self.is_lasting && self.passes < number
     }
