@@ -1,5 +1,5 @@
-//! Times parts that the program doesn't use yet: `pg_bench patterns MEGABYTES` and `pg_bench files OPERAND..`. Without an
-//! argument it does nothing.
+//! Times parts that the program doesn't use yet: `pg_bench patterns MEGABYTES` and `pg_bench files OPERAND..`. Without
+//! an argument it does nothing.
 #![tactic(auto)]
 
 mod files;

@@ -186,7 +186,8 @@ module _ {T : Type 0} where
             (record { taker = λ some_takers. absurd (omega arith); putters = tt }) (λ j y apart e knows. knows);
       }
 
-  -- the one that takes, once it has all passes, knows that what was taken, and then what is held, is a merge of what they put
+  -- the one that takes, once it has all passes, knows that what was taken, and then what is held, is a merge of what
+  -- they put
   pub learns : (at : ℕ) (v : PassView T) → v.takers ≡ 1 → v.made ≡ length v.passes → Learns KeepsTray at v (IsWholeMerge v)
   learns at v one all items views h here =
       let mine = h.each_view at v here in let know = mine.taker (omega arith) in

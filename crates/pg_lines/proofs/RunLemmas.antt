@@ -103,7 +103,8 @@ pub line_some : (bytes : List ℕ) (s k e stop : ℕ) → s ≤ k → k ≤ e �
 line_some bytes s k e stop low high below (inl h) = (omega (arith, h.0), omega (arith, h.0, h.1))
 line_some bytes s k e stop low high below (inr h) = (omega (arith, h.0, h.1), omega (arith, h.0, h.1))
 
--- The first line in which the pattern occurs: the pattern at k, the line's text from s up to e, and behind it the next line at `stop`.
+-- The first line in which the pattern occurs: the pattern at k, the line's text from s up to e, and behind it the next
+-- line at `stop`.
 pub line_found : (q : Search) (p bytes : List ℕ) (at s k e stop : ℕ) (line : Span) → IsCompiled q p → OccursAt bytes p k → Nowhere (OccursAt bytes p) 0 k
     → s ≤ k → k ≤ e → AreWhole 10 (take s bytes) → IsClear 10 bytes s e → Stops 10 bytes e stop → 0 < length bytes → s < stop
     → line.start ≡ at + s → line.end ≡ at + stop → IsNextRun q at bytes line

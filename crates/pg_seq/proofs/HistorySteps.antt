@@ -1,4 +1,5 @@
--- The proofs by hand of `History` in common. Each of these functions makes a value of no bytes, and its proof chooses the value's list.
+-- The proofs by hand of `History` in common. Each of these functions makes a value of no bytes, and its proof chooses
+-- the value's list.
 pub use Rattle.std.proofs.Common.{[], ◌∷◌, ◌++◌, refl}
 pub use Rattle.std.proofs.raw_atomic.Walks.{proved}
 pub use mir.MapTy.{inst_fn}
