@@ -42,4 +42,4 @@ IsClear end bytes from to = (i : ℕ) → from ≤ i → i < to → slice_index 
 abbrev pub Stops : ℕ → List ℕ → ℕ → ℕ → Type 0
 Stops end bytes place next =
     ((next ≡ place + 1) × (place < length bytes) × (slice_index bytes place ≡ end))
-        ⊎ ((next ≡ place) × (place ≡ length bytes))
+    ⊎ ((next ≡ place) × (place ≡ length bytes))

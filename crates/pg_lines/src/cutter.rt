@@ -262,7 +262,7 @@ impl<A: Allocator + Copy> Cutter<A> {
             IsErrOf result FileTooLong ↔ (2 ^ 62 < length past.bytes + length piece.now) }
         ensures line { (past : Fed) → Stands self.old past →
             IsErrOf result LineTooLong
-                ↔ ((length past.bytes + length piece.now ≤ 2 ^ 62) × HasLongLine (fed past piece.now)) }
+            ↔ ((length past.bytes + length piece.now ≤ 2 ^ 62) × HasLongLine (fed past piece.now)) }
     {
         if piece.len() as u64 > MAX_FILE - self.total {
             return Err(CutFault::FileTooLong);

@@ -32,8 +32,14 @@ impl<A: Allocator> Model for QueryText<A> {
 
     ghost use Rattle.pg_syntax.specs.Memory.{patterns_of};
 
-    ghost view = { λ t. record { kind = t.kind; lists = map patterns_of t.lists.items; fold = t.fold;
-        whole = t.whole; invert = t.invert; pieces = t.pieces } };
+    ghost view = { λ t. record {
+      kind = t.kind;
+      lists = map patterns_of t.lists.items;
+      fold = t.fold;
+      whole = t.whole;
+      invert = t.invert;
+      pieces = t.pieces;
+    } };
 }
 
 /// Why a text can't be compiled.

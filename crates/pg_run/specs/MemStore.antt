@@ -44,5 +44,5 @@ Takes None after room into (Ok count) = ⊥
 Takes None after room into (Err _) = after ≡ None
 Takes (Some content) after room into (Ok count) =
     (count ≡ min (length content.bytes) room) × (take count into ≡ take count content.bytes)
-        × (after ≡ Some (behind count content))
+    × (after ≡ Some (behind count content))
 Takes (Some content) after room into (Err _) = (content.bytes ≡ []) × (content.ending ≡ Fails) × (after ≡ Some content)

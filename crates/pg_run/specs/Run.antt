@@ -69,7 +69,7 @@ HoldsUnwritten searcher q blocks block = Holds searcher q (blocks ++ block ∷ [
 abbrev pub HasAdded : {A : Type 0} → Searcher A → Search → List BlockData → BlockData → List ℕ → List ℕ → Type 0
 HasAdded searcher q blocks block before after =
     Holds searcher q (blocks ++ block ∷ []) (rows_of q (blocks ++ block ∷ []))
-        × (after ≡ before ++ bare_rows q block.bytes)
+    × (after ≡ before ++ bare_rows q block.bytes)
 
 -- what is searched for in which file, and what the sink took before
 pub record Aim : Type 0 where

@@ -135,8 +135,8 @@ impl Store for MemStore {
 
     fn read(&mut self, into: &mut [u8]) -> Result<usize, ReadFault>
         ensures reads { Reads into.new self.old.past self.new.past result }
-        ensures takes {
-            Takes (left self.old) (left self.new) (min (length into.old) self.old.read_limit) into.new result }
+        ensures takes { Takes (left self.old) (left self.new)
+            (min (length into.old) self.old.read_limit) into.new result }
         ensures files { files self.new ≡ files self.old }
     {
         let Some((rest, ending)) = MemStore::left_of(&self.files, self.open, self.at) else {

@@ -140,7 +140,7 @@ output q format [] = []
 output q format (Missed name ∷ entries) = output q format entries
 output q format (Read name bytes ending ∷ entries) =
     output q format entries
-        ++ file_rows q format name bytes (not (is_running ending)) (not (is_nothing (output q format entries)))
+    ++ file_rows q format name bytes (not (is_running ending)) (not (is_nothing (output q format entries)))
 
 abbrev pub is_bad : Entry → Bool
 is_bad (Missed name) = true

@@ -28,9 +28,13 @@ keeps format t selected = selected && is_below t.kept format.limit
 
 abbrev pub after_kept : Format → Trail → Trail
 after_kept format t = record {
-    number = t.number + 1; kept = t.kept + 1; countdown = context format.after;
-    some = true; skipped = false; window = []
-    }
+  number = t.number + 1;
+  kept = t.kept + 1;
+  countdown = context format.after;
+  some = true;
+  skipped = false;
+  window = [];
+}
 
 abbrev pub after_context : Trail → Trail
 after_context t = record t { number = t.number + 1; countdown = t.countdown - 1 }
