@@ -1,7 +1,8 @@
 #!/bin/sh
 # Times pargrep and GNU grep side by side on the same file, and prints the ratio of their best times.
 # Usage: bench/search.sh PARGREP [MEGABYTES]
-# The file is text of short words, made once and kept in a folder of its own that is removed at the end.
+# The file is text of short words, made once and kept in a folder of its own that is removed at the end. Plain fixed
+# strings are searched for in all of it, and what needs the automaton in an eighth of it.
 set -eu
 export LC_ALL=C
 
@@ -29,11 +30,16 @@ awk 'BEGIN {
     size += length(line) + 1
   }
 }' > "$folder/part"
-i=0
-while [ "$i" -lt "$megabytes" ]; do
-  cat "$folder/part"
-  i=$((i + 1))
-done > "$file"
+# repeated COUNT: the part so many times over.
+repeated() {
+  i=0
+  while [ "$i" -lt "$1" ]; do
+    cat "$folder/part"
+    i=$((i + 1))
+  done
+}
+repeated "$megabytes" > "$file"
+repeated $(((megabytes + 7) / 8)) > "$folder/eighth"
 
 # best COMMAND..: the least wall time of some runs, in microseconds. Its output goes to $folder/out.
 best() {
@@ -52,15 +58,32 @@ best() {
   echo "$least"
 }
 
-echo "$(grep --version | head -n 1); $(wc -c < "$file") bytes; best of $rounds runs; load $(cut -d ' ' -f 1 /proc/loadavg)"
-for text in zzqq water the e; do
-  theirs=$(best grep -F -e "$text" "$file")
+# compare FILE OPTION PATTERN: the best times of both programs, whose outputs have to be the same.
+compare() {
+  theirs=$(best grep "$2" -e "$3" "$1")
   mv "$folder/out" "$folder/expected"
-  ours=$(best "$pargrep" -F -- "$text" "$file")
+  ours=$(best "$pargrep" "$2" -e "$3" "$1")
   if ! cmp -s "$folder/out" "$folder/expected"; then
-    echo "the outputs for '$text' differ" >&2
+    echo "the outputs for $2 '$3' differ" >&2
     exit 1
   fi
-  awk -v text="$text" -v ours="$ours" -v theirs="$theirs" -v lines="$(wc -l < "$folder/expected")" \
-    'BEGIN { printf "%-6s %9d lines  pargrep %7.3f s  grep %7.3f s  ratio %.2f\n", text, lines, ours / 1e6, theirs / 1e6, ours / theirs }'
+  awk -v text="$2 $3" -v ours="$ours" -v theirs="$theirs" -v lines="$(wc -l < "$folder/expected")" 'BEGIN {
+    ratio = ours / theirs
+    printf "%-22s %9d lines  pargrep %7.3f s  grep %7.3f s  ratio %.2f\n", text, lines, ours / 1e6, theirs / 1e6, ratio
+  }'
+}
+
+load=$(cut -d ' ' -f 1 /proc/loadavg)
+echo "$(grep --version | head -n 1); $(wc -c < "$file") bytes; best of $rounds runs; load $load"
+for text in zzqq water the e; do
+  compare "$file" -F "$text"
 done
+rounds=3
+echo "An eighth of it, best of $rounds runs:"
+compare "$folder/eighth" -E 'wat.r'
+compare "$folder/eighth" -E 'water|people'
+compare "$folder/eighth" -E '(oil|call)ed? now'
+compare "$folder/eighth" -Fi WATER
+compare "$folder/eighth" -Fw the
+compare "$folder/eighth" -Fv the
+compare "$folder/eighth" -Fx 'of the people'

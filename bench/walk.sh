@@ -1,8 +1,8 @@
 #!/bin/sh
 # Times a walk over directories and find(1) over the same ones, side by side, and prints the ratio of their best times.
 # Usage: bench/walk.sh PG_BENCH
-# PG_BENCH is the built program of the crate of that name. 20,000 files in 2,000 directories are made in a folder that is
-# removed at the end.
+# PG_BENCH is the built program of the crate of that name. 20,000 files in 2,000 directories are made in a folder that
+# is removed at the end.
 set -eu
 export LC_ALL=C
 

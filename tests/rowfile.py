@@ -94,34 +94,38 @@ def read_word(text, at):
     return word, at
 
 
-def read_words(text):
-    """The words of a text, which blanks set apart."""
-    words, at = [], 0
+def split_by_blanks(text, read):
+    """What `read` finds at each place behind blanks; it answers what stands there and where that ends."""
+    at = 0
     while at < len(text):
         if text[at].isspace():
             at += 1
             continue
-        word, end = read_word(text, at)
+        found, end = read(text, at)
         if end == at:
             raise DataFault(f"{text[at]!r} stands outside quotes")
-        if b"\0" in word:
-            raise DataFault("a word can't hold a NUL byte")
-        words.append(word)
+        yield found
         at = end
+
+
+def read_words(text):
+    """The words of a text, which blanks set apart."""
+    words = list(split_by_blanks(text, read_word))
+    if any(b"\0" in word for word in words):
+        raise DataFault("a word can't hold a NUL byte")
     return words
+
+
+def read_quoted(text, at):
+    """A quoted piece, and where it ends."""
+    if text[at] != '"':
+        raise DataFault(f"a text stands in quotes, and {text[at]!r} doesn't")
+    return read_piece(text, at)
 
 
 def read_text(text):
     """Quoted pieces, joined whether or not blanks stand between them."""
-    parts, at = [], 0
-    while at < len(text):
-        if text[at].isspace():
-            at += 1
-            continue
-        if text[at] != '"':
-            raise DataFault(f"a text stands in quotes, and {text[at]!r} doesn't")
-        piece, at = read_piece(text, at)
-        parts.append(piece)
+    parts = list(split_by_blanks(text, read_quoted))
     if not parts:
         raise DataFault('no text is given; the empty one is ""')
     return b"".join(parts)

@@ -1,4 +1,4 @@
-//! Pargrep: prints the lines of a file that hold a text.
+//! Pargrep: prints the lines of a file that patterns select.
 #![tactic(auto)]
 
 ghost use Rattle.std.specs.Prelude.{◌≤◌};

@@ -15,14 +15,14 @@ one_more b n [] s = (omega arith, tt)
 one_more b n (l ∷ ls) s = (omega (arith, s.0), longer n (suc n) ls (omega arith) s.1)
 
 -- a line is no longer than all bytes
-lines_within : (bytes : List ℕ) → AreShort (length bytes) (lines 10 bytes)
-lines_within [] = tt
-lines_within (b ∷ bytes) =
+lines_within : (end : ℕ) (bytes : List ℕ) → AreShort (length bytes) (lines end bytes)
+lines_within end [] = tt
+lines_within end (b ∷ bytes) =
     let n = length bytes in
-    elim (b == 10) as (λ t. AreShort (suc n) (cond t ([] ∷ lines 10 bytes) (onto_first b (lines 10 bytes)))) [
-      | true ↦ (omega arith, longer n (suc n) (lines 10 bytes) (omega arith) (lines_within bytes))
-      | false ↦ one_more b n (lines 10 bytes) (lines_within bytes)
+    elim (b == end) as (λ t. AreShort (suc n) (cond t ([] ∷ lines end bytes) (onto_first b (lines end bytes)))) [
+      | true ↦ (omega arith, longer n (suc n) (lines end bytes) (omega arith) (lines_within end bytes))
+      | false ↦ one_more b n (lines end bytes) (lines_within end bytes)
     ]
 
-pub lines_short : (bytes : List ℕ) → length bytes ≤ 100 → AllByRecursion (λ l. length l ≤ 2 ^ 30) (lines 10 bytes)
-lines_short bytes h = longer (length bytes) (2 ^ 30) (lines 10 bytes) (omega (arith, h)) (lines_within bytes)
+pub lines_short : (end : ℕ) (bytes : List ℕ) → length bytes ≤ 100 → AllByRecursion (λ l. length l ≤ 2 ^ 30) (lines end bytes)
+lines_short end bytes h = longer (length bytes) (2 ^ 30) (lines end bytes) (omega (arith, h)) (lines_within end bytes)

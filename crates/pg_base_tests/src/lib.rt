@@ -4,6 +4,8 @@
 #[cfg(test)]
 mod bytes;
 #[cfg(test)]
+mod cutter;
+#[cfg(test)]
 mod lines;
 #[cfg(test)]
 mod machine;

@@ -1,10 +1,9 @@
-//! Blocks of lines, and the search of a block.
+//! The search of a block.
 ghost use Rattle.std.specs.Prelude.{◌≤◌, length};
-ghost use Rattle.pg_lines.specs.Lines.{IsLine};
 
-use crate::rows::{bytes_of, cut, halves, show_bytes};
+use crate::rows::{bytes_of, cut, halves};
 use pg_lines::{
-    Block, BlockResult, CutFault, Cutter, Kind, PatternList, Query, QueryFault, QueryText,
+    Block, BlockResult, CutFault, Kind, PatternList, Query, QueryFault, QueryText, Scratch,
     search_block,
 };
 use std::alloc::{AllocError, Global};
@@ -19,186 +18,168 @@ fn assert_block(rt: &impl Abort, block: &Block, number: u64, bytes: &[u8]) {
     assert_eq!(rt; block.bytes.as_slice(), bytes);
 }
 
-#[test]
-fn blocks_do_not_depend_on_pieces(rt: HostRuntime) -> Result<(), Fail> {
-    let file: &[u8] = b"a\nbc\n\nd";
-    for size in 1..=file.len() {
-        let mut cutter = Cutter::new(rt.alloc(), 7, 3, 100);
-        let mut blocks = Vec::new(rt.alloc());
-        for piece in file.chunks(size) {
-            cutter.feed(piece)?;
-            if let Some(block) = cutter.take() {
-                blocks.push(block)?;
-            }
-        }
-        let none = cutter.take();
-        assert!(rt; none.is_none(), "in pieces of {size}");
-        let last = cutter.finish().ok_or("a last block")?;
-        assert_eq!(rt; blocks.len(), 1, "in pieces of {size}");
-        assert_block(&rt, &blocks[0], 0, b"a\nbc\n");
-        assert_block(&rt, &last, 1, b"\nd");
-    }
-    Ok(())
-}
-
-#[test]
-fn long_line_changes_nothing(rt: HostRuntime) -> Result<(), Fail> {
-    let mut cutter = Cutter::new(rt.alloc(), 7, 4, 3);
-    cutter.feed(b"abc\n")?;
-    assert_block(&rt, &cutter.take().ok_or("a block")?, 0, b"abc\n");
-    assert_eq!(rt; cutter.feed(b"abcd"), Err(CutFault::LineTooLong));
-    cutter.feed(b"abc")?;
-    assert_eq!(rt; cutter.feed(b"d"), Err(CutFault::LineTooLong));
-    let none = cutter.take();
-    assert!(rt; none.is_none());
-    let last = cutter.finish().ok_or("a last block")?;
-    assert_block(&rt, &last, 1, b"abc");
-    Ok(())
-}
-
-#[test]
-fn empty_file_has_no_block(rt: HostRuntime) -> Result<(), Fail> {
-    let mut cutter = Cutter::new(rt.alloc(), 7, 3, 100);
-    cutter.feed(b"")?;
-    let none = cutter.take();
-    assert!(rt; none.is_none());
-    assert!(rt; cutter.finish().is_none());
-    Ok(())
-}
-
-/// A query for one fixed string.
-fn query_of(alloc: Global, pattern: &[u8]) -> Result<Query, Fail>
-    requires line { IsLine 10 pattern.now }
-    requires short { length pattern.now ≤ 4096 }
-{
+/// What a query is compiled from: the letters say the kind (`E`, `F`, or none of both) and the options.
+fn text_of(alloc: Global, letters: &str, pattern: &[u8]) -> Result<QueryText, AllocError> {
+    let has = |letter: u8| letters.as_bytes().contains(&letter);
     let mut lists = Vec::new(alloc);
     lists.push(PatternList::Text(Vec::from_slice(alloc, pattern)?))?;
-    let text = QueryText {
-        kind: Kind::Fixed,
-        lists,
-        fold: false,
-        whole: false,
-        invert: false,
-        pieces: false,
+    let kind = if has(b'F') {
+        Kind::Fixed
+    } else if has(b'E') {
+        Kind::Extended
+    } else {
+        Kind::Basic
     };
-    Ok(Query::compile(alloc, text)?)
+    Ok(QueryText {
+        kind,
+        lists,
+        fold: has(b'i'),
+        whole: has(b'x'),
+        word: has(b'w'),
+        invert: has(b'v'),
+        pieces: false,
+        zero: has(b'z'),
+    })
 }
 
-/// What a search finds in block 5 of file 7, which has these bytes.
-fn search_for(alloc: Global, pattern: &[u8], bytes: &[u8]) -> Result<BlockResult, Fail>
-    requires line { IsLine 10 pattern.now }
-    requires short { length pattern.now ≤ 4096 }
-    requires few { length bytes.now ≤ 100 }
+/// What a search finds in block 5 of file 7, which has these bytes, at most 100.
+fn search_for(alloc: Global, query: Query, bytes: &[u8]) -> Result<BlockResult, AllocError>
+    requires { length bytes.now ≤ 100 }
 {
-    let query = Arc::new(alloc, query_of(alloc, pattern)?)?;
+    let query = Arc::new(alloc, query)?;
     let block = Block {
         file: 7,
         number: 5,
         bytes: Vec::from_slice(alloc, bytes)?,
     };
     let block = Arc::new(alloc, block)?;
-    let found = search_block(alloc, &query, block)?;
-    Ok(found)
+    let searched: &Query = &query;
+    let mut scratch = Scratch::new(alloc, searched.machine())?;
+    search_block(alloc, &query, &mut scratch, block)
 }
 
-/// Shows the lines of a result, `+` before a selected one and `-` before another, and the runs of selected ones.
+/// Shows how many lines a result has, and the runs of selected ones.
 fn shown(alloc: Global, found: &BlockResult) -> Result<String, AllocError> {
     let mut out = String::new(alloc);
-    let block: &Block = found.block();
-    for number in 0..found.lines() {
-        out.push_str(if found.selected(number) { "+" } else { "-" })?;
-        show_bytes(found.span(number).of(block.bytes.as_slice()), &mut out)?;
-        out.push(' ')?;
-    }
+    let count = found.lines();
+    write!(out, "{count}:")?;
     for run in found.runs() {
         let start = run.start;
         let end = run.end;
-        write!(out, "{start}-{end} ")?;
+        write!(out, " {start}-{end}")?;
     }
     Ok(out)
 }
 
-/// A pattern, a block, and what is found there.
-const FOUND: &str = "b on abc%0Axyz%0Ab => +abc -xyz +b 0-4 8-9
-b on x%0Ab%0Aab%0Ax%0Abb%0A => -x +b +ab -x +bb 2-7 9-12
- on a%0A%0Ab => +a + +b 0-4
- on %0A => + 0-1
- on  =>
-q on abc%0Axyz%0Ab => -abc -xyz -b
-ab on a%0Ab%0A => -a -b
-%00%FF on a%00%FF%0A%00%0A%FF%80 => +a%00%FF -%00 -%FF%80 0-4";
+/// The letters of the options and a pattern, a block, and how many lines it has and where the selected ones stand; or
+/// the fault of the pattern.
+const FOUND: &str = "F b on abc%0Axyz%0Ab => 3: 0-4 8-9
+F b on x%0Ab%0Aab%0Ax%0Abb%0A => 5: 2-7 9-12
+F  on a%0A%0Ab => 3: 0-4
+F  on %0A => 1: 0-1
+F  on  => 0:
+F q on abc%0Axyz%0Ab => 3:
+F ab on a%0Ab%0A => 2:
+F %00%FF on a%00%FF%0A%00%0A%FF%80 => 3: 0-4
+F a%0Ab on a%0Ac%0Ab => 3: 0-2 4-5
+Fi B on abc%0Axyz%0AB%0A => 3: 0-4 8-10
+Fv b on abc%0Axyz%0Ab => 3: 4-8
+Fv  on a%0Ab%0A => 2:
+Fv q on a%0Ab => 2: 0-3
+Fx b on abc%0Ab%0A => 2: 4-6
+Fw b on ab%0A%20b%0Ab_%20b%0A => 3: 3-11
+Fz b on a%00b%0A%00c => 3: 2-5
+Fzv b on a%00b%0A%00c => 3: 0-2 5-6
+Fz a%00 on a%00 => 1:
+b ^*ab*$ on *a%0A*abb%0Aab%0A => 3: 0-8
+b a^b on a^b%0A => 1: 0-4
+E a^b on a^b%0A => 1:
+Ex a|ab on ab%0Aa%0Aabc%0A => 3: 0-5
+Ew ab|a on ab_%0Aa%20b%0A => 2: 4-8
+Exw a|ab on a%20%0Aab%0A => 2: 3-6
+Ei [^a] on aA%0AaB%0A => 2: 3-6
+Ev (a*)*b on aaa%0Aab%0A => 2: 0-4
+b . on %0Aa%0A => 2: 1-3
+bz . on %0A%00 => 1: 0-2
+bz ^$ on %00a%00 => 2: 0-1
+E a%0A( on a => pattern 2: unmatched group at 1
+b a%0Ab%0A\\(a\\)\\1 on a => pattern 3: back reference at 5
+E (a{255}){255}a{255}a{256} on a => pattern 1: bad interval at 20
+E (a{255}){255}a{255}a{255} on b => 1:
+E (a{255}){255}a{255}a{255}a on b => pattern too large";
 
-/// What is found, as `shown` shows it, where the pattern and the block are fields.
-fn find(rt: &impl Abort, alloc: Global, pattern: &str, block: &str) -> Result<String, Fail> {
+/// What is found, as `shown` shows it, or the fault of the query.
+fn find(
+    rt: &impl Abort,
+    alloc: Global,
+    letters: &str,
+    pattern: &str,
+    block: &str,
+) -> Result<String, Fail> {
     let pattern = bytes_of(alloc, pattern)?;
-    assert!(rt; pattern.len() <= 100 && !pattern.contains(&b'\n'));
     let block = bytes_of(alloc, block)?;
     assert!(rt; block.len() <= 100);
-    let found = search_for(alloc, &pattern, &block)?;
-    Ok(shown(alloc, &found)?)
+    match Query::compile(alloc, text_of(alloc, letters, &pattern)?) {
+        Ok(query) => Ok(shown(alloc, &search_for(alloc, query, &block)?)?),
+        Err(fault) => Ok(format!(in alloc; "{fault}")?),
+    }
 }
 
 #[test]
-fn lines_with_the_pattern_are_selected(rt: HostRuntime) -> Result<(), Fail> {
+fn lines_are_selected(rt: HostRuntime) -> Result<(), Fail> {
     for row in FOUND.lines() {
         let (asked, want) = halves(row);
-        let (pattern, block) = cut(asked, " on ");
-        let got = find(&rt, rt.alloc(), pattern, block)?;
-        assert_eq!(rt; got.as_str().trim_end(), want, "{row}");
+        let (query, block) = cut(asked, " on ");
+        let (letters, pattern) = cut(query, " ");
+        let got = find(&rt, rt.alloc(), letters, pattern, block)?;
+        assert_eq!(rt; got.as_str(), want, "{row}");
     }
     Ok(())
+}
+
+/// A query for one fixed string, with the options of these letters.
+fn query_of(alloc: Global, letters: &str, pattern: &[u8]) -> Result<Query, Fail> {
+    Ok(Query::compile(alloc, text_of(alloc, letters, pattern)?)?)
 }
 
 #[test]
 fn a_result_has_its_block_and_query(rt: HostRuntime) -> Result<(), Fail> {
-    let found = search_for(rt.alloc(), b"b", b"abc\nxyz\nb")?;
+    let found = search_for(rt.alloc(), query_of(rt.alloc(), "F", b"b")?, b"abc\nxyz\nb")?;
     assert_block(&rt, found.block(), 5, b"abc\nxyz\nb");
     let query: &Query = found.query();
-    assert!(rt; *query == query_of(rt.alloc(), b"b")?);
+    assert!(rt; *query == query_of(rt.alloc(), "F", b"b")?);
     Ok(())
 }
 
-/// Whether the queries for two strings are the same, and whether their texts are.
-fn compare(alloc: Global, one: &[u8], other: &[u8]) -> Result<(bool, bool), Fail>
-    requires line { IsLine 10 one.now × IsLine 10 other.now }
-    requires short { (length one.now ≤ 4096) × (length other.now ≤ 4096) }
-{
-    let one = query_of(alloc, one)?;
-    let other = query_of(alloc, other)?;
-    Ok((one == other, *one.text() == *other.text()))
-}
+/// Options and a text, and others: each pair is of two queries that aren't the same.
+const OTHERS: &str = "F ab | F ac
+F ab | E ab
+F ab | b ab
+F ab | Fi ab
+F ab | Fx ab
+F ab | Fw ab
+F ab | Fv ab
+F ab | Fz ab";
 
 #[test]
 fn queries_are_compared_by_content(rt: HostRuntime) -> Result<(), Fail> {
-    assert_eq!(rt; compare(rt.alloc(), b"ab", b"ab")?, (true, true));
-    assert_eq!(rt; compare(rt.alloc(), b"ab", b"ac")?, (false, false));
-    Ok(())
-}
-
-/// A text without a pattern.
-fn without_pattern(alloc: Global, invert: bool) -> QueryText {
-    QueryText {
-        kind: Kind::Fixed,
-        lists: Vec::new(alloc),
-        fold: false,
-        whole: false,
-        invert,
-        pieces: false,
+    for row in OTHERS.lines() {
+        let (one, other) = cut(row, " | ");
+        let (letters, text) = cut(one, " ");
+        let (other_letters, other_text) = cut(other, " ");
+        let one = query_of(rt.alloc(), letters, text.as_bytes())?;
+        let again = query_of(rt.alloc(), letters, text.as_bytes())?;
+        let other = query_of(rt.alloc(), other_letters, other_text.as_bytes())?;
+        assert!(rt; one == again && *one.text() == *again.text(), "{row}");
+        assert!(rt; one != other && *one.text() != *other.text(), "{row}");
     }
-}
-
-#[test]
-fn texts_of_queries_are_compared_by_content(rt: HostRuntime) -> Result<(), Fail> {
-    let plain = without_pattern(rt.alloc(), false);
-    assert!(rt; without_pattern(rt.alloc(), true) != plain);
-    assert!(rt; *query_of(rt.alloc(), b"ab")?.text() != plain);
     Ok(())
 }
 
 #[test]
 fn a_text_is_no_file(rt: HostRuntime) -> Result<(), Fail> {
     let file = [PatternList::Lines(Vec::from_slice(rt.alloc(), b"ab")?)];
-    let query = query_of(rt.alloc(), b"ab")?;
+    let query = query_of(rt.alloc(), "F", b"ab")?;
     assert!(rt; query.text().lists.as_slice() != file.as_slice());
     Ok(())
 }

@@ -134,7 +134,8 @@ fn lines_are_selected(rt: HostRuntime) -> Result<(), Fail> {
     Ok(())
 }
 
-/// The matched parts of a line, from left to right, as -o shows them.
+/// The matched parts of a line, from left to right, as -o shows them. The scratch is the machine's, and the line has
+/// at most 2^30 bytes.
 fn parts(alloc: Global, search: &mut Search, line: &[u8]) -> Result<String, AllocError>
     requires fits { Fits search.old.scratch search.old.machine }
     requires short { length line.now ≤ 2 ^ 30 }
@@ -338,7 +339,7 @@ fn patterns_are_alternatives(rt: HostRuntime) -> Result<(), Fail> {
     Ok(())
 }
 
-/// Builds a machine and a scratch on one allocator, and searches a line.
+/// Builds a machine of proper trees and a scratch on one allocator, and searches a line.
 fn search_once<A: Allocator + Copy>(alloc: A, trees: &[Tree<A>]) -> Result<bool, BuildFault>
     requires { All IsProper (map pattern trees.now) }
 {

@@ -69,7 +69,7 @@ fn report_long(rt: &(impl Clock + Print), alloc: Global, part: &str) -> Result<(
     Ok(())
 }
 
-/// Text of random letters, a sixth of them spaces, in lines.
+/// Text of random letters, a sixth of them spaces, in lines. It has at most 256 megabytes.
 fn random_text(alloc: Global, megabytes: usize) -> Result<Vec<u8>, AllocError>
     requires { megabytes ≤ 256 }
     ensures { IfOk result (λ text. length text.items ≤ 2 ^ 30) }
@@ -123,7 +123,7 @@ impl Work {
     }
 }
 
-/// Selects a line, or not.
+/// Selects a line, or not. The scratch is the machine's, and the line has at most 2^30 bytes.
 fn select(machine: &Machine, scratch: &mut Scratch, line: &[u8], found: &mut Found)
     requires fits { Fits scratch.old machine.now }
     requires short { length line.now ≤ 2 ^ 30 }
@@ -134,7 +134,7 @@ fn select(machine: &Machine, scratch: &mut Scratch, line: &[u8], found: &mut Fou
     found.visits = found.visits.wrapping_add(scratch.visits());
 }
 
-/// Finds the matched parts of a line.
+/// Finds the matched parts of a line. The scratch is the machine's, and the line has at most 2^30 bytes.
 fn find_parts(machine: &Machine, scratch: &mut Scratch, line: &[u8], found: &mut Found)
     requires fits { Fits scratch.old machine.now }
     requires short { length line.now ≤ 2 ^ 30 }
@@ -155,7 +155,7 @@ fn find_parts(machine: &Machine, scratch: &mut Scratch, line: &[u8], found: &mut
     }
 }
 
-/// Does the work on each line of a text.
+/// Does the work on each line of a text. The scratch is the machine's, and the text has at most 2^30 bytes.
 fn search(work: Work, machine: &Machine, scratch: &mut Scratch, text: &[u8]) -> Found
     requires fits { Fits scratch.old machine.now }
     requires short { length text.now ≤ 2 ^ 30 }
@@ -180,7 +180,8 @@ fn search(work: Work, machine: &Machine, scratch: &mut Scratch, text: &[u8]) -> 
     found
 }
 
-/// The best time of some runs, in nanoseconds, and what they found.
+/// The best time of some runs, in nanoseconds, and what they found. The scratch is the machine's, and the text has at
+/// most 2^30 bytes.
 fn best(
     rt: &impl Clock,
     work: Work,
@@ -206,7 +207,7 @@ fn best(
     Ok((least, found))
 }
 
-/// Prints how fast the machine of a pattern goes over a text.
+/// Prints how fast the machine of a pattern goes over a text, which has at most 2^30 bytes.
 fn report(rt: &(impl Clock + Print), alloc: Global, pattern: &str, text: &[u8]) -> Result<()>
     requires { length text.now ≤ 2 ^ 30 }
 {
@@ -221,7 +222,7 @@ fn report(rt: &(impl Clock + Print), alloc: Global, pattern: &str, text: &[u8]) 
     Ok(())
 }
 
-/// Prints how fast both searches go over a text.
+/// Prints how fast both searches go over a text of at most 2^30 bytes. The scratch is the machine's.
 fn time_all(
     rt: &(impl Clock + Print),
     pattern: &str,

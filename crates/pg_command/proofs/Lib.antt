@@ -1,1 +1,3 @@
+mod ReadingLemmas
 mod SearchLemmas
+mod TellLemmas

@@ -1,45 +1,73 @@
 -- What a search answers, and what it writes.
-use Rattle.std.specs.Prelude.{◌≡◌, ℕ, ◌<◌, ◌≤◌, ◌⊎◌, List, [], ◌∷◌, ◌++◌}
-use Rattle.pg_seq.specs.Bare.{bare}
-use Rattle.pg_seq.specs.Output.{Read, Ended, output, status}
+use Rattle.std.specs.Prelude.{◌≡◌, ℕ, ◌<◌, ◌≤◌, ◌⊎◌, List, ◌++◌}
+use Rattle.pg_lines.specs.Search.{Search, HasItsTrees}
 use Rattle.pg_seq.specs.Sink.{TakesPart}
 use Rattle.pg_run.specs.Past.{Past, MeetsTheEnd}
-use Rattle.pg_command.specs.Pattern.{IsPattern, fixed_string}
-use Rattle.pg_command.specs.Causes.{Explains}
+use Rattle.pg_run.specs.Run.{output_of, status_of}
+use Rattle.pg_command.specs.Asked.{Asked, text_of_query}
+use Rattle.pg_command.specs.Reading.{HasRead, FailsToReadAll}
+use Rattle.pg_command.specs.Causes.{BreaksTheQuery, BreaksTheFile}
 use Rattle.pg_command.specs.Told.{IsTold}
 use Rattle.pg_command.specs.declared.fault.Fault.{Fault}
-
--- what a command line asks for: the lines of a file that hold a text
-pub record Asked : Type 0 where
-  pub text : List ℕ
-  pub file : List ℕ
-
--- what is written for a file of these bytes
-abbrev pub output_for : Asked → List ℕ → List ℕ
-output_for asked bytes = output (fixed_string asked.text) bare (Read [] bytes Ended ∷ [])
-
--- the status that belongs to it
-abbrev pub status_for : Asked → List ℕ → ℕ
-status_for asked bytes = status (fixed_string asked.text) bare (Read [] bytes Ended ∷ [])
 
 -- what a stream took, and how often it failed
 pub record Stream : Type 0 where
   pub taken : List ℕ
   pub failures : ℕ
 
--- The file was read to its end and its output written whole; no write failed.
-pub record Succeeds (asked : Asked) (past past' : Past) (out out' : Stream) (s : ℕ) : Type 0 where
-  pub pattern : IsPattern asked.text
-  pub path : past'.path ≡ asked.file
-  pub to_the_end : MeetsTheEnd past past'
-  pub output : out'.taken ≡ out.taken ++ output_for asked past'.given
-  pub no_failure : out'.failures ≡ out.failures
-  pub status : s ≡ status_for asked past'.given
+-- The -f files were read, and this is the search for the patterns that are asked for then.
+pub record HasQuery (asked : Asked) (past past' : Past) (q : Search) : Type 0 where
+  pub contents : List (List ℕ)
+  pub read : HasRead past past' asked.files contents
+  pub text : q.text ≡ text_of_query asked contents
+  pub trees : HasItsTrees q
 
--- The search ended with a fault that has its cause. A beginning of the output was written, for what was read.
-pub record Fails (asked : Asked) (past past' : Past) (out out' : Stream) (fault : Fault) : Type 0 where
-  pub cause : Explains fault asked.text asked.file past past' out.failures out'.failures
-  pub part : TakesPart (output_for asked past'.given) out.taken out'.taken
+-- The file was read to its end and its output written whole; no write failed.
+pub record Searches (q : Search) (file : List ℕ) (past past' : Past) (out out' : Stream) (s : ℕ) : Type 0 where
+  pub path : past'.path ≡ file
+  pub to_the_end : MeetsTheEnd past past'
+  pub output : out'.taken ≡ out.taken ++ output_of q past'.given
+  pub no_failure : out'.failures ≡ out.failures
+  pub status : s ≡ status_of q past'.given
+
+-- The search of the very file ended with a fault that has its cause. A beginning of the output was written, for what
+-- was read.
+pub record FailsToSearch (q : Search) (file : List ℕ) (past past' : Past) (out out' : Stream) (fault : Fault)
+    : Type 0 where
+  pub path : past'.path ≡ file
+  pub cause : BreaksTheFile fault q file past past' out.failures out'.failures
+  pub part : TakesPart (output_of q past'.given) out.taken out'.taken
+
+-- The -f files were read, and then the file was searched for their patterns and those of the texts.
+pub record Succeeds (asked : Asked) (past past' : Past) (out out' : Stream) (s : ℕ) : Type 0 where
+  pub between : Past
+  pub search : Search
+  pub query : HasQuery asked past between search
+  pub searches : Searches search asked.file between past' out out' s
+
+-- Some -f file couldn't be read, and nothing was written.
+pub record FailsAtAPatternFile (asked : Asked) (past past' : Past) (out out' : Stream) (fault : Fault) : Type 0 where
+  pub stopped : FailsToReadAll asked.files past past' fault
+  pub unwritten : out' ≡ out
+
+-- The -f files were read, and the text can't be searched for: nothing else was opened, and nothing written.
+pub record FailsAtTheQuery (asked : Asked) (past past' : Past) (out out' : Stream) (fault : Fault) : Type 0 where
+  pub contents : List (List ℕ)
+  pub read : HasRead past past' asked.files contents
+  pub cause : BreaksTheQuery fault (text_of_query asked contents)
+  pub unwritten : out' ≡ out
+
+-- The -f files were read and all patterns have their trees, and the file couldn't be searched to its end.
+pub record FailsAtTheFile (asked : Asked) (past past' : Past) (out out' : Stream) (fault : Fault) : Type 0 where
+  pub between : Past
+  pub search : Search
+  pub query : HasQuery asked past between search
+  pub fails : FailsToSearch search asked.file between past' out out' fault
+
+abbrev pub Fails : Asked → (past past' : Past) (out out' : Stream) → Fault → Type 0
+Fails asked past past' out out' fault =
+    FailsAtAPatternFile asked past past' out out' fault
+    ⊎ (FailsAtTheQuery asked past past' out out' fault ⊎ FailsAtTheFile asked past past' out out' fault)
 
 -- The fault's line was written, or standard error failed.
 abbrev pub Tells : Fault → Stream → Stream → Type 0

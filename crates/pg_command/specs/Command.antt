@@ -1,7 +1,8 @@
 -- What the command answers, and what it writes.
 use Rattle.std.specs.Prelude.{◌≡◌, ℕ, ◌<◌, ◌≤◌, ◌⊎◌, List, ◌++◌, codes}
 use Rattle.pg_run.specs.Past.{Past}
-use Rattle.pg_command.specs.Answers.{Asked, Stream, Answers, Tells}
+use Rattle.pg_command.specs.Asked.{Asked}
+use Rattle.pg_command.specs.Answers.{Stream, Answers, Tells}
 use Rattle.pg_command.specs.declared.fault.Fault.TheVariants.{WriteFailed}
 
 -- The words weren't taken: nothing was opened or written, and a text was told that says why, or that memory is lacking.

@@ -1,5 +1,6 @@
 pub mod Answers
+pub mod Asked
 pub mod Causes
 pub mod Command
-pub mod Pattern
+pub mod Reading
 pub mod Told

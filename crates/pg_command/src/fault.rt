@@ -1,15 +1,19 @@
 //! The faults of the program.
-ghost use Rattle.std.specs.Prelude.{◌≡◌, ◌<◌, ◌⊎◌, ◌++◌};
+ghost use Rattle.std.specs.Prelude.{◌≡◌, ◌<◌, ◌⊎◌, ◌++◌, codes, OnErr, OnOk};
 ghost use Rattle.std.specs.List.{flat_map};
-ghost use Rattle.pg_command.specs.Causes.{fault_of_run};
-ghost use Rattle.pg_command.specs.Told.{IsTold, subject_of, text_of};
-ghost use Rattle.pg_command.specs.declared.fault.Fault.TheVariants.{OutOfMemory, Pattern};
+ghost use Rattle.pg_syntax.specs.FaultTexts.{kind_text};
+ghost use Rattle.pg_command.specs.Causes.{fault_of_query, fault_of_run};
+ghost use Rattle.pg_command.specs.Told.{IsTold, pattern_line, subject_of, text_of};
+ghost use Rattle.pg_command.specs.declared.fault.Fault.TheVariants.{OutOfMemory};
 
-use crate::pattern::PatternFault;
 use crate::tell::tell;
+use itoa::Buffer;
+use pg_lines::{ListFault, QueryFault};
 use pg_run::RunFault;
-use pg_seq::Sink;
-use std::alloc::{AllocError, Global};
+use pg_seq::{Sink, WriteError};
+use pg_syntax::FaultKind;
+use pg_words::UsageFault;
+use std::alloc::{AllocError, AllocFailed, Global};
 
 /// The status of a run that met a fault.
 pub const FAULT_STATUS: u8 = 2;
@@ -19,12 +23,16 @@ pub const FAULT_STATUS: u8 = 2;
 pub enum Fault<'a> {
     /// An argument isn't UTF-8.
     NotText,
-    /// The text of the command line isn't one pattern.
-    Pattern(PatternFault),
+    /// The words of the command line ask for nothing.
+    Usage(UsageFault),
     /// The file of this name couldn't be opened.
     CannotOpen(&'a str),
     /// A read of the file of this name failed.
     ReadFailed(&'a str),
+    /// A pattern is no expression.
+    Pattern(ListFault),
+    /// The patterns ask for more than 65,536 states together.
+    TooLarge,
     /// A request for memory was refused.
     OutOfMemory,
     /// Standard output failed.
@@ -41,11 +49,23 @@ impl<'a> From<AllocError> for Fault<'a> {
     }
 }
 
-impl<'a> From<PatternFault> for Fault<'a> {
-    ghost from_gives = { λ pattern fault. fault ≡ Pattern pattern };
+impl<'a, T: Drop> From<AllocFailed<T>> for Fault<'a> {
+    ghost from_gives = { λ _ fault. fault ≡ OutOfMemory };
 
-    fn from(fault: PatternFault) -> Fault<'a> {
-        Fault::Pattern(fault)
+    fn from(_error: AllocFailed<T>) -> Fault<'a> {
+        Fault::OutOfMemory
+    }
+}
+
+impl<'a> From<QueryFault> for Fault<'a> {
+    ghost from_gives = { λ query fault. fault ≡ fault_of_query query };
+
+    fn from(fault: QueryFault) -> Fault<'a> {
+        match fault {
+            QueryFault::Syntax(fault) => Fault::Pattern(fault),
+            QueryFault::TooLarge => Fault::TooLarge,
+            QueryFault::OutOfMemory => Fault::OutOfMemory,
+        }
     }
 }
 
@@ -72,20 +92,43 @@ impl<'a> Fault<'a> {
         }
     }
 
-    /// What its line says of the subject.
+    /// What its line says is wrong.
     fn text(self) -> &'static str
         ensures { result.now ≡ text_of self.entry }
     {
         match self {
             Fault::NotText => "an argument is not UTF-8",
-            Fault::Pattern(PatternFault::Several) => "one pattern only",
-            Fault::Pattern(PatternFault::TooLong) => "pattern 1: pattern too long at 4096",
+            Fault::Usage(fault) => fault.text(),
             Fault::CannotOpen(_) => ": cannot open",
             Fault::ReadFailed(_) => ": read failed",
-            Fault::Pattern(PatternFault::OutOfMemory) | Fault::OutOfMemory => "out of memory",
+            Fault::Pattern(fault) => kind_text(fault.fault.kind),
+            Fault::TooLarge => "pattern too large",
+            Fault::OutOfMemory => "out of memory",
             Fault::WriteFailed => "write failed",
             Fault::LineTooLong => "line too long",
         }
+    }
+}
+
+/// What is wrong with a pattern.
+fn kind_text(kind: FaultKind) -> &'static str
+    ensures { result.now ≡ kind_text kind }
+{
+    match kind {
+        FaultKind::TrailingBackslash => "trailing backslash",
+        FaultKind::BadEscape => "bad escape",
+        FaultKind::BackReference => "back reference",
+        FaultKind::UnmatchedBracket => "unmatched bracket",
+        FaultKind::BadClass => "bad class",
+        FaultKind::BadCollating => "bad collating element",
+        FaultKind::BadRange => "bad range",
+        FaultKind::UnmatchedGroup => "unmatched group",
+        FaultKind::BadInterval => "bad interval",
+        FaultKind::NothingToRepeat => "nothing to repeat",
+        FaultKind::EmptyOperand => "empty operand",
+        FaultKind::TooDeep => "groups too deep",
+        FaultKind::OutOfMemory => "out of memory",
+        FaultKind::TooLong => "pattern too long",
     }
 }
 
@@ -94,11 +137,14 @@ pub fn report<W: Sink>(alloc: Global, fault: Fault<'_>, err: &mut W) -> u8
     ensures status { result ≡ 2 }
     ensures told { IsTold fault.entry (W.taken err.old) (W.taken err.new) ⊎ (W.failures err.old < W.failures err.new) }
 {
-    let _ = tell(
-        alloc,
-        &line_of("pargrep: ", fault.subject(), fault.text(), "\n"),
-        err,
-    );
+    let _ = match fault {
+        Fault::Pattern(fault) => tell_pattern(alloc, fault, err),
+        _ => tell(
+            alloc,
+            &line_of("pargrep: ", fault.subject(), fault.text(), "\n"),
+            err,
+        ),
+    };
     FAULT_STATUS
 }
 
@@ -107,4 +153,35 @@ fn line_of<'a>(name: &'a str, subject: &'a str, text: &'a str, end: &'a str) -> 
     ensures { flat_map (λ part. part.now) result ≡ name.now ++ subject.now ++ text.now ++ end.now }
 {
     [name, subject, text, end]
+}
+
+/// Writes the line of a pattern's fault, with the number of the pattern and the offset of the fault.
+fn tell_pattern<W: Sink>(alloc: Global, fault: ListFault, err: &mut W) -> Result<(), WriteError>
+    ensures told { OnOk result (W.taken err.new ≡ W.taken err.old ++ pattern_line fault) }
+    ensures failure { OnErr result (W.failures err.old < W.failures err.new) }
+{
+    let (mut number, mut offset) = (Buffer::new(), Buffer::new());
+    let parts = pattern_parts(
+        number.format(fault.pattern),
+        kind_text(fault.fault.kind),
+        offset.format(fault.fault.at),
+    );
+    tell(alloc, &parts, err)
+}
+
+/// The parts of the line of a pattern's fault, in their order.
+fn pattern_parts<'a>(number: &'a str, text: &'a str, offset: &'a str) -> [&'a str; 7]
+    ensures { flat_map (λ part. part.now) result
+        ≡ codes "pargrep: pattern " ++ number.now ++ codes ": " ++ text.now ++ codes " at " ++ offset.now
+        ++ codes "\n" }
+{
+    [
+        "pargrep: pattern ",
+        number,
+        ": ",
+        text,
+        " at ",
+        offset,
+        "\n",
+    ]
 }

@@ -6,7 +6,7 @@ use crate::search::answer;
 use crate::tell::tell;
 use pg_run::Store;
 use pg_seq::{Out, Sink};
-use pg_words::{WordsFault, read_words};
+use pg_words::{Words, WordsFault, read_words};
 use std::alloc::Global;
 use std::io::Write;
 
@@ -28,12 +28,16 @@ pub fn command<S: Store, W: Sink, E: Sink>(
         (record { taken = E.taken err.old; failures = E.failures err.old })
         (record { taken = E.taken err.new; failures = E.failures err.new }) result }
 {
-    match read_words(alloc, words) {
+    let Ok(words) = Words::new(alloc, words) else {
+        return report(alloc, Fault::OutOfMemory, err);
+    };
+    match read_words(alloc, &words) {
         Ok(request) => answer(alloc, &request, store, out, err),
         Err(WordsFault::Refused(text)) => {
             let _ = tell(alloc, &["pargrep: ", text.as_str()], err);
             FAULT_STATUS
         }
+        Err(WordsFault::Usage(fault)) => report(alloc, Fault::Usage(fault), err),
         Err(WordsFault::OutOfMemory) => report(alloc, Fault::OutOfMemory, err),
     }
 }

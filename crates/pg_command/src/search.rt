@@ -1,10 +1,14 @@
 //! The search that a request asks for, over any files and streams.
-ghost use Rattle.std.specs.Prelude.{◌≡◌, IfOk, IfErr};
-ghost use Rattle.pg_command.specs.Causes.{IsCalled};
-ghost use Rattle.pg_command.specs.Answers.{Answers, Succeeds, Fails};
+ghost use Rattle.std.specs.Prelude.{◌≡◌, List, [], false, IfOk, IfErr};
+ghost use Rattle.std.specs.Arc.{arc_value};
+ghost use Rattle.pg_lines.specs.Search.{Pattern, AreTreesOf, search_of};
+ghost use Rattle.pg_command.specs.Asked.{asked_of};
+ghost use Rattle.pg_command.specs.Answers.{Answers, Succeeds, Fails, Searches, FailsToSearch};
 
 use crate::fault::{Fault, report};
-use crate::pattern::compile_text;
+use crate::patterns::{read_patterns, shown_name};
+use crate::query::query_of;
+use pg_lines::Query;
 use pg_run::{ReadFault, Store, first_run};
 use pg_seq::Sink;
 use pg_words::Request;
@@ -14,7 +18,8 @@ use std::sync::Arc;
 /// Searches the file that a request names. Its selected lines go to `out`. The answer is the status: 0
 /// where a line was selected, 1 where none was, and 2 after a fault, whose line goes to `err`.
 ///
-/// Only the first fault is looked for: first that of the pattern, then that of the file. Where a read
+/// Only the first fault is looked for: that of the -f files in their order, then that of the patterns,
+/// the first of them that has one, or of their size, and then that of the file. Where a read of it
 /// failed, the lines of what was read before were searched.
 pub fn answer<S: Store, W: Sink, E: Sink>(
     alloc: Global,
@@ -23,7 +28,7 @@ pub fn answer<S: Store, W: Sink, E: Sink>(
     out: &mut W,
     err: &mut E,
 ) -> u8
-    ensures { Answers (record { text = request.now.text.now; file = request.now.file.now })
+    ensures { Answers (asked_of request.now)
         (S.past store.old) (S.past store.new)
         (record { taken = W.taken out.old; failures = W.failures out.old })
         (record { taken = W.taken out.new; failures = W.failures out.new })
@@ -36,43 +41,53 @@ pub fn answer<S: Store, W: Sink, E: Sink>(
     }
 }
 
-/// Opens and searches the file that a request names.
+/// Reads the files of patterns, and searches the file that a request names.
 fn search<'a, S: Store, W: Sink>(
     alloc: Global,
     request: &Request<'a>,
     store: &mut S,
     out: &mut W,
 ) -> Result<u8, Fault<'a>>
-    ensures success { IfOk result (Succeeds (record { text = request.now.text.now; file = request.now.file.now })
+    ensures success { IfOk result (Succeeds (asked_of request.now)
         (S.past store.old) (S.past store.new)
         (record { taken = W.taken out.old; failures = W.failures out.old })
         (record { taken = W.taken out.new; failures = W.failures out.new })) }
-    ensures fault { IfErr result (Fails (record { text = request.now.text.now; file = request.now.file.now })
+    ensures fault { IfErr result (Fails (asked_of request.now)
         (S.past store.old) (S.past store.new)
         (record { taken = W.taken out.old; failures = W.failures out.old })
         (record { taken = W.taken out.new; failures = W.failures out.new })) }
 {
-    let query = compile_text(alloc, request.text)?;
-    let Ok(query) = Arc::new(alloc, query) else {
-        return Err(Fault::OutOfMemory);
-    };
+    let files = read_patterns(alloc, request.pattern_files.as_slice(), store)?;
+    let query = query_of(alloc, request, files)?;
+    search_file(alloc, &query, request, store, out)
+}
+
+/// Opens and searches the file that a request names. The query asks for no parts of lines.
+fn search_file<'a, S: Store, W: Sink>(
+    alloc: Global,
+    query: &Arc<Query>,
+    request: &Request<'a>,
+    store: &mut S,
+    out: &mut W,
+) -> Result<u8, Fault<'a>>
+    requires { (arc_value query.now).text.pieces ≡ false }
+    ensures success { (trees : List Pattern) → AreTreesOf (arc_value query.now).text trees →
+        IfOk result (Searches (search_of (arc_value query.now).text trees) request.now.file.now
+        (S.past store.old) (S.past store.new)
+        (record { taken = W.taken out.old; failures = W.failures out.old })
+        (record { taken = W.taken out.new; failures = W.failures out.new })) }
+    ensures fault { (trees : List Pattern) → AreTreesOf (arc_value query.now).text trees →
+        IfErr result (FailsToSearch (search_of (arc_value query.now).text trees) request.now.file.now
+        (S.past store.old) (S.past store.new)
+        (record { taken = W.taken out.old; failures = W.failures out.old })
+        (record { taken = W.taken out.new; failures = W.failures out.new })) }
+{
     let name = shown_name(request.file);
     if !store.open(request.file)? {
         return Err(Fault::CannotOpen(name));
     }
-    match first_run(alloc, &query, store, request.block, out)? {
+    match first_run(alloc, query, store, request.block, out)? {
         Ok(status) => Ok(status),
         Err(ReadFault) => Err(Fault::ReadFailed(name)),
-    }
-}
-
-/// How a file is called in rows and fault lines.
-fn shown_name(path: &str) -> &str
-    ensures { IsCalled path.now result.now }
-{
-    if path == "-" {
-        "(standard input)"
-    } else {
-        path
     }
 }

@@ -1,5 +1,7 @@
 -- A cutter's past.
-use Rattle.std.proofs.Common.{◌≡◌, ◌≢◌, ℕ, ◌+◌, inl, inr, false, ◌||◌, cond, Option, Some, None, List, [], ◌∷◌, ◌++◌, length, take, drop, refl, sym, ap, ◌∙◌, subst, arith, append_assoc, length-append, Decides}
+use Rattle.std.proofs.Common.{◌≡◌, ◌≢◌, ℕ, ◌+◌, inl, inr, false, ◌||◌, cond, Option, Some, None, List, [], ◌∷◌, ◌++◌}
+use Rattle.std.proofs.Common.{length, take, drop, refl, sym, ap, ◌∙◌, subst, arith, append_assoc, length-append}
+use Rattle.std.proofs.Common.{Decides}
 use Rattle.std.specs.Option.{IfSome, option_to_list}
 use Rattle.std.proofs.lemmas.Bool.{false≢true, cases_Bool}
 use Rattle.std.proofs.lemmas.List.{append-nil, take-append-drop, drop-drop}
@@ -10,23 +12,29 @@ use Rattle.pg_lines.specs.declared.cutter.Cutter.{Cutter}
 use Rattle.pg_lines.proofs.CutLemmas.{numbered_front, numbered_more, numbered_append, cuts_more}
 use Rattle.pg_lines.proofs.LongLemmas.{long_decides, long_append, open_append, chosen_some}
 
-pub next_block : {A : Type 0} (cutter : Cutter A) (past : Fed) (b : BlockData) (rest : List BlockData) → cutter.ready.items ≡ b ∷ rest → Stands cutter past → IsNextBlock past b
+pub next_block : {A : Type 0} (cutter : Cutter A) (past : Fed) (b : BlockData) (rest : List BlockData)
+    → cutter.ready.items ≡ b ∷ rest → Stands cutter past → IsNextBlock past b
 next_block cutter past b rest e s =
     let P : List BlockData → Type 0 = λ bs. AreNumbered past.file 0 (past.taken ++ bs) in
     let Q : List BlockData → Type 0 = λ bs. Cuts past.end past.size past.bytes (past.taken ++ bs) cutter.rest.items in
     let R : List BlockData → Type 0 = λ bs. AreNumbered past.file 0 bs in
     record {
-      numbered = numbered_front past.file 0 (past.taken ++ b ∷ []) rest (subst R (sym (append_assoc past.taken (b ∷ []) rest)) (subst P e s.numbered));
+      numbered =
+          numbered_front past.file 0 (past.taken ++ b ∷ []) rest
+          (subst R (sym (append_assoc past.taken (b ∷ []) rest)) (subst P e s.numbered));
       cut = (rest, cutter.rest.items, subst Q e s.cut);
     }
 
-drained : {A : Type 0} (cutter : Cutter A) (past : Fed) → Stands cutter past → IsDrained cutter → Cuts past.end past.size past.bytes past.taken cutter.rest.items × AreNumbered past.file 0 past.taken
+drained : {A : Type 0} (cutter : Cutter A) (past : Fed) → Stands cutter past → IsDrained cutter
+    → Cuts past.end past.size past.bytes past.taken cutter.rest.items × AreNumbered past.file 0 past.taken
 drained cutter past s d =
     let same : past.taken ++ cutter.ready.items ≡ past.taken = ap (λ bs. past.taken ++ bs) d ∙ append-nil past.taken in
-    let P : List BlockData → Type 0 = λ bs. Cuts past.end past.size past.bytes bs cutter.rest.items × AreNumbered past.file 0 bs in
+    let C : List BlockData → Type 0 = λ bs. Cuts past.end past.size past.bytes bs cutter.rest.items in
+    let P : List BlockData → Type 0 = λ bs. C bs × AreNumbered past.file 0 bs in
     subst P same (s.cut, s.numbered)
 
-pub finished_none : {A : Type 0} (cutter : Cutter A) (past : Fed) → Stands cutter past → IsDrained cutter → cutter.rest.items ≡ [] → AreAllBlocks (handed past None)
+pub finished_none : {A : Type 0} (cutter : Cutter A) (past : Fed) → Stands cutter past → IsDrained cutter
+    → cutter.rest.items ≡ [] → AreAllBlocks (handed past None)
 finished_none cutter past s d e =
     let h = drained cutter past s d in
     let C : List ℕ → Type 0 = λ rest. Cuts past.end past.size past.bytes past.taken rest in
@@ -34,29 +42,38 @@ finished_none cutter past s d e =
     let both = subst P (sym (append-nil past.taken)) (h.1, inl (subst C e h.0)) in
     record { numbered = both.0; cut = both.1 }
 
-pub finished_some : {A : Type 0} (cutter : Cutter A) (past : Fed) → Stands cutter past → IsDrained cutter → cutter.rest.items ≢ [] → AreAllBlocks (handed past (Some (record { file = cutter.file; number = cutter.number; bytes = cutter.rest.items })))
+pub finished_some : {A : Type 0} (cutter : Cutter A) (past : Fed) → Stands cutter past → IsDrained cutter
+    → cutter.rest.items ≢ []
+    → AreAllBlocks
+    (handed past (Some (record { file = cutter.file; number = cutter.number; bytes = cutter.rest.items })))
 finished_some cutter past s d ne =
     let h = drained cutter past s d in
     let b : BlockData = record { file = cutter.file; number = cutter.number; bytes = cutter.rest.items } in
-    let n : cutter.number ≡ 0 + length past.taken = omega (arith, s.next, ap length d, length-append past.taken cutter.ready.items) in
+    let n : cutter.number ≡ 0 + length past.taken =
+    omega (arith, s.next, ap length d, length-append past.taken cutter.ready.items) in
     record {
       numbered = numbered_more past.file 0 past.taken b h.1 (sym s.file) n;
       cut = inr (record { front = past.taken; last = b; joins = refl; cuts = h.0; some = ne });
     }
 
-pub next_if_some : {A : Type 0} (cutter : Cutter A) (r : Option BlockData) (rest : List BlockData) → cutter.ready.items ≡ option_to_list r ++ rest → IfSome r (λ b. (past : Fed) → Stands cutter past → IsNextBlock past b)
+pub next_if_some : {A : Type 0} (cutter : Cutter A) (r : Option BlockData) (rest : List BlockData)
+    → cutter.ready.items ≡ option_to_list r ++ rest
+    → IfSome r (λ b. (past : Fed) → Stands cutter past → IsNextBlock past b)
 next_if_some cutter None rest e = tt
 next_if_some cutter (Some b) rest e = λ past s. next_block cutter past b rest e s
 
 -- the test on a piece that follows
-pub piece_decides : {A : Type 0} (cutter : Cutter A) (past : Fed) (piece : List ℕ) → Stands cutter past → Decides (has_long 10 cutter.longest cutter.line piece) (HasLongLine (fed past piece))
+pub piece_decides : {A : Type 0} (cutter : Cutter A) (past : Fed) (piece : List ℕ) → Stands cutter past
+    → Decides (has_long cutter.end cutter.longest cutter.line piece) (HasLongLine (fed past piece))
 piece_decides cutter past piece s =
     let d = long_decides past.end past.longest (past.bytes ++ piece) in
-    let no : has_long past.end past.longest 0 past.bytes ≡ false = elim (cases_Bool (has_long past.end past.longest 0 past.bytes)) [
+    let before = has_long past.end past.longest 0 past.bytes in
+    let no : before ≡ false = elim (cases_Bool before) [
       | inl e ↦ absurd (s.short ((long_decides past.end past.longest past.bytes).0 e))
       | inr e ↦ e
     ] in
-    let same : has_long past.end past.longest 0 (past.bytes ++ piece) ≡ has_long 10 cutter.longest cutter.line piece =
+    let behind = has_long cutter.end cutter.longest cutter.line piece in
+    let same : has_long past.end past.longest 0 (past.bytes ++ piece) ≡ behind =
     long_append past.end past.longest 0 past.bytes piece
     ∙ (ap (λ b. b || has_long past.end past.longest (open_from past.end 0 past.bytes) piece) no
     ∙ (ap (λ n. has_long past.end past.longest n piece) (sym s.line)
@@ -65,42 +82,63 @@ piece_decides cutter past piece s =
     (λ e. d.0 (same ∙ e), λ h. sym same ∙ d.1 h)
 
 -- a piece after which no line is too long
-pub no_long : {A : Type 0} (cutter : Cutter A) (past : Fed) (piece : List ℕ) (line : ℕ) → Stands cutter past → Some line ≡ cond (has_long 10 cutter.longest cutter.line piece) None (Some (open_from 10 cutter.line piece)) → HasLongLine (fed past piece) → ⊥
-no_long cutter past piece line s e h = false≢true (sym (chosen_some _ _ line e).0 ∙ (piece_decides cutter past piece s).1 h)
+pub no_long : {A : Type 0} (cutter : Cutter A) (past : Fed) (piece : List ℕ) (line : ℕ) → Stands cutter past
+    → Some line
+    ≡ cond (has_long cutter.end cutter.longest cutter.line piece) None (Some (open_from cutter.end cutter.line piece))
+    → HasLongLine (fed past piece) → ⊥
+no_long cutter past piece line s e h =
+    false≢true (sym (chosen_some _ _ line e).0 ∙ (piece_decides cutter past piece s).1 h)
 
 -- after a piece, from whose blocks the cutter has the new ones
-pub fed_stands : {A : Type 0} (old new : Cutter A) (past : Fed) (piece left : List ℕ) (count : ℕ) (ready' : List BlockData) → Stands old past
-    → new.file ≡ old.file → new.size ≡ old.size → new.longest ≡ old.longest → new.number ≡ old.number + count → new.total ≡ old.total + length piece
-    → new.line ≡ open_from 10 old.line piece → new.ready.items ≡ ready' → new.rest.items ≡ left
-    → CutsOff 10 old.size old.file old.number (old.rest.items ++ piece) old.ready.items ready' left count → (HasLongLine (fed past piece) → ⊥) → Stands new (fed past piece)
-fed_stands old new past piece left count ready' s file size longest number total line ready rest off short =
+pub fed_stands : {A : Type 0} (old new : Cutter A) (past : Fed) (piece left : List ℕ) (count : ℕ)
+    (ready' : List BlockData) → Stands old past
+    → new.file ≡ old.file → new.size ≡ old.size → new.longest ≡ old.longest → new.end ≡ old.end
+    → new.number ≡ old.number + count → new.total ≡ old.total + length piece
+    → new.line ≡ open_from old.end old.line piece → new.ready.items ≡ ready' → new.rest.items ≡ left
+    → CutsOff old.end old.size old.file old.number (old.rest.items ++ piece) old.ready.items ready' left count
+    → (HasLongLine (fed past piece) → ⊥) → Stands new (fed past piece)
+fed_stands old new past piece left count ready' s file size longest end number total line ready rest off short =
     let blocks = off.blocks in
-    let together : (past.taken ++ old.ready.items) ++ blocks ≡ past.taken ++ new.ready.items = append_assoc past.taken old.ready.items blocks ∙ ap (λ bs. past.taken ++ bs) (sym (ready ∙ off.added)) in
+    let together : (past.taken ++ old.ready.items) ++ blocks ≡ past.taken ++ new.ready.items =
+    append_assoc past.taken old.ready.items blocks ∙ ap (λ bs. past.taken ++ bs) (sym (ready ∙ off.added)) in
     let C : List BlockData → Type 0 = λ bs. Cuts past.end past.size (past.bytes ++ piece) bs new.rest.items in
     let N : List BlockData → Type 0 = λ bs. AreNumbered past.file 0 bs in
     let D : ℕ → Type 0 = λ e. Cuts e past.size (old.rest.items ++ piece) blocks new.rest.items in
-    let E : ℕ → Type 0 = λ n. Cuts 10 n (old.rest.items ++ piece) blocks new.rest.items in
-    let G : List ℕ → Type 0 = λ r. Cuts 10 old.size (old.rest.items ++ piece) blocks r in
+    let E : ℕ → Type 0 = λ n. Cuts old.end n (old.rest.items ++ piece) blocks new.rest.items in
+    let G : List ℕ → Type 0 = λ r. Cuts old.end old.size (old.rest.items ++ piece) blocks r in
     let H : ℕ → Type 0 = λ f. AreNumbered f (0 + length (past.taken ++ old.ready.items)) blocks in
     let I : ℕ → Type 0 = λ n. AreNumbered old.file n blocks in
     let next : old.number ≡ 0 + length (past.taken ++ old.ready.items) = omega (arith, s.next) in
     let cut' = subst D (sym s.terminator) (subst E (sym s.size) (subst G (sym rest) off.cuts)) in
     record {
-      terminator = s.terminator;
+      terminator = s.terminator ∙ sym end;
       file = s.file ∙ sym file;
       size = s.size ∙ sym size;
       longest = s.longest ∙ sym longest;
-      cut = subst C together (cuts_more past.end past.size past.bytes piece old.rest.items new.rest.items (past.taken ++ old.ready.items) blocks s.cut cut');
-      numbered = subst N together (numbered_append past.file 0 (past.taken ++ old.ready.items) blocks s.numbered (subst H (sym s.file) (subst I next off.numbered)));
-      next = omega (arith, s.next, ap length together, length-append (past.taken ++ old.ready.items) blocks, off.counted);
+      cut =
+          subst C together
+          (cuts_more past.end past.size past.bytes piece old.rest.items new.rest.items
+          (past.taken ++ old.ready.items) blocks s.cut cut');
+      numbered =
+          subst N together
+          (numbered_append past.file 0 (past.taken ++ old.ready.items) blocks s.numbered
+          (subst H (sym s.file) (subst I next off.numbered)));
+      next =
+          omega
+          (arith, s.next, ap length together, length-append (past.taken ++ old.ready.items) blocks, off.counted);
       total = omega (arith, s.total, length-append past.bytes piece);
       short = short;
-      line = line ∙ (ap (λ n. open_from 10 n piece) s.line ∙ (ap (λ e. open_from e (open_from past.end 0 past.bytes) piece) (sym s.terminator) ∙ sym (open_append past.end 0 past.bytes piece)));
+      line =
+          line ∙ (ap (λ n. open_from old.end n piece) s.line
+          ∙ (ap (λ e. open_from e (open_from past.end 0 past.bytes) piece) (sym s.terminator)
+          ∙ sym (open_append past.end 0 past.bytes piece)));
     }
 
 -- a piece that finishes no block
-pub cuts_none : (size file number : ℕ) (rest piece : List ℕ) (ready : List BlockData) → IsUnfinished 10 size (rest ++ piece) → CutsOff 10 size file number (rest ++ piece) ready ready (rest ++ piece) 0
-cuts_none size file number rest piece ready h = record {
+pub cuts_none : (end size file number : ℕ) (rest piece : List ℕ) (ready : List BlockData)
+    → IsUnfinished end size (rest ++ piece)
+    → CutsOff end size file number (rest ++ piece) ready ready (rest ++ piece) 0
+cuts_none end size file number rest piece ready h = record {
   blocks = [];
   cuts = record { whole = refl; finished = tt; unfinished = h };
   numbered = tt;
@@ -108,23 +146,28 @@ cuts_none size file number rest piece ready h = record {
   counted = refl;
 }
 
--- a piece that finishes a block by its first `end` bytes, and others behind it
-pub cuts_first : (size file number end at : ℕ) (rest piece first left : List ℕ) (blocks ready ready' : List BlockData)
-    → IsFinished 10 size (rest ++ take end piece) → Cuts 10 size (drop end piece) blocks (drop at (drop end piece)) → AreNumbered file (number + 1) blocks
-    → first ≡ rest ++ take end piece → left ≡ drop (end + at) piece → ready' ≡ (ready ++ record { file = file; number = number; bytes = first } ∷ []) ++ blocks
-    → CutsOff 10 size file number (rest ++ piece) ready ready' left (length blocks + 1)
-cuts_first size file number end at rest piece first left blocks ready ready' f cuts numbered first-is left-is ready-is =
+-- a piece that finishes a block by its first `len` bytes, and others behind it
+pub cuts_first : (end size file number len at : ℕ) (rest piece first left : List ℕ)
+    (blocks ready ready' : List BlockData) → IsFinished end size (rest ++ take len piece)
+    → Cuts end size (drop len piece) blocks (drop at (drop len piece)) → AreNumbered file (number + 1) blocks
+    → first ≡ rest ++ take len piece → left ≡ drop (len + at) piece
+    → ready' ≡ (ready ++ record { file = file; number = number; bytes = first } ∷ []) ++ blocks
+    → CutsOff end size file number (rest ++ piece) ready ready' left (length blocks + 1)
+cuts_first end size file number len at rest piece first left blocks ready ready' f cuts numbered is left-is ready-is =
     let b : BlockData = record { file = file; number = number; bytes = first } in
-    let P : List ℕ → Type 0 = λ xs. IsFinished 10 size xs in
-    let U : List ℕ → Type 0 = λ xs. IsUnfinished 10 size xs in
-    let behind : drop at (drop end piece) ≡ left = drop-drop at end piece ∙ sym left-is in
+    let P : List ℕ → Type 0 = λ xs. IsFinished end size xs in
+    let U : List ℕ → Type 0 = λ xs. IsUnfinished end size xs in
+    let behind : drop at (drop len piece) ≡ left = drop-drop at len piece ∙ sym left-is in
     record {
       blocks = b ∷ blocks;
       cuts = record {
         whole =
-            ap (λ xs. rest ++ xs) (sym (take-append-drop end piece)) ∙ (sym (append_assoc rest (take end piece) (drop end piece))
-            ∙ (ap (λ xs. xs ++ drop end piece) (sym first-is) ∙ (ap (λ xs. first ++ xs) (cuts.whole ∙ ap (λ xs. joined blocks ++ xs) behind) ∙ sym (append_assoc first (joined blocks) left))));
-        finished = (subst P (sym first-is) f, cuts.finished);
+            ap (λ xs. rest ++ xs) (sym (take-append-drop len piece))
+            ∙ (sym (append_assoc rest (take len piece) (drop len piece))
+            ∙ (ap (λ xs. xs ++ drop len piece) (sym is)
+            ∙ (ap (λ xs. first ++ xs) (cuts.whole ∙ ap (λ xs. joined blocks ++ xs) behind)
+            ∙ sym (append_assoc first (joined blocks) left))));
+        finished = (subst P (sym is) f, cuts.finished);
         unfinished = subst U behind cuts.unfinished;
       };
       numbered = (refl, refl, numbered);

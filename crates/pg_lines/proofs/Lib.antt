@@ -2,11 +2,12 @@ pub mod CutLaws
 pub mod CutLemmas
 pub mod CutterLemmas
 pub mod Examples
+pub mod FixedLemmas
 pub mod HitLemmas
 pub mod LineLaws
 pub mod LineLemmas
 pub mod LongLemmas
-pub mod PartLaws
 pub mod PatternLemmas
 pub mod RunLemmas
+pub mod ScanLemmas
 pub mod SameLemmas

@@ -1,12 +1,12 @@
 -- The lines of bytes, one byte at a time, and where each stands.
-use Rattle.std.proofs.Common.{cond, slice_range, ◌≡◌, ◌≢◌, ℕ, zero, suc, ◌+◌, ◌-◌, ◌<◌, ◌≤◌, inl, inr, Bool, true, false, eqb, List, [], ◌∷◌, ◌++◌, length, take, drop, get_or, refl, sym, ap, ◌∙◌, subst, arith, append_assoc, length-append, length-drop}
+use Rattle.std.proofs.Common.{cond, slice_range, ◌≡◌, ◌≢◌, ℕ, zero, suc, ◌+◌, ◌-◌, ◌<◌, ◌≤◌, inl, inr, Bool, true, false, eqb, List, [], ◌∷◌, ◌++◌, length, take, drop, get_or, refl, sym, ap, ◌∙◌, subst, arith, append_assoc, length-append}
 use Rattle.std.proofs.lemmas.Bool.Decides.{Decides-eqb}
-use Rattle.std.proofs.lemmas.Bool.{false≢true, eq-eqb, ne_eqb, eqb-true, cases_lt}
+use Rattle.std.proofs.lemmas.Bool.{false≢true, eq-eqb, ne_eqb, eqb-true}
 use Rattle.std.specs.List.{onto_first}
-use Rattle.std.proofs.lemmas.List.{take_at, drop_at, drop_more, get_or-take, get_or_default, take-append-drop, length-take-le, take_all, take-append-le, drop_all, append-nil}
+use Rattle.std.proofs.lemmas.List.{take_at, drop_at, drop_more, get_or-take, get_or-drop, get_or_default, take-append-drop, length-take-le, take_all, append-nil}
 use Rattle.std.proofs.Common.{Some, None}
 use Rattle.memchr.specs.Find.{IsFirstByte, is_byte, Passes, Nowhere}
-use Rattle.pg_lines.specs.Lines.{lines, terminated, IsLine, AreWhole, start_of}
+use Rattle.pg_lines.specs.Lines.{lines, terminated, IsLine, IsClear, AreWhole}
 
 -- how lines come about
 pub data Made (end : ℕ) : List ℕ → List (List ℕ) → Type 0 where
@@ -147,53 +147,6 @@ terminated_made end _ _ (onto {b} {bytes} {l} {ls} ne m) w = ap (λ bs. b ∷ bs
 pub terminated-lines : (end : ℕ) (bytes : List ℕ) → AreWhole end bytes → terminated end (lines end bytes) ≡ bytes
 terminated-lines end bytes w = terminated_made end bytes (lines end bytes) (made end bytes) w
 
-start_made : (end : ℕ) (bytes : List ℕ) (ls : List (List ℕ)) → Made end bytes ls → (k : ℕ) → k < length ls → length (terminated end (take k ls)) < length bytes
-start_made end _ _ none k h = absurd (omega arith)
-start_made end _ _ (ended {bytes} {ls} m) zero h = omega arith
-start_made end _ _ (ended {bytes} {ls} m) (suc k) h = omega (arith, start_made end bytes ls m k (omega arith))
-start_made end _ _ (alone {b} ne) zero h = omega arith
-start_made end _ _ (alone {b} ne) (suc k) h = absurd (omega arith)
-start_made end _ _ (onto {b} {bytes} {l} {ls} ne m) zero h = omega arith
-start_made end _ _ (onto {b} {bytes} {l} {ls} ne m) (suc k) h = omega (arith, start_made end bytes (l ∷ ls) m (suc k) (omega arith))
-
--- a line starts before the end of the bytes
-pub start_within : (end : ℕ) (bytes : List ℕ) (k : ℕ) → k < length (lines end bytes) → start_of end (lines end bytes) k < length bytes
-start_within end bytes k h = start_made end bytes (lines end bytes) (made end bytes) k h
-
-pub start_of-next : (end : ℕ) (ls : List (List ℕ)) (k : ℕ) → k < length ls → start_of end ls (k + 1) ≡ start_of end ls k + length (get_or ls k []) + 1
-start_of-next end [] k h = absurd (omega arith)
-start_of-next end (l ∷ ls) zero h = omega (arith, length-append l (end ∷ []), length-append (l ++ end ∷ []) [])
-start_of-next end (l ∷ ls) (suc k) h =
-    let e : suc k + 1 ≡ suc (k + 1) = omega arith in
-    ap (λ n. start_of end (l ∷ ls) n) e
-    ∙ omega (arith, start_of-next end ls k (omega arith), length-append (l ++ end ∷ []) (terminated end (take k ls)), length-append (l ++ end ∷ []) (terminated end (take (k + 1) ls)))
-
--- where a line starts among the lines of two parts
-pub start_of-front : (end : ℕ) (xs ys : List (List ℕ)) (k : ℕ) → k ≤ length xs → start_of end (xs ++ ys) k ≡ start_of end xs k
-start_of-front end xs ys k h = ap (λ ls. length (terminated end ls)) (take-append-le k xs ys h)
-
-pub start_of-back : (end : ℕ) (xs ys : List (List ℕ)) (k : ℕ) → start_of end (xs ++ ys) (length xs + k) ≡ length (terminated end xs) + start_of end ys k
-start_of-back end [] ys k = let e : 0 + k ≡ k = omega arith in ap (λ n. start_of end ys n) e ∙ omega arith
-start_of-back end (x ∷ xs) ys k =
-    let e : length (x ∷ xs) + k ≡ suc (length xs + k) = omega arith in
-    ap (λ n. start_of end (x ∷ xs ++ ys) n) e
-    ∙ omega (arith, start_of-back end xs ys k, length-append (x ++ end ∷ []) (terminated end (take (length xs + k) (xs ++ ys))), length-append (x ++ end ∷ []) (terminated end xs))
-
--- a scan that has passed n lines and stands at a place
-pub scan_within : (bytes : List ℕ) (start n : ℕ) → lines 10 (drop start bytes) ≡ drop n (lines 10 bytes) → n < length (lines 10 bytes) → start < length bytes
-scan_within bytes start n e below = elim (cases_lt start (length bytes)) [
-  | inl h ↦ h
-  | inr h ↦ let none : drop n (lines 10 bytes) ≡ [] = sym e ∙ ap (lines 10) (drop_all start bytes h) in absurd (omega (arith, ap length none, length-drop n (lines 10 bytes)))
-]
-
-pub scan_next : (bytes : List ℕ) (start e n : ℕ) → start ≡ start_of 10 (lines 10 bytes) n → lines 10 (drop start bytes) ≡ drop n (lines 10 bytes) → n < length (lines 10 bytes)
-    → start ≤ e → e ≤ length bytes → lines 10 (drop start bytes) ≡ slice_range bytes start e ∷ lines 10 (drop (e + 1) bytes) → (e + 1 ≡ start_of 10 (lines 10 bytes) (n + 1)) × (lines 10 (drop (e + 1) bytes) ≡ drop (n + 1) (lines 10 bytes))
-scan_next bytes start e n at behind below low high line =
-    let more : slice_range bytes start e ∷ lines 10 (drop (e + 1) bytes) ≡ get_or (lines 10 bytes) n [] ∷ drop (n + 1) (lines 10 bytes) = sym line ∙ (behind ∙ drop_more (lines 10 bytes) n [] below) in
-    let text : slice_range bytes start e ≡ get_or (lines 10 bytes) n [] = cc in
-    let len : length (slice_range bytes start e) ≡ e - start = length-take-le (e - start) (drop start bytes) (omega (arith, length-drop start bytes)) in
-    (omega (arith, start_of-next 10 (lines 10 bytes) n below, ap length text, len, at), cc)
-
 -- a text without the terminator is one line, unless it is empty
 pub lines-alone : (end : ℕ) (l : List ℕ) → 0 < length l → IsLine end l → lines end l ≡ l ∷ []
 lines-alone end [] some h = absurd (omega arith)
@@ -202,3 +155,12 @@ lines-alone end (b ∷ l) some h = lines-last end b l h
 pub whole_append : (end : ℕ) (xs ys : List ℕ) → AreWhole end xs → AreWhole end ys → AreWhole end (xs ++ ys)
 whole_append end xs ys w (inl e) = let P : List ℕ → Type 0 = λ bs. AreWhole end bs in subst P (sym (ap (λ bs. xs ++ bs) e ∙ append-nil xs)) w
 whole_append end xs ys w (inr h) = inr (xs ++ h.0, ap (λ bs. xs ++ bs) h.1 ∙ sym (append_assoc xs h.0 (end ∷ [])))
+
+-- what a search for the terminator from a place says of the bytes
+pub clear_to : (end : ℕ) (bytes : List ℕ) (place k : ℕ)
+    → ((i : ℕ) → 0 ≤ i → i < k → is_byte end (get_or (drop place bytes) i 0) ≡ true → ⊥)
+    → IsClear end bytes place (place + k)
+clear_to end bytes place k h i from to e =
+    let at : place + (i - place) ≡ i = omega arith in
+    h (i - place) (omega arith) (omega arith)
+    (eq-eqb _ end (get_or-drop place bytes (i - place) 0 ∙ (ap (λ n. get_or bytes n 0) at ∙ e)))

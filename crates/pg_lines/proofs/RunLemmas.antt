@@ -1,19 +1,17 @@
 -- Runs of selected lines.
-use Rattle.std.proofs.Common.{◌≡◌, ℕ, zero, suc, ◌+◌, ◌-◌, ◌<◌, ◌≤◌, ◌⊎◌, inl, inr, Bool, true, false, ◌||◌, ◌&&◌, nat_le, nat_lt, cond, List, [], ◌∷◌, ◌++◌, length, take, drop, get_or, refl, sym, ap, ◌∙◌, subst, arith, append_assoc, length-append, length-drop}
+use Rattle.std.proofs.Common.{◌≡◌, ◌≢◌, ℕ, zero, suc, ◌+◌, ◌-◌, ◌<◌, ◌≤◌, ◌^◌, ◌⊎◌, inl, inr, Bool, true, false, nat_lt, cond, List, [], ◌∷◌, ◌++◌, length, take, drop, get_or, refl, sym, ap, ◌∙◌, subst, arith, append_assoc, length-append, length-drop}
 use Rattle.std.specs.List.{AllByRecursion}
 use Rattle.std.proofs.lemmas.Bool.{cases_lt, ltb-true, ltb-false}
-use Rattle.std.proofs.lemmas.Bool.Decides.{nat_tests}
-use Rattle.std.proofs.Math.ListN.{get_or-append}
-use Rattle.std.proofs.lemmas.List.{get_or-append-add, take-append-drop, drop_at, length-take-le, get_or-take, get_or-drop, get_or_default, append-nil, drop_more, drop-drop, drop_all}
+use Rattle.std.proofs.lemmas.List.{take-append-drop, drop_at, length-take-le, get_or-take, get_or-drop, get_or_default, append-nil, take_at, drop_more, drop-drop, drop_all}
 use Rattle.std.proofs.lemmas.List.Prefix.{at_reads}
 use Rattle.memchr.specs.Find.{OccursAt, Nowhere}
-use Rattle.pg_lines.specs.Lines.{lines, IsLine, AreWhole, IsClear, Stops, terminated, start_of}
-use Rattle.pg_lines.specs.Search.{Search, IsCompiled}
-use Rattle.pg_lines.specs.Hits.{selects}
-use Rattle.pg_lines.specs.Runs.{AllLines, IsNextRun, AreRuns, is_covered}
+use Rattle.pg_lines.specs.Lines.{lines, IsLine, AreWhole, AreShort, IsClear, Stops, terminated}
+use Rattle.pg_lines.specs.Search.{Search, HasItsTrees, IsPlain, terminator}
+use Rattle.pg_lines.specs.Selection.{selects}
+use Rattle.pg_lines.specs.Runs.{AllLines, IsNextRun, AreRuns}
 use Rattle.pg_lines.specs.declared.span.Span.{Span}
 use Rattle.pg_lines.proofs.HitLemmas.{occurs_selected, nowhere_unselected}
-use Rattle.pg_lines.proofs.LineLemmas.{made, around, lines-line, lines-alone, lines-append, terminated-lines, start_within, start_of-front, start_of-back, whole_append}
+use Rattle.pg_lines.proofs.LineLemmas.{made, around, lines-line, lines-alone, lines-append, whole_append}
 
 all_by_index : (P : List ℕ → Type 0) (ls : List (List ℕ)) → ((k : ℕ) → k < length ls → P (get_or ls k [])) → AllByRecursion P ls
 all_by_index P [] h = tt
@@ -29,10 +27,10 @@ all_append P [] ys a b = b
 all_append P (x ∷ xs) ys a b = (a.0, all_append P xs ys a.1 b)
 
 -- the lines of whole lines and of what stands behind them
-pub all_lines-append : (q : Search) (selected : Bool) (xs ys : List ℕ) → AreWhole 10 xs → AllLines q selected xs → AllLines q selected ys → AllLines q selected (xs ++ ys)
+pub all_lines-append : (q : Search) (selected : Bool) (xs ys : List ℕ) → AreWhole (terminator q) xs → AllLines q selected xs → AllLines q selected ys → AllLines q selected (xs ++ ys)
 all_lines-append q selected xs ys w a b =
     let P : List (List ℕ) → Type 0 = λ ls. AllByRecursion (λ l. selects q l ≡ selected) ls in
-    subst P (sym (lines-append 10 xs ys w)) (all_append (λ l. selects q l ≡ selected) (lines 10 xs) (lines 10 ys) a b)
+    subst P (sym (lines-append (terminator q) xs ys w)) (all_append (λ l. selects q l ≡ selected) (lines (terminator q) xs) (lines (terminator q) ys) a b)
 
 -- what occurs in a part occurs in the whole
 occurs_inside : (xs front l tail p : List ℕ) (i : ℕ) → xs ≡ front ++ (l ++ tail) → OccursAt l p i → OccursAt xs p (length front + i)
@@ -47,18 +45,18 @@ occurs_inside xs front l tail p i e o =
     }
 
 -- bytes in which the pattern occurs nowhere have no selected line
-pub nowhere_lines : (q : Search) (p bytes : List ℕ) → IsCompiled q p → ((k : ℕ) → OccursAt bytes p k → ⊥) → AllLines q false bytes
-nowhere_lines q p bytes c none =
-    all_by_index (λ l. selects q l ≡ false) (lines 10 bytes) (λ k below.
-    let r = around 10 bytes (lines 10 bytes) (made 10 bytes) k below in
-    nowhere_unselected q p (get_or (lines 10 bytes) k []) c (λ i o.
-    none (length (terminated 10 (take k (lines 10 bytes))) + i) (occurs_inside bytes (terminated 10 (take k (lines 10 bytes))) (get_or (lines 10 bytes) k []) r.0 p i r.1 o)))
+pub nowhere_lines : (q : Search) (p bytes : List ℕ) → HasItsTrees q → IsPlain q.text p → ((k : ℕ) → OccursAt bytes p k → ⊥) → AllLines q false bytes
+nowhere_lines q p bytes t c none =
+    all_by_index (λ l. selects q l ≡ false) (lines (terminator q) bytes) (λ k below.
+    let r = around (terminator q) bytes (lines (terminator q) bytes) (made (terminator q) bytes) k below in
+    nowhere_unselected q p t c (get_or (lines (terminator q) bytes) k []) (λ i o.
+    none (length (terminated (terminator q) (take k (lines (terminator q) bytes))) + i) (occurs_inside bytes (terminated (terminator q) (take k (lines (terminator q) bytes))) (get_or (lines (terminator q) bytes) k []) r.0 p i r.1 o)))
 
 -- nor have lines that end before the first place at which it occurs
-pub lines_before : (q : Search) (p bytes : List ℕ) (s k : ℕ) → IsCompiled q p → Nowhere (OccursAt bytes p) 0 k → s ≤ k → k ≤ length bytes → AllLines q false (take s bytes)
-lines_before q p bytes zero k c none low high = tt
-lines_before q p bytes (suc s) k c none low high =
-    nowhere_lines q p (take (suc s) bytes) c (λ j o.
+pub lines_before : (q : Search) (p bytes : List ℕ) (s k : ℕ) → HasItsTrees q → IsPlain q.text p → Nowhere (OccursAt bytes p) 0 k → s ≤ k → k ≤ length bytes → AllLines q false (take s bytes)
+lines_before q p bytes zero k t c none low high = tt
+lines_before q p bytes (suc s) k t c none low high =
+    nowhere_lines q p (take (suc s) bytes) t c (λ j o.
     let len = length-take-le (suc s) bytes (omega arith) in
     let P : ℕ → Type 0 = λ n. OccursAt bytes p n in
     let zero-j : 0 + j ≡ j = omega arith in
@@ -70,11 +68,11 @@ lines_before q p bytes (suc s) k c none low high =
     empty_needle [] ne = absurd (ne refl)
     empty_needle (b ∷ p) ne = omega arith
 
-is_line : (bytes : List ℕ) (s e : ℕ) → e ≤ length bytes → IsClear 10 bytes s e → IsLine 10 (take (e - s) (drop s bytes))
-is_line bytes s e high none c =
+is_line : (end : ℕ) (bytes : List ℕ) (s e : ℕ) → e ≤ length bytes → IsClear end bytes s e → IsLine end (take (e - s) (drop s bytes))
+is_line end bytes s e high none c =
     let within : c.0 < e - s = omega (arith, c.1, length-take (e - s) (drop s bytes)) in
     none (s + c.0) (omega arith) (omega arith)
-    (sym (get_or-drop s bytes c.0 0) ∙ (sym (get_or-take (e - s) (drop s bytes) c.0 0 within) ∙ (get_or_default (take (e - s) (drop s bytes)) c.0 0 10 c.1 ∙ c.2)))
+    (sym (get_or-drop s bytes c.0 0) ∙ (sym (get_or-take (e - s) (drop s bytes) c.0 0 within) ∙ (get_or_default (take (e - s) (drop s bytes)) c.0 0 end c.1 ∙ c.2)))
   where
     length-take : (n : ℕ) (xs : List ℕ) → length (take n xs) ≤ n
     length-take zero xs = omega arith
@@ -99,37 +97,29 @@ place_below bytes p k o none some = elim (cases_lt k (length bytes)) [
   | inr h ↦ absurd (none 0 (omega arith) (omega arith) (record { fits = omega (arith, o.fits); reads = λ j below. absurd (omega (arith, o.fits)) }))
 ]
 
-pub line_some : (bytes : List ℕ) (s k e stop : ℕ) → s ≤ k → k ≤ e → k < length bytes → Stops 10 bytes e stop → (s < stop) × (stop ≤ length bytes)
-line_some bytes s k e stop low high below (inl h) = (omega (arith, h.0), omega (arith, h.0, h.1))
-line_some bytes s k e stop low high below (inr h) = (omega (arith, h.0, h.1), omega (arith, h.0, h.1))
+pub line_some : (end : ℕ) (bytes : List ℕ) (s k e stop : ℕ) → s ≤ k → k ≤ e → k < length bytes → Stops end bytes e stop → (s < stop) × (stop ≤ length bytes)
+line_some end bytes s k e stop low high below (inl h) = (omega (arith, h.0), omega (arith, h.0, h.1))
+line_some end bytes s k e stop low high below (inr h) = (omega (arith, h.0, h.1), omega (arith, h.0, h.1))
 
--- The first line in which the pattern occurs: the pattern at k, the line's text from s up to e, and behind it the next
--- line at `stop`.
-pub line_found : (q : Search) (p bytes : List ℕ) (at s k e stop : ℕ) (line : Span) → IsCompiled q p → OccursAt bytes p k → Nowhere (OccursAt bytes p) 0 k
-    → s ≤ k → k ≤ e → AreWhole 10 (take s bytes) → IsClear 10 bytes s e → Stops 10 bytes e stop → 0 < length bytes → s < stop
-    → line.start ≡ at + s → line.end ≡ at + stop → IsNextRun q at bytes line
-line_found q p bytes at s k e stop line c o none low high front clear stops some longer start ends =
-    let bound : (s ≤ e) × (e ≤ length bytes) × (stop ≤ length bytes) × (k + length p ≤ e) = (
-      omega arith,
-      elim stops [ inl h ↦ omega (arith, h.1) | inr h ↦ omega (arith, h.1) ],
-      elim stops [ inl h ↦ omega (arith, h.0, h.1) | inr h ↦ omega (arith, h.0, h.1) ],
-      elim (cases_lt e (k + length p)) [
-        | inr fits ↦ fits
-        | inl beyond ↦ elim stops [
-          | inl h ↦ let at_e : k + (e - k) ≡ e = omega arith in
-              absurd (c.line (e - k, omega arith, get_or_default p (e - k) 10 0 (omega arith) ∙ (sym (o.reads (e - k) (omega arith)) ∙ (ap (λ n. get_or bytes n 0) at_e ∙ h.2))))
-          | inr h ↦ absurd (omega (arith, o.fits, h.1))
-        ]
-      ],
-    ) in
+-- A line of the bytes: its text from s up to e, and the next line at `stop`.
+pub record IsLineAt (end : ℕ) (bytes : List ℕ) (s e stop : ℕ) : Type 0 where
+  pub text : List ℕ
+  pub later : List ℕ
+  pub joins : bytes ≡ (take s bytes ++ text) ++ later
+  pub one : lines end text ≡ take (e - s) (drop s bytes) ∷ []
+  pub front : length (take s bytes) ≡ s
+  pub len : s + length text ≡ stop
+  pub some : text ≢ []
+  pub whole : (AreWhole end text × (later ≡ drop stop bytes)) ⊎ ((later ≡ []) × (stop ≡ length bytes))
+
+pub line_at : (end : ℕ) (bytes : List ℕ) (s e stop : ℕ) → s ≤ e → e ≤ length bytes → s < stop → IsClear end bytes s e
+    → Stops end bytes e stop → IsLineAt end bytes s e stop
+line_at end bytes s e stop low high longer clear stops =
     let text = take (e - s) (drop s bytes) in
-    let here : OccursAt text p (k - s) = occurs_within bytes p s e k bound.1 low bound.3 o in
-    let chosen = occurs_selected q p text (k - s) c here in
-    let len : length (take s bytes) ≡ s = length-take-le s bytes (omega (arith, bound.1)) in
-    let text_len : length text ≡ e - s = length-take-le (e - s) (drop s bytes) (omega (arith, length-drop s bytes, bound.1)) in
-    let alone : IsLine 10 text = is_line bytes s e bound.1 clear in
-    let selected : List (List ℕ) → Type 0 = λ ls. AllByRecursion (λ l. selects q l ≡ true) ls in
-    let to_e : s + (e - s) ≡ e = omega (arith, bound.0) in
+    let len : length (take s bytes) ≡ s = length-take-le s bytes (omega arith) in
+    let text_len : length text ≡ e - s = length-take-le (e - s) (drop s bytes) (omega (arith, length-drop s bytes)) in
+    let alone : IsLine end text = is_line end bytes s e high clear in
+    let to_e : s + (e - s) ≡ e = omega arith in
     let split_at : bytes ≡ (take s bytes ++ text) ++ drop e bytes =
     sym (take-append-drop s bytes)
     ∙ (ap (λ xs. take s bytes ++ xs) (sym (take-append-drop (e - s) (drop s bytes)))
@@ -137,51 +127,126 @@ line_found q p bytes at s k e stop line c o none low high front clear stops some
     ∙ ap (λ xs. (take s bytes ++ text) ++ xs) (drop-drop (e - s) s bytes ∙ ap (λ n. drop n bytes) to_e))) in
     elim stops [
       | inl h ↦
-          let text' = text ++ 10 ∷ [] in
-          let len' : length text' ≡ (e - s) + 1 = omega (arith, length-append text (10 ∷ []), text_len) in
-          let one : lines 10 text' ≡ text ∷ [] = lines-line 10 text [] alone in
-          let next : drop e bytes ≡ 10 ∷ drop (e + 1) bytes = drop_more bytes e 0 h.1 ∙ ap (λ b. b ∷ drop (e + 1) bytes) h.2 in
+          let text' = text ++ end ∷ [] in
+          let len' : length text' ≡ (e - s) + 1 = omega (arith, length-append text (end ∷ []), text_len) in
+          let next : drop e bytes ≡ end ∷ drop (e + 1) bytes =
+          drop_more bytes e 0 h.1 ∙ ap (λ b. b ∷ drop (e + 1) bytes) h.2 in
           record {
-            gap = take s bytes;
             text = text';
             later = drop (e + 1) bytes;
-            joins = split_at ∙ (ap (λ xs. (take s bytes ++ text) ++ xs) next ∙ regroup (take s bytes) text 10 (drop (e + 1) bytes));
-            gap_whole = front;
-            gap_unselected = lines_before q p bytes s k c none low (omega (arith, o.fits));
-            text_some = λ e'. absurd (omega (arith, ap length e'));
-            text_whole = inl (inr (text, refl));
-            text_selected = subst selected (sym one) (chosen, tt);
-            start = omega (arith, start, len);
-            stop = omega (arith, ends, len, len', h.0);
+            joins = split_at
+                ∙ (ap (λ xs. (take s bytes ++ text) ++ xs) next ∙ regroup (take s bytes) text end (drop (e + 1) bytes));
+            one = lines-line end text [] alone;
+            front = len;
+            len = omega (arith, len', h.0);
+            some = λ e'. absurd (omega (arith, ap length e', len'));
+            whole = inl (inr (text, refl), ap (λ n. drop n bytes) (sym h.0));
           }
-      | inr h ↦
-          let one : lines 10 text ≡ text ∷ [] = lines-alone 10 text (omega (arith, h.0)) alone in
-          record {
-            gap = take s bytes;
-            text = text;
-            later = drop e bytes;
-            joins = split_at;
-            gap_whole = front;
-            gap_unselected = lines_before q p bytes s k c none low (omega (arith, o.fits));
-            text_some = λ e'. absurd (omega (arith, ap length e', h.0));
-            text_whole = inr (drop_all e bytes (omega (arith, h.1)));
-            text_selected = subst selected (sym one) (chosen, tt);
-            start = omega (arith, start, len);
-            stop = omega (arith, ends, len, text_len, h.0);
-          }
+      | inr h ↦ record {
+        text = text;
+        later = drop e bytes;
+        joins = split_at;
+        one = lines-alone end text (omega (arith, h.0, text_len)) alone;
+        front = len;
+        len = omega (arith, text_len, h.0);
+        some = λ e'. absurd (omega (arith, ap length e', h.0, text_len));
+        whole = inr (drop_all e bytes (omega (arith, h.1)), omega (arith, h.0, h.1));
+      }
     ]
   where
     regroup : (xs ys : List ℕ) (b : ℕ) (zs : List ℕ) → (xs ++ ys) ++ b ∷ zs ≡ (xs ++ (ys ++ b ∷ [])) ++ zs
-    regroup xs ys b zs = append_assoc xs ys (b ∷ zs) ∙ (ap (λ t. xs ++ t) (sym (append_assoc ys (b ∷ []) zs)) ∙ sym (append_assoc xs (ys ++ b ∷ []) zs))
+    regroup xs ys b zs =
+        append_assoc xs ys (b ∷ zs)
+        ∙ (ap (λ t. xs ++ t) (sym (append_assoc ys (b ∷ []) zs)) ∙ sym (append_assoc xs (ys ++ b ∷ []) zs))
+
+-- The first selected line: whole lines before it of which none is selected.
+pub line_found : (q : Search) (bytes : List ℕ) (at s e stop : ℕ) (line : Span) → IsLineAt (terminator q) bytes s e stop
+    → AreWhole (terminator q) (take s bytes) → AllLines q false (take s bytes)
+    → selects q (take (e - s) (drop s bytes)) ≡ true → line.start ≡ at + s → line.end ≡ at + stop
+    → IsNextRun q at bytes line
+line_found q bytes at s e stop line is front none chosen start ends =
+    let selected : List (List ℕ) → Type 0 = λ ls. AllByRecursion (λ l. selects q l ≡ true) ls in
+    record {
+      gap = take s bytes;
+      text = is.text;
+      later = is.later;
+      joins = is.joins;
+      gap_whole = front;
+      gap_unselected = none;
+      text_some = is.some;
+      text_whole = elim is.whole [ inl w ↦ inl w.0 | inr h ↦ inr h.0 ];
+      text_selected = subst selected (sym is.one) (chosen, tt);
+      start = omega (arith, start, is.front);
+      stop = omega (arith, ends, is.front, is.len);
+    }
+
+-- whole lines, or all of the bytes
+abbrev pub IsPassed : ℕ → List ℕ → ℕ → Type 0
+IsPassed end bytes s = AreWhole end (take s bytes) ⊎ (s ≡ length bytes)
+
+upto_stop : (end : ℕ) (bytes : List ℕ) (s e stop : ℕ) (is : IsLineAt end bytes s e stop)
+    → take stop bytes ≡ take s bytes ++ is.text
+upto_stop end bytes s e stop is =
+    let both = take s bytes ++ is.text in
+    ap (take stop) is.joins
+    ∙ take_at both is.later stop (omega (arith, length-append (take s bytes) is.text, is.front, is.len))
+
+-- a line is passed
+pub line_passed : (end : ℕ) (bytes : List ℕ) (s e stop : ℕ) → IsLineAt end bytes s e stop → AreWhole end (take s bytes)
+    → IsPassed end bytes stop
+line_passed end bytes s e stop is front =
+    let W : List ℕ → Type 0 = λ xs. AreWhole end xs in
+    elim is.whole [
+      | inl w ↦ inl (subst W (sym (upto_stop end bytes s e stop is)) (whole_append end (take s bytes) is.text front w.0))
+      | inr h ↦ inr h.1
+    ]
+
+-- whole lines of which none is selected, and one more that isn't
+pub line_unselected : (q : Search) (bytes : List ℕ) (s e stop : ℕ) → IsLineAt (terminator q) bytes s e stop
+    → AreWhole (terminator q) (take s bytes) → AllLines q false (take s bytes)
+    → selects q (take (e - s) (drop s bytes)) ≡ false → AllLines q false (take stop bytes)
+line_unselected q bytes s e stop is front none not_chosen =
+    let P : List ℕ → Type 0 = λ xs. AllLines q false xs in
+    let unselected : List (List ℕ) → Type 0 = λ ls. AllByRecursion (λ l. selects q l ≡ false) ls in
+    subst P (sym (upto_stop (terminator q) bytes s e stop is))
+    (all_lines-append q false (take s bytes) is.text front none (subst unselected (sym is.one) (not_chosen, tt)))
+
+-- the first line in which the literal occurs: the literal at k, the line's text from s up to e, and the next line
+-- at `stop`
+pub literal_found : (q : Search) (p bytes : List ℕ) (at s k e stop : ℕ) (line : Span) → HasItsTrees q → IsPlain q.text p
+    → OccursAt bytes p k → Nowhere (OccursAt bytes p) 0 k → s ≤ k → k ≤ e → AreWhole (terminator q) (take s bytes)
+    → IsClear (terminator q) bytes s e → Stops (terminator q) bytes e stop → 0 < length bytes → s < stop
+    → line.start ≡ at + s → line.end ≡ at + stop → IsNextRun q at bytes line
+literal_found q p bytes at s k e stop line t c o none low high front clear stops some longer start ends =
+    let within : e ≤ length bytes = elim stops [ inl h ↦ omega (arith, h.1) | inr h ↦ omega (arith, h.1) ] in
+    let fits : k + length p ≤ e = elim (cases_lt e (k + length p)) [
+      | inr fits ↦ fits
+      | inl beyond ↦ elim stops [
+        | inl h ↦
+            let at_e : k + (e - k) ≡ e = omega arith in
+            absurd (c.line (
+              e - k,
+              omega arith,
+              get_or_default p (e - k) (terminator q) 0 (omega arith)
+                  ∙ (sym (o.reads (e - k) (omega arith)) ∙ (ap (λ n. get_or bytes n 0) at_e ∙ h.2)),
+            ))
+        | inr h ↦ absurd (omega (arith, o.fits, h.1))
+      ]
+    ] in
+    let text = take (e - s) (drop s bytes) in
+    let chosen = occurs_selected q p t c text (k - s) (occurs_within bytes p s e k within low fits o) in
+    let is = line_at (terminator q) bytes s e stop (omega arith) within longer clear stops in
+    line_found q bytes at s e stop line is front (lines_before q p bytes s k t c none low (omega (arith, o.fits))) chosen
+    start ends
 
 -- the same, where the line's two ends were looked for from the pattern's place
-pub line_around : (q : Search) (p bytes : List ℕ) (at s k stop : ℕ) (line : Span) → IsCompiled q p → OccursAt bytes p k → Nowhere (OccursAt bytes p) 0 k
-    → s ≤ k → IsClear 10 bytes s k → AreWhole 10 (take s bytes) → (e : ℕ) × (k ≤ e) × IsClear 10 bytes k e × Stops 10 bytes e stop → 0 < length bytes
+pub line_around : (q : Search) (p bytes : List ℕ) (at s k stop : ℕ) (line : Span) → HasItsTrees q → IsPlain q.text p → OccursAt bytes p k → Nowhere (OccursAt bytes p) 0 k
+    → s ≤ k → IsClear (terminator q) bytes s k → AreWhole (terminator q) (take s bytes) → (e : ℕ) × (k ≤ e) × IsClear (terminator q) bytes k e × Stops (terminator q) bytes e stop → 0 < length bytes
     → line.start ≡ at + s → line.end ≡ at + stop → IsNextRun q at bytes line
-line_around q p bytes at s k stop line c o none low before front h some start ends =
-    let clear : IsClear 10 bytes s h.0 = λ i from to. elim (cases_lt i k) [ inl below ↦ before i from below | inr above ↦ h.2 i above to ] in
+line_around q p bytes at s k stop line t c o none low before front h some start ends =
+    let clear : IsClear (terminator q) bytes s h.0 = λ i from to. elim (cases_lt i k) [ inl below ↦ before i from below | inr above ↦ h.2 i above to ] in
     let below = place_below bytes p k o none some in
-    line_found q p bytes at s k h.0 stop line c o none low h.1 front clear h.3 some (line_some bytes s k h.0 stop low h.1 below h.3).0 start ends
+    literal_found q p bytes at s k h.0 stop line t c o none low h.1 front clear h.3 some (line_some (terminator q) bytes s k h.0 stop low h.1 below h.3).0 start ends
 
 -- The runs so far and an open one behind them: whatever runs follow the open one's start, together they are all runs.
 pub record IsGathered (q : Search) (bytes : List ℕ) (runs : List Span) (run : Span) : Type 0 where
@@ -189,7 +254,7 @@ pub record IsGathered (q : Search) (bytes : List ℕ) (runs : List Span) (run : 
   pub text : List ℕ
   pub joins : drop run.start bytes ≡ text ++ drop run.end bytes
   pub stop : run.end ≡ run.start + length text
-  pub whole : AreWhole 10 text ⊎ (drop run.end bytes ≡ [])
+  pub whole : AreWhole (terminator q) text ⊎ (drop run.end bytes ≡ [])
   pub selected : AllLines q true text
   pub known : (more : List Span) → AreRuns q run.start (drop run.start bytes) more → AreRuns q 0 bytes (runs ++ more)
 
@@ -209,7 +274,7 @@ gathered_none q bytes run s e =
     }
 
 -- whole lines of which none is selected, in front of runs
-gap_front : (q : Search) (at : ℕ) (gap rest : List ℕ) (runs : List Span) → AreWhole 10 gap → AllLines q false gap → AreRuns q (at + length gap) rest runs → AreRuns q at (gap ++ rest) runs
+gap_front : (q : Search) (at : ℕ) (gap rest : List ℕ) (runs : List Span) → AreWhole (terminator q) gap → AllLines q false gap → AreRuns q (at + length gap) rest runs → AreRuns q at (gap ++ rest) runs
 gap_front q at gap rest [] w none h = all_lines-append q false gap rest w none h
 gap_front q at gap rest (run ∷ runs) w none h =
     let n = h.0 in (
@@ -218,7 +283,7 @@ gap_front q at gap rest (run ∷ runs) w none h =
         text = n.text;
         later = n.later;
         joins = ap (λ xs. gap ++ xs) n.joins ∙ (sym (append_assoc gap (n.gap ++ n.text) n.later) ∙ ap (λ xs. xs ++ n.later) (sym (append_assoc gap n.gap n.text)));
-        gap_whole = whole_append 10 gap n.gap w n.gap_whole;
+        gap_whole = whole_append (terminator q) gap n.gap w n.gap_whole;
         gap_unselected = all_lines-append q false gap n.gap w none n.gap_unselected;
         text_some = n.text_some;
         text_whole = n.text_whole;
@@ -314,14 +379,14 @@ gathered_next q bytes runs run line new g n at s e =
     let at_end : drop new.end bytes ≡ n.later =
     let e' : new.end ≡ run.end + length n.text = omega arith in
     ap (λ m. drop m bytes) e' ∙ (sym (drop-drop (length n.text) run.end bytes) ∙ (ap (drop (length n.text)) here ∙ drop_at n.text n.later (length n.text) refl)) in
-    let whole : AreWhole 10 g.text = elim g.whole [ inl w ↦ w | inr none ↦ absurd (n.text_some (front_empty n.text n.later (sym here ∙ none))) ] in
+    let whole : AreWhole (terminator q) g.text = elim g.whole [ inl w ↦ w | inr none ↦ absurd (n.text_some (front_empty n.text n.later (sym here ∙ none))) ] in
     let P : ℕ → Type 0 = λ m. (more : List Span) → AreRuns q m (drop m bytes) more → AreRuns q 0 bytes (runs ++ more) in
     record {
       within = omega (arith, g.within);
       text = g.text ++ n.text;
       joins = ap (λ m. drop m bytes) s ∙ (g.joins ∙ (ap (λ xs. g.text ++ xs) here ∙ (sym (append_assoc g.text n.text n.later) ∙ ap (λ xs. (g.text ++ n.text) ++ xs) (sym at_end))));
       stop = omega (arith, length-append g.text n.text, g.stop);
-      whole = elim n.text_whole [ inl w ↦ inl (whole_append 10 g.text n.text whole w) | inr none ↦ inr (at_end ∙ none) ];
+      whole = elim n.text_whole [ inl w ↦ inl (whole_append (terminator q) g.text n.text whole w) | inr none ↦ inr (at_end ∙ none) ];
       selected = all_lines-append q true g.text n.text whole g.selected n.text_selected;
       known = subst P (sym s) g.known;
     }
@@ -334,97 +399,32 @@ gathered_next q bytes runs run line new g n at s e =
     front_empty [] ys e = refl
     front_empty (x ∷ xs) ys e = absurd (cc)
 
-before_run : (run : Span) (later : Bool) (place : ℕ) → place < run.start → later ≡ false → ((nat_le run.start place && nat_lt place run.end) || later) ≡ false
-before_run run later place low e = grind (arith, nat_tests)
-
-behind_run : (run : Span) (later : Bool) (place : ℕ) → run.end ≤ place → ((nat_le run.start place && nat_lt place run.end) || later) ≡ later
-behind_run run later place low = grind (arith, nat_tests)
-
-in_run : (run : Span) (later : Bool) (place : ℕ) → run.start ≤ place → place < run.end → ((nat_le run.start place && nat_lt place run.end) || later) ≡ true
-in_run run later place low high = grind (arith, nat_tests)
-
--- no run covers a place before all of them
-not_covered : (q : Search) (at : ℕ) (bytes : List ℕ) (runs : List Span) (place : ℕ) → AreRuns q at bytes runs → place < at → is_covered runs place ≡ false
-not_covered q at bytes [] place h low = refl
-not_covered q at bytes (run ∷ runs) place h low =
-    let later = not_covered q run.end h.0.later runs place h.1 (omega (arith, h.0.stop)) in
-    before_run run (is_covered runs place) place (omega (arith, h.0.start)) later
-
 -- the lines of what stands before a run, of the run, and of what stands behind it
-pub lines_apart : (q : Search) (at : ℕ) (bytes : List ℕ) (run : Span) (n : IsNextRun q at bytes run) → lines 10 bytes ≡ lines 10 n.gap ++ (lines 10 n.text ++ lines 10 n.later)
+pub lines_apart : (q : Search) (at : ℕ) (bytes : List ℕ) (run : Span) (n : IsNextRun q at bytes run) → lines (terminator q) bytes ≡ lines (terminator q) n.gap ++ (lines (terminator q) n.text ++ lines (terminator q) n.later)
 lines_apart q at bytes run n =
-    let back : lines 10 (n.text ++ n.later) ≡ lines 10 n.text ++ lines 10 n.later = elim n.text_whole [
-      | inl w ↦ lines-append 10 n.text n.later w
-      | inr e ↦ ap (λ xs. lines 10 (n.text ++ xs)) e ∙ (ap (lines 10) (append-nil n.text) ∙ sym (ap (λ xs. lines 10 n.text ++ lines 10 xs) e ∙ append-nil (lines 10 n.text)))
+    let back : lines (terminator q) (n.text ++ n.later) ≡ lines (terminator q) n.text ++ lines (terminator q) n.later = elim n.text_whole [
+      | inl w ↦ lines-append (terminator q) n.text n.later w
+      | inr e ↦ ap (λ xs. lines (terminator q) (n.text ++ xs)) e ∙ (ap (lines (terminator q)) (append-nil n.text) ∙ sym (ap (λ xs. lines (terminator q) n.text ++ lines (terminator q) xs) e ∙ append-nil (lines (terminator q) n.text)))
     ] in
-    ap (lines 10) (n.joins ∙ append_assoc n.gap n.text n.later) ∙ (lines-append 10 n.gap (n.text ++ n.later) n.gap_whole ∙ ap (λ ls. lines 10 n.gap ++ ls) back)
+    ap (lines (terminator q)) (n.joins ∙ append_assoc n.gap n.text n.later) ∙ (lines-append (terminator q) n.gap (n.text ++ n.later) n.gap_whole ∙ ap (λ ls. lines (terminator q) n.gap ++ ls) back)
 
--- the line's start is in a run exactly where the line is selected
-pub covered : (q : Search) (at : ℕ) (bytes : List ℕ) (runs : List Span) → AreRuns q at bytes runs → (k : ℕ) → k < length (lines 10 bytes)
-    → is_covered runs (at + start_of 10 (lines 10 bytes) k) ≡ selects q (get_or (lines 10 bytes) k [])
-covered q at bytes [] h k below = sym (all_at (λ l. selects q l ≡ false) (lines 10 bytes) k h below)
-covered q at bytes (run ∷ runs) h k below =
-    let n = h.0 in
-    let P : List (List ℕ) → Type 0 = λ ls. k < length ls → is_covered (run ∷ runs) (at + start_of 10 ls k) ≡ selects q (get_or ls k []) in
-    subst P (sym (lines_apart q at bytes run n)) (λ within. elim (cases_lt k (length (lines 10 n.gap))) [
-      | inl low ↦ in_gap q at bytes run runs h k low
-      | inr high ↦
-          let j = k - length (lines 10 n.gap) in
-          let e : length (lines 10 n.gap) + j ≡ k = omega arith in
-          let Q : ℕ → Type 0 = λ m. is_covered (run ∷ runs) (at + start_of 10 (lines 10 n.gap ++ (lines 10 n.text ++ lines 10 n.later)) m) ≡ selects q (get_or (lines 10 n.gap ++ (lines 10 n.text ++ lines 10 n.later)) m []) in
-          subst Q e (elim (cases_lt j (length (lines 10 n.text))) [
-            | inl low ↦ in_text q at bytes run runs h j low
-            | inr high' ↦
-                let i = j - length (lines 10 n.text) in
-                let e' : length (lines 10 n.text) + i ≡ j = omega arith in
-                let R : ℕ → Type 0 = λ m. Q (length (lines 10 n.gap) + m) in
-                let few : i < length (lines 10 n.later) = omega (arith, length-append (lines 10 n.gap) (lines 10 n.text ++ lines 10 n.later), length-append (lines 10 n.text) (lines 10 n.later)) in
-                subst R e' (in_later q at bytes run runs h i few (covered q run.end n.later runs h.1 i few))
-          ])
-    ]) below
-  where
-    in_gap : (q : Search) (at : ℕ) (bytes : List ℕ) (run : Span) (runs : List Span) (h : AreRuns q at bytes (run ∷ runs)) (k : ℕ) → k < length (lines 10 h.0.gap)
-        → is_covered (run ∷ runs) (at + start_of 10 (lines 10 h.0.gap ++ (lines 10 h.0.text ++ lines 10 h.0.later)) k) ≡ selects q (get_or (lines 10 h.0.gap ++ (lines 10 h.0.text ++ lines 10 h.0.later)) k [])
-    in_gap q at bytes run runs h k low =
-        let n = h.0 in
-        let gap = lines 10 n.gap in
-        let rest = lines 10 n.text ++ lines 10 n.later in
-        let place = at + start_of 10 (gap ++ rest) k in
-        let start : start_of 10 (gap ++ rest) k ≡ start_of 10 gap k = start_of-front 10 gap rest k (omega arith) in
-        let before : place < run.start = omega (arith, start, start_within 10 n.gap k low, n.start) in
-        before_run run (is_covered runs place) place before (not_covered q run.end n.later runs place h.1 (omega (arith, n.start, n.stop)))
-        ∙ sym (ap (selects q) (get_or-append gap rest [] k low) ∙ all_at (λ l. selects q l ≡ false) gap k n.gap_unselected low)
+all_back : (P : List ℕ → Type 0) (xs ys : List (List ℕ)) → AllByRecursion P (xs ++ ys) → AllByRecursion P ys
+all_back P [] ys h = h
+all_back P (x ∷ xs) ys h = all_back P xs ys h.1
 
-    in_text : (q : Search) (at : ℕ) (bytes : List ℕ) (run : Span) (runs : List Span) (h : AreRuns q at bytes (run ∷ runs)) (j : ℕ) → j < length (lines 10 h.0.text)
-        → is_covered (run ∷ runs) (at + start_of 10 (lines 10 h.0.gap ++ (lines 10 h.0.text ++ lines 10 h.0.later)) (length (lines 10 h.0.gap) + j)) ≡ selects q (get_or (lines 10 h.0.gap ++ (lines 10 h.0.text ++ lines 10 h.0.later)) (length (lines 10 h.0.gap) + j) [])
-    in_text q at bytes run runs h j low =
-        let n = h.0 in
-        let gap = lines 10 n.gap in
-        let text = lines 10 n.text in
-        let later = lines 10 n.later in
-        let place = at + start_of 10 (gap ++ (text ++ later)) (length gap + j) in
-        let start : start_of 10 (gap ++ (text ++ later)) (length gap + j) ≡ length (terminated 10 gap) + start_of 10 text j =
-        start_of-back 10 gap (text ++ later) j ∙ ap (λ m. length (terminated 10 gap) + m) (start_of-front 10 text later j (omega arith)) in
-        let front : length (terminated 10 gap) ≡ length n.gap = ap length (terminated-lines 10 n.gap n.gap_whole) in
-        let within = start_within 10 n.text j low in
-        in_run run (is_covered runs place) place (omega (arith, n.start, start, front)) (omega (arith, n.stop, start, front, within))
-        ∙ sym (ap (selects q) (get_or-append-add gap (text ++ later) j [] ∙ get_or-append text later [] j low) ∙ all_at (λ l. selects q l ≡ true) text j n.text_selected low)
-
-    in_later : (q : Search) (at : ℕ) (bytes : List ℕ) (run : Span) (runs : List Span) (h : AreRuns q at bytes (run ∷ runs)) (i : ℕ) → i < length (lines 10 h.0.later)
-        → is_covered runs (run.end + start_of 10 (lines 10 h.0.later) i) ≡ selects q (get_or (lines 10 h.0.later) i [])
-        → is_covered (run ∷ runs) (at + start_of 10 (lines 10 h.0.gap ++ (lines 10 h.0.text ++ lines 10 h.0.later)) (length (lines 10 h.0.gap) + (length (lines 10 h.0.text) + i))) ≡ selects q (get_or (lines 10 h.0.gap ++ (lines 10 h.0.text ++ lines 10 h.0.later)) (length (lines 10 h.0.gap) + (length (lines 10 h.0.text) + i)) [])
-    in_later q at bytes run runs h i low same =
-        let n = h.0 in
-        let gap = lines 10 n.gap in
-        let text = lines 10 n.text in
-        let later = lines 10 n.later in
-        let m = length gap + (length text + i) in
-        let front : length (terminated 10 gap) ≡ length n.gap = ap length (terminated-lines 10 n.gap n.gap_whole) in
-        let whole : AreWhole 10 n.text = elim n.text_whole [ inl w ↦ w | inr e ↦ absurd (omega (arith, ap (λ xs. length (lines 10 xs)) e)) ] in
-        let middle' : length (terminated 10 text) ≡ length n.text = ap length (terminated-lines 10 n.text whole) in
-        let start : start_of 10 (gap ++ (text ++ later)) m ≡ length (terminated 10 gap) + (length (terminated 10 text) + start_of 10 later i) =
-        start_of-back 10 gap (text ++ later) (length text + i) ∙ ap (λ k. length (terminated 10 gap) + k) (start_of-back 10 text later i) in
-        let place = at + start_of 10 (gap ++ (text ++ later)) m in
-        let at_place : place ≡ run.end + start_of 10 later i = omega (arith, start, front, middle', n.stop) in
-        behind_run run (is_covered runs place) place (omega arith)
-        ∙ (ap (is_covered runs) at_place ∙ (same ∙ sym (ap (selects q) (get_or-append-add gap (text ++ later) (length text + i) [] ∙ get_or-append-add text later i []))))
+-- the lines behind a run aren't too long where no line is
+pub short_behind : (q : Search) (bytes : List ℕ) (at : ℕ) (run : Span) → IsNextRun q at (drop at bytes) run
+    → AreShort (terminator q) (drop at bytes) → AreShort (terminator q) (drop run.end bytes)
+short_behind q bytes at run n short =
+    let Short : List ℕ → Type 0 = λ l. length l ≤ 2 ^ 30 in
+    let P : List (List ℕ) → Type 0 = λ ls. AllByRecursion Short ls in
+    let E = terminator q in
+    let all = subst P (lines_apart q at (drop at bytes) run n) short in
+    let later = all_back Short (lines E n.text) (lines E n.later) (all_back Short (lines E n.gap) _ all) in
+    let front = n.gap ++ n.text in
+    let stop : run.end ≡ at + length front = omega (arith, n.stop, length-append n.gap n.text) in
+    let behind : drop run.end bytes ≡ n.later =
+    ap (λ m. drop m bytes) stop
+    ∙ (sym (drop-drop (length front) at bytes)
+    ∙ (ap (drop (length front)) n.joins ∙ drop_at front n.later (length front) refl)) in
+    subst P (sym (ap (lines E) behind)) later

@@ -47,7 +47,7 @@ HasLongLine past = Any (λ line. past.longest < length line) (lines past.end pas
 
 -- The cutter stands after this.
 pub record Stands {A : Type 0} (cutter : Cutter A) (past : Fed) : Type 0 where
-  pub terminator : past.end ≡ 10
+  pub terminator : past.end ≡ cutter.end
   pub file : past.file ≡ cutter.file
   pub size : past.size ≡ cutter.size
   pub longest : past.longest ≡ cutter.longest

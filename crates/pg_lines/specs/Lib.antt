@@ -1,7 +1,7 @@
 pub mod Lines
 pub mod Search
-pub mod Hits
-pub mod Parts
+pub mod Queries
+pub mod Selection
 pub mod Blocks
 pub mod Runs
 pub mod Searched

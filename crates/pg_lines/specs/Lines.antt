@@ -1,5 +1,5 @@
 -- The lines of some bytes (XBD 3.206 Line, 3.195 Incomplete Line).
-use Rattle.std.specs.Prelude.{◌≡◌, ◌≢◌, ℕ, ◌+◌, ◌<◌, ◌≤◌, ◌⊎◌, List, [], ◌∷◌, ◌++◌, length, take, slice_index}
+use Rattle.std.specs.Prelude.{◌≡◌, ◌≢◌, ℕ, ◌+◌, ◌<◌, ◌≤◌, ◌^◌, ◌⊎◌, List, [], ◌∷◌, ◌++◌, length, slice_index}
 use Rattle.std.specs.List.{Contains, AllByRecursion, flat_map}
 pub use Rattle.pg_syntax.specs.Lines.{lines}
 
@@ -29,9 +29,9 @@ pub record AreLines (end : ℕ) (bytes : List ℕ) (texts : List (List ℕ)) : T
 abbrev pub AreWhole : ℕ → List ℕ → Type 0
 AreWhole end bytes = (bytes ≡ []) ⊎ ((front : List ℕ) × (bytes ≡ front ++ end ∷ []))
 
--- where a line starts: behind the lines before it
-abbrev pub start_of : ℕ → List (List ℕ) → ℕ → ℕ
-start_of end texts line = length (terminated end (take line texts))
+-- no line has more than 2^30 bytes
+abbrev pub AreShort : ℕ → List ℕ → Type 0
+AreShort end bytes = AllByRecursion (λ line. length line ≤ 2 ^ 30) (lines end bytes)
 
 -- the terminator stands nowhere from one place up to another
 abbrev pub IsClear : ℕ → List ℕ → ℕ → ℕ → Type 0

@@ -1,10 +1,10 @@
 -- Where the selected lines of some bytes stand.
-use Rattle.std.specs.Prelude.{◌≡◌, ◌≢◌, ℕ, ◌+◌, ◌⊎◌, Bool, true, false, ◌&&◌, nat_le, nat_lt}
+use Rattle.std.specs.Prelude.{◌≡◌, ◌≢◌, ℕ, ◌+◌, ◌⊎◌, Bool, true, false}
 use Rattle.std.specs.Prelude.{List, [], ◌∷◌, ◌++◌, length}
-use Rattle.std.specs.List.{AllByRecursion, list_any}
+use Rattle.std.specs.List.{AllByRecursion}
 use Rattle.pg_lines.specs.Lines.{lines, AreWhole}
-use Rattle.pg_lines.specs.Search.{Search, terminator}
-use Rattle.pg_lines.specs.Hits.{selects}
+use Rattle.pg_lines.specs.Search.{SearchText, Search, Pattern, AreTreesOf, search_of, terminator}
+use Rattle.pg_lines.specs.Selection.{selects}
 use Rattle.pg_lines.specs.declared.span.Span.{Span}
 
 -- each line of the bytes is selected, or none is
@@ -32,6 +32,6 @@ abbrev pub AreRuns : Search → ℕ → List ℕ → List Span → Type 0
 AreRuns q at bytes [] = AllLines q false bytes
 AreRuns q at bytes (run ∷ runs) = (next : IsNextRun q at bytes run) × AreRuns q run.end next.later runs
 
--- the place is in one of the runs
-abbrev pub is_covered : List Span → ℕ → Bool
-is_covered runs place = list_any (λ run. nat_le run.start place && nat_lt place run.end) runs
+-- for the trees that the patterns spell these runs hold the selected lines of the bytes, and no other line
+abbrev pub HasRuns : SearchText → List ℕ → List Span → Type 0
+HasRuns text bytes runs = (trees : List Pattern) → AreTreesOf text trees → AreRuns (search_of text trees) 0 bytes runs

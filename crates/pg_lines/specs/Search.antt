@@ -1,37 +1,58 @@
 -- What is searched for, as plain data (XCU grep, OPTIONS).
-use Rattle.std.specs.Prelude.{◌≡◌, ℕ, ◌≤◌, Bool, false, List, [], ◌∷◌, length}
+use Rattle.std.specs.Prelude.{◌≡◌, ℕ, Bool, false, if◌then◌else◌, List, ◌∷◌, []}
 pub use Rattle.pg_syntax.specs.declared.pattern_list.Kind.{Kind}
 pub use Rattle.pg_syntax.specs.declared.pattern_list.Kind.TheVariants.{Basic, Extended, Fixed}
 pub use Rattle.pg_syntax.specs.PatternLists.{Patterns, Split, ByLine, patterns}
+pub use Rattle.pg_syntax.specs.Patterns.{Pattern}
+use Rattle.pg_syntax.specs.ListResults.{AreSpelled}
+pub use Rattle.pg_match.specs.declared.bounds.Bounds.{Bounds}
+pub use Rattle.pg_match.specs.declared.bounds.Bounds.TheVariants.{Any, Word, Whole}
 use Rattle.pg_lines.specs.Lines.{IsLine}
 
--- the kind of the patterns, the lists, and the options -i, -x, -v and -o
-pub record Search : Type 0 where
+-- the kind of the patterns, the lists, and the options -i, -x, -w, -v, -o and -z
+pub record SearchText : Type 0 where
   pub kind : Kind
   pub lists : List Patterns
   pub fold : Bool
   pub whole : Bool
+  pub word : Bool
   pub invert : Bool
   pub pieces : Bool
+  pub zero : Bool
 
--- the byte that ends a line
+-- the trees are those that the patterns spell, in their order
+abbrev pub AreTreesOf : SearchText → List Pattern → Type 0
+AreTreesOf text trees = AreSpelled text.kind text.fold (patterns text.lists) trees
+
+-- a text with the trees of its patterns
+pub record Search : Type 0 where
+  pub text : SearchText
+  pub trees : List Pattern
+
+abbrev pub HasItsTrees : Search → Type 0
+HasItsTrees q = AreTreesOf q.text q.trees
+
+-- the search for a text whose patterns have these trees
+abbrev pub search_of : SearchText → List Pattern → Search
+search_of text trees = record { text = text; trees = trees }
+
+-- where a match may begin and end: -x asks for the whole line, also with -w
+abbrev pub bounds_of : SearchText → Bounds
+bounds_of text = if text.whole then Whole else if text.word then Word else Any
+
+-- the byte that ends a line: byte 0 with -z (GNU grep, -z), else newline
+abbrev pub terminator_of : SearchText → ℕ
+terminator_of text = if text.zero then 0 else 10
+
 abbrev pub terminator : Search → ℕ
-terminator q = 10
+terminator q = terminator_of q.text
 
--- one fixed string without a newline, of at most 4096 bytes, and no option: what can be compiled so far
-pub record IsPlain (q : Search) : Type 0 where
-  pub fixed : q.kind ≡ Fixed
-  pub text : List ℕ
-  pub alone : q.lists ≡ Split text ∷ []
-  pub short : length text ≤ 4096
-  pub line : IsLine 10 text
-  pub fold : q.fold ≡ false
-  pub whole : q.whole ≡ false
-  pub invert : q.invert ≡ false
-  pub pieces : q.pieces ≡ false
-
--- the query's one pattern
-pub record IsCompiled (q : Search) (pattern : List ℕ) : Type 0 where
-  pub plain : IsPlain q
-  pub one : patterns q.lists ≡ pattern ∷ []
-  pub line : IsLine 10 pattern
+-- one fixed string, which lines may hold anywhere, and the lines that do are selected
+pub record IsPlain (text : SearchText) (literal : List ℕ) : Type 0 where
+  pub fixed : text.kind ≡ Fixed
+  pub alone : patterns text.lists ≡ literal ∷ []
+  pub line : IsLine (terminator_of text) literal
+  pub fold : text.fold ≡ false
+  pub whole : text.whole ≡ false
+  pub word : text.word ≡ false
+  pub invert : text.invert ≡ false

@@ -1,13 +1,13 @@
 -- A result as plain data. The query and the block determine which lines are selected.
 use Rattle.std.specs.Prelude.{ℕ, List}
 use Rattle.pg_lines.specs.Lines.{lines}
-use Rattle.pg_lines.specs.Search.{Search, terminator}
+use Rattle.pg_lines.specs.Search.{SearchText, terminator_of}
 use Rattle.pg_lines.specs.Blocks.{BlockData}
 
 pub record Searched : Type 0 where
-  pub query : Search
+  pub query : SearchText
   pub block : BlockData
 
 -- the lines of the block
 abbrev pub lines_of : Searched → List (List ℕ)
-lines_of r = lines (terminator r.query) r.block.bytes
+lines_of r = lines (terminator_of r.query) r.block.bytes

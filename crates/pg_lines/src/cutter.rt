@@ -6,7 +6,6 @@ ghost use Rattle.pg_lines.specs.Long.{has_long, open_from, CutsOff};
 ghost use Rattle.pg_lines.specs.declared.cutter.CutFault.TheVariants.{OutOfMemory};
 
 use crate::block::Block;
-use crate::lines::NEWLINE;
 use memchr::{memchr, memrchr};
 use std::alloc::{AllocError, Allocator, Global};
 use std::collections::VecDeque;
@@ -41,46 +40,55 @@ impl From<AllocError> for CutFault {
     }
 }
 
-/// How many bytes of a piece finish the block that begins with `rest`, in which no block is finished.
-fn first_cut(rest: &[u8], size: usize, piece: &[u8]) -> Option<usize>
+/// What a file is cut by: its number, the least size of its blocks, and the terminator of its lines.
+#[derive(Clone, Copy)]
+struct Cutting {
+    file: u32,
+    size: u32,
+    end: u8,
+}
+
+/// How many bytes of a piece finish the block that begins with `rest`, in which no block is finished. A block has at
+/// least one byte.
+fn first_cut(rest: &[u8], size: u32, end: u8, piece: &[u8]) -> Option<usize>
     requires size { 0 < size }
-    requires unfinished { IsUnfinished 10 size rest.now }
+    requires unfinished { IsUnfinished end size rest.now }
     ensures within { IfSome result (λ n. (0 < n) × (n ≤ length piece.now)) }
-    ensures some { IfSome result (λ n. IsFinished 10 size (rest.now ++ take n piece.now)) }
-    ensures none { IfNone result (IsUnfinished 10 size (rest.now ++ piece.now)) }
+    ensures some { IfSome result (λ n. IsFinished end size (rest.now ++ take n piece.now)) }
+    ensures none { IfNone result (IsUnfinished end size (rest.now ++ piece.now)) }
 {
-    let from = (size - 1).saturating_sub(rest.len());
+    let from = (size as usize - 1).saturating_sub(rest.len());
     if piece.len() <= from {
         return None;
     }
-    match memchr(NEWLINE, &piece[from..]) {
+    match memchr(end, &piece[from..]) {
         Some(len) => Some(from + len + 1),
         None => None,
     }
 }
 
-/// The finished blocks of some bytes, and where the rest begins.
+/// The finished blocks of some bytes, numbered from `first` on, and where the rest begins. A block has at least one
+/// byte, and no number reaches 2^64.
 fn cut_all<A: Allocator + Copy>(
     alloc: A,
-    file: u32,
+    cutting: Cutting,
     first: u64,
-    size: usize,
     bytes: &[u8],
 ) -> Result<(VecDeque<Block<A>, A>, usize), AllocError>
-    requires size { 0 < size }
+    requires size { 0 < cutting.size }
     requires first { first + length bytes.now < 2 ^ 64 }
     ensures within { IfOk result (λ cut. cut.1 ≤ length bytes.now) }
     ensures few { IfOk result (λ cut. length cut.0.items ≤ cut.1) }
-    ensures cut { IfOk result (λ cut. Cuts 10 size bytes.now cut.0.items (drop cut.1 bytes.now)) }
-    ensures numbered { IfOk result (λ cut. AreNumbered file first cut.0.items) }
+    ensures cut { IfOk result (λ cut. Cuts cutting.end cutting.size bytes.now cut.0.items (drop cut.1 bytes.now)) }
+    ensures numbered { IfOk result (λ cut. AreNumbered cutting.file first cut.0.items) }
 {
     let mut blocks = VecDeque::new(alloc);
     let mut at = 0;
     let mut number = first;
-    while let Some(len) = first_cut(&[], size, &bytes[at..]) {
+    while let Some(len) = first_cut(&[], cutting.size, cutting.end, &bytes[at..]) {
         let block = Vec::from_slice(alloc, &bytes[at..at + len])?;
         blocks.push_back(Block {
-            file,
+            file: cutting.file,
             number,
             bytes: block,
         })?;
@@ -90,25 +98,27 @@ fn cut_all<A: Allocator + Copy>(
     Ok((blocks, at))
 }
 
-/// Room for a block of a size that begins with these bytes.
-fn block_room<A: Allocator>(alloc: A, size: usize, bytes: &[u8]) -> Result<Vec<u8, A>, AllocError>
+/// Room for a block of a size, at most 2^24, that begins with these bytes.
+fn block_room<A: Allocator>(alloc: A, size: u32, bytes: &[u8]) -> Result<Vec<u8, A>, AllocError>
     requires { size ≤ 2 ^ 24 }
     ensures { IfOk result (λ block. block.items ≡ bytes.now) }
 {
-    let mut block = Vec::with_capacity(alloc, size + LINE_ROOM)?;
+    let mut block = Vec::with_capacity(alloc, size as usize + LINE_ROOM)?;
     block.extend_from_slice(bytes)?;
     Ok(block)
 }
 
-/// The length of the line that is open behind a piece, unless a line is too long. It looks at each byte.
-fn line_by_byte(line: u32, longest: u32, piece: &[u8]) -> Option<u32>
+/// The length of the line that is open behind a piece, unless a line is too long. The one that is open before it,
+/// of length `line`, isn't. It looks at each byte.
+fn line_by_byte(line: u32, longest: u32, end: u8, piece: &[u8]) -> Option<u32>
     requires { line ≤ longest }
-    ensures value { result ≡ (if has_long 10 longest line piece.now then None else Some (open_from 10 line piece.now)) }
+    ensures value { result
+        ≡ (if has_long end longest line piece.now then None else Some (open_from end line piece.now)) }
     ensures fits { IfSome result (λ n. n ≤ longest) }
 {
     let mut line = line;
     for byte in piece {
-        if *byte == NEWLINE {
+        if *byte == end {
             line = 0;
         } else {
             if line == longest {
@@ -120,49 +130,51 @@ fn line_by_byte(line: u32, longest: u32, piece: &[u8]) -> Option<u32>
     Some(line)
 }
 
-/// The length of the line that is open behind a piece, unless a line is too long.
-fn line_after(line: u32, longest: u32, piece: &[u8]) -> Option<u32>
+/// The length of the line that is open behind a piece, unless a line is too long. The one that is open before it,
+/// of length `line`, isn't.
+fn line_after(line: u32, longest: u32, end: u8, piece: &[u8]) -> Option<u32>
     requires { line ≤ longest }
-    ensures value { result ≡ (if has_long 10 longest line piece.now then None else Some (open_from 10 line piece.now)) }
+    ensures value { result
+        ≡ (if has_long end longest line piece.now then None else Some (open_from end line piece.now)) }
     ensures fits { IfSome result (λ n. n ≤ longest) }
 {
     if piece.len() > (longest - line) as usize {
-        return line_by_byte(line, longest, piece);
+        return line_by_byte(line, longest, end, piece);
     }
-    match memrchr(NEWLINE, piece) {
-        Some(newline) => Some((piece.len() - newline - 1) as u32),
+    match memrchr(end, piece) {
+        Some(last) => Some((piece.len() - last - 1) as u32),
         None => Some(line + piece.len() as u32),
     }
 }
 
 /// Cuts the blocks off that a piece finishes behind `rest`, and leaves there what is behind them.
-/// The piece finishes the first of them by its byte `end - 1`. An `Err` leaves both lists as they were.
+/// The first `len` bytes of the piece finish the first of them, whose size is as `Cutter::new` has it. An `Err` leaves
+/// both lists as they were.
 fn cut_off<A: Allocator + Copy>(
     alloc: A,
-    file: u32,
+    cutting: Cutting,
     number: u64,
-    size: usize,
     rest: &mut Vec<u8, A>,
     ready: &mut VecDeque<Block<A>, A>,
     piece: &[u8],
-    end: usize,
+    len: usize,
 ) -> Result<u64, AllocError>
-    requires size { (0 < size) × (size ≤ 2 ^ 24) }
+    requires size { (0 < cutting.size) × (cutting.size ≤ 2 ^ 24) }
     requires number { number + length piece.now < 2 ^ 63 }
-    requires end { (0 < end) × (end ≤ length piece.now) }
-    requires finished { IsFinished 10 size (rest.old.items ++ take end piece.now) }
-    ensures ok { IfOk result
-        (CutsOff 10 size file number (rest.old.items ++ piece.now) ready.old.items ready.new.items rest.new.items) }
+    requires len { (0 < len) × (len ≤ length piece.now) }
+    requires finished { IsFinished cutting.end cutting.size (rest.old.items ++ take len piece.now) }
+    ensures ok { IfOk result (CutsOff cutting.end cutting.size cutting.file number (rest.old.items ++ piece.now)
+        ready.old.items ready.new.items rest.new.items) }
     ensures few { IfOk result (λ count. count + length rest.new.items ≤ length rest.old.items + length piece.now) }
     ensures err { OnErr result ((rest.new.items ≡ rest.old.items) × (ready.new.items ≡ ready.old.items)) }
 {
-    let (mut blocks, at) = cut_all(alloc, file, number + 1, size, &piece[end..])?;
-    let left = block_room(alloc, size, &piece[end + at..])?;
+    let (mut blocks, at) = cut_all(alloc, cutting, number + 1, &piece[len..])?;
+    let left = block_room(alloc, cutting.size, &piece[len + at..])?;
     let count = blocks.len() as u64 + 1;
     ready.reserve(blocks.len() + 1)?;
-    rest.extend_from_slice(&piece[..end])?;
+    rest.extend_from_slice(&piece[..len])?;
     ready.push_back_reserved(Block {
-        file,
+        file: cutting.file,
         number,
         bytes: mem::replace(rest, left),
     });
@@ -171,26 +183,26 @@ fn cut_off<A: Allocator + Copy>(
 }
 
 /// Cuts the blocks off that a piece finishes behind `rest`, and leaves there what is behind them.
-/// The answer is their count. An `Err` leaves both lists as they were.
+/// No block is finished in `rest`, and sizes are as `Cutter::new` has them. The answer is their count. An `Err` leaves
+/// both lists as they were.
 fn cut_behind<A: Allocator + Copy>(
     alloc: A,
-    file: u32,
+    cutting: Cutting,
     number: u64,
-    size: usize,
     rest: &mut Vec<u8, A>,
     ready: &mut VecDeque<Block<A>, A>,
     piece: &[u8],
 ) -> Result<u64, AllocError>
-    requires size { (0 < size) × (size ≤ 2 ^ 24) }
+    requires size { (0 < cutting.size) × (cutting.size ≤ 2 ^ 24) }
     requires number { number + length piece.now < 2 ^ 63 }
-    requires unfinished { IsUnfinished 10 size rest.old.items }
-    ensures ok { IfOk result
-        (CutsOff 10 size file number (rest.old.items ++ piece.now) ready.old.items ready.new.items rest.new.items) }
+    requires unfinished { IsUnfinished cutting.end cutting.size rest.old.items }
+    ensures ok { IfOk result (CutsOff cutting.end cutting.size cutting.file number (rest.old.items ++ piece.now)
+        ready.old.items ready.new.items rest.new.items) }
     ensures few { IfOk result (λ count. count + length rest.new.items ≤ length rest.old.items + length piece.now) }
     ensures err { OnErr result ((rest.new.items ≡ rest.old.items) × (ready.new.items ≡ ready.old.items)) }
 {
-    match first_cut(rest.as_slice(), size, piece) {
-        Some(end) => cut_off(alloc, file, number, size, rest, ready, piece, end),
+    match first_cut(rest.as_slice(), cutting.size, cutting.end, piece) {
+        Some(len) => cut_off(alloc, cutting, number, rest, ready, piece, len),
         None => {
             rest.extend_from_slice(piece)?;
             Ok(0)
@@ -200,22 +212,23 @@ fn cut_behind<A: Allocator + Copy>(
 
 /// Cuts a file into blocks of whole lines.
 ///
-/// A block is the shortest beginning of what follows that has at least `size` bytes and ends with a
-/// newline. What is left at the end of the file is its last block, unless it is empty. So the
-/// blocks depend on the bytes and the size, and not on the pieces that were fed.
+/// A block is the shortest beginning of what follows that has at least `size` bytes and ends with the
+/// terminator of lines. What is left at the end of the file is its last block, unless it is empty. So
+/// the blocks depend on the bytes, the size and the terminator, and not on the pieces that were fed.
 #[derive(Drop)]
 pub struct Cutter<A: Allocator + Copy = Global> {
     alloc: A,
     file: u32,
     size: u32,
     longest: u32,
+    end: u8,
     number: u64,
     total: u64,
     line: u32,
     ready: VecDeque<Block<A>, A>,
     rest: Vec<u8, A>,
     ghost sized: { (0 < size) × (size ≤ 2 ^ 24) },
-    ghost unfinished: { IsUnfinished 10 size rest.items },
+    ghost unfinished: { IsUnfinished end size rest.items },
     ghost few: { total ≤ 2 ^ 62 },
     ghost numbers: { number + length rest.items ≤ total },
     ghost line_fits: { line ≤ longest },
@@ -229,11 +242,12 @@ impl<A: Allocator + Copy> Cutter<A> {
     /// A cutter for the file of a number, which was fed nothing.
     ///
     /// Blocks have at least `size` bytes, from 1 to 2^24, and a line at most `longest` bytes without
-    /// its newline, from 1 to 2^30.
-    pub fn new(alloc: A, file: u32, size: u32, longest: u32) -> Cutter<A>
+    /// its terminator, from 1 to 2^30. The terminator `end` may be any byte. The program gives newline,
+    /// or byte 0 for `-z`.
+    pub fn new(alloc: A, file: u32, size: u32, longest: u32, end: u8) -> Cutter<A>
         requires size { (1 ≤ size) × (size ≤ 2 ^ 24) }
         requires longest { (1 ≤ longest) × (longest ≤ 2 ^ 30) }
-        ensures stands { Stands result (unfed 10 file size longest) }
+        ensures stands { Stands result (unfed end file size longest) }
         ensures drained { IsDrained result }
     {
         Cutter {
@@ -241,6 +255,7 @@ impl<A: Allocator + Copy> Cutter<A> {
             file,
             size,
             longest,
+            end,
             number: 0,
             total: 0,
             line: 0,
@@ -267,14 +282,18 @@ impl<A: Allocator + Copy> Cutter<A> {
         if piece.len() as u64 > MAX_FILE - self.total {
             return Err(CutFault::FileTooLong);
         }
-        let Some(line) = line_after(self.line, self.longest, piece) else {
+        let Some(line) = line_after(self.line, self.longest, self.end, piece) else {
             return Err(CutFault::LineTooLong);
+        };
+        let cutting = Cutting {
+            file: self.file,
+            size: self.size,
+            end: self.end,
         };
         let count = cut_behind(
             self.alloc,
-            self.file,
+            cutting,
             self.number,
-            self.size as usize,
             &mut self.rest,
             &mut self.ready,
             piece,
@@ -306,6 +325,7 @@ impl<A: Allocator + Copy> Cutter<A> {
             file,
             size: _,
             longest: _,
+            end: _,
             number,
             total: _,
             line: _,

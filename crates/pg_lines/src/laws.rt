@@ -1,9 +1,8 @@
 //! Laws of the definitions that contracts cite. They speak of all values, and a call does nothing.
 ghost use Rattle.std.specs.Prelude.{◌≡◌, ℕ, List};
 ghost use Rattle.pg_lines.specs.Lines.{lines, AreLines};
-ghost use Rattle.pg_lines.specs.Search.{Search};
-ghost use Rattle.pg_lines.specs.Hits.{SelectsIsSelected};
-ghost use Rattle.pg_lines.specs.Parts.{AreParts, parts};
+ghost use Rattle.pg_lines.specs.Search.{Search, HasItsTrees};
+ghost use Rattle.pg_lines.specs.Selection.{SelectsIsSelected};
 ghost use Rattle.pg_lines.specs.Blocks.{BlockData, IsCut, IsCutting, AreNumbered};
 
 /// Some bytes have lines, and no others than these.
@@ -13,15 +12,14 @@ pub fn lines_are_one()
         texts ≡ lines end bytes }
 {}
 
+/// The texts and options of a query determine the trees of its patterns.
+pub fn trees_are_one()
+    ensures { (q r : Search) → HasItsTrees q → HasItsTrees r → q.text ≡ r.text → q ≡ r }
+{}
+
 /// The test of a line decides whether it is selected.
 pub fn selection_is_decided()
     ensures { (q : Search) (line : List ℕ) → SelectsIsSelected q line }
-{}
-
-/// A line has matched parts, and no others than these.
-pub fn parts_are_one()
-    ensures exist { (q : Search) (line : List ℕ) → AreParts q line 0 (parts q line) }
-    ensures one { (q : Search) (line : List ℕ) (found : List (ℕ × ℕ)) → AreParts q line 0 found → found ≡ parts q line }
 {}
 
 /// The cut of a file is a cutting of it, and two cuts by a size are the same.

@@ -13,8 +13,9 @@ mod span;
 
 pub use block::Block;
 pub use cutter::{CutFault, Cutter};
-pub use laws::{cuts_are_one, lines_are_one, parts_are_one, selection_is_decided};
-pub use pg_syntax::{Kind, PatternList};
+pub use laws::{cuts_are_one, lines_are_one, selection_is_decided, trees_are_one};
+pub use pg_match::Scratch;
+pub use pg_syntax::{Kind, ListFault, PatternList};
 pub use query::{Query, QueryFault, QueryText};
 pub use result::BlockResult;
 pub use search::search_block;

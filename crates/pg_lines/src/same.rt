@@ -1,39 +1,41 @@
 //! Queries are compared by what they were compiled from.
-ghost use Rattle.std.specs.Cmp.{partial_equiv_from_equiv};
+ghost use Rattle.std.specs.Cmp.{on_equiv, on_per, partial_equiv_from_equiv};
 
 use crate::query::{Query, QueryText};
 use std::alloc::Allocator;
 
 impl<A: Allocator> PartialEq for QueryText<A> {
-    ghost use Rattle.pg_lines.specs.Same.{same_search, same_search-laws};
+    ghost use Rattle.pg_lines.specs.Same.{same_text, same_text-laws};
 
-    ghost eq = { same_search };
+    ghost eq = { same_text };
 
-    ghost laws = { partial_equiv_from_equiv same_search-laws };
+    ghost laws = { partial_equiv_from_equiv same_text-laws };
 
     fn eq(&self, other: &Self) -> bool {
         let kind = self.kind == other.kind;
         let lists = self.lists == other.lists;
         let fold = self.fold == other.fold;
         let whole = self.whole == other.whole;
+        let word = self.word == other.word;
         let invert = self.invert == other.invert;
         let pieces = self.pieces == other.pieces;
-        kind & lists & fold & whole & invert & pieces
+        let zero = self.zero == other.zero;
+        kind & lists & fold & whole & word & invert & pieces & zero
     }
 }
 
 impl<A: Allocator> Eq for QueryText<A> {
-    ghost use Rattle.pg_lines.specs.Same.{same_search-laws};
+    ghost use Rattle.pg_lines.specs.Same.{same_text-laws};
 
-    ghost laws = { same_search-laws };
+    ghost laws = { same_text-laws };
 }
 
 impl<A: Allocator> PartialEq for Query<A> {
-    ghost use Rattle.pg_lines.specs.Same.{same_search, same_search-laws};
+    ghost use Rattle.pg_lines.specs.Same.{same_text, same_text-laws};
 
-    ghost eq = { same_search };
+    ghost eq = { λ a b. same_text a.text b.text };
 
-    ghost laws = { partial_equiv_from_equiv same_search-laws };
+    ghost laws = { on_per (λ a. a.text) (partial_equiv_from_equiv same_text-laws) };
 
     fn eq(&self, other: &Self) -> bool {
         self.text() == other.text()
@@ -41,7 +43,7 @@ impl<A: Allocator> PartialEq for Query<A> {
 }
 
 impl<A: Allocator> Eq for Query<A> {
-    ghost use Rattle.pg_lines.specs.Same.{same_search-laws};
+    ghost use Rattle.pg_lines.specs.Same.{same_text-laws};
 
-    ghost laws = { same_search-laws };
+    ghost laws = { on_equiv (λ a. a.text) same_text-laws };
 }

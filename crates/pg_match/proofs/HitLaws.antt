@@ -7,13 +7,15 @@ use Rattle.pg_match.specs.declared.bounds.Bounds.{Bounds}
 
 module _ (patterns : List Pattern) (bounds : Bounds) (line : List ℕ) (place : ℕ) where
   -- none starts before another
-  not_before : (i j i' j' : ℕ) → IsNext patterns bounds line place i j → IsNext patterns bounds line place i' j' → i ≤ i'
+  not_before : (i j i' j' : ℕ) → IsNext patterns bounds line place i j → IsNext patterns bounds line place i' j'
+      → i ≤ i'
   not_before i j i' j' a b = elim (cases_lt i' i) [
     | inl less ↦ absurd (a.first i' j' b.later less b.some b.hit)
     | inr le ↦ le
   ]
 
-  pub next_is_one : (i j i' j' : ℕ) → IsNext patterns bounds line place i j → IsNext patterns bounds line place i' j' → (i ≡ i') × (j ≡ j')
+  pub next_is_one : (i j i' j' : ℕ) → IsNext patterns bounds line place i j
+      → IsNext patterns bounds line place i' j' → (i ≡ i') × (j ≡ j')
   next_is_one i j i' j' a b =
       let le = not_before i j i' j' a b in
       let ge = not_before i' j' i j b a in

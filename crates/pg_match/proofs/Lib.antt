@@ -6,5 +6,8 @@ pub mod ClosureLemmas
 pub mod SearchLemmas
 pub mod BuildLemmas
 pub mod HitLaws
+pub mod TestLemmas
+pub mod PartLaws
+pub mod Examples
 pub mod PatternLemmas
 pub mod SizeLemmas

@@ -1,13 +1,13 @@
 -- From one position to the next.
-use Rattle.std.proofs.Common.{◌≡◌, ◌≢◌, ℕ, zero, suc, ◌+◌, ◌-◌, ◌<◌, ◌≤◌, ◌⊎◌, ◌↔◌, inl, inr, List, length, Option, Some, None, Bool, true, false, true≢false, cond, not, ◌||◌, eqb, eq-eqb, ne_eqb, ◌^◌, refl, sym, ap, ◌∙◌, subst, arith}
-use Rattle.std.specs.Prelude.{slice_get, slice_index, IsTrue, MatchOption, is_none, is_some, nat_lt, nat_le}
-use Rattle.std.proofs.lemmas.Bool.{cases_eq, cases_lt, leb-true, leb-false, ltb-true, ltb-false, eqb-true}
+use Rattle.std.proofs.Common.{◌≡◌, ◌≢◌, ℕ, zero, suc, ◌+◌, ◌-◌, ◌<◌, ◌≤◌, ◌⊎◌, ◌↔◌, inl, inr, List, length, Option, Some, None, Bool, true, false, true≢false, cond, not, eqb, ne_eqb, ◌^◌, refl, sym, ap, ◌∙◌, subst, arith}
+use Rattle.std.specs.Prelude.{slice_get, IsTrue, MatchOption, is_none, is_some, nat_lt, nat_le}
+use Rattle.std.proofs.lemmas.Bool.Decides.{not_from_Decides}
+use Rattle.std.proofs.lemmas.Bool.{cases_eq, cases_lt, leb-true, leb-false, ltb-true, ltb-false}
 use Rattle.pg_match.specs.Automata.{Edge, Runs, Nfa, IsRunnable}
 use Rattle.pg_match.specs.StateSets.{Members, mark, IsGood, IsEmpty, Buffers, HaveRoom}
 use Rattle.pg_match.specs.Closures.{IsClosed, AllBelow, Stepped}
-use Rattle.pg_match.specs.Bounds.{MayBegin, MayEnd, may_end, is_word_byte}
-use Rattle.pg_match.specs.declared.bounds.Bounds.{Bounds}
-use Rattle.pg_match.specs.declared.bounds.Bounds.TheVariants.{Any, Word, Whole}
+use Rattle.pg_match.specs.Bounds.{MayBegin, MayEnd, may_end}
+use Rattle.pg_match.proofs.TestLemmas.{end_decided}
 use Rattle.pg_match.specs.Hits.{Hit, HasHit, HasNoNext, IsNext}
 use Rattle.pg_syntax.specs.Patterns.{Pattern}
 use Rattle.pg_match.specs.Machines.{Agrees}
@@ -265,26 +265,6 @@ module _ (t : List State) (l : List ℕ) where
       ],
     )
 
-ends_true : (b : Bounds) (l : List ℕ) (p : ℕ) → may_end b l p ≡ true → MayEnd b l p
-ends_true Any l p e = tt
-ends_true Word l p e = go (eqb p (length l)) refl (is_word_byte (slice_index l p)) refl e
-  where
-    go : (u : Bool) → eqb p (length l) ≡ u → (v : Bool) → is_word_byte (slice_index l p) ≡ v → (u || not v) ≡ true → MayEnd Word l p
-    go true a v b e = inl (eqb-true p (length l) a)
-    go false a true b e = absurd (true≢false (sym e))
-    go false a false b e = inr b
-ends_true Whole l p e = eqb-true p (length l) e
-
-ends_false : (b : Bounds) (l : List ℕ) (p : ℕ) → may_end b l p ≡ false → MayEnd b l p → ⊥
-ends_false Any l p e end = true≢false e
-ends_false Word l p e (inl end) = true≢false (sym (ap (λ u. u || not (is_word_byte (slice_index l p))) (eq-eqb p (length l) end)) ∙ e)
-ends_false Word l p e (inr end) = go (eqb p (length l)) (ap (λ v. eqb p (length l) || not v) (sym end) ∙ e)
-  where
-    go : (u : Bool) → (u || true) ≡ false → ⊥
-    go true e = true≢false e
-    go false e = true≢false e
-ends_false Whole l p e end = true≢false (sym (eq-eqb p (length l) end) ∙ e)
-
 -- what `settle` judges is what is found
 pub found_here : (m : Nfa) (l : List ℕ) (from p : ℕ) (now : Members) (best : Option (ℕ × ℕ)) → IsRunnable m
     → Alive m.states l m.start (MayBegin m.bounds l) from (p + 1) p now best
@@ -295,12 +275,12 @@ found_here m l from p now best is a = go (may_end m.bounds l p) refl
         → Found m.states l m.start (MayBegin m.bounds l) (MayEnd m.bounds l) from p (cond w (mark now 0) 0) best
     go true e = record {
       run = λ s here. let r = run_here m.states l m.start (MayBegin m.bounds l) (MayEnd m.bounds l) from p now best a is.accept s here in
-          (r.0, (r.1, ends_true m.bounds l p e, r.2));
+          (r.0, (r.1, (end_decided m.bounds l p).0 e, r.2));
       least = λ s ge le early run. none_earlier m.states l m.start (MayBegin m.bounds l) (MayEnd m.bounds l) from p now best a is.only s run.2.0 ge le run.0 early run.2.1;
     }
     go false e = record {
       run = λ s here. absurd (omega arith);
-      least = λ s ge le early run. absurd (ends_false m.bounds l p e run.1);
+      least = λ s ge le early run. absurd (not_from_Decides (may_end m.bounds l p) (end_decided m.bounds l p) e run.1);
     }
 
 -- what a search keeps: the set of the position, and the best before it

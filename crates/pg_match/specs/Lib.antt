@@ -3,6 +3,8 @@ pub use Rattle.pg_syntax.specs.Trees
 pub mod Matches
 pub mod Bounds
 pub mod Hits
+pub mod Tests
+pub mod Parts
 pub mod Sizes
 pub mod Automata
 pub mod Machines

@@ -2,8 +2,8 @@
 use Rattle.std.specs.Prelude.{◌≡◌, ◌≢◌, ℕ, ◌+◌, ◌<◌, ◌≤◌, ◌^◌, ◌⊎◌, true, false, List, [], ◌∷◌, ◌++◌, length}
 use Rattle.std.specs.List.{AllByRecursion, Any, flat_map}
 use Rattle.std.specs.Arc.{arc_value}
-use Rattle.pg_lines.specs.Search.{Search}
-use Rattle.pg_lines.specs.Lines.{lines}
+use Rattle.pg_lines.specs.Search.{Search, terminator}
+use Rattle.pg_lines.specs.Lines.{lines, AreShort}
 use Rattle.pg_lines.specs.Blocks.{BlockData, EndsWith, joined}
 use Rattle.pg_lines.specs.Cutter.{Fed, Stands as CutterStands}
 use Rattle.pg_lines.specs.declared.cutter.Cutter.{Cutter}
@@ -23,22 +23,22 @@ fault_of_cut NoMemory = OutOfMemory
 fault_of_cut LineTooLong = TooLong
 fault_of_cut FileTooLong = TooLong
 
--- a line of more than 2^30 bytes, or a file of more than 2^62
-abbrev pub IsTooLong : List ℕ → Type 0
-IsTooLong file = Any (λ line. 2 ^ 30 < length line) (lines 10 file) ⊎ (2 ^ 62 < length file)
+-- a line of more than 2^30 bytes, by the byte that ends lines, or a file of more than 2^62
+abbrev pub IsTooLong : ℕ → List ℕ → Type 0
+IsTooLong end file = Any (λ line. 2 ^ 30 < length line) (lines end file) ⊎ (2 ^ 62 < length file)
 
 -- the rows of blocks, one after another
 abbrev pub rows_of : Search → List BlockData → List ℕ
 rows_of q blocks = flat_map (λ b. bare_rows q b.bytes) blocks
 
--- the block may follow on these: they end with newlines, it isn't empty, its number is their count, and its lines and
--- the file aren't too long
-pub record IsNextBlock (blocks : List BlockData) (block : BlockData) : Type 0 where
+-- the block may follow on these: they end with the query's terminator, it isn't empty, its number is their count, and
+-- its lines and the file aren't too long
+pub record IsNextBlock (q : Search) (blocks : List BlockData) (block : BlockData) : Type 0 where
   pub file : block.file ≡ 0
   pub number : block.number ≡ length blocks
   pub some : block.bytes ≢ []
-  pub seam : AllByRecursion (λ b. EndsWith 10 b.bytes) blocks
-  pub short : AllByRecursion (λ l. length l ≤ 2 ^ 30) (lines 10 block.bytes)
+  pub seam : AllByRecursion (λ b. EndsWith (terminator q) b.bytes) blocks
+  pub short : AreShort (terminator q) block.bytes
   pub small : length (joined blocks) + length block.bytes ≤ 2 ^ 62
 
 -- The searcher's sequencer has an open file of these blocks, took the results of all of them, and wrote this text.
@@ -46,7 +46,7 @@ pub record Holds {A : Type 0} (searcher : Searcher A) (q : Search) (blocks : Lis
     : Type 0 where
   pub past : Past
   pub stands : Stands searcher.sequencer past
-  pub same : arc_value searcher.query ≡ q
+  pub same : (arc_value searcher.query).text ≡ q.text
   pub query : past.query ≡ q
   pub running : is_open (plan past) ≡ true
   pub one : opened (plan past) ≡ 1
@@ -59,7 +59,7 @@ pub record Holds {A : Type 0} (searcher : Searcher A) (q : Search) (blocks : Lis
 
 -- The rows of all these blocks were written, and the block may follow.
 abbrev pub IsReadyFor : {A : Type 0} → Searcher A → Search → List BlockData → BlockData → Type 0
-IsReadyFor searcher q blocks block = Holds searcher q blocks (rows_of q blocks) × IsNextBlock blocks block
+IsReadyFor searcher q blocks block = Holds searcher q blocks (rows_of q blocks) × IsNextBlock q blocks block
 
 -- The rows of these blocks were written, and all but those of the block, which is the last.
 abbrev pub HoldsUnwritten : {A : Type 0} → Searcher A → Search → List BlockData → BlockData → Type 0
@@ -95,6 +95,7 @@ pub record Reads {A : Type 0} (cutter : Cutter A) (searcher : Searcher A) (aim :
     : Type 0 where
   pub fed : Fed
   pub stands : CutterStands cutter fed
+  pub ends : fed.end ≡ terminator aim.query
   pub number : fed.file ≡ 0
   pub longest : fed.longest ≡ 2 ^ 30
   pub whole : fed.bytes ++ rest ≡ aim.file

@@ -17,7 +17,7 @@ pub enum RunFault {
     /// The sink failed, or took no byte of a text that isn't empty.
     #[error("write failed")]
     Sink,
-    /// A line has more than 2^30 bytes without its newline, or the file more than 2^62.
+    /// A line has more than 2^30 bytes without its terminator, or the file more than 2^62.
     #[error("line too long")]
     TooLong,
 }

@@ -2,6 +2,7 @@
 ghost use Rattle.std.specs.Prelude.{◌≡◌, ℕ, ◌<◌, ◌≤◌, ◌^◌, ◌++◌, List, [], false, length};
 ghost use Rattle.std.specs.Prelude.{IfOk, OnOk, OnErr, IsErrOf};
 ghost use Rattle.std.specs.Arc.{arc_value};
+ghost use Rattle.pg_lines.specs.Search.{Pattern, AreTreesOf, search_of, terminator, terminator_of};
 ghost use Rattle.pg_lines.specs.Cutter.{IsDrained};
 ghost use Rattle.pg_seq.specs.Sink.{TakesPart};
 ghost use Rattle.pg_run.specs.Past.{EndsOrFails};
@@ -16,7 +17,7 @@ use pg_seq::Sink;
 use std::alloc::{AllocError, Allocator};
 use std::sync::Arc;
 
-/// The most bytes of a line without its newline: 2^30.
+/// The most bytes of a line without its terminator: 2^30.
 const LONGEST_LINE: u32 = 1_073_741_824;
 
 /// How many bytes are asked for in one read. They are cut into blocks and searched while they are
@@ -65,7 +66,9 @@ fn search_all<A: Allocator + Copy, S: Store, W: Sink>(
         aim.file ≡ (S.past store.old).given →
         OnErr result (TakesPart (output_of aim.query (S.past store.new).given) aim.before (W.taken out.new)) }
     ensures cause { IsErrOf result RunSink → W.failures out.old < W.failures out.new }
-    ensures long { IsErrOf result TooLong → IsTooLong (S.past store.new).given }
+    ensures long { (aim : Aim) → Reads cutter.old searcher.old aim [] (W.taken out.old) →
+        aim.file ≡ (S.past store.old).given →
+        IsErrOf result TooLong → IsTooLong (terminator aim.query) (S.past store.new).given }
     ensures no_failure { OnOk result (W.failures out.new ≡ W.failures out.old) }
     ensures never_falls { W.failures out.old ≤ W.failures out.new }
     ensures read { IfOk result (EndsOrFails (S.past store.old) (S.past store.new)) }
@@ -109,7 +112,8 @@ fn search_last<A: Allocator + Copy, W: Sink>(
 /// Reads the open file to its end and searches it, in blocks of at least `block` bytes. Its selected
 /// lines go to `out`, and the answer is the exit status: 0 where a line was selected and 1 where none
 /// was. Where a read failed the answer is its fault, and `out` got the selected lines of the bytes
-/// that were read before. Nothing of the file was read yet.
+/// that were read before. Nothing of the file was read yet, the query asks for no parts of lines, and
+/// `block` is from 1 to 2^24.
 ///
 /// Not more of the file is held than a block and what was read ahead of it.
 ///
@@ -125,24 +129,28 @@ pub fn first_run<A: Allocator + Copy, S: Store, W: Sink>(
     block: u32,
     out: &mut W,
 ) -> Result<Result<u8, ReadFault>, RunFault>
-    requires query { (arc_value query.now).pieces ≡ false }
+    requires query { (arc_value query.now).text.pieces ≡ false }
     requires block { (1 ≤ block) × (block ≤ 2 ^ 24) }
     requires unread { (S.past store.old).given ≡ [] }
-    ensures output { OnOk result
-        (W.taken out.new ≡ W.taken out.old ++ output_of (arc_value query.now) (S.past store.new).given) }
-    ensures status { IfOk result (λ end. IfOk end (λ s. s ≡ status_of (arc_value query.now) (S.past store.new).given)) }
+    ensures output { (trees : List Pattern) → AreTreesOf (arc_value query.now).text trees → OnOk result
+        (W.taken out.new ≡ W.taken out.old
+        ++ output_of (search_of (arc_value query.now).text trees) (S.past store.new).given) }
+    ensures status { (trees : List Pattern) → AreTreesOf (arc_value query.now).text trees → IfOk result
+        (λ end. IfOk end (λ s. s ≡ status_of (search_of (arc_value query.now).text trees) (S.past store.new).given)) }
     ensures read { IfOk result (EndsOrFails (S.past store.old) (S.past store.new)) }
-    ensures part { OnErr result
-        (TakesPart (output_of (arc_value query.now) (S.past store.new).given) (W.taken out.old) (W.taken out.new)) }
+    ensures part { (trees : List Pattern) → AreTreesOf (arc_value query.now).text trees → OnErr result
+        (TakesPart (output_of (search_of (arc_value query.now).text trees) (S.past store.new).given)
+        (W.taken out.old) (W.taken out.new)) }
     ensures cause { IsErrOf result RunSink → W.failures out.old < W.failures out.new }
-    ensures long { IsErrOf result TooLong → IsTooLong (S.past store.new).given }
+    ensures long { IsErrOf result TooLong →
+        IsTooLong (terminator_of (arc_value query.now).text) (S.past store.new).given }
     ensures no_failure { OnOk result (W.failures out.new ≡ W.failures out.old) }
     ensures never_falls { W.failures out.old ≤ W.failures out.new }
     ensures path { (S.past store.new).path ≡ (S.past store.old).path }
     ensures no_miss { (S.past store.new).misses ≡ (S.past store.old).misses }
 {
     let mut searcher = Searcher::new(alloc, query)?;
-    let mut cutter = Cutter::new(alloc, 0, block, LONGEST_LINE);
+    let mut cutter = Cutter::new(alloc, 0, block, LONGEST_LINE, query.terminator());
     let mut buffer = zeros(alloc, READ_SIZE)?;
     let end = search_all(&mut cutter, &mut searcher, store, &mut buffer, out)?;
     search_last(cutter, &mut searcher, out)?;

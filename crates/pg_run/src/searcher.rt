@@ -1,15 +1,16 @@
 //! Searches blocks of one file and writes their rows.
 ghost use Rattle.std.specs.Prelude.{◌≡◌, ℕ, ◌<◌, ◌≤◌, ◌∷◌, ◌++◌, List, [], false, IfOk, OnOk, OnErr, IsErr, IsErrOf};
 ghost use Rattle.std.specs.Arc.{arc_value};
-ghost use Rattle.pg_lines.specs.Search.{Search};
+ghost use Rattle.pg_match.specs.Machines.{Fits};
+ghost use Rattle.pg_lines.specs.Search.{Search, Pattern, AreTreesOf, search_of};
+ghost use Rattle.pg_lines.specs.Queries.{IsCompiled};
 ghost use Rattle.pg_lines.specs.Blocks.{BlockData, joined};
 ghost use Rattle.pg_seq.specs.Bare.{bare_rows};
 ghost use Rattle.pg_seq.specs.Sink.{TakesPart};
-ghost use Rattle.pg_run.specs.Run.{Holds, IsNextBlock, IsReadyFor, HoldsUnwritten, HasAdded, rows_of, status_of};
 ghost use Rattle.pg_run.specs.declared.fault.RunFault.TheVariants.{Sink as RunSink, TooLong};
 
 use crate::fault::RunFault;
-use pg_lines::{Block, Query, search_block};
+use pg_lines::{Block, Query, Scratch, search_block};
 use pg_seq::{Format, Mode, Sequencer, Sink};
 use std::alloc::{AllocError, Allocator, Global};
 use std::sync::Arc;
@@ -29,20 +30,29 @@ const PLAIN: Format = Format {
 pub(crate) struct Searcher<A: Allocator + Copy = Global> {
     alloc: A,
     query: Arc<Query<A>, A>,
+    scratch: Scratch<A>,
     sequencer: Sequencer<A>,
+    ghost fits: { Fits scratch (arc_value query).machine },
 }
 
 impl<A: Allocator + Copy> Searcher<A> {
+    ghost use Rattle.pg_run.specs.Run.{Holds, IsNextBlock, IsReadyFor, HoldsUnwritten, HasAdded, rows_of, status_of};
+
     /// A searcher that has no block yet.
     pub(crate) fn new(alloc: A, query: &Arc<Query<A>, A>) -> Result<Searcher<A>, AllocError>
-        requires { (arc_value query.now).pieces ≡ false }
-        ensures { IfOk result (λ searcher. Holds searcher (arc_value query.now) [] []) }
+        requires { (arc_value query.now).text.pieces ≡ false }
+        ensures holds { (trees : List Pattern) → AreTreesOf (arc_value query.now).text trees →
+            IfOk result (λ searcher. Holds searcher (search_of (arc_value query.now).text trees) [] []) }
+        ensures compiled { IsCompiled (arc_value query.now) }
     {
+        let searched: &Query<A> = query;
+        let scratch = Scratch::new(alloc, searched.machine())?;
         let mut sequencer = Sequencer::new(alloc, Arc::try_clone(query)?, PLAIN)?;
         sequencer.open(b"")?;
         Ok(Searcher {
             alloc,
             query: Arc::try_clone(query)?,
+            scratch,
             sequencer,
         })
     }
@@ -50,12 +60,17 @@ impl<A: Allocator + Copy> Searcher<A> {
     /// Searches the file's next block, and gives the sequencer its result.
     fn take(&mut self, block: Block<A>) -> Result<(), AllocError>
         requires { (q : Search) × (blocks : List BlockData) × (text : List ℕ) × Holds self.old q blocks text
-            × IsNextBlock blocks block }
+            × IsNextBlock q blocks block }
         ensures { (q : Search) → (blocks : List BlockData) → (text : List ℕ) → Holds self.old q blocks text →
-            IsNextBlock blocks block → OnOk result (Holds self.new q (blocks ++ block ∷ []) text) }
+            IsNextBlock q blocks block → OnOk result (Holds self.new q (blocks ++ block ∷ []) text) }
     {
         let block = Arc::new(self.alloc, block)?;
-        let found = search_block(self.alloc, &self.query, Arc::try_clone(&block)?)?;
+        let found = search_block(
+            self.alloc,
+            &self.query,
+            &mut self.scratch,
+            Arc::try_clone(&block)?,
+        )?;
         self.sequencer.announce(block)?;
         self.sequencer.arrive(found);
         Ok(())

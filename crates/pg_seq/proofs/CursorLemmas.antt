@@ -56,7 +56,7 @@ module _ (q : Search) (format : Format) (limited : is_below 0 format.limit ≡ t
   end = terminator q
 
   abbrev IsPlain : Type 0
-  IsPlain = (format.mode ≡ Rows) × (q.pieces ≡ false)
+  IsPlain = (format.mode ≡ Rows) × (q.text.pieces ≡ false)
 
   -- the open file
   pub record IsAtFile (p : List Step) (c : Cursor) : Type 0 where
@@ -73,7 +73,7 @@ module _ (q : Search) (format : Format) (limited : is_below 0 format.limit ≡ t
 
   -- the rows of lines, as the mode has them
   abbrev line_part : List ℕ → List (List ℕ) → Bool → List ℕ
-  line_part name ls earlier = cond q.pieces (piece_rows q format name ls) (line_rows q format name ls earlier)
+  line_part name ls earlier = cond q.text.pieces (piece_rows q format name ls) (line_rows q format name ls earlier)
 
   file_running : (name bytes : List ℕ) (earlier : Bool) → file_rows q format name bytes false earlier ≡ rows_in format.mode (line_part name (lines end bytes) earlier) [] []
   unfolding file_rows
@@ -83,9 +83,9 @@ module _ (q : Search) (format : Format) (limited : is_below 0 format.limit ≡ t
   unfolding file_rows
   file_ended name bytes earlier = refl
 
-  part_more : (c : Cursor) (ls ms : List (List ℕ)) (earlier : Bool) → IsTrail q format ls c.trail → (q.pieces ≡ false → c.earlier ≡ earlier) →
-      line_part c.name (ls ++ ms) earlier ≡ line_part c.name ls earlier ++ cond q.pieces (run_pieces q format c.name c.trail ms) (run_rows q format c.name c.earlier c.trail ms)
-  part_more c ls ms earlier h e = go q.pieces e
+  part_more : (c : Cursor) (ls ms : List (List ℕ)) (earlier : Bool) → IsTrail q format ls c.trail → (q.text.pieces ≡ false → c.earlier ≡ earlier) →
+      line_part c.name (ls ++ ms) earlier ≡ line_part c.name ls earlier ++ cond q.text.pieces (run_pieces q format c.name c.trail ms) (run_rows q format c.name c.earlier c.trail ms)
+  part_more c ls ms earlier h e = go q.text.pieces e
     where
       go : (t : Bool) → (t ≡ false → c.earlier ≡ earlier) → cond t (piece_rows q format c.name (ls ++ ms)) (line_rows q format c.name (ls ++ ms) earlier) ≡ cond t (piece_rows q format c.name ls) (line_rows q format c.name ls earlier) ++ cond t (run_pieces q format c.name c.trail ms) (run_rows q format c.name c.earlier c.trail ms)
       go true f = pieces_more q format c.name ls ms c.trail h
@@ -94,7 +94,7 @@ module _ (q : Search) (format : Format) (limited : is_below 0 format.limit ≡ t
   open_rows : (name : List ℕ) (p : List Step) → output q format (entries_of (Opens name ∷ p)) ≡ output q format (entries_of p)
   open_rows name p =
       let earlier = something (output q format (entries_of p)) in
-      ap (λ xs. output q format (entries_of p) ++ xs) (file_running name [] earlier ∙ (ap (λ xs. rows_in format.mode xs [] []) (none q.pieces) ∙ nothing_in format.mode)) ∙ append-nil (output q format (entries_of p))
+      ap (λ xs. output q format (entries_of p) ++ xs) (file_running name [] earlier ∙ (ap (λ xs. rows_in format.mode xs [] []) (none q.text.pieces) ∙ nothing_in format.mode)) ∙ append-nil (output q format (entries_of p))
     where
       none : (t : Bool) → cond t (piece_rows q format name []) (line_rows q format name [] (something (output q format (entries_of p)))) ≡ []
       none true = refl

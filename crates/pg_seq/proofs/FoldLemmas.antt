@@ -6,7 +6,7 @@ use Rattle.std.proofs.lemmas.Bool.{false≢true, lt-ltb, ltb-false, ltb-true, or
 use Rattle.std.proofs.lemmas.List.{append-nil, take-append-drop, drop_more, take_more}
 use Rattle.std.proofs.lemmas.List.Sums.{sum_by-append, fold_push}
 use Rattle.pg_lines.specs.Search.{Search, terminator}
-use Rattle.pg_lines.specs.Hits.{selects}
+use Rattle.pg_lines.specs.Selection.{selects}
 use Rattle.pg_seq.specs.declared.format.Format.{Format}
 use Rattle.pg_seq.specs.Output.{is_below, when, row, is_nothing, line_rows, piece_rows, count_row, name_row}
 use Rattle.pg_seq.specs.Sink.{IsBeginning}

@@ -8,7 +8,7 @@ use Rattle.std.proofs.lemmas.List.Concat.{flat_map-append}
 use Rattle.std.proofs.lemmas.List.Elements.{filter-append}
 use Rattle.std.proofs.lemmas.List.Sums.{sum_by_push}
 use Rattle.pg_lines.specs.Search.{Search, terminator}
-use Rattle.pg_lines.specs.Hits.{selects}
+use Rattle.pg_lines.specs.Selection.{selects}
 use Rattle.pg_lines.proofs.HitLemmas.{some_in_range}
 use Rattle.pg_seq.specs.declared.format.Format.{Format}
 use Rattle.pg_seq.specs.Output.{line_at, is_below, is_kept, is_near, context, members, when, row, has_context, is_behind, separator, mark_of, line_rows, piece_rows}

@@ -1,10 +1,11 @@
 -- What the calls of a reorder buffer do to it.
 use Rattle.std.specs.Prelude.{◌≡◌, ℕ, ◌+◌, ◌≤◌, true, ◌||◌, None, List, [], ◌∷◌, ◌++◌, length}
 use Rattle.std.specs.List.{AllByRecursion}
+use Rattle.pg_lines.specs.Search.{Search, HasItsTrees}
 use Rattle.pg_lines.specs.Blocks.{BlockData}
 use Rattle.pg_lines.specs.Searched.{Searched}
 use Rattle.pg_seq.specs.Sink.{TakesPart}
-use Rattle.pg_seq.specs.Slots.{slot_block, has_result, slot_rows, slot_selects, arrival_among, with_result}
+use Rattle.pg_seq.specs.Slots.{slot_block, has_result, slot_rows, slot_selects, arrival_among, with_result, IsResultOf}
 use Rattle.pg_seq.specs.declared.format.Arrival.{Arrival}
 use Rattle.pg_seq.specs.declared.slot.Slot.{Slot}
 use Rattle.pg_seq.specs.declared.reorder_buffer.ReorderBuffer.{ReorderBuffer}
@@ -41,14 +42,16 @@ pub record Puts {A : Type 0} (found : Searched) (old new : ReorderBuffer A) : Ty
   pub handed : new.handed ≡ old.handed
   pub selected : new.selected ≡ old.selected
 
--- the rows of the first block were written, and its slot was given up
+-- The rows of the first block were written, and its slot was given up. Of the rows and of what is selected this speaks
+-- for the query whose result it has.
 pub record HandsOut {A : Type 0} (old new : ReorderBuffer A) (before after : List ℕ) : Type 0 where
   pub slot : Slot A
   pub slots : old.slots.items ≡ slot ∷ new.slots.items
   pub some : has_result slot ≡ true
   pub handed : new.handed ≡ old.handed + 1
-  pub selected : new.selected ≡ (old.selected || slot_selects slot)
-  pub got : after ≡ before ++ slot_rows slot
+  pub selected : (q : Search) → HasItsTrees q → IsResultOf q slot →
+      new.selected ≡ (old.selected || slot_selects q slot)
+  pub got : (q : Search) → HasItsTrees q → IsResultOf q slot → after ≡ before ++ slot_rows q slot
 
 -- a part of the rows of the first block was written
 pub record HandsPart {A : Type 0} (old : ReorderBuffer A) (before after : List ℕ) : Type 0 where
@@ -56,4 +59,4 @@ pub record HandsPart {A : Type 0} (old : ReorderBuffer A) (before after : List �
   pub later : List (Slot A)
   pub slots : old.slots.items ≡ slot ∷ later
   pub some : has_result slot ≡ true
-  pub part : TakesPart (slot_rows slot) before after
+  pub part : (q : Search) → HasItsTrees q → IsResultOf q slot → TakesPart (slot_rows q slot) before after

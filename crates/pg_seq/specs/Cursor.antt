@@ -32,7 +32,7 @@ cursor_of q format (step ∷ plan) = moved q format (cursor_of q format plan) st
 abbrev pub block_rows : Search → Format → Cursor → List ℕ → List ℕ
 block_rows q format c bytes =
     let ls = lines (terminator q) bytes in
-    if q.pieces then run_pieces q format c.name c.trail ls else run_rows q format c.name c.earlier c.trail ls
+    if q.text.pieces then run_pieces q format c.name c.trail ls else run_rows q format c.name c.earlier c.trail ls
 
 -- the rows at a file's end
 abbrev pub counted : Format → Cursor → List ℕ

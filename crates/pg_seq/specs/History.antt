@@ -3,7 +3,7 @@ use Rattle.std.specs.Prelude.{◌≡◌, ℕ, ◌==◌, Bool, false, ◌&&◌, i
 use Rattle.std.specs.List.{list_any, list_all, find}
 use Rattle.std.specs.Str.{bytes_eq}
 use Rattle.pg_lines.specs.Search.{Search}
-use Rattle.pg_lines.specs.Same.{same_search}
+use Rattle.pg_lines.specs.Same.{same_text}
 use Rattle.pg_lines.specs.Blocks.{BlockData}
 use Rattle.pg_lines.specs.Searched.{Searched}
 use Rattle.pg_seq.specs.declared.format.Format.{Format}
@@ -40,7 +40,7 @@ arrival_at (Some known) taken b = if is_taken taken b then Double else if_same (
 -- what the next arrival is
 abbrev pub arrival : Search → List Step → List (ℕ × ℕ) → Searched → Arrival
 arrival q plan taken r =
-    if same_search q r.query
+    if same_text q.text r.query
     then arrival_at (find (is_block r.block.file r.block.number) (announced plan)) taken r.block
     else Stranger
 

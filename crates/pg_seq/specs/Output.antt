@@ -6,8 +6,7 @@ use Rattle.std.specs.List.{list_any, filter, flat_map, range_with_len, count_by}
 use Rattle.std.specs.Fmt.{decimal}
 use Rattle.pg_lines.specs.Search.{Search, terminator}
 use Rattle.pg_lines.specs.Lines.{lines}
-use Rattle.pg_lines.specs.Hits.{selects}
-use Rattle.pg_lines.specs.Parts.{parts}
+use Rattle.pg_lines.specs.Selection.{selects, parts}
 use Rattle.pg_seq.specs.declared.format.Format.{Format}
 use Rattle.pg_seq.specs.declared.format.Mode.{Mode}
 use Rattle.pg_seq.specs.declared.format.Mode.TheVariants.{Rows, Count, List as Names, Quiet}
@@ -102,7 +101,7 @@ unfoldable pub file_rows : Search → Format → List ℕ → List ℕ → Bool 
 file_rows q format name bytes ended earlier =
     let ls = lines (terminator q) bytes in
     rows_in format.mode
-    (if q.pieces then piece_rows q format name ls else line_rows q format name ls earlier)
+    (if q.text.pieces then piece_rows q format name ls else line_rows q format name ls earlier)
     (when ended (count_row q format name ls))
     (when ended (name_row q format name ls))
 

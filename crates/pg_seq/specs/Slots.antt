@@ -4,10 +4,11 @@ use Rattle.std.specs.Prelude.{List, [], ◌∷◌, if◌then◌else◌}
 use Rattle.std.specs.List.{prefix_len, list_any}
 use Rattle.std.specs.Str.{bytes_eq}
 use Rattle.std.specs.Arc.{arc_value}
-use Rattle.pg_lines.specs.Search.{Search}
+use Rattle.pg_lines.specs.Search.{Search, HasItsTrees, terminator}
+use Rattle.pg_lines.specs.Lines.{lines}
 use Rattle.pg_lines.specs.Blocks.{BlockData}
-use Rattle.pg_lines.specs.Hits.{selects}
-use Rattle.pg_lines.specs.Searched.{Searched, lines_of}
+use Rattle.pg_lines.specs.Selection.{selects}
+use Rattle.pg_lines.specs.Searched.{Searched}
 use Rattle.pg_seq.specs.History.{if_same}
 use Rattle.pg_seq.specs.Bare.{bare_rows}
 use Rattle.pg_seq.specs.declared.format.Arrival.{Arrival}
@@ -20,20 +21,21 @@ slot_block slot = arc_value slot.block
 abbrev pub has_result : {A : Type 0} → Slot A → Bool
 has_result slot = is_some slot.result
 
-abbrev pub rows_of : Option Searched → List ℕ
-rows_of None = []
-rows_of (Some r) = bare_rows r.query r.block.bytes
+-- the rows of a result of the query
+abbrev pub rows_of : Search → Option Searched → List ℕ
+rows_of q None = []
+rows_of q (Some r) = bare_rows q r.block.bytes
 
-abbrev pub slot_rows : {A : Type 0} → Slot A → List ℕ
-slot_rows slot = rows_of slot.result
+abbrev pub slot_rows : {A : Type 0} → Search → Slot A → List ℕ
+slot_rows q slot = rows_of q slot.result
 
--- whether a slot's result has a selected line
-abbrev pub result_selects : Option Searched → Bool
-result_selects None = false
-result_selects (Some r) = list_any (selects r.query) (lines_of r)
+-- whether a result of the query has a selected line
+abbrev pub result_selects : Search → Option Searched → Bool
+result_selects q None = false
+result_selects q (Some r) = list_any (selects q) (lines (terminator q) r.block.bytes)
 
-abbrev pub slot_selects : {A : Type 0} → Slot A → Bool
-slot_selects slot = result_selects slot.result
+abbrev pub slot_selects : {A : Type 0} → Search → Slot A → Bool
+slot_selects q slot = result_selects q slot.result
 
 -- how many slots from the first on have their results
 abbrev pub ready : {A : Type 0} → List (Slot A) → ℕ
@@ -57,5 +59,10 @@ with_result [] k r = []
 with_result (slot ∷ slots) zero r = record slot { result = Some r } ∷ slots
 with_result (slot ∷ slots) (suc k) r = slot ∷ with_result slots k r
 
+-- a result, where there is one, is the query's and the block's
 abbrev pub IsResultOf : {A : Type 0} → Search → Slot A → Type 0
-IsResultOf q slot = IfSome slot.result (λ r. (r.query ≡ q) × (r.block ≡ slot_block slot))
+IsResultOf q slot = IfSome slot.result (λ r. (r.query ≡ q.text) × (r.block ≡ slot_block slot))
+
+-- For the query whose result it is, this is whether a slot's result has a selected line.
+pub record TellsSelected {A : Type 0} (slot : Slot A) (selected : Bool) : Type 0 where
+  pub tells : (q : Search) → HasItsTrees q → IsResultOf q slot → selected ≡ slot_selects q slot

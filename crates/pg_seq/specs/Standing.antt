@@ -2,7 +2,7 @@
 use Rattle.std.specs.Prelude.{◌≡◌, ◌≤◌, ◌<◌, Bool, true, false, Result, Ok, Err, List, [], ◌++◌, map, length, ◌||◌, ℕ}
 use Rattle.std.specs.List.{AllByRecursion, flat_map, list_any}
 use Rattle.std.specs.Arc.{arc_value}
-use Rattle.pg_lines.specs.Search.{terminator}
+use Rattle.pg_lines.specs.Search.{terminator, HasItsTrees}
 use Rattle.pg_lines.specs.Blocks.{AreNumbered}
 use Rattle.pg_seq.specs.Plan.{Step, opened as opened_files, announced, IsPlan, MayFollow, is_open, entries_of}
 use Rattle.pg_seq.specs.Output.{is_bad}
@@ -20,9 +20,10 @@ use Rattle.pg_seq.specs.declared.sequencer.Sequencer.{Sequencer}
 pub record Stands {A : Type 0} (s : Sequencer A) (past : Past) : Type 0 where
   pub gone : List (Slot A)
   pub given_up : AreGone s.buffer gone
-  pub query : past.query ≡ arc_value s.query
+  pub query : past.query.text ≡ (arc_value s.query).text
+  pub trees : HasItsTrees past.query
   pub format : past.format ≡ bare
-  pub whole : past.query.pieces ≡ false
+  pub whole : past.query.text.pieces ≡ false
   pub lawful : IsPlan (terminator past.query) (plan past)
   pub single : opened_files (plan past) ≤ 1
   pub opened : opened_files (plan past) ≡ s.opened
@@ -35,8 +36,8 @@ pub record Stands {A : Type 0} (s : Sequencer A) (past : Past) : Type 0 where
   pub results : AllByRecursion (IsResultOf past.query) (gone ++ s.buffer.slots.items)
   pub known : AllByRecursion (λ key. key.1 < length (gone ++ s.buffer.slots.items)) (taken_of past.query past.events)
   pub failed : past.failed ≡ s.failed
-  pub written : s.failed ≡ false → past.written ≡ flat_map slot_rows gone
-  pub selected : s.buffer.selected ≡ list_any slot_selects gone
+  pub written : s.failed ≡ false → past.written ≡ flat_map (slot_rows past.query) gone
+  pub selected : s.buffer.selected ≡ list_any (slot_selects past.query) gone
 
 -- the sequencer stands after this, and the step may follow
 abbrev pub IsReadyFor : {A : Type 0} → Sequencer A → Past → Step → Type 0

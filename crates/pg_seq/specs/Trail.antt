@@ -4,8 +4,7 @@ use Rattle.std.specs.Prelude.{◌++◌, length, slice_range}
 use Rattle.std.specs.List.{fold, flat_map}
 use Rattle.circular_buffer.specs.Buffer.{keep_last}
 use Rattle.pg_lines.specs.Search.{Search, terminator}
-use Rattle.pg_lines.specs.Hits.{selects}
-use Rattle.pg_lines.specs.Parts.{parts}
+use Rattle.pg_lines.specs.Selection.{selects, parts}
 use Rattle.pg_seq.specs.declared.format.Format.{Format}
 use Rattle.pg_seq.specs.Output.{is_below, context, when, row, has_context}
 

@@ -18,7 +18,7 @@ pub fn handed_out_begins()
 
 /// The first arrival of an announced block's result under the query is taken.
 pub fn first_arrival_is_taken()
-    ensures { (past : Past) (found : Searched) → IsPlan (terminator past.query) (plan past) → found.query ≡ past.query →
-        Contains (announced (plan past)) found.block → is_taken (taken_of past.query past.events) found.block ≡ false →
-        answer past found ≡ Taken }
+    ensures { (past : Past) (found : Searched) → IsPlan (terminator past.query) (plan past) →
+        found.query ≡ past.query.text → Contains (announced (plan past)) found.block →
+        is_taken (taken_of past.query past.events) found.block ≡ false → answer past found ≡ Taken }
 {}

@@ -1,6 +1,6 @@
 //! Results that wait for those of the blocks before them.
 ghost use Rattle.std.specs.Prelude.{◌≡◌, ◌+◌, ◌<◌, ◌≤◌, ◌^◌, ◌||◌, [], false, IfOk, OnOk, OnErr, MatchBool, length};
-ghost use Rattle.std.specs.List.{list_all, list_any};
+ghost use Rattle.std.specs.List.{AllByRecursion, list_all, list_any};
 ghost use Rattle.std.specs.Arc.{arc_value};
 
 use crate::format::Arrival;
@@ -27,7 +27,8 @@ pub(crate) struct ReorderBuffer<A: Allocator = Global> {
 }
 
 impl<A: Allocator> ReorderBuffer<A> {
-    ghost use Rattle.pg_seq.specs.Slots.{has_result, slot_selects, ready};
+    ghost use Rattle.pg_lines.specs.Search.{Search, HasItsTrees};
+    ghost use Rattle.pg_seq.specs.Slots.{IsResultOf, has_result, slot_selects, ready};
     ghost use Rattle.pg_seq.specs.Buffer.{Keeps, Pushes, IsArrival, Puts, HandsOut, HandsPart};
 
     /// A buffer without blocks.
@@ -96,7 +97,8 @@ impl<A: Allocator> ReorderBuffer<A> {
 
     /// Whether a line is selected in some block whose result has come.
     pub(crate) fn has_selected(&self) -> bool
-        ensures { result ≡ (self.now.selected || list_any slot_selects self.now.slots.items) }
+        ensures { (q : Search) → HasItsTrees q → AllByRecursion (IsResultOf q) self.now.slots.items →
+            result ≡ (self.now.selected || list_any (slot_selects q) self.now.slots.items) }
     {
         self.selected || self.slots.iter().any(|slot| slot.has_selected())
     }

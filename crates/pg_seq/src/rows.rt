@@ -1,49 +1,55 @@
-//! Plain rows: selected lines, each with its newline.
+//! Plain rows: selected lines, each with its terminator.
 ghost use Rattle.std.specs.Prelude.{◌≡◌, ◌++◌, ◌<◌, ◌≤◌, [], ◌∷◌, OnOk, OnErr, if◌then◌else◌, EachIndex, get_or};
 ghost use Rattle.pg_lines.specs.Lines.{lines, terminated};
+ghost use Rattle.pg_lines.specs.Search.{Search, HasItsTrees};
 ghost use Rattle.std.specs.List.{flat_map};
 ghost use Rattle.pg_seq.specs.Bare.{bare_rows, span_rows, no_span, IsWithin};
 ghost use Rattle.pg_seq.specs.Sink.{TakesPart};
 
 use crate::sink::{Sink, WriteError, write_all};
-use pg_lines::{Block, BlockResult, Span};
+use pg_lines::{Block, BlockResult, Query, Span};
 use std::alloc::Allocator;
 
-/// Whether the last of some lines lacks its newline.
-fn is_incomplete(text: &[u8]) -> bool
-    ensures { terminated 10 (lines 10 text.now) ≡ (if result then text.now ++ 10 ∷ [] else text.now) }
+/// Whether the last of some lines lacks its terminator.
+fn is_incomplete(end: u8, text: &[u8]) -> bool
+    ensures { terminated end (lines end text.now) ≡ (if result then text.now ++ end ∷ [] else text.now) }
 {
-    !text.is_empty() && text[text.len() - 1] != b'\n'
+    !text.is_empty() && text[text.len() - 1] != end
 }
 
-/// Writes some lines. A last one without a newline gets one.
-fn write_lines<W: Sink>(out: &mut W, text: &[u8]) -> Result<(), WriteError>
-    ensures all { OnOk result (W.taken out.new ≡ W.taken out.old ++ terminated 10 (lines 10 text.now)) }
-    ensures part { OnErr result (TakesPart (terminated 10 (lines 10 text.now)) (W.taken out.old) (W.taken out.new)) }
+/// Writes some lines. A last one without a terminator gets one.
+fn write_lines<W: Sink>(out: &mut W, end: u8, text: &[u8]) -> Result<(), WriteError>
+    ensures all { OnOk result (W.taken out.new ≡ W.taken out.old ++ terminated end (lines end text.now)) }
+    ensures part { OnErr result (TakesPart (terminated end (lines end text.now)) (W.taken out.old) (W.taken out.new)) }
     ensures failure { OnErr result (W.failures out.old < W.failures out.new) }
     ensures no_failure { OnOk result (W.failures out.new ≡ W.failures out.old) }
     ensures never_falls { W.failures out.old ≤ W.failures out.new }
 {
     write_all(out, text)?;
-    if is_incomplete(text) {
-        write_all(out, b"\n")
+    if is_incomplete(end, text) {
+        write_all(out, &[end])
     } else {
         Ok(())
     }
 }
 
 /// Writes the lines of some spans.
-fn write_spans<W: Sink>(out: &mut W, bytes: &[u8], spans: &[Span]) -> Result<(), WriteError>
+fn write_spans<W: Sink>(
+    out: &mut W,
+    end: u8,
+    bytes: &[u8],
+    spans: &[Span],
+) -> Result<(), WriteError>
     requires { EachIndex spans.now (λ k. IsWithin bytes.now (get_or spans.now k no_span)) }
-    ensures all { OnOk result (W.taken out.new ≡ W.taken out.old ++ flat_map (span_rows bytes.now) spans.now) }
+    ensures all { OnOk result (W.taken out.new ≡ W.taken out.old ++ flat_map (span_rows end bytes.now) spans.now) }
     ensures part { OnErr result
-        (TakesPart (flat_map (span_rows bytes.now) spans.now) (W.taken out.old) (W.taken out.new)) }
+        (TakesPart (flat_map (span_rows end bytes.now) spans.now) (W.taken out.old) (W.taken out.new)) }
     ensures failure { OnErr result (W.failures out.old < W.failures out.new) }
     ensures no_failure { OnOk result (W.failures out.new ≡ W.failures out.old) }
     ensures never_falls { W.failures out.old ≤ W.failures out.new }
 {
     for span in spans {
-        write_lines(out, span.of(bytes))?;
+        write_lines(out, end, span.of(bytes))?;
     }
     Ok(())
 }
@@ -53,13 +59,22 @@ pub(crate) fn write_rows<A: Allocator, W: Sink>(
     found: &BlockResult<A>,
     out: &mut W,
 ) -> Result<(), WriteError>
-    ensures all { OnOk result (W.taken out.new ≡ W.taken out.old ++ bare_rows found.now.query found.now.block.bytes) }
-    ensures part { OnErr result
-        (TakesPart (bare_rows found.now.query found.now.block.bytes) (W.taken out.old) (W.taken out.new)) }
+    ensures all { (q : Search) → HasItsTrees q → found.now.query ≡ q.text →
+        OnOk result (W.taken out.new ≡ W.taken out.old ++ bare_rows q found.now.block.bytes) }
+    ensures part { (q : Search) → HasItsTrees q → found.now.query ≡ q.text →
+        OnErr result (TakesPart (bare_rows q found.now.block.bytes) (W.taken out.old) (W.taken out.new)) }
     ensures failure { OnErr result (W.failures out.old < W.failures out.new) }
     ensures no_failure { OnOk result (W.failures out.new ≡ W.failures out.old) }
     ensures never_falls { W.failures out.old ≤ W.failures out.new }
 {
+    let query: &Query<A> = found.query();
+    // Its contract says that the patterns have trees, by which the runs stand in the block.
+    let _text = query.text();
     let block: &Block<A> = found.block();
-    write_spans(out, block.bytes.as_slice(), found.runs())
+    write_spans(
+        out,
+        query.terminator(),
+        block.bytes.as_slice(),
+        found.runs(),
+    )
 }

@@ -29,7 +29,7 @@ pub struct Sequencer<A: Allocator = Global> {
 }
 
 impl<A: Allocator> Sequencer<A> {
-    ghost use Rattle.pg_lines.specs.Search.{terminator};
+    ghost use Rattle.pg_lines.specs.Search.{Pattern, AreTreesOf, search_of, terminator};
     ghost use Rattle.pg_seq.specs.Plan.{opened, Opens, Announces, Ends, Misses, MayFollow};
     ghost use Rattle.pg_seq.specs.History.{Past, start, planned, arrived, plan, answer, IsComplete, status_of};
     ghost use Rattle.pg_seq.specs.Bare.{bare};
@@ -46,8 +46,9 @@ impl<A: Allocator> Sequencer<A> {
         format: Format,
     ) -> Result<Sequencer<A>, AllocError>
         requires format { format ≡ bare }
-        requires query { (arc_value query).pieces ≡ false }
-        ensures { IfOk result (λ s. Stands s (start (arc_value query) format)) }
+        requires query { (arc_value query).text.pieces ≡ false }
+        ensures { IfOk result (λ s. (trees : List Pattern) → AreTreesOf (arc_value query).text trees →
+            Stands s (start (search_of (arc_value query).text trees) format)) }
     {
         let _ = format;
         Ok(Sequencer {
@@ -79,8 +80,8 @@ impl<A: Allocator> Sequencer<A> {
     /// Announces the open file's next block.
     ///
     /// It has the file's number and the number of blocks announced before, and bytes that aren't
-    /// empty; the blocks before it end in newlines; its lines have at most 2^30 bytes, and the file
-    /// at most 2^62. A refused request for memory is the only error, and changes nothing.
+    /// empty; the blocks before it end in the terminator; its lines have at most 2^30 bytes, and the
+    /// file at most 2^62. A refused request for memory is the only error, and changes nothing.
     pub fn announce(&mut self, block: Arc<Block<A>, A>) -> Result<(), AllocError>
         requires { (past : Past) × IsReadyFor self.old past (Announces (arc_value block)) }
         ensures ok { (past : Past) → Stands self.old past →

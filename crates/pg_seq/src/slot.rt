@@ -1,6 +1,6 @@
 //! A place for the result of an announced block.
 ghost use Rattle.std.specs.Prelude.{◌≡◌};
-ghost use Rattle.pg_seq.specs.Slots.{slot_selects, slot_arrival};
+ghost use Rattle.pg_seq.specs.Slots.{TellsSelected, slot_arrival};
 
 use crate::format::Arrival;
 use pg_lines::{Block, BlockResult};
@@ -17,7 +17,7 @@ pub(crate) struct Slot<A: Allocator = Global> {
 impl<A: Allocator> Slot<A> {
     /// Whether the result has come and has a selected line.
     pub(crate) fn has_selected(&self) -> bool
-        ensures { result ≡ slot_selects self.now }
+        ensures { TellsSelected self.now result }
     {
         match &self.result {
             Some(found) => !found.runs().is_empty(),

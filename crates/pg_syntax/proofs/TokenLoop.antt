@@ -1,12 +1,14 @@
 -- The loop over the tokens.
-use Rattle.std.proofs.Common.{ℕ, ◌≡◌, ◌≢◌, ◌<◌, ◌≤◌, ◌↔◌, inl, inr, Bool, true, false, List, [], ◌∷◌, ◌++◌, length, drop, Option, Some, None, Err, refl, sym, ap, subst, arith, length-drop}
+use Rattle.std.proofs.Common.{ℕ, ◌≡◌, ◌≢◌, ◌<◌, ◌≤◌, ◌↔◌, inl, inr, Bool, true, false, List, [], ◌∷◌, ◌++◌, length}
+use Rattle.std.proofs.Common.{drop, Option, Some, None, Err, refl, sym, ap, subst, arith, length-drop}
 use Rattle.std.proofs.lemmas.Bool.{false≢true}
 use Rattle.pg_syntax.specs.Patterns.{Pattern, Empty}
 use Rattle.pg_syntax.specs.Grammar as G
 use Rattle.pg_syntax.specs.Grammar.{Spells, Expression, Body, Mark, opening, closing, brace, unbrace}
 use Rattle.pg_syntax.specs.Machine as M
 use Rattle.pg_syntax.proofs.Proper.{spelled_proper}
-use Rattle.pg_syntax.specs.Machine.{State, Token, Level, start, whole, grouped, token, after, next, Completes, done, step, Leads, onward}
+use Rattle.pg_syntax.specs.Machine.{State, Token, Level, start, whole, grouped, token, after, next, Completes, done}
+use Rattle.pg_syntax.specs.Machine.{step, Leads, onward}
 use Rattle.pg_syntax.specs.Places.{Place, PlaceIn}
 use Rattle.pg_syntax.specs.Results.{IsSpelled, IsRefused, IsFault}
 use Rattle.pg_syntax.specs.Expressions.{kind_of}
@@ -26,36 +28,45 @@ abbrev pub Keeps : Syntax → Bool → List ℕ → State → List ℕ → Type 
 Keeps syntax fold text s rest = (p : Pattern) → Completes syntax fold start text p ↔ Completes syntax fold s rest p
 
 -- where a fault stands in an expression of a syntax
-place_of : (syntax : Syntax) (kind : FaultKind) (text : List ℕ) (at : ℕ) → PlaceIn syntax kind text at → Place (kind_of syntax) kind text at
+place_of : (syntax : Syntax) (kind : FaultKind) (text : List ℕ) (at : ℕ) → PlaceIn syntax kind text at
+    → Place (kind_of syntax) kind text at
 place_of S.Basic kind text at h = h
 place_of S.Extended kind text at h = h
 
 module _ (syntax : Syntax) (fold : Bool) where
-  next_some : (s s' : State) (t rest : List ℕ) (k : Token) → token syntax fold s t ≡ Some (k, rest) → after k s ≡ Some s' → next syntax fold s t ≡ Some (s', rest)
+  next_some : (s s' : State) (t rest : List ℕ) (k : Token) → token syntax fold s t ≡ Some (k, rest)
+      → after k s ≡ Some s' → next syntax fold s t ≡ Some (s', rest)
   next_some s s' t rest k e f = rw (e, f) refl
 
   next_no_token : (s : State) (t : List ℕ) → token syntax fold s t ≡ None → next syntax fold s t ≡ None
   next_no_token s t e = rw e refl
 
-  next_no_state : (s : State) (t rest : List ℕ) (k : Token) → token syntax fold s t ≡ Some (k, rest) → after k s ≡ None → next syntax fold s t ≡ None
+  next_no_state : (s : State) (t rest : List ℕ) (k : Token) → token syntax fold s t ≡ Some (k, rest)
+      → after k s ≡ None → next syntax fold s t ≡ None
   next_no_state s t rest k e f = rw (e, f) refl
 
-  pub keeps_on : (text : List ℕ) (s s' : State) (t rest : List ℕ) (k : Token) → token syntax fold s t ≡ Some (k, rest) → after k s ≡ Some s' → Keeps syntax fold text s t → Keeps syntax fold text s' rest
+  pub keeps_on : (text : List ℕ) (s s' : State) (t rest : List ℕ) (k : Token) → token syntax fold s t ≡ Some (k, rest)
+      → after k s ≡ Some s' → Keeps syntax fold text s t → Keeps syntax fold text s' rest
   keeps_on text s s' t rest k e f keeps = λ p. (
     λ c. stepped syntax fold s s' t rest p (next_some s s' t rest k e f) ((keeps p).0 c),
     λ c. (keeps p).1 (step (next_some s s' t rest k e f) c),
   )
 
-  pub leads_on : (text : List ℕ) (s s' : State) (t rest : List ℕ) (k : Token) → token syntax fold s t ≡ Some (k, rest) → after k s ≡ Some s' → Leads syntax fold text s t → Leads syntax fold text s' rest
+  pub leads_on : (text : List ℕ) (s s' : State) (t rest : List ℕ) (k : Token) → token syntax fold s t ≡ Some (k, rest)
+      → after k s ≡ Some s' → Leads syntax fold text s t → Leads syntax fold text s' rest
   leads_on text s s' t rest k e f leads = onward leads (next_some s s' t rest k e f)
 
-  nothing_spelled : (text : List ℕ) (s : State) (t : List ℕ) → text ≢ [] → t ≢ [] → next syntax fold s t ≡ None → Keeps syntax fold text s t → (p : Pattern) → Spells (kind_of syntax) fold text p → ⊥
+  nothing_spelled : (text : List ℕ) (s : State) (t : List ℕ) → text ≢ [] → t ≢ [] → next syntax fold s t ≡ None
+      → Keeps syntax fold text s t → (p : Pattern) → Spells (kind_of syntax) fold text p → ⊥
   nothing_spelled text s t n m e keeps p h = stuck syntax fold s t p e m ((keeps p).0 (spelled syntax fold h n))
 
-  pub no_token : (text : List ℕ) (s : State) (t : List ℕ) → text ≢ [] → t ≢ [] → token syntax fold s t ≡ None → Keeps syntax fold text s t → (p : Pattern) → Spells (kind_of syntax) fold text p → ⊥
+  pub no_token : (text : List ℕ) (s : State) (t : List ℕ) → text ≢ [] → t ≢ [] → token syntax fold s t ≡ None
+      → Keeps syntax fold text s t → (p : Pattern) → Spells (kind_of syntax) fold text p → ⊥
   no_token text s t n m e keeps = nothing_spelled text s t n m (next_no_token s t e) keeps
 
-  pub no_state : (text : List ℕ) (s : State) (t rest : List ℕ) (k : Token) → text ≢ [] → t ≢ [] → token syntax fold s t ≡ Some (k, rest) → after k s ≡ None → Keeps syntax fold text s t → (p : Pattern) → Spells (kind_of syntax) fold text p → ⊥
+  pub no_state : (text : List ℕ) (s : State) (t rest : List ℕ) (k : Token) → text ≢ [] → t ≢ []
+      → token syntax fold s t ≡ Some (k, rest) → after k s ≡ None → Keeps syntax fold text s t → (p : Pattern)
+      → Spells (kind_of syntax) fold text p → ⊥
   no_state text s t rest k n m e f keeps = nothing_spelled text s t n m (next_no_state s t rest k e f) keeps
 
   open_end : (s : State) (p : Pattern) → grouped s.outer ≡ true → Completes syntax fold s [] p → ⊥
@@ -66,15 +77,28 @@ module _ (syntax : Syntax) (fold : Bool) where
   empty_end s p g (done w) = cc
   empty_end s p g (step f c) = cc
 
-  pub in_group : (text : List ℕ) (s : State) → length text ≤ 4096 → text ≢ [] → grouped s.outer ≡ true → Keeps syntax fold text s [] → Leads syntax fold text s []
+  pub in_group : (text : List ℕ) (s : State) → length text ≤ 4096 → text ≢ [] → grouped s.outer ≡ true
+      → Keeps syntax fold text s [] → Leads syntax fold text s []
       → IsRefused (kind_of syntax) fold text (record { kind = UnmatchedGroup; at = length text })
-  in_group text s l n g keeps leads = record { none = λ p h. open_end s p g ((keeps p).0 (spelled syntax fold h n)); place = place_of syntax UnmatchedGroup text _ (inr (refl, record { fold = fold; state = s; leads = leads; «open» = g })); long = λ h. absurd (omega arith) }
+  in_group text s l n g keeps leads = record {
+    none = λ p h. open_end s p g ((keeps p).0 (spelled syntax fold h n));
+    place = place_of syntax UnmatchedGroup text _
+        (inr (refl, record { fold = fold; state = s; leads = leads; «open» = g }));
+    long = λ h. absurd (omega arith);
+  }
 
-  pub empty_operand : (text : List ℕ) (s : State) → length text ≤ 4096 → text ≢ [] → grouped s.outer ≡ false → whole s.level ≡ None → Keeps syntax fold text s [] → Leads syntax fold text s []
+  pub empty_operand : (text : List ℕ) (s : State) → length text ≤ 4096 → text ≢ [] → grouped s.outer ≡ false
+      → whole s.level ≡ None → Keeps syntax fold text s [] → Leads syntax fold text s []
       → IsRefused (kind_of syntax) fold text (record { kind = EmptyOperand; at = length text })
-  empty_operand text s l n o g keeps leads = record { none = λ p h. empty_end s p g ((keeps p).0 (spelled syntax fold h n)); place = place_of syntax EmptyOperand text _ (inr (inr (refl, record { fold = fold; state = s; leads = leads; closed = o; empty = g }))); long = λ h. absurd (omega arith) }
+  empty_operand text s l n o g keeps leads = record {
+    none = λ p h. empty_end s p g ((keeps p).0 (spelled syntax fold h n));
+    place = place_of syntax EmptyOperand text _
+        (inr (inr (refl, record { fold = fold; state = s; leads = leads; closed = o; empty = g })));
+    long = λ h. absurd (omega arith);
+  }
 
-  finish : (ls : List Level) (l : Level) (p : Pattern) → grouped ls ≡ false → whole l ≡ Some p → Completes syntax fold (record { outer = ls; level = l }) [] p
+  finish : (ls : List Level) (l : Level) (p : Pattern) → grouped ls ≡ false → whole l ≡ Some p
+      → Completes syntax fold (record { outer = ls; level = l }) [] p
   finish [] l p g w = done w
   finish (x ∷ ls) l p g w = absurd (false≢true (sym g))
 
@@ -82,7 +106,8 @@ module _ (syntax : Syntax) (fold : Bool) where
   none_outer [] g = refl
   none_outer (x ∷ ls) g = absurd (false≢true (sym g))
 
-  pub finished : (text : List ℕ) (s : State) (p : Pattern) → text ≢ [] → length text ≤ 4096 → grouped s.outer ≡ false → whole s.level ≡ Some p → Keeps syntax fold text s [] → IsSpelled (kind_of syntax) fold text p
+  pub finished : (text : List ℕ) (s : State) (p : Pattern) → text ≢ [] → length text ≤ 4096 → grouped s.outer ≡ false
+      → whole s.level ≡ Some p → Keeps syntax fold text s [] → IsSpelled (kind_of syntax) fold text p
   finished text s p n l g w keeps = record {
     spells = read syntax fold text p l ((keeps p).1 (finish s.outer s.level p g w));
     only = λ q h. ended syntax fold s q p (none_outer s.outer g) w ((keeps q).0 (spelled syntax fold h n));
@@ -90,7 +115,8 @@ module _ (syntax : Syntax) (fold : Bool) where
   }
 
   -- the fault of a token stands where it stands
-  mark_place : (x : Syntax) (text : List ℕ) (at : ℕ) (w rest : List ℕ) (m : ℕ) (n : Option ℕ) → Mark x w m n → drop at text ≡ w ++ rest → PlaceIn x (blame (M.Repeat m n)) text at
+  mark_place : (x : Syntax) (text : List ℕ) (at : ℕ) (w rest : List ℕ) (m : ℕ) (n : Option ℕ) → Mark x w m n
+      → drop at text ≡ w ++ rest → PlaceIn x (blame (M.Repeat m n)) text at
   mark_place Basic text at w rest m n G.star e = inl (rest, e)
   mark_place Basic text at w rest m n (G.plus x) e = cc
   mark_place Basic text at w rest m n (G.question x) e = cc
@@ -98,30 +124,57 @@ module _ (syntax : Syntax) (fold : Bool) where
   mark_place Extended text at w rest m n G.star e = (42, inl refl, (rest, e))
   mark_place Extended text at w rest m n (G.plus x) e = (43, inr (inl refl), (rest, e))
   mark_place Extended text at w rest m n (G.question x) e = (63, inr (inr (inl refl)), (rest, e))
-  mark_place Extended text at w rest m n (G.interval {t = t} b) e = (123, inr (inr (inr refl)), ((t ++ unbrace Extended) ++ rest, e))
+  mark_place Extended text at w rest m n (G.interval {t = t} b) e =
+      (123, inr (inr (inr refl)), ((t ++ unbrace Extended) ++ rest, e))
 
-  pub token_place : (text : List ℕ) (at : ℕ) (s : State) (k : Token) (rest : List ℕ) → token syntax fold s (drop at text) ≡ Some (k, rest) → after k s ≡ None → PlaceIn syntax (blame k) text at
+  pub token_place : (text : List ℕ) (at : ℕ) (s : State) (k : Token) (rest : List ℕ)
+      → token syntax fold s (drop at text) ≡ Some (k, rest) → after k s ≡ None → PlaceIn syntax (blame k) text at
   token_place text at s (M.Part p) rest e f = cc
   token_place text at s (M.Anchor p) rest e f = cc
-  token_place text at s (M.Repeat m n) rest e f = let (w, eq, means) = told syntax fold s (drop at text) (M.Repeat m n) rest e in mark_place syntax text at w rest m n means.1 eq
-  token_place text at s M.Open rest e f = let (w, eq, means) = told syntax fold s (drop at text) M.Open rest e in (rest, subst (λ y. drop at text ≡ y ++ rest) means.1 eq)
-  token_place text at s M.Close rest e f = let (w, eq, means) = told syntax fold s (drop at text) M.Close rest e in inl (rest, subst (λ y. drop at text ≡ y ++ rest) means eq)
-  token_place text at s M.Bar rest e f = let (w, eq, means) = told syntax fold s (drop at text) M.Bar rest e in inr (inl (means.1, (rest, subst (λ y. drop at text ≡ y ++ rest) means.2 eq)))
+  token_place text at s (M.Repeat m n) rest e f = let (w, eq, means) = told syntax fold s (drop at text)
+      (M.Repeat m n) rest e in mark_place syntax text at w rest m n means.1 eq
+  token_place text at s M.Open rest e f = let (w, eq, means) = told syntax fold s (drop at text) M.Open rest e in
+      (rest, subst (λ y. drop at text ≡ y ++ rest) means.1 eq)
+  token_place text at s M.Close rest e f = let (w, eq, means) = told syntax fold s (drop at text) M.Close rest e in
+      inl (rest, subst (λ y. drop at text ≡ y ++ rest) means eq)
+  token_place text at s M.Bar rest e f = let (w, eq, means) = told syntax fold s (drop at text) M.Bar rest e in
+      inr (inl (means.1, (rest, subst (λ y. drop at text ≡ y ++ rest) means.2 eq)))
 
-  pub no_token_fault : (text : List ℕ) (s : State) (t : List ℕ) (f : SyntaxFault) → length text ≤ 4096 → text ≢ [] → t ≢ [] → token syntax fold s t ≡ None → PlaceIn syntax f.kind text f.at → Keeps syntax fold text s t → IsFault (kind_of syntax) fold text f
-  no_token_fault text s t f l n m e place keeps = inr (record { none = no_token text s t n m e keeps; place = place_of syntax f.kind text f.at place; long = λ h. absurd (omega arith) })
+  pub no_token_fault : (text : List ℕ) (s : State) (t : List ℕ) (f : SyntaxFault) → length text ≤ 4096 → text ≢ []
+      → t ≢ [] → token syntax fold s t ≡ None → PlaceIn syntax f.kind text f.at → Keeps syntax fold text s t
+      → IsFault (kind_of syntax) fold text f
+  no_token_fault text s t f l n m e place keeps = inr (record {
+    none = no_token text s t n m e keeps;
+    place = place_of syntax f.kind text f.at place;
+    long = λ h. absurd (omega arith);
+  })
 
-  pub refused_token : (text : List ℕ) (at : ℕ) (s s' : State) (f : SyntaxFault) (k : Token) (rest : List ℕ) → length text ≤ 4096 → text ≢ [] → drop at text ≢ [] → token syntax fold s (drop at text) ≡ Some (k, rest) → Applies {A = Unit {0}} (Err f) k s s' at → Keeps syntax fold text s (drop at text) → IsFault (kind_of syntax) fold text f
+  pub refused_token : (text : List ℕ) (at : ℕ) (s s' : State) (f : SyntaxFault) (k : Token) (rest : List ℕ)
+      → length text ≤ 4096 → text ≢ [] → drop at text ≢ [] → token syntax fold s (drop at text) ≡ Some (k, rest)
+      → Applies {A = Unit {0}} (Err f) k s s' at → Keeps syntax fold text s (drop at text)
+      → IsFault (kind_of syntax) fold text f
   refused_token text at s s' f k rest l n m e (inl h) keeps = inl h
   refused_token text at s s' f k rest l n m e (inr h) keeps =
-      inr (subst (λ y. IsRefused (kind_of syntax) fold text y) (sym h.1) (record { none = no_state text s (drop at text) rest k n m e h.0 keeps; place = place_of syntax (blame k) text at (token_place text at s k rest e h.0); long = λ h. absurd (omega arith) }))
+      inr (subst (λ y. IsRefused (kind_of syntax) fold text y) (sym h.1) (record {
+        none = no_state text s (drop at text) rest k n m e h.0 keeps;
+        place = place_of syntax (blame k) text at (token_place text at s k rest e h.0);
+        long = λ h. absurd (omega arith);
+      }))
 
-nothing_else : (syntax : Syntax) (fold : Bool) (text : List ℕ) (q : Pattern) → Spells (kind_of syntax) fold text q → text ≡ [] → q ≡ Empty
+nothing_else : (syntax : Syntax) (fold : Bool) (text : List ℕ) (q : Pattern) → Spells (kind_of syntax) fold text q
+    → text ≡ [] → q ≡ Empty
 nothing_else syntax fold text q G.nothing e = refl
-nothing_else syntax fold text q (G.some h b) e = absurd (empty_end syntax fold start q refl (subst (λ y. Completes syntax fold start y q) e (complete syntax fold text q (body_of syntax fold text q b))))
+nothing_else syntax fold text q (G.some h b) e = absurd
+    (empty_end syntax fold start q refl
+    (subst (λ y. Completes syntax fold start y q) e (complete syntax fold text q (body_of syntax fold text q b))))
 
-pub empty_spelled : (syntax : Syntax) (fold : Bool) (text : List ℕ) → text ≡ [] → IsSpelled (kind_of syntax) fold text Empty
-empty_spelled syntax fold text e = record { spells = subst (λ y. Spells (kind_of syntax) fold y Empty) (sym e) G.nothing; only = λ q h. nothing_else syntax fold text q h e; proper = tt }
+pub empty_spelled : (syntax : Syntax) (fold : Bool) (text : List ℕ) → text ≡ []
+    → IsSpelled (kind_of syntax) fold text Empty
+empty_spelled syntax fold text e = record {
+  spells = subst (λ y. Spells (kind_of syntax) fold y Empty) (sym e) G.nothing;
+  only = λ q h. nothing_else syntax fold text q h e;
+  proper = tt;
+}
 
 pub nonempty_drop : (text : List ℕ) (at : ℕ) → at < length text → drop at text ≢ []
 nonempty_drop text at h = λ e. absurd (omega (arith, ap length e, length-drop at text))

@@ -1,5 +1,5 @@
 -- Lines of blocks, and the plan of a sequencer's test.
-use Rattle.std.proofs.Common.{ℕ, suc, ◌+◌, ◌<◌, ◌≤◌, ◌^◌, ◌==◌, true, false, cond, List, [], ◌∷◌, ◌++◌, length, refl, ap, sym, ◌∙◌, arith}
+use Rattle.std.proofs.Common.{ℕ, suc, ◌+◌, ◌<◌, ◌≤◌, ◌^◌, ◌==◌, true, false, cond, List, [], ◌∷◌, ◌++◌, length, refl, ap, sym, subst, ◌∙◌, arith}
 use Rattle.std.specs.List.{AllByRecursion, onto_first}
 use Rattle.std.proofs.lemmas.List.{length-append, length_push}
 use Rattle.std.proofs.lemmas.List.Concat.{flat_map-append}
@@ -24,28 +24,40 @@ one_more b n [] s = (omega arith, tt)
 one_more b n (l ∷ ls) s = (omega (arith, s.0), longer n (suc n) ls (omega arith) s.1)
 
 -- a line is no longer than all bytes
-lines_within : (bytes : List ℕ) → AreShort (length bytes) (lines 10 bytes)
-lines_within [] = tt
-lines_within (b ∷ bytes) =
+lines_within : (end : ℕ) (bytes : List ℕ) → AreShort (length bytes) (lines end bytes)
+lines_within end [] = tt
+lines_within end (b ∷ bytes) =
     let n = length bytes in
-    elim (b == 10) as (λ t. AreShort (suc n) (cond t ([] ∷ lines 10 bytes) (onto_first b (lines 10 bytes)))) [
-      | true ↦ (omega arith, longer n (suc n) (lines 10 bytes) (omega arith) (lines_within bytes))
-      | false ↦ one_more b n (lines 10 bytes) (lines_within bytes)
+    elim (b == end) as (λ t. AreShort (suc n) (cond t ([] ∷ lines end bytes) (onto_first b (lines end bytes)))) [
+      | true ↦ (omega arith, longer n (suc n) (lines end bytes) (omega arith) (lines_within end bytes))
+      | false ↦ one_more b n (lines end bytes) (lines_within end bytes)
     ]
 
-pub lines_short : (bytes : List ℕ) → length bytes ≤ 100 → AllByRecursion (λ l. length l ≤ 2 ^ 30) (lines 10 bytes)
-lines_short bytes h = longer (length bytes) (2 ^ 30) (lines 10 bytes) (omega (arith, h)) (lines_within bytes)
+pub lines_short : (end : ℕ) (bytes : List ℕ) → length bytes ≤ 100
+    → AllByRecursion (λ l. length l ≤ 2 ^ 30) (lines end bytes)
+lines_short end bytes h = longer (length bytes) (2 ^ 30) (lines end bytes) (omega (arith, h)) (lines_within end bytes)
 
 -- the block of a line: x, a letter and a newline
 abbrev pub line_block : ℕ → ℕ → BlockData
 line_block number letter = record { file = 0; number = number; bytes = 120 ∷ letter ∷ 10 ∷ [] }
 
 -- it may be announced
-pub may_announce : {A : Type 0} (s : Sequencer A) (n letter : ℕ) (r : IsReading s n) → n < 100 → MayFollow (terminator r.past.query) (plan r.past) (Announces (line_block n letter))
-may_announce s n letter r few = (
-  record { running = r.running; file = omega (arith, r.one); number = sym r.number; some = λ e. absurd (omega (arith, ap length e)); seam = r.seam },
-  record { short = lines_short (120 ∷ letter ∷ 10 ∷ []) (omega arith); small = omega (arith, r.size) },
-)
+pub may_announce : {A : Type 0} (s : Sequencer A) (n letter : ℕ) (r : IsReading s n) → n < 100
+    → MayFollow (terminator r.past.query) (plan r.past) (Announces (line_block n letter))
+may_announce s n letter r few =
+    let P : ℕ → Type 0 = λ end. AllByRecursion (λ b. EndsWith end b.bytes) (last_blocks (plan r.past)) in (
+      record {
+        running = r.running;
+        file = omega (arith, r.one);
+        number = sym r.number;
+        some = λ e. absurd (omega (arith, ap length e));
+        seam = subst P (sym r.ends) r.seam;
+      },
+      record {
+        short = lines_short (terminator r.past.query) (120 ∷ letter ∷ 10 ∷ []) (omega arith);
+        small = omega (arith, r.size);
+      },
+    )
 
 all_push : (bs : List BlockData) (b : BlockData) → AllByRecursion (λ x. EndsWith 10 x.bytes) bs → EndsWith 10 b.bytes → AllByRecursion (λ x. EndsWith 10 x.bytes) (bs ++ b ∷ [])
 all_push [] b h e = (e, tt)
@@ -61,6 +73,7 @@ announced s s' n letter r h =
       stands = h;
       running = r.running;
       one = r.one;
+      ends = r.ends;
       number = length_push blocks b ∙ ap (λ k. k + 1) r.number;
       seam = all_push blocks b r.seam (120 ∷ letter ∷ [], refl);
       size = ap length (flat_map-append (λ (x : BlockData). x.bytes) blocks (b ∷ [])) ∙ (length-append (joined blocks) (120 ∷ letter ∷ 10 ∷ []) ∙ omega (arith, r.size));

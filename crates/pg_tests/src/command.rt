@@ -4,7 +4,7 @@ ghost use Rattle.std.specs.Prelude.{◌≤◌};
 use pg_command::{Fault, command, report};
 use pg_run::{Ending, MemStore};
 use pg_seq::MemSink;
-use pg_words::read_words;
+use pg_words::{Words, read_words};
 use std::alloc::{AllocError, Global};
 use std::process::Abort;
 use std::test::Fail;
@@ -115,13 +115,25 @@ const BLOCK_SIZES: &str = "\
 16777216 --block 16777216 -F b -
 65536 -F b -";
 
-/// The size of blocks that words give in a search for `b` in standard input.
+/// The size of blocks that words give in a search for one text in standard input.
+fn block_asked(alloc: Global, words: &Words<'_>) -> Option<u32> {
+    match read_words(alloc, words) {
+        Ok(request) => {
+            if request.texts.len() == 1 && request.file == "-" {
+                Some(request.block)
+            } else {
+                None
+            }
+        }
+        Err(_fault) => None,
+    }
+}
+
+/// The same for the words of a text.
 fn block_of(alloc: Global, text: &str) -> Result<Option<u32>, AllocError> {
     let words = words_of(alloc, text)?;
-    match read_words(alloc, words.as_slice()) {
-        Ok(request) if request.text == "b" && request.file == "-" => Ok(Some(request.block)),
-        _ => Ok(None),
-    }
+    let cut = Words::new(alloc, words.as_slice())?;
+    Ok(block_asked(alloc, &cut))
 }
 
 #[test]
@@ -145,6 +157,22 @@ fn reading_fails_in_mid_stream(rt: HostRuntime) -> Result<(), Fail> {
         let (text, told) = row.split_once('=').unwrap_or(("", ""));
         let found = run(rt.alloc(), text, Ending::Fails, UNLIMITED)?;
         assert_outcome(&rt, &found, 2, OUTPUT, told);
+    }
+    Ok(())
+}
+
+/// Command lines that take patterns from a file whose reading fails, and what is told.
+const BROKEN_PATTERNS: &str = "\
+-F -f broken -=pargrep: broken: read failed\n|\
+-f - broken=pargrep: (standard input): read failed\n|\
+-e ( -E -f broken -=pargrep: broken: read failed\n";
+
+#[test]
+fn reading_patterns_fails(rt: HostRuntime) -> Result<(), Fail> {
+    for row in BROKEN_PATTERNS.split('|') {
+        let (text, told) = row.split_once('=').unwrap_or(("", ""));
+        let found = run(rt.alloc(), text, Ending::Fails, UNLIMITED)?;
+        assert_outcome(&rt, &found, 2, b"", told);
     }
     Ok(())
 }

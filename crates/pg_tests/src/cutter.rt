@@ -1,6 +1,6 @@
 //! Memory that is refused while a file is cut and searched.
 use crate::fixtures::{query_of, search, text_of};
-use pg_lines::{CutFault, Cutter, Query, QueryFault};
+use pg_lines::{Block, CutFault, Cutter, Kind, Query, QueryFault};
 use refusing::Refusing;
 use std::alloc::Allocator;
 use std::process::Abort;
@@ -20,28 +20,30 @@ fn feed_at_last<A: Allocator + Copy>(rt: &impl Abort, cutter: &mut Cutter<A>, pi
     }
 }
 
+/// A block is there, has a number and bytes, and is of file 3.
+fn assert_block<A: Allocator>(rt: &impl Abort, block: Option<Block<A>>, number: u64, bytes: &[u8]) {
+    let block = block.expect(rt, "a block");
+    assert_eq!(rt; block.file, 3);
+    assert_eq!(rt; block.number, number);
+    assert_eq!(rt; block.bytes.as_slice(), bytes);
+}
+
 /// The cutter has the blocks of the file, which was fed to it.
 fn assert_blocks<A: Allocator + Copy>(rt: &impl Abort, cutter: Cutter<A>) {
     let mut cutter = cutter;
     for (number, bytes) in BLOCKS.iter().enumerate() {
-        let block = cutter.take().expect(rt, "a block");
-        assert_eq!(rt; block.file, 3);
-        assert_eq!(rt; block.number, number as u64);
-        assert_eq!(rt; block.bytes.as_slice(), *bytes);
+        assert_block(rt, cutter.take(), number as u64, bytes);
     }
     let none = cutter.take();
     assert!(rt; none.is_none());
-    let last = cutter.finish().expect(rt, "a last block");
-    assert_eq!(rt; last.file, 3);
-    assert_eq!(rt; last.number, 4);
-    assert_eq!(rt; last.bytes.as_slice(), b"h".as_slice());
+    assert_block(rt, cutter.finish(), 4, b"h");
 }
 
 #[test]
 fn refused_feed_changes_nothing(rt: HostRuntime) {
     for passes in 0..100u64 {
         let heap = Refusing::new(rt.alloc(), passes);
-        let mut cutter = Cutter::new(&heap, 3, 2, 100);
+        let mut cutter = Cutter::new(&heap, 3, 2, 100, b'\n');
         let fed = cutter.feed(FILE);
         if !heap.has_refused() {
             assert_eq!(rt; fed, Ok(()));
@@ -63,7 +65,7 @@ fn refused_feed_of_a_piece_changes_nothing(rt: HostRuntime) {
         let mut is_refused = true;
         for passes in 0..100u64 {
             let heap = Refusing::new(rt.alloc(), passes);
-            let mut cutter = Cutter::new(&heap, 3, 2, 100);
+            let mut cutter = Cutter::new(&heap, 3, 2, 100, b'\n');
             feed_at_last(&rt, &mut cutter, piece);
             feed_at_last(&rt, &mut cutter, later);
             assert_blocks(&rt, cutter);
@@ -82,7 +84,9 @@ fn refused_compilation(rt: HostRuntime) -> Result<(), Fail> {
     let mut refused: u64 = 0;
     for passes in 0..100u64 {
         let heap = Refusing::new(rt.alloc(), passes);
-        let (Ok(text), Ok(same)) = (text_of(&heap, b"ab"), text_of(&heap, b"ab")) else {
+        let text = text_of(&heap, Kind::Extended, b"ab|c");
+        let same = text_of(&heap, Kind::Extended, b"ab|c");
+        let (Ok(text), Ok(same)) = (text, same) else {
             continue;
         };
         let compiled = Query::compile(&heap, text);

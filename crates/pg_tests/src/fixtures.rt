@@ -1,44 +1,42 @@
 //! What the tests search for, and where.
 ghost use Rattle.std.specs.Prelude.{◌≡◌, ◌≤◌, IfOk, false, length};
 ghost use Rattle.std.specs.Arc.{arc_value};
-ghost use Rattle.pg_lines.specs.Lines.{IsLine};
-ghost use Rattle.pg_lines.specs.Search.{IsPlain};
 
-use pg_lines::{Block, BlockResult, Kind, PatternList, Query, QueryText, search_block};
+use pg_lines::{Block, BlockResult, Kind, PatternList, Query, QueryText, Scratch, search_block};
 use std::alloc::{AllocError, Allocator};
 use std::sync::Arc;
 
-/// What a query for one fixed string is compiled from.
+/// What a query is compiled from that has one text and no option.
 pub(crate) fn text_of<A: Allocator + Copy>(
     alloc: A,
+    kind: Kind,
     pattern: &[u8],
 ) -> Result<QueryText<A>, AllocError>
-    requires line { IsLine 10 pattern.now }
-    requires short { length pattern.now ≤ 4096 }
-    ensures plain { IfOk result (λ text. IsPlain text) }
+    ensures { IfOk result (λ text. (text.pieces ≡ false) × (text.zero ≡ false)) }
 {
     let mut lists = Vec::new(alloc);
     lists.push(PatternList::Text(Vec::from_slice(alloc, pattern)?))?;
     Ok(QueryText {
-        kind: Kind::Fixed,
+        kind,
         lists,
         fold: false,
         whole: false,
+        word: false,
         invert: false,
         pieces: false,
+        zero: false,
     })
 }
 
-/// A query for one fixed string.
+/// A query for one fixed string. No memory is there for one whose text is no pattern.
 pub(crate) fn query_of<A: Allocator + Copy>(
     alloc: A,
     pattern: &[u8],
 ) -> Result<Arc<Query<A>, A>, AllocError>
-    requires line { IsLine 10 pattern.now }
-    requires short { length pattern.now ≤ 4096 }
-    ensures pieces { IfOk result (λ query. (arc_value query).pieces ≡ false) }
+    ensures { IfOk result
+        (λ query. ((arc_value query).text.pieces ≡ false) × ((arc_value query).text.zero ≡ false)) }
 {
-    match Query::compile(alloc, text_of(alloc, pattern)?) {
+    match Query::compile(alloc, text_of(alloc, Kind::Fixed, pattern)?) {
         Ok(query) => {
             let query = Arc::new(alloc, query)?;
             Ok(query)
@@ -47,7 +45,7 @@ pub(crate) fn query_of<A: Allocator + Copy>(
     }
 }
 
-/// What a search finds in a block of file 0.
+/// What a search finds in a block of file 0, of at most 100 bytes.
 pub(crate) fn search<A: Allocator + Copy>(
     alloc: A,
     query: &Arc<Query<A>, A>,
@@ -62,5 +60,7 @@ pub(crate) fn search<A: Allocator + Copy>(
         bytes: Vec::from_slice(alloc, bytes)?,
     };
     let block = Arc::new(alloc, block)?;
-    search_block(alloc, query, block)
+    let searched: &Query<A> = query;
+    let mut scratch = Scratch::new(alloc, searched.machine())?;
+    search_block(alloc, query, &mut scratch, block)
 }

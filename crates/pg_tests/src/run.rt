@@ -1,13 +1,15 @@
 //! The run of one file, over sinks that fail and memory that is refused.
-ghost use Rattle.std.specs.Prelude.{◌≡◌, ◌≤◌, [], IfOk, length};
-ghost use Rattle.pg_lines.specs.Lines.{IsLine};
+ghost use Rattle.std.specs.Prelude.{◌≡◌, ◌≤◌, [], IfOk, false, length};
+ghost use Rattle.std.specs.Arc.{arc_value};
 
 use crate::fixtures::query_of;
+use pg_lines::Query;
 use pg_run::{Ending, MemStore, ReadFault, RunFault, Store, first_run};
 use pg_seq::MemSink;
 use refusing::Refusing;
 use std::alloc::{AllocError, Allocator, Global};
 use std::process::Abort;
+use std::sync::Arc;
 use std::test::Fail;
 
 const FILE: &[u8] = b"abc\nxyz\nb";
@@ -40,10 +42,7 @@ fn assert_run(
     file: &[u8],
     output: &[u8],
     status: u8,
-) -> Result<(), AllocError>
-    requires line { IsLine 10 pattern.now }
-    requires short { length pattern.now ≤ 4096 }
-{
+) -> Result<(), AllocError> {
     let query = query_of(alloc, pattern)?;
     for block in 1..=64u32 {
         for read_limit in [1, 2, 5, 100] {
@@ -79,25 +78,39 @@ fn any_byte_is_searched_for(rt: HostRuntime) -> Result<(), Fail> {
     Ok(())
 }
 
+/// A run over a sink that takes `limits.0` bytes in all, and `limits.1` in a write, ends so, and has written as many
+/// bytes of the output as the sink takes.
+fn assert_writes(
+    rt: &impl Abort,
+    alloc: Global,
+    query: &Arc<Query>,
+    block: u32,
+    limits: (usize, usize),
+    answer: Result<Result<u8, ReadFault>, RunFault>,
+) -> Result<(), AllocError>
+    requires query { (arc_value query.now).text.pieces ≡ false }
+    requires block { (1 ≤ block) × (block ≤ 10) }
+    requires limit { limits.0 ≤ 6 }
+{
+    let mut store = open_file(alloc, FILE, Ending::Ends, 100)?;
+    let mut sink = MemSink::new(alloc, limits.0)?;
+    sink.set_write_limit(limits.1);
+    let ended = first_run(alloc, query, &mut store, block, &mut sink);
+    assert_eq!(rt; ended, answer);
+    assert_eq!(rt; sink.bytes(), &OUTPUT[..limits.0]);
+    Ok(())
+}
+
 #[test]
 fn each_write_may_fail(rt: HostRuntime) -> Result<(), Fail> {
     let query = query_of(rt.alloc(), b"b")?;
     for block in 1..=10u32 {
         for limit in 0..OUTPUT.len() {
-            let mut store = open_file(rt.alloc(), FILE, Ending::Ends, 100)?;
-            let mut sink = MemSink::new(rt.alloc(), limit)?;
-            let ended = first_run(rt.alloc(), &query, &mut store, block, &mut sink);
-            assert_eq!(rt; ended, Err(RunFault::Sink), "at {limit}");
-            assert_eq!(rt; sink.bytes(), &OUTPUT[..limit]);
+            let limits = (limit, usize::MAX);
+            assert_writes(&rt, rt.alloc(), &query, block, limits, Err(RunFault::Sink))?;
         }
-        let mut store = open_file(rt.alloc(), FILE, Ending::Ends, 100)?;
-        let mut sink = MemSink::new(rt.alloc(), OUTPUT.len())?;
-        sink.set_write_limit(1);
-        assert_eq!(rt;
-            first_run(rt.alloc(), &query, &mut store, block, &mut sink),
-            Ok(Ok(0))
-        );
-        assert_eq!(rt; sink.bytes(), OUTPUT);
+        let limits = (OUTPUT.len(), 1);
+        assert_writes(&rt, rt.alloc(), &query, block, limits, Ok(Ok(0)))?;
     }
     Ok(())
 }
@@ -124,6 +137,29 @@ fn each_read_may_fail(rt: HostRuntime) -> Result<(), Fail> {
     Ok(())
 }
 
+/// A run whose memory refuses a request has written a beginning of the output, and one whose memory refuses none has
+/// written all of it. The answer is how much was written.
+fn assert_refused<'a>(
+    rt: &impl Abort,
+    alloc: Global,
+    heap: &'a Refusing,
+    query: &Arc<Query<&'a Refusing>, &'a Refusing>,
+) -> Result<usize, AllocError>
+    requires { (arc_value query.now).text.pieces ≡ false }
+{
+    let mut store = open_file(alloc, FILE, Ending::Ends, 3)?;
+    let mut sink = MemSink::new(alloc, 100)?;
+    let ended = first_run(heap, query, &mut store, 1, &mut sink);
+    if heap.has_refused() {
+        assert_eq!(rt; ended, Err(RunFault::OutOfMemory));
+        assert!(rt; OUTPUT.starts_with(sink.bytes()));
+    } else {
+        assert_eq!(rt; ended, Ok(Ok(0)));
+        assert_eq!(rt; sink.bytes(), OUTPUT);
+    }
+    Ok(sink.bytes().len())
+}
+
 #[test]
 fn each_request_may_be_refused(rt: HostRuntime) -> Result<(), Fail> {
     let mut longest = 0;
@@ -132,12 +168,8 @@ fn each_request_may_be_refused(rt: HostRuntime) -> Result<(), Fail> {
         let Ok(query) = query_of(&heap, b"b") else {
             continue;
         };
-        let mut store = open_file(rt.alloc(), FILE, Ending::Ends, 3)?;
-        let mut sink = MemSink::new(rt.alloc(), 100)?;
-        let ended = first_run(&heap, &query, &mut store, 1, &mut sink);
+        let written = assert_refused(&rt, rt.alloc(), &heap, &query)?;
         if !heap.has_refused() {
-            assert_eq!(rt; ended, Ok(Ok(0)));
-            assert_eq!(rt; sink.bytes(), OUTPUT);
             assert_eq!(rt;
                 longest,
                 4,
@@ -145,9 +177,7 @@ fn each_request_may_be_refused(rt: HostRuntime) -> Result<(), Fail> {
             );
             return Ok(());
         }
-        assert_eq!(rt; ended, Err(RunFault::OutOfMemory), "at {passes}");
-        assert!(rt; OUTPUT.starts_with(sink.bytes()), "at {passes}");
-        longest = sink.bytes().len();
+        longest = written;
     }
     panic!(rt; "more than 1000 requests")
 }

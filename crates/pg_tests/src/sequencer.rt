@@ -30,9 +30,12 @@ fn open_file<A: Allocator + Copy>(
     alloc: A,
     query: &Arc<Query<A>, A>,
 ) -> Result<Sequencer<A>, AllocError>
-    requires { (arc_value query.now).pieces ≡ false }
+    requires pieces { (arc_value query.now).text.pieces ≡ false }
+    requires zero { (arc_value query.now).text.zero ≡ false }
     ensures { IfOk result (λ sequencer. IsReading sequencer 0) }
 {
+    let searched: &Query<A> = query;
+    let _compiled = searched.text();
     let mut sequencer = Sequencer::new(alloc, Arc::try_clone(query)?, PLAIN)?;
     sequencer.open(b"f")?;
     Ok(sequencer)
@@ -72,7 +75,8 @@ fn plan_lines<A: Allocator + Copy>(
     alloc: A,
     query: &Arc<Query<A>, A>,
 ) -> Result<(Sequencer<A>, bool), AllocError>
-    requires { (arc_value query.now).pieces ≡ false }
+    requires pieces { (arc_value query.now).text.pieces ≡ false }
+    requires zero { (arc_value query.now).text.zero ≡ false }
 {
     let mut sequencer = open_file(alloc, query)?;
     let first = announce_line(alloc, &mut sequencer, 0, b'a')?;
@@ -173,6 +177,33 @@ fn open_file_is_not_complete(rt: HostRuntime) -> Result<(), Fail> {
     Ok(())
 }
 
+/// A sequencer that got the results of all three blocks, and whether an announcement was refused and made again.
+fn finish_plan<A: Allocator + Copy>(
+    rt: &impl Abort,
+    alloc: A,
+) -> Result<(Sequencer<A>, bool), AllocError> {
+    let query = query_of(alloc, b"x")?;
+    let (mut sequencer, again) = plan_lines(alloc, &query)?;
+    arrive_all(rt, alloc, &query, &mut sequencer)?;
+    Ok((sequencer, again))
+}
+
+/// A drain has this answer.
+fn assert_drain<A: Allocator + Copy>(
+    rt: &impl Abort,
+    sequencer: &mut Sequencer<A>,
+    sink: &mut MemSink<A>,
+    answer: Result<(), SinkFault>,
+) {
+    assert_eq!(rt; sequencer.drain(sink), answer);
+}
+
+/// The sink has so many bytes of the output.
+fn assert_written<A: Allocator + Copy>(rt: &impl Abort, sink: &MemSink<A>, written: usize) {
+    assert_eq!(rt; sink.bytes().len(), written);
+    assert!(rt; OUTPUT.starts_with(sink.bytes()));
+}
+
 /// A drain into a sink that takes `limits.0` bytes in all, and `limits.1` in a write, has the first
 /// answer, and later drains have the second. `written` bytes of the output are written.
 fn assert_drains<A: Allocator + Copy>(
@@ -182,18 +213,15 @@ fn assert_drains<A: Allocator + Copy>(
     answers: (Result<(), SinkFault>, Result<(), SinkFault>),
     written: usize,
 ) -> Result<(), AllocError> {
-    let query = query_of(alloc, b"x")?;
-    let (mut sequencer, _) = plan_lines(alloc, &query)?;
-    arrive_all(rt, alloc, &query, &mut sequencer)?;
+    let (mut sequencer, _) = finish_plan(rt, alloc)?;
     let mut sink = MemSink::new(alloc, limits.0)?;
-    sink.set_write_limit(limits.1);
     let mut later = MemSink::new(alloc, 100)?;
-    assert_eq!(rt; sequencer.drain(&mut sink), answers.0);
-    assert_eq!(rt; sequencer.drain(&mut sink), answers.1);
-    assert_eq!(rt; sequencer.drain(&mut later), answers.1);
-    assert_eq!(rt; sink.bytes().len(), written);
-    assert!(rt; OUTPUT.starts_with(sink.bytes()));
-    assert!(rt; later.bytes().is_empty());
+    sink.set_write_limit(limits.1);
+    assert_drain(rt, &mut sequencer, &mut sink, answers.0);
+    assert_drain(rt, &mut sequencer, &mut sink, answers.1);
+    assert_drain(rt, &mut sequencer, &mut later, answers.1);
+    assert_written(rt, &sink, written);
+    assert_written(rt, &later, 0);
     Ok(())
 }
 
@@ -216,10 +244,8 @@ fn write_lines<A: Allocator + Copy>(
     alloc: A,
     sink: &mut MemSink<A>,
 ) -> Result<bool, AllocError> {
-    let query = query_of(alloc, b"x")?;
-    let (mut sequencer, again) = plan_lines(alloc, &query)?;
-    arrive_all(rt, alloc, &query, &mut sequencer)?;
-    assert_eq!(rt; sequencer.drain(sink), Ok(()));
+    let (mut sequencer, again) = finish_plan(rt, alloc)?;
+    assert_drain(rt, &mut sequencer, sink, Ok(()));
     assert_eq!(rt; sequencer.status(), Some(0));
     Ok(again)
 }

@@ -1,8 +1,11 @@
 //! Sinks over memory and over writers that fail.
+ghost use Rattle.std.specs.Prelude.{◌≤◌};
+
 use pg_seq::{History, MemSink, Out, Sink, WriteError, write_all};
-use std::alloc::Global;
+use std::alloc::{AllocError, Global};
 use std::io::{self, ErrorKind, Write};
 use std::mem::size_of;
+use std::process::Abort;
 use std::test::Fail;
 
 const TEXT: &[u8] = b"alpha\nbeta\n";
@@ -16,19 +19,38 @@ fn a_history_has_no_bytes(rt: HostRuntime) {
     history.extend(&[2, 3]);
 }
 
+/// The sink has the first bytes of the text, as many as it takes, and takes no more.
+fn assert_full(rt: &impl Abort, sink: &mut MemSink, limit: usize)
+    requires { limit ≤ 11 }
+{
+    assert_eq!(rt; sink.bytes(), &TEXT[..limit], "at {limit}");
+    assert_eq!(rt; sink.write(b"x"), Err(WriteError), "at {limit}");
+    assert_eq!(rt; sink.write(b""), Ok(0), "at {limit}");
+    assert_eq!(rt; sink.bytes(), &TEXT[..limit], "at {limit}");
+}
+
+/// A sink that takes `limit` bytes in all takes these of the text.
+fn assert_takes(
+    rt: &impl Abort,
+    alloc: Global,
+    limit: usize,
+    write_limit: usize,
+) -> Result<(), AllocError>
+    requires { limit ≤ 11 }
+{
+    let mut sink = MemSink::new(alloc, limit)?;
+    sink.set_write_limit(write_limit);
+    let written = write_all(&mut sink, TEXT);
+    assert_eq!(rt; written.is_ok(), limit == TEXT.len(), "at {limit}");
+    assert_full(rt, &mut sink, limit);
+    Ok(())
+}
+
 #[test]
 fn memory_fails_at_each_byte(rt: HostRuntime) -> Result<(), Fail> {
-    let alloc = rt.alloc();
     for limit in 0..=TEXT.len() {
         for write_limit in [usize::MAX, 2, 1] {
-            let mut sink = MemSink::new(alloc, limit)?;
-            sink.set_write_limit(write_limit);
-            let written = write_all(&mut sink, TEXT);
-            assert_eq!(rt; written.is_ok(), limit == TEXT.len(), "at {limit}");
-            assert_eq!(rt; sink.bytes(), &TEXT[..limit], "at {limit}");
-            assert_eq!(rt; sink.write(b"x"), Err(WriteError), "at {limit}");
-            assert_eq!(rt; sink.write(b""), Ok(0), "at {limit}");
-            assert_eq!(rt; sink.bytes(), &TEXT[..limit], "at {limit}");
+            assert_takes(&rt, rt.alloc(), limit, write_limit)?;
         }
     }
     Ok(())

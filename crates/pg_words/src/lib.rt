@@ -1,8 +1,16 @@
 //! The words of the command line, read with `clap`.
+//!
+//! [`Words`] cuts the words so that each value stands alone, [`read_words`] reads them, and a
+//! [`Request`] is what they ask for.
 #![tactic(auto)]
 
+mod operands;
 mod request;
+mod split;
+mod usage;
 mod words;
 
 pub use request::Request;
+pub use split::Words;
+pub use usage::{UsageFault, check_usage};
 pub use words::{WordsFault, read_words};

@@ -9,8 +9,8 @@ invariant-loop-len g l = record {
   few : length l.blocks.items ≤ l.at;
   number : l.number ≡ l.first + length l.blocks.items;
   whole : l.bytes ≡ joined l.blocks.items ++ drop l.at l.bytes;
-  finished : AllByRecursion (λ b. IsFinished 10 l.size b.bytes) l.blocks.items;
-  numbered : AreNumbered l.file l.first l.blocks.items;
+  finished : AllByRecursion (λ b. IsFinished l.cutting.end l.cutting.size b.bytes) l.blocks.items;
+  numbered : AreNumbered l.cutting.file l.first l.blocks.items;
 }
 
 abbrev pub decreases-loop-len : goal.decreases-loop-len

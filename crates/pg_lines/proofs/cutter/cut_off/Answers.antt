@@ -8,18 +8,29 @@ use Rattle.pg_lines.proofs.cutter.cut_off.Goals as goal
 pub returns-clause-ok : goal.returns-clause-ok
 returns-clause-ok g c =
     let items : Vec ℕ g.row.A.Denot → List ℕ = λ v. v.items in
+    let k = c.args.cutting in
+    let number = c.args.number in
     let piece = c.args.piece.now in
     let rest = c.args.rest.now.items in
     let ready = c.args.ready.now.items in
     let blocks = c.in_ok-blocks.blocks.items in
     let at = c.in_ok-blocks.at in
-    let P : List ℕ → Type 0 = λ xs. Cuts 10 c.args.size xs blocks (drop at xs) in
-    let cuts = subst P (take_rest piece c.args.end) c.in_ok-blocks.ensures.cut in
+    let P : List ℕ → Type 0 = λ xs. Cuts k.end k.size xs blocks (drop at xs) in
+    let cuts = subst P (take_rest piece c.args.len) c.in_ok-blocks.ensures.cut in
     let first = ap items c.replace.ensures.value ∙ c.in_ok-extend_from_slice.ensures.items in
-    let left = ap items c.replace.ensures.after ∙ (c.in_ok-left.ensures ∙ take_rest piece (c.args.end + at)) in
-    let pushed = c.push_back_reserved.ensures.items ∙ ap (λ (bs : List BlockData). bs ++ record { file = c.args.file; number = c.args.number; bytes = c.replace.result.items } ∷ []) c.in_ok-reserve.ensures.items in
-    let appended = c.append.ensures.items ∙ (ap (λ r. cond (is_ok r) (c.push_back_reserved.new.self.items ++ blocks) c.push_back_reserved.new.self.items) c.unwrap.ensures ∙ ap (λ (bs : List BlockData). bs ++ blocks) pushed) in
+    let left = ap items c.replace.ensures.after ∙ (c.in_ok-left.ensures ∙ take_rest piece (c.args.len + at)) in
+    let b : BlockData = record { file = k.file; number = number; bytes = c.replace.result.items } in
+    let pushed =
+    c.push_back_reserved.ensures.items ∙ ap (λ (bs : List BlockData). bs ++ b ∷ []) c.in_ok-reserve.ensures.items in
+    let with_first = c.push_back_reserved.new.self.items in
+    let appended =
+    c.append.ensures.items
+    ∙ (ap (λ r. cond (is_ok r) (with_first ++ blocks) with_first) c.unwrap.ensures
+    ∙ ap (λ (bs : List BlockData). bs ++ blocks) pushed) in
+    let ready' = c.append.new.self.items in
+    let rest' = c.replace.new.dest.items in
     let count : c.len.result ≡ length blocks = c.len.ensures ∙ c.in_ok-blocks.blocks.ok.0 in
-    let N : ℕ → Type 0 = λ n. CutsOff 10 c.args.size c.args.file c.args.number (rest ++ piece) ready c.append.new.self.items c.replace.new.dest.items (n + 1) in
-    subst N (sym count) (cuts_first c.args.size c.args.file c.args.number c.args.end at rest piece c.replace.result.items c.replace.new.dest.items blocks ready c.append.new.self.items
+    let N : ℕ → Type 0 = λ n. CutsOff k.end k.size k.file number (rest ++ piece) ready ready' rest' (n + 1) in
+    subst N (sym count)
+    (cuts_first k.end k.size k.file number c.args.len at rest piece b.bytes rest' blocks ready ready'
     c.requires.finished cuts c.in_ok-blocks.ensures.numbered first left appended)

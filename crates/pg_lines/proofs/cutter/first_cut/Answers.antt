@@ -6,18 +6,24 @@ use Rattle.pg_lines.proofs.cutter.first_cut.Goals as goal
 
 pub returns-then-piece-from-clause-none : goal.returns-then-piece-from-clause-none
 returns-then-piece-from-clause-none c =
-    unfinished_after 10 c.args.size c.args.rest.now c.args.piece.now c.requires.size c.requires.unfinished (λ j low high e. absurd (omega arith))
+    unfinished_after c.args.end c.args.size c.args.rest.now c.args.piece.now c.requires.size c.requires.unfinished
+    (λ j low high e. absurd (omega arith))
 
 pub returns-in-Some-clause-some : goal.returns-in-Some-clause-some
 returns-in-Some-clause-some c =
     let from = c.saturating_sub-from.result in
-    let P : List ℕ → Type 0 = λ ys. IsFirstByte (is_byte 10) ys (Some c.in-Some.len) in
-    let found = searched_some 10 from c.args.piece.now c.in-Some.len (subst P (take_rest c.args.piece.now from) c.in-Some.ensures) in
-    finished_after 10 c.args.size c.args.rest.now c.args.piece.now _ c.requires.size c.requires.unfinished (omega arith) found.0 found.1 (λ i low high. found.2 i (omega arith) high)
+    let P : List ℕ → Type 0 = λ ys. IsFirstByte (is_byte c.args.end) ys (Some c.in-Some.len) in
+    let found =
+    searched_some c.args.end from c.args.piece.now c.in-Some.len
+    (subst P (take_rest c.args.piece.now from) c.in-Some.ensures) in
+    finished_after c.args.end c.args.size c.args.rest.now c.args.piece.now _ c.requires.size c.requires.unfinished
+    (omega arith) found.0 found.1 (λ i low high. found.2 i (omega arith) high)
 
 pub returns-in-None-clause-none : goal.returns-in-None-clause-none
 returns-in-None-clause-none c =
     let from = c.saturating_sub-from.result in
-    let P : List ℕ → Type 0 = λ ys. IsFirstByte (is_byte 10) ys None in
-    let none = searched_none 10 from c.args.piece.now (subst P (take_rest c.args.piece.now from) c.in-None.ensures) in
-    unfinished_after 10 c.args.size c.args.rest.now c.args.piece.now c.requires.size c.requires.unfinished (λ j low high. none j (omega arith) high)
+    let P : List ℕ → Type 0 = λ ys. IsFirstByte (is_byte c.args.end) ys None in
+    let none =
+    searched_none c.args.end from c.args.piece.now (subst P (take_rest c.args.piece.now from) c.in-None.ensures) in
+    unfinished_after c.args.end c.args.size c.args.rest.now c.args.piece.now c.requires.size c.requires.unfinished
+    (λ j low high. none j (omega arith) high)

@@ -7,8 +7,10 @@ chosen b n m e same = ap Some same ∙ sym (ap (λ t. cond t None (Some m)) e)
 
 pub returns-in-Some-clause-value : goal.returns-in-Some-clause-value
 returns-in-Some-clause-value c =
-    chosen _ _ _ (short_piece 10 c.args.longest c.args.line c.args.piece.now (omega arith)) (sym (open_behind 10 c.args.line c.args.piece.now c.in-Some.newline c.in-Some.ensures))
+    chosen _ _ _ (short_piece c.args.end c.args.longest c.args.line c.args.piece.now (omega arith))
+    (sym (open_behind c.args.end c.args.line c.args.piece.now c.in-Some.last c.in-Some.ensures))
 
 pub returns-in-None-clause-value : goal.returns-in-None-clause-value
 returns-in-None-clause-value c =
-    chosen _ _ _ (short_piece 10 c.args.longest c.args.line c.args.piece.now (omega arith)) (sym (open_alone 10 c.args.line c.args.piece.now c.in-None.ensures))
+    chosen _ _ _ (short_piece c.args.end c.args.longest c.args.line c.args.piece.now (omega arith))
+    (sym (open_alone c.args.end c.args.line c.args.piece.now c.in-None.ensures))

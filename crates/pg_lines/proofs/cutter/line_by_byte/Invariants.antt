@@ -5,6 +5,6 @@ use Rattle.pg_lines.proofs.cutter.line_by_byte.Given as goal
 abbrev pub invariant-loop-byte : goal.invariant-loop-byte
 invariant-loop-byte l = record {
   fits : l.line ≤ l.longest;
-  long : has_long 10 l.longest l.line (drop l.byte-index l.piece) ≡ has_long 10 l.longest l.fn.line l.piece;
-  open_now : open_from 10 l.line (drop l.byte-index l.piece) ≡ open_from 10 l.fn.line l.piece;
+  long : has_long l.end l.longest l.line (drop l.byte-index l.piece) ≡ has_long l.end l.longest l.fn.line l.piece;
+  open_now : open_from l.end l.line (drop l.byte-index l.piece) ≡ open_from l.end l.fn.line l.piece;
 }

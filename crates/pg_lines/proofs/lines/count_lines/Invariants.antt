@@ -7,7 +7,7 @@ abbrev pub invariant-loop-start : goal.invariant-loop-start
 invariant-loop-start l = record {
   within : l.start ≤ length l.bytes + 1;
   few : l.count ≤ l.start;
-  counted : l.count + length (lines 10 (drop l.start l.bytes)) ≡ length (lines 10 l.bytes);
+  counted : l.count + length (lines l.end (drop l.start l.bytes)) ≡ length (lines l.end l.bytes);
 }
 
 abbrev pub decreases-loop-start : goal.decreases-loop-start

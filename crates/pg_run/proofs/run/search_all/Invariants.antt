@@ -6,7 +6,8 @@ use Rattle.pg_run.proofs.run.search_all.Given as goal
 
 abbrev pub invariant-loop-count : goal.invariant-loop-count
 invariant-loop-count g l = record {
-  reads : (aim : Aim) → Reads l.fn.cutter l.fn.searcher aim [] (g.W.Sink.taken l.fn.out) → aim.file ≡ (g.S.Store.past l.fn.store).given
+  reads : (aim : Aim) → Reads l.fn.cutter l.fn.searcher aim [] (g.W.Sink.taken l.fn.out)
+      → aim.file ≡ (g.S.Store.past l.fn.store).given
       → Reads l.cutter l.searcher (aimed aim (g.S.Store.past l.store).given) [] (g.W.Sink.taken l.out);
   drained : IsDrained l.cutter;
   room : 0 < length l.buffer;

@@ -7,20 +7,26 @@ pub search-requires : goal.search-requires
 search-requires g c =
     let aim = c.requires.0 in
     let r = c.requires.1 in
-    let n = last_in_reads c.args.cutter c.args.searcher.now aim [] _ r c.in-Some.block (c.in-Some.ensures r.fed r.stands) in
+    let n = last_in_reads c.args.cutter c.args.searcher.now aim [] _ r c.in-Some.block
+    (c.in-Some.ensures r.fed r.stands) in
     (aim.query, r.fed.taken, (r.holds, n))
 
 pub returns-in-Some-clause-ok : goal.returns-in-Some-clause-ok
 returns-in-Some-clause-ok g c = λ aim r.
     let all = c.in-Some.ensures r.fed r.stands in
     let n = last_in_reads c.args.cutter c.args.searcher.now aim [] _ r c.in-Some.block all in
-    on_ok c.search.result _ _ (λ o. searched_last c.args.cutter c.args.searcher.now _ aim _ _ r c.in-Some.block all o.0 o.1) (c.search.ensures.ok aim.query r.fed.taken (r.holds, n))
+    on_ok c.search.result _ _
+    (λ o. searched_last c.args.cutter c.args.searcher.now _ aim _ _ r c.in-Some.block all o.0 o.1)
+    (c.search.ensures.ok aim.query r.fed.taken (r.holds, n))
 
 pub returns-in-Some-clause-part : goal.returns-in-Some-clause-part
 returns-in-Some-clause-part g c = λ aim r.
     let all = c.in-Some.ensures r.fed r.stands in
     let n = last_in_reads c.args.cutter c.args.searcher.now aim [] _ r c.in-Some.block all in
-    on_err_too c.search.result _ _ (λ part. last_part c.args.cutter c.args.searcher.now aim _ _ r c.in-Some.block all part) (c.search.ensures.part aim.query r.fed.taken (r.holds, n))
+    on_err_too c.search.result _ _
+    (λ part. last_part c.args.cutter c.args.searcher.now aim _ _ r c.in-Some.block all part)
+    (c.search.ensures.part aim.query r.fed.taken (r.holds, n))
 
 pub returns-in-None-clause-ok : goal.returns-in-None-clause-ok
-returns-in-None-clause-ok g c = λ aim r. searched_none c.args.cutter c.args.searcher.now aim _ r (c.in-None.ensures r.fed r.stands)
+returns-in-None-clause-ok g c = λ aim r. searched_none c.args.cutter c.args.searcher.now aim _ r
+    (c.in-None.ensures r.fed r.stands)

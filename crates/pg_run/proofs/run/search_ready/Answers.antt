@@ -20,9 +20,11 @@ pub loop-block-preserved : goal.loop-block-preserved
 loop-block-preserved g c = record {
   reads = λ aim rest h.
       let r = c.loop-block.invariant.reads aim rest h in
-      let n = next_in_reads c.loop-block.cutter c.loop-block.searcher aim rest _ r c.in-Some.block (c.in-Some.ensures.next r.fed r.stands) in
+      let n = next_in_reads c.loop-block.cutter c.loop-block.searcher aim rest _ r c.in-Some.block
+      (c.in-Some.ensures.next r.fed r.stands) in
       let o = c.in_ok-search.ensures.ok aim.query r.fed.taken (r.holds, n) in
-      reads_more c.loop-block.cutter _ c.loop-block.searcher _ aim rest _ _ r c.in-Some.block (c.in-Some.ensures.stands r.fed r.stands) o.0 o.1;
+      reads_more c.loop-block.cutter _ c.loop-block.searcher _ aim rest _ _ r c.in-Some.block
+      (c.in-Some.ensures.stands r.fed r.stands) o.0 o.1;
   no_failure = c.in_ok-search.ensures.no_failure ∙ c.loop-block.invariant.no_failure;
 }
 
@@ -33,9 +35,12 @@ returns-in_err-search-clause-part g c = λ aim rest h.
     let n = next_in_reads c.loop-block.cutter c.loop-block.searcher aim rest _ r c.in-Some.block next in
     let after = g.W.Sink.taken c.search.new.out in
     on_err (TakesPart (output_of aim.query aim.file) aim.before after) c.from_residual.result
-    (next_part c.loop-block.cutter c.loop-block.searcher aim rest (g.W.Sink.taken c.loop-block.out) after r c.in-Some.block next (c.in_err-search.ensures.part aim.query r.fed.taken (r.holds, n)))
+    (next_part c.loop-block.cutter c.loop-block.searcher aim rest
+    (g.W.Sink.taken c.loop-block.out) after r c.in-Some.block next
+    (c.in_err-search.ensures.part aim.query r.fed.taken (r.holds, n)))
 
 pub returns-clause-ok : goal.returns-clause-ok
 returns-clause-ok g c = λ aim rest h.
     let r = c.loop-block.invariant.reads aim rest h in
-    reads_none c.loop-block.cutter c.take.new.self c.loop-block.searcher aim rest _ r (c.in_default.ensures.stands r.fed r.stands)
+    reads_none c.loop-block.cutter c.take.new.self c.loop-block.searcher aim rest _ r
+    (c.in_default.ensures.stands r.fed r.stands)

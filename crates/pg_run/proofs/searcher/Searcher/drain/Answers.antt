@@ -8,7 +8,8 @@ use Rattle.pg_run.proofs.searcher.Searcher.drain.Goals as goal
 pub returns-in_err-drain-clause-part : goal.returns-in_err-drain-clause-part
 returns-in_err-drain-clause-part g c = λ q blocks block h.
     let d = c.in_err-drain.ensures.drained h.past h.stands in
-    on_err (TakesPart (bare_rows q block.bytes) (g.W.Sink.taken c.args.out.now) (g.W.Sink.taken c.drain.new.out)) c.from_residual.result
+    on_err (TakesPart (bare_rows q block.bytes) (g.W.Sink.taken c.args.out.now) (g.W.Sink.taken c.drain.new.out))
+    c.from_residual.result
     (d.0, drain_part c.args.self.now q blocks block h d.0 c.in_err-drain.field-0.0 d.2, d.1)
 
 pub returns-clause-ok : goal.returns-clause-ok

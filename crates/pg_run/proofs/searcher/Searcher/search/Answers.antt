@@ -4,10 +4,12 @@ use Rattle.pg_run.specs.Run.{rows_of}
 use Rattle.pg_run.proofs.searcher.Searcher.search.Goals as goal
 
 pub returns-clause-ok : goal.returns-clause-ok
-returns-clause-ok g c = λ q blocks h. c.drain.ensures.ok q blocks c.args.block (c.in_ok-take.ensures q blocks (rows_of q blocks) h.0 h.1)
+returns-clause-ok g c = λ q blocks h. c.drain.ensures.ok q blocks c.args.block
+    (c.in_ok-take.ensures q blocks (rows_of q blocks) h.0 h.1)
 
 pub returns-clause-part : goal.returns-clause-part
-returns-clause-part g c = λ q blocks h. c.drain.ensures.part q blocks c.args.block (c.in_ok-take.ensures q blocks (rows_of q blocks) h.0 h.1)
+returns-clause-part g c = λ q blocks h. c.drain.ensures.part q blocks c.args.block
+    (c.in_ok-take.ensures q blocks (rows_of q blocks) h.0 h.1)
 
 pub returns-clause-cause : goal.returns-clause-cause
 returns-clause-cause g c = λ e.

@@ -25,5 +25,7 @@ returns g c = λ q blocks text h n.
     let may = subst F (sym b) (may_announce c.args.self.now q blocks text c.args.block h n) in
     let middle = subst M b (c.in_ok-announce.ensures.ok h.past h.stands may) in
     taken_holds c.args.self.now _ q blocks text c.args.block h n c.announce.new.self middle c.in_ok-found.found
-    (c.in_ok-found.ensures ∙ (ap (λ x. record { query = arc_value c.args.self.now.query; block = x }) same ∙ ap (λ x. record { query = x; block = c.args.block }) h.same))
+    (c.in_ok-found.ensures.found
+    ∙ (ap (λ x. record { query = (arc_value c.args.self.now.query).text; block = x }) same
+    ∙ ap (λ x. record { query = x; block = c.args.block }) h.same))
     (c.arrive.ensures.stands (planned h.past (Announces c.args.block)) middle) refl

@@ -1,4 +1,5 @@
-use Rattle.std.proofs.Common.{◌≡◌, ◌∙◌, ◌++◌, ◌||◌, Bool, true, false, ℕ, List, [], ap, sym, subst, refl, arith, append_assoc, length}
+use Rattle.std.proofs.Common.{◌≡◌, ◌∙◌, ◌++◌, ◌||◌, Bool, true, false, ℕ, List, [], ap, sym, subst, refl, arith}
+use Rattle.std.proofs.Common.{append_assoc, length}
 use Rattle.std.specs.Bool.{MatchBool}
 use Rattle.std.proofs.lemmas.Bool.{false≢true}
 use Rattle.std.proofs.lemmas.List.{append-nil}
@@ -6,7 +7,8 @@ use Rattle.pg_seq.specs.History.{handed}
 use Rattle.pg_seq.specs.Sink.{IsBeginning}
 use Rattle.pg_seq.specs.Slots.{slot_rows}
 use Rattle.pg_seq.specs.Standing.{Stands}
-use Rattle.pg_seq.proofs.StandLemmas.{wrote, then_wrote, all_handed, part_handed, handed_stands, idle_stands, failed_stands}
+use Rattle.pg_seq.proofs.StandLemmas.{wrote, then_wrote, first_result, all_handed, part_of, part_handed}
+use Rattle.pg_seq.proofs.StandLemmas.{handed_stands, idle_stands, failed_stands}
 use Rattle.pg_seq.proofs.sequencer.Sequencer.drain.Goals as goal
 
 or_true : (b : Bool) → (b || true) ≡ true
@@ -48,10 +50,12 @@ loop-self-preserved g c =
     record {
       drains = λ past h.
           let d = i.drains past h in
-          let rows = slot_rows o.slot in (
+          let rows = slot_rows past.query o.slot in (
             d.0 ++ rows,
-            o.got ∙ (ap (λ w. w ++ rows) d.1 ∙ append_assoc (g.W.Sink.taken c.args.out.now) d.0 rows),
-            then_wrote _ past d.0 rows past.failed (handed_stands s _ (wrote past d.0) _ _ d.2 (record { query = refl; opened = refl; running = refl; bad = refl }) refl o),
+            o.got past.query d.2.trees (first_result s (wrote past d.0) o.slot _ d.2 o.slots) ∙ (ap (λ w. w ++ rows) d.1 ∙ append_assoc (g.W.Sink.taken c.args.out.now) d.0 rows),
+            then_wrote _ past d.0 rows past.failed
+                (handed_stands s _ (wrote past d.0) _ _ d.2
+                (record { query = refl; opened = refl; running = refl; bad = refl }) refl o),
           );
       alike = record { query = i.alike.query; opened = i.alike.opened; running = i.alike.running; bad = i.alike.bad };
       unfailed = i.unfailed;
@@ -67,14 +71,17 @@ returns-in-Ok-false-clause-drained g c = λ past h.
       d.0,
       o.2 ∙ d.1,
       (h.failed ∙ c.if-self.false, all_handed s (wrote past d.0) d.2 i.unfailed o.0),
-      idle_stands s _ (wrote past d.0) (past.failed || false) d.2 (record { query = refl; opened = refl; running = refl; bad = refl }) o.1 refl (or_false past.failed ∙ d.2.failed),
+      idle_stands s _ (wrote past d.0) (past.failed || false) d.2
+          (record { query = refl; opened = refl; running = refl; bad = refl }) o.1 refl
+          (or_false past.failed ∙ d.2.failed),
     )
 
 pub returns-in-Ok-false-clause-no_failure : goal.returns-in-Ok-false-clause-no_failure
 returns-in-Ok-false-clause-no_failure g c = c.in-Ok-false.ensures.no_failure ∙ c.loop-self.invariant.no_failure
 
 pub returns-in-Ok-false-clause-never_falls : goal.returns-in-Ok-false-clause-never_falls
-returns-in-Ok-false-clause-never_falls g c = omega (arith, c.loop-self.invariant.no_failure, c.in-Ok-false.ensures.never_falls)
+returns-in-Ok-false-clause-never_falls g c = omega
+    (arith, c.loop-self.invariant.no_failure, c.in-Ok-false.ensures.never_falls)
 
 pub returns-in-Err-clause-drained : goal.returns-in-Err-clause-drained
 returns-in-Err-clause-drained g c = λ past h.
@@ -82,12 +89,16 @@ returns-in-Err-clause-drained g c = λ past h.
     let s = c.loop-self.self in
     let d = i.drains past h in
     let p = c.in-Err.ensures.part in
-    let more = p.0.part.0 in
-    let b : IsBeginning ((past.written ++ d.0) ++ more) (handed past) = part_handed s (wrote past d.0) _ _ d.2 i.unfailed p.0 in (
+    let part = part_of s (wrote past d.0) _ _ d.2 p.0 in
+    let more = part.0 in
+    let b : IsBeginning ((past.written ++ d.0) ++ more) (handed past) = part_handed s
+    (wrote past d.0) _ _ d.2 i.unfailed p.0 in (
       d.0 ++ more,
-      p.0.part.2 ∙ (ap (λ w. w ++ more) d.1 ∙ append_assoc (g.W.Sink.taken c.args.out.now) d.0 more),
+      part.2 ∙ (ap (λ w. w ++ more) d.1 ∙ append_assoc (g.W.Sink.taken c.args.out.now) d.0 more),
       (h.failed ∙ c.if-self.false, (b.0, ap (λ w. w ++ b.0) (sym (append_assoc past.written d.0 more)) ∙ b.1)),
-      then_wrote _ past d.0 more (past.failed || true) (failed_stands s _ (wrote past d.0) more (past.failed || true) d.2 (record { query = refl; opened = refl; running = refl; bad = refl }) p.1 refl (or_true past.failed)),
+      then_wrote _ past d.0 more (past.failed || true)
+          (failed_stands s _ (wrote past d.0) more (past.failed || true) d.2
+          (record { query = refl; opened = refl; running = refl; bad = refl }) p.1 refl (or_true past.failed)),
     )
 
 pub returns-in-Err-clause-cause : goal.returns-in-Err-clause-cause

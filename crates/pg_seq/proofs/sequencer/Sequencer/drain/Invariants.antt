@@ -1,4 +1,4 @@
-use Rattle.std.proofs.Common.{◌≡◌, ◌≤◌, ◌++◌, ℕ, List, length, false}
+use Rattle.std.proofs.Common.{◌≡◌, ◌++◌, ℕ, List, length, false}
 use Rattle.pg_seq.specs.History.{Past}
 use Rattle.pg_seq.specs.Standing.{Stands}
 use Rattle.pg_seq.proofs.StandLemmas.{IsAlike, wrote}

@@ -56,7 +56,9 @@ allocate_spec 𝓤 𝓛 𝓜 𝓡 wired Y L g d d' met _ =
     sets ! (addr ! (through ! refl (fld ! refl (stop !)))) refl (tt, tt) $
     feq_i ! (List Val) (vptr counter.0 counter.1 ∷ []) (vptr counter.0 counter.1 ∷ []) refl $ fjoin ! $ nothing ! $ move ! (1 ∷ 0 ∷ []) $ join ! $ nothing ! $ move ! (3 ∷ 0 ∷ []) $ join ! $ join ! $
     nothing ! $ move ! (1 ∷ 0 ∷ []) $ use2 𝓛 (raw (Next.pre z)) (id⊢ 𝓤 _) $
-    calls_at ! calls Next (next-thm.met 𝓤 𝓛 𝓜 𝓡 (code.calls-refusing::allocator::Requests::refuses_next 𝓡.env wired)) z (and_then ! (get ! refl) (no_more !)) (λ v.
+    calls_at ! calls Next
+    (next-thm.met 𝓤 𝓛 𝓜 𝓡 (code.calls-refusing::allocator::Requests::refuses_next 𝓡.env wired)) z
+    (and_then ! (get ! refl) (no_more !)) (λ v.
     use1 𝓛 (later (some (λ (is_due : Bool). ((‵ (flft κ q) ⊛ ‵ ftrue) ⊛ ‵ (bool.own_val is_due (v ∷ []))) ⊛ some (λ (ws : Unit {0} × Unit {0}). ‵ (lasts next.ended z.0.0 z.0.3 ws) ⊛ ‵ ftrue)))) (id⊢ 𝓤 _) $
     await ! tt $ pick ! (λ is_due. split ! $ split ! $ split ! $ move ! (2 ∷ []) $ feq_l ! (λ is_bool. lands_as ! (ap only is_bool) refl (tt, tt) $
     -- [the token; nothing; what the count leaves; the allocator behind; the other token]

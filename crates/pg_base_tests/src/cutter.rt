@@ -1,0 +1,82 @@
+//! Blocks of a file.
+ghost use Rattle.std.specs.Prelude.{OnOk};
+ghost use Rattle.pg_lines.specs.Cutter.{IsDrained};
+
+use crate::rows::{bytes_of, cut, halves, show_bytes};
+use pg_lines::{Block, Cutter};
+use std::alloc::{AllocError, Global};
+use std::test::Fail;
+
+/// A terminator and the pieces of a file, and what a cutter gives: behind each piece the blocks that are finished then,
+/// each as its file, number and bytes, or why the piece isn't taken; and then the last block. Blocks have at least 3
+/// bytes, and lines at most 4.
+const CUT: &str = "%0A a%0Abc%0A%0Ad => 7.0:a%0Abc%0A 7.1:%0Ad
+%0A a %0A b c %0A %0A d => 7.0:a%0Abc%0A 7.1:%0Ad
+%0A a%0A bc %0A%0A d => 7.0:a%0Abc%0A 7.1:%0Ad
+%0A a%0Ab c%0A%0A d => 7.0:a%0Abc%0A 7.1:%0Ad
+%0A a%0Abc %0A%0Ad => 7.0:a%0Abc%0A 7.1:%0Ad
+%0A a%0Abc%0A %0Ad => 7.0:a%0Abc%0A 7.1:%0Ad
+%0A a%0Abc%0A%0A d => 7.0:a%0Abc%0A 7.1:%0Ad
+%0A =>
+%0A a%0A%0Ab%0A%0A%0Acd%0A => 7.0:a%0A%0A 7.1:b%0A%0A 7.2:%0Acd%0A
+%0A abcd%0A abcde abcd e => 7.0:abcd%0A (line too long) (line too long) 7.1:abcd
+%00 a%00b%0Ac%00%00d => 7.0:a%00b%0Ac%00 7.1:%00d
+%00 a %00 b %0A c %00 %00 d => 7.0:a%00b%0Ac%00 7.1:%00d
+%00 a%00b%0A c%00%00d => 7.0:a%00b%0Ac%00 7.1:%00d
+%0A a%00b%0Ac%00%00d => 7.0:a%00b%0A 7.1:c%00%00d
+%00 =>
+%00 %0A%0A%0A => 7.0:%0A%0A%0A
+%00 ab%0Acd%0A => (line too long)
+%0A ab%0Acd%0A => 7.0:ab%0A 7.1:cd%0A
+%00 ab%0A cd%0A => (line too long) 7.0:ab%0A
+%00 ab%0A c d %00 => (line too long) 7.0:ab%0Ac%00
+%FF a%FF%00b%FF%0A => 7.0:a%FF%00b%FF 7.1:%0A";
+
+/// Shows a block.
+fn show_block(block: &Block, out: &mut String) -> Result<(), AllocError> {
+    let file = block.file;
+    let number = block.number;
+    write!(out, "{file}.{number}:")?;
+    show_bytes(block.bytes.as_slice(), out)?;
+    out.push(' ')
+}
+
+/// Feeds a piece, and shows the blocks that are finished then, or why the piece isn't taken.
+fn show_fed(cutter: &mut Cutter, piece: &[u8], out: &mut String) -> Result<(), AllocError>
+    ensures { OnOk result (IsDrained cutter.new) }
+{
+    if let Err(fault) = cutter.feed(piece) {
+        write!(out, "({fault}) ")?;
+    }
+    while let Some(block) = cutter.take() {
+        show_block(&block, out)?;
+    }
+    Ok(())
+}
+
+/// What a cutter gives of a file in pieces, where spaces part them.
+fn show_cut(alloc: Global, end: u8, pieces: &str) -> Result<String, AllocError> {
+    let mut out = String::new(alloc);
+    let mut cutter = Cutter::new(alloc, 7, 3, 4, end);
+    for piece in pieces.split(' ') {
+        let piece = bytes_of(alloc, piece)?;
+        show_fed(&mut cutter, &piece, &mut out)?;
+    }
+    if let Some(block) = cutter.finish() {
+        show_block(&block, &mut out)?;
+    }
+    Ok(out)
+}
+
+#[test]
+fn a_file_is_cut_at_its_terminator(rt: HostRuntime) -> Result<(), Fail> {
+    for row in CUT.lines() {
+        let (asked, want) = halves(row);
+        let (end, pieces) = cut(asked, " ");
+        let end = bytes_of(rt.alloc(), end)?;
+        let end = end.first().ok_or("a terminator")?;
+        let got = show_cut(rt.alloc(), *end, pieces)?;
+        assert_eq!(rt; got.as_str().trim_end(), want, "{row}");
+    }
+    Ok(())
+}

@@ -1,0 +1,26 @@
+-- What a text is compiled to, and why one can't be.
+use Rattle.std.specs.Prelude.{◌<◌, List}
+use Rattle.pg_syntax.specs.ListResults.{IsFirstRefused}
+use Rattle.pg_match.specs.Automata.{Nfa}
+use Rattle.pg_match.specs.Machines.{IsMachineOf}
+use Rattle.pg_match.specs.Sizes.{list_size}
+use Rattle.pg_lines.specs.Search.{SearchText, Pattern, patterns, AreTreesOf, bounds_of}
+use Rattle.pg_lines.specs.declared.query.QueryFault.{QueryFault}
+use Rattle.pg_lines.specs.declared.query.QueryFault.TheVariants.{Syntax, TooLarge, OutOfMemory}
+
+-- a query that can be searched for: what it was compiled from, and its automaton
+pub record Compiled : Type 0 where
+  pub text : SearchText
+  pub machine : Nfa
+
+-- the patterns spell trees, and the automaton is theirs
+abbrev pub IsCompiled : Compiled → Type 0
+IsCompiled q =
+    (trees : List Pattern) × AreTreesOf q.text trees × IsMachineOf q.machine trees (bounds_of q.text)
+
+-- Why a text isn't compiled: some pattern spells no tree, and the fault is the first such one's; or all spell trees,
+-- which ask for more than 65,536 states; or a request for memory was refused.
+abbrev pub IsQueryFault : SearchText → QueryFault → Type 0
+IsQueryFault text (Syntax fault) = IsFirstRefused text.kind text.fold (patterns text.lists) fault
+IsQueryFault text TooLarge = (trees : List Pattern) × AreTreesOf text trees × (65536 < list_size trees)
+IsQueryFault text OutOfMemory = Unit {0}

@@ -1,0 +1,57 @@
+-- Words of a command line, cut.
+use Rattle.std.specs.Prelude.{ℕ, ◌+◌, ◌==◌, nat_lt, Bool, ◌&&◌, ◌||◌, not, if◌then◌else◌}
+use Rattle.std.specs.Prelude.{List, [], ◌∷◌, ◌++◌, length, slice_index, take, drop}
+use Rattle.pg_words.specs.declared.split.Place.{Place}
+use Rattle.pg_words.specs.declared.split.Place.TheVariants.{Free, Value, Operand}
+
+-- a hyphen begins the word, and no second one follows
+abbrev pub is_bundle : List ℕ → Bool
+is_bundle word = (slice_index word 0 == 45) && not (slice_index word 1 == 45)
+
+-- the word is `--`
+abbrev pub is_mark : List ℕ → Bool
+is_mark word = (length word == 2) && ((slice_index word 0 == 45) && (slice_index word 1 == 45))
+
+-- e and f, whose options have a value
+abbrev pub has_value : ℕ → Bool
+has_value letter = (letter == 101) || (letter == 102)
+
+-- the offset behind the first such letter, counted from `at`; one more than the end where there is none
+abbrev pub value_start_from : ℕ → List ℕ → ℕ
+value_start_from at [] = at + 1
+value_start_from at (byte ∷ rest) = if has_value byte then at + 1 else value_start_from (at + 1) rest
+
+-- the offset at which a bundle's value begins
+abbrev pub value_start : List ℕ → ℕ
+value_start word = value_start_from 0 word
+
+-- a bundle and its value, where it holds one
+abbrev pub bundle_pieces : List ℕ → List (List ℕ)
+bundle_pieces word =
+    if nat_lt (value_start word) (length word)
+    then take (value_start word) word ∷ drop (value_start word) word ∷ []
+    else (word ∷ [])
+
+-- the words that a word of the command line is cut into
+abbrev pub pieces : Place → List ℕ → List (List ℕ)
+pieces Free word = if is_bundle word then bundle_pieces word else (word ∷ [])
+pieces Value word = word ∷ []
+pieces Operand word = word ∷ []
+
+-- what stands behind it: the value of a letter that ends it, or operands alone behind `--`
+abbrev pub place_behind : Place → List ℕ → Place
+place_behind Free word =
+    if is_bundle word
+    then (if value_start word == length word then Value else Free)
+    else (if is_mark word then Operand else Free)
+place_behind Value word = Free
+place_behind Operand word = Operand
+
+-- all words, cut from left to right
+abbrev pub cut_from : Place → List (List ℕ) → List (List ℕ)
+cut_from place [] = []
+cut_from place (word ∷ rest) = pieces place word ++ cut_from (place_behind place word) rest
+
+-- the words of a command line, cut
+abbrev pub cut : List (List ℕ) → List (List ℕ)
+cut words = cut_from Free words
