@@ -24,5 +24,6 @@ lines_within end (b ∷ bytes) =
       | false ↦ one_more b n (lines end bytes) (lines_within end bytes)
     ]
 
-pub lines_short : (end : ℕ) (bytes : List ℕ) → length bytes ≤ 100 → AllByRecursion (λ l. length l ≤ 2 ^ 30) (lines end bytes)
+pub lines_short : (end : ℕ) (bytes : List ℕ) → length bytes ≤ 100
+    → AllByRecursion (λ l. length l ≤ 2 ^ 30) (lines end bytes)
 lines_short end bytes h = longer (length bytes) (2 ^ 30) (lines end bytes) (omega (arith, h)) (lines_within end bytes)

@@ -1,7 +1,6 @@
 //! The faults of the program.
 ghost use Rattle.std.specs.Prelude.{◌≡◌, ◌<◌, ◌⊎◌, ◌++◌, codes, OnErr, OnOk};
 ghost use Rattle.std.specs.List.{flat_map};
-ghost use Rattle.pg_syntax.specs.FaultTexts.{kind_text};
 ghost use Rattle.pg_command.specs.Causes.{fault_of_query, fault_of_run};
 ghost use Rattle.pg_command.specs.Told.{IsTold, pattern_line, subject_of, text_of};
 ghost use Rattle.pg_command.specs.declared.fault.Fault.TheVariants.{OutOfMemory};
@@ -11,7 +10,6 @@ use itoa::Buffer;
 use pg_lines::{ListFault, QueryFault};
 use pg_run::RunFault;
 use pg_seq::{Sink, WriteError};
-use pg_syntax::FaultKind;
 use pg_words::UsageFault;
 use std::alloc::{AllocError, AllocFailed, Global};
 
@@ -101,34 +99,12 @@ impl<'a> Fault<'a> {
             Fault::Usage(fault) => fault.text(),
             Fault::CannotOpen(_) => ": cannot open",
             Fault::ReadFailed(_) => ": read failed",
-            Fault::Pattern(fault) => kind_text(fault.fault.kind),
+            Fault::Pattern(fault) => fault.fault.kind.text(),
             Fault::TooLarge => "pattern too large",
             Fault::OutOfMemory => "out of memory",
             Fault::WriteFailed => "write failed",
             Fault::LineTooLong => "line too long",
         }
-    }
-}
-
-/// What is wrong with a pattern.
-fn kind_text(kind: FaultKind) -> &'static str
-    ensures { result.now ≡ kind_text kind }
-{
-    match kind {
-        FaultKind::TrailingBackslash => "trailing backslash",
-        FaultKind::BadEscape => "bad escape",
-        FaultKind::BackReference => "back reference",
-        FaultKind::UnmatchedBracket => "unmatched bracket",
-        FaultKind::BadClass => "bad class",
-        FaultKind::BadCollating => "bad collating element",
-        FaultKind::BadRange => "bad range",
-        FaultKind::UnmatchedGroup => "unmatched group",
-        FaultKind::BadInterval => "bad interval",
-        FaultKind::NothingToRepeat => "nothing to repeat",
-        FaultKind::EmptyOperand => "empty operand",
-        FaultKind::TooDeep => "groups too deep",
-        FaultKind::OutOfMemory => "out of memory",
-        FaultKind::TooLong => "pattern too long",
     }
 }
 
@@ -163,7 +139,7 @@ fn tell_pattern<W: Sink>(alloc: Global, fault: ListFault, err: &mut W) -> Result
     let (mut number, mut offset) = (Buffer::new(), Buffer::new());
     let parts = pattern_parts(
         number.format(fault.pattern),
-        kind_text(fault.fault.kind),
+        fault.fault.kind.text(),
         offset.format(fault.fault.at),
     );
     tell(alloc, &parts, err)

@@ -1,5 +1,6 @@
 -- The patterns of a text.
-use Rattle.std.proofs.Common.{◌≡◌, ◌<◌, ◌==◌, ◌||◌, get_or, inl, inr, ℕ, zero, suc, Bool, false, cond, All, length, List, [], ◌∷◌, refl, sym, ap, ◌∙◌, arith}
+use Rattle.std.proofs.Common.{◌≡◌, ◌<◌, ◌==◌, ◌||◌, get_or, inl, inr, ℕ, zero, suc, Bool, false, cond, All, length}
+use Rattle.std.proofs.Common.{List, [], ◌∷◌, refl, sym, ap, ◌∙◌, arith}
 use Rattle.std.specs.List.{Contains, list_any, onto_first}
 use Rattle.std.proofs.lemmas.Bool.{ne_eqb, eq-eqb, cases_Bool, false≢true}
 use Rattle.std.proofs.lemmas.List.{append-nil}

@@ -1,8 +1,11 @@
 -- Runs of selected lines.
-use Rattle.std.proofs.Common.{◌≡◌, ◌≢◌, ℕ, zero, suc, ◌+◌, ◌-◌, ◌<◌, ◌≤◌, ◌^◌, ◌⊎◌, inl, inr, Bool, true, false, nat_lt, cond, List, [], ◌∷◌, ◌++◌, length, take, drop, get_or, refl, sym, ap, ◌∙◌, subst, arith, append_assoc, length-append, length-drop}
+use Rattle.std.proofs.Common.{◌≡◌, ◌≢◌, ℕ, zero, suc, ◌+◌, ◌-◌, ◌<◌, ◌≤◌, ◌^◌, ◌⊎◌, inl, inr, Bool, true, false, nat_lt}
+use Rattle.std.proofs.Common.{cond, List, [], ◌∷◌, ◌++◌, length, take, drop, get_or, refl, sym, ap, ◌∙◌, subst, arith}
+use Rattle.std.proofs.Common.{append_assoc, length-append, length-drop}
 use Rattle.std.specs.List.{AllByRecursion}
 use Rattle.std.proofs.lemmas.Bool.{cases_lt, ltb-true, ltb-false}
-use Rattle.std.proofs.lemmas.List.{take-append-drop, drop_at, length-take-le, get_or-take, get_or-drop, get_or_default, append-nil, take_at, drop_more, drop-drop, drop_all}
+use Rattle.std.proofs.lemmas.List.{take-append-drop, drop_at, length-take-le, get_or-take, get_or-drop, get_or_default}
+use Rattle.std.proofs.lemmas.List.{append-nil, take_at, drop_more, drop-drop, drop_all}
 use Rattle.std.proofs.lemmas.List.Prefix.{at_reads}
 use Rattle.memchr.specs.Find.{OccursAt, Nowhere}
 use Rattle.pg_lines.specs.Lines.{lines, IsLine, AreWhole, AreShort, IsClear, Stops, terminated}
@@ -27,10 +30,12 @@ all_append P [] ys a b = b
 all_append P (x ∷ xs) ys a b = (a.0, all_append P xs ys a.1 b)
 
 -- the lines of whole lines and of what stands behind them
-pub all_lines-append : (q : Search) (selected : Bool) (xs ys : List ℕ) → AreWhole (terminator q) xs → AllLines q selected xs → AllLines q selected ys → AllLines q selected (xs ++ ys)
+pub all_lines-append : (q : Search) (selected : Bool) (xs ys : List ℕ) → AreWhole (terminator q) xs
+    → AllLines q selected xs → AllLines q selected ys → AllLines q selected (xs ++ ys)
 all_lines-append q selected xs ys w a b =
     let P : List (List ℕ) → Type 0 = λ ls. AllByRecursion (λ l. selects q l ≡ selected) ls in
-    subst P (sym (lines-append (terminator q) xs ys w)) (all_append (λ l. selects q l ≡ selected) (lines (terminator q) xs) (lines (terminator q) ys) a b)
+    subst P (sym (lines-append (terminator q) xs ys w))
+        (all_append (λ l. selects q l ≡ selected) (lines (terminator q) xs) (lines (terminator q) ys) a b)
 
 -- what occurs in a part occurs in the whole
 occurs_inside : (xs front l tail p : List ℕ) (i : ℕ) → xs ≡ front ++ (l ++ tail) → OccursAt l p i → OccursAt xs p (length front + i)
@@ -45,15 +50,19 @@ occurs_inside xs front l tail p i e o =
     }
 
 -- bytes in which the pattern occurs nowhere have no selected line
-pub nowhere_lines : (q : Search) (p bytes : List ℕ) → HasItsTrees q → IsPlain q.text p → ((k : ℕ) → OccursAt bytes p k → ⊥) → AllLines q false bytes
+pub nowhere_lines : (q : Search) (p bytes : List ℕ) → HasItsTrees q → IsPlain q.text p
+    → ((k : ℕ) → OccursAt bytes p k → ⊥) → AllLines q false bytes
 nowhere_lines q p bytes t c none =
     all_by_index (λ l. selects q l ≡ false) (lines (terminator q) bytes) (λ k below.
     let r = around (terminator q) bytes (lines (terminator q) bytes) (made (terminator q) bytes) k below in
     nowhere_unselected q p t c (get_or (lines (terminator q) bytes) k []) (λ i o.
-    none (length (terminated (terminator q) (take k (lines (terminator q) bytes))) + i) (occurs_inside bytes (terminated (terminator q) (take k (lines (terminator q) bytes))) (get_or (lines (terminator q) bytes) k []) r.0 p i r.1 o)))
+    none (length (terminated (terminator q) (take k (lines (terminator q) bytes))) + i)
+        (occurs_inside bytes (terminated (terminator q) (take k (lines (terminator q) bytes)))
+            (get_or (lines (terminator q) bytes) k []) r.0 p i r.1 o)))
 
 -- nor have lines that end before the first place at which it occurs
-pub lines_before : (q : Search) (p bytes : List ℕ) (s k : ℕ) → HasItsTrees q → IsPlain q.text p → Nowhere (OccursAt bytes p) 0 k → s ≤ k → k ≤ length bytes → AllLines q false (take s bytes)
+pub lines_before : (q : Search) (p bytes : List ℕ) (s k : ℕ) → HasItsTrees q → IsPlain q.text p
+    → Nowhere (OccursAt bytes p) 0 k → s ≤ k → k ≤ length bytes → AllLines q false (take s bytes)
 lines_before q p bytes zero k t c none low high = tt
 lines_before q p bytes (suc s) k t c none low high =
     nowhere_lines q p (take (suc s) bytes) t c (λ j o.
@@ -68,11 +77,14 @@ lines_before q p bytes (suc s) k t c none low high =
     empty_needle [] ne = absurd (ne refl)
     empty_needle (b ∷ p) ne = omega arith
 
-is_line : (end : ℕ) (bytes : List ℕ) (s e : ℕ) → e ≤ length bytes → IsClear end bytes s e → IsLine end (take (e - s) (drop s bytes))
+is_line : (end : ℕ) (bytes : List ℕ) (s e : ℕ) → e ≤ length bytes → IsClear end bytes s e
+    → IsLine end (take (e - s) (drop s bytes))
 is_line end bytes s e high none c =
     let within : c.0 < e - s = omega (arith, c.1, length-take (e - s) (drop s bytes)) in
     none (s + c.0) (omega arith) (omega arith)
-    (sym (get_or-drop s bytes c.0 0) ∙ (sym (get_or-take (e - s) (drop s bytes) c.0 0 within) ∙ (get_or_default (take (e - s) (drop s bytes)) c.0 0 end c.1 ∙ c.2)))
+    (sym (get_or-drop s bytes c.0 0)
+        ∙ (sym (get_or-take (e - s) (drop s bytes) c.0 0 within)
+        ∙ (get_or_default (take (e - s) (drop s bytes)) c.0 0 end c.1 ∙ c.2)))
   where
     length-take : (n : ℕ) (xs : List ℕ) → length (take n xs) ≤ n
     length-take zero xs = omega arith
@@ -97,7 +109,8 @@ place_below bytes p k o none some = elim (cases_lt k (length bytes)) [
   | inr h ↦ absurd (none 0 (omega arith) (omega arith) (record { fits = omega (arith, o.fits); reads = λ j below. absurd (omega (arith, o.fits)) }))
 ]
 
-pub line_some : (end : ℕ) (bytes : List ℕ) (s k e stop : ℕ) → s ≤ k → k ≤ e → k < length bytes → Stops end bytes e stop → (s < stop) × (stop ≤ length bytes)
+pub line_some : (end : ℕ) (bytes : List ℕ) (s k e stop : ℕ) → s ≤ k → k ≤ e → k < length bytes → Stops end bytes e stop
+    → (s < stop) × (stop ≤ length bytes)
 line_some end bytes s k e stop low high below (inl h) = (omega (arith, h.0), omega (arith, h.0, h.1))
 line_some end bytes s k e stop low high below (inr h) = (omega (arith, h.0, h.1), omega (arith, h.0, h.1))
 
@@ -197,7 +210,8 @@ pub line_passed : (end : ℕ) (bytes : List ℕ) (s e stop : ℕ) → IsLineAt e
 line_passed end bytes s e stop is front =
     let W : List ℕ → Type 0 = λ xs. AreWhole end xs in
     elim is.whole [
-      | inl w ↦ inl (subst W (sym (upto_stop end bytes s e stop is)) (whole_append end (take s bytes) is.text front w.0))
+      | inl w ↦ inl (subst W (sym (upto_stop end bytes s e stop is))
+          (whole_append end (take s bytes) is.text front w.0))
       | inr h ↦ inr h.1
     ]
 
@@ -236,17 +250,22 @@ literal_found q p bytes at s k e stop line t c o none low high front clear stops
     let text = take (e - s) (drop s bytes) in
     let chosen = occurs_selected q p t c text (k - s) (occurs_within bytes p s e k within low fits o) in
     let is = line_at (terminator q) bytes s e stop (omega arith) within longer clear stops in
-    line_found q bytes at s e stop line is front (lines_before q p bytes s k t c none low (omega (arith, o.fits))) chosen
+    line_found q bytes at s e stop line is front
+        (lines_before q p bytes s k t c none low (omega (arith, o.fits))) chosen
     start ends
 
 -- the same, where the line's two ends were looked for from the pattern's place
-pub line_around : (q : Search) (p bytes : List ℕ) (at s k stop : ℕ) (line : Span) → HasItsTrees q → IsPlain q.text p → OccursAt bytes p k → Nowhere (OccursAt bytes p) 0 k
-    → s ≤ k → IsClear (terminator q) bytes s k → AreWhole (terminator q) (take s bytes) → (e : ℕ) × (k ≤ e) × IsClear (terminator q) bytes k e × Stops (terminator q) bytes e stop → 0 < length bytes
+pub line_around : (q : Search) (p bytes : List ℕ) (at s k stop : ℕ) (line : Span) → HasItsTrees q → IsPlain q.text p
+    → OccursAt bytes p k → Nowhere (OccursAt bytes p) 0 k
+    → s ≤ k → IsClear (terminator q) bytes s k → AreWhole (terminator q) (take s bytes)
+    → (e : ℕ) × (k ≤ e) × IsClear (terminator q) bytes k e × Stops (terminator q) bytes e stop → 0 < length bytes
     → line.start ≡ at + s → line.end ≡ at + stop → IsNextRun q at bytes line
 line_around q p bytes at s k stop line t c o none low before front h some start ends =
-    let clear : IsClear (terminator q) bytes s h.0 = λ i from to. elim (cases_lt i k) [ inl below ↦ before i from below | inr above ↦ h.2 i above to ] in
+    let clear : IsClear (terminator q) bytes s h.0 =
+        λ i from to. elim (cases_lt i k) [ inl below ↦ before i from below | inr above ↦ h.2 i above to ] in
     let below = place_below bytes p k o none some in
-    literal_found q p bytes at s k h.0 stop line t c o none low h.1 front clear h.3 some (line_some (terminator q) bytes s k h.0 stop low h.1 below h.3).0 start ends
+    literal_found q p bytes at s k h.0 stop line t c o none low h.1 front clear h.3 some
+        (line_some (terminator q) bytes s k h.0 stop low h.1 below h.3).0 start ends
 
 -- The runs so far and an open one behind them: whatever runs follow the open one's start, together they are all runs.
 pub record IsGathered (q : Search) (bytes : List ℕ) (runs : List Span) (run : Span) : Type 0 where
@@ -274,7 +293,8 @@ gathered_none q bytes run s e =
     }
 
 -- whole lines of which none is selected, in front of runs
-gap_front : (q : Search) (at : ℕ) (gap rest : List ℕ) (runs : List Span) → AreWhole (terminator q) gap → AllLines q false gap → AreRuns q (at + length gap) rest runs → AreRuns q at (gap ++ rest) runs
+gap_front : (q : Search) (at : ℕ) (gap rest : List ℕ) (runs : List Span) → AreWhole (terminator q) gap
+    → AllLines q false gap → AreRuns q (at + length gap) rest runs → AreRuns q at (gap ++ rest) runs
 gap_front q at gap rest [] w none h = all_lines-append q false gap rest w none h
 gap_front q at gap rest (run ∷ runs) w none h =
     let n = h.0 in (
@@ -379,14 +399,16 @@ gathered_next q bytes runs run line new g n at s e =
     let at_end : drop new.end bytes ≡ n.later =
     let e' : new.end ≡ run.end + length n.text = omega arith in
     ap (λ m. drop m bytes) e' ∙ (sym (drop-drop (length n.text) run.end bytes) ∙ (ap (drop (length n.text)) here ∙ drop_at n.text n.later (length n.text) refl)) in
-    let whole : AreWhole (terminator q) g.text = elim g.whole [ inl w ↦ w | inr none ↦ absurd (n.text_some (front_empty n.text n.later (sym here ∙ none))) ] in
+    let whole : AreWhole (terminator q) g.text =
+        elim g.whole [ inl w ↦ w | inr none ↦ absurd (n.text_some (front_empty n.text n.later (sym here ∙ none))) ] in
     let P : ℕ → Type 0 = λ m. (more : List Span) → AreRuns q m (drop m bytes) more → AreRuns q 0 bytes (runs ++ more) in
     record {
       within = omega (arith, g.within);
       text = g.text ++ n.text;
       joins = ap (λ m. drop m bytes) s ∙ (g.joins ∙ (ap (λ xs. g.text ++ xs) here ∙ (sym (append_assoc g.text n.text n.later) ∙ ap (λ xs. (g.text ++ n.text) ++ xs) (sym at_end))));
       stop = omega (arith, length-append g.text n.text, g.stop);
-      whole = elim n.text_whole [ inl w ↦ inl (whole_append (terminator q) g.text n.text whole w) | inr none ↦ inr (at_end ∙ none) ];
+      whole = elim n.text_whole [ inl w ↦ inl (whole_append (terminator q) g.text n.text whole w) | inr none
+          ↦ inr (at_end ∙ none) ];
       selected = all_lines-append q true g.text n.text whole g.selected n.text_selected;
       known = subst P (sym s) g.known;
     }
@@ -400,13 +422,21 @@ gathered_next q bytes runs run line new g n at s e =
     front_empty (x ∷ xs) ys e = absurd (cc)
 
 -- the lines of what stands before a run, of the run, and of what stands behind it
-pub lines_apart : (q : Search) (at : ℕ) (bytes : List ℕ) (run : Span) (n : IsNextRun q at bytes run) → lines (terminator q) bytes ≡ lines (terminator q) n.gap ++ (lines (terminator q) n.text ++ lines (terminator q) n.later)
+pub lines_apart : (q : Search) (at : ℕ) (bytes : List ℕ) (run : Span) (n : IsNextRun q at bytes run)
+    → lines (terminator q) bytes ≡ lines (terminator q) n.gap
+        ++ (lines (terminator q) n.text ++ lines (terminator q) n.later)
 lines_apart q at bytes run n =
-    let back : lines (terminator q) (n.text ++ n.later) ≡ lines (terminator q) n.text ++ lines (terminator q) n.later = elim n.text_whole [
+    let back : lines (terminator q) (n.text ++ n.later) ≡ lines (terminator q) n.text ++ lines (terminator q) n.later =
+        elim n.text_whole [
       | inl w ↦ lines-append (terminator q) n.text n.later w
-      | inr e ↦ ap (λ xs. lines (terminator q) (n.text ++ xs)) e ∙ (ap (lines (terminator q)) (append-nil n.text) ∙ sym (ap (λ xs. lines (terminator q) n.text ++ lines (terminator q) xs) e ∙ append-nil (lines (terminator q) n.text)))
+      | inr e ↦ ap (λ xs. lines (terminator q) (n.text ++ xs)) e
+          ∙ (ap (lines (terminator q)) (append-nil n.text)
+          ∙ sym (ap (λ xs. lines (terminator q) n.text ++ lines (terminator q) xs) e
+          ∙ append-nil (lines (terminator q) n.text)))
     ] in
-    ap (lines (terminator q)) (n.joins ∙ append_assoc n.gap n.text n.later) ∙ (lines-append (terminator q) n.gap (n.text ++ n.later) n.gap_whole ∙ ap (λ ls. lines (terminator q) n.gap ++ ls) back)
+    ap (lines (terminator q)) (n.joins ∙ append_assoc n.gap n.text n.later)
+        ∙ (lines-append (terminator q) n.gap (n.text ++ n.later) n.gap_whole
+        ∙ ap (λ ls. lines (terminator q) n.gap ++ ls) back)
 
 all_back : (P : List ℕ → Type 0) (xs ys : List (List ℕ)) → AllByRecursion P (xs ++ ys) → AllByRecursion P ys
 all_back P [] ys h = h

@@ -76,12 +76,15 @@ found end (Announces c ∷ p) h k b below e = elim (cases_lt k (length (announce
       subst P same (find_last p (announced p) c (all_below end p h.1) h.0.file h.0.number)
 ]
 
-pub first_is_taken : (past : Past) (r : Searched) → IsShaped (terminator past.query) (plan past) → r.query ≡ past.query.text → Contains (announced (plan past)) r.block → is_taken (taken_of past.query past.events) r.block ≡ false → answer past r ≡ Taken
+pub first_is_taken : (past : Past) (r : Searched) → IsShaped (terminator past.query) (plan past)
+    → r.query ≡ past.query.text → Contains (announced (plan past)) r.block
+    → is_taken (taken_of past.query past.events) r.block ≡ false → answer past r ≡ Taken
 unfolding answer_after
 first_is_taken past r h query known new =
     let keys = taken_of past.query past.events in
     let b = r.block in
-    let same : same_text past.query.text r.query ≡ true = ap (same_text past.query.text) query ∙ text_equal.complete past.query.text in
+    let same : same_text past.query.text r.query ≡ true = ap (same_text past.query.text) query
+        ∙ text_equal.complete past.query.text in
     ap (λ t. cond t (arrival_at (find (is_block b.file b.number) (announced (plan past))) keys b) Stranger) same
     ∙ (ap (λ o. arrival_at o keys b) (found (terminator past.query) (plan past) h known.0 b known.1 known.2)
     ∙ (ap (λ t. cond t Double (if_same (bytes_eq b.bytes b.bytes))) new

@@ -127,7 +127,9 @@ module _ {A : Type 0} where
   held_back (x ∷ gone) slots zero slot h e none = absurd (false≢true (sym none ∙ (sym (ap has_result (some_same e)) ∙ h.0)))
   held_back (x ∷ gone) slots (suc k) slot h e none = let ih = held_back gone slots k slot h.1 e none in omega arith
 
-  pub results_with : (q : Search) (slots : List (Slot A)) (k : ℕ) (slot : Slot A) (r : Searched) → slice_get slots k ≡ Some slot → r.query ≡ q.text → r.block ≡ slot_block slot → AllByRecursion (IsResultOf q) slots → AllByRecursion (IsResultOf q) (with_result slots k r)
+  pub results_with : (q : Search) (slots : List (Slot A)) (k : ℕ) (slot : Slot A) (r : Searched)
+      → slice_get slots k ≡ Some slot → r.query ≡ q.text → r.block ≡ slot_block slot
+      → AllByRecursion (IsResultOf q) slots → AllByRecursion (IsResultOf q) (with_result slots k r)
   results_with q [] k slot r e a b h = tt
   results_with q (x ∷ slots) zero slot r e a b h = ((a, b ∙ sym (ap slot_block (some_same e))), h.1)
   results_with q (x ∷ slots) (suc k) slot r e a b h = (h.0, results_with q slots k slot r e a b h.1)

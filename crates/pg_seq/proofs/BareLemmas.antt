@@ -27,11 +27,14 @@ use Rattle.pg_seq.proofs.CursorLemmas.{cursor_is, output_step}
 
 rows_none : (q : Search) (ls : List (List ℕ)) → AllByRecursion (λ l. selects q l ≡ false) ls → flat_map (line_or_nothing q) ls ≡ []
 rows_none q [] h = refl
-rows_none q (l ∷ ls) h = ap (λ t. cond t (l ++ terminator q ∷ []) [] ++ flat_map (line_or_nothing q) ls) h.0 ∙ rows_none q ls h.1
+rows_none q (l ∷ ls) h = ap (λ t. cond t (l ++ terminator q ∷ []) [] ++ flat_map (line_or_nothing q) ls) h.0
+    ∙ rows_none q ls h.1
 
-rows_all : (q : Search) (ls : List (List ℕ)) → AllByRecursion (λ l. selects q l ≡ true) ls → flat_map (line_or_nothing q) ls ≡ terminated (terminator q) ls
+rows_all : (q : Search) (ls : List (List ℕ)) → AllByRecursion (λ l. selects q l ≡ true) ls
+    → flat_map (line_or_nothing q) ls ≡ terminated (terminator q) ls
 rows_all q [] h = refl
-rows_all q (l ∷ ls) h = ap (λ t. cond t (l ++ terminator q ∷ []) [] ++ flat_map (line_or_nothing q) ls) h.0 ∙ ap (λ xs. (l ++ terminator q ∷ []) ++ xs) (rows_all q ls h.1)
+rows_all q (l ∷ ls) h = ap (λ t. cond t (l ++ terminator q ∷ []) [] ++ flat_map (line_or_nothing q) ls) h.0
+    ∙ ap (λ xs. (l ++ terminator q ∷ []) ++ xs) (rows_all q ls h.1)
 
 -- the part of the bytes that a run is
 run_text : (q : Search) (full : List ℕ) (at : ℕ) (run : Span) (n : IsNextRun q at (drop at full) run) → slice_range full run.start run.end ≡ n.text
@@ -48,23 +51,31 @@ run_behind q full at run n =
     ap (λ k. drop k full) (sym m) ∙ (sym (drop-drop (length n.gap + length n.text) at full) ∙ (ap (drop (length n.gap + length n.text)) n.joins ∙ drop_at (n.gap ++ n.text) n.later (length n.gap + length n.text) parts))
 
 -- the rows of a block are those of its runs
-pub rows_of_runs : (q : Search) (full : List ℕ) (at : ℕ) (runs : List Span) → AreRuns q at (drop at full) runs → bare_rows q (drop at full) ≡ flat_map (span_rows (terminator q) full) runs
+pub rows_of_runs : (q : Search) (full : List ℕ) (at : ℕ) (runs : List Span) → AreRuns q at (drop at full) runs
+    → bare_rows q (drop at full) ≡ flat_map (span_rows (terminator q) full) runs
 rows_of_runs q full at [] h = rows_none q (lines (terminator q) (drop at full)) h
 rows_of_runs q full at (run ∷ runs) h =
     let n = h.0 in
     let later : AreRuns q run.end (drop run.end full) runs = (let P : List ℕ → Type 0 = λ xs. AreRuns q run.end xs runs in subst P (sym (run_behind q full at run n)) h.1) in
     ap (flat_map (line_or_nothing q)) (lines_apart q at (drop at full) run n)
-    ∙ (flat_map-append (line_or_nothing q) (lines (terminator q) n.gap) (lines (terminator q) n.text ++ lines (terminator q) n.later)
-    ∙ (ap (λ xs. xs ++ flat_map (line_or_nothing q) (lines (terminator q) n.text ++ lines (terminator q) n.later)) (rows_none q (lines (terminator q) n.gap) n.gap_unselected)
+    ∙ (flat_map-append (line_or_nothing q) (lines (terminator q) n.gap)
+        (lines (terminator q) n.text ++ lines (terminator q) n.later)
+    ∙ (ap (λ xs. xs ++ flat_map (line_or_nothing q) (lines (terminator q) n.text ++ lines (terminator q) n.later))
+        (rows_none q (lines (terminator q) n.gap) n.gap_unselected)
     ∙ (flat_map-append (line_or_nothing q) (lines (terminator q) n.text) (lines (terminator q) n.later)
-    ∙ (ap (λ xs. xs ++ flat_map (line_or_nothing q) (lines (terminator q) n.later)) (rows_all q (lines (terminator q) n.text) n.text_selected ∙ ap (λ xs. terminated (terminator q) (lines (terminator q) xs)) (sym (run_text q full at run n)))
-    ∙ ap (λ xs. span_rows (terminator q) full run ++ xs) (ap (bare_rows q) (sym (run_behind q full at run n)) ∙ rows_of_runs q full run.end runs later)))))
+    ∙ (ap (λ xs. xs ++ flat_map (line_or_nothing q) (lines (terminator q) n.later))
+        (rows_all q (lines (terminator q) n.text) n.text_selected
+            ∙ ap (λ xs. terminated (terminator q) (lines (terminator q) xs)) (sym (run_text q full at run n)))
+    ∙ ap (λ xs. span_rows (terminator q) full run ++ xs)
+        (ap (bare_rows q) (sym (run_behind q full at run n)) ∙ rows_of_runs q full run.end runs later)))))
 
-pub rows_of_block : (q : Search) (bytes : List ℕ) (runs : List Span) → AreRuns q 0 bytes runs → bare_rows q bytes ≡ flat_map (span_rows (terminator q) bytes) runs
+pub rows_of_block : (q : Search) (bytes : List ℕ) (runs : List Span) → AreRuns q 0 bytes runs
+    → bare_rows q bytes ≡ flat_map (span_rows (terminator q) bytes) runs
 rows_of_block q bytes runs h = rows_of_runs q bytes 0 runs h
 
 -- the runs of a text are those of the query with its trees
-pub runs_of : (q : Search) (text : SearchText) (bytes : List ℕ) (runs : List Span) → HasItsTrees q → text ≡ q.text → HasRuns text bytes runs → AreRuns q 0 bytes runs
+pub runs_of : (q : Search) (text : SearchText) (bytes : List ℕ) (runs : List Span) → HasItsTrees q → text ≡ q.text
+    → HasRuns text bytes runs → AreRuns q 0 bytes runs
 runs_of q text bytes runs t e h = let P : SearchText → Type 0 = λ x. HasRuns x bytes runs in subst P e h q.trees t
 
 -- each run stands in the bytes
@@ -81,7 +92,8 @@ run_within q at bytes (run ∷ runs) total h fits (suc k) d below =
     run_within q run.end n.later runs total h.1 (omega (arith, n.stop, len, length-append (n.gap ++ n.text) n.later, length-append n.gap n.text)) k d (omega arith)
 
 -- a line is selected where there is a run
-pub any_selected : (q : Search) (at : ℕ) (bytes : List ℕ) (runs : List Span) → AreRuns q at bytes runs → list_any (selects q) (lines (terminator q) bytes) ≡ nat_lt 0 (length runs)
+pub any_selected : (q : Search) (at : ℕ) (bytes : List ℕ) (runs : List Span) → AreRuns q at bytes runs
+    → list_any (selects q) (lines (terminator q) bytes) ≡ nat_lt 0 (length runs)
 any_selected q at bytes [] h = none_of (lines (terminator q) bytes) h
   where
     none_of : (ls : List (List ℕ)) → AllByRecursion (λ l. selects q l ≡ false) ls → list_any (selects q) ls ≡ false
@@ -90,9 +102,14 @@ any_selected q at bytes [] h = none_of (lines (terminator q) bytes) h
 any_selected q at bytes (run ∷ runs) h =
     let n = h.0 in
     ap (list_any (selects q)) (lines_apart q at bytes run n)
-    ∙ (list_any-append (selects q) (lines (terminator q) n.gap) (lines (terminator q) n.text ++ lines (terminator q) n.later)
-    ∙ (ap (λ t. list_any (selects q) (lines (terminator q) n.gap) || t) (list_any-append (selects q) (lines (terminator q) n.text) (lines (terminator q) n.later) ∙ ap (λ t. t || list_any (selects q) (lines (terminator q) n.later)) (all_of (lines (terminator q) n.text) n.text_selected (some_lines n.text n.text_some)))
-    ∙ (or_true (list_any (selects q) (lines (terminator q) n.gap)) ∙ sym (lt-ltb 0 (length (run ∷ runs)) (omega arith)))))
+    ∙ (list_any-append (selects q) (lines (terminator q) n.gap)
+        (lines (terminator q) n.text ++ lines (terminator q) n.later)
+    ∙ (ap (λ t. list_any (selects q) (lines (terminator q) n.gap) || t)
+        (list_any-append (selects q) (lines (terminator q) n.text) (lines (terminator q) n.later)
+            ∙ ap (λ t. t || list_any (selects q) (lines (terminator q) n.later))
+                (all_of (lines (terminator q) n.text) n.text_selected (some_lines n.text n.text_some)))
+    ∙ (or_true (list_any (selects q) (lines (terminator q) n.gap))
+    ∙ sym (lt-ltb 0 (length (run ∷ runs)) (omega arith)))))
   where
     all_of : (ls : List (List ℕ)) → AllByRecursion (λ l. selects q l ≡ true) ls → 0 < length ls → list_any (selects q) ls ≡ true
     all_of [] h some = absurd (omega arith)
@@ -110,16 +127,19 @@ any_selected q at bytes (run ∷ runs) h =
 
 whole_terminated : (end : ℕ) (ls : List (List ℕ)) → AreWhole end (terminated end ls)
 whole_terminated end [] = inl refl
-whole_terminated end (l ∷ ls) = whole_append end (l ++ end ∷ []) (terminated end ls) (inr (l, refl)) (whole_terminated end ls)
+whole_terminated end (l ∷ ls) =
+    whole_append end (l ++ end ∷ []) (terminated end ls) (inr (l, refl)) (whole_terminated end ls)
 
-last_whole : (end : ℕ) (bytes : List ℕ) → AreWhole end bytes → 0 < length bytes → get_or bytes (length bytes - 1) 0 ≡ end
+last_whole : (end : ℕ) (bytes : List ℕ) → AreWhole end bytes → 0 < length bytes
+    → get_or bytes (length bytes - 1) 0 ≡ end
 last_whole end bytes (inl e) some = absurd (omega (arith, ap length e))
 last_whole end bytes (inr h) some =
     let n : length bytes - 1 ≡ length h.0 = omega (arith, ap length h.1, length-append h.0 (end ∷ [])) in
     ap (λ k. get_or bytes k 0) n ∙ (ap (λ xs. get_or xs (length h.0) 0) h.1 ∙ get_or_at h.0 end [] 0 (length h.0) refl)
 
 -- the last byte is a newline
-pub whole_by_last : (end : ℕ) (bytes : List ℕ) → 0 < length bytes → get_or bytes (length bytes - 1) 0 ≡ end → terminated end (lines end bytes) ≡ bytes
+pub whole_by_last : (end : ℕ) (bytes : List ℕ) → 0 < length bytes → get_or bytes (length bytes - 1) 0 ≡ end
+    → terminated end (lines end bytes) ≡ bytes
 whole_by_last end bytes some e =
     let back : (length bytes - 1) + 1 ≡ length bytes = omega arith in
     terminated-lines end bytes (inr (
@@ -128,12 +148,15 @@ whole_by_last end bytes some e =
     ))
 
 -- it isn't
-pub incomplete_by_last : (end : ℕ) (bytes : List ℕ) → 0 < length bytes → (get_or bytes (length bytes - 1) 0 ≡ end → ⊥) → terminated end (lines end bytes) ≡ bytes ++ end ∷ []
+pub incomplete_by_last : (end : ℕ) (bytes : List ℕ) → 0 < length bytes → (get_or bytes (length bytes - 1) 0 ≡ end → ⊥)
+    → terminated end (lines end bytes) ≡ bytes ++ end ∷ []
 incomplete_by_last end bytes some ne = elim (lines_are_lines end bytes).whole [
-  | inl e ↦ let P : List ℕ → Type 0 = λ xs. AreWhole end xs in absurd (ne (last_whole end bytes (subst P (sym e) (whole_terminated end (lines end bytes))) some))
+  | inl e ↦ let P : List ℕ → Type 0 = λ xs. AreWhole end xs in
+      absurd (ne (last_whole end bytes (subst P (sym e) (whole_terminated end (lines end bytes))) some))
   | inr h ↦
       ap (terminated end) h.joins ∙ (flat_map-append (λ (l : List ℕ). l ++ end ∷ []) h.front (h.last ∷ [])
-      ∙ (ap (λ xs. terminated end h.front ++ xs) (append-nil (h.last ++ end ∷ [])) ∙ (sym (append_assoc (terminated end h.front) h.last (end ∷ [])) ∙ ap (λ xs. xs ++ end ∷ []) (sym h.whole))))
+      ∙ (ap (λ xs. terminated end h.front ++ xs) (append-nil (h.last ++ end ∷ []))
+      ∙ (sym (append_assoc (terminated end h.front) h.last (end ∷ [])) ∙ ap (λ xs. xs ++ end ∷ []) (sym h.whole))))
 ]
 
 pub no_bytes : (end : ℕ) (bytes : List ℕ) → length bytes ≡ 0 → terminated end (lines end bytes) ≡ bytes
@@ -151,7 +174,8 @@ begins_completed end bytes = by_length (length bytes) refl
       | inr ne ↦ (end ∷ [], sym (incomplete_by_last end bytes (omega arith) ne))
     ]
 
-pub some_runs : (q : Search) (bytes : List ℕ) (runs : List Span) → AreRuns q 0 bytes runs → not (length runs == 0) ≡ list_any (selects q) (lines (terminator q) bytes)
+pub some_runs : (q : Search) (bytes : List ℕ) (runs : List Span) → AreRuns q 0 bytes runs
+    → not (length runs == 0) ≡ list_any (selects q) (lines (terminator q) bytes)
 some_runs q bytes [] h = sym (any_selected q 0 bytes [] h)
 some_runs q bytes (r ∷ runs) h = ap not (ne_eqb (length (r ∷ runs)) 0 (λ e. omega arith)) ∙ sym (any_selected q 0 bytes (r ∷ runs) h ∙ lt-ltb 0 (length (r ∷ runs)) (omega arith))
 
@@ -162,10 +186,12 @@ pub record IsStill (t : Trail) : Type 0 where
   pub countdown : t.countdown ≡ 0
   pub window : t.window ≡ []
 
-added_bare : (q : Search) (name : List ℕ) (earlier : Bool) (t : Trail) (selected : Bool) (l : List ℕ) → IsStill t → added bare (terminator q) name earlier t selected l ≡ cond selected (l ++ terminator q ∷ []) []
+added_bare : (q : Search) (name : List ℕ) (earlier : Bool) (t : Trail) (selected : Bool) (l : List ℕ) → IsStill t
+    → added bare (terminator q) name earlier t selected l ≡ cond selected (l ++ terminator q ∷ []) []
 added_bare q name earlier t true l h =
     ap (λ w. context_rows bare (terminator q) name ((t.number + 1) - length w) w ++ (l ++ terminator q ∷ [])) h.window
-added_bare q name earlier t false l h = ap (λ n. when (nat_lt 0 n) (row bare (terminator q) name (t.number + 1) 45 l)) h.countdown
+added_bare q name earlier t false l h =
+    ap (λ n. when (nat_lt 0 n) (row bare (terminator q) name (t.number + 1) 45 l)) h.countdown
 
 none_kept : (xs : List (List ℕ)) → keep_last 0 xs ≡ []
 none_kept xs = drop_all (length xs - 0) xs (omega arith)
@@ -189,7 +215,8 @@ run_still q t (l ∷ ls) h = run_still q (step bare t (selects q l) l) ls (step_
 cursor_still : (q : Search) (p : List Step) → IsStill (cursor_of q bare p).trail
 cursor_still q [] = record { countdown = refl; window = refl }
 cursor_still q (Opens name ∷ p) = record { countdown = refl; window = refl }
-cursor_still q (Announces b ∷ p) = run_still q (cursor_of q bare p).trail (lines (terminator q) b.bytes) (cursor_still q p)
+cursor_still q (Announces b ∷ p) =
+    run_still q (cursor_of q bare p).trail (lines (terminator q) b.bytes) (cursor_still q p)
 cursor_still q (Ends failed ∷ p) = cursor_still q p
 cursor_still q (Misses name ∷ p) = cursor_still q p
 
@@ -199,7 +226,8 @@ step_bare q (Opens name) p whole = append-nil (flat_map (λ b. bare_rows q b.byt
 step_bare q (Announces b) p whole =
     let c = cursor_of q bare p in
     let rows : block_rows q bare c b.bytes ≡ bare_rows q b.bytes =
-    ap (λ t. cond t (run_pieces q bare c.name c.trail (lines (terminator q) b.bytes)) (run_rows q bare c.name c.earlier c.trail (lines (terminator q) b.bytes))) whole
+    ap (λ t. cond t (run_pieces q bare c.name c.trail (lines (terminator q) b.bytes))
+        (run_rows q bare c.name c.earlier c.trail (lines (terminator q) b.bytes))) whole
     ∙ run_bare q c.name c.earlier c.trail (lines (terminator q) b.bytes) (cursor_still q p) in
     ap (λ xs. flat_map (λ (x : BlockData). bare_rows q x.bytes) (announced p) ++ xs) (rows ∙ sym (append-nil (bare_rows q b.bytes)))
     ∙ sym (flat_map-append (λ (x : BlockData). bare_rows q x.bytes) (announced p) (b ∷ []))
@@ -207,7 +235,8 @@ step_bare q (Ends failed) p whole = append-nil (flat_map (λ b. bare_rows q b.by
 step_bare q (Misses name) p whole = append-nil (flat_map (λ b. bare_rows q b.bytes) (announced p))
 
 -- the output is that of each block, one after the other
-pub output_bare : (q : Search) (p : List Step) → q.text.pieces ≡ false → IsShaped (terminator q) p → output q bare (entries_of p) ≡ flat_map (λ b. bare_rows q b.bytes) (announced p)
+pub output_bare : (q : Search) (p : List Step) → q.text.pieces ≡ false → IsShaped (terminator q) p
+    → output q bare (entries_of p) ≡ flat_map (λ b. bare_rows q b.bytes) (announced p)
 output_bare q [] whole lawful = refl
 output_bare q (s ∷ p) whole lawful =
     output_step q bare refl p (cursor_of q bare p) (cursor_is q bare refl p lawful.1) s lawful

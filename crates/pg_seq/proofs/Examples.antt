@@ -51,43 +51,53 @@ unfolding has_hit file_rows digits
 selected_lines = refl
 
 -- with -z byte 0 ends lines, and a newline is a byte of its line
-ends_with_zero : output (zeros 98) plain (file (codes "a\nb" ++ 0 ∷ codes "xyz" ++ 0 ∷ codes "b\n") ∷ []) ≡ codes "a\nb" ++ 0 ∷ codes "b\n" ++ 0 ∷ []
+ends_with_zero : output (zeros 98) plain (file (codes "a\nb" ++ 0 ∷ codes "xyz" ++ 0 ∷ codes "b\n") ∷ [])
+    ≡ codes "a\nb" ++ 0 ∷ codes "b\n" ++ 0 ∷ []
 unfolding has_hit file_rows digits
 ends_with_zero = refl
 
-context_and_separator : output (query 109) (record plain { numbers = true; before = Some 1; after = Some 1 }) (file (codes "a\nb\nm\nc\nd\ne\nm\n") ∷ []) ≡ codes "2-b\n3:m\n4-c\n--\n6-e\n7:m\n"
+context_and_separator : output (query 109) (record plain { numbers = true; before = Some 1; after = Some 1 })
+    (file (codes "a\nb\nm\nc\nd\ne\nm\n") ∷ []) ≡ codes "2-b\n3:m\n4-c\n--\n6-e\n7:m\n"
 unfolding has_hit file_rows digits
 context_and_separator = refl
 
-context_joins : output (query 109) (record plain { numbers = true; before = Some 3 }) (file (codes "m\na\nb\nm\n") ∷ []) ≡ codes "1:m\n2-a\n3-b\n4:m\n"
+context_joins : output (query 109) (record plain { numbers = true; before = Some 3 }) (file (codes "m\na\nb\nm\n") ∷ [])
+    ≡ codes "1:m\n2-a\n3-b\n4:m\n"
 unfolding has_hit file_rows digits
 context_joins = refl
 
-limit_then_context : output (query 109) (record plain { numbers = true; limit = Some 1; after = Some 2 }) (file (codes "m\na\nm\nb\n") ∷ []) ≡ codes "1:m\n2-a\n3-m\n"
+limit_then_context : output (query 109) (record plain { numbers = true; limit = Some 1; after = Some 2 })
+    (file (codes "m\na\nm\nb\n") ∷ []) ≡ codes "1:m\n2-a\n3-m\n"
 unfolding has_hit file_rows digits
 limit_then_context = refl
 
-counts : output (query 120) (record plain { names = true; mode = Count }) (Read (codes "g") [] Ended ∷ Read (codes "f") (codes "x\n") Ended ∷ []) ≡ codes "f:1\ng:0\n"
+counts : output (query 120) (record plain { names = true; mode = Count })
+    (Read (codes "g") [] Ended ∷ Read (codes "f") (codes "x\n") Ended ∷ []) ≡ codes "f:1\ng:0\n"
 unfolding has_hit file_rows digits
 counts = refl
 
-separator_between_files : output (query 109) (record plain { names = true; after = Some 0 }) (Read (codes "g") (codes "m\n") Ended ∷ Read (codes "f") (codes "m\n") Ended ∷ []) ≡ codes "f:m\n--\ng:m\n"
+separator_between_files : output (query 109) (record plain { names = true; after = Some 0 })
+    (Read (codes "g") (codes "m\n") Ended ∷ Read (codes "f") (codes "m\n") Ended ∷ []) ≡ codes "f:m\n--\ng:m\n"
 unfolding has_hit file_rows digits
 separator_between_files = refl
 
-names_of_files : output (query 120) (record plain { names = true; mode = Names }) (Read (codes "g") (codes "y\n") Ended ∷ Read (codes "f") (codes "y\nx\n") Ended ∷ []) ≡ codes "f\n"
+names_of_files : output (query 120) (record plain { names = true; mode = Names })
+    (Read (codes "g") (codes "y\n") Ended ∷ Read (codes "f") (codes "y\nx\n") Ended ∷ []) ≡ codes "f\n"
 unfolding has_hit file_rows digits
 names_of_files = refl
 
-limited_count : output (query 120) (record plain { mode = Count; limit = Some 2 }) (file (codes "x\nx\nx\n") ∷ []) ≡ codes "2\n"
+limited_count : output (query 120) (record plain { mode = Count; limit = Some 2 }) (file (codes "x\nx\nx\n") ∷ [])
+    ≡ codes "2\n"
 unfolding has_hit file_rows digits
 limited_count = refl
 
-limited_context : output (query 109) (record plain { limit = Some 1; before = Some 1; after = Some 1 }) (file (codes "a\nm\nm\n") ∷ []) ≡ codes "a\nm\nm\n"
+limited_context : output (query 109) (record plain { limit = Some 1; before = Some 1; after = Some 1 })
+    (file (codes "a\nm\nm\n") ∷ []) ≡ codes "a\nm\nm\n"
 unfolding has_hit file_rows digits
 limited_context = refl
 
-matched_parts : output (parts 109) (record plain { numbers = true; limit = Some 2 }) (file (codes "m\nmm\nm\n") ∷ []) ≡ codes "1:m\n2:m\n2:m\n"
+matched_parts : output (parts 109) (record plain { numbers = true; limit = Some 2 }) (file (codes "m\nmm\nm\n") ∷ [])
+    ≡ codes "1:m\n2:m\n2:m\n"
 unfolding has_hit file_rows parts_from digits
 matched_parts = refl
 
@@ -95,7 +105,8 @@ missed_file : status (query 120) plain (Missed (codes "missing") ∷ file (codes
 unfolding has_hit
 missed_file = refl
 
-quiet_with_missed_file : status (query 120) (record plain { mode = Quiet }) (Missed (codes "missing") ∷ file (codes "x\n") ∷ []) ≡ 0
+quiet_with_missed_file : status (query 120) (record plain { mode = Quiet })
+    (Missed (codes "missing") ∷ file (codes "x\n") ∷ []) ≡ 0
 unfolding has_hit
 quiet_with_missed_file = refl
 
@@ -118,7 +129,8 @@ unfolding has_hit file_rows digits
 quiet_file = refl
 
 -- a missed name gives no row
-missed_row : output (query 120) (record plain { names = true }) (Missed (codes "missing") ∷ file (codes "x\n") ∷ []) ≡ codes "f:x\n"
+missed_row : output (query 120) (record plain { names = true }) (Missed (codes "missing") ∷ file (codes "x\n") ∷ [])
+    ≡ codes "f:x\n"
 unfolding has_hit file_rows digits
 missed_row = refl
 

@@ -1,5 +1,6 @@
 -- Slots from the first on that have their results.
-use Rattle.std.proofs.Common.{◌≡◌, ℕ, zero, suc, ◌+◌, ◌<◌, Bool, true, false, ◌&&◌, ◌||◌, cond, List, [], ◌∷◌, ◌++◌, length, take, drop, map, get_or, refl, sym, ap, ◌∙◌, subst, arith, Option, Some, IfSome}
+use Rattle.std.proofs.Common.{◌≡◌, ℕ, zero, suc, ◌+◌, ◌<◌, Bool, true, false, ◌&&◌, ◌||◌, cond, List, [], ◌∷◌, ◌++◌}
+use Rattle.std.proofs.Common.{length, take, drop, map, get_or, refl, sym, ap, ◌∙◌, subst, arith, Option, Some, IfSome}
 use Rattle.std.specs.Bool.{MatchBool}
 use Rattle.std.specs.List.{flat_map, list_all, list_any, AllByRecursion, AllWithin, HoldsAt}
 use Rattle.std.proofs.lemmas.List.Concat.{flat_map-append}
@@ -34,20 +35,24 @@ module _ {A : Type 0} where
 
   -- the rows of all slots that are ready
   pub rows_behind : (q : Search) (gone slots : List (Slot A)) → AllByRecursion (λ slot. has_result slot ≡ true) gone
-      → flat_map (slot_rows q) (take (ready (gone ++ slots)) (gone ++ slots)) ≡ flat_map (slot_rows q) gone ++ flat_map (slot_rows q) (take (ready slots) slots)
+      → flat_map (slot_rows q) (take (ready (gone ++ slots)) (gone ++ slots))
+          ≡ flat_map (slot_rows q) gone ++ flat_map (slot_rows q) (take (ready slots) slots)
   rows_behind q gone slots h =
-      ap (flat_map (slot_rows q)) (take_behind gone slots (ready slots) (ready (gone ++ slots)) (ready_behind gone slots h))
+      ap (flat_map (slot_rows q)) (take_behind gone slots (ready slots) (ready (gone ++ slots))
+          (ready_behind gone slots h))
       ∙ flat_map-append (slot_rows q) gone (take (ready slots) slots)
 
   -- the first of them
   pub rows_first : (q : Search) (slot : Slot A) (slots : List (Slot A)) → has_result slot ≡ true
-      → flat_map (slot_rows q) (take (ready (slot ∷ slots)) (slot ∷ slots)) ≡ slot_rows q slot ++ flat_map (slot_rows q) (take (ready slots) slots)
+      → flat_map (slot_rows q) (take (ready (slot ∷ slots)) (slot ∷ slots))
+          ≡ slot_rows q slot ++ flat_map (slot_rows q) (take (ready slots) slots)
   rows_first q slot slots some =
       let here : cond (has_result slot) (1 + ready slots) 0 ≡ 1 + ready slots = ap (λ b. cond b (1 + ready slots) 0) some in
       let count : ready (slot ∷ slots) ≡ suc (ready slots) = omega arith in
       ap (λ n. flat_map (slot_rows q) (take n (slot ∷ slots))) count
 
-  pub rows_none : (q : Search) (slots : List (Slot A)) → ready slots ≡ 0 → flat_map (slot_rows q) (take (ready slots) slots) ≡ []
+  pub rows_none : (q : Search) (slots : List (Slot A)) → ready slots ≡ 0
+      → flat_map (slot_rows q) (take (ready slots) slots) ≡ []
   rows_none q slots none = ap (λ n. flat_map (slot_rows q) (take n slots)) none
 
   -- whether all slots have their results
@@ -60,25 +65,33 @@ module _ {A : Type 0} where
   all_behind (x ∷ gone) slots h = ap (λ b. b && list_all (λ t. t) (map has_result (gone ++ slots))) h.0 ∙ all_behind gone slots h.1
 
   -- a result of the query has its text
-  pub query_of : (slot : Slot A) (r : Searched) (q : Search) → IsResultOf q slot → slot.result ≡ Some r → r.query ≡ q.text
+  pub query_of : (slot : Slot A) (r : Searched) (q : Search) → IsResultOf q slot → slot.result ≡ Some r
+      → r.query ≡ q.text
   query_of slot r q h e =
       let P : Option Searched → Type 0 = λ o. IfSome o (λ x. (x.query ≡ q.text) × (x.block ≡ slot_block slot)) in
       (subst P e h).0
 
   -- what `any` answers of slots whose results are the query's
   pub any_by_cases : (q : Search) (r : Bool) (slots : List (Slot A)) → AllByRecursion (IsResultOf q) slots
-      → MatchBool r ((k : ℕ) × (k < length slots) × HoldsAt (λ x. IsResultOf q x → slot_selects q x ≡ true) slots k) (AllWithin (λ x. IsResultOf q x → slot_selects q x ≡ false) slots 0 (length slots)) → r ≡ list_any (slot_selects q) slots
+      → MatchBool r ((k : ℕ) × (k < length slots) × HoldsAt (λ x. IsResultOf q x → slot_selects q x ≡ true) slots k)
+          (AllWithin (λ x. IsResultOf q x → slot_selects q x ≡ false) slots 0 (length slots))
+              → r ≡ list_any (slot_selects q) slots
   any_by_cases q true slots are h = sym (one slots h.0 are h.1 h.2)
     where
-      one : (xs : List (Slot A)) (k : ℕ) → AllByRecursion (IsResultOf q) xs → k < length xs → HoldsAt (λ x. IsResultOf q x → slot_selects q x ≡ true) xs k → list_any (slot_selects q) xs ≡ true
+      one : (xs : List (Slot A)) (k : ℕ) → AllByRecursion (IsResultOf q) xs → k < length xs
+          → HoldsAt (λ x. IsResultOf q x → slot_selects q x ≡ true) xs k → list_any (slot_selects q) xs ≡ true
       one [] k are below h = absurd (omega arith)
       one (x ∷ xs) zero are below h = ap (λ b. b || list_any (slot_selects q) xs) (h x are.0)
-      one (x ∷ xs) (suc k) are below h = ap (λ b. slot_selects q x || b) (one xs k are.1 (omega arith) h) ∙ or_true (slot_selects q x)
+      one (x ∷ xs) (suc k) are below h = ap (λ b. slot_selects q x || b) (one xs k are.1 (omega arith) h)
+          ∙ or_true (slot_selects q x)
   any_by_cases q false slots are h = sym (none slots are h)
     where
-      none : (xs : List (Slot A)) → AllByRecursion (IsResultOf q) xs → AllWithin (λ x. IsResultOf q x → slot_selects q x ≡ false) xs 0 (length xs) → list_any (slot_selects q) xs ≡ false
+      none : (xs : List (Slot A)) → AllByRecursion (IsResultOf q) xs
+          → AllWithin (λ x. IsResultOf q x → slot_selects q x ≡ false) xs 0 (length xs)
+          → list_any (slot_selects q) xs ≡ false
       none [] are h = refl
-      none (x ∷ xs) are h = ap (λ b. b || list_any (slot_selects q) xs) (h 0 x (omega arith) (omega arith) are.0) ∙ none xs are.1 (λ k d low high. h (suc k) d (omega arith) (omega arith))
+      none (x ∷ xs) are h = ap (λ b. b || list_any (slot_selects q) xs) (h 0 x (omega arith) (omega arith) are.0)
+          ∙ none xs are.1 (λ k d low high. h (suc k) d (omega arith) (omega arith))
 
   -- the first slot and the others
   pub first_slot : (slots rest : List (Slot A)) (slot : Slot A) → 0 < length slots → slot ≡ get_or slots 0 slot → rest ≡ drop 1 slots → slots ≡ slot ∷ rest

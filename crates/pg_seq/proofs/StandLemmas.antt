@@ -106,7 +106,8 @@ keys_weaker (key ∷ keys) n m le h = (omega (arith, h.0), keys_weaker keys n m 
 abbrev block_selects : Search → BlockData → Bool
 block_selects q b = list_any (selects q) (lines (terminator q) b.bytes)
 
-selected_entries : (q : Search) (p : List Step) → IsShaped (terminator q) p → list_any (has_selected q) (entries_of p) ≡ list_any (block_selects q) (announced p)
+selected_entries : (q : Search) (p : List Step) → IsShaped (terminator q) p
+    → list_any (has_selected q) (entries_of p) ≡ list_any (block_selects q) (announced p)
 selected_entries q [] lawful = refl
 selected_entries q (Opens name ∷ p) lawful = selected_entries q p lawful.1
 selected_entries q (Misses name ∷ p) lawful = selected_entries q p lawful.1
@@ -116,8 +117,12 @@ selected_entries q (Ends failed ∷ p) lawful =
 selected_entries q (Announces b ∷ p) lawful =
     let f = (cursor_is q bare refl p lawful.1).file lawful.0.running in
     let rest = list_any (has_selected q) f.rest in
-    let seam : lines (terminator q) (f.bytes ++ b.bytes) ≡ lines (terminator q) f.bytes ++ lines (terminator q) b.bytes =
-    ap (λ xs. lines (terminator q) (xs ++ b.bytes)) f.same ∙ (lines-append (terminator q) (joined (last_blocks p)) b.bytes (closed_joined (terminator q) (last_blocks p) lawful.0.seam) ∙ ap (λ xs. lines (terminator q) xs ++ lines (terminator q) b.bytes) (sym f.same)) in
+    let seam : lines (terminator q) (f.bytes ++ b.bytes)
+        ≡ lines (terminator q) f.bytes ++ lines (terminator q) b.bytes =
+    ap (λ xs. lines (terminator q) (xs ++ b.bytes)) f.same
+        ∙ (lines-append (terminator q) (joined (last_blocks p)) b.bytes
+            (closed_joined (terminator q) (last_blocks p) lawful.0.seam)
+                ∙ ap (λ xs. lines (terminator q) xs ++ lines (terminator q) b.bytes) (sym f.same)) in
     ap (λ es. list_any (has_selected q) (with_bytes b.bytes es)) f.entries
     ∙ (ap (λ ls. list_any (selects q) ls || rest) seam
     ∙ (ap (λ t. t || rest) (list_any-append (selects q) (lines (terminator q) f.bytes) (lines (terminator q) b.bytes))
@@ -133,7 +138,8 @@ selected_entries q (Announces b ∷ p) lawful =
     turn false false false = refl
 
 -- the same by the slots, where all are ready
-slot_selected : (q : Search) (b : BlockData) (o : Option Searched) → is_some o ≡ true → IfSome o (λ r. (r.query ≡ q.text) × (r.block ≡ b)) → block_selects q b ≡ result_selects q o
+slot_selected : (q : Search) (b : BlockData) (o : Option Searched) → is_some o ≡ true
+    → IfSome o (λ r. (r.query ≡ q.text) × (r.block ≡ b)) → block_selects q b ≡ result_selects q o
 slot_selected q b None e h = absurd (false≢true e)
 slot_selected q b (Some r) e h = ap (block_selects q) (sym h.1)
 
@@ -162,16 +168,19 @@ module _ {A : Type 0} where
   all_later P [] ys h = h
   all_later P (x ∷ xs) ys h = all_later P xs ys h.1
 
-  pub held_results : (s : Sequencer A) (past : Past) → Stands s past → AllByRecursion (IsResultOf past.query) s.buffer.slots.items
+  pub held_results : (s : Sequencer A) (past : Past) → Stands s past
+      → AllByRecursion (IsResultOf past.query) s.buffer.slots.items
   held_results s past h = all_later (IsResultOf past.query) h.gone s.buffer.slots.items h.results
 
-  pub first_result : (s : Sequencer A) (past : Past) (slot : Slot A) (later : List (Slot A)) → Stands s past → s.buffer.slots.items ≡ slot ∷ later → IsResultOf past.query slot
+  pub first_result : (s : Sequencer A) (past : Past) (slot : Slot A) (later : List (Slot A)) → Stands s past
+      → s.buffer.slots.items ≡ slot ∷ later → IsResultOf past.query slot
   first_result s past slot later h e =
       let P : List (Slot A) → Type 0 = λ xs. AllByRecursion (IsResultOf past.query) xs in
       (subst P e (held_results s past h)).0
 
   -- what may be handed out are the rows of the slots that are ready
-  handed_all : (s : Sequencer A) (past : Past) (h : Stands s past) → handed past ≡ flat_map (slot_rows past.query) (take (ready (all s h)) (all s h))
+  handed_all : (s : Sequencer A) (past : Past) (h : Stands s past)
+      → handed past ≡ flat_map (slot_rows past.query) (take (ready (all s h)) (all s h))
   unfolding handed_after front_after
   handed_all s past h =
       let q = past.query in
@@ -185,34 +194,45 @@ module _ {A : Type 0} where
 
   -- the rows of the slots that were given up, and of those that are held and ready
   handed_is : (s : Sequencer A) (past : Past) (h : Stands s past)
-      → handed past ≡ flat_map (slot_rows past.query) h.gone ++ flat_map (slot_rows past.query) (take (ready s.buffer.slots.items) s.buffer.slots.items)
+      → handed past ≡ flat_map (slot_rows past.query) h.gone ++ flat_map (slot_rows past.query)
+          (take (ready s.buffer.slots.items) s.buffer.slots.items)
   handed_is s past h = handed_all s past h ∙ rows_behind past.query h.gone s.buffer.slots.items h.given_up.results
 
   -- where the first slot has no result, all was written
   pub all_handed : (s : Sequencer A) (past : Past) → Stands s past → s.failed ≡ false → ready s.buffer.slots.items ≡ 0 → past.written ≡ handed past
   all_handed s past h f none =
-      h.written f ∙ (sym (append-nil (flat_map (slot_rows past.query) h.gone)) ∙ (ap (λ w. flat_map (slot_rows past.query) h.gone ++ w) (sym (rows_none past.query s.buffer.slots.items none)) ∙ sym (handed_is s past h)))
+      h.written f ∙ (sym (append-nil (flat_map (slot_rows past.query) h.gone))
+          ∙ (ap (λ w. flat_map (slot_rows past.query) h.gone ++ w)
+              (sym (rows_none past.query s.buffer.slots.items none)) ∙ sym (handed_is s past h)))
 
   -- a part of the first slot's rows
-  pub part_of : (s : Sequencer A) (past : Past) (before after : List ℕ) → Stands s past → (p : HandsPart s.buffer before after) → TakesPart (slot_rows past.query p.slot) before after
+  pub part_of : (s : Sequencer A) (past : Past) (before after : List ℕ) → Stands s past
+      → (p : HandsPart s.buffer before after) → TakesPart (slot_rows past.query p.slot) before after
   part_of s past before after h p = p.part past.query h.trees (first_result s past p.slot p.later h p.slots)
 
-  pub part_handed : (s : Sequencer A) (past : Past) (before after : List ℕ) (h : Stands s past) → s.failed ≡ false → (p : HandsPart s.buffer before after) → IsBeginning (past.written ++ (part_of s past before after h p).0) (handed past)
+  pub part_handed : (s : Sequencer A) (past : Past) (before after : List ℕ) (h : Stands s past) → s.failed ≡ false
+      → (p : HandsPart s.buffer before after)
+      → IsBeginning (past.written ++ (part_of s past before after h p).0) (handed past)
   part_handed s past before after h f p =
       let part = part_of s past before after h p in
       let b = part.1 in
       let gone = flat_map (slot_rows past.query) h.gone in
       let later = flat_map (slot_rows past.query) (take (ready p.later) p.later) in
-      let first : flat_map (slot_rows past.query) (take (ready s.buffer.slots.items) s.buffer.slots.items) ≡ slot_rows past.query p.slot ++ later =
-      ap (λ xs. flat_map (slot_rows past.query) (take (ready xs) xs)) p.slots ∙ rows_first past.query p.slot p.later p.some in (
+      let first : flat_map (slot_rows past.query) (take (ready s.buffer.slots.items) s.buffer.slots.items)
+          ≡ slot_rows past.query p.slot ++ later =
+      ap (λ xs. flat_map (slot_rows past.query) (take (ready xs) xs)) p.slots
+          ∙ rows_first past.query p.slot p.later p.some in (
         b.0 ++ later,
         append_assoc past.written part.0 (b.0 ++ later)
             ∙ (ap (λ w. past.written ++ w) (sym (append_assoc part.0 b.0 later) ∙ ap (λ w. w ++ later) b.1)
-            ∙ (ap (λ w. w ++ (slot_rows past.query p.slot ++ later)) (h.written f) ∙ (ap (λ w. gone ++ w) (sym first) ∙ sym (handed_is s past h)))),
+            ∙ (ap (λ w. w ++ (slot_rows past.query p.slot ++ later)) (h.written f)
+            ∙ (ap (λ w. gone ++ w) (sym first) ∙ sym (handed_is s past h)))),
       )
 
   -- The first slot's rows were written, and it was given up.
-  pub handed_stands : (s new : Sequencer A) (past : Past) (before after : List ℕ) → Stands s past → IsAlike s new → new.failed ≡ s.failed → (o : HandsOut s.buffer new.buffer before after) → Stands new (wrote past (slot_rows past.query o.slot))
+  pub handed_stands : (s new : Sequencer A) (past : Past) (before after : List ℕ) → Stands s past → IsAlike s new
+      → new.failed ≡ s.failed → (o : HandsOut s.buffer new.buffer before after)
+      → Stands new (wrote past (slot_rows past.query o.slot))
   handed_stands s new past before after h a failed' o =
       let gone = h.gone ++ o.slot ∷ [] in
       let same : all s h ≡ gone ++ new.buffer.slots.items = ap (λ xs. h.gone ++ xs) o.slots ∙ sym (append_assoc h.gone (o.slot ∷ []) new.buffer.slots.items) in
@@ -240,16 +260,21 @@ module _ {A : Type 0} where
         known = subst K same h.known;
         failed = h.failed ∙ sym failed';
         written = λ e. ap (λ w. w ++ slot_rows past.query o.slot) (h.written (sym failed' ∙ e))
-            ∙ (ap (λ w. flat_map (slot_rows past.query) h.gone ++ w) (sym (append-nil (slot_rows past.query o.slot))) ∙ sym (flat_map-append (slot_rows past.query) h.gone (o.slot ∷ [])));
-        selected = o.selected past.query h.trees (first_result s past o.slot new.buffer.slots.items h o.slots) ∙ (ap (λ b. b || slot_selects past.query o.slot) h.selected ∙ selected_more h.gone o.slot);
+            ∙ (ap (λ w. flat_map (slot_rows past.query) h.gone ++ w) (sym (append-nil (slot_rows past.query o.slot)))
+            ∙ sym (flat_map-append (slot_rows past.query) h.gone (o.slot ∷ [])));
+        selected = o.selected past.query h.trees (first_result s past o.slot new.buffer.slots.items h o.slots)
+            ∙ (ap (λ b. b || slot_selects past.query o.slot) h.selected ∙ selected_more h.gone o.slot);
       }
     where
       or_none : (b : Bool) → (b || false) ≡ b
       or_none true = refl
       or_none false = refl
 
-      selected_more : (gone : List (Slot A)) (x : Slot A) → (list_any (slot_selects past.query) gone || slot_selects past.query x) ≡ list_any (slot_selects past.query) (gone ++ x ∷ [])
-      selected_more gone x = ap (λ b. list_any (slot_selects past.query) gone || b) (sym (or_none (slot_selects past.query x))) ∙ sym (list_any-append (slot_selects past.query) gone (x ∷ []))
+      selected_more : (gone : List (Slot A)) (x : Slot A)
+          → (list_any (slot_selects past.query) gone || slot_selects past.query x)
+              ≡ list_any (slot_selects past.query) (gone ++ x ∷ [])
+      selected_more gone x = ap (λ b. list_any (slot_selects past.query) gone || b)
+          (sym (or_none (slot_selects past.query x))) ∙ sym (list_any-append (slot_selects past.query) gone (x ∷ []))
 
   -- the same buffer, whatever its room; the text that was written counts where no write failed
   rested : (s new : Sequencer A) (past : Past) (written : List ℕ) (failed : Bool) → Stands s past → IsAlike s new → Keeps s.buffer new.buffer → failed ≡ new.failed → (new.failed ≡ false → written ≡ past.written × (s.failed ≡ false))
@@ -293,7 +318,8 @@ module _ {A : Type 0} where
   pub ended_stands : (s new : Sequencer A) (past : Past) (failed : Bool) → is_open (plan past) ≡ true → Stands s past → new.query ≡ s.query → new.opened ≡ s.opened → new.running ≡ false → new.bad ≡ (s.bad || failed)
       → Keeps s.buffer new.buffer → new.failed ≡ s.failed → Stands new (planned past (Ends failed))
   ended_stands s new past failed open' h query opened running bad k failed' =
-      let f = (cursor_is past.query bare refl (plan past) (shape_of (terminator past.query) (plan past) h.lawful)).file open' in
+      let f = (cursor_is past.query bare refl (plan past)
+          (shape_of (terminator past.query) (plan past) h.lawful)).file open' in
       let same : all s h ≡ h.gone ++ new.buffer.slots.items = ap (λ xs. h.gone ++ xs) (sym k.slots) in
       let R : List (Slot A) → Type 0 = λ xs. AllByRecursion (IsResultOf past.query) xs in
       let K : List (Slot A) → Type 0 = λ xs. AllByRecursion (λ (key : ℕ × ℕ). key.1 < length xs) (taken_of past.query past.events) in
@@ -326,7 +352,9 @@ module _ {A : Type 0} where
       ap length h.blocks ∙ (length-map (all s h) slot_block ∙ (length-append h.gone s.buffer.slots.items ∙ ap (λ n. n + length s.buffer.slots.items) h.given_up.count))
 
   -- each block has a byte, so there is room for one more
-  pub has_room : (s : Sequencer A) (past : Past) (b : BlockData) → Stands s past → IsNext (terminator past.query) (plan past) b × IsSmall (terminator past.query) (plan past) b → s.buffer.handed + length s.buffer.slots.items < 2 ^ 62
+  pub has_room : (s : Sequencer A) (past : Past) (b : BlockData) → Stands s past
+      → IsNext (terminator past.query) (plan past) b × IsSmall (terminator past.query) (plan past) b
+      → s.buffer.handed + length s.buffer.slots.items < 2 ^ 62
   has_room s past b h m =
       let last : last_blocks (plan past) ≡ announced (plan past) = single_last (terminator past.query) (plan past) h.lawful h.single in
       let total : length (joined (announced (plan past))) + length b.bytes ≤ 2 ^ 62 = (let P : List BlockData → Type 0 = λ bs. length (joined bs) + length b.bytes ≤ 2 ^ 62 in subst P last m.1.small) in
@@ -334,7 +362,9 @@ module _ {A : Type 0} where
       let some : 0 < length b.bytes = not_empty b.bytes m.0.some in
       omega (arith, count_is s past h)
 
-  pub announced_stands : (s new : Sequencer A) (past : Past) (b : BlockData) → Stands s past → IsNext (terminator past.query) (plan past) b × IsSmall (terminator past.query) (plan past) b → IsAlike s new → new.failed ≡ s.failed → Pushes b s.buffer new.buffer → Stands new (planned past (Announces b))
+  pub announced_stands : (s new : Sequencer A) (past : Past) (b : BlockData) → Stands s past
+      → IsNext (terminator past.query) (plan past) b × IsSmall (terminator past.query) (plan past) b → IsAlike s new
+      → new.failed ≡ s.failed → Pushes b s.buffer new.buffer → Stands new (planned past (Announces b))
   announced_stands s new past b h may a failed' p =
       let n = may.0 in
       let old = all s h in
@@ -348,7 +378,8 @@ module _ {A : Type 0} where
       let no_result : has_result p.slot ≡ false = ap (λ o. is_some o) p.empty in
       let N : List (Slot A) → Type 0 = λ xs. AllByRecursion (IsResultOf past.query) xs in
       let K : List (Slot A) → Type 0 = λ xs. AllByRecursion (λ (key : ℕ × ℕ). key.1 < length xs) keys in
-      let I : Option Searched → Type 0 = λ o. IfSome o (λ r. (r.query ≡ past.query.text) × (r.block ≡ slot_block p.slot)) in
+      let I : Option Searched → Type 0 =
+          λ o. IfSome o (λ r. (r.query ≡ past.query.text) × (r.block ≡ slot_block p.slot)) in
       record {
         gone = h.gone;
         given_up = record { count = h.given_up.count ∙ sym p.handed; results = h.given_up.results };
@@ -384,26 +415,35 @@ module _ {A : Type 0} where
 
   -- whether a line of the files is selected, block by block
 
-  selected_slots : (q : Search) (slots : List (Slot A)) → ready slots ≡ length slots → AllByRecursion (IsResultOf q) slots → list_any (block_selects q) (map slot_block slots) ≡ list_any (slot_selects q) slots
+  selected_slots : (q : Search) (slots : List (Slot A)) → ready slots ≡ length slots
+      → AllByRecursion (IsResultOf q) slots
+      → list_any (block_selects q) (map slot_block slots) ≡ list_any (slot_selects q) slots
   selected_slots q [] e h = refl
   selected_slots q (x ∷ slots) e h =
       let b : has_result x ≡ true = cond_pos (has_result x) (ready slots) (omega arith) in
       let all : cond (has_result x) (1 + ready slots) 0 ≡ 1 + ready slots = ap (λ t. cond t (1 + ready slots) 0) b in
-      ap (λ t. t || list_any (block_selects q) (map slot_block slots)) (slot_selected q (slot_block x) x.result b h.0) ∙ ap (λ t. slot_selects q x || t) (selected_slots q slots (omega arith) h.1)
+      ap (λ t. t || list_any (block_selects q) (map slot_block slots)) (slot_selected q (slot_block x) x.result b h.0)
+          ∙ ap (λ t. slot_selects q x || t) (selected_slots q slots (omega arith) h.1)
 
-  pub status_is : (s : Sequencer A) (past : Past) → Stands s past → IsComplete past → status_of past ≡ cond s.bad 2 (cond (s.buffer.selected || list_any (slot_selects past.query) s.buffer.slots.items) 0 1)
+  pub status_is : (s : Sequencer A) (past : Past) → Stands s past → IsComplete past
+      → status_of past ≡ cond s.bad 2
+          (cond (s.buffer.selected || list_any (slot_selects past.query) s.buffer.slots.items) 0 1)
   status_is s past h complete =
       let q = past.query in
       let slots = s.buffer.slots.items in
       let results : list_all has_result slots ≡ true = (complete_is s past h (sym h.running ∙ complete.0)).1 complete in
       let whole : ready (all s h) ≡ length (all s h) = ready_all (all s h) (all_behind h.gone slots h.given_up.results ∙ results) in
-      let selected : list_any (has_selected q) (entries_of (plan past)) ≡ (s.buffer.selected || list_any (slot_selects past.query) slots) =
-      selected_entries q (plan past) (shape_of (terminator past.query) (plan past) h.lawful) ∙ (ap (list_any (block_selects q)) h.blocks ∙ (selected_slots q (all s h) whole h.results
-      ∙ (list_any-append (slot_selects past.query) h.gone slots ∙ ap (λ b. b || list_any (slot_selects past.query) slots) (sym h.selected)))) in
+      let selected : list_any (has_selected q) (entries_of (plan past))
+          ≡ (s.buffer.selected || list_any (slot_selects past.query) slots) =
+      selected_entries q (plan past) (shape_of (terminator past.query) (plan past) h.lawful)
+          ∙ (ap (list_any (block_selects q)) h.blocks ∙ (selected_slots q (all s h) whole h.results
+      ∙ (list_any-append (slot_selects past.query) h.gone slots
+      ∙ ap (λ b. b || list_any (slot_selects past.query) slots) (sym h.selected)))) in
       ap (λ format. status q format (entries_of (plan past))) h.format ∙ (ap (λ t. cond t 2 (cond (list_any (has_selected q) (entries_of (plan past))) 0 1)) h.bad ∙ ap (λ t. cond s.bad 2 (cond t 0 1)) selected)
 
   -- by the slots an arrival is what it is by the history
-  answer_all : (s : Sequencer A) (past : Past) (r : Searched) (h : Stands s past) → same_text past.query.text r.query ≡ true → answer past r ≡ arrival_among (all s h) r.block
+  answer_all : (s : Sequencer A) (past : Past) (r : Searched) (h : Stands s past)
+      → same_text past.query.text r.query ≡ true → answer past r ≡ arrival_among (all s h) r.block
   unfolding answer_after
   answer_all s past r h same =
       let keys = taken_of past.query past.events in
@@ -424,7 +464,8 @@ module _ {A : Type 0} where
             ∙ sym (ap (λ t. cond t (arrival_at_slot (slice_get slots b.number) b) Stranger) no')
       ]
 
-  pub answer_is : (s : Sequencer A) (past : Past) (r : Searched) (a : Arrival) → Stands s past → same_text past.query.text r.query ≡ true → IsArrival s.buffer r.block a → a ≡ answer past r
+  pub answer_is : (s : Sequencer A) (past : Past) (r : Searched) (a : Arrival) → Stands s past
+      → same_text past.query.text r.query ≡ true → IsArrival s.buffer r.block a → a ≡ answer past r
   answer_is s past r a h same i = i h.gone h.given_up ∙ sym (answer_all s past r h same)
 
   -- An arrival that is not taken changes nothing.
@@ -469,7 +510,8 @@ module _ {A : Type 0} where
       let b = r.block in
       let k = b.number in
       let keys = taken_of past.query past.events in
-      let known_query : same_text past.query.text r.query ≡ true = elim (cases_Bool (same_text past.query.text r.query)) [
+      let known_query : same_text past.query.text r.query ≡ true =
+          elim (cases_Bool (same_text past.query.text r.query)) [
         | inl e ↦ e
         | inr e ↦ absurd (stranger_taken (sym (ap (λ t. cond t (arrival_at (find (is_block b.file b.number) (announced (plan past))) keys b) Stranger) e) ∙ is))
       ] in
@@ -502,7 +544,8 @@ module _ {A : Type 0} where
         blocks = h.blocks ∙ (sym (same_blocks old k r) ∙ ap (map slot_block) (sym slots));
         numbered = h.numbered;
         taken = subst M (sym h.blocks) (subst T (sym zero_file) (taken_one keys 0 old k k r marks numbers (omega arith) t.below)) ∙ ap (map has_result) (sym slots);
-        results = subst R (sym slots) (results_with past.query old k t.slot r t.at (sym (text_equal.sound past.query.text r.query known_query)) block h.results);
+        results = subst R (sym slots) (results_with past.query old k t.slot r t.at
+            (sym (text_equal.sound past.query.text r.query known_query)) block h.results);
         known = subst L (sym (same_length old k r) ∙ ap length (sym slots)) (subst K (sym zero_file) (t.below, h.known));
         failed = h.failed ∙ sym failed';
         written = λ f. h.written (sym failed' ∙ f);

@@ -1,10 +1,12 @@
 //! What is wrong with a text.
 ghost use Rattle.pg_syntax.specs.declared.fault.FaultKind.TheVariants.{OutOfMemory};
+ghost use Rattle.pg_syntax.specs.FaultTexts.{kind_text};
 ghost use Rattle.std.specs.Prelude.{◌≡◌};
 
 use std::alloc::{AllocError, AllocFailed};
 use std::error::Error;
 use std::fmt;
+
 /// The kinds of faults. Offsets count bytes from 0. Of several faults the one that stands first is
 /// answered, and of two that stand at one offset, a `BadInterval` before a `NothingToRepeat`.
 #[derive(Clone, Copy, Debug, PartialEq, Eq)]
@@ -43,29 +45,37 @@ pub enum FaultKind {
     TooLong,
 }
 
+impl FaultKind {
+    /// What is wrong, in words.
+    pub fn text(self) -> &'static str
+        ensures { result.now ≡ kind_text self }
+    {
+        match self {
+            FaultKind::TrailingBackslash => "trailing backslash",
+            FaultKind::BadEscape => "bad escape",
+            FaultKind::BackReference => "back reference",
+            FaultKind::UnmatchedBracket => "unmatched bracket",
+            FaultKind::BadClass => "bad class",
+            FaultKind::BadCollating => "bad collating element",
+            FaultKind::BadRange => "bad range",
+            FaultKind::UnmatchedGroup => "unmatched group",
+            FaultKind::BadInterval => "bad interval",
+            FaultKind::NothingToRepeat => "nothing to repeat",
+            FaultKind::EmptyOperand => "empty operand",
+            FaultKind::TooDeep => "groups too deep",
+            FaultKind::OutOfMemory => "out of memory",
+            FaultKind::TooLong => "pattern too long",
+        }
+    }
+}
+
 impl fmt::Display for FaultKind {
     ghost use Rattle.std.specs.Prelude.{Some};
-    ghost use Rattle.pg_syntax.specs.FaultTexts.{kind_text};
 
     ghost output = { λ kind. Some (kind_text kind) };
 
     fn fmt<W: fmt::Write>(&self, f: &mut fmt::Formatter<W>) -> fmt::Result {
-        match self {
-            FaultKind::TrailingBackslash => f.write_str("trailing backslash"),
-            FaultKind::BadEscape => f.write_str("bad escape"),
-            FaultKind::BackReference => f.write_str("back reference"),
-            FaultKind::UnmatchedBracket => f.write_str("unmatched bracket"),
-            FaultKind::BadClass => f.write_str("bad class"),
-            FaultKind::BadCollating => f.write_str("bad collating element"),
-            FaultKind::BadRange => f.write_str("bad range"),
-            FaultKind::UnmatchedGroup => f.write_str("unmatched group"),
-            FaultKind::BadInterval => f.write_str("bad interval"),
-            FaultKind::NothingToRepeat => f.write_str("nothing to repeat"),
-            FaultKind::EmptyOperand => f.write_str("empty operand"),
-            FaultKind::TooDeep => f.write_str("groups too deep"),
-            FaultKind::OutOfMemory => f.write_str("out of memory"),
-            FaultKind::TooLong => f.write_str("pattern too long"),
-        }
+        f.write_str(self.text())
     }
 }
 

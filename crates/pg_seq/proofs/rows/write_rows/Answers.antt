@@ -17,17 +17,21 @@ write_spans-requires g c = λ k below.
     let compiled = c.text-text.ensures.compiled in
     let q = search_of text compiled.0 in
     let same : found.query ≡ text = sym (ap (λ (q : Compiled). q.text) c.deref-query.ensures ∙ c.query.ensures) in
-    run_within q 0 found.block.bytes c.runs.result.now (length c.as_slice.result.now) (runs_of q found.query found.block.bytes c.runs.result.now compiled.1 same c.runs.ensures) (omega arith) k no_span below
+    run_within q 0 found.block.bytes c.runs.result.now (length c.as_slice.result.now)
+        (runs_of q found.query found.block.bytes c.runs.result.now compiled.1 same c.runs.ensures)
+            (omega arith) k no_span below
 
 pub returns-clause-all : goal.returns-clause-all
 returns-clause-all g c = λ q trees same.
     let found = c.args.found.now in
     let bytes = c.as_slice.ensures.value ∙ ap (λ (b : BlockData). b.bytes) (c.block-2.view_is ∙ (c.deref-block.ensures ∙ c.block.ensures)) in
     let runs = runs_of q found.query found.block.bytes c.runs.result.now trees same c.runs.ensures in
-    let text : c.deref-query.result.now.text ≡ found.query = ap (λ (q : Compiled). q.text) c.deref-query.ensures ∙ c.query.ensures in
+    let text : c.deref-query.result.now.text ≡ found.query = ap (λ (q : Compiled). q.text) c.deref-query.ensures
+        ∙ c.query.ensures in
     let end = c.terminator.ensures ∙ ap terminator_of (text ∙ same) in
     let rows = ap (λ e. flat_map (span_rows e c.as_slice.result.now) c.runs.result.now) end
-    ∙ (ap (λ bs. flat_map (span_rows (terminator_of q.text) bs) c.runs.result.now) bytes ∙ sym (rows_of_block q found.block.bytes c.runs.result.now runs)) in
+    ∙ (ap (λ bs. flat_map (span_rows (terminator_of q.text) bs) c.runs.result.now) bytes
+    ∙ sym (rows_of_block q found.block.bytes c.runs.result.now runs)) in
     let P : List ℕ → Type 0 = λ text. OnOk c.write_spans.result (g.W.Sink.taken c.write_spans.new.out ≡ g.W.Sink.taken c.args.out.now ++ text) in
     subst P rows c.write_spans.ensures.all
 
@@ -36,9 +40,11 @@ returns-clause-part g c = λ q trees same.
     let found = c.args.found.now in
     let bytes = c.as_slice.ensures.value ∙ ap (λ (b : BlockData). b.bytes) (c.block-2.view_is ∙ (c.deref-block.ensures ∙ c.block.ensures)) in
     let runs = runs_of q found.query found.block.bytes c.runs.result.now trees same c.runs.ensures in
-    let text : c.deref-query.result.now.text ≡ found.query = ap (λ (q : Compiled). q.text) c.deref-query.ensures ∙ c.query.ensures in
+    let text : c.deref-query.result.now.text ≡ found.query = ap (λ (q : Compiled). q.text) c.deref-query.ensures
+        ∙ c.query.ensures in
     let end = c.terminator.ensures ∙ ap terminator_of (text ∙ same) in
     let rows = ap (λ e. flat_map (span_rows e c.as_slice.result.now) c.runs.result.now) end
-    ∙ (ap (λ bs. flat_map (span_rows (terminator_of q.text) bs) c.runs.result.now) bytes ∙ sym (rows_of_block q found.block.bytes c.runs.result.now runs)) in
+    ∙ (ap (λ bs. flat_map (span_rows (terminator_of q.text) bs) c.runs.result.now) bytes
+    ∙ sym (rows_of_block q found.block.bytes c.runs.result.now runs)) in
     let P : List ℕ → Type 0 = λ text. OnErr c.write_spans.result (TakesPart text (g.W.Sink.taken c.args.out.now) (g.W.Sink.taken c.write_spans.new.out)) in
     subst P rows c.write_spans.ensures.part

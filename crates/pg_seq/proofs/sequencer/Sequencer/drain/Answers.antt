@@ -52,7 +52,8 @@ loop-self-preserved g c =
           let d = i.drains past h in
           let rows = slot_rows past.query o.slot in (
             d.0 ++ rows,
-            o.got past.query d.2.trees (first_result s (wrote past d.0) o.slot _ d.2 o.slots) ∙ (ap (λ w. w ++ rows) d.1 ∙ append_assoc (g.W.Sink.taken c.args.out.now) d.0 rows),
+            o.got past.query d.2.trees (first_result s (wrote past d.0) o.slot _ d.2 o.slots)
+                ∙ (ap (λ w. w ++ rows) d.1 ∙ append_assoc (g.W.Sink.taken c.args.out.now) d.0 rows),
             then_wrote _ past d.0 rows past.failed
                 (handed_stands s _ (wrote past d.0) _ _ d.2
                 (record { query = refl; opened = refl; running = refl; bad = refl }) refl o),
