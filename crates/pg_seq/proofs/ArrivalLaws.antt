@@ -84,7 +84,7 @@ first_is_taken past r h query known new =
     let keys = taken_of past.query past.events in
     let b = r.block in
     let same : same_text past.query.text r.query ≡ true = ap (same_text past.query.text) query
-        ∙ text_equal.complete past.query.text in
+    ∙ text_equal.complete past.query.text in
     ap (λ t. cond t (arrival_at (find (is_block b.file b.number) (announced (plan past))) keys b) Stranger) same
     ∙ (ap (λ o. arrival_at o keys b) (found (terminator past.query) (plan past) h known.0 b known.1 known.2)
     ∙ (ap (λ t. cond t Double (if_same (bytes_eq b.bytes b.bytes))) new

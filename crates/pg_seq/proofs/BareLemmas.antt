@@ -59,15 +59,15 @@ rows_of_runs q full at (run ∷ runs) h =
     let later : AreRuns q run.end (drop run.end full) runs = (let P : List ℕ → Type 0 = λ xs. AreRuns q run.end xs runs in subst P (sym (run_behind q full at run n)) h.1) in
     ap (flat_map (line_or_nothing q)) (lines_apart q at (drop at full) run n)
     ∙ (flat_map-append (line_or_nothing q) (lines (terminator q) n.gap)
-        (lines (terminator q) n.text ++ lines (terminator q) n.later)
+    (lines (terminator q) n.text ++ lines (terminator q) n.later)
     ∙ (ap (λ xs. xs ++ flat_map (line_or_nothing q) (lines (terminator q) n.text ++ lines (terminator q) n.later))
-        (rows_none q (lines (terminator q) n.gap) n.gap_unselected)
+    (rows_none q (lines (terminator q) n.gap) n.gap_unselected)
     ∙ (flat_map-append (line_or_nothing q) (lines (terminator q) n.text) (lines (terminator q) n.later)
     ∙ (ap (λ xs. xs ++ flat_map (line_or_nothing q) (lines (terminator q) n.later))
-        (rows_all q (lines (terminator q) n.text) n.text_selected
-            ∙ ap (λ xs. terminated (terminator q) (lines (terminator q) xs)) (sym (run_text q full at run n)))
+    (rows_all q (lines (terminator q) n.text) n.text_selected
+    ∙ ap (λ xs. terminated (terminator q) (lines (terminator q) xs)) (sym (run_text q full at run n)))
     ∙ ap (λ xs. span_rows (terminator q) full run ++ xs)
-        (ap (bare_rows q) (sym (run_behind q full at run n)) ∙ rows_of_runs q full run.end runs later)))))
+    (ap (bare_rows q) (sym (run_behind q full at run n)) ∙ rows_of_runs q full run.end runs later)))))
 
 pub rows_of_block : (q : Search) (bytes : List ℕ) (runs : List Span) → AreRuns q 0 bytes runs
     → bare_rows q bytes ≡ flat_map (span_rows (terminator q) bytes) runs
@@ -103,11 +103,11 @@ any_selected q at bytes (run ∷ runs) h =
     let n = h.0 in
     ap (list_any (selects q)) (lines_apart q at bytes run n)
     ∙ (list_any-append (selects q) (lines (terminator q) n.gap)
-        (lines (terminator q) n.text ++ lines (terminator q) n.later)
+    (lines (terminator q) n.text ++ lines (terminator q) n.later)
     ∙ (ap (λ t. list_any (selects q) (lines (terminator q) n.gap) || t)
-        (list_any-append (selects q) (lines (terminator q) n.text) (lines (terminator q) n.later)
-            ∙ ap (λ t. t || list_any (selects q) (lines (terminator q) n.later))
-                (all_of (lines (terminator q) n.text) n.text_selected (some_lines n.text n.text_some)))
+    (list_any-append (selects q) (lines (terminator q) n.text) (lines (terminator q) n.later)
+    ∙ ap (λ t. t || list_any (selects q) (lines (terminator q) n.later))
+    (all_of (lines (terminator q) n.text) n.text_selected (some_lines n.text n.text_some)))
     ∙ (or_true (list_any (selects q) (lines (terminator q) n.gap))
     ∙ sym (lt-ltb 0 (length (run ∷ runs)) (omega arith)))))
   where
@@ -227,7 +227,7 @@ step_bare q (Announces b) p whole =
     let c = cursor_of q bare p in
     let rows : block_rows q bare c b.bytes ≡ bare_rows q b.bytes =
     ap (λ t. cond t (run_pieces q bare c.name c.trail (lines (terminator q) b.bytes))
-        (run_rows q bare c.name c.earlier c.trail (lines (terminator q) b.bytes))) whole
+    (run_rows q bare c.name c.earlier c.trail (lines (terminator q) b.bytes))) whole
     ∙ run_bare q c.name c.earlier c.trail (lines (terminator q) b.bytes) (cursor_still q p) in
     ap (λ xs. flat_map (λ (x : BlockData). bare_rows q x.bytes) (announced p) ++ xs) (rows ∙ sym (append-nil (bare_rows q b.bytes)))
     ∙ sym (flat_map-append (λ (x : BlockData). bare_rows q x.bytes) (announced p) (b ∷ []))

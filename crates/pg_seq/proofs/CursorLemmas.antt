@@ -86,8 +86,8 @@ module _ (q : Search) (format : Format) (limited : is_below 0 format.limit ≡ t
   part_more : (c : Cursor) (ls ms : List (List ℕ)) (earlier : Bool) → IsTrail q format ls c.trail
       → (q.text.pieces ≡ false → c.earlier ≡ earlier) →
       line_part c.name (ls ++ ms) earlier
-          ≡ line_part c.name ls earlier ++ cond q.text.pieces (run_pieces q format c.name c.trail ms)
-              (run_rows q format c.name c.earlier c.trail ms)
+      ≡ line_part c.name ls earlier ++ cond q.text.pieces (run_pieces q format c.name c.trail ms)
+      (run_rows q format c.name c.earlier c.trail ms)
   part_more c ls ms earlier h e = go q.text.pieces e
     where
       go : (t : Bool) → (t ≡ false → c.earlier ≡ earlier) → cond t (piece_rows q format c.name (ls ++ ms)) (line_rows q format c.name (ls ++ ms) earlier) ≡ cond t (piece_rows q format c.name ls) (line_rows q format c.name ls earlier) ++ cond t (run_pieces q format c.name c.trail ms) (run_rows q format c.name c.earlier c.trail ms)
@@ -98,8 +98,8 @@ module _ (q : Search) (format : Format) (limited : is_below 0 format.limit ≡ t
   open_rows name p =
       let earlier = something (output q format (entries_of p)) in
       ap (λ xs. output q format (entries_of p) ++ xs)
-          (file_running name [] earlier ∙ (ap (λ xs. rows_in format.mode xs [] []) (none q.text.pieces)
-              ∙ nothing_in format.mode)) ∙ append-nil (output q format (entries_of p))
+      (file_running name [] earlier ∙ (ap (λ xs. rows_in format.mode xs [] []) (none q.text.pieces)
+      ∙ nothing_in format.mode)) ∙ append-nil (output q format (entries_of p))
     where
       none : (t : Bool) → cond t (piece_rows q format name []) (line_rows q format name [] (something (output q format (entries_of p)))) ≡ []
       none true = refl

@@ -36,16 +36,16 @@ module _ {A : Type 0} where
   -- the rows of all slots that are ready
   pub rows_behind : (q : Search) (gone slots : List (Slot A)) → AllByRecursion (λ slot. has_result slot ≡ true) gone
       → flat_map (slot_rows q) (take (ready (gone ++ slots)) (gone ++ slots))
-          ≡ flat_map (slot_rows q) gone ++ flat_map (slot_rows q) (take (ready slots) slots)
+      ≡ flat_map (slot_rows q) gone ++ flat_map (slot_rows q) (take (ready slots) slots)
   rows_behind q gone slots h =
       ap (flat_map (slot_rows q)) (take_behind gone slots (ready slots) (ready (gone ++ slots))
-          (ready_behind gone slots h))
+      (ready_behind gone slots h))
       ∙ flat_map-append (slot_rows q) gone (take (ready slots) slots)
 
   -- the first of them
   pub rows_first : (q : Search) (slot : Slot A) (slots : List (Slot A)) → has_result slot ≡ true
       → flat_map (slot_rows q) (take (ready (slot ∷ slots)) (slot ∷ slots))
-          ≡ slot_rows q slot ++ flat_map (slot_rows q) (take (ready slots) slots)
+      ≡ slot_rows q slot ++ flat_map (slot_rows q) (take (ready slots) slots)
   rows_first q slot slots some =
       let here : cond (has_result slot) (1 + ready slots) 0 ≡ 1 + ready slots = ap (λ b. cond b (1 + ready slots) 0) some in
       let count : ready (slot ∷ slots) ≡ suc (ready slots) = omega arith in
@@ -74,8 +74,8 @@ module _ {A : Type 0} where
   -- what `any` answers of slots whose results are the query's
   pub any_by_cases : (q : Search) (r : Bool) (slots : List (Slot A)) → AllByRecursion (IsResultOf q) slots
       → MatchBool r ((k : ℕ) × (k < length slots) × HoldsAt (λ x. IsResultOf q x → slot_selects q x ≡ true) slots k)
-          (AllWithin (λ x. IsResultOf q x → slot_selects q x ≡ false) slots 0 (length slots))
-              → r ≡ list_any (slot_selects q) slots
+      (AllWithin (λ x. IsResultOf q x → slot_selects q x ≡ false) slots 0 (length slots))
+      → r ≡ list_any (slot_selects q) slots
   any_by_cases q true slots are h = sym (one slots h.0 are h.1 h.2)
     where
       one : (xs : List (Slot A)) (k : ℕ) → AllByRecursion (IsResultOf q) xs → k < length xs

@@ -118,11 +118,11 @@ selected_entries q (Announces b ∷ p) lawful =
     let f = (cursor_is q bare refl p lawful.1).file lawful.0.running in
     let rest = list_any (has_selected q) f.rest in
     let seam : lines (terminator q) (f.bytes ++ b.bytes)
-        ≡ lines (terminator q) f.bytes ++ lines (terminator q) b.bytes =
+    ≡ lines (terminator q) f.bytes ++ lines (terminator q) b.bytes =
     ap (λ xs. lines (terminator q) (xs ++ b.bytes)) f.same
-        ∙ (lines-append (terminator q) (joined (last_blocks p)) b.bytes
-            (closed_joined (terminator q) (last_blocks p) lawful.0.seam)
-                ∙ ap (λ xs. lines (terminator q) xs ++ lines (terminator q) b.bytes) (sym f.same)) in
+    ∙ (lines-append (terminator q) (joined (last_blocks p)) b.bytes
+    (closed_joined (terminator q) (last_blocks p) lawful.0.seam)
+    ∙ ap (λ xs. lines (terminator q) xs ++ lines (terminator q) b.bytes) (sym f.same)) in
     ap (λ es. list_any (has_selected q) (with_bytes b.bytes es)) f.entries
     ∙ (ap (λ ls. list_any (selects q) ls || rest) seam
     ∙ (ap (λ t. t || rest) (list_any-append (selects q) (lines (terminator q) f.bytes) (lines (terminator q) b.bytes))
@@ -195,15 +195,15 @@ module _ {A : Type 0} where
   -- the rows of the slots that were given up, and of those that are held and ready
   handed_is : (s : Sequencer A) (past : Past) (h : Stands s past)
       → handed past ≡ flat_map (slot_rows past.query) h.gone ++ flat_map (slot_rows past.query)
-          (take (ready s.buffer.slots.items) s.buffer.slots.items)
+      (take (ready s.buffer.slots.items) s.buffer.slots.items)
   handed_is s past h = handed_all s past h ∙ rows_behind past.query h.gone s.buffer.slots.items h.given_up.results
 
   -- where the first slot has no result, all was written
   pub all_handed : (s : Sequencer A) (past : Past) → Stands s past → s.failed ≡ false → ready s.buffer.slots.items ≡ 0 → past.written ≡ handed past
   all_handed s past h f none =
       h.written f ∙ (sym (append-nil (flat_map (slot_rows past.query) h.gone))
-          ∙ (ap (λ w. flat_map (slot_rows past.query) h.gone ++ w)
-              (sym (rows_none past.query s.buffer.slots.items none)) ∙ sym (handed_is s past h)))
+      ∙ (ap (λ w. flat_map (slot_rows past.query) h.gone ++ w)
+      (sym (rows_none past.query s.buffer.slots.items none)) ∙ sym (handed_is s past h)))
 
   -- a part of the first slot's rows
   pub part_of : (s : Sequencer A) (past : Past) (before after : List ℕ) → Stands s past
@@ -219,9 +219,9 @@ module _ {A : Type 0} where
       let gone = flat_map (slot_rows past.query) h.gone in
       let later = flat_map (slot_rows past.query) (take (ready p.later) p.later) in
       let first : flat_map (slot_rows past.query) (take (ready s.buffer.slots.items) s.buffer.slots.items)
-          ≡ slot_rows past.query p.slot ++ later =
+      ≡ slot_rows past.query p.slot ++ later =
       ap (λ xs. flat_map (slot_rows past.query) (take (ready xs) xs)) p.slots
-          ∙ rows_first past.query p.slot p.later p.some in (
+      ∙ rows_first past.query p.slot p.later p.some in (
         b.0 ++ later,
         append_assoc past.written part.0 (b.0 ++ later)
             ∙ (ap (λ w. past.written ++ w) (sym (append_assoc part.0 b.0 later) ∙ ap (λ w. w ++ later) b.1)
@@ -272,7 +272,7 @@ module _ {A : Type 0} where
 
       selected_more : (gone : List (Slot A)) (x : Slot A)
           → (list_any (slot_selects past.query) gone || slot_selects past.query x)
-              ≡ list_any (slot_selects past.query) (gone ++ x ∷ [])
+          ≡ list_any (slot_selects past.query) (gone ++ x ∷ [])
       selected_more gone x = ap (λ b. list_any (slot_selects past.query) gone || b)
           (sym (or_none (slot_selects past.query x))) ∙ sym (list_any-append (slot_selects past.query) gone (x ∷ []))
 
@@ -319,7 +319,7 @@ module _ {A : Type 0} where
       → Keeps s.buffer new.buffer → new.failed ≡ s.failed → Stands new (planned past (Ends failed))
   ended_stands s new past failed open' h query opened running bad k failed' =
       let f = (cursor_is past.query bare refl (plan past)
-          (shape_of (terminator past.query) (plan past) h.lawful)).file open' in
+      (shape_of (terminator past.query) (plan past) h.lawful)).file open' in
       let same : all s h ≡ h.gone ++ new.buffer.slots.items = ap (λ xs. h.gone ++ xs) (sym k.slots) in
       let R : List (Slot A) → Type 0 = λ xs. AllByRecursion (IsResultOf past.query) xs in
       let K : List (Slot A) → Type 0 = λ xs. AllByRecursion (λ (key : ℕ × ℕ). key.1 < length xs) (taken_of past.query past.events) in
@@ -379,7 +379,7 @@ module _ {A : Type 0} where
       let N : List (Slot A) → Type 0 = λ xs. AllByRecursion (IsResultOf past.query) xs in
       let K : List (Slot A) → Type 0 = λ xs. AllByRecursion (λ (key : ℕ × ℕ). key.1 < length xs) keys in
       let I : Option Searched → Type 0 =
-          λ o. IfSome o (λ r. (r.query ≡ past.query.text) × (r.block ≡ slot_block p.slot)) in
+      λ o. IfSome o (λ r. (r.query ≡ past.query.text) × (r.block ≡ slot_block p.slot)) in
       record {
         gone = h.gone;
         given_up = record { count = h.given_up.count ∙ sym p.handed; results = h.given_up.results };
@@ -423,20 +423,20 @@ module _ {A : Type 0} where
       let b : has_result x ≡ true = cond_pos (has_result x) (ready slots) (omega arith) in
       let all : cond (has_result x) (1 + ready slots) 0 ≡ 1 + ready slots = ap (λ t. cond t (1 + ready slots) 0) b in
       ap (λ t. t || list_any (block_selects q) (map slot_block slots)) (slot_selected q (slot_block x) x.result b h.0)
-          ∙ ap (λ t. slot_selects q x || t) (selected_slots q slots (omega arith) h.1)
+      ∙ ap (λ t. slot_selects q x || t) (selected_slots q slots (omega arith) h.1)
 
   pub status_is : (s : Sequencer A) (past : Past) → Stands s past → IsComplete past
       → status_of past ≡ cond s.bad 2
-          (cond (s.buffer.selected || list_any (slot_selects past.query) s.buffer.slots.items) 0 1)
+      (cond (s.buffer.selected || list_any (slot_selects past.query) s.buffer.slots.items) 0 1)
   status_is s past h complete =
       let q = past.query in
       let slots = s.buffer.slots.items in
       let results : list_all has_result slots ≡ true = (complete_is s past h (sym h.running ∙ complete.0)).1 complete in
       let whole : ready (all s h) ≡ length (all s h) = ready_all (all s h) (all_behind h.gone slots h.given_up.results ∙ results) in
       let selected : list_any (has_selected q) (entries_of (plan past))
-          ≡ (s.buffer.selected || list_any (slot_selects past.query) slots) =
+      ≡ (s.buffer.selected || list_any (slot_selects past.query) slots) =
       selected_entries q (plan past) (shape_of (terminator past.query) (plan past) h.lawful)
-          ∙ (ap (list_any (block_selects q)) h.blocks ∙ (selected_slots q (all s h) whole h.results
+      ∙ (ap (list_any (block_selects q)) h.blocks ∙ (selected_slots q (all s h) whole h.results
       ∙ (list_any-append (slot_selects past.query) h.gone slots
       ∙ ap (λ b. b || list_any (slot_selects past.query) slots) (sym h.selected)))) in
       ap (λ format. status q format (entries_of (plan past))) h.format ∙ (ap (λ t. cond t 2 (cond (list_any (has_selected q) (entries_of (plan past))) 0 1)) h.bad ∙ ap (λ t. cond s.bad 2 (cond t 0 1)) selected)
@@ -511,7 +511,7 @@ module _ {A : Type 0} where
       let k = b.number in
       let keys = taken_of past.query past.events in
       let known_query : same_text past.query.text r.query ≡ true =
-          elim (cases_Bool (same_text past.query.text r.query)) [
+      elim (cases_Bool (same_text past.query.text r.query)) [
         | inl e ↦ e
         | inr e ↦ absurd (stranger_taken (sym (ap (λ t. cond t (arrival_at (find (is_block b.file b.number) (announced (plan past))) keys b) Stranger) e) ∙ is))
       ] in

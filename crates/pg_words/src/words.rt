@@ -63,10 +63,7 @@ impl<T: Drop> From<AllocFailed<T>> for WordsFault {
 /// `Refused` where the words aren't as above, hold an option that isn't known, or give --block no
 /// number from 1 to 2^24. `Usage` where they are, by `check_usage`. `OutOfMemory` where a request
 /// for memory was refused.
-pub fn read_words<'a>(
-    alloc: Global,
-    words: &'a Words<'_>,
-) -> Result<Request<'a>, WordsFault> {
+pub fn read_words<'a>(alloc: Global, words: &'a Words<'_>) -> Result<Request<'a>, WordsFault> {
     let mut command = search_command(alloc)?;
     match command.try_get_matches_from_mut(words.as_slice()) {
         Ok(found) => request_of(alloc, &found, &mut command),

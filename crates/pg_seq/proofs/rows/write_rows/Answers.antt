@@ -18,8 +18,8 @@ write_spans-requires g c = λ k below.
     let q = search_of text compiled.0 in
     let same : found.query ≡ text = sym (ap (λ (q : Compiled). q.text) c.deref-query.ensures ∙ c.query.ensures) in
     run_within q 0 found.block.bytes c.runs.result.now (length c.as_slice.result.now)
-        (runs_of q found.query found.block.bytes c.runs.result.now compiled.1 same c.runs.ensures)
-            (omega arith) k no_span below
+    (runs_of q found.query found.block.bytes c.runs.result.now compiled.1 same c.runs.ensures)
+    (omega arith) k no_span below
 
 pub returns-clause-all : goal.returns-clause-all
 returns-clause-all g c = λ q trees same.
@@ -27,7 +27,7 @@ returns-clause-all g c = λ q trees same.
     let bytes = c.as_slice.ensures.value ∙ ap (λ (b : BlockData). b.bytes) (c.block-2.view_is ∙ (c.deref-block.ensures ∙ c.block.ensures)) in
     let runs = runs_of q found.query found.block.bytes c.runs.result.now trees same c.runs.ensures in
     let text : c.deref-query.result.now.text ≡ found.query = ap (λ (q : Compiled). q.text) c.deref-query.ensures
-        ∙ c.query.ensures in
+    ∙ c.query.ensures in
     let end = c.terminator.ensures ∙ ap terminator_of (text ∙ same) in
     let rows = ap (λ e. flat_map (span_rows e c.as_slice.result.now) c.runs.result.now) end
     ∙ (ap (λ bs. flat_map (span_rows (terminator_of q.text) bs) c.runs.result.now) bytes
@@ -41,7 +41,7 @@ returns-clause-part g c = λ q trees same.
     let bytes = c.as_slice.ensures.value ∙ ap (λ (b : BlockData). b.bytes) (c.block-2.view_is ∙ (c.deref-block.ensures ∙ c.block.ensures)) in
     let runs = runs_of q found.query found.block.bytes c.runs.result.now trees same c.runs.ensures in
     let text : c.deref-query.result.now.text ≡ found.query = ap (λ (q : Compiled). q.text) c.deref-query.ensures
-        ∙ c.query.ensures in
+    ∙ c.query.ensures in
     let end = c.terminator.ensures ∙ ap terminator_of (text ∙ same) in
     let rows = ap (λ e. flat_map (span_rows e c.as_slice.result.now) c.runs.result.now) end
     ∙ (ap (λ bs. flat_map (span_rows (terminator_of q.text) bs) c.runs.result.now) bytes

@@ -10,8 +10,11 @@ pub returns-else-self : goal.returns-else-self
 returns-else-self g c = λ q trees are.
     any_by_cases q _ _ are
     (cases_from_any _ _ _ (λ x. IsResultOf q x → slot_selects q x ≡ true)
-        (λ x. IsResultOf q x → slot_selects q x ≡ false) c.any.ensures.ran (YieldsList-from_deque _ c.iter.ensures.rest)
-            (λ x u k is. let said : TellsSelected x.now true = search (rules, tests) in sym (said.tells q trees is))
-    (λ x u k. (let same : u ≡ record {} = search (rules, tests) in
-        same, λ is. (let said : TellsSelected x.now false = search (rules, tests) in sym (said.tells q trees is)))))
+    (λ x. IsResultOf q x → slot_selects q x ≡ false) c.any.ensures.ran (YieldsList-from_deque _ c.iter.ensures.rest)
+    (λ x u k is. let said : TellsSelected x.now true = search (rules, tests) in sym (said.tells q trees is))
+    (λ x u k. (
+      let same : u ≡ record {} = search (rules, tests) in
+          same,
+      λ is. (let said : TellsSelected x.now false = search (rules, tests) in sym (said.tells q trees is)),
+    )))
     ∙ ap (λ b. b || list_any (slot_selects q) c.args.self.now.slots.items) (sym c.if-self.false)

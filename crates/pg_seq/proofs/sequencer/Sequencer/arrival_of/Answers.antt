@@ -20,10 +20,10 @@ returns g c = λ past h.
     let s = c.args.self.now in
     let r = c.args.found.now in
     let queries : same_text past.query.text r.query
-        ≡ same_text c.deref-query.result.now.text c.deref-other.result.now.text =
+    ≡ same_text c.deref-query.result.now.text c.deref-other.result.now.text =
     ap (λ (t : SearchText). same_text t r.query) (h.query ∙ sym (ap (λ (q : Compiled). q.text) c.deref-query.ensures))
-        ∙ ap (λ (t : SearchText). same_text c.deref-query.result.now.text t)
-            (sym (ap (λ (q : Compiled). q.text) c.deref-other.ensures ∙ c.query.ensures)) in
+    ∙ ap (λ (t : SearchText). same_text c.deref-query.result.now.text t)
+    (sym (ap (λ (q : Compiled). q.text) c.deref-other.ensures ∙ c.query.ensures)) in
     let same : same_text past.query.text r.query ≡ true = queries ∙ not_false _ (sym c.ne.ensures ∙ c.if-ne.false) in
     let I : BlockData → Type 0 = λ b. IsArrival s.buffer b c.arrival_of.result in
     answer_is s past r c.arrival_of.result h same (subst I (c.deref.ensures ∙ c.block.ensures) c.arrival_of.ensures)
@@ -32,8 +32,8 @@ pub returns-then-ne : goal.returns-then-ne
 returns-then-ne g c = λ past h.
     let r = c.args.found.now in
     let queries : same_text past.query.text r.query
-        ≡ same_text c.deref-query.result.now.text c.deref-other.result.now.text =
+    ≡ same_text c.deref-query.result.now.text c.deref-other.result.now.text =
     ap (λ (t : SearchText). same_text t r.query) (h.query ∙ sym (ap (λ (q : Compiled). q.text) c.deref-query.ensures))
-        ∙ ap (λ (t : SearchText). same_text c.deref-query.result.now.text t)
-            (sym (ap (λ (q : Compiled). q.text) c.deref-other.ensures ∙ c.query.ensures)) in
+    ∙ ap (λ (t : SearchText). same_text c.deref-query.result.now.text t)
+    (sym (ap (λ (q : Compiled). q.text) c.deref-other.ensures ∙ c.query.ensures)) in
     answer_other past r (queries ∙ not_true _ (sym c.ne.ensures ∙ c.if-ne.true))

@@ -10,19 +10,23 @@ returns-then-has_selected g c = λ past h.
     let b = c.args.self.now.buffer in
     let whole : IsComplete past = (c.complete.ensures past h).0 c.if-not-complete.false in
     let selected : (b.selected || list_any (slot_selects past.query) b.slots.items) ≡ true =
-        sym (c.has_selected.ensures past.query h.trees (held_results c.args.self.now past h))
-            ∙ c.if-has_selected.true in
-    (whole, sym (status_is c.args.self.now past h whole
-        ∙ (ap (λ t. cond t 2 (cond (b.selected || list_any
-            (slot_selects past.query) b.slots.items) 0 1)) c.if-self.false ∙ ap (λ t. cond t 0 1) selected)))
+    sym (c.has_selected.ensures past.query h.trees (held_results c.args.self.now past h))
+    ∙ c.if-has_selected.true in (
+      whole,
+      sym (status_is c.args.self.now past h whole
+          ∙ (ap (λ t. cond t 2 (cond (b.selected || list_any
+          (slot_selects past.query) b.slots.items) 0 1)) c.if-self.false ∙ ap (λ t. cond t 0 1) selected)),
+    )
 
 pub returns-else-has_selected : goal.returns-else-has_selected
 returns-else-has_selected g c = λ past h.
     let b = c.args.self.now.buffer in
     let whole : IsComplete past = (c.complete.ensures past h).0 c.if-not-complete.false in
     let selected : (b.selected || list_any (slot_selects past.query) b.slots.items) ≡ false =
-        sym (c.has_selected.ensures past.query h.trees (held_results c.args.self.now past h))
-            ∙ c.if-has_selected.false in
-    (whole, sym (status_is c.args.self.now past h whole
-        ∙ (ap (λ t. cond t 2 (cond (b.selected || list_any
-            (slot_selects past.query) b.slots.items) 0 1)) c.if-self.false ∙ ap (λ t. cond t 0 1) selected)))
+    sym (c.has_selected.ensures past.query h.trees (held_results c.args.self.now past h))
+    ∙ c.if-has_selected.false in (
+      whole,
+      sym (status_is c.args.self.now past h whole
+          ∙ (ap (λ t. cond t 2 (cond (b.selected || list_any
+          (slot_selects past.query) b.slots.items) 0 1)) c.if-self.false ∙ ap (λ t. cond t 0 1) selected)),
+    )
