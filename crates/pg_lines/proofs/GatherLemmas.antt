@@ -263,8 +263,8 @@ module _ (q : Search) (bytes : List ℕ) (runs : List Run) (run : Run) (g : IsGa
         let no_gap : gap ≡ [] = is_empty gap (omega (arith, found.1.start, near)) in
         let here : g.rest ≡ text ++ later = rest_is ∙ ap (λ xs. (xs ++ text) ++ later) no_gap in
         let longer = ap length (lines-append E g.text text text_whole) in
-        let P : ℕ → Type 0 =
-            λ n. (more : List Run) → AreRuns q n run.first (g.text ++ g.rest) more → AreRuns q 0 0 bytes (runs ++ more) in
+        let P : ℕ → Type 0 = λ n. (more : List Run) → AreRuns q n run.first (g.text ++ g.rest) more
+            → AreRuns q 0 0 bytes (runs ++ more) in
         let Q : ℕ → Type 0 = λ n. (more : List Run) → AreRuns q new.span.start n (g.text ++ g.rest) more
             → AreRuns q 0 0 bytes (runs ++ more) in
         let R : List ℕ → Type 0 = λ xs. (more : List Run) → AreRuns q new.span.start new.first xs more

@@ -232,9 +232,6 @@ IsPushed text line at number place before after =
         → AreParts trees (bounds_of text) line place rest → AreParts trees (bounds_of text) line 0 (own ++ rest))
 
 module _ (text : SearchText) (line : List ℕ) (at number : ℕ) (before : List Part) where
-  pub pushed_none : IsPushed text line at number 0 before before
-  pushed_none = ([], sym (append-nil before), λ trees spelled rest h. h)
-
   pub pushed_one : (place i j : ℕ) (after new : List Part) → IsPushed text line at number place before after
       → ((trees : List Pattern) → AreTreesOf text trees → IsNext trees (bounds_of text) line place i j)
       → new ≡ after ++ part_at at number (i, j) ∷ [] → IsPushed text line at number j before new

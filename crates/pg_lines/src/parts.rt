@@ -27,8 +27,8 @@ fn push_parts<A: Allocator>(
     requires short { length line.now ≤ 2 ^ 30 }
     requires within { at + length line.now < 2 ^ 63 }
     ensures fits { Fits scratch.new query.now.machine }
-    ensures parts { (trees : List Pattern) → AreTreesOf query.now.text trees → OnOk result
-        (found.new.items ≡ found.old.items ++ map (part_at at number) (parts (search_of query.now.text trees) line.now)) }
+    ensures parts { (trees : List Pattern) → AreTreesOf query.now.text trees → OnOk result (found.new.items
+        ≡ found.old.items ++ map (part_at at number) (parts (search_of query.now.text trees) line.now)) }
 {
     let mut place = 0;
     while let Some((start, end)) = query.machine().next_piece(scratch, line, place) {

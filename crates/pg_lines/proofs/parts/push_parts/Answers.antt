@@ -41,7 +41,8 @@ loop-start-preserved g c =
       within = next.hit.within;
       pushed = pushed_one q.text line c.args.at c.args.number c.args.found.now.items c.loop-start.place c.in-Some.start
           c.in-Some.end c.loop-start.found.items c.push.new.self.items c.loop-start.invariant.pushed
-          (λ trees spelled. c.in-Some.ensures.next trees (bounds_of q.text) (is trees spelled)) c.in_ok-push.ensures.items;
+          (λ trees spelled. c.in-Some.ensures.next trees (bounds_of q.text) (is trees spelled))
+          c.in_ok-push.ensures.items;
     }
 
 pub returns-clause-parts : goal.returns-clause-parts

@@ -1,4 +1,5 @@
-use Rattle.std.proofs.Common.{◌≡◌, ◌+◌, ◌-◌, ℕ, List, ◌++◌, [], cond, length, drop, map, sym, ap, ◌∙◌, subst, arith, refl}
+use Rattle.std.proofs.Common.{◌≡◌, ◌+◌, ◌-◌, ℕ, List, ◌++◌, [], cond, length, drop, map, sym, ap, ◌∙◌, subst, arith}
+use Rattle.std.proofs.Common.{refl}
 use Rattle.std.proofs.lemmas.List.{take_rest}
 use Rattle.pg_lines.specs.Lines.{lines, AreShort}
 use Rattle.pg_lines.specs.Search.{search_of, terminator_of}
@@ -74,8 +75,8 @@ loop-line-preserved g c =
           let put : List Part = cond text.pieces (map (part_at line.start number) (parts q one.0)) [] in
           c.in_ok-push_line_parts.ensures.parts trees spelled one.0 one.2 one.1
           ∙ (ap (λ ps. ps ++ put) (i.parts trees spelled)
-          ∙ sym (parts_with_line q bytes runs run gathered line found c.with_line.new.runs.items new gathered' longer.stop
-              one.0 one.2 one.1 number counted));
+          ∙ sym (parts_with_line q bytes runs run gathered line found c.with_line.new.runs.items new gathered'
+              longer.stop one.0 one.2 one.1 number counted));
     }
 
 pub returns-clause-runs : goal.returns-clause-runs

@@ -19,5 +19,5 @@ returns-in_ok-push_run-clause-gathered g c = λ q same gathered next.
 
 pub returns-else-run-line-clause-gathered : goal.returns-else-run-line-clause-gathered
 returns-else-run-line-clause-gathered g c = λ q same gathered next.
-    gathered_next q c.args.bytes.now c.args.runs.now.items c.args.run gathered c.args.line next (omega arith) _ refl refl
-        refl refl
+    gathered_next q c.args.bytes.now c.args.runs.now.items c.args.run gathered c.args.line next (omega arith) _
+    refl refl refl refl

@@ -32,7 +32,8 @@ returns-clause-all g c = λ q trees same.
     let rows = ap (λ e. flat_map (rows_of_run e c.as_slice.result.now) c.runs.result.now) end
     ∙ (ap (λ bs. flat_map (rows_of_run (terminator_of q.text) bs) c.runs.result.now) bytes
     ∙ sym (rows_of_block q found.block.bytes c.runs.result.now runs)) in
-    let P : List ℕ → Type 0 = λ text. OnOk c.write_runs.result (g.W.Sink.taken c.write_runs.new.out ≡ g.W.Sink.taken c.args.out.now ++ text) in
+    let P : List ℕ → Type 0 = λ text. OnOk c.write_runs.result
+        (g.W.Sink.taken c.write_runs.new.out ≡ g.W.Sink.taken c.args.out.now ++ text) in
     subst P rows c.write_runs.ensures.all
 
 pub returns-clause-part : goal.returns-clause-part
@@ -46,5 +47,6 @@ returns-clause-part g c = λ q trees same.
     let rows = ap (λ e. flat_map (rows_of_run e c.as_slice.result.now) c.runs.result.now) end
     ∙ (ap (λ bs. flat_map (rows_of_run (terminator_of q.text) bs) c.runs.result.now) bytes
     ∙ sym (rows_of_block q found.block.bytes c.runs.result.now runs)) in
-    let P : List ℕ → Type 0 = λ text. OnErr c.write_runs.result (TakesPart text (g.W.Sink.taken c.args.out.now) (g.W.Sink.taken c.write_runs.new.out)) in
+    let P : List ℕ → Type 0 = λ text. OnErr c.write_runs.result
+        (TakesPart text (g.W.Sink.taken c.args.out.now) (g.W.Sink.taken c.write_runs.new.out)) in
     subst P rows c.write_runs.ensures.part
