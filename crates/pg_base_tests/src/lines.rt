@@ -24,7 +24,11 @@ fn assert_block(rt: &impl Abort, block: &Block, number: u64, bytes: &[u8]) {
 }
 
 /// What a query is compiled from: the letters say the kind (`E`, `F`, or none of both) and the options.
-fn text_of<A: Allocator + Copy>(alloc: A, letters: &str, pattern: &[u8]) -> Result<QueryText<A>, AllocError> {
+fn text_of<A: Allocator + Copy>(
+    alloc: A,
+    letters: &str,
+    pattern: &[u8],
+) -> Result<QueryText<A>, AllocError> {
     let has = |letter: u8| letters.as_bytes().contains(&letter);
     let mut lists = Vec::new(alloc);
     lists.push(PatternList::Text(Vec::from_slice(alloc, pattern)?))?;
@@ -56,7 +60,11 @@ struct Prepared<A: Allocator> {
 }
 
 /// A search of a block with these bytes, at most 100.
-fn prepare<A: Allocator + Copy>(alloc: A, query: Query<A>, bytes: &[u8]) -> Result<Prepared<A>, AllocError>
+fn prepare<A: Allocator + Copy>(
+    alloc: A,
+    query: Query<A>,
+    bytes: &[u8],
+) -> Result<Prepared<A>, AllocError>
     requires { length bytes.now ≤ 100 }
     ensures fits { IfOk result (λ p. Fits p.scratch (arc_value p.query).machine) }
     ensures short { IfOk result
@@ -71,14 +79,22 @@ fn prepare<A: Allocator + Copy>(alloc: A, query: Query<A>, bytes: &[u8]) -> Resu
     let block = Arc::new(alloc, block)?;
     let searched: &Query<A> = &query;
     let scratch = Scratch::new(alloc, searched.machine())?;
-    Ok(Prepared { query, scratch, block })
+    Ok(Prepared {
+        query,
+        scratch,
+        block,
+    })
 }
 
 /// What a search finds in a block with these bytes, at most 100.
 fn search_for(alloc: Global, query: Query, bytes: &[u8]) -> Result<BlockResult, AllocError>
     requires { length bytes.now ≤ 100 }
 {
-    let Prepared { query, scratch, block } = prepare(alloc, query, bytes)?;
+    let Prepared {
+        query,
+        scratch,
+        block,
+    } = prepare(alloc, query, bytes)?;
     let mut scratch = scratch;
     search_block(alloc, &query, &mut scratch, block)
 }
@@ -207,14 +223,21 @@ fn long_blocks_are_counted(rt: HostRuntime) -> Result<(), Fail> {
         let lines = before + 1;
         let start = size + 1;
         let end = size + 2;
-        let want = format!(in rt.alloc(); "{lines}: {start}-{end}={before}+1 {before}:{start}-{end}")?;
+        let want = format!(in rt.alloc();
+            "{lines}: {start}-{end}={before}+1 {before}:{start}-{end}"
+        )?;
         assert_eq!(rt; got.as_str(), want.as_str(), "at {size}");
     }
     Ok(())
 }
 
 /// A search of a block, of which a row tells.
-fn prepare_row<A: Allocator + Copy>(alloc: A, letters: &str, pattern: &[u8], bytes: &[u8]) -> Result<Prepared<A>, Fail>
+fn prepare_row<A: Allocator + Copy>(
+    alloc: A,
+    letters: &str,
+    pattern: &[u8],
+    bytes: &[u8],
+) -> Result<Prepared<A>, Fail>
     requires { length bytes.now ≤ 100 }
     ensures fits { IfOk result (λ p. Fits p.scratch (arc_value p.query).machine) }
     ensures short { IfOk result
@@ -226,11 +249,19 @@ fn prepare_row<A: Allocator + Copy>(alloc: A, letters: &str, pattern: &[u8], byt
 }
 
 /// What a search finds, as `shown` shows it on another allocator, or `None` for want of memory.
-fn searched<A: Allocator + Copy>(heap: A, prepared: Prepared<A>, alloc: Global) -> Result<Option<String>, AllocError>
+fn searched<A: Allocator + Copy>(
+    heap: A,
+    prepared: Prepared<A>,
+    alloc: Global,
+) -> Result<Option<String>, AllocError>
     requires fits { Fits prepared.scratch (arc_value prepared.query).machine }
     requires short { AreShort (terminator_of (arc_value prepared.query).text) (arc_value prepared.block).bytes }
 {
-    let Prepared { query, scratch, block } = prepared;
+    let Prepared {
+        query,
+        scratch,
+        block,
+    } = prepared;
     let mut scratch = scratch;
     match search_block(heap, &query, &mut scratch, block) {
         Ok(found) => {
@@ -263,7 +294,13 @@ fn search_refused(
 
 /// Searches with a request refused, and sees that the answer is the want of memory, and without a refusal what is
 /// wanted. Answers whether a request was refused.
-fn is_refused(rt: &impl Abort, alloc: Global, asked: &str, want: &str, passes: u64) -> Result<bool, Fail> {
+fn is_refused(
+    rt: &impl Abort,
+    alloc: Global,
+    asked: &str,
+    want: &str,
+    passes: u64,
+) -> Result<bool, Fail> {
     let (query, block) = cut(asked, " on ");
     let (letters, pattern) = cut(query, " ");
     let pattern = bytes_of(alloc, pattern)?;
@@ -271,14 +308,18 @@ fn is_refused(rt: &impl Abort, alloc: Global, asked: &str, want: &str, passes: u
     assert!(rt; bytes.len() <= 100);
     let (found, is_refused) = search_refused(alloc, letters, &pattern, &bytes, passes)?;
     match found {
-        Some(found) => assert!(rt; !is_refused && found.as_str() == want, "{asked} at {passes}"),
+        Some(found) => assert!(rt;
+            !is_refused && found.as_str() == want,
+            "{asked} at {passes}"
+        ),
         None => assert!(rt; is_refused, "{asked} at {passes}"),
     }
     Ok(is_refused)
 }
 
 /// Searches as those of `FOUND`, each with several runs, and how many requests for memory it makes at least.
-const LARGE: &str = "2 F b on b%0Ax%0Ab%0Ax%0Ab%0Ax%0Ab%0Ax%0Ab => 9: 0-2=0+1 4-6=2+1 8-10=4+1 12-14=6+1 16-17=8+1
+const LARGE: &str =
+    "2 F b on b%0Ax%0Ab%0Ax%0Ab%0Ax%0Ab%0Ax%0Ab => 9: 0-2=0+1 4-6=2+1 8-10=4+1 12-14=6+1 16-17=8+1
 2 Ev x on b%0Ax%0Ab%0Ax%0Ab%0Ax%0Ab%0Ax%0Ab => 9: 0-2=0+1 4-6=2+1 8-10=4+1 12-14=6+1 16-17=8+1
 3 Fo b on bbbbb%0Ax%0Ab => 3: 0-6=0+1 8-9=2+1 0:0-1 0:1-2 0:2-3 0:3-4 0:4-5 2:8-9
 3 Eo b|c on bcbcb%0Ax%0Ab => 3: 0-6=0+1 8-9=2+1 0:0-1 0:1-2 0:2-3 0:3-4 0:4-5 2:8-9";

@@ -1,5 +1,5 @@
 -- How many lines there are, by how often the terminator stands among the bytes.
-use Rattle.std.proofs.Common.{◌≡◌, ◌==◌, ℕ, zero, suc, ◌+◌, ◌-◌, ◌<◌, ◌≤◌, Bool, true, false, cond, get_or}
+use Rattle.std.proofs.Common.{◌≡◌, ◌==◌, ℕ, suc, ◌+◌, ◌-◌, ◌<◌, ◌≤◌, Bool, true, false, cond, get_or}
 use Rattle.std.proofs.Common.{List, [], ◌∷◌, ◌++◌, length, take, inl, inr, not, refl, sym, ap, ◌∙◌, subst, arith}
 use Rattle.std.proofs.Common.{length-append}
 use mir.Val.{bool_byte}
@@ -33,7 +33,7 @@ pub length-lines : (end : ℕ) (bytes : List ℕ) → length (lines end bytes) �
 length-lines end [] = refl
 length-lines end (b ∷ []) =
     let alone : length (cond (b == end) ([] ∷ []) ((b ∷ []) ∷ [])) ≡ cond (b == end) 1 0 + 0 + cond (b == end) 0 1 =
-        elim (b == end) as (λ t. length (cond t ([] ∷ []) ((b ∷ []) ∷ [])) ≡ cond t 1 0 + 0 + cond t 0 1) [
+    elim (b == end) as (λ t. length (cond t ([] ∷ []) ((b ∷ []) ∷ [])) ≡ cond t 1 0 + 0 + cond t 0 1) [
       | true ↦ refl
       | false ↦ refl
     ] in
@@ -43,9 +43,9 @@ length-lines end (b ∷ c ∷ bytes) =
     let more = open_lines end (c ∷ bytes) in
     let later = length-lines end (c ∷ bytes) in
     let counted : length (cond (b == end) ([] ∷ ls) (onto_first b ls))
-        ≡ (cond (b == end) 1 0 + ends_in end (c ∷ bytes)) + more =
-        elim (b == end) as (λ t. length (cond t ([] ∷ ls) (onto_first b ls))
-            ≡ (cond t 1 0 + ends_in end (c ∷ bytes)) + more) [
+    ≡ (cond (b == end) 1 0 + ends_in end (c ∷ bytes)) + more =
+    elim (b == end) as (λ t. length (cond t ([] ∷ ls) (onto_first b ls))
+    ≡ (cond t 1 0 + ends_in end (c ∷ bytes)) + more) [
       | true ↦ omega (arith, later)
       | false ↦ omega (arith, length-onto_some b ls (some_line end c bytes), later)
     ] in
@@ -98,8 +98,8 @@ text_front : (end : ℕ) (line text : List ℕ) → line ≡ text ++ end ∷ []
 text_front end line text e =
     let long : length line - 1 ≡ length text = omega (arith, ap length e, length-append text (end ∷ [])) in
     let last : get_or line (length line - 1) 0 ≡ end =
-        ap (λ n. get_or line n 0) long
-        ∙ (ap (λ xs. get_or xs (length text) 0) e ∙ get_or_at text end [] 0 (length text) refl) in
+    ap (λ n. get_or line n 0) long
+    ∙ (ap (λ xs. get_or xs (length text) 0) e ∙ get_or_at text end [] 0 (length text) refl) in
     ap (λ t. take (length line - cond t 1 0) line) (eq-eqb (get_or line (length line - 1) 0) end last)
     ∙ (ap (λ n. take n line) long ∙ (ap (take (length text)) e ∙ take_at text (end ∷ []) (length text) refl))
 
@@ -108,7 +108,7 @@ text_whole : (end : ℕ) (line : List ℕ) → 0 < length line → IsLine end li
 text_whole end line some alone =
     let last = get_or line (length line - 1) 0 in
     let other : (last ≡ end → ⊥) =
-        λ e. alone (length line - 1, omega arith, get_or_default line (length line - 1) end 0 (omega arith) ∙ e) in
+    λ e. alone (length line - 1, omega arith, get_or_default line (length line - 1) end 0 (omega arith) ∙ e) in
     ap (λ t. take (length line - cond t 1 0) line) (ne_eqb last end other)
     ∙ take_all (length line - 0) line (omega arith)
 

@@ -1,19 +1,17 @@
 -- The runs that are gathered in a block, line by line.
-use Rattle.std.proofs.Common.{◌≡◌, ◌≢◌, ℕ, zero, suc, ◌+◌, ◌-◌, ◌<◌, ◌≤◌, ◌^◌, ◌⊎◌, inl, inr, Bool, true, false, nat_lt}
+use Rattle.std.proofs.Common.{◌≡◌, ℕ, ◌+◌, ◌-◌, ◌<◌, ◌≤◌, ◌⊎◌, inl, inr, Bool, true, false, nat_lt}
 use Rattle.std.proofs.Common.{cond, List, [], ◌∷◌, ◌++◌, length, take, drop, slice_range, refl, sym, ap, ◌∙◌, subst}
-use Rattle.std.proofs.Common.{arith, append_assoc, length-append, length-drop}
-use Rattle.std.specs.List.{AllByRecursion}
+use Rattle.std.proofs.Common.{arith, append_assoc, length-append}
 use Rattle.std.proofs.lemmas.Bool.{ltb-true, ltb-false}
 use Rattle.std.proofs.lemmas.List.{drop_at, take_at, append-nil}
-use Rattle.pg_lines.specs.Lines.{lines, AreWhole, AreShort}
+use Rattle.pg_lines.specs.Lines.{lines, AreWhole}
 use Rattle.pg_lines.specs.Search.{Search, terminator}
-use Rattle.pg_lines.specs.Selection.{selects}
 use Rattle.pg_lines.specs.Runs.{AllLines, IsNextRun, AreRuns}
 use Rattle.pg_lines.specs.Gathered.{IsNextLine, IsGathered}
 use Rattle.pg_lines.specs.declared.run.Run.{Run}
 use Rattle.pg_lines.specs.declared.span.Span.{Span}
 use Rattle.pg_lines.proofs.LineLemmas.{lines-append, whole_append}
-use Rattle.pg_lines.proofs.RunLemmas.{all_lines-append, lines_apart}
+use Rattle.pg_lines.proofs.RunLemmas.{all_lines-append}
 
 -- before the first line
 pub gathered_none : (q : Search) (bytes : List ℕ) (run : Run) → run.span.start ≡ 0 → run.span.end ≡ 0
@@ -45,7 +43,7 @@ gap_front q at seen gap rest (run ∷ runs) w none h =
     let n = h.0 in
     let E = terminator q in
     let gaps : length (lines E (gap ++ n.gap)) ≡ length (lines E gap) + length (lines E n.gap) =
-        ap length (lines-append E gap n.gap w) ∙ length-append (lines E gap) (lines E n.gap) in (
+    ap length (lines-append E gap n.gap w) ∙ length-append (lines E gap) (lines E n.gap) in (
       record {
         gap = gap ++ n.gap;
         text = n.text;
@@ -149,7 +147,7 @@ module _ (q : Search) (bytes : List ℕ) (runs : List Run) (run : Run) (g : IsGa
       let empty : g.text ≡ [] = is_empty g.text (omega (arith, g.stop, g.start, none)) in
       let same : run.span.end ≡ run.span.start = omega (arith, g.stop, g.start, none) in
       let uncounted : run.first + run.count ≡ run.first =
-          omega (arith, g.count, ap (λ xs. length (lines E xs)) empty) in
+      omega (arith, g.count, ap (λ xs. length (lines E xs)) empty) in
       let Q : ℕ → Type 0 = λ n. AreRuns q n (run.first + run.count) g.rest more in
       let R : ℕ → Type 0 = λ n. AreRuns q run.span.start n g.rest more in
       let S : List ℕ → Type 0 = λ xs. AreRuns q run.span.start run.first (xs ++ g.rest) more in
@@ -205,8 +203,8 @@ module _ (q : Search) (bytes : List ℕ) (runs : List Run) (run : Run) (g : IsGa
     line_text =
         let len : line.end - line.start ≡ length text = omega (arith, found.1.start, found.1.stop) in
         let from : drop line.start bytes ≡ text ++ later =
-            ap (drop line.start) (joined ∙ append_assoc (passed ++ gap) text later)
-            ∙ drop_at (passed ++ gap) (text ++ later) line.start front_length in
+        ap (drop line.start) (joined ∙ append_assoc (passed ++ gap) text later)
+        ∙ drop_at (passed ++ gap) (text ++ later) line.start front_length in
         ap (λ n. take n (drop line.start bytes)) len
         ∙ (ap (take (length text)) from ∙ take_at text later (length text) refl)
 
@@ -250,10 +248,10 @@ module _ (q : Search) (bytes : List ℕ) (runs : List Run) (run : Run) (g : IsGa
               let R : List ℕ → Type 0 = λ xs. AreRuns q run.span.end (run.first + run.count) xs more in
               let at : new.span.start ≡ run.span.end + length gap = omega (arith, start, front_length, found.1.start) in
               let seen : new.first ≡ run.first + run.count + length (lines E gap) =
-                  first ∙ ap (λ xs. run.first + run.count + length (lines E xs)) gap_text in
+              first ∙ ap (λ xs. run.first + run.count + length (lines E xs)) gap_text in
               close more (subst R (sym (rest_is ∙ append_assoc gap text later))
-                  (gap_front q run.span.end (run.first + run.count) gap (text ++ later) more found.1.gap_whole
-                  found.1.gap_unselected (subst Q seen (subst P at h))));
+              (gap_front q run.span.end (run.first + run.count) gap (text ++ later) more found.1.gap_whole
+              found.1.gap_unselected (subst Q seen (subst P at h))));
         }
 
     -- the line follows the open run at once
@@ -264,14 +262,14 @@ module _ (q : Search) (bytes : List ℕ) (runs : List Run) (run : Run) (g : IsGa
         let here : g.rest ≡ text ++ later = rest_is ∙ ap (λ xs. (xs ++ text) ++ later) no_gap in
         let longer = ap length (lines-append E g.text text text_whole) in
         let P : ℕ → Type 0 = λ n. (more : List Run) → AreRuns q n run.first (g.text ++ g.rest) more
-            → AreRuns q 0 0 bytes (runs ++ more) in
+        → AreRuns q 0 0 bytes (runs ++ more) in
         let Q : ℕ → Type 0 = λ n. (more : List Run) → AreRuns q new.span.start n (g.text ++ g.rest) more
-            → AreRuns q 0 0 bytes (runs ++ more) in
+        → AreRuns q 0 0 bytes (runs ++ more) in
         let R : List ℕ → Type 0 = λ xs. (more : List Run) → AreRuns q new.span.start new.first xs more
-            → AreRuns q 0 0 bytes (runs ++ more) in
+        → AreRuns q 0 0 bytes (runs ++ more) in
         let len : length gap ≡ 0 = ap length no_gap in
         let regrouped : g.text ++ g.rest ≡ (g.text ++ text) ++ later =
-            ap (λ xs. g.text ++ xs) here ∙ sym (append_assoc g.text text later) in
+        ap (λ xs. g.text ++ xs) here ∙ sym (append_assoc g.text text later) in
         record {
           front = g.front;
           text = g.text ++ text;

@@ -1,16 +1,14 @@
 -- The matched parts of lines.
-use Rattle.std.proofs.Common.{◌≡◌, ℕ, zero, suc, ◌+◌, ◌-◌, ◌<◌, ◌≤◌, ◌^◌, ◌⊎◌, inl, inr, Bool, true, false, not, cond}
+use Rattle.std.proofs.Common.{◌≡◌, ℕ, ◌+◌, ◌≤◌, ◌^◌, ◌⊎◌, inl, inr, Bool, true, false, not, cond}
 use Rattle.std.proofs.Common.{List, [], ◌∷◌, ◌++◌, length, take, drop, slice_range, map, refl, sym, ap, ◌∙◌, subst}
 use Rattle.std.proofs.Common.{arith, append_assoc, length-append}
-use Rattle.std.specs.Bool.{one_answer}
 use Rattle.std.specs.List.{AllByRecursion}
 use Rattle.std.proofs.lemmas.Bool.{false≢true}
 use Rattle.std.proofs.lemmas.List.{append-nil, take_at, map-append}
 use Rattle.pg_match.specs.Automata.{Nfa}
 use Rattle.pg_match.specs.Machines.{IsMachineOf}
-use Rattle.pg_match.specs.Hits.{Hit, HasNoNext, IsNext}
-use Rattle.pg_match.specs.Parts.{AreParts, none, more, parts as parts_of_patterns}
-use Rattle.pg_match.specs.Tests.{has_hit as patterns_have_hit}
+use Rattle.pg_match.specs.Hits.{HasNoNext, IsNext}
+use Rattle.pg_match.specs.Parts.{AreParts, none, more}
 use Rattle.pg_match.proofs.PartLaws.{parts_are_one}
 use Rattle.pg_match.proofs.TestLemmas.{hits_decided}
 use Rattle.pg_lines.specs.Lines.{lines, AreWhole, AreShort, terminated}
@@ -26,17 +24,17 @@ use Rattle.pg_lines.specs.declared.run.Part.{Part}
 use Rattle.pg_lines.specs.declared.span.Span.{Span}
 use Rattle.pg_lines.proofs.LineLemmas.{lines-append, whole_append, terminated-lines, length-terminated-cons}
 use Rattle.pg_lines.proofs.GatherLemmas.{passed, behind, before, passed_whole, passed_count, front_is_whole, joined}
-use Rattle.pg_lines.proofs.GatherLemmas.{line_text, front_length, passed_length}
+use Rattle.pg_lines.proofs.GatherLemmas.{line_text, front_length}
 use Rattle.pg_lines.proofs.RunLemmas.{lines_apart, all_back}
 
 -- a line that is selected since nothing in it is matched has no part
 pub no_parts : (q : Search) (line : List ℕ) → q.text.invert ≡ true → selects q line ≡ true → parts q line ≡ []
 no_parts q line inverted chosen =
     let no_hit : has_hit q line ≡ false =
-        not_true (has_hit q line) (sym (ap (λ b. cond b (not (has_hit q line)) (has_hit q line)) inverted) ∙ chosen) in
+    not_true (has_hit q line) (sym (ap (λ b. cond b (not (has_hit q line)) (has_hit q line)) inverted) ∙ chosen) in
     let bounds = bounds_of q.text in
     let nothing : HasNoNext q.trees bounds line 0 =
-        λ i j from some hit. false≢true (sym no_hit ∙ (hits_decided q.trees bounds line).whole_line.1 (i, j, hit)) in
+    λ i j from some hit. false≢true (sym no_hit ∙ (hits_decided q.trees bounds line).whole_line.1 (i, j, hit)) in
     sym (parts_are_one q.trees bounds line [] (none nothing))
   where
     not_true : (b : Bool) → not b ≡ true → b ≡ false
@@ -56,14 +54,14 @@ parts-append q at seen (l ∷ xs) ys =
     let own = cond (selects q l) (map (part_at at seen) (parts q l)) [] in
     let next = at + (length l + 1) in
     let at' : next + length (terminated E xs) ≡ at + length (terminated E (l ∷ xs)) =
-        omega (arith, length-terminated-cons E xs l) in
+    omega (arith, length-terminated-cons E xs l) in
     let seen' : (seen + 1) + length xs ≡ seen + length (l ∷ xs) = omega arith in
     ap (λ ps. own ++ ps) (parts-append q next (seen + 1) xs ys
-        ∙ (ap (λ n. parts_of_lines q next (seen + 1) xs ++ parts_of_lines q n ((seen + 1) + length xs) ys) at'
-        ∙ ap (λ n. parts_of_lines q next (seen + 1) xs
-            ++ parts_of_lines q (at + length (terminated E (l ∷ xs))) n ys) seen'))
+    ∙ (ap (λ n. parts_of_lines q next (seen + 1) xs ++ parts_of_lines q n ((seen + 1) + length xs) ys) at'
+    ∙ ap (λ n. parts_of_lines q next (seen + 1) xs
+    ++ parts_of_lines q (at + length (terminated E (l ∷ xs))) n ys) seen'))
     ∙ sym (append_assoc own (parts_of_lines q next (seen + 1) xs)
-        (parts_of_lines q (at + length (terminated E (l ∷ xs))) (seen + length (l ∷ xs)) ys))
+    (parts_of_lines q (at + length (terminated E (l ∷ xs))) (seen + length (l ∷ xs)) ys))
 
 -- lines of which none is selected
 parts_none : (q : Search) (at seen : ℕ) (ls : List (List ℕ)) → AllByRecursion (λ l. selects q l ≡ false) ls
@@ -141,7 +139,7 @@ module _ (q : Search) (bytes : List ℕ) (runs : List Run) (run : Run) (g : IsGa
         let all = subst P (lines_apart q run.span.end 0 (drop run.span.end bytes) _ n) short in
         let behind_gap = all_back Short (lines E n.gap) _ all in
         let one : lines E n.text ≡ line_one.0 ∷ [] =
-            sym (ap (lines E) (line_text q bytes runs run g line found)) ∙ line_one.2 in
+        sym (ap (lines E) (line_text q bytes runs run g line found)) ∙ line_one.2 in
         (subst P (ap (λ ls. ls ++ lines E n.later) one) behind_gap).0
 
     module _ (runs' : List Run) (new : Run) (g' : IsGathered q bytes runs' new) (stop : new.span.end ≡ line.end) where
@@ -160,26 +158,33 @@ module _ (q : Search) (bytes : List ℕ) (runs : List Run) (run : Run) (g : IsGa
           let front_whole : AreWhole E front = whole_append E done n.gap done_whole n.gap_whole in
           let long = front_length q bytes runs run g line found in
           let upto : take new.span.end bytes ≡ front ++ n.text =
-              ap (take new.span.end) (joined q bytes runs run g line found)
-              ∙ take_at (front ++ n.text) n.later new.span.end
-              (omega (arith, length-append front n.text, long, stop, n.start, n.stop)) in
+          ap (take new.span.end) (joined q bytes runs run g line found)
+          ∙ take_at (front ++ n.text) n.later new.span.end
+          (omega (arith, length-append front n.text, long, stop, n.start, n.stop)) in
           let one : lines E n.text ≡ text ∷ [] =
-              sym (ap (lines E) (line_text q bytes runs run g line found)) ∙ alone in
+          sym (ap (lines E) (line_text q bytes runs run g line found)) ∙ alone in
           let all_lines = ap (λ xs. length (lines E xs)) (sym upto ∙ before q bytes runs' new g') in
           let apart = ap length (lines-append E front n.text front_whole) in
           let seen : length (lines E front) ≡ number =
-              omega (arith, all_lines, passed_count q bytes runs' new g', apart,
-                  length-append (lines E front) (lines E n.text), ap length one, counted) in
+          omega (
+            arith,
+            all_lines,
+            passed_count q bytes runs' new g',
+            apart,
+            length-append (lines E front) (lines E n.text),
+            ap length one,
+            counted,
+          ) in
           let own : cond (selects q text) (map (part_at line.start number) (parts q text)) [] ++ []
-              ≡ map (part_at line.start number) (parts q text) =
-              append-nil (cond (selects q text) (map (part_at line.start number) (parts q text)) [])
-              ∙ ap (λ b. cond b (map (part_at line.start number) (parts q text)) []) chosen in
+          ≡ map (part_at line.start number) (parts q text) =
+          append-nil (cond (selects q text) (map (part_at line.start number) (parts q text)) [])
+          ∙ ap (λ b. cond b (map (part_at line.start number) (parts q text)) []) chosen in
           let earlier = parts_of_lines q 0 0 (lines E (take run.span.end bytes)) in
           ap (λ xs. parts_of_lines q 0 0 (lines E xs)) upto
           ∙ (parts_behind q front n.text front_whole
           ∙ (ap (λ ps. ps ++ parts_of_lines q (length front) (length (lines E front)) (lines E n.text))
-              (parts_over_gap q done n.gap done_whole n.gap_unselected
-                  ∙ ap (λ xs. parts_of_lines q 0 0 (lines E xs)) (sym (before q bytes runs run g)))
+          (parts_over_gap q done n.gap done_whole n.gap_unselected
+          ∙ ap (λ xs. parts_of_lines q 0 0 (lines E xs)) (sym (before q bytes runs run g)))
           ∙ (ap (λ k. earlier ++ parts_of_lines q k (length (lines E front)) (lines E n.text)) long
           ∙ (ap (λ k. earlier ++ parts_of_lines q line.start k (lines E n.text)) seen
           ∙ (ap (λ ls. earlier ++ parts_of_lines q line.start number ls) one
@@ -229,7 +234,7 @@ abbrev pub IsPushed : SearchText → List ℕ → ℕ → ℕ → ℕ → List P
 IsPushed text line at number place before after =
     (own : List (ℕ × ℕ)) × (after ≡ before ++ map (part_at at number) own)
     × ((trees : List Pattern) → AreTreesOf text trees → (rest : List (ℕ × ℕ))
-        → AreParts trees (bounds_of text) line place rest → AreParts trees (bounds_of text) line 0 (own ++ rest))
+    → AreParts trees (bounds_of text) line place rest → AreParts trees (bounds_of text) line 0 (own ++ rest))
 
 module _ (text : SearchText) (line : List ℕ) (at number : ℕ) (before : List Part) where
   pub pushed_one : (place i j : ℕ) (after new : List Part) → IsPushed text line at number place before after
@@ -244,7 +249,7 @@ module _ (text : SearchText) (line : List ℕ) (at number : ℕ) (before : List 
         λ trees spelled rest later.
             let P : List (ℕ × ℕ) → Type 0 = λ ps. AreParts trees (bounds_of text) line 0 ps in
             subst P (sym (append_assoc h.0 ((i, j) ∷ []) rest))
-                (h.2 trees spelled ((i, j) ∷ rest) (more (next trees spelled) later)),
+            (h.2 trees spelled ((i, j) ∷ rest) (more (next trees spelled) later)),
       )
 
   pub pushed_all : (place : ℕ) (after : List Part) → IsPushed text line at number place before after
@@ -252,5 +257,5 @@ module _ (text : SearchText) (line : List ℕ) (at number : ℕ) (before : List 
       → after ≡ before ++ map (part_at at number) (parts (search_of text trees) line)
   pushed_all place after h trees spelled nothing =
       let all = sym (append-nil h.0)
-          ∙ parts_are_one trees (bounds_of text) line (h.0 ++ []) (h.2 trees spelled [] (none nothing)) in
+      ∙ parts_are_one trees (bounds_of text) line (h.0 ++ []) (h.2 trees spelled [] (none nothing)) in
       h.1 ∙ ap (λ own. before ++ map (part_at at number) own) all

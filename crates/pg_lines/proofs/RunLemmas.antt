@@ -1,9 +1,9 @@
 -- Runs of selected lines.
-use Rattle.std.proofs.Common.{◌≡◌, ◌≢◌, ℕ, zero, suc, ◌+◌, ◌-◌, ◌<◌, ◌≤◌, ◌^◌, ◌⊎◌, inl, inr, Bool, true, false, nat_lt}
-use Rattle.std.proofs.Common.{cond, List, [], ◌∷◌, ◌++◌, length, take, drop, get_or, refl, sym, ap, ◌∙◌, subst, arith}
+use Rattle.std.proofs.Common.{◌≡◌, ◌≢◌, ℕ, zero, suc, ◌+◌, ◌-◌, ◌<◌, ◌≤◌, ◌^◌, ◌⊎◌, inl, inr, Bool, true, false}
+use Rattle.std.proofs.Common.{List, [], ◌∷◌, ◌++◌, length, take, drop, get_or, refl, sym, ap, ◌∙◌, subst, arith}
 use Rattle.std.proofs.Common.{append_assoc, length-append, length-drop}
 use Rattle.std.specs.List.{AllByRecursion}
-use Rattle.std.proofs.lemmas.Bool.{cases_lt, ltb-true, ltb-false}
+use Rattle.std.proofs.lemmas.Bool.{cases_lt}
 use Rattle.std.proofs.lemmas.List.{take-append-drop, drop_at, length-take-le, get_or-take, get_or-drop, get_or_default}
 use Rattle.std.proofs.lemmas.List.{append-nil, take_at, drop_more, drop-drop, drop_all}
 use Rattle.std.proofs.lemmas.List.Prefix.{at_reads}
@@ -37,7 +37,7 @@ pub all_lines-append : (q : Search) (selected : Bool) (xs ys : List ℕ) → Are
 all_lines-append q selected xs ys w a b =
     let P : List (List ℕ) → Type 0 = λ ls. AllByRecursion (λ l. selects q l ≡ selected) ls in
     subst P (sym (lines-append (terminator q) xs ys w))
-        (all_append (λ l. selects q l ≡ selected) (lines (terminator q) xs) (lines (terminator q) ys) a b)
+    (all_append (λ l. selects q l ≡ selected) (lines (terminator q) xs) (lines (terminator q) ys) a b)
 
 -- what occurs in a part occurs in the whole
 occurs_inside : (xs front l tail p : List ℕ) (i : ℕ) → xs ≡ front ++ (l ++ tail) → OccursAt l p i → OccursAt xs p (length front + i)
@@ -59,8 +59,8 @@ nowhere_lines q p bytes t c none =
     let r = around (terminator q) bytes (lines (terminator q) bytes) (made (terminator q) bytes) k below in
     nowhere_unselected q p t c (get_or (lines (terminator q) bytes) k []) (λ i o.
     none (length (terminated (terminator q) (take k (lines (terminator q) bytes))) + i)
-        (occurs_inside bytes (terminated (terminator q) (take k (lines (terminator q) bytes)))
-            (get_or (lines (terminator q) bytes) k []) r.0 p i r.1 o)))
+    (occurs_inside bytes (terminated (terminator q) (take k (lines (terminator q) bytes)))
+    (get_or (lines (terminator q) bytes) k []) r.0 p i r.1 o)))
 
 -- nor have lines that end before the first place at which it occurs
 pub lines_before : (q : Search) (p bytes : List ℕ) (s k : ℕ) → HasItsTrees q → IsPlain q.text p
@@ -85,8 +85,8 @@ is_line end bytes s e high none c =
     let within : c.0 < e - s = omega (arith, c.1, length-take (e - s) (drop s bytes)) in
     none (s + c.0) (omega arith) (omega arith)
     (sym (get_or-drop s bytes c.0 0)
-        ∙ (sym (get_or-take (e - s) (drop s bytes) c.0 0 within)
-        ∙ (get_or_default (take (e - s) (drop s bytes)) c.0 0 end c.1 ∙ c.2)))
+    ∙ (sym (get_or-take (e - s) (drop s bytes) c.0 0 within)
+    ∙ (get_or_default (take (e - s) (drop s bytes)) c.0 0 end c.1 ∙ c.2)))
   where
     length-take : (n : ℕ) (xs : List ℕ) → length (take n xs) ≤ n
     length-take zero xs = omega arith
@@ -182,7 +182,7 @@ pub line_found : (q : Search) (bytes : List ℕ) (at s e stop : ℕ) (line : Spa
 line_found q bytes at s e stop line is front none chosen start ends =
     let selected : List (List ℕ) → Type 0 = λ ls. AllByRecursion (λ l. selects q l ≡ true) ls in
     let next : IsNextRun q at 0 bytes
-        (record { span = line; first = length (lines (terminator q) (take s bytes)); count = 1 }) = record {
+    (record { span = line; first = length (lines (terminator q) (take s bytes)); count = 1 }) = record {
       gap = take s bytes;
       text = is.text;
       later = is.later;
@@ -257,7 +257,7 @@ literal_found q p bytes at s k e stop line t c o none low high front clear stops
     let chosen = occurs_selected q p t c text (k - s) (occurs_within bytes p s e k within low fits o) in
     let is = line_at (terminator q) bytes s e stop (omega arith) within longer clear stops in
     line_found q bytes at s e stop line is front
-        (lines_before q p bytes s k t c none low (omega (arith, o.fits))) chosen
+    (lines_before q p bytes s k t c none low (omega (arith, o.fits))) chosen
     start ends
 
 -- the same, where the line's two ends were looked for from the pattern's place
@@ -268,18 +268,18 @@ pub line_around : (q : Search) (p bytes : List ℕ) (at s k stop : ℕ) (line : 
     → line.start ≡ at + s → line.end ≡ at + stop → IsNextLine q at bytes line
 line_around q p bytes at s k stop line t c o none low before front h some start ends =
     let clear : IsClear (terminator q) bytes s h.0 =
-        λ i from to. elim (cases_lt i k) [ inl below ↦ before i from below | inr above ↦ h.2 i above to ] in
+    λ i from to. elim (cases_lt i k) [ inl below ↦ before i from below | inr above ↦ h.2 i above to ] in
     let below = place_below bytes p k o none some in
     literal_found q p bytes at s k h.0 stop line t c o none low h.1 front clear h.3 some
-        (line_some (terminator q) bytes s k h.0 stop low h.1 below h.3).0 start ends
+    (line_some (terminator q) bytes s k h.0 stop low h.1 below h.3).0 start ends
 
 -- the lines of what stands before a run, of the run, and of what stands behind it
 pub lines_apart : (q : Search) (at seen : ℕ) (bytes : List ℕ) (run : Run) (n : IsNextRun q at seen bytes run)
     → lines (terminator q) bytes ≡ lines (terminator q) n.gap
-        ++ (lines (terminator q) n.text ++ lines (terminator q) n.later)
+    ++ (lines (terminator q) n.text ++ lines (terminator q) n.later)
 lines_apart q at seen bytes run n =
     let back : lines (terminator q) (n.text ++ n.later) ≡ lines (terminator q) n.text ++ lines (terminator q) n.later =
-        elim n.text_whole [
+    elim n.text_whole [
       | inl w ↦ lines-append (terminator q) n.text n.later w
       | inr e ↦ ap (λ xs. lines (terminator q) (n.text ++ xs)) e
           ∙ (ap (lines (terminator q)) (append-nil n.text)
@@ -287,8 +287,8 @@ lines_apart q at seen bytes run n =
           ∙ append-nil (lines (terminator q) n.text)))
     ] in
     ap (lines (terminator q)) (n.joins ∙ append_assoc n.gap n.text n.later)
-        ∙ (lines-append (terminator q) n.gap (n.text ++ n.later) n.gap_whole
-        ∙ ap (λ ls. lines (terminator q) n.gap ++ ls) back)
+    ∙ (lines-append (terminator q) n.gap (n.text ++ n.later) n.gap_whole
+    ∙ ap (λ ls. lines (terminator q) n.gap ++ ls) back)
 
 pub all_back : (P : List ℕ → Type 0) (xs ys : List (List ℕ)) → AllByRecursion P (xs ++ ys) → AllByRecursion P ys
 all_back P [] ys h = h

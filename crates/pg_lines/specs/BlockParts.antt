@@ -20,4 +20,4 @@ parts_of_lines q at seen (l ∷ ls) =
 abbrev pub HasParts : SearchText → List ℕ → List Part → Type 0
 HasParts text bytes found = (trees : List Pattern) → AreTreesOf text trees →
     found ≡ (if text.pieces
-      then parts_of_lines (search_of text trees) 0 0 (lines (terminator (search_of text trees)) bytes) else [])
+    then parts_of_lines (search_of text trees) 0 0 (lines (terminator (search_of text trees)) bytes) else [])

@@ -1,5 +1,5 @@
 -- What a search has found in a block so far.
-use Rattle.std.specs.Prelude.{◌≡◌, ℕ, ◌+◌, ◌⊎◌, Bool, true, if◌then◌else◌, List, [], ◌++◌, length, take}
+use Rattle.std.specs.Prelude.{◌≡◌, ℕ, ◌+◌, ◌⊎◌, true, if◌then◌else◌, List, [], ◌++◌, length, take}
 use Rattle.pg_lines.specs.Lines.{lines, AreWhole}
 use Rattle.pg_lines.specs.Search.{Search, terminator}
 use Rattle.pg_lines.specs.Runs.{AllLines, IsNextRun, AreRuns}

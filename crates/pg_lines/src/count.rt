@@ -13,10 +13,7 @@ fn count_in(byte: u8, bytes: &[u8], at: usize) -> u32
     ensures few { result ≤ 64 }
 {
     let lanes = u8x64::from_slice(&bytes[at..]);
-    lanes
-        .simd_eq(u8x64::splat(byte))
-        .to_bitmask()
-        .count_ones()
+    lanes.simd_eq(u8x64::splat(byte)).to_bitmask().count_ones()
 }
 
 /// How often a byte stands among some bytes.

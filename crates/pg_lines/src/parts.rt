@@ -61,8 +61,8 @@ pub(crate) fn push_line_parts<A: Allocator>(
     ensures parts { (trees : List Pattern) → AreTreesOf query.now.text trees → (text : List ℕ)
         → lines (terminator_of query.now.text) (slice_range bytes.now line.start line.end) ≡ text ∷ []
         → selects (search_of query.now.text trees) text ≡ true → OnOk result (found.new.items ≡ found.old.items
-            ++ (if query.now.text.pieces
-                then map (part_at line.start number) (parts (search_of query.now.text trees) text) else [])) }
+        ++ (if query.now.text.pieces
+        then map (part_at line.start number) (parts (search_of query.now.text trees) text) else [])) }
 {
     let options = query.text();
     if options.pieces && !options.invert {

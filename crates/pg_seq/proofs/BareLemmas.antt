@@ -68,19 +68,19 @@ rows_of_runs q full at seen (run ∷ runs) h =
     let seen' = run.first + run.count in
     let P : List ℕ → Type 0 = λ xs. AreRuns q run.span.end seen' xs runs in
     let later : AreRuns q run.span.end seen' (drop run.span.end full) runs =
-        subst P (sym (run_behind q full at seen run n)) h.1 in
+    subst P (sym (run_behind q full at seen run n)) h.1 in
     ap (flat_map (line_or_nothing q)) (lines_apart q at seen (drop at full) run n)
     ∙ (flat_map-append (line_or_nothing q) (lines (terminator q) n.gap)
-        (lines (terminator q) n.text ++ lines (terminator q) n.later)
+    (lines (terminator q) n.text ++ lines (terminator q) n.later)
     ∙ (ap (λ xs. xs ++ flat_map (line_or_nothing q) (lines (terminator q) n.text ++ lines (terminator q) n.later))
-        (rows_none q (lines (terminator q) n.gap) n.gap_unselected)
+    (rows_none q (lines (terminator q) n.gap) n.gap_unselected)
     ∙ (flat_map-append (line_or_nothing q) (lines (terminator q) n.text) (lines (terminator q) n.later)
     ∙ (ap (λ xs. xs ++ flat_map (line_or_nothing q) (lines (terminator q) n.later))
-        (rows_all q (lines (terminator q) n.text) n.text_selected
-            ∙ ap (λ xs. terminated (terminator q) (lines (terminator q) xs)) (sym (run_text q full at seen run n)))
+    (rows_all q (lines (terminator q) n.text) n.text_selected
+    ∙ ap (λ xs. terminated (terminator q) (lines (terminator q) xs)) (sym (run_text q full at seen run n)))
     ∙ ap (λ xs. rows_of_run (terminator q) full run ++ xs)
-        (ap (bare_rows q) (sym (run_behind q full at seen run n))
-            ∙ rows_of_runs q full run.span.end seen' runs later)))))
+    (ap (bare_rows q) (sym (run_behind q full at seen run n))
+    ∙ rows_of_runs q full run.span.end seen' runs later)))))
 
 pub rows_of_block : (q : Search) (bytes : List ℕ) (runs : List Run) → AreRuns q 0 0 bytes runs
     → bare_rows q bytes ≡ flat_map (rows_of_run (terminator q) bytes) runs
@@ -98,9 +98,10 @@ pub run_within : (q : Search) (at seen : ℕ) (bytes : List ℕ) (runs : List Ru
 run_within q at seen bytes [] total h fits k d below = absurd (omega arith)
 run_within q at seen bytes (run ∷ runs) total h fits zero d below =
     let n = h.0 in
-    let len = ap length n.joins in
-    (omega (arith, n.start, n.stop),
-        omega (arith, n.stop, len, length-append (n.gap ++ n.text) n.later, length-append n.gap n.text))
+    let len = ap length n.joins in (
+      omega (arith, n.start, n.stop),
+      omega (arith, n.stop, len, length-append (n.gap ++ n.text) n.later, length-append n.gap n.text),
+    )
 run_within q at seen bytes (run ∷ runs) total h fits (suc k) d below =
     let n = h.0 in
     let len = ap length n.joins in
@@ -119,11 +120,11 @@ any_selected q at seen bytes (run ∷ runs) h =
     let n = h.0 in
     ap (list_any (selects q)) (lines_apart q at seen bytes run n)
     ∙ (list_any-append (selects q) (lines (terminator q) n.gap)
-        (lines (terminator q) n.text ++ lines (terminator q) n.later)
+    (lines (terminator q) n.text ++ lines (terminator q) n.later)
     ∙ (ap (λ t. list_any (selects q) (lines (terminator q) n.gap) || t)
-        (list_any-append (selects q) (lines (terminator q) n.text) (lines (terminator q) n.later)
-            ∙ ap (λ t. t || list_any (selects q) (lines (terminator q) n.later))
-                (all_of (lines (terminator q) n.text) n.text_selected (some_lines n.text n.text_some)))
+    (list_any-append (selects q) (lines (terminator q) n.text) (lines (terminator q) n.later)
+    ∙ ap (λ t. t || list_any (selects q) (lines (terminator q) n.later))
+    (all_of (lines (terminator q) n.text) n.text_selected (some_lines n.text n.text_some)))
     ∙ (or_true (list_any (selects q) (lines (terminator q) n.gap))
     ∙ sym (lt-ltb 0 (length (run ∷ runs)) (omega arith)))))
   where
@@ -245,7 +246,7 @@ step_bare q (Announces b) p whole =
     let c = cursor_of q bare p in
     let rows : block_rows q bare c b.bytes ≡ bare_rows q b.bytes =
     ap (λ t. cond t (run_pieces q bare c.name c.trail (lines (terminator q) b.bytes))
-        (run_rows q bare c.name c.earlier c.trail (lines (terminator q) b.bytes))) whole
+    (run_rows q bare c.name c.earlier c.trail (lines (terminator q) b.bytes))) whole
     ∙ run_bare q c.name c.earlier c.trail (lines (terminator q) b.bytes) (cursor_still q p) in
     ap (λ xs. flat_map (λ (x : BlockData). bare_rows q x.bytes) (announced p) ++ xs) (rows ∙ sym (append-nil (bare_rows q b.bytes)))
     ∙ sym (flat_map-append (λ (x : BlockData). bare_rows q x.bytes) (announced p) (b ∷ []))

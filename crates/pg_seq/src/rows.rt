@@ -34,12 +34,7 @@ fn write_lines<W: Sink>(out: &mut W, end: u8, text: &[u8]) -> Result<(), WriteEr
 }
 
 /// Writes the lines of some runs.
-fn write_runs<W: Sink>(
-    out: &mut W,
-    end: u8,
-    bytes: &[u8],
-    runs: &[Run],
-) -> Result<(), WriteError>
+fn write_runs<W: Sink>(out: &mut W, end: u8, bytes: &[u8], runs: &[Run]) -> Result<(), WriteError>
     requires { EachIndex runs.now (λ k. IsWithin bytes.now (get_or runs.now k no_run).span) }
     ensures all { OnOk result (W.taken out.new ≡ W.taken out.old ++ flat_map (rows_of_run end bytes.now) runs.now) }
     ensures part { OnErr result

@@ -17,7 +17,7 @@ returns-in-Some-clause-line c =
     let P : List ℕ → Type 0 = λ ys. IsFirstByte (is_byte c.args.end) ys (Some len) in
     first_line_at c.args.end (drop start bytes) len (subst P (take_rest bytes start) c.in-Some.ensures)
     ∙ ap (λ (ys : List ℕ). take len (drop start bytes) ∷ lines c.args.end ys)
-        (drop-drop (len + 1) start bytes ∙ ap (λ n. drop n bytes) past)
+    (drop-drop (len + 1) start bytes ∙ ap (λ n. drop n bytes) past)
     ∙ ap (λ n. take n (drop start bytes) ∷ lines c.args.end (drop (start + len + 1) bytes)) (sym cut)
 
 pub returns-in-None-clause-line : goal.returns-in-None-clause-line
@@ -30,7 +30,7 @@ returns-in-None-clause-line c =
     only_line c.args.end rest (omega arith) (subst P (take_rest bytes start) c.in-None.ensures)
     ∙ ap (λ (ys : List ℕ). ys ∷ []) (sym (take_all (length bytes - start) rest (omega arith)))
     ∙ ap (λ (ys : List ℕ). take (length bytes - start) rest ∷ lines c.args.end ys)
-        (sym (drop_all (length bytes + 1) bytes (omega arith)))
+    (sym (drop_all (length bytes + 1) bytes (omega arith)))
 
 pub returns-in-Some-clause-clear : goal.returns-in-Some-clause-clear
 returns-in-Some-clause-clear c =

@@ -1,4 +1,4 @@
-use Rattle.std.proofs.Common.{◌≡◌, ◌==◌, ◌<◌, ◌-◌, ℕ, cond, List, length, take, get_or, ap, ◌∙◌, arith}
+use Rattle.std.proofs.Common.{◌≡◌, ◌==◌, ◌<◌, ◌-◌, cond, length, take, get_or, ap, ◌∙◌, arith}
 use Rattle.std.proofs.lemmas.List.{get_or_default}
 use Rattle.pg_lines.proofs.CountLemmas.{text_is, no_line, one_if}
 use Rattle.pg_lines.proofs.lines.text_of.Goals as goal
@@ -11,7 +11,7 @@ returns-in-Some-clause-text c = λ text one.
     let some : 0 < length line = item.3.0 in
     let last = item.1 ∙ get_or_default line (length line - 1) c.in-Some.field-0.now 0 (omega (arith, some)) in
     let ended : c.from.result ≡ cond (get_or line (length line - 1) 0 == end) 1 0 =
-        c.from.ensures ∙ (one_if (c.in-Some.field-0.now == end) ∙ ap (λ b. cond (b == end) 1 0) last) in
+    c.from.ensures ∙ (one_if (c.in-Some.field-0.now == end) ∙ ap (λ b. cond (b == end) 1 0) last) in
     ap (λ n. take (length line - n) line) ended ∙ text_is end line text some one
 
 pub returns-in-None-clause-text : goal.returns-in-None-clause-text

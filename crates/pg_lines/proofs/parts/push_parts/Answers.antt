@@ -8,7 +8,7 @@ overflow_add-span g c =
     let q = c.args.query.now in
     let own = c.machine.ensures.compiled in
     let next = c.in-Some.ensures.next own.0 (bounds_of q.text)
-        (machine_of q c.machine.result.now c.machine.ensures.machine own own.0 own.1) in
+    (machine_of q c.machine.result.now c.machine.ensures.machine own own.0 own.1) in
     record { fits = omega (arith, next.some, next.hit.within, c.requires.within) }
 
 pub overflow_add-span-in-Some : goal.overflow_add-span-in-Some
@@ -16,7 +16,7 @@ overflow_add-span-in-Some g c =
     let q = c.args.query.now in
     let own = c.machine.ensures.compiled in
     let next = c.in-Some.ensures.next own.0 (bounds_of q.text)
-        (machine_of q c.machine.result.now c.machine.ensures.machine own own.0 own.1) in
+    (machine_of q c.machine.result.now c.machine.ensures.machine own own.0 own.1) in
     record { fits = omega (arith, next.hit.within, c.requires.within) }
 
 pub loop-start-smaller : goal.loop-start-smaller
@@ -24,9 +24,9 @@ loop-start-smaller g c =
     let q = c.args.query.now in
     let own = c.machine.ensures.compiled in
     let next = c.in-Some.ensures.next own.0 (bounds_of q.text)
-        (machine_of q c.machine.result.now c.machine.ensures.machine own own.0 own.1) in
+    (machine_of q c.machine.result.now c.machine.ensures.machine own own.0 own.1) in
     let smaller : length c.args.line.now - c.in-Some.end < length c.args.line.now - c.loop-start.place =
-        omega (arith, next.later, next.some, next.hit.within) in
+    omega (arith, next.later, next.some, next.hit.within) in
     smaller
 
 pub loop-start-preserved : goal.loop-start-preserved

@@ -15,6 +15,6 @@ returns-in_ok-literal-in-Some g c =
     sym (ap (λ (t : SearchText). t.lists) c.text.view_is)
     ∙ (ap (map patterns_of) (sym c.as_slice.ensures.value) ∙ c.in-Some.ensures) in
     subst P (sym c.in_ok-literal-in-Some.ensures.items)
-        (plain_of text only is.0 alone (not_found only 10 (sym c.contains.ensures.value ∙ c.if-contains.false))
+    (plain_of text only is.0 alone (not_found only 10 (sym c.contains.ensures.value ∙ c.if-contains.false))
     (not_found only (terminator_of text) (ap (λ b. list_any (λ y. y == b) only) (sym c.terminator.ensures)
     ∙ (sym c.contains-else-contains.ensures.value ∙ c.if-contains-2.false))) is.1 is.2 is.3 is.4)

@@ -32,5 +32,5 @@ returns-clause-some c = λ q trees plain same.
     let begin = c.begin_of_line.ensures in
     let line = subst Around same (begin.clear, begin.whole, c.end_of_line.ensures) in
     subst P (take_rest bytes at) (line_around q c.args.needle.now rest at start k stop _ trees plain found.1
-        found.0.before
+    found.0.before
     begin.low line.0 line.1 line.2 (omega (arith, ne)) refl refl)

@@ -76,7 +76,7 @@ loop-line-preserved g c =
           c.in_ok-push_line_parts.ensures.parts trees spelled one.0 one.2 one.1
           ∙ (ap (λ ps. ps ++ put) (i.parts trees spelled)
           ∙ sym (parts_with_line q bytes runs run gathered line found c.with_line.new.runs.items new gathered'
-              longer.stop one.0 one.2 one.1 number counted));
+          longer.stop one.0 one.2 one.1 number counted));
     }
 
 pub returns-clause-runs : goal.returns-clause-runs
@@ -84,14 +84,14 @@ returns-clause-runs g c = λ trees spelled.
     let q = search_of c.args.query.now.text trees in
     let P : List Run → Type 0 = λ runs. AreRuns q 0 0 c.args.bytes.now runs in
     subst P (sym c.in_ok-push_run.ensures) (gathered_all q c.args.bytes.now c.loop-line.runs.items c.loop-line.run
-        (c.loop-line.invariant.gathered trees spelled) (c.in_default.ensures.none trees spelled))
+    (c.loop-line.invariant.gathered trees spelled) (c.in_default.ensures.none trees spelled))
 
 pub returns-clause-parts : goal.returns-clause-parts
 returns-clause-parts g c = λ trees spelled.
     let q = search_of c.args.query.now.text trees in
     c.loop-line.invariant.parts trees spelled
     ∙ parts_of_all q c.args.bytes.now c.loop-line.runs.items c.loop-line.run
-        (c.loop-line.invariant.gathered trees spelled) (c.in_default.ensures.none trees spelled)
+    (c.loop-line.invariant.gathered trees spelled) (c.in_default.ensures.none trees spelled)
 
 pub returns-clause-lines : goal.returns-clause-lines
 returns-clause-lines g c =
@@ -101,7 +101,7 @@ returns-clause-lines g c =
     let run = c.loop-line.run in
     let all = all_counted q bytes c.loop-line.runs.items run (c.loop-line.invariant.gathered own.0 own.1) in
     let rest : c.count_lines.result ≡ length (lines (terminator_of c.args.query.now.text) (drop run.span.end bytes)) =
-        c.count_lines.ensures.count
-        ∙ (ap (λ xs. length (lines c.terminator-end.result xs)) (take_rest bytes run.span.end)
-        ∙ ap (λ t. length (lines t (drop run.span.end bytes))) c.terminator-end.ensures) in
+    c.count_lines.ensures.count
+    ∙ (ap (λ xs. length (lines c.terminator-end.result xs)) (take_rest bytes run.span.end)
+    ∙ ap (λ t. length (lines t (drop run.span.end bytes))) c.terminator-end.ensures) in
     omega (arith, all, rest)

@@ -25,7 +25,7 @@ returns-clause-selected g c = λ trees spelled.
     let machine = subst P (same_trees text own.0 trees own.1 spelled) own.2 in
     let M : Nfa → Type 0 = λ m. IsMachineOf m trees (bounds_of text) in
     let exact = c.selects-is_hit.ensures.exact trees (bounds_of text)
-        (subst M (sym c.machine.ensures.machine) machine) in
+    (subst M (sym c.machine.ensures.machine) machine) in
     let same : c.selects-is_hit.result ≡ has_hit trees (bounds_of text) line =
     one_answer c.selects-is_hit.result (has_hit trees (bounds_of text) line) exact
     (hits_decided trees (bounds_of text) line).whole_line in

@@ -1,4 +1,4 @@
-use Rattle.std.proofs.Common.{◌≡◌, ◌+◌, ℕ, List, length, slice_range, ap, sym, ◌∙◌, subst, arith, refl}
+use Rattle.std.proofs.Common.{◌+◌, List, length, slice_range, ap, sym, ◌∙◌, subst, arith, refl}
 use Rattle.pg_lines.specs.Lines.{lines}
 use Rattle.pg_lines.specs.Gathered.{IsGathered}
 use Rattle.pg_lines.specs.declared.run.Run.{Run}
@@ -15,7 +15,7 @@ returns-in_ok-push_run-clause-gathered g c = λ q same gathered next.
     let gap = slice_range bytes run.span.end line.start in
     let first = c.run_behind.ensures.first ∙ ap (λ t. run.first + run.count + length (lines t gap)) same in
     subst P (sym c.in_ok-push_run.ensures) (gathered_gap q bytes c.args.runs.now.items run gathered line next new
-        c.run_behind.ensures.span first c.run_behind.ensures.count)
+    c.run_behind.ensures.span first c.run_behind.ensures.count)
 
 pub returns-else-run-line-clause-gathered : goal.returns-else-run-line-clause-gathered
 returns-else-run-line-clause-gathered g c = λ q same gathered next.

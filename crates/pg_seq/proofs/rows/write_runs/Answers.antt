@@ -14,4 +14,4 @@ returns-in_err-write_lines-clause-part g c =
     let P : List ℕ → Type 0 = λ text. TakesPart (terminated c.args.end (lines c.args.end text)) before after in
     on_err (TakesPart (flat_map rows c.args.runs.now) (g.W.Sink.taken c.args.out.now) after) c.from_residual.result
     (takes_of_map rows c.args.runs.now c.loop-run.run-index no_run _ before after (omega arith)
-        c.loop-run.invariant.taken (subst P c.of.ensures c.in_err-write_lines.ensures.part))
+    c.loop-run.invariant.taken (subst P c.of.ensures c.in_err-write_lines.ensures.part))
