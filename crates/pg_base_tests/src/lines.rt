@@ -1,12 +1,17 @@
 //! The search of a block.
-ghost use Rattle.std.specs.Prelude.{◌≤◌, length};
+ghost use Rattle.std.specs.Prelude.{◌≤◌, length, IfOk};
+ghost use Rattle.std.specs.Arc.{arc_value};
+ghost use Rattle.pg_match.specs.Machines.{Fits};
+ghost use Rattle.pg_lines.specs.Lines.{AreShort};
+ghost use Rattle.pg_lines.specs.Search.{terminator_of};
 
 use crate::rows::{bytes_of, cut, halves};
 use pg_lines::{
     Block, BlockResult, CutFault, Kind, PatternList, Query, QueryFault, QueryText, Scratch,
     search_block,
 };
-use std::alloc::{AllocError, Global};
+use refusing::Refusing;
+use std::alloc::{AllocError, Allocator, Global};
 use std::process::Abort;
 use std::sync::Arc;
 use std::test::Fail;
@@ -19,7 +24,11 @@ fn assert_block(rt: &impl Abort, block: &Block, number: u64, bytes: &[u8]) {
 }
 
 /// What a query is compiled from: the letters say the kind (`E`, `F`, or none of both) and the options.
-fn text_of(alloc: Global, letters: &str, pattern: &[u8]) -> Result<QueryText, AllocError> {
+fn text_of<A: Allocator + Copy>(
+    alloc: A,
+    letters: &str,
+    pattern: &[u8],
+) -> Result<QueryText<A>, AllocError> {
     let has = |letter: u8| letters.as_bytes().contains(&letter);
     let mut lists = Vec::new(alloc);
     lists.push(PatternList::Text(Vec::from_slice(alloc, pattern)?))?;
@@ -37,14 +46,29 @@ fn text_of(alloc: Global, letters: &str, pattern: &[u8]) -> Result<QueryText, Al
         whole: has(b'x'),
         word: has(b'w'),
         invert: has(b'v'),
-        pieces: false,
+        pieces: has(b'o'),
         zero: has(b'z'),
     })
 }
 
-/// What a search finds in block 5 of file 7, which has these bytes, at most 100.
-fn search_for(alloc: Global, query: Query, bytes: &[u8]) -> Result<BlockResult, AllocError>
+/// A query, a scratch for it, and block 5 of file 7.
+#[derive(Drop)]
+struct Prepared<A: Allocator> {
+    query: Arc<Query<A>, A>,
+    scratch: Scratch<A>,
+    block: Arc<Block<A>, A>,
+}
+
+/// A search of a block with these bytes, at most 100.
+fn prepare<A: Allocator + Copy>(
+    alloc: A,
+    query: Query<A>,
+    bytes: &[u8],
+) -> Result<Prepared<A>, AllocError>
     requires { length bytes.now ≤ 100 }
+    ensures fits { IfOk result (λ p. Fits p.scratch (arc_value p.query).machine) }
+    ensures short { IfOk result
+        (λ p. AreShort (terminator_of (arc_value p.query).text) (arc_value p.block).bytes) }
 {
     let query = Arc::new(alloc, query)?;
     let block = Block {
@@ -53,55 +77,94 @@ fn search_for(alloc: Global, query: Query, bytes: &[u8]) -> Result<BlockResult, 
         bytes: Vec::from_slice(alloc, bytes)?,
     };
     let block = Arc::new(alloc, block)?;
-    let searched: &Query = &query;
-    let mut scratch = Scratch::new(alloc, searched.machine())?;
+    let searched: &Query<A> = &query;
+    let scratch = Scratch::new(alloc, searched.machine())?;
+    Ok(Prepared {
+        query,
+        scratch,
+        block,
+    })
+}
+
+/// What a search finds in a block with these bytes, at most 100.
+fn search_for(alloc: Global, query: Query, bytes: &[u8]) -> Result<BlockResult, AllocError>
+    requires { length bytes.now ≤ 100 }
+{
+    let Prepared {
+        query,
+        scratch,
+        block,
+    } = prepare(alloc, query, bytes)?;
+    let mut scratch = scratch;
     search_block(alloc, &query, &mut scratch, block)
 }
 
-/// Shows how many lines a result has, and the runs of selected ones.
-fn shown(alloc: Global, found: &BlockResult) -> Result<String, AllocError> {
+/// Shows how many lines a result has, the runs of selected ones, each as its span, the lines before it and its own
+/// lines, and the matched parts, each as the lines before its own, and its span.
+fn shown<A: Allocator>(alloc: Global, found: &BlockResult<A>) -> Result<String, AllocError> {
     let mut out = String::new(alloc);
     let count = found.lines();
     write!(out, "{count}:")?;
     for run in found.runs() {
-        let start = run.start;
-        let end = run.end;
-        write!(out, " {start}-{end}")?;
+        let start = run.span.start;
+        let end = run.span.end;
+        let first = run.first;
+        let count = run.count;
+        write!(out, " {start}-{end}={first}+{count}")?;
+    }
+    for part in found.parts() {
+        let line = part.line;
+        let start = part.span.start;
+        let end = part.span.end;
+        write!(out, " {line}:{start}-{end}")?;
     }
     Ok(out)
 }
 
-/// The letters of the options and a pattern, a block, and how many lines it has and where the selected ones stand; or
-/// the fault of the pattern.
-const FOUND: &str = "F b on abc%0Axyz%0Ab => 3: 0-4 8-9
-F b on x%0Ab%0Aab%0Ax%0Abb%0A => 5: 2-7 9-12
-F  on a%0A%0Ab => 3: 0-4
-F  on %0A => 1: 0-1
+/// The letters of the options and a pattern, a block, and what `shown` shows of it; or the fault of the pattern.
+const FOUND: &str = "F b on abc%0Axyz%0Ab => 3: 0-4=0+1 8-9=2+1
+F b on x%0Ab%0Aab%0Ax%0Abb%0A => 5: 2-7=1+2 9-12=4+1
+F  on a%0A%0Ab => 3: 0-4=0+3
+F  on %0A => 1: 0-1=0+1
 F  on  => 0:
 F q on abc%0Axyz%0Ab => 3:
 F ab on a%0Ab%0A => 2:
-F %00%FF on a%00%FF%0A%00%0A%FF%80 => 3: 0-4
-F a%0Ab on a%0Ac%0Ab => 3: 0-2 4-5
-Fi B on abc%0Axyz%0AB%0A => 3: 0-4 8-10
-Fv b on abc%0Axyz%0Ab => 3: 4-8
+F %00%FF on a%00%FF%0A%00%0A%FF%80 => 3: 0-4=0+1
+F a%0Ab on a%0Ac%0Ab => 3: 0-2=0+1 4-5=2+1
+Fi B on abc%0Axyz%0AB%0A => 3: 0-4=0+1 8-10=2+1
+Fv b on abc%0Axyz%0Ab => 3: 4-8=1+1
 Fv  on a%0Ab%0A => 2:
-Fv q on a%0Ab => 2: 0-3
-Fx b on abc%0Ab%0A => 2: 4-6
-Fw b on ab%0A%20b%0Ab_%20b%0A => 3: 3-11
-Fz b on a%00b%0A%00c => 3: 2-5
-Fzv b on a%00b%0A%00c => 3: 0-2 5-6
+Fv q on a%0Ab => 2: 0-3=0+2
+Fx b on abc%0Ab%0A => 2: 4-6=1+1
+Fw b on ab%0A%20b%0Ab_%20b%0A => 3: 3-11=1+2
+Fz b on a%00b%0A%00c => 3: 2-5=1+1
+Fzv b on a%00b%0A%00c => 3: 0-2=0+1 5-6=2+1
 Fz a%00 on a%00 => 1:
-b ^*ab*$ on *a%0A*abb%0Aab%0A => 3: 0-8
-b a^b on a^b%0A => 1: 0-4
+b ^*ab*$ on *a%0A*abb%0Aab%0A => 3: 0-8=0+2
+b a^b on a^b%0A => 1: 0-4=0+1
 E a^b on a^b%0A => 1:
-Ex a|ab on ab%0Aa%0Aabc%0A => 3: 0-5
-Ew ab|a on ab_%0Aa%20b%0A => 2: 4-8
-Exw a|ab on a%20%0Aab%0A => 2: 3-6
-Ei [^a] on aA%0AaB%0A => 2: 3-6
-Ev (a*)*b on aaa%0Aab%0A => 2: 0-4
-b . on %0Aa%0A => 2: 1-3
-bz . on %0A%00 => 1: 0-2
-bz ^$ on %00a%00 => 2: 0-1
+Ex a|ab on ab%0Aa%0Aabc%0A => 3: 0-5=0+2
+Ew ab|a on ab_%0Aa%20b%0A => 2: 4-8=1+1
+Exw a|ab on a%20%0Aab%0A => 2: 3-6=1+1
+Ei [^a] on aA%0AaB%0A => 2: 3-6=1+1
+Ev (a*)*b on aaa%0Aab%0A => 2: 0-4=0+1
+b . on %0Aa%0A => 2: 1-3=1+1
+bz . on %0A%00 => 1: 0-2=0+1
+bz ^$ on %00a%00 => 2: 0-1=0+1
+Fo b on bab%0Ax%0Ab => 3: 0-4=0+1 6-7=2+1 0:0-1 0:2-3 2:6-7
+Fo aa on %0Aaaaaa%0A => 2: 1-7=1+1 1:1-3 1:3-5
+Fo  on a%0A => 1: 0-2=0+1
+Fo q on a%0Ab => 2:
+Fov b on ab%0Axyz%0A => 2: 3-7=1+1
+Fov  on a%0A => 1:
+Foz b on a%00b%0Ab%00 => 2: 2-6=1+1 1:2-3 1:4-5
+Fow a on aa%20a_%20a%0A => 1: 0-8=0+1 0:6-7
+Fox ab on ab%0Aabab%0A => 2: 0-3=0+1 0:0-2
+Eo a|ab on xabab%0Ab%0Aa => 3: 0-6=0+1 8-9=2+1 0:1-3 0:3-5 2:8-9
+Eo b* on abb%0A%0Ab => 3: 0-6=0+3 0:1-3 2:5-6
+Eo ^a on aaa%0A => 1: 0-4=0+1 0:0-1
+Eov b* on abb%0A => 1:
+bio b on aB%0Abb => 2: 0-5=0+2 0:1-2 1:3-4 1:4-5
 E a%0A( on a => pattern 2: unmatched group at 1
 b a%0Ab%0A\\(a\\)\\1 on a => pattern 3: back reference at 5
 E (a{255}){255}a{255}a{256} on a => pattern 1: bad interval at 20
@@ -133,6 +196,145 @@ fn lines_are_selected(rt: HostRuntime) -> Result<(), Fail> {
         let (letters, pattern) = cut(query, " ");
         let got = find(&rt, rt.alloc(), letters, pattern, block)?;
         assert_eq!(rt; got.as_str(), want, "{row}");
+    }
+    Ok(())
+}
+
+/// Lines of two bytes and a terminator, so that there are this many bytes, and a last line that holds `b`.
+fn long_block(alloc: Global, size: usize) -> Result<Vec<u8>, AllocError> {
+    let mut bytes = Vec::new(alloc);
+    for place in 0..size {
+        bytes.push(if place % 3 == 2 { b'\n' } else { b'a' })?;
+    }
+    bytes.push(b'\n')?;
+    bytes.push(b'b')?;
+    Ok(bytes)
+}
+
+#[test]
+fn long_blocks_are_counted(rt: HostRuntime) -> Result<(), Fail> {
+    for size in 0..98usize {
+        let bytes = long_block(rt.alloc(), size)?;
+        assert!(rt; bytes.len() <= 100);
+        let query = query_of(rt.alloc(), "Fo", b"b")?;
+        let found = search_for(rt.alloc(), query, &bytes)?;
+        let got = shown(rt.alloc(), &found)?;
+        let before = size / 3 + 1;
+        let lines = before + 1;
+        let start = size + 1;
+        let end = size + 2;
+        let want = format!(in rt.alloc();
+            "{lines}: {start}-{end}={before}+1 {before}:{start}-{end}"
+        )?;
+        assert_eq!(rt; got.as_str(), want.as_str(), "at {size}");
+    }
+    Ok(())
+}
+
+/// A search of a block, of which a row tells.
+fn prepare_row<A: Allocator + Copy>(
+    alloc: A,
+    letters: &str,
+    pattern: &[u8],
+    bytes: &[u8],
+) -> Result<Prepared<A>, Fail>
+    requires { length bytes.now ≤ 100 }
+    ensures fits { IfOk result (λ p. Fits p.scratch (arc_value p.query).machine) }
+    ensures short { IfOk result
+        (λ p. AreShort (terminator_of (arc_value p.query).text) (arc_value p.block).bytes) }
+{
+    let query = Query::compile(alloc, text_of(alloc, letters, pattern)?)?;
+    let prepared = prepare(alloc, query, bytes)?;
+    Ok(prepared)
+}
+
+/// What a search finds, as `shown` shows it on another allocator, or `None` for want of memory.
+fn searched<A: Allocator + Copy>(
+    heap: A,
+    prepared: Prepared<A>,
+    alloc: Global,
+) -> Result<Option<String>, AllocError>
+    requires fits { Fits prepared.scratch (arc_value prepared.query).machine }
+    requires short { AreShort (terminator_of (arc_value prepared.query).text) (arc_value prepared.block).bytes }
+{
+    let Prepared {
+        query,
+        scratch,
+        block,
+    } = prepared;
+    let mut scratch = scratch;
+    match search_block(heap, &query, &mut scratch, block) {
+        Ok(found) => {
+            let shown = shown(alloc, &found)?;
+            Ok(Some(shown))
+        }
+        Err(AllocError) => Ok(None),
+    }
+}
+
+/// What a search finds where the requests for memory that it makes pass up to one, which is refused, and whether there
+/// was such a one.
+fn search_refused(
+    alloc: Global,
+    letters: &str,
+    pattern: &[u8],
+    bytes: &[u8],
+    passes: u64,
+) -> Result<(Option<String>, bool), Fail>
+    requires { length bytes.now ≤ 100 }
+{
+    let heap = Refusing::new(alloc, 1000);
+    let _prepared = prepare_row(&heap, letters, pattern, bytes)?;
+    let before = heap.requests();
+    let heap = Refusing::new(alloc, before.wrapping_add(passes));
+    let prepared = prepare_row(&heap, letters, pattern, bytes)?;
+    let found = searched(&heap, prepared, alloc)?;
+    Ok((found, heap.has_refused()))
+}
+
+/// Searches with a request refused, and sees that the answer is the want of memory, and without a refusal what is
+/// wanted. Answers whether a request was refused.
+fn is_refused(
+    rt: &impl Abort,
+    alloc: Global,
+    asked: &str,
+    want: &str,
+    passes: u64,
+) -> Result<bool, Fail> {
+    let (query, block) = cut(asked, " on ");
+    let (letters, pattern) = cut(query, " ");
+    let pattern = bytes_of(alloc, pattern)?;
+    let bytes = bytes_of(alloc, block)?;
+    assert!(rt; bytes.len() <= 100);
+    let (found, is_refused) = search_refused(alloc, letters, &pattern, &bytes, passes)?;
+    match found {
+        Some(found) => assert!(rt;
+            !is_refused && found.as_str() == want,
+            "{asked} at {passes}"
+        ),
+        None => assert!(rt; is_refused, "{asked} at {passes}"),
+    }
+    Ok(is_refused)
+}
+
+/// Searches as those of `FOUND`, each with several runs, and how many requests for memory it makes at least.
+const LARGE: &str =
+    "2 F b on b%0Ax%0Ab%0Ax%0Ab%0Ax%0Ab%0Ax%0Ab => 9: 0-2=0+1 4-6=2+1 8-10=4+1 12-14=6+1 16-17=8+1
+2 Ev x on b%0Ax%0Ab%0Ax%0Ab%0Ax%0Ab%0Ax%0Ab => 9: 0-2=0+1 4-6=2+1 8-10=4+1 12-14=6+1 16-17=8+1
+3 Fo b on bbbbb%0Ax%0Ab => 3: 0-6=0+1 8-9=2+1 0:0-1 0:1-2 0:2-3 0:3-4 0:4-5 2:8-9
+3 Eo b|c on bcbcb%0Ax%0Ab => 3: 0-6=0+1 8-9=2+1 0:0-1 0:1-2 0:2-3 0:3-4 0:4-5 2:8-9";
+
+#[test]
+fn memory_may_be_refused(rt: HostRuntime) -> Result<(), Fail> {
+    for row in LARGE.lines() {
+        let (asked, want) = halves(row);
+        let (least, asked) = cut(asked, " ");
+        let least: u64 = least.parse()?;
+        let mut passes = 0;
+        while passes < 20 && is_refused(&rt, rt.alloc(), asked, want, passes)? {
+            passes += 1;
+        }
+        assert!(rt; passes >= least && passes < 20, "{row}");
     }
     Ok(())
 }

@@ -1,5 +1,5 @@
 -- Worked examples of the definitions.
-use Rattle.std.specs.Prelude.{◌≡◌, ◌==◌, ℕ, Bool, true, false, List, [], ◌∷◌, ◌++◌, codes, refl}
+use Rattle.std.specs.Prelude.{◌≡◌, ◌==◌, ℕ, true, false, List, [], ◌∷◌, ◌++◌, codes, refl}
 use Rattle.pg_lines.specs.Lines.{lines}
 use Rattle.pg_syntax.specs.Patterns.{Pattern, Empty, Set, Cat}
 use Rattle.pg_match.specs.Tests.{has_hit}

@@ -1,12 +1,15 @@
+pub mod CountLemmas
 pub mod CutLaws
 pub mod CutLemmas
 pub mod CutterLemmas
 pub mod Examples
 pub mod FixedLemmas
+pub mod GatherLemmas
 pub mod HitLemmas
 pub mod LineLaws
 pub mod LineLemmas
 pub mod LongLemmas
+pub mod PartLemmas
 pub mod PatternLemmas
 pub mod RunLemmas
 pub mod ScanLemmas

@@ -44,7 +44,8 @@ around end _ _ (alone {b} ne) (suc k) h = absurd (omega arith)
 around end _ _ (onto {b} {bytes} {l} {ls} ne m) zero h = let r = around end bytes (l ∷ ls) m zero (omega arith) in (r.0, ap (λ bs. b ∷ bs) r.1)
 around end _ _ (onto {b} {bytes} {l} {ls} ne m) (suc k) h = let r = around end bytes (l ∷ ls) m (suc k) (omega arith) in (r.0, ap (λ bs. b ∷ bs) r.1)
 
-length-terminated-cons : (end : ℕ) (ls : List (List ℕ)) (l : List ℕ) → length (terminated end (l ∷ ls)) ≡ length l + 1 + length (terminated end ls)
+pub length-terminated-cons : (end : ℕ) (ls : List (List ℕ)) (l : List ℕ)
+    → length (terminated end (l ∷ ls)) ≡ length l + 1 + length (terminated end ls)
 length-terminated-cons end ls l = omega (arith, length-append (l ++ end ∷ []) (terminated end ls), length-append l (end ∷ []))
 
 -- the line that stands at a span

@@ -1,9 +1,9 @@
 -- Runs of selected lines.
-use Rattle.std.proofs.Common.{◌≡◌, ◌≢◌, ℕ, zero, suc, ◌+◌, ◌-◌, ◌<◌, ◌≤◌, ◌^◌, ◌⊎◌, inl, inr, Bool, true, false, nat_lt}
-use Rattle.std.proofs.Common.{cond, List, [], ◌∷◌, ◌++◌, length, take, drop, get_or, refl, sym, ap, ◌∙◌, subst, arith}
+use Rattle.std.proofs.Common.{◌≡◌, ◌≢◌, ℕ, zero, suc, ◌+◌, ◌-◌, ◌<◌, ◌≤◌, ◌^◌, ◌⊎◌, inl, inr, Bool, true, false}
+use Rattle.std.proofs.Common.{List, [], ◌∷◌, ◌++◌, length, take, drop, get_or, refl, sym, ap, ◌∙◌, subst, arith}
 use Rattle.std.proofs.Common.{append_assoc, length-append, length-drop}
 use Rattle.std.specs.List.{AllByRecursion}
-use Rattle.std.proofs.lemmas.Bool.{cases_lt, ltb-true, ltb-false}
+use Rattle.std.proofs.lemmas.Bool.{cases_lt}
 use Rattle.std.proofs.lemmas.List.{take-append-drop, drop_at, length-take-le, get_or-take, get_or-drop, get_or_default}
 use Rattle.std.proofs.lemmas.List.{append-nil, take_at, drop_more, drop-drop, drop_all}
 use Rattle.std.proofs.lemmas.List.Prefix.{at_reads}
@@ -11,7 +11,9 @@ use Rattle.memchr.specs.Find.{OccursAt, Nowhere}
 use Rattle.pg_lines.specs.Lines.{lines, IsLine, AreWhole, AreShort, IsClear, Stops, terminated}
 use Rattle.pg_lines.specs.Search.{Search, HasItsTrees, IsPlain, terminator}
 use Rattle.pg_lines.specs.Selection.{selects}
-use Rattle.pg_lines.specs.Runs.{AllLines, IsNextRun, AreRuns}
+use Rattle.pg_lines.specs.Runs.{AllLines, IsNextRun}
+use Rattle.pg_lines.specs.Gathered.{IsNextLine}
+use Rattle.pg_lines.specs.declared.run.Run.{Run}
 use Rattle.pg_lines.specs.declared.span.Span.{Span}
 use Rattle.pg_lines.proofs.HitLemmas.{occurs_selected, nowhere_unselected}
 use Rattle.pg_lines.proofs.LineLemmas.{made, around, lines-line, lines-alone, lines-append, whole_append}
@@ -176,10 +178,11 @@ line_at end bytes s e stop low high longer clear stops =
 pub line_found : (q : Search) (bytes : List ℕ) (at s e stop : ℕ) (line : Span) → IsLineAt (terminator q) bytes s e stop
     → AreWhole (terminator q) (take s bytes) → AllLines q false (take s bytes)
     → selects q (take (e - s) (drop s bytes)) ≡ true → line.start ≡ at + s → line.end ≡ at + stop
-    → IsNextRun q at bytes line
+    → IsNextLine q at bytes line
 line_found q bytes at s e stop line is front none chosen start ends =
     let selected : List (List ℕ) → Type 0 = λ ls. AllByRecursion (λ l. selects q l ≡ true) ls in
-    record {
+    let next : IsNextRun q at 0 bytes
+    (record { span = line; first = length (lines (terminator q) (take s bytes)); count = 1 }) = record {
       gap = take s bytes;
       text = is.text;
       later = is.later;
@@ -191,7 +194,10 @@ line_found q bytes at s e stop line is front none chosen start ends =
       text_selected = subst selected (sym is.one) (chosen, tt);
       start = omega (arith, start, is.front);
       stop = omega (arith, ends, is.front, is.len);
-    }
+      first = omega arith;
+      count = sym (ap length is.one);
+    } in
+    (length (lines (terminator q) (take s bytes)), next)
 
 -- whole lines, or all of the bytes
 abbrev pub IsPassed : ℕ → List ℕ → ℕ → Type 0
@@ -230,7 +236,7 @@ line_unselected q bytes s e stop is front none not_chosen =
 pub literal_found : (q : Search) (p bytes : List ℕ) (at s k e stop : ℕ) (line : Span) → HasItsTrees q → IsPlain q.text p
     → OccursAt bytes p k → Nowhere (OccursAt bytes p) 0 k → s ≤ k → k ≤ e → AreWhole (terminator q) (take s bytes)
     → IsClear (terminator q) bytes s e → Stops (terminator q) bytes e stop → 0 < length bytes → s < stop
-    → line.start ≡ at + s → line.end ≡ at + stop → IsNextRun q at bytes line
+    → line.start ≡ at + s → line.end ≡ at + stop → IsNextLine q at bytes line
 literal_found q p bytes at s k e stop line t c o none low high front clear stops some longer start ends =
     let within : e ≤ length bytes = elim stops [ inl h ↦ omega (arith, h.1) | inr h ↦ omega (arith, h.1) ] in
     let fits : k + length p ≤ e = elim (cases_lt e (k + length p)) [
@@ -259,7 +265,7 @@ pub line_around : (q : Search) (p bytes : List ℕ) (at s k stop : ℕ) (line : 
     → OccursAt bytes p k → Nowhere (OccursAt bytes p) 0 k
     → s ≤ k → IsClear (terminator q) bytes s k → AreWhole (terminator q) (take s bytes)
     → (e : ℕ) × (k ≤ e) × IsClear (terminator q) bytes k e × Stops (terminator q) bytes e stop → 0 < length bytes
-    → line.start ≡ at + s → line.end ≡ at + stop → IsNextRun q at bytes line
+    → line.start ≡ at + s → line.end ≡ at + stop → IsNextLine q at bytes line
 line_around q p bytes at s k stop line t c o none low before front h some start ends =
     let clear : IsClear (terminator q) bytes s h.0 =
     λ i from to. elim (cases_lt i k) [ inl below ↦ before i from below | inr above ↦ h.2 i above to ] in
@@ -267,168 +273,11 @@ line_around q p bytes at s k stop line t c o none low before front h some start 
     literal_found q p bytes at s k h.0 stop line t c o none low h.1 front clear h.3 some
     (line_some (terminator q) bytes s k h.0 stop low h.1 below h.3).0 start ends
 
--- The runs so far and an open one behind them: whatever runs follow the open one's start, together they are all runs.
-pub record IsGathered (q : Search) (bytes : List ℕ) (runs : List Span) (run : Span) : Type 0 where
-  pub within : run.end ≤ length bytes
-  pub text : List ℕ
-  pub joins : drop run.start bytes ≡ text ++ drop run.end bytes
-  pub stop : run.end ≡ run.start + length text
-  pub whole : AreWhole (terminator q) text ⊎ (drop run.end bytes ≡ [])
-  pub selected : AllLines q true text
-  pub known : (more : List Span) → AreRuns q run.start (drop run.start bytes) more → AreRuns q 0 bytes (runs ++ more)
-
--- before the first line
-pub gathered_none : (q : Search) (bytes : List ℕ) (run : Span) → run.start ≡ 0 → run.end ≡ 0 → IsGathered q bytes [] run
-gathered_none q bytes run s e =
-    let same : drop run.start bytes ≡ drop run.end bytes = ap (λ n. drop n bytes) (s ∙ sym e) in
-    let P : ℕ → Type 0 = λ n. (more : List Span) → AreRuns q n (drop n bytes) more → AreRuns q 0 bytes more in
-    record {
-      within = omega arith;
-      text = [];
-      joins = same;
-      stop = omega arith;
-      whole = inl (inl refl);
-      selected = tt;
-      known = subst P (sym s) (λ more h. h);
-    }
-
--- whole lines of which none is selected, in front of runs
-gap_front : (q : Search) (at : ℕ) (gap rest : List ℕ) (runs : List Span) → AreWhole (terminator q) gap
-    → AllLines q false gap → AreRuns q (at + length gap) rest runs → AreRuns q at (gap ++ rest) runs
-gap_front q at gap rest [] w none h = all_lines-append q false gap rest w none h
-gap_front q at gap rest (run ∷ runs) w none h =
-    let n = h.0 in (
-      record {
-        gap = gap ++ n.gap;
-        text = n.text;
-        later = n.later;
-        joins = ap (λ xs. gap ++ xs) n.joins ∙ (sym (append_assoc gap (n.gap ++ n.text) n.later) ∙ ap (λ xs. xs ++ n.later) (sym (append_assoc gap n.gap n.text)));
-        gap_whole = whole_append (terminator q) gap n.gap w n.gap_whole;
-        gap_unselected = all_lines-append q false gap n.gap w none n.gap_unselected;
-        text_some = n.text_some;
-        text_whole = n.text_whole;
-        text_selected = n.text_selected;
-        start = omega (arith, n.start, length-append gap n.gap);
-        stop = omega (arith, n.stop, length-append gap n.gap);
-      },
-      h.1,
-    )
-
--- the open run closes, unless it is empty
-abbrev pub closed_run : Span → List Span
-closed_run run = cond (nat_lt run.start run.end) (run ∷ []) []
-
-close_by : (q : Search) (bytes : List ℕ) (runs : List Span) (run : Span) (t : Bool) → nat_lt run.start run.end ≡ t → IsGathered q bytes runs run
-    → (more : List Span) → AreRuns q run.end (drop run.end bytes) more → AreRuns q 0 bytes ((runs ++ cond t (run ∷ []) []) ++ more)
-close_by q bytes runs run true e g more h =
-    let P : List Span → Type 0 = λ rs. AreRuns q 0 bytes rs in
-    let some : run.start < run.end = ltb-true run.start run.end e in
-    let Q : List ℕ → Type 0 = λ xs. AreRuns q run.start xs (run ∷ more) in
-    subst P (sym (append_assoc runs (run ∷ []) more)) (g.known (run ∷ more) (subst Q (sym g.joins) (
-      record {
-        gap = [];
-        text = g.text;
-        later = drop run.end bytes;
-        joins = refl;
-        gap_whole = inl refl;
-        gap_unselected = tt;
-        text_some = λ e'. absurd (omega (arith, ap length e', g.stop));
-        text_whole = g.whole;
-        text_selected = g.selected;
-        start = omega arith;
-        stop = omega (arith, g.stop);
-      },
-      h,
-    )))
-close_by q bytes runs run false e g more h =
-    let P : List Span → Type 0 = λ rs. AreRuns q 0 bytes (rs ++ more) in
-    let none : run.end ≤ run.start = ltb-false run.start run.end e in
-    let same : run.start ≡ run.end = omega (arith, g.stop) in
-    let Q : ℕ → Type 0 = λ n. AreRuns q n (drop n bytes) more in
-    subst P (sym (append-nil runs)) (g.known more (subst Q (sym same) h))
-
-pub close : (q : Search) (bytes : List ℕ) (runs : List Span) (run : Span) → IsGathered q bytes runs run
-    → (more : List Span) → AreRuns q run.end (drop run.end bytes) more → AreRuns q 0 bytes ((runs ++ closed_run run) ++ more)
-close q bytes runs run g more h = close_by q bytes runs run (nat_lt run.start run.end) refl g more h
-
--- no further line is selected
-pub gathered_all : (q : Search) (bytes : List ℕ) (runs : List Span) (run : Span) → IsGathered q bytes runs run → AllLines q false (drop run.end bytes) → AreRuns q 0 bytes (runs ++ closed_run run)
-gathered_all q bytes runs run g none = let P : List Span → Type 0 = λ rs. AreRuns q 0 bytes rs in subst P (append-nil (runs ++ closed_run run)) (close q bytes runs run g [] none)
-
--- The next selected line stands behind others.
-pub gathered_gap : (q : Search) (bytes : List ℕ) (runs : List Span) (run line : Span) → IsGathered q bytes runs run → IsNextRun q run.end (drop run.end bytes) line → IsGathered q bytes (runs ++ closed_run run) line
-gathered_gap q bytes runs run line g n =
-    let n1 = n.start in
-    let n2 = n.stop in
-    let d = length-drop run.end bytes in
-    let total = ap length n.joins in
-    let parts = length-append (n.gap ++ n.text) n.later in
-    let parts' = length-append n.gap n.text in
-    let at_start : drop line.start bytes ≡ n.text ++ n.later =
-    ap (λ m. drop m bytes) n1 ∙ (sym (drop-drop (length n.gap) run.end bytes) ∙ (ap (drop (length n.gap)) (n.joins ∙ append_assoc n.gap n.text n.later) ∙ drop_at n.gap (n.text ++ n.later) (length n.gap) refl)) in
-    let at_end : drop line.end bytes ≡ n.later =
-    let e : line.end ≡ line.start + length n.text = omega arith in
-    ap (λ m. drop m bytes) e ∙ (sym (drop-drop (length n.text) line.start bytes) ∙ (ap (drop (length n.text)) at_start ∙ drop_at n.text n.later (length n.text) refl)) in
-    record {
-      within = omega (arith, g.within);
-      text = n.text;
-      joins = at_start ∙ ap (λ xs. n.text ++ xs) (sym at_end);
-      stop = omega arith;
-      whole = elim n.text_whole [ inl w ↦ inl w | inr e ↦ inr (at_end ∙ e) ];
-      selected = n.text_selected;
-      known = λ more h.
-          let P : ℕ → Type 0 = λ m. AreRuns q m (n.text ++ n.later) more in
-          let Q : List ℕ → Type 0 = λ xs. AreRuns q line.start xs more in
-          let R : List ℕ → Type 0 = λ xs. AreRuns q run.end xs more in
-          close q bytes runs run g more (subst R (sym (n.joins ∙ append_assoc n.gap n.text n.later)) (gap_front q run.end n.gap (n.text ++ n.later) more n.gap_whole n.gap_unselected (subst P n1 (subst Q at_start h))));
-    }
-
--- The next selected line follows the open run at once.
-pub gathered_next : (q : Search) (bytes : List ℕ) (runs : List Span) (run line new : Span) → IsGathered q bytes runs run → IsNextRun q run.end (drop run.end bytes) line → line.start ≤ run.end
-    → new.start ≡ run.start → new.end ≡ line.end → IsGathered q bytes runs new
-gathered_next q bytes runs run line new g n at s e =
-    let n1 = n.start in
-    let n2 = n.stop in
-    let d = length-drop run.end bytes in
-    let total = ap length n.joins in
-    let parts = length-append (n.gap ++ n.text) n.later in
-    let parts' = length-append n.gap n.text in
-    let no_gap : n.gap ≡ [] = is_empty n.gap (omega arith) in
-    let here : drop run.end bytes ≡ n.text ++ n.later = n.joins ∙ ap (λ xs. (xs ++ n.text) ++ n.later) no_gap in
-    let len : length n.gap ≡ 0 = ap length no_gap in
-    let at_end : drop new.end bytes ≡ n.later =
-    let e' : new.end ≡ run.end + length n.text = omega arith in
-    ap (λ m. drop m bytes) e' ∙ (sym (drop-drop (length n.text) run.end bytes) ∙ (ap (drop (length n.text)) here ∙ drop_at n.text n.later (length n.text) refl)) in
-    let whole : AreWhole (terminator q) g.text =
-    elim g.whole [ inl w ↦ w | inr none ↦ absurd (n.text_some (front_empty n.text n.later (sym here ∙ none))) ] in
-    let P : ℕ → Type 0 = λ m. (more : List Span) → AreRuns q m (drop m bytes) more → AreRuns q 0 bytes (runs ++ more) in
-    record {
-      within = omega (arith, g.within);
-      text = g.text ++ n.text;
-      joins = ap (λ m. drop m bytes) s ∙ (g.joins ∙ (ap (λ xs. g.text ++ xs) here ∙ (sym (append_assoc g.text n.text n.later) ∙ ap (λ xs. (g.text ++ n.text) ++ xs) (sym at_end))));
-      stop = omega (arith, length-append g.text n.text, g.stop);
-      whole = elim n.text_whole [
-        | inl w ↦ inl (whole_append (terminator q) g.text n.text whole w)
-        | inr none
-            ↦ inr (at_end ∙ none)
-      ];
-      selected = all_lines-append q true g.text n.text whole g.selected n.text_selected;
-      known = subst P (sym s) g.known;
-    }
-  where
-    is_empty : (xs : List ℕ) → length xs ≤ 0 → xs ≡ []
-    is_empty [] h = refl
-    is_empty (x ∷ xs) h = absurd (omega arith)
-
-    front_empty : (xs ys : List ℕ) → xs ++ ys ≡ [] → xs ≡ []
-    front_empty [] ys e = refl
-    front_empty (x ∷ xs) ys e = absurd (cc)
-
 -- the lines of what stands before a run, of the run, and of what stands behind it
-pub lines_apart : (q : Search) (at : ℕ) (bytes : List ℕ) (run : Span) (n : IsNextRun q at bytes run)
+pub lines_apart : (q : Search) (at seen : ℕ) (bytes : List ℕ) (run : Run) (n : IsNextRun q at seen bytes run)
     → lines (terminator q) bytes ≡ lines (terminator q) n.gap
     ++ (lines (terminator q) n.text ++ lines (terminator q) n.later)
-lines_apart q at bytes run n =
+lines_apart q at seen bytes run n =
     let back : lines (terminator q) (n.text ++ n.later) ≡ lines (terminator q) n.text ++ lines (terminator q) n.later =
     elim n.text_whole [
       | inl w ↦ lines-append (terminator q) n.text n.later w
@@ -441,22 +290,22 @@ lines_apart q at bytes run n =
     ∙ (lines-append (terminator q) n.gap (n.text ++ n.later) n.gap_whole
     ∙ ap (λ ls. lines (terminator q) n.gap ++ ls) back)
 
-all_back : (P : List ℕ → Type 0) (xs ys : List (List ℕ)) → AllByRecursion P (xs ++ ys) → AllByRecursion P ys
+pub all_back : (P : List ℕ → Type 0) (xs ys : List (List ℕ)) → AllByRecursion P (xs ++ ys) → AllByRecursion P ys
 all_back P [] ys h = h
 all_back P (x ∷ xs) ys h = all_back P xs ys h.1
 
 -- the lines behind a run aren't too long where no line is
-pub short_behind : (q : Search) (bytes : List ℕ) (at : ℕ) (run : Span) → IsNextRun q at (drop at bytes) run
-    → AreShort (terminator q) (drop at bytes) → AreShort (terminator q) (drop run.end bytes)
-short_behind q bytes at run n short =
+pub short_behind : (q : Search) (bytes : List ℕ) (at seen : ℕ) (run : Run) → IsNextRun q at seen (drop at bytes) run
+    → AreShort (terminator q) (drop at bytes) → AreShort (terminator q) (drop run.span.end bytes)
+short_behind q bytes at seen run n short =
     let Short : List ℕ → Type 0 = λ l. length l ≤ 2 ^ 30 in
     let P : List (List ℕ) → Type 0 = λ ls. AllByRecursion Short ls in
     let E = terminator q in
-    let all = subst P (lines_apart q at (drop at bytes) run n) short in
+    let all = subst P (lines_apart q at seen (drop at bytes) run n) short in
     let later = all_back Short (lines E n.text) (lines E n.later) (all_back Short (lines E n.gap) _ all) in
     let front = n.gap ++ n.text in
-    let stop : run.end ≡ at + length front = omega (arith, n.stop, length-append n.gap n.text) in
-    let behind : drop run.end bytes ≡ n.later =
+    let stop : run.span.end ≡ at + length front = omega (arith, n.stop, length-append n.gap n.text) in
+    let behind : drop run.span.end bytes ≡ n.later =
     ap (λ m. drop m bytes) stop
     ∙ (sym (drop-drop (length front) at bytes)
     ∙ (ap (drop (length front)) n.joins ∙ drop_at front n.later (length front) refl)) in

@@ -4,6 +4,8 @@ pub mod Queries
 pub mod Selection
 pub mod Blocks
 pub mod Runs
+pub mod BlockParts
+pub mod Gathered
 pub mod Searched
 pub mod Same
 pub mod Cutter

@@ -5,16 +5,15 @@ use Rattle.std.specs.List.{AllByRecursion}
 use Rattle.pg_lines.specs.Lines.{lines, AreWhole}
 use Rattle.pg_lines.specs.Search.{SearchText, Search, Pattern, AreTreesOf, search_of, terminator}
 use Rattle.pg_lines.specs.Selection.{selects}
-use Rattle.pg_lines.specs.declared.span.Span.{Span}
+use Rattle.pg_lines.specs.declared.run.Run.{Run}
 
 -- each line of the bytes is selected, or none is
 abbrev pub AllLines : Search → Bool → List ℕ → Type 0
 AllLines q selected bytes = AllByRecursion (λ l. selects q l ≡ selected) (lines (terminator q) bytes)
 
--- The first run of selected lines in bytes that stand from a place on: before it are whole lines of which none is
--- selected.
--- Its last line may be incomplete where the bytes end with it.
-pub record IsNextRun (q : Search) (at : ℕ) (bytes : List ℕ) (run : Span) : Type 0 where
+-- The first run of selected lines in bytes that stand from a place on, behind some lines: before it are whole lines of
+-- which none is selected. Its last line may be incomplete where the bytes end with it.
+pub record IsNextRun (q : Search) (at seen : ℕ) (bytes : List ℕ) (run : Run) : Type 0 where
   pub gap : List ℕ
   pub text : List ℕ
   pub later : List ℕ
@@ -24,14 +23,17 @@ pub record IsNextRun (q : Search) (at : ℕ) (bytes : List ℕ) (run : Span) : T
   pub text_some : text ≢ []
   pub text_whole : AreWhole (terminator q) text ⊎ (later ≡ [])
   pub text_selected : AllLines q true text
-  pub start : run.start ≡ at + length gap
-  pub stop : run.end ≡ at + length gap + length text
+  pub start : run.span.start ≡ at + length gap
+  pub stop : run.span.end ≡ at + length gap + length text
+  pub first : run.first ≡ seen + length (lines (terminator q) gap)
+  pub count : run.count ≡ length (lines (terminator q) text)
 
--- these runs hold the selected lines of bytes that stand from a place on, and no other line
-abbrev pub AreRuns : Search → ℕ → List ℕ → List Span → Type 0
-AreRuns q at bytes [] = AllLines q false bytes
-AreRuns q at bytes (run ∷ runs) = (next : IsNextRun q at bytes run) × AreRuns q run.end next.later runs
+-- these runs hold the selected lines of bytes that stand from a place on, behind some lines, and no other line
+abbrev pub AreRuns : Search → ℕ → ℕ → List ℕ → List Run → Type 0
+AreRuns q at seen bytes [] = AllLines q false bytes
+AreRuns q at seen bytes (run ∷ runs) =
+    (next : IsNextRun q at seen bytes run) × AreRuns q run.span.end (run.first + run.count) next.later runs
 
 -- for the trees that the patterns spell these runs hold the selected lines of the bytes, and no other line
-abbrev pub HasRuns : SearchText → List ℕ → List Span → Type 0
-HasRuns text bytes runs = (trees : List Pattern) → AreTreesOf text trees → AreRuns (search_of text trees) 0 bytes runs
+abbrev pub HasRuns : SearchText → List ℕ → List Run → Type 0
+HasRuns text bytes runs = (trees : List Pattern) → AreTreesOf text trees → AreRuns (search_of text trees) 0 0 bytes runs

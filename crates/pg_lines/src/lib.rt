@@ -2,11 +2,14 @@
 #![tactic(auto)]
 
 mod block;
+mod count;
 mod cutter;
 mod laws;
 mod lines;
+mod parts;
 mod query;
 mod result;
+mod run;
 mod same;
 mod search;
 mod span;
@@ -18,5 +21,6 @@ pub use pg_match::Scratch;
 pub use pg_syntax::{Kind, ListFault, PatternList};
 pub use query::{Query, QueryFault, QueryText};
 pub use result::BlockResult;
+pub use run::{Part, Run};
 pub use search::search_block;
 pub use span::Span;

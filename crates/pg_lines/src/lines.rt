@@ -1,7 +1,9 @@
 //! Lines among bytes. The byte that ends them is `end`.
-ghost use Rattle.std.specs.Prelude.{◌≡◌, ℕ, ◌+◌, ◌<◌, ◌≤◌, ◌∷◌, length, take, drop, slice_index, slice_range};
+ghost use Rattle.std.specs.Prelude.{◌≡◌, ℕ, ◌+◌, ◌<◌, ◌≤◌, List, ◌∷◌, [], length, take, drop, slice_index};
+ghost use Rattle.std.specs.Prelude.{slice_range};
 ghost use Rattle.pg_lines.specs.Lines.{lines, AreWhole, IsClear, Stops};
 
+use crate::count::count_byte;
 use memchr::{memchr, memrchr};
 
 /// The byte that ends a line where nothing else is asked for.
@@ -50,13 +52,23 @@ pub(crate) fn end_of_line(end: u8, bytes: &[u8], place: usize) -> usize
 
 /// How many lines the bytes have.
 pub(crate) fn count_lines(end: u8, bytes: &[u8]) -> usize
-    ensures { result ≡ length (lines end bytes.now) }
+    ensures count { result ≡ length (lines end bytes.now) }
+    ensures few { result ≤ length bytes.now }
 {
-    let mut count = 0;
-    let mut start = 0;
-    while start < bytes.len() {
-        start = line_end(end, bytes, start) + 1;
-        count += 1;
+    let count = count_byte(end, bytes);
+    match bytes.last() {
+        Some(&last) => count + usize::from(last != end),
+        None => count,
     }
-    count
+}
+
+/// The text of one line, without its terminator.
+pub(crate) fn text_of(end: u8, line: &[u8]) -> &[u8]
+    ensures text { (text : List ℕ) → lines end line.now ≡ text ∷ [] → result.now ≡ text }
+    ensures short { length result.now ≤ length line.now }
+{
+    match line.last() {
+        Some(&last) => &line[..line.len() - usize::from(last == end)],
+        None => line,
+    }
 }

@@ -1,19 +1,23 @@
 //! The search of one block.
 ghost use Rattle.std.specs.Prelude.{◌≡◌, ◌+◌, ◌<◌, ◌≤◌, ◌^◌, ◌++◌, ◌∷◌, [], IfOk, IfSome, IfNone, OnOk, List};
-ghost use Rattle.std.specs.Prelude.{length, drop, false, nat_lt, if◌then◌else◌};
+ghost use Rattle.std.specs.Prelude.{length, drop, slice_range, false, nat_lt, if◌then◌else◌};
 ghost use Rattle.std.specs.Arc.{arc_value};
 ghost use Rattle.pg_match.specs.Machines.{Fits};
-ghost use Rattle.pg_lines.specs.Lines.{AreShort};
+ghost use Rattle.pg_lines.specs.Lines.{lines, AreShort};
 ghost use Rattle.pg_lines.specs.Search.{Search, Pattern, HasItsTrees, AreTreesOf, search_of, IsPlain};
 ghost use Rattle.pg_lines.specs.Search.{terminator, terminator_of};
 ghost use Rattle.pg_lines.specs.Queries.{IsCompiled};
 ghost use Rattle.pg_lines.specs.Selection.{selects};
-ghost use Rattle.pg_lines.specs.Runs.{AllLines, IsNextRun, HasRuns};
+ghost use Rattle.pg_lines.specs.Runs.{AllLines, HasRuns};
+ghost use Rattle.pg_lines.specs.BlockParts.{HasParts};
+ghost use Rattle.pg_lines.specs.Gathered.{IsNextLine, IsGathered};
 
 use crate::block::Block;
-use crate::lines::{begin_of_line, end_of_line, line_end};
+use crate::lines::{begin_of_line, count_lines, end_of_line, line_end};
+use crate::parts::push_line_parts;
 use crate::query::Query;
 use crate::result::BlockResult;
+use crate::run::{Found, Run};
 use crate::span::Span;
 use memchr::memmem::Finder;
 use pg_match::Scratch;
@@ -26,7 +30,7 @@ fn next_holding(needle: &Finder<'_>, end: u8, bytes: &[u8], at: usize) -> Option
     ensures within { IfSome result (λ line. (at ≤ line.start) × (line.start < line.end)
         × (line.end ≤ length bytes.now)) }
     ensures some { (q : Search) → HasItsTrees q → IsPlain q.text needle.now → end ≡ terminator q →
-        IfSome result (IsNextRun q at (drop at bytes.now)) }
+        IfSome result (IsNextLine q at (drop at bytes.now)) }
     ensures none { (q : Search) → HasItsTrees q → IsPlain q.text needle.now → end ≡ terminator q →
         IfNone result (AllLines q false (drop at bytes.now)) }
 {
@@ -69,7 +73,7 @@ fn next_selected<A: Allocator>(
     ensures within { IfSome result (λ line. (at ≤ line.start) × (line.start < line.end)
         × (line.end ≤ length bytes.now)) }
     ensures some { (trees : List Pattern) → AreTreesOf query.now.text trees →
-        IfSome result (IsNextRun (search_of query.now.text trees) at (drop at bytes.now)) }
+        IfSome result (IsNextLine (search_of query.now.text trees) at (drop at bytes.now)) }
     ensures none { (trees : List Pattern) → AreTreesOf query.now.text trees →
         IfNone result (AllLines (search_of query.now.text trees) false (drop at bytes.now)) }
 {
@@ -107,7 +111,7 @@ fn next_line<A: Allocator>(
     ensures within { IfSome result (λ line. (at ≤ line.start) × (line.start < line.end)
         × (line.end ≤ length bytes.now)) }
     ensures some { (trees : List Pattern) → AreTreesOf query.now.text trees →
-        IfSome result (IsNextRun (search_of query.now.text trees) at (drop at bytes.now)) }
+        IfSome result (IsNextLine (search_of query.now.text trees) at (drop at bytes.now)) }
     ensures none { (trees : List Pattern) → AreTreesOf query.now.text trees →
         IfNone result (AllLines (search_of query.now.text trees) false (drop at bytes.now)) }
 {
@@ -118,55 +122,114 @@ fn next_line<A: Allocator>(
 }
 
 /// Keeps a run, unless it is empty.
-fn push_run<A: Allocator>(runs: &mut Vec<Span, A>, run: Span) -> Result<(), AllocError>
-    ensures { OnOk result (runs.new.items ≡ runs.old.items ++ (if nat_lt run.start run.end then run ∷ [] else [])) }
+fn push_run<A: Allocator>(runs: &mut Vec<Run, A>, run: Run) -> Result<(), AllocError>
+    ensures { OnOk result (runs.new.items ≡ runs.old.items
+        ++ (if nat_lt run.span.start run.span.end then run ∷ [] else [])) }
 {
-    if run.start < run.end {
+    if run.span.start < run.span.end {
         runs.push(run)?;
     }
     Ok(())
 }
 
-/// The runs of selected lines.
-fn selected_runs<A: Allocator>(
+/// The run of a line that stands apart from the run before it.
+fn run_behind(end: u8, bytes: &[u8], run: Run, line: Span) -> Run
+    requires few { run.first + run.count ≤ run.span.end }
+    requires apart { run.span.end ≤ line.start }
+    requires within { line.start ≤ length bytes.now }
+    ensures span { result.span ≡ line }
+    ensures first { result.first
+        ≡ run.first + run.count + length (lines end (slice_range bytes.now run.span.end line.start)) }
+    ensures count { result.count ≡ 1 }
+    ensures few { result.first ≤ line.start }
+{
+    Run {
+        span: line,
+        first: run.first + run.count + count_lines(end, &bytes[run.span.end..line.start]),
+        count: 1,
+    }
+}
+
+/// The open run with the next selected line. One that the line stands apart from is closed, and the line opens another.
+fn with_line<A: Allocator>(
+    runs: &mut Vec<Run, A>,
+    run: Run,
+    end: u8,
+    bytes: &[u8],
+    line: Span,
+) -> Result<Run, AllocError>
+    requires few { run.first + run.count ≤ run.span.end }
+    requires within { (run.span.end ≤ line.start) × (line.start < line.end) × (line.end ≤ length bytes.now) }
+    ensures stop { IfOk result (λ longer. longer.span.end ≡ line.end) }
+    ensures few { IfOk result (λ longer. (0 < longer.count) × (longer.first + longer.count ≤ longer.span.end)) }
+    ensures gathered { (q : Search) → end ≡ terminator q → IsGathered q bytes.now runs.old.items run
+        → IsNextLine q run.span.end (drop run.span.end bytes.now) line
+        → IfOk result (IsGathered q bytes.now runs.new.items) }
+{
+    if run.span.end < line.start {
+        push_run(runs, run)?;
+        Ok(run_behind(end, bytes, run, line))
+    } else {
+        let span = Span {
+            start: run.span.start,
+            end: line.end,
+        };
+        Ok(Run {
+            span,
+            first: run.first,
+            count: run.count + 1,
+        })
+    }
+}
+
+/// The runs of selected lines, their parts, and the number of all lines.
+fn selected_runs<A: Allocator + Copy>(
     alloc: A,
     query: &Query<A>,
     needle: Option<&Finder<'_>>,
     scratch: &mut Scratch<A>,
     bytes: &[u8],
-) -> Result<Vec<Span, A>, AllocError>
+) -> Result<Found<A>, AllocError>
     requires compiled { IsCompiled query.now }
     requires needle { IfSome needle (λ needle. IsPlain query.now.text needle.now) }
     requires fits { Fits scratch.old query.now.machine }
     requires short { AreShort (terminator_of query.now.text) bytes.now }
     ensures fits { Fits scratch.new query.now.machine }
-    ensures runs { IfOk result (λ runs. HasRuns query.now.text bytes.now runs.items) }
+    ensures runs { IfOk result (λ found. HasRuns query.now.text bytes.now found.runs.items) }
+    ensures parts { IfOk result (λ found. HasParts query.now.text bytes.now found.parts.items) }
+    ensures lines { IfOk result (λ found. found.lines ≡ length (lines (terminator_of query.now.text) bytes.now)) }
 {
+    let end = query.terminator();
     let mut runs = Vec::new(alloc);
-    let mut run = Span { start: 0, end: 0 };
-    while let Some(line) = next_line(query, needle, scratch, bytes, run.end) {
-        if run.end < line.start {
-            push_run(&mut runs, run)?;
-            run = line;
-        } else {
-            run.end = line.end;
-        }
+    let mut parts = Vec::new(alloc);
+    let mut run = Run {
+        span: Span { start: 0, end: 0 },
+        first: 0,
+        count: 0,
+    };
+    while let Some(line) = next_line(query, needle, scratch, bytes, run.span.end) {
+        run = with_line(&mut runs, run, end, bytes, line)?;
+        let number = run.first + run.count - 1;
+        push_line_parts(query, scratch, bytes, line, number, &mut parts)?;
     }
     push_run(&mut runs, run)?;
-    Ok(runs)
+    let lines = run.first + run.count + count_lines(end, &bytes[run.span.end..]);
+    Ok(Found { runs, parts, lines })
 }
 
-/// The runs of selected lines.
-fn search_bytes<A: Allocator>(
+/// The runs of selected lines, their parts, and the number of all lines.
+fn search_bytes<A: Allocator + Copy>(
     alloc: A,
     query: &Query<A>,
     scratch: &mut Scratch<A>,
     bytes: &[u8],
-) -> Result<Vec<Span, A>, AllocError>
+) -> Result<Found<A>, AllocError>
     requires fits { Fits scratch.old query.now.machine }
     requires short { AreShort (terminator_of query.now.text) bytes.now }
     ensures fits { Fits scratch.new query.now.machine }
-    ensures runs { IfOk result (λ runs. HasRuns query.now.text bytes.now runs.items) }
+    ensures runs { IfOk result (λ found. HasRuns query.now.text bytes.now found.runs.items) }
+    ensures parts { IfOk result (λ found. HasParts query.now.text bytes.now found.parts.items) }
+    ensures lines { IfOk result (λ found. found.lines ≡ length (lines (terminator_of query.now.text) bytes.now)) }
 {
     match query.literal() {
         Some(literal) => {
@@ -181,7 +244,7 @@ fn search_bytes<A: Allocator>(
 ///
 /// The lines of the block have at most 2^30 bytes each. A refused request for memory is the only
 /// error.
-pub fn search_block<A: Allocator>(
+pub fn search_block<A: Allocator + Copy>(
     alloc: A,
     query: &Arc<Query<A>, A>,
     scratch: &mut Scratch<A>,
@@ -196,6 +259,6 @@ pub fn search_block<A: Allocator>(
     let query = Arc::try_clone(query)?;
     let searched: &Query<A> = &query;
     let lines: &Block<A> = &block;
-    let runs = search_bytes(alloc, searched, scratch, lines.bytes.as_slice())?;
-    Ok(BlockResult::new(query, block, runs))
+    let found = search_bytes(alloc, searched, scratch, lines.bytes.as_slice())?;
+    Ok(BlockResult::new(query, block, found))
 }

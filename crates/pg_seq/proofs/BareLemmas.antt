@@ -11,11 +11,11 @@ use Rattle.pg_lines.specs.Lines.{lines, terminated, AreWhole}
 use Rattle.pg_lines.specs.Selection.{selects}
 use Rattle.pg_lines.specs.Blocks.{BlockData}
 use Rattle.pg_lines.specs.Runs.{AreRuns, IsNextRun, HasRuns}
-use Rattle.pg_lines.specs.declared.span.Span.{Span}
+use Rattle.pg_lines.specs.declared.run.Run.{Run}
 use Rattle.pg_lines.proofs.RunLemmas.{lines_apart}
 use Rattle.pg_lines.proofs.LineLemmas.{some_line, terminated-lines, whole_append}
 use Rattle.pg_lines.proofs.LineLaws.{lines_are_lines}
-use Rattle.pg_seq.specs.Bare.{bare, line_or_nothing, bare_rows, span_rows}
+use Rattle.pg_seq.specs.Bare.{bare, line_or_nothing, bare_rows, rows_of_run}
 use Rattle.pg_seq.specs.Output.{output, when, row}
 use Rattle.pg_seq.specs.Plan.{Step, Opens, Announces, Ends, Misses, IsShaped, announced, entries_of}
 use Rattle.pg_seq.specs.Trail.{Trail, step, run, run_rows, run_pieces, added, after_context, after_other, context_rows}
@@ -37,27 +37,39 @@ rows_all q (l ∷ ls) h = ap (λ t. cond t (l ++ terminator q ∷ []) [] ++ flat
     ∙ ap (λ xs. (l ++ terminator q ∷ []) ++ xs) (rows_all q ls h.1)
 
 -- the part of the bytes that a run is
-run_text : (q : Search) (full : List ℕ) (at : ℕ) (run : Span) (n : IsNextRun q at (drop at full) run) → slice_range full run.start run.end ≡ n.text
-run_text q full at run n =
-    let len : run.end - run.start ≡ length n.text = omega (arith, n.start, n.stop) in
-    let from : drop run.start full ≡ n.text ++ n.later =
-    ap (λ m. drop m full) n.start ∙ (sym (drop-drop (length n.gap) at full) ∙ (ap (drop (length n.gap)) (n.joins ∙ append_assoc n.gap n.text n.later) ∙ drop_at n.gap (n.text ++ n.later) (length n.gap) refl)) in
-    ap (λ m. take m (drop run.start full)) len ∙ (ap (take (length n.text)) from ∙ take_at n.text n.later (length n.text) refl)
+run_text : (q : Search) (full : List ℕ) (at seen : ℕ) (run : Run) (n : IsNextRun q at seen (drop at full) run)
+    → slice_range full run.span.start run.span.end ≡ n.text
+run_text q full at seen run n =
+    let len : run.span.end - run.span.start ≡ length n.text = omega (arith, n.start, n.stop) in
+    let from : drop run.span.start full ≡ n.text ++ n.later =
+    ap (λ m. drop m full) n.start
+    ∙ (sym (drop-drop (length n.gap) at full)
+    ∙ (ap (drop (length n.gap)) (n.joins ∙ append_assoc n.gap n.text n.later)
+    ∙ drop_at n.gap (n.text ++ n.later) (length n.gap) refl)) in
+    ap (λ m. take m (drop run.span.start full)) len
+    ∙ (ap (take (length n.text)) from ∙ take_at n.text n.later (length n.text) refl)
 
-run_behind : (q : Search) (full : List ℕ) (at : ℕ) (run : Span) (n : IsNextRun q at (drop at full) run) → drop run.end full ≡ n.later
-run_behind q full at run n =
-    let m : at + (length n.gap + length n.text) ≡ run.end = omega (arith, n.stop) in
+run_behind : (q : Search) (full : List ℕ) (at seen : ℕ) (run : Run) (n : IsNextRun q at seen (drop at full) run)
+    → drop run.span.end full ≡ n.later
+run_behind q full at seen run n =
+    let m : at + (length n.gap + length n.text) ≡ run.span.end = omega (arith, n.stop) in
     let parts : length (n.gap ++ n.text) ≡ length n.gap + length n.text = length-append n.gap n.text in
-    ap (λ k. drop k full) (sym m) ∙ (sym (drop-drop (length n.gap + length n.text) at full) ∙ (ap (drop (length n.gap + length n.text)) n.joins ∙ drop_at (n.gap ++ n.text) n.later (length n.gap + length n.text) parts))
+    ap (λ k. drop k full) (sym m)
+    ∙ (sym (drop-drop (length n.gap + length n.text) at full)
+    ∙ (ap (drop (length n.gap + length n.text)) n.joins
+    ∙ drop_at (n.gap ++ n.text) n.later (length n.gap + length n.text) parts))
 
 -- the rows of a block are those of its runs
-pub rows_of_runs : (q : Search) (full : List ℕ) (at : ℕ) (runs : List Span) → AreRuns q at (drop at full) runs
-    → bare_rows q (drop at full) ≡ flat_map (span_rows (terminator q) full) runs
-rows_of_runs q full at [] h = rows_none q (lines (terminator q) (drop at full)) h
-rows_of_runs q full at (run ∷ runs) h =
+pub rows_of_runs : (q : Search) (full : List ℕ) (at seen : ℕ) (runs : List Run) → AreRuns q at seen (drop at full) runs
+    → bare_rows q (drop at full) ≡ flat_map (rows_of_run (terminator q) full) runs
+rows_of_runs q full at seen [] h = rows_none q (lines (terminator q) (drop at full)) h
+rows_of_runs q full at seen (run ∷ runs) h =
     let n = h.0 in
-    let later : AreRuns q run.end (drop run.end full) runs = (let P : List ℕ → Type 0 = λ xs. AreRuns q run.end xs runs in subst P (sym (run_behind q full at run n)) h.1) in
-    ap (flat_map (line_or_nothing q)) (lines_apart q at (drop at full) run n)
+    let seen' = run.first + run.count in
+    let P : List ℕ → Type 0 = λ xs. AreRuns q run.span.end seen' xs runs in
+    let later : AreRuns q run.span.end seen' (drop run.span.end full) runs =
+    subst P (sym (run_behind q full at seen run n)) h.1 in
+    ap (flat_map (line_or_nothing q)) (lines_apart q at seen (drop at full) run n)
     ∙ (flat_map-append (line_or_nothing q) (lines (terminator q) n.gap)
     (lines (terminator q) n.text ++ lines (terminator q) n.later)
     ∙ (ap (λ xs. xs ++ flat_map (line_or_nothing q) (lines (terminator q) n.text ++ lines (terminator q) n.later))
@@ -65,43 +77,48 @@ rows_of_runs q full at (run ∷ runs) h =
     ∙ (flat_map-append (line_or_nothing q) (lines (terminator q) n.text) (lines (terminator q) n.later)
     ∙ (ap (λ xs. xs ++ flat_map (line_or_nothing q) (lines (terminator q) n.later))
     (rows_all q (lines (terminator q) n.text) n.text_selected
-    ∙ ap (λ xs. terminated (terminator q) (lines (terminator q) xs)) (sym (run_text q full at run n)))
-    ∙ ap (λ xs. span_rows (terminator q) full run ++ xs)
-    (ap (bare_rows q) (sym (run_behind q full at run n)) ∙ rows_of_runs q full run.end runs later)))))
+    ∙ ap (λ xs. terminated (terminator q) (lines (terminator q) xs)) (sym (run_text q full at seen run n)))
+    ∙ ap (λ xs. rows_of_run (terminator q) full run ++ xs)
+    (ap (bare_rows q) (sym (run_behind q full at seen run n))
+    ∙ rows_of_runs q full run.span.end seen' runs later)))))
 
-pub rows_of_block : (q : Search) (bytes : List ℕ) (runs : List Span) → AreRuns q 0 bytes runs
-    → bare_rows q bytes ≡ flat_map (span_rows (terminator q) bytes) runs
-rows_of_block q bytes runs h = rows_of_runs q bytes 0 runs h
+pub rows_of_block : (q : Search) (bytes : List ℕ) (runs : List Run) → AreRuns q 0 0 bytes runs
+    → bare_rows q bytes ≡ flat_map (rows_of_run (terminator q) bytes) runs
+rows_of_block q bytes runs h = rows_of_runs q bytes 0 0 runs h
 
 -- the runs of a text are those of the query with its trees
-pub runs_of : (q : Search) (text : SearchText) (bytes : List ℕ) (runs : List Span) → HasItsTrees q → text ≡ q.text
-    → HasRuns text bytes runs → AreRuns q 0 bytes runs
+pub runs_of : (q : Search) (text : SearchText) (bytes : List ℕ) (runs : List Run) → HasItsTrees q → text ≡ q.text
+    → HasRuns text bytes runs → AreRuns q 0 0 bytes runs
 runs_of q text bytes runs t e h = let P : SearchText → Type 0 = λ x. HasRuns x bytes runs in subst P e h q.trees t
 
 -- each run stands in the bytes
-pub run_within : (q : Search) (at : ℕ) (bytes : List ℕ) (runs : List Span) (total : ℕ) → AreRuns q at bytes runs → at + length bytes ≤ total → (k : ℕ) (d : Span) → k < length runs
-    → ((get_or runs k d).start ≤ (get_or runs k d).end) × ((get_or runs k d).end ≤ total)
-run_within q at bytes [] total h fits k d below = absurd (omega arith)
-run_within q at bytes (run ∷ runs) total h fits zero d below =
+pub run_within : (q : Search) (at seen : ℕ) (bytes : List ℕ) (runs : List Run) (total : ℕ)
+    → AreRuns q at seen bytes runs → at + length bytes ≤ total → (k : ℕ) (d : Run) → k < length runs
+    → ((get_or runs k d).span.start ≤ (get_or runs k d).span.end) × ((get_or runs k d).span.end ≤ total)
+run_within q at seen bytes [] total h fits k d below = absurd (omega arith)
+run_within q at seen bytes (run ∷ runs) total h fits zero d below =
+    let n = h.0 in
+    let len = ap length n.joins in (
+      omega (arith, n.start, n.stop),
+      omega (arith, n.stop, len, length-append (n.gap ++ n.text) n.later, length-append n.gap n.text),
+    )
+run_within q at seen bytes (run ∷ runs) total h fits (suc k) d below =
     let n = h.0 in
     let len = ap length n.joins in
-    (omega (arith, n.start, n.stop), omega (arith, n.stop, len, length-append (n.gap ++ n.text) n.later, length-append n.gap n.text))
-run_within q at bytes (run ∷ runs) total h fits (suc k) d below =
-    let n = h.0 in
-    let len = ap length n.joins in
-    run_within q run.end n.later runs total h.1 (omega (arith, n.stop, len, length-append (n.gap ++ n.text) n.later, length-append n.gap n.text)) k d (omega arith)
+    run_within q run.span.end (run.first + run.count) n.later runs total h.1
+    (omega (arith, n.stop, len, length-append (n.gap ++ n.text) n.later, length-append n.gap n.text)) k d (omega arith)
 
 -- a line is selected where there is a run
-pub any_selected : (q : Search) (at : ℕ) (bytes : List ℕ) (runs : List Span) → AreRuns q at bytes runs
+pub any_selected : (q : Search) (at seen : ℕ) (bytes : List ℕ) (runs : List Run) → AreRuns q at seen bytes runs
     → list_any (selects q) (lines (terminator q) bytes) ≡ nat_lt 0 (length runs)
-any_selected q at bytes [] h = none_of (lines (terminator q) bytes) h
+any_selected q at seen bytes [] h = none_of (lines (terminator q) bytes) h
   where
     none_of : (ls : List (List ℕ)) → AllByRecursion (λ l. selects q l ≡ false) ls → list_any (selects q) ls ≡ false
     none_of [] h = refl
     none_of (l ∷ ls) h = ap (λ t. t || list_any (selects q) ls) h.0 ∙ none_of ls h.1
-any_selected q at bytes (run ∷ runs) h =
+any_selected q at seen bytes (run ∷ runs) h =
     let n = h.0 in
-    ap (list_any (selects q)) (lines_apart q at bytes run n)
+    ap (list_any (selects q)) (lines_apart q at seen bytes run n)
     ∙ (list_any-append (selects q) (lines (terminator q) n.gap)
     (lines (terminator q) n.text ++ lines (terminator q) n.later)
     ∙ (ap (λ t. list_any (selects q) (lines (terminator q) n.gap) || t)
@@ -174,10 +191,12 @@ begins_completed end bytes = by_length (length bytes) refl
       | inr ne ↦ (end ∷ [], sym (incomplete_by_last end bytes (omega arith) ne))
     ]
 
-pub some_runs : (q : Search) (bytes : List ℕ) (runs : List Span) → AreRuns q 0 bytes runs
+pub some_runs : (q : Search) (bytes : List ℕ) (runs : List Run) → AreRuns q 0 0 bytes runs
     → not (length runs == 0) ≡ list_any (selects q) (lines (terminator q) bytes)
-some_runs q bytes [] h = sym (any_selected q 0 bytes [] h)
-some_runs q bytes (r ∷ runs) h = ap not (ne_eqb (length (r ∷ runs)) 0 (λ e. omega arith)) ∙ sym (any_selected q 0 bytes (r ∷ runs) h ∙ lt-ltb 0 (length (r ∷ runs)) (omega arith))
+some_runs q bytes [] h = sym (any_selected q 0 0 bytes [] h)
+some_runs q bytes (r ∷ runs) h =
+    ap not (ne_eqb (length (r ∷ runs)) 0 (λ e. omega arith))
+    ∙ sym (any_selected q 0 0 bytes (r ∷ runs) h ∙ lt-ltb 0 (length (r ∷ runs)) (omega arith))
 
 -- Rows line by line, where no context is asked for.
 

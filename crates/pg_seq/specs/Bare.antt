@@ -4,6 +4,7 @@ use Rattle.std.specs.List.{flat_map}
 use Rattle.pg_lines.specs.Search.{Search, terminator}
 use Rattle.pg_lines.specs.Lines.{lines, terminated}
 use Rattle.pg_lines.specs.Selection.{selects}
+use Rattle.pg_lines.specs.declared.run.Run.{Run}
 use Rattle.pg_lines.specs.declared.span.Span.{Span}
 use Rattle.pg_seq.specs.declared.format.Format.{Format}
 use Rattle.pg_seq.specs.declared.format.Mode.TheVariants.{Rows}
@@ -19,12 +20,12 @@ line_or_nothing q l = if selects q l then l ++ terminator q ∷ [] else []
 abbrev pub bare_rows : Search → List ℕ → List ℕ
 bare_rows q bytes = flat_map (line_or_nothing q) (lines (terminator q) bytes)
 
--- the lines of a span, each with the terminator
-abbrev pub span_rows : ℕ → List ℕ → Span → List ℕ
-span_rows end bytes span = terminated end (lines end (slice_range bytes span.start span.end))
+-- the lines of a run, each with the terminator
+abbrev pub rows_of_run : ℕ → List ℕ → Run → List ℕ
+rows_of_run end bytes run = terminated end (lines end (slice_range bytes run.span.start run.span.end))
 
-abbrev pub no_span : Span
-no_span = record { start = 0; end = 0 }
+abbrev pub no_run : Run
+no_run = record { span = record { start = 0; end = 0 }; first = 0; count = 0 }
 
 -- the span is a part of the bytes
 abbrev pub IsWithin : List ℕ → Span → Type 0

@@ -3,11 +3,11 @@ ghost use Rattle.std.specs.Prelude.{◌≡◌, ◌++◌, ◌<◌, ◌≤◌, [],
 ghost use Rattle.pg_lines.specs.Lines.{lines, terminated};
 ghost use Rattle.pg_lines.specs.Search.{Search, HasItsTrees};
 ghost use Rattle.std.specs.List.{flat_map};
-ghost use Rattle.pg_seq.specs.Bare.{bare_rows, span_rows, no_span, IsWithin};
+ghost use Rattle.pg_seq.specs.Bare.{bare_rows, rows_of_run, no_run, IsWithin};
 ghost use Rattle.pg_seq.specs.Sink.{TakesPart};
 
 use crate::sink::{Sink, WriteError, write_all};
-use pg_lines::{Block, BlockResult, Query, Span};
+use pg_lines::{Block, BlockResult, Query, Run};
 use std::alloc::Allocator;
 
 /// Whether the last of some lines lacks its terminator.
@@ -33,23 +33,18 @@ fn write_lines<W: Sink>(out: &mut W, end: u8, text: &[u8]) -> Result<(), WriteEr
     }
 }
 
-/// Writes the lines of some spans.
-fn write_spans<W: Sink>(
-    out: &mut W,
-    end: u8,
-    bytes: &[u8],
-    spans: &[Span],
-) -> Result<(), WriteError>
-    requires { EachIndex spans.now (λ k. IsWithin bytes.now (get_or spans.now k no_span)) }
-    ensures all { OnOk result (W.taken out.new ≡ W.taken out.old ++ flat_map (span_rows end bytes.now) spans.now) }
+/// Writes the lines of some runs.
+fn write_runs<W: Sink>(out: &mut W, end: u8, bytes: &[u8], runs: &[Run]) -> Result<(), WriteError>
+    requires { EachIndex runs.now (λ k. IsWithin bytes.now (get_or runs.now k no_run).span) }
+    ensures all { OnOk result (W.taken out.new ≡ W.taken out.old ++ flat_map (rows_of_run end bytes.now) runs.now) }
     ensures part { OnErr result
-        (TakesPart (flat_map (span_rows end bytes.now) spans.now) (W.taken out.old) (W.taken out.new)) }
+        (TakesPart (flat_map (rows_of_run end bytes.now) runs.now) (W.taken out.old) (W.taken out.new)) }
     ensures failure { OnErr result (W.failures out.old < W.failures out.new) }
     ensures no_failure { OnOk result (W.failures out.new ≡ W.failures out.old) }
     ensures never_falls { W.failures out.old ≤ W.failures out.new }
 {
-    for span in spans {
-        write_lines(out, end, span.of(bytes))?;
+    for run in runs {
+        write_lines(out, end, run.span.of(bytes))?;
     }
     Ok(())
 }
@@ -71,7 +66,7 @@ pub(crate) fn write_rows<A: Allocator, W: Sink>(
     // Its contract says that the patterns have trees, by which the runs stand in the block.
     let _text = query.text();
     let block: &Block<A> = found.block();
-    write_spans(
+    write_runs(
         out,
         query.terminator(),
         block.bytes.as_slice(),

@@ -2,7 +2,8 @@ use Rattle.std.proofs.Common.{ℕ, ◌+◌, ◌-◌, ◌≤◌, false, List, len
 use Rattle.std.proofs.lemmas.Bool.{eqb-false}
 use Rattle.std.proofs.lemmas.List.{take_rest}
 use Rattle.pg_lines.specs.Lines.{AreWhole, IsClear, Stops}
-use Rattle.pg_lines.specs.Runs.{AllLines, IsNextRun}
+use Rattle.pg_lines.specs.Runs.{AllLines}
+use Rattle.pg_lines.specs.Gathered.{IsNextLine}
 use Rattle.pg_lines.proofs.RunLemmas.{nowhere_lines, line_around}
 use Rattle.pg_lines.proofs.search.next_holding.Goals as goal
 
@@ -23,7 +24,7 @@ returns-clause-some c = λ q trees plain same.
     let start = c.begin_of_line.result in
     let stop = c.end_of_line.result in
     let k = c.in-Some.found in
-    let P : List ℕ → Type 0 = λ xs. IsNextRun q at xs (record { start = at + start; end = at + stop }) in
+    let P : List ℕ → Type 0 = λ xs. IsNextLine q at xs (record { start = at + start; end = at + stop }) in
     let Around : ℕ → Type 0 = λ end. IsClear end rest start k × AreWhole end (take start rest)
     × ((e : ℕ) × (k ≤ e) × IsClear end rest k e × Stops end rest e stop) in
     let ne = eqb-false (length rest) 0 (sym c.is_empty.ensures ∙ c.if-is_empty.false) in

@@ -1,7 +1,7 @@
 use Rattle.std.proofs.Common.{ℕ, ◌+◌, ◌-◌, List, length, take, drop, sym, ◌∙◌, subst, arith, refl, inl, inr}
 use Rattle.std.proofs.lemmas.List.{take_rest}
 use Rattle.pg_lines.specs.Search.{search_of, terminator_of}
-use Rattle.pg_lines.specs.Runs.{IsNextRun}
+use Rattle.pg_lines.specs.Gathered.{IsNextLine}
 use Rattle.pg_lines.proofs.RunLemmas.{line_found, line_passed, line_unselected}
 use Rattle.pg_lines.proofs.ScanLemmas.{GoesOn, scanned, not_passed, scanned_short}
 use Rattle.pg_lines.proofs.search.next_selected.Goals as goal
@@ -26,7 +26,7 @@ returns-then-selects-clause-some g c = λ trees spelled.
     e.high e.clear e.ended goes in
     let front = not_passed (terminator_of text) rest s c.loop-start-test.true i.passed in
     let P : List ℕ → Type 0 =
-    λ xs. IsNextRun (search_of text trees) at xs (record { start = at + s; end = at + next }) in
+    λ xs. IsNextLine (search_of text trees) at xs (record { start = at + s; end = at + next }) in
     subst P (take_rest bytes at) (line_found (search_of text trees) rest at s stop next _ line front
     (i.unselected trees spelled) (sym (c.selects.ensures.selected trees spelled) ∙ c.if-selects.true) refl refl)
 

@@ -1,45 +1,107 @@
-use Rattle.std.proofs.Common.{List, sym, subst, arith, refl}
-use Rattle.pg_lines.specs.Search.{search_of}
+use Rattle.std.proofs.Common.{◌≡◌, ◌+◌, ◌-◌, ℕ, List, ◌++◌, [], cond, length, drop, map, sym, ap, ◌∙◌, subst, arith}
+use Rattle.std.proofs.Common.{refl}
+use Rattle.std.proofs.lemmas.List.{take_rest}
+use Rattle.pg_lines.specs.Lines.{lines, AreShort}
+use Rattle.pg_lines.specs.Search.{search_of, terminator_of}
+use Rattle.pg_lines.specs.Selection.{parts}
 use Rattle.pg_lines.specs.Runs.{AreRuns}
-use Rattle.pg_lines.specs.declared.span.Span.{Span}
-use Rattle.pg_lines.proofs.RunLemmas.{IsGathered, gathered_gap, gathered_next, gathered_all, short_behind}
+use Rattle.pg_lines.specs.BlockParts.{part_at}
+use Rattle.pg_lines.specs.Gathered.{IsGathered}
+use Rattle.pg_lines.specs.declared.run.Run.{Run}
+use Rattle.pg_lines.specs.declared.run.Part.{Part}
+use Rattle.pg_lines.proofs.GatherLemmas.{gathered_none, gathered_all, all_counted}
+use Rattle.pg_lines.proofs.PartLemmas.{line_one, line_short, parts_with_line, parts_of_all, parts_before_none}
+use Rattle.pg_lines.proofs.RunLemmas.{short_behind}
 use Rattle.pg_lines.proofs.search.selected_runs.Goals as goal
 
-pub loop-line-preserved-then-run-line : goal.loop-line-preserved-then-run-line
-loop-line-preserved-then-run-line g c =
+pub loop-line-init : goal.loop-line-init
+loop-line-init g c =
     let text = c.args.query.now.text in
-    let own = c.requires.compiled in
-    let i = c.loop-line.invariant in
     let bytes = c.args.bytes.now in
     record {
-      fits = c.in-Some.ensures.fits;
-      within = c.in-Some.ensures.within.2;
-      short = short_behind (search_of text own.0) bytes c.loop-line.run.end c.in-Some.line
-          (c.in-Some.ensures.some own.0 own.1) i.short;
+      fits = c.requires.fits;
+      within = omega arith;
+      few = omega arith;
+      short = c.requires.short;
       gathered = λ trees spelled.
-          let P : List Span → Type 0 = λ runs. IsGathered (search_of text trees) bytes runs c.in-Some.line in
-          subst P (sym c.in_ok-push_run.ensures) (gathered_gap (search_of text trees) bytes c.loop-line.runs.items
-          c.loop-line.run c.in-Some.line (i.gathered trees spelled) (c.in-Some.ensures.some trees spelled));
+          let run : Run = record { span = record { start = 0; end = 0 }; first = 0; count = 0 } in
+          let P : List Run → Type 0 = λ runs. IsGathered (search_of text trees) bytes runs run in
+          subst P (sym c.new-runs.ensures.items) (gathered_none (search_of text trees) bytes run refl refl refl refl);
+      parts = λ trees spelled. c.new-parts.ensures.items ∙ sym (parts_before_none (search_of text trees) bytes);
     }
+
+pub push_line_parts-requires-clause-one : goal.push_line_parts-requires-clause-one
+push_line_parts-requires-clause-one g c =
+    let own = c.requires.compiled in
+    let q = search_of c.args.query.now.text own.0 in
+    let bytes = c.args.bytes.now in
+    let i = c.loop-line.invariant in
+    let runs = c.loop-line.runs.items in
+    let run = c.loop-line.run in
+    let line = c.in-Some.line in
+    let gathered = i.gathered own.0 own.1 in
+    let found = c.in-Some.ensures.some own.0 own.1 in
+    let one = line_one q bytes runs run gathered line found in
+    (one.0, line_short q bytes runs run gathered line found i.short, one.2)
 
 pub loop-line-preserved : goal.loop-line-preserved
 loop-line-preserved g c =
     let text = c.args.query.now.text in
     let own = c.requires.compiled in
-    let i = c.loop-line.invariant in
     let bytes = c.args.bytes.now in
+    let i = c.loop-line.invariant in
+    let runs = c.loop-line.runs.items in
+    let run = c.loop-line.run in
+    let line = c.in-Some.line in
+    let new = c.in_ok-run.run' in
+    let longer = c.in_ok-run.ensures in
+    let number = new.first + new.count - 1 in
+    let counted : number + 1 ≡ new.first + new.count = omega (arith, longer.few.0) in
+    let Short : ℕ → Type 0 = λ n. AreShort (terminator_of text) (drop n bytes) in
     record {
-      fits = c.in-Some.ensures.fits;
-      within = c.in-Some.ensures.within.2;
-      short = short_behind (search_of text own.0) bytes c.loop-line.run.end c.in-Some.line
-          (c.in-Some.ensures.some own.0 own.1) i.short;
-      gathered = λ trees spelled. gathered_next (search_of text trees) bytes c.loop-line.runs.items c.loop-line.run
-          c.in-Some.line _ (i.gathered trees spelled) (c.in-Some.ensures.some trees spelled) (omega arith) refl refl;
+      fits = c.push_line_parts.ensures.fits;
+      within = omega (arith, longer.stop, c.in-Some.ensures.within.2);
+      few = longer.few.1;
+      short = subst Short (sym longer.stop)
+          (short_behind (search_of text own.0) bytes run.span.end 0 _ (c.in-Some.ensures.some own.0 own.1).1 i.short);
+      gathered = λ trees spelled. longer.gathered (search_of text trees) c.terminator-end.ensures
+          (i.gathered trees spelled) (c.in-Some.ensures.some trees spelled);
+      parts = λ trees spelled.
+          let q = search_of text trees in
+          let gathered = i.gathered trees spelled in
+          let found = c.in-Some.ensures.some trees spelled in
+          let gathered' = longer.gathered q c.terminator-end.ensures gathered found in
+          let one = line_one q bytes runs run gathered line found in
+          let put : List Part = cond text.pieces (map (part_at line.start number) (parts q one.0)) [] in
+          c.in_ok-push_line_parts.ensures.parts trees spelled one.0 one.2 one.1
+          ∙ (ap (λ ps. ps ++ put) (i.parts trees spelled)
+          ∙ sym (parts_with_line q bytes runs run gathered line found c.with_line.new.runs.items new gathered'
+          longer.stop one.0 one.2 one.1 number counted));
     }
 
 pub returns-clause-runs : goal.returns-clause-runs
 returns-clause-runs g c = λ trees spelled.
     let q = search_of c.args.query.now.text trees in
-    let P : List Span → Type 0 = λ runs. AreRuns q 0 c.args.bytes.now runs in
-    subst P (sym c.in_ok-push_run-2.ensures) (gathered_all q c.args.bytes.now c.loop-line.runs.items c.loop-line.run
+    let P : List Run → Type 0 = λ runs. AreRuns q 0 0 c.args.bytes.now runs in
+    subst P (sym c.in_ok-push_run.ensures) (gathered_all q c.args.bytes.now c.loop-line.runs.items c.loop-line.run
     (c.loop-line.invariant.gathered trees spelled) (c.in_default.ensures.none trees spelled))
+
+pub returns-clause-parts : goal.returns-clause-parts
+returns-clause-parts g c = λ trees spelled.
+    let q = search_of c.args.query.now.text trees in
+    c.loop-line.invariant.parts trees spelled
+    ∙ parts_of_all q c.args.bytes.now c.loop-line.runs.items c.loop-line.run
+    (c.loop-line.invariant.gathered trees spelled) (c.in_default.ensures.none trees spelled)
+
+pub returns-clause-lines : goal.returns-clause-lines
+returns-clause-lines g c =
+    let own = c.requires.compiled in
+    let q = search_of c.args.query.now.text own.0 in
+    let bytes = c.args.bytes.now in
+    let run = c.loop-line.run in
+    let all = all_counted q bytes c.loop-line.runs.items run (c.loop-line.invariant.gathered own.0 own.1) in
+    let rest : c.count_lines.result ≡ length (lines (terminator_of c.args.query.now.text) (drop run.span.end bytes)) =
+    c.count_lines.ensures.count
+    ∙ (ap (λ xs. length (lines c.terminator-end.result xs)) (take_rest bytes run.span.end)
+    ∙ ap (λ t. length (lines t (drop run.span.end bytes))) c.terminator-end.ensures) in
+    omega (arith, all, rest)

@@ -1,0 +1,25 @@
+use Rattle.std.proofs.Common.{◌≡◌, true, false, map, ap, sym, ◌∙◌, inl, inr}
+use Rattle.pg_lines.specs.Search.{SearchText, search_of}
+use Rattle.pg_lines.specs.Selection.{parts}
+use Rattle.pg_lines.specs.BlockParts.{part_at}
+use Rattle.pg_lines.proofs.PartLemmas.{kept_none, no_parts}
+use Rattle.pg_lines.proofs.parts.push_line_parts.Goals as goal
+use Rattle.pg_lines.proofs.parts.push_line_parts.Goals.{else-options-via-then-options+else-not-options}
+use Rattle.pg_lines.proofs.parts.push_line_parts.Goals.{else-options-via-else-options}
+
+pub returns-else-options-clause-parts : goal.returns-else-options-clause-parts
+returns-else-options-clause-parts g c = λ trees spelled text one chosen.
+    let q = search_of c.args.query.now.text trees in
+    let put = part_at c.args.line.start c.args.number in
+    let view = c.options.view_is ∙ c.text-options.ensures.text in
+    let invert : c.options.inside.invert ≡ q.text.invert = ap (λ (t : SearchText). t.invert) view in
+    let pieces : c.options.inside.pieces ≡ q.text.pieces = ap (λ (t : SearchText). t.pieces) view in
+    elim c.else-options.branch [
+      | else-options-via-then-options+else-not-options w ↦
+          let inverted : c.options.inside.invert ≡ true = w.if-not-options.false in
+          kept_none c.args.found.now.items (map put (parts q text)) q.text.pieces
+          (inr (ap (map put) (no_parts q text (sym invert ∙ inverted) chosen)))
+      | else-options-via-else-options w ↦
+          let unasked : c.options.inside.pieces ≡ false = w.if-options.false in
+          kept_none c.args.found.now.items (map put (parts q text)) q.text.pieces (inl (sym pieces ∙ unasked))
+    ]

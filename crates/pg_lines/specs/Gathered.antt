@@ -1,0 +1,34 @@
+-- What a search has found in a block so far.
+use Rattle.std.specs.Prelude.{◌≡◌, ℕ, ◌+◌, ◌⊎◌, true, if◌then◌else◌, List, [], ◌++◌, length, take}
+use Rattle.pg_lines.specs.Lines.{lines, AreWhole}
+use Rattle.pg_lines.specs.Search.{Search, terminator}
+use Rattle.pg_lines.specs.Runs.{AllLines, IsNextRun, AreRuns}
+use Rattle.pg_lines.specs.BlockParts.{parts_of_lines}
+use Rattle.pg_lines.specs.declared.run.Run.{Run}
+use Rattle.pg_lines.specs.declared.run.Part.{Part}
+use Rattle.pg_lines.specs.declared.span.Span.{Span}
+
+-- the first selected line in bytes that stand from a place on: a run of one line
+abbrev pub IsNextLine : Search → ℕ → List ℕ → Span → Type 0
+IsNextLine q at bytes line = (first : ℕ) × IsNextRun q at 0 bytes (record { span = line; first = first; count = 1 })
+
+-- The runs so far and an open one behind them: whatever runs follow the open one's start, together they are all runs.
+pub record IsGathered (q : Search) (bytes : List ℕ) (runs : List Run) (run : Run) : Type 0 where
+  pub front : List ℕ
+  pub text : List ℕ
+  pub rest : List ℕ
+  pub joins : bytes ≡ (front ++ text) ++ rest
+  pub start : run.span.start ≡ length front
+  pub stop : run.span.end ≡ length front + length text
+  pub front_whole : AreWhole (terminator q) front
+  pub whole : AreWhole (terminator q) text ⊎ (rest ≡ [])
+  pub selected : AllLines q true text
+  pub first : run.first ≡ length (lines (terminator q) front)
+  pub count : run.count ≡ length (lines (terminator q) text)
+  pub known : (more : List Run) → AreRuns q run.span.start run.first (text ++ rest) more
+      → AreRuns q 0 0 bytes (runs ++ more)
+
+-- the parts of the lines before a place, where they are asked for
+abbrev pub parts_before : Search → List ℕ → ℕ → List Part
+parts_before q bytes place =
+    if q.text.pieces then parts_of_lines q 0 0 (lines (terminator q) (take place bytes)) else []
