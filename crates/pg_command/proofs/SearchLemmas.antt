@@ -4,7 +4,7 @@ use Rattle.std.proofs.lemmas.Bool.{false≢true}
 use Rattle.std.specs.Result.{IfErr, IsErrAnd, MatchResult}
 use Rattle.std.proofs.lemmas.List.{append-nil}
 use Rattle.pg_lines.specs.Search.{Search, terminator}
-use Rattle.pg_seq.specs.Sink.{TakesPart}
+use Rattle.pg_rows.specs.Sink.{TakesPart}
 use Rattle.pg_run.specs.Past.{Past, Opens, Turns, Misses, IsCalm, EndsOrFails, FailsToRead}
 use Rattle.pg_run.specs.Run.{IsTooLong}
 use Rattle.pg_run.specs.declared.fault.RunFault.{RunFault}

@@ -1,7 +1,7 @@
 -- What a search answers, and what it writes.
 use Rattle.std.specs.Prelude.{◌≡◌, ℕ, ◌<◌, ◌≤◌, ◌⊎◌, List, ◌++◌}
 use Rattle.pg_lines.specs.Search.{Search, HasItsTrees}
-use Rattle.pg_seq.specs.Sink.{TakesPart}
+use Rattle.pg_rows.specs.Sink.{TakesPart}
 use Rattle.pg_run.specs.Past.{Past, MeetsTheEnd}
 use Rattle.pg_run.specs.Run.{output_of, status_of}
 use Rattle.pg_command.specs.Asked.{Asked, text_of_query}

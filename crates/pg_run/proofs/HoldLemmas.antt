@@ -6,30 +6,30 @@ use Rattle.std.specs.List.{AllByRecursion, Contains, list_all, flat_map}
 use Rattle.std.specs.Option.{IsSome, MatchOption}
 use Rattle.std.specs.Result.{OnErr, IsErrAnd, IsErrOf}
 use Rattle.std.specs.Arc.{arc_value}
-use Rattle.std.proofs.lemmas.Bool.{eq-eqb, ne_eqb, false≢true}
-use Rattle.std.proofs.lemmas.List.{append-nil, get_or_at, length_push, length-map}
+use Rattle.std.proofs.lemmas.Bool.{eq-eqb, false≢true}
+use Rattle.std.proofs.lemmas.List.{append-nil, get_or_at, length_push}
 use Rattle.std.proofs.lemmas.List.Concat.{flat_map-append}
 use Rattle.std.proofs.lemmas.List.Folds.{list_all-append}
 use Rattle.pg_lines.specs.Search.{Search, terminator}
 use Rattle.pg_lines.specs.Lines.{AreShort}
 use Rattle.pg_lines.specs.Blocks.{BlockData, joined, EndsWith}
 use Rattle.pg_lines.specs.Searched.{Searched}
-use Rattle.pg_seq.specs.declared.format.Arrival.TheVariants.{Taken}
-use Rattle.pg_seq.specs.declared.format.SinkFault.{SinkFault}
-use Rattle.pg_seq.specs.declared.format.SinkFault.TheVariants.{WriteFailed, Failed}
+use Rattle.pg_seq.specs.declared.answers.Arrival.TheVariants.{Taken}
+use Rattle.pg_seq.specs.declared.answers.SinkFault.{SinkFault}
+use Rattle.pg_seq.specs.declared.answers.SinkFault.TheVariants.{WriteFailed, Failed}
 use Rattle.pg_seq.specs.declared.sequencer.Sequencer.{Sequencer}
 use Rattle.pg_seq.specs.Bare.{bare, bare_rows}
-use Rattle.pg_seq.specs.Output.{output, status, Read, Running, Ended}
+use Rattle.pg_rows.specs.Output.{output, status, Read, Running, Ended}
 use Rattle.pg_seq.specs.Plan.{Announces, Ends, MayFollow, with_bytes, with_end, announced, entries_of}
 use Rattle.pg_seq.specs.History.{Past, planned, arrived, plan, answer, answer_after, front_after, handed}
 use Rattle.pg_seq.specs.History.{handed_after, taken_of, taken_after, is_taken, IsComplete, status_of}
-use Rattle.pg_seq.specs.Sink.{IsBeginning}
-use Rattle.pg_seq.specs.Slots.{slot_block}
+use Rattle.pg_rows.specs.Sink.{IsBeginning}
 use Rattle.pg_seq.specs.Standing.{Stands, Drained, drained}
 use Rattle.pg_seq.proofs.ArrivalLaws.{first_is_taken}
 use Rattle.pg_seq.proofs.BareLemmas.{output_bare}
 use Rattle.pg_seq.proofs.BeginLemmas.{shape_of}
 use Rattle.pg_seq.proofs.FrontLemmas.{front_all}
+use Rattle.pg_seq.proofs.KeyLemmas.{next_not_taken}
 use Rattle.pg_lines.specs.declared.cutter.CutFault.{CutFault}
 use Rattle.pg_lines.specs.declared.cutter.CutFault.TheVariants.{OutOfMemory as NoMemory, LineTooLong, FileTooLong}
 use Rattle.pg_run.specs.Run.{Holds, IsNextBlock, rows_of, fault_of_cut}
@@ -89,21 +89,6 @@ all_push keys bs b e =
     ∙ (ap (λ t. t && (is_taken more b && true)) (all_more (b.file, b.number) keys bs e)
     ∙ ap (λ t. t && true) (own_key keys b))
 
--- a block with a number that no taken block has
-new_key : (keys : List (ℕ × ℕ)) (b : BlockData) (n : ℕ) → AllByRecursion (λ key. key.1 < n) keys → b.number ≡ n
-    → is_taken keys b ≡ false
-new_key [] b n h e = refl
-new_key (key ∷ keys) b n h e =
-    ap (λ t. (b.file == key.0 && t) || is_taken keys b) (other b.number key.1 (omega (arith, h.0)))
-    ∙ (ap (λ t. t || is_taken keys b) (and_false (b.file == key.0)) ∙ new_key keys b n h.1 e)
-  where
-    and_false : (t : Bool) → (t && false) ≡ false
-    and_false true = refl
-    and_false false = refl
-
-    other : (a c : ℕ) → c < a → (a == c) ≡ false
-    other a c less = ne_eqb a c (λ e. omega arith)
-
 -- the result of the block that was announced is taken
 pub is_first : {A : Type 0} (s : Searcher A) (q : Search) (blocks : List BlockData) (text : List ℕ) (b : BlockData)
     (h : Holds s q blocks text) → IsNextBlock q blocks b
@@ -116,11 +101,9 @@ is_first {A = A} s q blocks text b h n sequencer stands r is =
       omega (arith, length_push (announced (plan h.past)) b),
       get_or_at (announced (plan h.past)) b [] b (length (announced (plan h.past))) refl,
     ) in
-    let slots = h.stands.gone ++ s.sequencer.buffer.slots.items in
-    let count : b.number ≡ length slots =
-    n.number ∙ (ap length (sym h.all) ∙ (ap length h.stands.blocks ∙ length-map slots slot_block)) in
     let new : is_taken (taken_of past.query past.events) b ≡ false =
-    new_key (taken_of h.past.query h.past.events) b (length slots) h.stands.known count in
+    next_not_taken (terminator h.past.query) h.past.query h.past.events b
+    (shape_of (terminator h.past.query) (plan h.past) h.stands.lawful) (may_announce s q blocks text b h n).0 in
     let F : Searched → Type 0 = λ x. answer past x ≡ Taken in
     subst F (sym is) (first_is_taken past (record { query = q.text; block = b })
     (shape_of (terminator past.query) (plan past) stands.lawful) (ap (λ x. x.text) (sym h.query)) known new)

@@ -17,7 +17,7 @@ use Rattle.pg_lines.proofs.LongLemmas.{long_decides, long_append}
 use Rattle.pg_lines.proofs.CutLaws.{cut_is_cutting}
 use Rattle.pg_seq.specs.Bare.{bare_rows, line_or_nothing}
 use Rattle.pg_seq.specs.Plan.{Opens, Announces, Ends}
-use Rattle.pg_seq.specs.Sink.{IsBeginning, TakesPart}
+use Rattle.pg_rows.specs.Sink.{IsBeginning, TakesPart}
 use Rattle.pg_seq.proofs.BareLemmas.{output_bare}
 use Rattle.pg_run.specs.Run.{Aim, Reads, HasSearched, Holds, IsNextBlock, IsTooLong, rows_of, output_of, aimed}
 use Rattle.pg_run.specs.declared.searcher.Searcher.{Searcher}

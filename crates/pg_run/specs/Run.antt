@@ -11,7 +11,7 @@ use Rattle.pg_lines.specs.declared.cutter.CutFault.{CutFault}
 use Rattle.pg_lines.specs.declared.cutter.CutFault.TheVariants.{OutOfMemory as NoMemory, LineTooLong, FileTooLong}
 use Rattle.pg_seq.specs.Bare.{bare, bare_rows}
 use Rattle.pg_seq.specs.Plan.{announced, is_open, opened, last_blocks, entries_of}
-use Rattle.pg_seq.specs.Output.{Read, Running, Ended, output, status}
+use Rattle.pg_rows.specs.Output.{Read, Running, Ended, output, status}
 use Rattle.pg_seq.specs.History.{Past, plan, taken_of, all_taken}
 use Rattle.pg_seq.specs.Standing.{Stands}
 use Rattle.pg_run.specs.declared.fault.RunFault.{RunFault}

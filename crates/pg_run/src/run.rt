@@ -4,7 +4,7 @@ ghost use Rattle.std.specs.Prelude.{IfOk, OnOk, OnErr, IsErrOf};
 ghost use Rattle.std.specs.Arc.{arc_value};
 ghost use Rattle.pg_lines.specs.Search.{Pattern, AreTreesOf, search_of, terminator, terminator_of};
 ghost use Rattle.pg_lines.specs.Cutter.{IsDrained};
-ghost use Rattle.pg_seq.specs.Sink.{TakesPart};
+ghost use Rattle.pg_rows.specs.Sink.{TakesPart};
 ghost use Rattle.pg_run.specs.Past.{EndsOrFails};
 ghost use Rattle.pg_run.specs.Run.{Aim, Reads, HasSearched, IsTooLong, aimed, output_of, status_of};
 ghost use Rattle.pg_run.specs.declared.fault.RunFault.TheVariants.{Sink as RunSink, TooLong};

@@ -6,7 +6,7 @@ ghost use Rattle.pg_lines.specs.Search.{Search, Pattern, AreTreesOf, search_of};
 ghost use Rattle.pg_lines.specs.Queries.{IsCompiled};
 ghost use Rattle.pg_lines.specs.Blocks.{BlockData, joined};
 ghost use Rattle.pg_seq.specs.Bare.{bare_rows};
-ghost use Rattle.pg_seq.specs.Sink.{TakesPart};
+ghost use Rattle.pg_rows.specs.Sink.{TakesPart};
 ghost use Rattle.pg_run.specs.declared.fault.RunFault.TheVariants.{Sink as RunSink, TooLong};
 
 use crate::fault::RunFault;

@@ -10,12 +10,12 @@ use Rattle.pg_lines.specs.Search.{terminator}
 use Rattle.pg_lines.specs.Same.{same_text, text_equal}
 use Rattle.pg_lines.specs.Searched.{Searched}
 use Rattle.pg_lines.specs.Blocks.{BlockData}
-use Rattle.pg_seq.specs.declared.format.Arrival.TheVariants.{Taken, Double, Stranger}
+use Rattle.pg_seq.specs.declared.answers.Arrival.TheVariants.{Taken, Double, Stranger}
 use Rattle.pg_seq.specs.Plan.{Step, Opens, Announces, Ends, Misses, IsShaped, opened, announced, last_blocks}
 use Rattle.pg_seq.specs.History.{Past, plan, answer, answer_after, arrival_at, is_block, is_taken, taken_of, if_same}
 
 -- a block's file was opened, and its number is below those still to come
-abbrev IsBelow : List Step → BlockData → Type 0
+abbrev pub IsBelow : List Step → BlockData → Type 0
 IsBelow p b = (b.file + 1 ≤ opened p) × (b.file + 1 ≡ opened p → b.number < length (last_blocks p))
 
 below_opened : (name : List ℕ) (p : List Step) (bs : List BlockData) → AllByRecursion (IsBelow p) bs → AllByRecursion (IsBelow (Opens name ∷ p)) bs
@@ -30,7 +30,7 @@ below_push : (p : List Step) (bs : List BlockData) (c : BlockData) → AllByRecu
 below_push p [] c h i = (i, tt)
 below_push p (b ∷ bs) c h i = (h.0, below_push p bs c h.1 i)
 
-all_below : (end : ℕ) (p : List Step) → IsShaped end p → AllByRecursion (IsBelow p) (announced p)
+pub all_below : (end : ℕ) (p : List Step) → IsShaped end p → AllByRecursion (IsBelow p) (announced p)
 all_below end [] h = tt
 all_below end (Opens name ∷ p) h = below_opened name p (announced p) (all_below end p h.1)
 all_below end (Announces c ∷ p) h =

@@ -13,14 +13,13 @@ use Rattle.pg_lines.specs.Blocks.{BlockData}
 use Rattle.pg_lines.specs.Runs.{AreRuns, IsNextRun, HasRuns}
 use Rattle.pg_lines.specs.declared.run.Run.{Run}
 use Rattle.pg_lines.proofs.RunLemmas.{lines_apart}
-use Rattle.pg_lines.proofs.LineLemmas.{some_line, terminated-lines, whole_append}
-use Rattle.pg_lines.proofs.LineLaws.{lines_are_lines}
+use Rattle.pg_lines.proofs.LineLemmas.{some_line}
 use Rattle.pg_seq.specs.Bare.{bare, line_or_nothing, bare_rows, rows_of_run}
-use Rattle.pg_seq.specs.Output.{output, when, row}
+use Rattle.pg_rows.specs.Output.{output, when, row}
 use Rattle.pg_seq.specs.Plan.{Step, Opens, Announces, Ends, Misses, IsShaped, announced, entries_of}
-use Rattle.pg_seq.specs.Trail.{Trail, step, run, run_rows, run_pieces, added, after_context, after_other, context_rows}
+use Rattle.pg_rows.specs.Trail.{Trail, step, run, run_rows, run_pieces, added, after_context, after_other, context_rows}
 use Rattle.pg_seq.specs.Cursor.{cursor_of, step_rows, block_rows}
-use Rattle.pg_seq.specs.Sink.{IsBeginning}
+use Rattle.pg_rows.specs.Sink.{IsBeginning}
 use Rattle.pg_seq.proofs.CursorLemmas.{cursor_is, output_step}
 
 -- The rows of lines.
@@ -139,57 +138,6 @@ any_selected q at seen bytes (run ∷ runs) h =
     or_true : (b : Bool) → (b || true) ≡ true
     or_true true = refl
     or_true false = refl
-
--- Bytes with their last line completed.
-
-whole_terminated : (end : ℕ) (ls : List (List ℕ)) → AreWhole end (terminated end ls)
-whole_terminated end [] = inl refl
-whole_terminated end (l ∷ ls) =
-    whole_append end (l ++ end ∷ []) (terminated end ls) (inr (l, refl)) (whole_terminated end ls)
-
-last_whole : (end : ℕ) (bytes : List ℕ) → AreWhole end bytes → 0 < length bytes
-    → get_or bytes (length bytes - 1) 0 ≡ end
-last_whole end bytes (inl e) some = absurd (omega (arith, ap length e))
-last_whole end bytes (inr h) some =
-    let n : length bytes - 1 ≡ length h.0 = omega (arith, ap length h.1, length-append h.0 (end ∷ [])) in
-    ap (λ k. get_or bytes k 0) n ∙ (ap (λ xs. get_or xs (length h.0) 0) h.1 ∙ get_or_at h.0 end [] 0 (length h.0) refl)
-
--- the last byte is a newline
-pub whole_by_last : (end : ℕ) (bytes : List ℕ) → 0 < length bytes → get_or bytes (length bytes - 1) 0 ≡ end
-    → terminated end (lines end bytes) ≡ bytes
-whole_by_last end bytes some e =
-    let back : (length bytes - 1) + 1 ≡ length bytes = omega arith in
-    terminated-lines end bytes (inr (
-      take (length bytes - 1) bytes,
-      sym (take_all (length bytes) bytes (omega arith)) ∙ (ap (λ k. take k bytes) (sym back) ∙ (take_more bytes (length bytes - 1) 0 (omega arith) ∙ ap (λ b. take (length bytes - 1) bytes ++ b ∷ []) e)),
-    ))
-
--- it isn't
-pub incomplete_by_last : (end : ℕ) (bytes : List ℕ) → 0 < length bytes → (get_or bytes (length bytes - 1) 0 ≡ end → ⊥)
-    → terminated end (lines end bytes) ≡ bytes ++ end ∷ []
-incomplete_by_last end bytes some ne = elim (lines_are_lines end bytes).whole [
-  | inl e ↦ let P : List ℕ → Type 0 = λ xs. AreWhole end xs in
-      absurd (ne (last_whole end bytes (subst P (sym e) (whole_terminated end (lines end bytes))) some))
-  | inr h ↦
-      ap (terminated end) h.joins ∙ (flat_map-append (λ (l : List ℕ). l ++ end ∷ []) h.front (h.last ∷ [])
-      ∙ (ap (λ xs. terminated end h.front ++ xs) (append-nil (h.last ++ end ∷ []))
-      ∙ (sym (append_assoc (terminated end h.front) h.last (end ∷ [])) ∙ ap (λ xs. xs ++ end ∷ []) (sym h.whole))))
-]
-
-pub no_bytes : (end : ℕ) (bytes : List ℕ) → length bytes ≡ 0 → terminated end (lines end bytes) ≡ bytes
-no_bytes end [] e = refl
-no_bytes end (b ∷ bytes) e = absurd (omega arith)
-
--- a text is a beginning of its completed lines
-pub begins_completed : (end : ℕ) (bytes : List ℕ) → IsBeginning bytes (terminated end (lines end bytes))
-begins_completed end bytes = by_length (length bytes) refl
-  where
-    by_length : (n : ℕ) → length bytes ≡ n → IsBeginning bytes (terminated end (lines end bytes))
-    by_length zero e = ([], append-nil bytes ∙ sym (no_bytes end bytes e))
-    by_length (suc n) e = elim (cases_eq (get_or bytes (length bytes - 1) 0) end) [
-      | inl same ↦ ([], append-nil bytes ∙ sym (whole_by_last end bytes (omega arith) same))
-      | inr ne ↦ (end ∷ [], sym (incomplete_by_last end bytes (omega arith) ne))
-    ]
 
 pub some_runs : (q : Search) (bytes : List ℕ) (runs : List Run) → AreRuns q 0 0 bytes runs
     → not (length runs == 0) ≡ list_any (selects q) (lines (terminator q) bytes)

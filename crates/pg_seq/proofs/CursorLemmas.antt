@@ -8,16 +8,16 @@ use Rattle.pg_lines.specs.Search.{Search, terminator}
 use Rattle.pg_lines.specs.Lines.{lines}
 use Rattle.pg_lines.specs.Blocks.{BlockData, EndsWith, joined}
 use Rattle.pg_lines.proofs.LineLemmas.{lines-append}
-use Rattle.pg_seq.specs.declared.format.Format.{Format}
-use Rattle.pg_seq.specs.declared.format.Mode.{Mode}
-use Rattle.pg_seq.specs.declared.format.Mode.TheVariants.{Rows, Count, List as Names, Quiet}
-use Rattle.pg_seq.specs.Output.{Entry, Read, Running, Ended, Failed, output, is_running, file_rows, rows_in, is_below, line_rows, piece_rows, count_row, name_row}
+use Rattle.pg_rows.specs.declared.format.Format.{Format}
+use Rattle.pg_rows.specs.declared.format.Mode.{Mode}
+use Rattle.pg_rows.specs.declared.format.Mode.TheVariants.{Rows, Count, List as Names, Quiet}
+use Rattle.pg_rows.specs.Output.{Entry, Read, Running, Ended, Failed, output, is_running, file_rows, rows_in, is_below, line_rows, piece_rows, count_row, name_row}
 use Rattle.pg_seq.specs.Plan.{Step, Opens, Announces, Ends, Misses, IsShaped, is_open, last_blocks, entries_of, with_bytes, with_end}
-use Rattle.pg_seq.specs.Sink.{IsBeginning}
-use Rattle.pg_seq.specs.Trail.{run, run_rows, run_pieces}
+use Rattle.pg_rows.specs.Sink.{IsBeginning}
+use Rattle.pg_rows.specs.Trail.{run, run_rows, run_pieces}
 use Rattle.pg_seq.specs.Cursor.{Cursor, moved, cursor_of, block_rows, counted, named, step_rows}
-use Rattle.pg_seq.proofs.TrailLemmas.{IsTrail, no_trail}
-use Rattle.pg_seq.proofs.FoldLemmas.{trail_more, rows_more, pieces_more, count_by_trail, name_by_trail, something, some_append, run_some}
+use Rattle.pg_rows.proofs.TrailLemmas.{IsTrail, no_trail}
+use Rattle.pg_rows.proofs.FoldLemmas.{trail_more, rows_more, pieces_more, count_by_trail, name_by_trail, something, some_append, run_some}
 
 pub joined_push : (xs : List BlockData) (b : BlockData) → joined (xs ++ b ∷ []) ≡ joined xs ++ b.bytes
 joined_push xs b = flat_map-append (λ (x : BlockData). x.bytes) xs (b ∷ []) ∙ ap (λ ys. joined xs ++ ys) (append-nil b.bytes)

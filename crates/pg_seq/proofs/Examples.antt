@@ -11,10 +11,10 @@ use Rattle.pg_lines.specs.Searched.{Searched}
 use Rattle.pg_lines.specs.Same.{same_text}
 use Rattle.pg_seq.specs.Plan.{Opens, Announces, Ends}
 use Rattle.pg_seq.specs.History.{Event, Planned, Arrived, answer_after, handed_after, front_after}
-use Rattle.pg_seq.specs.declared.format.Arrival.TheVariants.{Taken, Double, Stranger}
-use Rattle.pg_seq.specs.declared.format.Format.{Format}
-use Rattle.pg_seq.specs.declared.format.Mode.TheVariants.{Rows, Count, List as Names, Quiet}
-use Rattle.pg_seq.specs.Output.{output, status, file_rows, Entry, Missed, Read, Ended}
+use Rattle.pg_seq.specs.declared.answers.Arrival.TheVariants.{Taken, Double, Stranger}
+use Rattle.pg_rows.specs.declared.format.Format.{Format}
+use Rattle.pg_rows.specs.declared.format.Mode.TheVariants.{Rows, Count, List as Names, Quiet}
+use Rattle.pg_rows.specs.Output.{output, status, file_rows, Entry, Missed, Read, Ended}
 
 -- the fixed string of one byte
 abbrev text_of : ℕ → SearchText

@@ -6,8 +6,8 @@ use Rattle.pg_lines.specs.Lines.{lines, terminated}
 use Rattle.pg_lines.specs.Selection.{selects}
 use Rattle.pg_lines.specs.declared.run.Run.{Run}
 use Rattle.pg_lines.specs.declared.span.Span.{Span}
-use Rattle.pg_seq.specs.declared.format.Format.{Format}
-use Rattle.pg_seq.specs.declared.format.Mode.TheVariants.{Rows}
+use Rattle.pg_rows.specs.declared.format.Format.{Format}
+use Rattle.pg_rows.specs.declared.format.Mode.TheVariants.{Rows}
 
 abbrev pub bare : Format
 bare = record { names = false; numbers = false; mode = Rows; limit = None; before = None; after = None }

@@ -1,12 +1,13 @@
 -- What the calls of a reorder buffer do to it.
-use Rattle.std.specs.Prelude.{◌≡◌, ℕ, ◌+◌, ◌≤◌, true, ◌||◌, None, List, [], ◌∷◌, ◌++◌, length}
+use Rattle.std.specs.Prelude.{◌≡◌, ℕ, ◌+◌, ◌≤◌, true, ◌||◌, Some, None, List, [], ◌∷◌, ◌++◌, length}
 use Rattle.std.specs.List.{AllByRecursion}
 use Rattle.pg_lines.specs.Search.{Search, HasItsTrees}
 use Rattle.pg_lines.specs.Blocks.{BlockData}
 use Rattle.pg_lines.specs.Searched.{Searched}
-use Rattle.pg_seq.specs.Sink.{TakesPart}
-use Rattle.pg_seq.specs.Slots.{slot_block, has_result, slot_rows, slot_selects, arrival_among, with_result, IsResultOf}
-use Rattle.pg_seq.specs.declared.format.Arrival.{Arrival}
+use Rattle.pg_rows.specs.Sink.{TakesPart}
+use Rattle.pg_seq.specs.Slots.{slot_block, has_result, slot_rows, slot_selects, place_of, arrival_among, with_result}
+use Rattle.pg_seq.specs.Slots.{IsResultOf}
+use Rattle.pg_seq.specs.declared.answers.Arrival.{Arrival}
 use Rattle.pg_seq.specs.declared.slot.Slot.{Slot}
 use Rattle.pg_seq.specs.declared.reorder_buffer.ReorderBuffer.{ReorderBuffer}
 
@@ -17,6 +18,14 @@ pub record AreGone {A : Type 0} (buffer : ReorderBuffer A) (gone : List (Slot A)
 
 -- nothing but the room has changed
 pub record Keeps {A : Type 0} (old new : ReorderBuffer A) : Type 0 where
+  pub starts : new.starts.items ≡ old.starts.items
+  pub slots : new.slots.items ≡ old.slots.items
+  pub handed : new.handed ≡ old.handed
+  pub selected : new.selected ≡ old.selected
+
+-- a file comes that starts behind all announced blocks
+pub record OpensFile {A : Type 0} (old new : ReorderBuffer A) : Type 0 where
+  pub starts : new.starts.items ≡ old.starts.items ++ (old.handed + length old.slots.items) ∷ []
   pub slots : new.slots.items ≡ old.slots.items
   pub handed : new.handed ≡ old.handed
   pub selected : new.selected ≡ old.selected
@@ -26,6 +35,7 @@ pub record Pushes {A : Type 0} (block : BlockData) (old new : ReorderBuffer A) :
   pub slot : Slot A
   pub is : slot_block slot ≡ block
   pub empty : slot.result ≡ None
+  pub starts : new.starts.items ≡ old.starts.items
   pub slots : new.slots.items ≡ old.slots.items ++ slot ∷ []
   pub handed : new.handed ≡ old.handed
   pub selected : new.selected ≡ old.selected
@@ -33,12 +43,15 @@ pub record Pushes {A : Type 0} (block : BlockData) (old new : ReorderBuffer A) :
 -- a block of the query is this, by the slots that are held and those that were given up
 abbrev pub IsArrival : {A : Type 0} → ReorderBuffer A → BlockData → Arrival → Type 0
 IsArrival {A} buffer block arrival =
-    (gone : List (Slot A)) → AreGone buffer gone → arrival ≡ arrival_among (gone ++ buffer.slots.items) block
+    (gone : List (Slot A)) → AreGone buffer gone →
+    arrival ≡ arrival_among buffer.starts.items (gone ++ buffer.slots.items) block
 
 -- a result stands at its block's place
 pub record Puts {A : Type 0} (found : Searched) (old new : ReorderBuffer A) : Type 0 where
-  pub slots : (gone : List (Slot A)) → length gone ≡ old.handed → old.handed ≤ found.block.number →
-      gone ++ new.slots.items ≡ with_result (gone ++ old.slots.items) found.block.number found
+  pub starts : new.starts.items ≡ old.starts.items
+  pub slots : (gone : List (Slot A)) (k : ℕ) → length gone ≡ old.handed → old.handed ≤ k →
+      place_of old.starts.items (length (gone ++ old.slots.items)) found.block.file found.block.number ≡ Some k →
+      gone ++ new.slots.items ≡ with_result (gone ++ old.slots.items) k found
   pub handed : new.handed ≡ old.handed
   pub selected : new.selected ≡ old.selected
 
@@ -46,6 +59,7 @@ pub record Puts {A : Type 0} (found : Searched) (old new : ReorderBuffer A) : Ty
 -- for the query whose result it has.
 pub record HandsOut {A : Type 0} (old new : ReorderBuffer A) (before after : List ℕ) : Type 0 where
   pub slot : Slot A
+  pub starts : new.starts.items ≡ old.starts.items
   pub slots : old.slots.items ≡ slot ∷ new.slots.items
   pub some : has_result slot ≡ true
   pub handed : new.handed ≡ old.handed + 1

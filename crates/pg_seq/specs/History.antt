@@ -6,10 +6,10 @@ use Rattle.pg_lines.specs.Search.{Search}
 use Rattle.pg_lines.specs.Same.{same_text}
 use Rattle.pg_lines.specs.Blocks.{BlockData}
 use Rattle.pg_lines.specs.Searched.{Searched}
-use Rattle.pg_seq.specs.declared.format.Format.{Format}
-use Rattle.pg_seq.specs.declared.format.Arrival.{Arrival}
-use Rattle.pg_seq.specs.declared.format.Arrival.TheVariants.{Taken, Double, Stranger}
-use Rattle.pg_seq.specs.Output.{output, status}
+use Rattle.pg_rows.specs.declared.format.Format.{Format}
+use Rattle.pg_seq.specs.declared.answers.Arrival.{Arrival}
+use Rattle.pg_seq.specs.declared.answers.Arrival.TheVariants.{Taken, Double, Stranger}
+use Rattle.pg_rows.specs.Output.{output, status}
 use Rattle.pg_seq.specs.Plan.{Step, announced, entries_of, is_open}
 
 -- an accepted plan call, or an arrival

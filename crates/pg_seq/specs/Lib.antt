@@ -1,8 +1,5 @@
-pub mod Output
 pub mod Plan
 pub mod History
-pub mod Sink
-pub mod Trail
 pub mod Cursor
 pub mod Bare
 pub mod Slots

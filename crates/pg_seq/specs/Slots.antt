@@ -1,6 +1,6 @@
--- Announced blocks and their results.
-use Rattle.std.specs.Prelude.{◌≡◌, ℕ, zero, suc, ◌==◌, slice_get, Bool, false, is_some, Option, Some, None, IfSome}
-use Rattle.std.specs.Prelude.{List, [], ◌∷◌, if◌then◌else◌}
+-- Announced blocks, their places and their results.
+use Rattle.std.specs.Prelude.{◌≡◌, ℕ, zero, suc, ◌+◌, nat_lt, slice_get, Bool, false, ◌&&◌, is_some, Option, Some, None}
+use Rattle.std.specs.Prelude.{IfSome, List, [], ◌∷◌, length, get_or, if◌then◌else◌}
 use Rattle.std.specs.List.{prefix_len, list_any}
 use Rattle.std.specs.Str.{bytes_eq}
 use Rattle.std.specs.Arc.{arc_value}
@@ -11,9 +11,21 @@ use Rattle.pg_lines.specs.Selection.{selects}
 use Rattle.pg_lines.specs.Searched.{Searched}
 use Rattle.pg_seq.specs.History.{if_same}
 use Rattle.pg_seq.specs.Bare.{bare_rows}
-use Rattle.pg_seq.specs.declared.format.Arrival.{Arrival}
-use Rattle.pg_seq.specs.declared.format.Arrival.TheVariants.{Double, Stranger}
+use Rattle.pg_seq.specs.declared.answers.Arrival.{Arrival}
+use Rattle.pg_seq.specs.declared.answers.Arrival.TheVariants.{Double, Stranger}
 use Rattle.pg_seq.specs.declared.slot.Slot.{Slot}
+
+-- where a file's block stands among all announced blocks, by the files' starts and the number of all blocks
+abbrev pub place_of : List ℕ → ℕ → ℕ → ℕ → Option ℕ
+place_of starts total file number =
+    if nat_lt file (length starts) && nat_lt (get_or starts file 0 + number) (get_or starts (file + 1) total)
+    then Some (get_or starts file 0 + number)
+    else None
+
+-- what stands at a place
+abbrev pub at_place : {X : Type 0} → List X → Option ℕ → Option X
+at_place xs None = None
+at_place xs (Some k) = slice_get xs k
 
 abbrev pub slot_block : {A : Type 0} → Slot A → BlockData
 slot_block slot = arc_value slot.block
@@ -49,9 +61,9 @@ abbrev pub arrival_at_slot : {A : Type 0} → Option (Slot A) → BlockData → 
 arrival_at_slot None b = Stranger
 arrival_at_slot (Some slot) b = slot_arrival slot b
 
--- what a block of the query is, by the slots
-abbrev pub arrival_among : {A : Type 0} → List (Slot A) → BlockData → Arrival
-arrival_among slots b = if b.file == 0 then arrival_at_slot (slice_get slots b.number) b else Stranger
+-- what a block of the query is, by the files' starts and the slots of all announced blocks
+abbrev pub arrival_among : {A : Type 0} → List ℕ → List (Slot A) → BlockData → Arrival
+arrival_among starts slots b = arrival_at_slot (at_place slots (place_of starts (length slots) b.file b.number)) b
 
 -- the slots with a result at a place
 abbrev pub with_result : {A : Type 0} → List (Slot A) → ℕ → Searched → List (Slot A)

@@ -3,11 +3,11 @@ ghost use Rattle.std.specs.Prelude.{◌≡◌, List, false};
 ghost use Rattle.std.specs.List.{Contains};
 ghost use Rattle.pg_lines.specs.Search.{terminator};
 ghost use Rattle.pg_lines.specs.Searched.{Searched};
-ghost use Rattle.pg_seq.specs.Output.{Entry, HasRoom, output};
+ghost use Rattle.pg_rows.specs.Output.{Entry, HasRoom, output};
 ghost use Rattle.pg_seq.specs.Plan.{IsPlan, Begins, announced};
 ghost use Rattle.pg_seq.specs.History.{Past, plan, handed, answer, is_taken, taken_of};
-ghost use Rattle.pg_seq.specs.Sink.{IsBeginning};
-ghost use Rattle.pg_seq.specs.declared.format.Arrival.TheVariants.{Taken};
+ghost use Rattle.pg_rows.specs.Sink.{IsBeginning};
+ghost use Rattle.pg_seq.specs.declared.answers.Arrival.TheVariants.{Taken};
 
 /// What may be handed out is a beginning of the output of every list of files that the plan begins.
 pub fn handed_out_begins()

@@ -1,52 +1,111 @@
 //! Results that wait for those of the blocks before them.
 ghost use Rattle.std.specs.Prelude.{◌≡◌, ◌+◌, ◌<◌, ◌≤◌, ◌^◌, ◌||◌, [], false, IfOk, OnOk, OnErr, MatchBool, length};
+ghost use Rattle.std.specs.Prelude.{get_or};
 ghost use Rattle.std.specs.List.{AllByRecursion, list_all, list_any};
 ghost use Rattle.std.specs.Arc.{arc_value};
+ghost use Rattle.pg_seq.specs.Slots.{place_of};
 
-use crate::format::Arrival;
+use crate::answers::Arrival;
 use crate::rows::write_rows;
-use crate::sink::{Sink, WriteError};
 use crate::slot::Slot;
 use pg_lines::{Block, BlockResult};
+use pg_rows::{Sink, WriteError};
 use std::alloc::{AllocError, Allocator, Global};
 use std::collections::VecDeque;
 use std::sync::Arc;
 
-/// The announced blocks of a file whose rows weren't handed out yet, in their order, and the
-/// results that have come.
+/// The announced blocks whose rows weren't handed out yet, in their order, and the results that
+/// have come.
 ///
 /// A block and its result are given up once its rows were handed out. What stays is the count.
+///
+/// Counts of blocks have 128 bits: files may have 2^62 blocks each, so 64 bits don't hold those of
+/// all files.
 #[derive(Drop)]
 pub(crate) struct ReorderBuffer<A: Allocator = Global> {
+    /// How many blocks were announced before each file that was opened, in the files' order.
+    starts: Vec<u128, A>,
     slots: VecDeque<Slot<A>, A>,
     /// How many blocks were handed out. They stand before the slots.
-    handed: u64,
+    handed: u128,
     /// Whether one of these has a selected line.
     selected: bool,
-    ghost small: { handed + length slots.items ≤ 2 ^ 62 },
+    ghost small: { handed + length slots.items ≤ 2 ^ 94 },
+}
+
+/// Where the file behind a file starts among all announced blocks, or how many blocks there are.
+fn stop_of(starts: &[u128], total: u128, file: usize) -> u128
+    requires { file < length starts.now }
+    ensures { result ≡ get_or starts.now (file + 1) total }
+{
+    if file + 1 < starts.len() {
+        starts[file + 1]
+    } else {
+        total
+    }
+}
+
+/// Where a file's block stands among all announced blocks, by the files' starts and the number of
+/// all blocks.
+fn place_in(starts: &[u128], total: u128, file: u32, number: u64) -> Option<u128>
+    ensures { result ≡ place_of starts.now total file number }
+{
+    let file = file as usize;
+    if file >= starts.len() {
+        return None;
+    }
+    let start = starts[file];
+    let stop = stop_of(starts, total, file);
+    if u128::from(number) < stop.saturating_sub(start) {
+        Some(start + u128::from(number))
+    } else {
+        None
+    }
 }
 
 impl<A: Allocator> ReorderBuffer<A> {
     ghost use Rattle.pg_lines.specs.Search.{Search, HasItsTrees};
     ghost use Rattle.pg_seq.specs.Slots.{IsResultOf, has_result, slot_selects, ready};
-    ghost use Rattle.pg_seq.specs.Buffer.{Keeps, Pushes, IsArrival, Puts, HandsOut, HandsPart};
+    ghost use Rattle.pg_seq.specs.Buffer.{Keeps, OpensFile, Pushes, IsArrival, Puts, HandsOut, HandsPart};
 
-    /// A buffer without blocks.
+    /// A buffer without files and blocks.
     pub(crate) fn new(alloc: A) -> ReorderBuffer<A>
+    where
+        A: Copy,
+        ensures starts { result.starts.items ≡ [] }
         ensures slots { result.slots.items ≡ [] }
         ensures handed { result.handed ≡ 0 }
         ensures selected { result.selected ≡ false }
     {
         ReorderBuffer {
+            starts: Vec::new(alloc),
             slots: VecDeque::new(alloc),
             handed: 0,
             selected: false,
         }
     }
 
-    /// Appends the next block. A refused request for memory is the only error, and changes nothing.
+    /// How many blocks were announced.
+    fn announced(&self) -> u128
+        ensures { result ≡ self.now.handed + length self.now.slots.items }
+    {
+        self.handed + self.slots.len() as u128
+    }
+
+    /// The next file starts behind all announced blocks. A refused request for memory is the only
+    /// error, and changes nothing.
+    pub(crate) fn open_file(&mut self) -> Result<(), AllocError>
+        ensures ok { OnOk result (OpensFile self.old self.new) }
+        ensures err { OnErr result (Keeps self.old self.new) }
+    {
+        let start = self.announced();
+        self.starts.push(start)?;
+        Ok(())
+    }
+
+    /// Appends the next block of the last file. A refused request for memory is the only error, and changes nothing.
     pub(crate) fn push(&mut self, block: Arc<Block<A>, A>) -> Result<(), AllocError>
-        requires { self.old.handed + length self.old.slots.items < 2 ^ 62 }
+        requires { self.old.handed + length self.old.slots.items < 2 ^ 94 }
         ensures ok { OnOk result (Pushes (arc_value block) self.old self.new) }
         ensures err { OnErr result (Keeps self.old self.new) }
     {
@@ -57,20 +116,28 @@ impl<A: Allocator> ReorderBuffer<A> {
         Ok(())
     }
 
+    /// Where a file's block stands among all announced blocks.
+    fn place_of(&self, file: u32, number: u64) -> Option<u128>
+        ensures { result ≡ place_of self.now.starts.items (self.now.handed + length self.now.slots.items) file number }
+    {
+        place_in(self.starts.as_slice(), self.announced(), file, number)
+    }
+
     /// What a block of the sequencer's query is.
     pub(crate) fn arrival_of(&self, block: &Block<A>) -> Arrival
         ensures { IsArrival self.now block.now result }
     {
-        if block.file != 0 {
+        let Some(place) = self.place_of(block.file, block.number) else {
             return Arrival::Stranger;
-        }
-        if block.number < self.handed {
+        };
+        if place < self.handed {
             return Arrival::Double;
         }
-        match self.slots.get((block.number - self.handed) as usize) {
-            Some(slot) => slot.arrival_of(block),
-            None => Arrival::Stranger,
+        let at = place - self.handed;
+        if at >= self.slots.len() as u128 {
+            return Arrival::Stranger;
         }
+        self.slots[at as usize].arrival_of(block)
     }
 
     /// Keeps a result at its block's place.
@@ -78,13 +145,15 @@ impl<A: Allocator> ReorderBuffer<A> {
         ensures { Puts found self.old self.new }
     {
         let block: &Block<A> = found.block();
-        let number = block.number;
-        if number < self.handed {
+        let Some(place) = self.place_of(block.file, block.number) else {
+            return;
+        };
+        if place < self.handed {
             return;
         }
-        let at = (number - self.handed) as usize;
-        if at < self.slots.len() {
-            self.slots[at].result = Some(found);
+        let at = place - self.handed;
+        if at < self.slots.len() as u128 {
+            self.slots[at as usize].result = Some(found);
         }
     }
 

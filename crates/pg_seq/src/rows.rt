@@ -1,37 +1,13 @@
 //! Plain rows: selected lines, each with its terminator.
-ghost use Rattle.std.specs.Prelude.{◌≡◌, ◌++◌, ◌<◌, ◌≤◌, [], ◌∷◌, OnOk, OnErr, if◌then◌else◌, EachIndex, get_or};
-ghost use Rattle.pg_lines.specs.Lines.{lines, terminated};
+ghost use Rattle.std.specs.Prelude.{◌≡◌, ◌++◌, ◌<◌, ◌≤◌, OnOk, OnErr, EachIndex, get_or};
 ghost use Rattle.pg_lines.specs.Search.{Search, HasItsTrees};
 ghost use Rattle.std.specs.List.{flat_map};
 ghost use Rattle.pg_seq.specs.Bare.{bare_rows, rows_of_run, no_run, IsWithin};
-ghost use Rattle.pg_seq.specs.Sink.{TakesPart};
+ghost use Rattle.pg_rows.specs.Sink.{TakesPart};
 
-use crate::sink::{Sink, WriteError, write_all};
 use pg_lines::{Block, BlockResult, Query, Run};
+use pg_rows::{Sink, WriteError, write_bare_lines};
 use std::alloc::Allocator;
-
-/// Whether the last of some lines lacks its terminator.
-fn is_incomplete(end: u8, text: &[u8]) -> bool
-    ensures { terminated end (lines end text.now) ≡ (if result then text.now ++ end ∷ [] else text.now) }
-{
-    !text.is_empty() && text[text.len() - 1] != end
-}
-
-/// Writes some lines. A last one without a terminator gets one.
-fn write_lines<W: Sink>(out: &mut W, end: u8, text: &[u8]) -> Result<(), WriteError>
-    ensures all { OnOk result (W.taken out.new ≡ W.taken out.old ++ terminated end (lines end text.now)) }
-    ensures part { OnErr result (TakesPart (terminated end (lines end text.now)) (W.taken out.old) (W.taken out.new)) }
-    ensures failure { OnErr result (W.failures out.old < W.failures out.new) }
-    ensures no_failure { OnOk result (W.failures out.new ≡ W.failures out.old) }
-    ensures never_falls { W.failures out.old ≤ W.failures out.new }
-{
-    write_all(out, text)?;
-    if is_incomplete(end, text) {
-        write_all(out, &[end])
-    } else {
-        Ok(())
-    }
-}
 
 /// Writes the lines of some runs.
 fn write_runs<W: Sink>(out: &mut W, end: u8, bytes: &[u8], runs: &[Run]) -> Result<(), WriteError>
@@ -44,7 +20,7 @@ fn write_runs<W: Sink>(out: &mut W, end: u8, bytes: &[u8], runs: &[Run]) -> Resu
     ensures never_falls { W.failures out.old ≤ W.failures out.new }
 {
     for run in runs {
-        write_lines(out, end, run.span.of(bytes))?;
+        write_bare_lines(out, end, run.span.of(bytes))?;
     }
     Ok(())
 }

@@ -3,10 +3,10 @@ ghost use Rattle.std.specs.Prelude.{◌≡◌, ℕ, ◌<◌, ◌≤◌, ◌++◌
 ghost use Rattle.std.specs.Prelude.{MatchOption};
 ghost use Rattle.std.specs.Arc.{arc_value};
 
-use crate::format::{Arrival, Format, SinkFault};
+use crate::answers::{Arrival, SinkFault};
 use crate::reorder_buffer::ReorderBuffer;
-use crate::sink::{Sink, WriteError};
 use pg_lines::{Block, BlockResult, Query};
+use pg_rows::{Format, Sink, WriteError};
 use std::alloc::{AllocError, Allocator, Global};
 use std::sync::Arc;
 
@@ -17,11 +17,10 @@ use std::sync::Arc;
 /// results have come. Blocks and results are given up once their rows were written, so what is held
 /// doesn't grow with the file.
 ///
-/// So far the rows are plain, and one file can be opened: contracts say where.
+/// So far the rows are plain: the contract of `new` says so.
 #[derive(Drop)]
 pub struct Sequencer<A: Allocator = Global> {
     query: Arc<Query<A>, A>,
-    opened: u32,
     running: bool,
     bad: bool,
     buffer: ReorderBuffer<A>,
@@ -30,11 +29,11 @@ pub struct Sequencer<A: Allocator = Global> {
 
 impl<A: Allocator> Sequencer<A> {
     ghost use Rattle.pg_lines.specs.Search.{Pattern, AreTreesOf, search_of, terminator};
-    ghost use Rattle.pg_seq.specs.Plan.{opened, Opens, Announces, Ends, Misses, MayFollow};
+    ghost use Rattle.pg_seq.specs.Plan.{Opens, Announces, Ends, Misses, MayFollow};
     ghost use Rattle.pg_seq.specs.History.{Past, start, planned, arrived, plan, answer, IsComplete, status_of};
     ghost use Rattle.pg_seq.specs.Bare.{bare};
     ghost use Rattle.pg_seq.specs.Standing.{Stands, IsReadyFor, Drained, drained};
-    ghost use Rattle.pg_seq.specs.declared.format.SinkFault.TheVariants.{WriteFailed};
+    ghost use Rattle.pg_seq.specs.declared.answers.SinkFault.TheVariants.{WriteFailed};
 
     /// A sequencer to which nothing happened, for the results of a query.
     ///
@@ -45,6 +44,8 @@ impl<A: Allocator> Sequencer<A> {
         query: Arc<Query<A>, A>,
         format: Format,
     ) -> Result<Sequencer<A>, AllocError>
+    where
+        A: Copy,
         requires format { format ≡ bare }
         requires query { (arc_value query).text.pieces ≡ false }
         ensures { IfOk result (λ s. (trees : List Pattern) → AreTreesOf (arc_value query).text trees →
@@ -53,7 +54,6 @@ impl<A: Allocator> Sequencer<A> {
         let _ = format;
         Ok(Sequencer {
             query,
-            opened: 0,
             running: false,
             bad: false,
             buffer: ReorderBuffer::new(alloc),
@@ -61,25 +61,25 @@ impl<A: Allocator> Sequencer<A> {
         })
     }
 
-    /// Opens a file, which gets the next number from 0. No file is open and none was opened before.
+    /// Opens a file, which gets the next number from 0. No file is open, and at most 2^32 - 2 files
+    /// were opened before.
     ///
     /// A refused request for memory is the only error, and changes nothing.
     pub fn open(&mut self, name: &[u8]) -> Result<(), AllocError>
-        requires { (past : Past) × Stands self.old past × MayFollow (terminator past.query) (plan past) (Opens name.now)
-            × (opened (plan past) ≡ 0) }
+        requires { (past : Past) × IsReadyFor self.old past (Opens name.now) }
         ensures ok { (past : Past) → Stands self.old past →
             OnOk result (Stands self.new (planned past (Opens name.now))) }
         ensures err { (past : Past) → Stands self.old past → OnErr result (Stands self.new past) }
     {
         let _ = name;
-        self.opened = 1;
+        self.buffer.open_file()?;
         self.running = true;
         Ok(())
     }
 
     /// Announces the open file's next block.
     ///
-    /// It has the file's number and the number of blocks announced before, and bytes that aren't
+    /// It has the file's number and the number of the file's blocks announced before, and bytes that aren't
     /// empty; the blocks before it end in the terminator; its lines have at most 2^30 bytes, and the
     /// file at most 2^62. A refused request for memory is the only error, and changes nothing.
     pub fn announce(&mut self, block: Arc<Block<A>, A>) -> Result<(), AllocError>

@@ -2,7 +2,7 @@
 ghost use Rattle.std.specs.Prelude.{◌≡◌};
 ghost use Rattle.pg_seq.specs.Slots.{TellsSelected, slot_arrival};
 
-use crate::format::Arrival;
+use crate::answers::Arrival;
 use pg_lines::{Block, BlockResult};
 use std::alloc::{Allocator, Global};
 use std::sync::Arc;

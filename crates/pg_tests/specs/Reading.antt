@@ -1,5 +1,5 @@
 -- How the sequencer of a test stands.
-use Rattle.std.specs.Prelude.{◌≡◌, ℕ, ◌*◌, true, length}
+use Rattle.std.specs.Prelude.{◌≡◌, ℕ, ◌+◌, ◌*◌, true, length}
 use Rattle.std.specs.List.{AllByRecursion}
 use Rattle.pg_lines.specs.Blocks.{EndsWith, joined}
 use Rattle.pg_lines.specs.Search.{terminator}
@@ -8,13 +8,13 @@ use Rattle.pg_seq.specs.History.{Past, plan}
 use Rattle.pg_seq.specs.Standing.{Stands}
 use Rattle.pg_seq.specs.declared.sequencer.Sequencer.{Sequencer}
 
--- Lines end with newlines, the sequencer's one file is open, and so many blocks of it were announced, each a line of
+-- Lines end with newlines, the file of this number is open, and so many blocks of it were announced, each a line of
 -- three bytes.
-pub record IsReading {A : Type 0} (s : Sequencer A) (count : ℕ) : Type 0 where
+pub record IsReading {A : Type 0} (s : Sequencer A) (file count : ℕ) : Type 0 where
   pub past : Past
   pub stands : Stands s past
   pub running : is_open (plan past) ≡ true
-  pub one : opened (plan past) ≡ 1
+  pub last : opened (plan past) ≡ file + 1
   pub ends : terminator past.query ≡ 10
   pub number : length (last_blocks (plan past)) ≡ count
   pub seam : AllByRecursion (λ b. EndsWith 10 b.bytes) (last_blocks (plan past))

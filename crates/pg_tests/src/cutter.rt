@@ -112,7 +112,7 @@ fn refused_search(rt: HostRuntime) -> Result<(), Fail> {
         let Ok(query) = query_of(&heap, b"b") else {
             continue;
         };
-        let found = search(&heap, &query, 0, b"b\na\nb\na\nb\na\nb\na\nb\na\nb\n");
+        let found = search(&heap, &query, 0, 0, b"b\na\nb\na\nb\na\nb\na\nb\na\nb\n");
         if !heap.has_refused() {
             assert_eq!(rt; found?.runs().len(), 6);
             assert!(rt;

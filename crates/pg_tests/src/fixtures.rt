@@ -45,17 +45,18 @@ pub(crate) fn query_of<A: Allocator + Copy>(
     }
 }
 
-/// What a search finds in a block of file 0, of at most 100 bytes.
+/// What a search finds in a block of at most 100 bytes.
 pub(crate) fn search<A: Allocator + Copy>(
     alloc: A,
     query: &Arc<Query<A>, A>,
+    file: u32,
     number: u64,
     bytes: &[u8],
 ) -> Result<BlockResult<A>, AllocError>
     requires { length bytes.now ≤ 100 }
 {
     let block = Block {
-        file: 0,
+        file,
         number,
         bytes: Vec::from_slice(alloc, bytes)?,
     };

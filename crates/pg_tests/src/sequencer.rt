@@ -1,5 +1,5 @@
 //! Results that arrive in any order, sinks that fail, and requests for memory that are refused.
-ghost use Rattle.std.specs.Prelude.{◌≡◌, ◌+◌, ◌<◌, IfOk, OnOk, false};
+ghost use Rattle.std.specs.Prelude.{◌≡◌, ℕ, ◌+◌, ◌<◌, ◌≤◌, length, IfOk, OnOk, false};
 ghost use Rattle.std.specs.Arc.{arc_value};
 ghost use Rattle.pg_tests.specs.Reading.{IsReading};
 
@@ -32,7 +32,7 @@ fn open_file<A: Allocator + Copy>(
 ) -> Result<Sequencer<A>, AllocError>
     requires pieces { (arc_value query.now).text.pieces ≡ false }
     requires zero { (arc_value query.now).text.zero ≡ false }
-    ensures { IfOk result (λ sequencer. IsReading sequencer 0) }
+    ensures { IfOk result (λ sequencer. IsReading sequencer 0 0) }
 {
     let searched: &Query<A> = query;
     let _compiled = searched.text();
@@ -41,20 +41,41 @@ fn open_file<A: Allocator + Copy>(
     Ok(sequencer)
 }
 
+/// Ends the open file and opens the next one, and opens it again where a request for memory is
+/// refused. The answer says whether one was.
+fn open_next<A: Allocator + Copy>(
+    sequencer: &mut Sequencer<A>,
+    file: u32,
+) -> Result<bool, AllocError>
+    requires reading { (count : ℕ) × IsReading sequencer.old file count }
+    requires few { file < 100 }
+    ensures { OnOk result (IsReading sequencer.new (file + 1) 0) }
+{
+    sequencer.end(false);
+    match sequencer.open(b"f") {
+        Ok(()) => Ok(false),
+        Err(AllocError) => {
+            sequencer.open(b"f")?;
+            Ok(true)
+        }
+    }
+}
+
 /// Announces the next block, which is a line of `x` and a letter, and announces it again where a
 /// request for memory is refused. The answer says whether one was.
 fn announce_line<A: Allocator + Copy>(
     alloc: A,
     sequencer: &mut Sequencer<A>,
+    file: u32,
     number: u64,
     letter: u8,
 ) -> Result<bool, AllocError>
-    requires reading { IsReading sequencer.old number }
+    requires reading { IsReading sequencer.old file number }
     requires few { number < 100 }
-    ensures { OnOk result (IsReading sequencer.new (number + 1)) }
+    ensures { OnOk result (IsReading sequencer.new file (number + 1)) }
 {
     let block = Block {
-        file: 0,
+        file,
         number,
         bytes: Vec::from_slice(alloc, &[b'x', letter, b'\n'])?,
     };
@@ -69,34 +90,48 @@ fn announce_line<A: Allocator + Copy>(
     }
 }
 
-/// A sequencer with a file of three blocks, `xa`, `xb` and `xc`, which has ended, and whether a
-/// request for memory of an announcement was refused.
+/// A sequencer with files that have ended, and whether a request for memory of an announcement or
+/// of an opening was refused. A letter is a block, the line of `x` and the letter, and `|` stands
+/// between two files.
 fn plan_lines<A: Allocator + Copy>(
     alloc: A,
     query: &Arc<Query<A>, A>,
+    letters: &[u8],
 ) -> Result<(Sequencer<A>, bool), AllocError>
     requires pieces { (arc_value query.now).text.pieces ≡ false }
     requires zero { (arc_value query.now).text.zero ≡ false }
+    requires few { length letters.now ≤ 100 }
 {
     let mut sequencer = open_file(alloc, query)?;
-    let first = announce_line(alloc, &mut sequencer, 0, b'a')?;
-    let second = announce_line(alloc, &mut sequencer, 1, b'b')?;
-    let third = announce_line(alloc, &mut sequencer, 2, b'c')?;
+    let mut again = false;
+    let mut file = 0;
+    let mut number = 0;
+    for letter in letters {
+        if *letter == b'|' {
+            again |= open_next(&mut sequencer, file)?;
+            file += 1;
+            number = 0;
+        } else {
+            again |= announce_line(alloc, &mut sequencer, file, number, *letter)?;
+            number += 1;
+        }
+    }
     sequencer.end(false);
-    Ok((sequencer, first || second || third))
+    Ok((sequencer, again))
 }
 
 /// What a search finds in a block that is a line of `x` and a letter.
 fn search_line<A: Allocator + Copy>(
     alloc: A,
     query: &Arc<Query<A>, A>,
+    file: u32,
     number: u64,
     letter: u8,
 ) -> Result<BlockResult<A>, AllocError> {
-    search(alloc, query, number, &[b'x', letter, b'\n'])
+    search(alloc, query, file, number, &[b'x', letter, b'\n'])
 }
 
-/// The results of the three blocks arrive, the last one first.
+/// The results of the three blocks `xa`, `xb` and `xc` of a file arrive, the last one first.
 fn arrive_all<A: Allocator + Copy>(
     rt: &impl Abort,
     alloc: A,
@@ -104,7 +139,7 @@ fn arrive_all<A: Allocator + Copy>(
     sequencer: &mut Sequencer<A>,
 ) -> Result<(), AllocError> {
     for (number, letter) in [(2, b'c'), (1, b'b'), (0, b'a')] {
-        let found = search_line(alloc, query, number, letter)?;
+        let found = search_line(alloc, query, 0, number, letter)?;
         assert_eq!(rt; sequencer.arrive(found), Arrival::Taken);
     }
     Ok(())
@@ -132,7 +167,7 @@ fn results_arrive_in_any_order(rt: HostRuntime) -> Result<(), Fail> {
     let alloc = rt.alloc();
     let query = query_of(alloc, b"x")?;
     let other = query_of(alloc, b"b")?;
-    let (mut sequencer, _) = plan_lines(alloc, &query)?;
+    let (mut sequencer, _) = plan_lines(alloc, &query, b"abc")?;
     let mut sink = MemSink::new(alloc, 100)?;
     let arrivals: [(&Arc<Query>, u64, u8, Arrival, &[u8]); 7] = [
         (&query, 2, b'c', Arrival::Taken, b""),
@@ -144,7 +179,7 @@ fn results_arrive_in_any_order(rt: HostRuntime) -> Result<(), Fail> {
         (&query, 1, b'b', Arrival::Taken, OUTPUT),
     ];
     for (asked, number, letter, arrival, written) in arrivals {
-        let found = search_line(alloc, asked, number, letter)?;
+        let found = search_line(alloc, asked, 0, number, letter)?;
         assert_arrival(&rt, &mut sequencer, &mut sink, found, arrival, written);
     }
     assert!(rt; sequencer.complete());
@@ -152,10 +187,70 @@ fn results_arrive_in_any_order(rt: HostRuntime) -> Result<(), Fail> {
     Ok(())
 }
 
+/// File, number and letter of a block, what its result is, and what a drain has written then.
+type Row = (u32, u64, u8, Arrival, &'static [u8]);
+
+/// Results for files arrive as the rows say. With the last one all is written.
+fn assert_rows<A: Allocator + Copy>(
+    rt: &impl Abort,
+    alloc: A,
+    letters: &[u8],
+    rows: &[Row],
+) -> Result<(), AllocError>
+    requires { length letters.now ≤ 100 }
+{
+    let query = query_of(alloc, b"x")?;
+    let (mut sequencer, _) = plan_lines(alloc, &query, letters)?;
+    let mut sink = MemSink::new(alloc, 100)?;
+    for (file, number, letter, arrival, written) in rows {
+        let found = search_line(alloc, &query, *file, *number, *letter)?;
+        assert_arrival(rt, &mut sequencer, &mut sink, found, *arrival, written);
+    }
+    assert_eq!(rt; sink.bytes(), OUTPUT);
+    assert!(rt; sequencer.complete());
+    assert_eq!(rt; sequencer.status(), Some(0));
+    Ok(())
+}
+
+#[test]
+fn blocks_of_two_files(rt: HostRuntime) -> Result<(), Fail> {
+    let rows: [Row; 7] = [
+        // The first file has no second block, the one at this place is the next file's.
+        (0, 1, b'b', Arrival::Stranger, b""),
+        (1, 1, b'c', Arrival::Taken, b""),
+        (1, 0, b'b', Arrival::Taken, b""),
+        (1, 0, b'b', Arrival::Double, b""),
+        (2, 0, b'a', Arrival::Stranger, b""),
+        (0, 0, b'b', Arrival::Stranger, b""),
+        (0, 0, b'a', Arrival::Taken, OUTPUT),
+    ];
+    assert_rows(&rt, rt.alloc(), b"a|bc", &rows)?;
+    Ok(())
+}
+
+#[test]
+fn blocks_around_an_empty_file(rt: HostRuntime) -> Result<(), Fail> {
+    let rows: [Row; 9] = [
+        // The second file has no block, and the first one has two.
+        (1, 0, b'c', Arrival::Stranger, b""),
+        (0, 2, b'c', Arrival::Stranger, b""),
+        (2, 0, b'c', Arrival::Taken, b""),
+        (1, 0, b'c', Arrival::Stranger, b""),
+        (0, 0, b'a', Arrival::Taken, b"xa\n"),
+        // Its block was given up.
+        (0, 0, b'a', Arrival::Double, b"xa\n"),
+        (3, 0, b'c', Arrival::Stranger, b"xa\n"),
+        (2, 1, b'c', Arrival::Stranger, b"xa\n"),
+        (0, 1, b'b', Arrival::Taken, OUTPUT),
+    ];
+    assert_rows(&rt, rt.alloc(), b"ab||c", &rows)?;
+    Ok(())
+}
+
 #[test]
 fn nothing_is_selected(rt: HostRuntime) -> Result<(), Fail> {
     let query = query_of(rt.alloc(), b"q")?;
-    let (mut sequencer, _) = plan_lines(rt.alloc(), &query)?;
+    let (mut sequencer, _) = plan_lines(rt.alloc(), &query, b"abc")?;
     let mut sink = MemSink::new(rt.alloc(), 100)?;
     arrive_all(&rt, rt.alloc(), &query, &mut sequencer)?;
     assert_eq!(rt; sequencer.drain(&mut sink), Ok(()));
@@ -183,7 +278,7 @@ fn finish_plan<A: Allocator + Copy>(
     alloc: A,
 ) -> Result<(Sequencer<A>, bool), AllocError> {
     let query = query_of(alloc, b"x")?;
-    let (mut sequencer, again) = plan_lines(alloc, &query)?;
+    let (mut sequencer, again) = plan_lines(alloc, &query, b"abc")?;
     arrive_all(rt, alloc, &query, &mut sequencer)?;
     Ok((sequencer, again))
 }

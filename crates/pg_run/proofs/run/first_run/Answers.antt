@@ -4,9 +4,9 @@ use Rattle.std.proofs.lemmas.List.{append-nil}
 use Rattle.pg_lines.specs.Search.{search_of, terminator_of}
 use Rattle.pg_lines.specs.Queries.{Compiled}
 use Rattle.pg_seq.specs.Bare.{bare}
-use Rattle.pg_seq.specs.Output.{Read, Ended, status}
-use Rattle.pg_seq.specs.Sink.{TakesPart}
-use Rattle.pg_seq.proofs.SinkLemmas.{on_err}
+use Rattle.pg_rows.specs.Output.{Read, Ended, status}
+use Rattle.pg_rows.specs.Sink.{TakesPart}
+use Rattle.pg_rows.proofs.SinkLemmas.{on_err}
 use Rattle.pg_run.specs.Run.{Aim, aimed, output_of}
 use Rattle.pg_run.specs.declared.fault.RunFault.TheVariants.{TooLong}
 use Rattle.pg_run.proofs.ReadLemmas.{reads_new}

@@ -2,8 +2,8 @@ use Rattle.std.proofs.Common.{◌∙◌, ◌++◌, ◌≤◌, ◌^◌, List, ℕ
 use Rattle.std.proofs.Common.{length-append, take}
 use Rattle.std.proofs.lemmas.List.{append-nil, length-take-le}
 use Rattle.pg_lines.specs.Search.{terminator}
-use Rattle.pg_seq.specs.Sink.{TakesPart}
-use Rattle.pg_seq.proofs.SinkLemmas.{on_err}
+use Rattle.pg_rows.specs.Sink.{TakesPart}
+use Rattle.pg_rows.proofs.SinkLemmas.{on_err}
 use Rattle.pg_run.specs.Run.{Reads, IsTooLong, aimed, output_of}
 use Rattle.pg_run.proofs.ReadLemmas.{reads_on, reads_piece, reads_part, reads_few, line_too_long, file_too_long}
 use Rattle.pg_run.proofs.HoldLemmas.{cut_long}

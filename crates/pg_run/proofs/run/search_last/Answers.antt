@@ -1,6 +1,6 @@
 use Rattle.std.proofs.Common.{[]}
 use Rattle.pg_run.proofs.ReadLemmas.{last_in_reads, last_part, searched_last, searched_none}
-use Rattle.pg_seq.proofs.SinkLemmas.{on_ok, on_err_too}
+use Rattle.pg_rows.proofs.SinkLemmas.{on_ok, on_err_too}
 use Rattle.pg_run.proofs.run.search_last.Goals as goal
 
 pub search-requires : goal.search-requires

@@ -1,6 +1,6 @@
 use Rattle.std.proofs.Common.{◌∙◌, refl}
-use Rattle.pg_seq.specs.Sink.{TakesPart}
-use Rattle.pg_seq.proofs.SinkLemmas.{on_err}
+use Rattle.pg_rows.specs.Sink.{TakesPart}
+use Rattle.pg_rows.proofs.SinkLemmas.{on_err}
 use Rattle.pg_run.specs.Run.{output_of}
 use Rattle.pg_run.proofs.ReadLemmas.{next_in_reads, reads_more, reads_none, next_part}
 use Rattle.pg_run.proofs.run.search_ready.Goals as goal

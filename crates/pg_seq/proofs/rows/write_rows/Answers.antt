@@ -3,7 +3,7 @@ use Rattle.std.specs.List.{flat_map}
 use Rattle.pg_lines.specs.Blocks.{BlockData}
 use Rattle.pg_lines.specs.Search.{search_of, terminator_of}
 use Rattle.pg_lines.specs.Queries.{Compiled}
-use Rattle.pg_seq.specs.Sink.{TakesPart}
+use Rattle.pg_rows.specs.Sink.{TakesPart}
 use Rattle.pg_seq.specs.Bare.{rows_of_run, no_run}
 use Rattle.pg_seq.proofs.BareLemmas.{runs_of, rows_of_block, run_within}
 use Rattle.pg_seq.proofs.rows.write_rows.Goals as goal

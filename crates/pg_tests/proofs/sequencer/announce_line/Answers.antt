@@ -11,41 +11,47 @@ use Rattle.pg_tests.proofs.sequencer.announce_line.Goals as goal
 pub returns-in-Ok : goal.returns-in-Ok
 returns-in-Ok g c =
     let r = c.requires.reading in
-    let of_bytes : List ℕ → BlockData = λ bytes. record { file = 0; number = c.args.number; bytes = bytes } in
-    let b : arc_value c.in_ok-block.block ≡ line_block c.args.number c.args.letter = c.in_ok-block.ensures.ok ∙ ap of_bytes c.in_ok-from_slice.ensures.items in
+    let of_bytes : List ℕ → BlockData = λ bytes. record { file = c.args.file; number = c.args.number; bytes = bytes } in
+    let b : arc_value c.in_ok-block.block ≡ line_block c.args.file c.args.number c.args.letter =
+    c.in_ok-block.ensures.ok ∙ ap of_bytes c.in_ok-from_slice.ensures.items in
     let M : BlockData → Type 0 = λ x. Stands c.announce.new.self (planned r.past (Announces x)) in
     let F : BlockData → Type 0 = λ x. MayFollow (terminator r.past.query) (plan r.past) (Announces x) in
-    let may = subst F (sym b) (may_announce c.args.sequencer.now c.args.number c.args.letter r c.requires.few) in
-    announced c.args.sequencer.now c.announce.new.self c.args.number c.args.letter r (subst M b (c.in-Ok.ensures.ok r.past r.stands may))
+    let may = subst F (sym b)
+    (may_announce c.args.sequencer.now c.args.file c.args.number c.args.letter r c.requires.few) in
+    announced c.args.sequencer.now c.announce.new.self c.args.file c.args.number c.args.letter r
+    (subst M b (c.in-Ok.ensures.ok r.past r.stands may))
 
 pub returns-in_ok-announce-in-Err : goal.returns-in_ok-announce-in-Err
 returns-in_ok-announce-in-Err g c =
     let r = c.requires.reading in
-    let of_bytes : List ℕ → BlockData = λ bytes. record { file = 0; number = c.args.number; bytes = bytes } in
-    let b : arc_value c.in_ok-again.again ≡ line_block c.args.number c.args.letter =
+    let of_bytes : List ℕ → BlockData = λ bytes. record { file = c.args.file; number = c.args.number; bytes = bytes } in
+    let b : arc_value c.in_ok-again.again ≡ line_block c.args.file c.args.number c.args.letter =
     c.in_ok-again.ensures ∙ (c.in_ok-block.ensures.ok ∙ ap of_bytes c.in_ok-from_slice.ensures.items) in
     let M : BlockData → Type 0 = λ x. Stands c.announce-in-Err.new.self (planned r.past (Announces x)) in
     let F : BlockData → Type 0 = λ x. MayFollow (terminator r.past.query) (plan r.past) (Announces x) in
-    let may = subst F (sym b) (may_announce c.args.sequencer.now c.args.number c.args.letter r c.requires.few) in
-    announced c.args.sequencer.now c.announce-in-Err.new.self c.args.number c.args.letter r
+    let may = subst F (sym b)
+    (may_announce c.args.sequencer.now c.args.file c.args.number c.args.letter r c.requires.few) in
+    announced c.args.sequencer.now c.announce-in-Err.new.self c.args.file c.args.number c.args.letter r
     (subst M b (c.in_ok-announce-in-Err.ensures.ok r.past (c.in-Err.ensures.err r.past r.stands) may))
 
 pub announce-requires : goal.announce-requires
 announce-requires g c =
     let r = c.requires.reading in
-    let of_bytes : List ℕ → BlockData = λ bytes. record { file = 0; number = c.args.number; bytes = bytes } in
-    let b : arc_value c.in_ok-block.block ≡ line_block c.args.number c.args.letter =
+    let of_bytes : List ℕ → BlockData = λ bytes. record { file = c.args.file; number = c.args.number; bytes = bytes } in
+    let b : arc_value c.in_ok-block.block ≡ line_block c.args.file c.args.number c.args.letter =
     c.in_ok-block.ensures.ok ∙ ap of_bytes c.in_ok-from_slice.ensures.items in
     let F : BlockData → Type 0 = λ x. MayFollow (terminator r.past.query) (plan r.past) (Announces x) in
-    let may = subst F (sym b) (may_announce c.args.sequencer.now c.args.number c.args.letter r c.requires.few) in
+    let may = subst F (sym b)
+    (may_announce c.args.sequencer.now c.args.file c.args.number c.args.letter r c.requires.few) in
     (r.past, (r.stands, may))
 
 pub announce-requires-in-Err : goal.announce-requires-in-Err
 announce-requires-in-Err g c =
     let r = c.requires.reading in
-    let of_bytes : List ℕ → BlockData = λ bytes. record { file = 0; number = c.args.number; bytes = bytes } in
-    let b : arc_value c.in_ok-again.again ≡ line_block c.args.number c.args.letter =
+    let of_bytes : List ℕ → BlockData = λ bytes. record { file = c.args.file; number = c.args.number; bytes = bytes } in
+    let b : arc_value c.in_ok-again.again ≡ line_block c.args.file c.args.number c.args.letter =
     c.in_ok-again.ensures ∙ (c.in_ok-block.ensures.ok ∙ ap of_bytes c.in_ok-from_slice.ensures.items) in
     let F : BlockData → Type 0 = λ x. MayFollow (terminator r.past.query) (plan r.past) (Announces x) in
-    let may = subst F (sym b) (may_announce c.args.sequencer.now c.args.number c.args.letter r c.requires.few) in
+    let may = subst F (sym b)
+    (may_announce c.args.sequencer.now c.args.file c.args.number c.args.letter r c.requires.few) in
     (r.past, (c.in-Err.ensures.err r.past r.stands, may))

@@ -1,7 +1,7 @@
 use Rattle.std.proofs.Common.{◌∙◌, ◌<◌, ◌++◌, ap, refl}
 use Rattle.pg_seq.specs.Bare.{bare_rows}
-use Rattle.pg_seq.specs.Sink.{TakesPart}
-use Rattle.pg_seq.proofs.SinkLemmas.{on_err}
+use Rattle.pg_rows.specs.Sink.{TakesPart}
+use Rattle.pg_rows.proofs.SinkLemmas.{on_err}
 use Rattle.pg_run.proofs.HoldLemmas.{drain_all, drain_part, drain_cause}
 use Rattle.pg_run.proofs.searcher.Searcher.drain.Goals as goal
 

@@ -1,10 +1,10 @@
 use Rattle.std.proofs.Common.{◌∙◌, ◌++◌, ◌||◌, not, ap, sym, subst, refl, is_some, Option, drop, arith}
 use Rattle.pg_lines.specs.Search.{Search, HasItsTrees}
 use Rattle.pg_lines.specs.Searched.{Searched}
-use Rattle.pg_seq.specs.Sink.{TakesPart}
+use Rattle.pg_rows.specs.Sink.{TakesPart}
 use Rattle.pg_seq.specs.Buffer.{HandsPart, Keeps}
 use Rattle.pg_seq.specs.Slots.{result_selects, rows_of, slot_rows, IsResultOf}
-use Rattle.pg_seq.proofs.SinkLemmas.{on_err}
+use Rattle.pg_rows.proofs.SinkLemmas.{on_err}
 use Rattle.pg_seq.proofs.BareLemmas.{runs_of, some_runs}
 use Rattle.pg_seq.proofs.SlotLemmas.{first_slot, query_of}
 use Rattle.pg_seq.proofs.reorder_buffer.ReorderBuffer.hand_out.Goals as goal
@@ -14,6 +14,7 @@ returns-clause-ok g c =
     let found = c.in-Some-result.found in
     let s = c.args.self.now in
     record {
+      starts = refl;
       slot = c.in-Some.slot.now;
       slots = first_slot s.slots.items c.pop_front.new.self.items c.in-Some.slot.now (omega (arith, c.in-Some.ensures.variant.0 refl, s.slots.ok.0)) c.in-Some.ensures.lookup c.pop_front.ensures.rest;
       some = ap (λ o. is_some o) c.in-Some-result.is;
@@ -49,5 +50,5 @@ returns-in_err-write_rows-clause-part g c =
         some = ap (λ o. is_some o) c.in-Some-result.is;
         part = part;
       },
-      record { slots = refl; handed = refl; selected = refl },
+      record { starts = refl; slots = refl; handed = refl; selected = refl },
     )

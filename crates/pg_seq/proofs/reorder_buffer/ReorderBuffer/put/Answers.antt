@@ -1,17 +1,24 @@
 use Rattle.std.proofs.Common.{◌≡◌, ◌∙◌, ◌-◌, ap, refl, arith, length-append}
 use Rattle.pg_lines.specs.Blocks.{BlockData}
-use Rattle.pg_seq.proofs.ArriveLemmas.{with_behind, with_past}
+use Rattle.pg_seq.proofs.ArriveLemmas.{with_behind, with_past, place_same}
 use Rattle.pg_seq.proofs.reorder_buffer.ReorderBuffer.put.Goals as goal
 
 pub returns-then-at-len : goal.returns-then-at-len
 returns-then-at-len g c =
     let s = c.args.self.now in
-    let k = c.block-2.inside.number in
-    let number : k ≡ c.args.found.block.number = ap (λ (p : BlockData). p.number) (c.block-2.view_is ∙ (c.deref-block.ensures ∙ c.block.ensures)) in
+    let place = c.in-Some.place in
+    let file : c.block-2.inside.file ≡ c.args.found.block.file =
+    ap (λ (b : BlockData). b.file) (c.block-2.view_is ∙ (c.deref-block.ensures ∙ c.block.ensures)) in
+    let number : c.block-2.inside.number ≡ c.args.found.block.number =
+    ap (λ (b : BlockData). b.number) (c.block-2.view_is ∙ (c.deref-block.ensures ∙ c.block.ensures)) in
     record {
-      slots = λ gone count behind.
-          with_behind gone s.slots.items (k - s.handed) c.args.found.block.number c.index_mut.result.now c.args.found
-          (omega (arith, number, count, c.if-number-self.false)) (omega (arith, c.if-at-len.true, c.len.ensures, s.slots.ok.0)) c.index_mut.ensures.value;
+      starts = refl;
+      slots = λ gone k count behind is.
+          let same : place ≡ k = place_same s.starts.items _ _ _ _ _ _ place k c.in-Some.ensures
+          (omega (arith, length-append gone s.slots.items, count)) file number is in
+          with_behind gone s.slots.items (place - s.handed) k c.index_mut.result.now c.args.found
+          (omega (arith, same, count, c.if-place-self.false)) (omega (arith, c.if-at-len.true, c.len.ensures))
+          c.index_mut.ensures.value;
       handed = refl;
       selected = refl;
     }
@@ -19,11 +26,18 @@ returns-then-at-len g c =
 pub returns-else-at-len : goal.returns-else-at-len
 returns-else-at-len g c =
     let s = c.args.self.now in
-    let k = c.block-2.inside.number in
-    let number : k ≡ c.args.found.block.number = ap (λ (p : BlockData). p.number) (c.block-2.view_is ∙ (c.deref-block.ensures ∙ c.block.ensures)) in
+    let place = c.in-Some.place in
+    let file : c.block-2.inside.file ≡ c.args.found.block.file =
+    ap (λ (b : BlockData). b.file) (c.block-2.view_is ∙ (c.deref-block.ensures ∙ c.block.ensures)) in
+    let number : c.block-2.inside.number ≡ c.args.found.block.number =
+    ap (λ (b : BlockData). b.number) (c.block-2.view_is ∙ (c.deref-block.ensures ∙ c.block.ensures)) in
     record {
-      slots = λ gone count behind.
-          with_past _ c.args.found.block.number c.args.found (omega (arith, number, count, c.if-at-len.false, c.len.ensures, s.slots.ok.0, behind, length-append gone s.slots.items));
+      starts = refl;
+      slots = λ gone k count behind is.
+          let same : place ≡ k = place_same s.starts.items _ _ _ _ _ _ place k c.in-Some.ensures
+          (omega (arith, length-append gone s.slots.items, count)) file number is in
+          with_past _ k c.args.found
+          (omega (arith, same, count, c.if-at-len.false, c.len.ensures, behind, length-append gone s.slots.items));
       handed = refl;
       selected = refl;
     }

@@ -1,11 +1,12 @@
 use Rattle.std.proofs.Common.{refl, sym}
-use Rattle.pg_seq.specs.declared.format.Arrival.TheVariants.{Double, Stranger}
+use Rattle.pg_seq.specs.declared.answers.Arrival.TheVariants.{Double, Stranger}
 use Rattle.pg_seq.proofs.StandLemmas.{kept_stands, taken_stands}
 use Rattle.pg_seq.proofs.sequencer.Sequencer.arrive.Goals as goal
 
 pub returns-in-Taken-clause-stands : goal.returns-in-Taken-clause-stands
 returns-in-Taken-clause-stands g c = λ past h.
-    taken_stands c.args.self.now _ past c.args.found h (sym (c.in-Taken.ensures past h)) (record { query = refl; opened = refl; running = refl; bad = refl }) refl c.put.ensures
+    taken_stands c.args.self.now _ past c.args.found h (sym (c.in-Taken.ensures past h))
+    (record { query = refl; running = refl; bad = refl }) refl c.put.ensures
 
 pub returns-in-Double-clause-stands : goal.returns-in-Double-clause-stands
 returns-in-Double-clause-stands g c = λ past h. kept_stands c.args.self.now past c.args.found Double h (sym (c.in-Double.ensures past h)) (λ e. cc)

@@ -4,7 +4,7 @@ use Rattle.std.specs.Bool.{MatchBool}
 use Rattle.std.proofs.lemmas.Bool.{false≢true}
 use Rattle.std.proofs.lemmas.List.{append-nil}
 use Rattle.pg_seq.specs.History.{handed}
-use Rattle.pg_seq.specs.Sink.{IsBeginning}
+use Rattle.pg_rows.specs.Sink.{IsBeginning}
 use Rattle.pg_seq.specs.Slots.{slot_rows}
 use Rattle.pg_seq.specs.Standing.{Stands}
 use Rattle.pg_seq.proofs.StandLemmas.{wrote, then_wrote, first_result, all_handed, part_of, part_handed}
@@ -32,7 +32,7 @@ loop-self-init g c = record {
   drains = λ past h.
       let P : List ℕ → Type 0 = λ w. Stands c.args.self.now (record past { written = w }) in
       ([], sym (append-nil (g.W.Sink.taken c.args.out.now)), subst P (sym (append-nil past.written)) h);
-  alike = record { query = refl; opened = refl; running = refl; bad = refl };
+  alike = record { query = refl; running = refl; bad = refl };
   unfailed = c.if-self.false;
   no_failure = refl;
 }
@@ -56,9 +56,9 @@ loop-self-preserved g c =
                 ∙ (ap (λ w. w ++ rows) d.1 ∙ append_assoc (g.W.Sink.taken c.args.out.now) d.0 rows),
             then_wrote _ past d.0 rows past.failed
                 (handed_stands s _ (wrote past d.0) _ _ d.2
-                (record { query = refl; opened = refl; running = refl; bad = refl }) refl o),
+                (record { query = refl; running = refl; bad = refl }) refl o),
           );
-      alike = record { query = i.alike.query; opened = i.alike.opened; running = i.alike.running; bad = i.alike.bad };
+      alike = record { query = i.alike.query; running = i.alike.running; bad = i.alike.bad };
       unfailed = i.unfailed;
       no_failure = c.in-Ok-true.ensures.no_failure ∙ i.no_failure;
     }
@@ -73,7 +73,7 @@ returns-in-Ok-false-clause-drained g c = λ past h.
       o.2 ∙ d.1,
       (h.failed ∙ c.if-self.false, all_handed s (wrote past d.0) d.2 i.unfailed o.0),
       idle_stands s _ (wrote past d.0) (past.failed || false) d.2
-          (record { query = refl; opened = refl; running = refl; bad = refl }) o.1 refl
+          (record { query = refl; running = refl; bad = refl }) o.1 refl
           (or_false past.failed ∙ d.2.failed),
     )
 
@@ -99,7 +99,7 @@ returns-in-Err-clause-drained g c = λ past h.
       (h.failed ∙ c.if-self.false, (b.0, ap (λ w. w ++ b.0) (sym (append_assoc past.written d.0 more)) ∙ b.1)),
       then_wrote _ past d.0 more (past.failed || true)
           (failed_stands s _ (wrote past d.0) more (past.failed || true) d.2
-          (record { query = refl; opened = refl; running = refl; bad = refl }) p.1 refl (or_true past.failed)),
+          (record { query = refl; running = refl; bad = refl }) p.1 refl (or_true past.failed)),
     )
 
 pub returns-in-Err-clause-cause : goal.returns-in-Err-clause-cause

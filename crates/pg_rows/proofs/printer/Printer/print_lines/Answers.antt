@@ -1,0 +1,99 @@
+use Rattle.std.proofs.Common.{◌≡◌, ℕ, ◌+◌, ◌-◌, ◌≤◌, true, List, ◌++◌, length, take, drop, refl, sym, ap, ◌∙◌, subst}
+use Rattle.std.proofs.Common.{arith}
+use Rattle.std.proofs.lemmas.List.{take_rest}
+use Rattle.pg_lines.specs.Search.{Search, terminator}
+use Rattle.pg_lines.specs.Lines.{lines}
+use Rattle.pg_rows.specs.declared.printer.Printer.{Printer}
+use Rattle.pg_rows.specs.Sink.{TakesPart}
+use Rattle.pg_rows.specs.Trail.{run_rows}
+use Rattle.pg_rows.specs.Window.{held}
+use Rattle.pg_rows.specs.Printing.{rows_of_passed}
+use Rattle.pg_rows.specs.Remembered.{Remembers, ComesLast}
+use Rattle.pg_rows.proofs.SinkLemmas.{on_err}
+use Rattle.pg_rows.proofs.PrintLemmas.{at_last}
+use Rattle.pg_rows.proofs.RunSteps.{failed_before}
+use Rattle.pg_rows.proofs.PrinterSteps.{behind_last, follows}
+use Rattle.pg_rows.proofs.printer.Printer.print_lines.Goals as goal
+
+pub returns-in_err-stop-clause-part : goal.returns-in_err-stop-clause-part
+returns-in_err-stop-clause-part g c q format cur r shows has =
+    let a = c.args in
+    let s = a.self.now in
+    let place = c.in_ok-place.place in
+    let h = c.in_ok-place.ensures.all q format cur r shows has in
+    let text = drop place.at a.bytes.now in
+    let cut = take (length a.bytes.now - place.at) text in
+    let whole : cut ≡ text = take_rest a.bytes.now place.at in
+    let count : a.total - place.seen ≡ length (lines s.end text) =
+    let all = h.here.count in let total = has.total in let same = ap (λ e. length (lines e text)) r.end_is in omega
+    arith in
+    let start = g.W.Sink.taken a.out.now in
+    let middle = g.W.Sink.taken c.print_runs.new.out in
+    let after = g.W.Sink.taken c.print_passed.new.out in
+    let rows = λ (p : Printer g.row.A.Denot) (t : List ℕ). rows_of_passed p.format p.end p.prefix place.progress
+    (lines p.end t) in
+    let same : rows c.print_runs.new.self cut ≡ rows s text =
+    ap (λ p. rows p cut) c.in_ok-place.ensures.same ∙ ap (rows s) whole in
+    let k = behind_last s q format cur a.bytes.now start middle place c.pass-last.result (a.total - place.seen) r h
+    c.pass-last.ensures.fields count in
+    let hidden = held (terminator q) s.window in
+    let ls = lines (terminator q) text in
+    let P : List ℕ → Type 0 = λ t. TakesPart t middle after in
+    on_err (TakesPart (run_rows q format cur.name cur.earlier cur.trail (lines (terminator q) a.bytes.now)) start after)
+    c.from_residual-in_err-stop.result
+    (failed_before q format cur hidden (hidden ++ drop place.progress.countdown ls) a.bytes.now start middle
+    (rows s text)
+    after place.progress c.pass-last.result place.at place.seen (length a.bytes.now) (place.seen + length ls) h.here k
+    (subst P same c.in_err-stop.ensures.part))
+
+pub returns-clause-all : goal.returns-clause-all
+returns-clause-all g c q format cur r shows has =
+    let a = c.args in
+    let s = a.self.now in
+    let place = c.in_ok-place.place in
+    let h = c.in_ok-place.ensures.all q format cur r shows has in
+    let text = drop place.at a.bytes.now in
+    let cut = take (length a.bytes.now - place.at) text in
+    let whole : cut ≡ text = take_rest a.bytes.now place.at in
+    let count : a.total - place.seen ≡ length (lines s.end text) =
+    let all = h.here.count in let total = has.total in let same = ap (λ e. length (lines e text)) r.end_is in omega
+    arith in
+    let start = g.W.Sink.taken a.out.now in
+    let middle = g.W.Sink.taken c.print_runs.new.out in
+    let after = g.W.Sink.taken c.print_passed.new.out in
+    let rows = λ (p : Printer g.row.A.Denot) (t : List ℕ). rows_of_passed p.format p.end p.prefix place.progress
+    (lines p.end t) in
+    let same : rows c.print_runs.new.self cut ≡ rows s text =
+    ap (λ p. rows p cut) c.in_ok-place.ensures.same ∙ ap (rows s) whole in
+    let k = behind_last s q format cur a.bytes.now start middle place c.pass-last.result (a.total - place.seen) r h
+    c.pass-last.ensures.fields count in
+    let hidden = held (terminator q) s.window in
+    let ls = lines (terminator q) text in
+    c.in_ok-stop.ensures.all ∙ (ap (λ t. middle ++ t) same
+    ∙ (at_last q format cur (hidden ++ drop place.progress.countdown ls) a.bytes.now start (middle ++ rows s text)
+    c.pass-last.result (length a.bytes.now) (place.seen + length ls) k refl).0)
+
+pub returns-clause-follows : goal.returns-clause-follows
+returns-clause-follows g c q format cur r shows has =
+    let a = c.args in
+    let s = a.self.now in
+    let place = c.in_ok-place.place in
+    let h = c.in_ok-place.ensures.all q format cur r shows has in
+    let text = drop place.at a.bytes.now in
+    let cut = take (length a.bytes.now - place.at) text in
+    let whole : cut ≡ text = take_rest a.bytes.now place.at in
+    let count : a.total - place.seen ≡ length (lines s.end text) =
+    let all = h.here.count in let total = has.total in let same = ap (λ e. length (lines e text)) r.end_is in omega
+    arith in
+    let start = g.W.Sink.taken a.out.now in
+    let middle = g.W.Sink.taken c.print_runs.new.out in
+    let after = g.W.Sink.taken c.print_passed.new.out in
+    let stop = c.in_ok-stop.stop in
+    let P : Printer g.row.A.Denot → Type 0 = λ p. lines p.end (drop stop cut)
+    ≡ drop place.progress.countdown (lines p.end cut) in
+    let Q : List ℕ → Type 0 = λ t. lines s.end (drop stop t) ≡ drop place.progress.countdown (lines s.end t) in
+    let R : List ℕ → Type 0 = λ t. stop ≤ length t in
+    follows s q format cur a.bytes.now start middle place c.pass-last.result (a.total - place.seen) stop
+    c.saturating_sub.result r shows h c.pass-last.ensures.fields count
+    (subst Q whole (subst P c.in_ok-place.ensures.same c.in_ok-stop.ensures.rest))
+    (subst R whole c.in_ok-stop.ensures.within) c.saturating_sub.ensures

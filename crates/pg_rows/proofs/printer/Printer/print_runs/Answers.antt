@@ -1,0 +1,235 @@
+use Rattle.std.proofs.Common.{◌≡◌, ℕ, ◌+◌, ◌-◌, ◌<◌, ◌≤◌, inl, inr, true, List, [], ◌++◌, length, drop, get_or}
+use Rattle.std.proofs.Common.{slice_range}
+use Rattle.std.proofs.Common.{refl, sym, ap, ◌∙◌, subst, arith}
+use Rattle.std.proofs.lemmas.List.{drop_all, length-take-le}
+use Rattle.pg_lines.specs.Search.{Search, terminator}
+use Rattle.pg_lines.specs.Lines.{lines}
+use Rattle.pg_lines.specs.declared.run.Run.{Run}
+use Rattle.pg_rows.specs.declared.format.Format.{Format}
+use Rattle.pg_rows.specs.declared.printer.Printer.{Printer}
+use Rattle.pg_rows.specs.Output.{is_below}
+use Rattle.pg_rows.specs.Cursor.{Cursor}
+use Rattle.pg_rows.specs.Sink.{TakesPart}
+use Rattle.pg_rows.specs.Trail.{run_rows}
+use Rattle.pg_rows.specs.Window.{held}
+use Rattle.pg_rows.specs.Progress.{kept_of}
+use Rattle.pg_rows.specs.Printing.{ComesNext}
+use Rattle.pg_rows.specs.Remembered.{Remembers, HasLines, ComesLast, shows_lines}
+use Rattle.pg_rows.proofs.SinkLemmas.{on_err}
+use Rattle.pg_rows.proofs.BlockLemmas.{no_run, none_full}
+use Rattle.pg_rows.proofs.RunSteps.{IsBefore, failed_before}
+use Rattle.pg_rows.proofs.PrinterSteps.{before_all, CanStep, can_step, IsStep, step_rows, stepped, comes_last}
+use Rattle.pg_rows.proofs.PrinterSteps.{stops, ends_some}
+use Rattle.pg_rows.proofs.printer.Printer.print_runs.Goals as goal
+
+pub loop-run-init : goal.loop-run-init
+loop-run-init g c = record {
+  same = refl;
+  no_failure = refl;
+  number = omega arith;
+  fresh = λ e. refl;
+  kept = λ some. absurd (omega (arith, some));
+  comes = λ q format cur r shows has.
+      before_all c.args.self.now q format cur c.args.bytes.now (g.W.Sink.taken c.args.out.now) c.args.runs.now
+      c.args.total
+      r shows has;
+}
+
+pub step-next-requires-clause-next : goal.step-next-requires-clause-next
+step-next-requires-clause-next g c =
+    let w = c.requires.stands in
+    let l = c.loop-run in
+    let here = get_or c.args.runs.now l.run-index no_run in
+    let P : Printer g.row.A.Denot → Type 0 = λ s. Remembers s w.0 w.1 w.2 in
+    let r = subst P (sym l.invariant.same) w.3 in
+    let can = can_step l.self w.0 w.1 w.2 c.args.bytes.now (g.W.Sink.taken c.args.out.now) (g.W.Sink.taken l.out)
+    l.place
+    c.args.runs.now l.run-index c.args.total c.keeps-count.result r w.5 (l.invariant.comes w.0 w.1 w.2 r w.4 w.5)
+    c.loop-run-test.true c.keeps-count.ensures c.if-count-eq0.false in
+    can.next
+
+pub step-next-requires-clause-room : goal.step-next-requires-clause-room
+step-next-requires-clause-room g c =
+    let w = c.requires.stands in
+    let l = c.loop-run in
+    let here = get_or c.args.runs.now l.run-index no_run in
+    let P : Printer g.row.A.Denot → Type 0 = λ s. Remembers s w.0 w.1 w.2 in
+    let r = subst P (sym l.invariant.same) w.3 in
+    let can = can_step l.self w.0 w.1 w.2 c.args.bytes.now (g.W.Sink.taken c.args.out.now) (g.W.Sink.taken l.out)
+    l.place
+    c.args.runs.now l.run-index c.args.total c.keeps-count.result r w.5 (l.invariant.comes w.0 w.1 w.2 r w.4 w.5)
+    c.loop-run-test.true c.keeps-count.ensures c.if-count-eq0.false in
+    let few = can.few in
+    let room = can.room in
+    let fits = c.ranges.total.fits in
+    omega arith
+
+pub step-next-requires-clause-small : goal.step-next-requires-clause-small
+step-next-requires-clause-small g c =
+    let w = c.requires.stands in
+    let l = c.loop-run in
+    let here = get_or c.args.runs.now l.run-index no_run in
+    let P : Printer g.row.A.Denot → Type 0 = λ s. Remembers s w.0 w.1 w.2 in
+    let r = subst P (sym l.invariant.same) w.3 in
+    let can = can_step l.self w.0 w.1 w.2 c.args.bytes.now (g.W.Sink.taken c.args.out.now) (g.W.Sink.taken l.out)
+    l.place
+    c.args.runs.now l.run-index c.args.total c.keeps-count.result r w.5 (l.invariant.comes w.0 w.1 w.2 r w.4 w.5)
+    c.loop-run-test.true c.keeps-count.ensures c.if-count-eq0.false in
+    let few = can.few in
+    let room = can.room in
+    let gap = can.next.gap in
+    let number = l.invariant.number in
+    let small = c.requires.small in
+    omega arith
+
+pub print_step-requires-clause-next : goal.print_step-requires-clause-next
+print_step-requires-clause-next g c =
+    let w = c.requires.stands in
+    let l = c.loop-run in
+    let here = get_or c.args.runs.now l.run-index no_run in
+    let P : Printer g.row.A.Denot → Type 0 = λ s. Remembers s w.0 w.1 w.2 in
+    let r = subst P (sym l.invariant.same) w.3 in
+    let can = can_step l.self w.0 w.1 w.2 c.args.bytes.now (g.W.Sink.taken c.args.out.now) (g.W.Sink.taken l.out)
+    l.place
+    c.args.runs.now l.run-index c.args.total c.keeps-count.result r w.5 (l.invariant.comes w.0 w.1 w.2 r w.4 w.5)
+    c.loop-run-test.true c.keeps-count.ensures c.if-count-eq0.false in
+    can.next
+
+pub print_step-requires-clause-small : goal.print_step-requires-clause-small
+print_step-requires-clause-small g c =
+    let w = c.requires.stands in
+    let l = c.loop-run in
+    let here = get_or c.args.runs.now l.run-index no_run in
+    let P : Printer g.row.A.Denot → Type 0 = λ s. Remembers s w.0 w.1 w.2 in
+    let r = subst P (sym l.invariant.same) w.3 in
+    let can = can_step l.self w.0 w.1 w.2 c.args.bytes.now (g.W.Sink.taken c.args.out.now) (g.W.Sink.taken l.out)
+    l.place
+    c.args.runs.now l.run-index c.args.total c.keeps-count.result r w.5 (l.invariant.comes w.0 w.1 w.2 r w.4 w.5)
+    c.loop-run-test.true c.keeps-count.ensures c.if-count-eq0.false in
+    let few = can.few in
+    let room = can.room in
+    let gap = can.next.gap in
+    let number = l.invariant.number in
+    let small = c.requires.small in
+    let passes = c.step-next.ensures.passed.number in
+    let ls = lines l.self.end (slice_range c.args.bytes.now here.span.start here.span.end) in
+    let cut = ap (λ xs. length xs) c.step-next.ensures.ends.kept ∙ length-take-le c.keeps-count.result ls
+    (omega (arith, can.next.count)) in
+    omega arith
+
+pub returns-then-count-eq0-clause-all : goal.returns-then-count-eq0-clause-all
+returns-then-count-eq0-clause-all g c q format cur r shows has =
+    let l = c.loop-run in
+    let a = c.args in
+    let start = g.W.Sink.taken a.out.now in
+    let P : Printer g.row.A.Denot → Type 0 = λ s. Remembers s q format cur in
+    let r' = subst P (sym l.invariant.same) r in
+    let h = l.invariant.comes q format cur r' shows has in
+    let Q : Printer g.row.A.Denot → Type 0 = λ s. ComesLast q format cur (held (terminator q) s.window) a.bytes.now
+    start
+    (g.W.Sink.taken l.out) s.progress l.place in
+    let full = stops l.self q format cur a.bytes.now start (g.W.Sink.taken l.out) l.place a.runs.now l.run-index
+    c.keeps-count.result r' h c.loop-run-test.true c.keeps-count.ensures c.if-count-eq0.true in
+    subst Q l.invariant.same (comes_last l.self q format cur a.bytes.now start (g.W.Sink.taken l.out) l.place
+    (drop l.run-index a.runs.now) h (inr full)
+    (λ e. l.invariant.fresh e ∙ ap (λ s. s.progress) (sym l.invariant.same)) l.invariant.kept)
+
+pub returns-clause-all : goal.returns-clause-all
+returns-clause-all g c q format cur r shows has =
+    let l = c.loop-run in
+    let a = c.args in
+    let start = g.W.Sink.taken a.out.now in
+    let P : Printer g.row.A.Denot → Type 0 = λ s. Remembers s q format cur in
+    let r' = subst P (sym l.invariant.same) r in
+    let h = l.invariant.comes q format cur r' shows has in
+    let Q : Printer g.row.A.Denot → Type 0 = λ s. ComesLast q format cur (held (terminator q) s.window) a.bytes.now
+    start
+    (g.W.Sink.taken l.out) s.progress l.place in
+    let none : drop l.run-index a.runs.now ≡ [] = drop_all l.run-index a.runs.now c.loop-run-test.false in
+    subst Q l.invariant.same (comes_last l.self q format cur a.bytes.now start (g.W.Sink.taken l.out) l.place
+    (drop l.run-index a.runs.now) h (inl none)
+    (λ e. l.invariant.fresh e ∙ ap (λ s. s.progress) (sym l.invariant.same)) l.invariant.kept)
+
+pub returns-in_err-print_step-clause-part : goal.returns-in_err-print_step-clause-part
+returns-in_err-print_step-clause-part g c q format cur r shows has =
+    let l = c.loop-run in
+    let a = c.args in
+    let start = g.W.Sink.taken a.out.now in
+    let P : Printer g.row.A.Denot → Type 0 = λ s. Remembers s q format cur in
+    let r' = subst P (sym l.invariant.same) r in
+    let h = l.invariant.comes q format cur r' shows has in
+    let here = get_or a.runs.now l.run-index no_run in
+    let next = c.step-next.result in
+    let step : IsStep l.self a.bytes.now l.place here c.keeps-count.result next.passed next.place = record {
+      passes = c.step-next.ensures.passed;
+      keeps = c.step-next.ensures.kept;
+      ends = c.step-next.ensures.ends;
+      seen = c.step-next.ensures.seen;
+    } in
+    let k = stepped l.self q format cur a.bytes.now start (g.W.Sink.taken l.out) l.place next.place next.passed
+    a.runs.now
+    l.run-index c.keeps-count.result r' h c.loop-run-test.true c.keeps-count.ensures c.if-count-eq0.false step in
+    let more = step_rows l.self.format l.self.end l.self.prefix l.self.earlier l.self.window a.bytes.now l.place.at
+    here.span.start next.place.at l.place.progress next.passed in
+    let after = g.W.Sink.taken c.print_step.new.out in
+    let hidden = held (terminator q) l.self.window in
+    on_err (TakesPart (run_rows q format cur.name cur.earlier cur.trail (lines (terminator q) a.bytes.now)) start after)
+    c.from_residual.result
+    (failed_before q format cur hidden hidden a.bytes.now start (g.W.Sink.taken l.out) more after l.place.progress
+    next.place.progress l.place.at l.place.seen next.place.at next.place.seen h.here k.here
+    c.in_err-print_step.ensures.part)
+
+pub loop-run-preserved : goal.loop-run-preserved
+loop-run-preserved g c =
+    let w = c.requires.stands in
+    let l = c.loop-run in
+    let here = get_or c.args.runs.now l.run-index no_run in
+    let P : Printer g.row.A.Denot → Type 0 = λ s. Remembers s w.0 w.1 w.2 in
+    let r = subst P (sym l.invariant.same) w.3 in
+    let can = can_step l.self w.0 w.1 w.2 c.args.bytes.now (g.W.Sink.taken c.args.out.now) (g.W.Sink.taken l.out)
+    l.place
+    c.args.runs.now l.run-index c.args.total c.keeps-count.result r w.5 (l.invariant.comes w.0 w.1 w.2 r w.4 w.5)
+    c.loop-run-test.true c.keeps-count.ensures c.if-count-eq0.false in
+    let few = can.few in
+    let room = can.room in
+    let gap = can.next.gap in
+    let number = l.invariant.number in
+    let small = c.requires.small in
+    let passes = c.step-next.ensures.passed.number in
+    let keeps = c.step-next.ensures.kept.number in
+    let seen = c.step-next.ensures.seen in
+    let some : 0 < c.keeps-count.result = let ne = c.if-count-eq0.false in omega arith in
+    let place_some = ends_some l.self.end c.args.bytes.now here c.keeps-count.result c.step-next.result.place.at
+    c.step-next.ensures.ends can.next.count can.few some in
+    record {
+      same = c.in_ok-print_step.ensures.same ∙ l.invariant.same;
+      no_failure = c.in_ok-print_step.ensures.no_failure ∙ l.invariant.no_failure;
+      number = omega arith;
+      fresh = λ none. absurd (omega (arith, none, place_some));
+      kept = λ more. c.step-next.ensures.kept.behind;
+      comes = λ q format cur r0 shows has.
+          let a = c.args in
+          let start = g.W.Sink.taken a.out.now in
+          let R : Printer g.row.A.Denot → Type 0 = λ s. Remembers s q format cur in
+          let r' = subst R c.in_ok-print_step.ensures.same r0 in
+          let h = l.invariant.comes q format cur r' shows has in
+          let next = c.step-next.result in
+          let step : IsStep l.self a.bytes.now l.place here c.keeps-count.result next.passed next.place = record {
+            passes = c.step-next.ensures.passed;
+            keeps = c.step-next.ensures.kept;
+            ends = c.step-next.ensures.ends;
+            seen = c.step-next.ensures.seen;
+          } in
+          let k = stepped l.self q format cur a.bytes.now start (g.W.Sink.taken l.out) l.place next.place next.passed
+          a.runs.now
+          l.run-index c.keeps-count.result r' h c.loop-run-test.true c.keeps-count.ensures c.if-count-eq0.false step in
+          let more = step_rows l.self.format l.self.end l.self.prefix l.self.earlier l.self.window a.bytes.now
+          l.place.at
+          here.span.start next.place.at l.place.progress next.passed in
+          let S : List ℕ → Type 0 = λ t. IsBefore q format cur (held (terminator q) l.self.window) a.bytes.now start t
+          next.place.progress next.place.at next.place.seen (drop (l.run-index + 1) a.runs.now) in
+          let T : Printer g.row.A.Denot → Type 0 = λ s. IsBefore q format cur (held (terminator q) s.window) a.bytes.now
+          start (g.W.Sink.taken c.print_step.new.out) next.place.progress next.place.at next.place.seen
+          (drop (l.run-index + 1) a.runs.now) in
+          subst T (sym c.in_ok-print_step.ensures.same) (subst S (sym c.in_ok-print_step.ensures.all) k);
+    }

@@ -1,0 +1,102 @@
+use Rattle.std.proofs.Common.{◌≡◌, ◌+◌, ◌-◌, ◌<◌, ◌^◌, ◌++◌, List, ℕ, length, drop, subst, sym, ap, ◌∙◌, arith}
+use Rattle.std.proofs.Common.{refl, length-drop}
+use Rattle.std.specs.List.{AllByRecursion}
+use Rattle.circular_buffer.specs.Buffer.{keep_last}
+use Rattle.pg_rows.specs.declared.window.Tail.{Tail}
+use Rattle.pg_rows.specs.Sink.{TakesPart}
+use Rattle.pg_rows.specs.Stretch.{marked_rows}
+use Rattle.pg_rows.specs.Window.{lines_in, tail_lines, held, IsTail}
+use Rattle.pg_rows.proofs.SinkLemmas.{on_err}
+use Rattle.pg_rows.proofs.LeftLemmas.{TakesBut, left_whole, left_less, left_part}
+use Rattle.pg_rows.proofs.WindowLemmas.{shown_tails, shown_count}
+use Rattle.pg_rows.proofs.window.Window.write_last.Goals as goal
+
+pub loop-tail-init : goal.loop-tail-init
+loop-tail-init g c =
+    let a = c.args in
+    let w = a.self.now in
+    let items = c.into_iter-tail-iterator.ensures.into_iter_gives ∙ c.iter-tail-items.ensures.rest in
+    let all = held a.end w in
+    let skip = w.lines - a.count in
+    let same : length all - a.count ≡ skip = ap (λ n. n - a.count) (sym c.requires.window.counted) in
+    let left : length (drop skip all) ≡ a.count =
+    omega (arith, length-drop skip all, c.requires.window.counted, c.requires.within) in
+    let start = g.W.Sink.taken a.out.now in
+    let rows = marked_rows a.format.now a.end a.prefix.now 45 a.number in
+    let whole = rows (keep_last a.count all) in
+    let to = ap (λ n. rows (drop n all)) same ∙ ap (λ ts. rows (drop skip (lines_in a.end ts))) (sym items) in
+    let P : List ℕ → Type 0 = λ rest. TakesBut whole rest start start in
+    let Q : List (Tail g.row.A.Denot) → Type 0 = λ ts. AllByRecursion (IsTail a.end) ts in
+    let R : List (Tail g.row.A.Denot) → Type 0 = λ ts. a.number + length (drop skip (lines_in a.end ts)) < 2 ^ 64 in
+    record {
+      can_next = tt;
+      is_finite = tt;
+      each = subst Q (sym items) c.requires.window.each;
+      small = subst R (sym items) (omega (arith, left, c.requires.small));
+      prefix = refl;
+      left = subst P to (left_whole whole start);
+      no_failure = refl;
+    }
+
+pub returns-in_err-write_from-clause-part : goal.returns-in_err-write_from-clause-part
+returns-in_err-write_from-clause-part g c =
+    let a = c.args in
+    let l = c.loop-tail in
+    let t = c.in-Some.tail.now in
+    let ts = c.next.new.self in
+    let rows = λ (name : List ℕ) (n : ℕ) (ls : List (List ℕ)). marked_rows a.format.now a.end name 45 n ls in
+    let Q : List (Tail g.row.A.Denot) → Type 0 = λ xs. AllByRecursion (IsTail a.end) xs in
+    let each = subst Q c.in-Some.ensures.steps l.invariant.each in
+    let start = g.W.Sink.taken a.out.now in
+    let middle = g.W.Sink.taken l.out in
+    let after = g.W.Sink.taken c.write_from.new.out in
+    let first = drop l.skip (tail_lines a.end t) in
+    let later = drop (l.skip - t.lines) (lines_in a.end ts) in
+    let whole = rows a.prefix.now a.number (keep_last a.count (held a.end a.self.now)) in
+    let parted = ap (λ xs. rows a.prefix.now l.at (drop l.skip (lines_in a.end xs))) c.in-Some.ensures.steps
+    ∙ shown_tails a.format.now a.end a.prefix.now l.at l.skip t ts each.0 in
+    let P : List ℕ → Type 0 = λ name. TakesPart (rows name l.at first) middle after in
+    on_err (TakesPart whole start after) c.from_residual.result
+    (left_part whole (rows a.prefix.now l.at (drop l.skip (lines_in a.end l.tail-iterator)))
+    (rows a.prefix.now (l.at + (t.lines - l.skip)) later) (rows a.prefix.now l.at first) start middle after parted
+    (subst P l.invariant.prefix c.in_err-write_from.ensures.part) l.invariant.left)
+
+pub loop-tail-preserved : goal.loop-tail-preserved
+loop-tail-preserved g c =
+    let a = c.args in
+    let l = c.loop-tail in
+    let t = c.in-Some.tail.now in
+    let ts = c.next.new.self in
+    let rows = λ (name : List ℕ) (n : ℕ) (ls : List (List ℕ)). marked_rows a.format.now a.end name 45 n ls in
+    let Q : List (Tail g.row.A.Denot) → Type 0 = λ xs. AllByRecursion (IsTail a.end) xs in
+    let each = subst Q c.in-Some.ensures.steps l.invariant.each in
+    let start = g.W.Sink.taken a.out.now in
+    let middle = g.W.Sink.taken l.out in
+    let after = g.W.Sink.taken c.write_from.new.out in
+    let first = drop l.skip (tail_lines a.end t) in
+    let later = drop (l.skip - t.lines) (lines_in a.end ts) in
+    let whole = rows a.prefix.now a.number (keep_last a.count (held a.end a.self.now)) in
+    let parted = ap (λ xs. rows a.prefix.now l.at (drop l.skip (lines_in a.end xs))) c.in-Some.ensures.steps
+    ∙ shown_tails a.format.now a.end a.prefix.now l.at l.skip t ts each.0 in
+    let P : List ℕ → Type 0 = λ name. after ≡ middle ++ rows name l.at first in
+    let shown = sym c.saturating_sub.ensures in
+    let skipped = sym c.saturating_sub-skip.ensures in
+    let counted = ap (λ xs. length (drop l.skip (lines_in a.end xs))) c.in-Some.ensures.steps
+    ∙ shown_count a.end l.skip t ts each.0 in
+    let R : ℕ → Type 0 = λ n. TakesBut whole (rows a.prefix.now (l.at + n) later) start after in
+    let S : ℕ → Type 0 = λ n. TakesBut whole
+    (rows a.prefix.now (l.at + c.saturating_sub.result) (drop n (lines_in a.end ts))) start after in
+    let T : ℕ → Type 0 = λ n. l.at + n + length later < 2 ^ 64 in
+    let U : ℕ → Type 0 = λ n. l.at + c.saturating_sub.result + length (drop n (lines_in a.end ts)) < 2 ^ 64 in
+    record {
+      can_next = tt;
+      is_finite = tt;
+      each = each.1;
+      small = subst U skipped (subst T shown (omega (arith, counted, l.invariant.small)));
+      prefix = c.in_ok-write_from.ensures.same ∙ l.invariant.prefix;
+      left = subst S skipped (subst R shown (left_less whole
+          (rows a.prefix.now l.at (drop l.skip (lines_in a.end l.tail-iterator)))
+          (rows a.prefix.now (l.at + (t.lines - l.skip)) later) (rows a.prefix.now l.at first) start middle after parted
+          (subst P l.invariant.prefix c.in_ok-write_from.ensures.all) l.invariant.left));
+      no_failure = c.in_ok-write_from.ensures.no_failure ∙ l.invariant.no_failure;
+    }

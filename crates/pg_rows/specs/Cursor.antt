@@ -1,0 +1,30 @@
+-- Where the rows of a run stand: what is remembered of what was written, and what a block and a file's end add.
+use Rattle.std.specs.Prelude.{ℕ, nat_lt, Bool, false, if◌then◌else◌, List, [], ◌∷◌, ◌++◌}
+use Rattle.std.specs.Fmt.{decimal}
+use Rattle.pg_lines.specs.Search.{Search, terminator}
+use Rattle.pg_lines.specs.Lines.{lines}
+use Rattle.pg_rows.specs.declared.format.Format.{Format}
+use Rattle.pg_rows.specs.Output.{when}
+use Rattle.pg_rows.specs.Trail.{Trail, no_lines, run_rows, run_pieces}
+
+-- whether the run had a row before the file, the file's name, and what is remembered of its lines
+pub record Cursor : Type 0 where
+  pub earlier : Bool
+  pub name : List ℕ
+  pub trail : Trail
+
+abbrev pub at_start : Cursor
+at_start = record { earlier = false; name = []; trail = no_lines }
+
+-- the rows of a block
+abbrev pub block_rows : Search → Format → Cursor → List ℕ → List ℕ
+block_rows q format c bytes =
+    let ls = lines (terminator q) bytes in
+    if q.text.pieces then run_pieces q format c.name c.trail ls else run_rows q format c.name c.earlier c.trail ls
+
+-- the rows at a file's end
+abbrev pub counted : Format → Cursor → List ℕ
+counted format c = when format.names (c.name ++ 58 ∷ []) ++ decimal c.trail.kept ++ 10 ∷ []
+
+abbrev pub named : Format → Cursor → List ℕ
+named format c = when (nat_lt 0 c.trail.kept) (c.name ++ 10 ∷ [])

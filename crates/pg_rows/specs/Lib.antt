@@ -1,0 +1,10 @@
+pub mod Output
+pub mod Trail
+pub mod Stretch
+pub mod Progress
+pub mod Cursor
+pub mod Sink
+pub mod Printing
+pub mod Window
+pub mod Remembered
+pub mod Pieces

@@ -1,0 +1,163 @@
+-- What is written for files, and the exit status (XCU grep, STDOUT and EXIT STATUS; GNU grep for -m, -A, -B, -C, -o).
+use Rattle.std.specs.Prelude.{◌≡◌, ℕ, zero, suc, ◌+◌, nat_lt, nat_le, Bool, true, false, not, ◌&&◌, ◌||◌, if◌then◌else◌}
+use Rattle.std.specs.Prelude.{is_some, Option, Some, None, List, [], ◌∷◌, ◌++◌, length, take, slice_range}
+use Rattle.std.specs.Prelude.{slice_index_or, unwrap_or}
+use Rattle.std.specs.List.{list_any, filter, flat_map, range_with_len, count_by}
+use Rattle.std.specs.Fmt.{decimal}
+use Rattle.pg_lines.specs.Search.{Search, terminator}
+use Rattle.pg_lines.specs.Lines.{lines}
+use Rattle.pg_lines.specs.Selection.{selects, parts}
+use Rattle.pg_rows.specs.declared.format.Format.{Format}
+use Rattle.pg_rows.specs.declared.format.Mode.{Mode}
+use Rattle.pg_rows.specs.declared.format.Mode.TheVariants.{Rows, Count, List as Names, Quiet}
+
+-- A file's lines have places 0, 1, 2, ..; a set of places is a test.
+
+abbrev pub line_at : List (List ℕ) → ℕ → List ℕ
+line_at ls i = slice_index_or ls i []
+
+abbrev pub is_below : ℕ → Option ℕ → Bool
+is_below n None = true
+is_below n (Some limit) = nat_lt n limit
+
+-- a limit is at least 1
+abbrev pub HasRoom : Format → Type 0
+HasRoom format = is_below 0 format.limit ≡ true
+
+-- the first `limit` selected lines
+abbrev pub is_kept : Search → Option ℕ → List (List ℕ) → ℕ → Bool
+is_kept q limit ls i = selects q (line_at ls i) && is_below (count_by (selects q) (take i ls)) limit
+
+-- among the first n places one in the set has the place among the `before` places before it or the `after` places after
+-- it, or is it
+abbrev pub is_near : (ℕ → Bool) → ℕ → ℕ → ℕ → ℕ → Bool
+is_near kept before after n i =
+    list_any (λ j. kept j && (nat_le j (i + before) && nat_le i (j + after))) (range_with_len 0 n)
+
+abbrev pub context : Option ℕ → ℕ
+context given = unwrap_or given 0
+
+-- the lines that are shown
+abbrev pub is_shown : Search → Format → List (List ℕ) → ℕ → Bool
+is_shown q format ls i =
+    is_near (is_kept q format.limit ls) (context format.before) (context format.after) (length ls) i
+
+abbrev pub members : (ℕ → Bool) → List (List ℕ) → List ℕ
+members set ls = filter set (range_with_len 0 (length ls))
+
+abbrev pub when : Bool → List ℕ → List ℕ
+when shown text = if shown then text else []
+
+-- a row: the name and the line's number where they are asked for, each with a mark; the text; the terminator
+abbrev pub row : Format → ℕ → List ℕ → ℕ → ℕ → List ℕ → List ℕ
+row format end name number mark text =
+    when format.names (name ++ mark ∷ []) ++ when format.numbers (decimal number ++ mark ∷ []) ++ text ++ end ∷ []
+
+abbrev pub has_context : Format → Bool
+has_context format = is_some format.before || is_some format.after
+
+abbrev pub is_behind : (ℕ → Bool) → ℕ → Bool
+is_behind set zero = false
+is_behind set (suc i) = set i
+
+-- two hyphens stand before a shown line that doesn't follow a shown line, unless it is the run's first
+abbrev pub separator : Format → ℕ → (ℕ → Bool) → Bool → ℕ → List ℕ
+separator format end shown earlier i =
+    when (has_context format && not (is_behind shown i) && (earlier || list_any shown (range_with_len 0 i)))
+    (45 ∷ 45 ∷ end ∷ [])
+
+-- a colon marks a kept line, a hyphen its context
+abbrev pub mark_of : Bool → ℕ
+mark_of kept = if kept then 58 else 45
+
+abbrev pub line_rows : Search → Format → List ℕ → List (List ℕ) → Bool → List ℕ
+line_rows q format name ls earlier =
+    flat_map (λ i. separator format (terminator q) (is_shown q format ls) earlier i
+    ++ row format (terminator q) name (i + 1) (mark_of (is_kept q format.limit ls i)) (line_at ls i))
+    (members (is_shown q format ls) ls)
+
+abbrev pub piece_rows : Search → Format → List ℕ → List (List ℕ) → List ℕ
+piece_rows q format name ls =
+    flat_map (λ i. flat_map (λ p. row format (terminator q) name (i + 1) 58 (slice_range (line_at ls i) p.0 p.1))
+    (parts q (line_at ls i)))
+    (members (is_kept q format.limit ls) ls)
+
+-- the rows of -c and -l, which end with a newline whatever the terminator
+abbrev pub count_row : Search → Format → List ℕ → List (List ℕ) → List ℕ
+count_row q format name ls =
+    when format.names (name ++ 58 ∷ []) ++ decimal (length (members (is_kept q format.limit ls) ls)) ++ 10 ∷ []
+
+abbrev pub name_row : Search → Format → List ℕ → List (List ℕ) → List ℕ
+name_row q format name ls = when (list_any (selects q) ls) (name ++ 10 ∷ [])
+
+abbrev pub rows_in : Mode → List ℕ → List ℕ → List ℕ → List ℕ
+rows_in Rows rows count name = rows
+rows_in Count rows count name = count
+rows_in Names rows count name = name
+rows_in Quiet rows count name = []
+
+-- what one file gives; `earlier` says that the run has an earlier row
+unfoldable pub file_rows : Search → Format → List ℕ → List ℕ → Bool → Bool → List ℕ
+file_rows q format name bytes ended earlier =
+    let ls = lines (terminator q) bytes in
+    rows_in format.mode
+    (if q.text.pieces then piece_rows q format name ls else line_rows q format name ls earlier)
+    (when ended (count_row q format name ls))
+    (when ended (name_row q format name ls))
+
+-- how a file's reading came to its end; a file that was left was given up without a failure
+pub data Ending : Type 0 where
+  Running : Ending
+  Ended : Ending
+  Failed : Ending
+  Left : Ending
+
+abbrev pub is_running : Ending → Bool
+is_running Running = true
+is_running Ended = false
+is_running Failed = false
+is_running Left = false
+
+abbrev pub is_failed : Ending → Bool
+is_failed Running = false
+is_failed Ended = false
+is_failed Failed = true
+is_failed Left = false
+
+-- a name that could not be opened, or a file with the bytes that its reads gave
+pub data Entry : Type 0 where
+  Missed : (name : List ℕ) → Entry
+  Read : (name bytes : List ℕ) (ending : Ending) → Entry
+
+abbrev pub is_nothing : List ℕ → Bool
+is_nothing [] = true
+is_nothing (b ∷ bytes) = false
+
+-- the output of the files; the last one stands first in the list
+abbrev pub output : Search → Format → List Entry → List ℕ
+output q format [] = []
+output q format (Missed name ∷ entries) = output q format entries
+output q format (Read name bytes ending ∷ entries) =
+    output q format entries
+    ++ file_rows q format name bytes (not (is_running ending)) (not (is_nothing (output q format entries)))
+
+abbrev pub is_bad : Entry → Bool
+is_bad (Missed name) = true
+is_bad (Read name bytes ending) = is_failed ending
+
+abbrev pub has_selected : Search → Entry → Bool
+has_selected q (Missed name) = false
+has_selected q (Read name bytes ending) = list_any (selects q) (lines (terminator q) bytes)
+
+abbrev pub is_quiet : Mode → Bool
+is_quiet Rows = false
+is_quiet Count = false
+is_quiet Names = false
+is_quiet Quiet = true
+
+-- 2 after a file that is missed or failed, but with -q 0 where a line was selected; else 0 where one was, and 1 where
+-- none was
+abbrev pub status : Search → Format → List Entry → ℕ
+status q format entries =
+    let selected = list_any (has_selected q) entries in
+    if is_quiet format.mode && selected then 0 else (if list_any is_bad entries then 2 else (if selected then 0 else 1))

@@ -1,0 +1,101 @@
+-- A file's rows line by line: what is remembered of the lines so far, and the rows that the next line adds.
+use Rattle.std.specs.Prelude.{ℕ, ◌+◌, ◌-◌, nat_lt, nat_le, Bool, true, false, ◌&&◌, ◌||◌, if◌then◌else◌, List, [], ◌∷◌}
+use Rattle.std.specs.Prelude.{◌++◌, length, slice_range}
+use Rattle.std.specs.List.{fold, flat_map}
+use Rattle.circular_buffer.specs.Buffer.{keep_last}
+use Rattle.pg_lines.specs.Search.{Search, terminator}
+use Rattle.pg_lines.specs.Selection.{selects, parts}
+use Rattle.pg_rows.specs.declared.format.Format.{Format}
+use Rattle.pg_rows.specs.Output.{is_below, context, when, row, has_context}
+
+-- what is remembered of the lines so far: their number, how many are kept, how many more are shown as context,
+-- whether one was shown, and of those behind the last shown one the last `before` ones and whether there are more
+pub record Trail : Type 0 where
+  pub number : ℕ
+  pub kept : ℕ
+  pub countdown : ℕ
+  pub some : Bool
+  pub skipped : Bool
+  pub window : List (List ℕ)
+
+abbrev pub no_lines : Trail
+no_lines = record { number = 0; kept = 0; countdown = 0; some = false; skipped = false; window = [] }
+
+-- the next line is kept
+abbrev pub keeps : Format → Trail → Bool → Bool
+keeps format t selected = selected && is_below t.kept format.limit
+
+abbrev pub after_kept : Format → Trail → Trail
+after_kept format t = record {
+  number = t.number + 1;
+  kept = t.kept + 1;
+  countdown = context format.after;
+  some = true;
+  skipped = false;
+  window = [];
+}
+
+abbrev pub after_context : Trail → Trail
+after_context t = record t { number = t.number + 1; countdown = t.countdown - 1 }
+
+abbrev pub after_other : Format → Trail → List ℕ → Trail
+after_other format t l =
+    record t {
+      number = t.number + 1;
+      skipped = t.skipped || nat_le (context format.before) (length t.window);
+      window = keep_last (context format.before) (t.window ++ l ∷ []);
+    }
+
+-- one more line
+abbrev pub step : Format → Trail → Bool → List ℕ → Trail
+step format t selected l =
+    if keeps format t selected then after_kept format t
+    else (if nat_lt 0 t.countdown then after_context t else after_other format t l)
+
+-- more lines
+abbrev pub run : Search → Format → Trail → List (List ℕ) → Trail
+run q format t ls = fold (λ u l. step format u (selects q l) l) t ls
+
+abbrev pub trail_of : Search → Format → List (List ℕ) → Trail
+trail_of q format ls = run q format no_lines ls
+
+-- two hyphens stand before the window and the kept line behind it, where they don't follow a shown line
+abbrev pub gap_row : Format → ℕ → Bool → Trail → List ℕ
+gap_row format end earlier t = when (has_context format && (if t.some then t.skipped else earlier)) (45 ∷ 45 ∷ end ∷ [])
+
+abbrev pub context_rows : Format → ℕ → List ℕ → ℕ → List (List ℕ) → List ℕ
+context_rows format end name number [] = []
+context_rows format end name number (l ∷ ls) =
+    row format end name number 45 l ++ context_rows format end name (number + 1) ls
+
+-- the rows that a kept line adds: the window's and its own
+abbrev pub kept_rows : Format → ℕ → List ℕ → Bool → Trail → List ℕ → List ℕ
+kept_rows format end name earlier t l =
+    gap_row format end earlier t
+    ++ (context_rows format end name ((t.number + 1) - length t.window) t.window
+    ++ row format end name (t.number + 1) 58 l)
+
+abbrev pub added : Format → ℕ → List ℕ → Bool → Trail → Bool → List ℕ → List ℕ
+added format end name earlier t selected l =
+    if keeps format t selected
+    then kept_rows format end name earlier t l
+    else (when (nat_lt 0 t.countdown) (row format end name (t.number + 1) 45 l))
+
+-- the rows that many lines add
+abbrev pub run_rows : Search → Format → List ℕ → Bool → Trail → List (List ℕ) → List ℕ
+run_rows q format name earlier t [] = []
+run_rows q format name earlier t (l ∷ ls) = added format (terminator q) name earlier t (selects q l) l
+    ++ run_rows q format name earlier (step format t (selects q l) l) ls
+
+-- the rows of the matched parts of a line that is kept
+abbrev pub pieces_in : Search → Format → List ℕ → ℕ → List ℕ → List ℕ
+pieces_in q format name number l =
+    flat_map (λ p. row format (terminator q) name number 58 (slice_range l p.0 p.1)) (parts q l)
+
+abbrev pub added_pieces : Search → Format → List ℕ → Trail → List ℕ → List ℕ
+added_pieces q format name t l = when (keeps format t (selects q l)) (pieces_in q format name (t.number + 1) l)
+
+abbrev pub run_pieces : Search → Format → List ℕ → Trail → List (List ℕ) → List ℕ
+run_pieces q format name t [] = []
+run_pieces q format name t (l ∷ ls) =
+    added_pieces q format name t l ++ run_pieces q format name (step format t (selects q l) l) ls

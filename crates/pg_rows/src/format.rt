@@ -1,0 +1,40 @@
+//! How rows look.
+ghost use Rattle.std.specs.Prelude.{◌≡◌, ◌||◌};
+
+/// What is written of each file.
+#[derive(Clone, Copy, Debug, PartialEq, Eq)]
+pub enum Mode {
+    /// A row for each line that is shown.
+    Rows,
+    /// -c: one row with the number of selected lines.
+    Count,
+    /// -l: the file's name, where a line is selected.
+    List,
+    /// -q: nothing.
+    Quiet,
+}
+
+/// How rows look, and which lines have one.
+#[derive(Clone, Copy, Debug, PartialEq, Eq)]
+pub struct Format {
+    /// Each row begins with its file's name.
+    pub names: bool,
+    /// -n: each row has its line's number, from 1.
+    pub numbers: bool,
+    pub mode: Mode,
+    /// -m: at most so many selected lines of a file count.
+    pub limit: Option<u32>,
+    /// -B: so many lines before a selected line are shown as its context.
+    pub before: Option<u16>,
+    /// -A: so many lines after a selected line are shown as its context.
+    pub after: Option<u32>,
+}
+
+impl Format {
+    /// Whether a row has something before its text.
+    pub(crate) fn has_prefix(&self) -> bool
+        ensures { result ≡ (self.now.names || self.now.numbers) }
+    {
+        self.names || self.numbers
+    }
+}

@@ -1,0 +1,24 @@
+//! The rows that a grep writes of a file, and the sinks that take them.
+#![tactic(auto)]
+
+mod format;
+mod history;
+mod mem_sink;
+mod places;
+mod prefix;
+mod printer;
+mod progress;
+mod rows;
+mod sink;
+mod window;
+mod writer;
+
+pub use format::{Format, Mode};
+pub use history::History;
+pub use mem_sink::MemSink;
+pub use prefix::Prefix;
+pub use printer::{Printed, Printer};
+pub use progress::Progress;
+pub use rows::write_bare_lines;
+pub use sink::{Sink, WriteError, write_all};
+pub use writer::Out;

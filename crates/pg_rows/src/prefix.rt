@@ -1,0 +1,107 @@
+//! What a row has before its text.
+ghost use Rattle.std.specs.Prelude.{◌≡◌, ◌+◌, ◌<◌, ◌≤◌, ◌++◌, [], ◌∷◌, IfOk, OnOk, OnErr};
+ghost use Rattle.std.specs.Prelude.{length, vec_len, vec_capacity};
+ghost use Rattle.std.specs.Fmt.{decimal};
+ghost use Rattle.pg_rows.specs.Output.{when};
+ghost use Rattle.pg_rows.specs.Stretch.{prefix_text};
+ghost use Rattle.pg_rows.specs.Sink.{TakesPart};
+
+use crate::format::Format;
+use crate::sink::{Sink, WriteError, write_all};
+use itoa::Buffer;
+use std::alloc::{AllocError, Allocator, Global};
+use std::marker::Model;
+
+/// The bytes that a name's mark, a number and its mark take at most.
+const ROOM: usize = 22;
+
+/// A file's name, with room behind it for all that a row has before its text. The room is reserved
+/// when the value is made, so rows take no memory.
+#[derive(Drop)]
+pub struct Prefix<A: Allocator = Global> {
+    buffer: Vec<u8, A>,
+}
+
+impl<A: Allocator> Model for Prefix<A> {
+    ghost use Rattle.std.specs.Prelude.{ℕ, ◌+◌, ◌≤◌, List, vec_len, vec_capacity};
+
+    ghost Value = { List ℕ };
+
+    ghost view = { λ p. p.buffer.items };
+
+    ghost invariant = { λ p. vec_len p.buffer + 22 ≤ vec_capacity p.buffer };
+}
+
+impl<A: Allocator> Prefix<A> {
+    /// The prefix of the rows of a file.
+    ///
+    /// # Errors
+    ///
+    /// `AllocError` where the memory for the name and the room behind it is refused.
+    pub fn new(alloc: A, name: &[u8]) -> Result<Prefix<A>, AllocError>
+        ensures { IfOk result (λ p. p ≡ name.now) }
+    {
+        let mut buffer = Vec::with_capacity(alloc, name.len() + ROOM)?;
+        buffer.extend_from_slice(name).unwrap();
+        Ok(Prefix { buffer })
+    }
+
+    /// The file's name.
+    pub fn name(&self) -> &[u8]
+        ensures { result.now ≡ self.now }
+    {
+        self.buffer.as_slice()
+    }
+
+    /// Writes the name and the line's number where rows have them, each with the mark, in one text.
+    ///
+    /// # Errors
+    ///
+    /// `WriteError` where a write failed. A beginning of the text was taken then.
+    pub(crate) fn write<W: Sink>(
+        &mut self,
+        out: &mut W,
+        format: &Format,
+        number: u64,
+        mark: u8,
+    ) -> Result<(), WriteError>
+        ensures same { self.new ≡ self.old }
+        ensures all { OnOk result (W.taken out.new
+            ≡ W.taken out.old ++ prefix_text format.now self.old number mark) }
+        ensures part { OnErr result
+            (TakesPart (prefix_text format.now self.old number mark) (W.taken out.old) (W.taken out.new)) }
+        ensures failure { OnErr result (W.failures out.old < W.failures out.new) }
+        ensures no_failure { OnOk result (W.failures out.new ≡ W.failures out.old) }
+        ensures never_falls { W.failures out.old ≤ W.failures out.new }
+    {
+        if !format.names && !format.numbers {
+            return Ok(());
+        }
+        let len = self.buffer.len();
+        append_marks(&mut self.buffer, format, number, mark);
+        let start = if format.names { 0 } else { len };
+        let written = write_all(out, &self.buffer.as_slice()[start..]);
+        self.buffer.truncate(len);
+        written
+    }
+}
+
+/// Puts the name's mark, the number and its mark behind a name, as far as rows have them.
+fn append_marks<A: Allocator>(buffer: &mut Vec<u8, A>, format: &Format, number: u64, mark: u8)
+    requires { vec_len buffer.old + 22 ≤ vec_capacity buffer.old }
+    ensures items { buffer.new.items ≡ buffer.old.items
+        ++ (when format.now.names (mark ∷ []) ++ when format.now.numbers (decimal number ++ mark ∷ [])) }
+    ensures len { vec_len buffer.old ≤ vec_len buffer.new }
+    ensures capacity { vec_capacity buffer.old ≤ vec_capacity buffer.new }
+{
+    if format.names {
+        buffer.push(mark).unwrap();
+    }
+    if format.numbers {
+        let mut digits = Buffer::new();
+        buffer
+            .extend_from_slice(digits.format(number).as_bytes())
+            .unwrap();
+        buffer.push(mark).unwrap();
+    }
+}

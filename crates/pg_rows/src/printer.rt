@@ -1,0 +1,740 @@
+//! The rows of files, block by block.
+ghost use Rattle.std.specs.Prelude.{◌≡◌, ℕ, ◌+◌, ◌-◌, ◌<◌, ◌≤◌, ◌^◌, ◌++◌, List, OnOk, OnErr, IfOk};
+ghost use Rattle.std.specs.Prelude.{length, take, drop};
+ghost use Rattle.std.specs.Prelude.{slice_range, true, false, nat_lt, [], ◌∷◌};
+ghost use Rattle.std.specs.Prelude.{Some};
+ghost use Rattle.std.specs.Arc.{arc_value};
+ghost use Rattle.pg_lines.specs.Search.{Search, terminator};
+ghost use Rattle.pg_rows.specs.Pieces.{cut_at};
+ghost use Rattle.pg_rows.specs.Remembered.{HasLines};
+ghost use Rattle.pg_rows.specs.Output.{when};
+ghost use Rattle.pg_lines.specs.Lines.{lines, AreWhole};
+ghost use Rattle.pg_rows.specs.Sink.{TakesPart};
+
+use crate::format::{Format, Mode};
+use crate::places::{end_of_first, start_of_last};
+use crate::prefix::Prefix;
+use crate::progress::Progress;
+use crate::rows::{write_count, write_gap, write_lines, write_name, write_parts};
+use crate::sink::{Sink, WriteError};
+use crate::window::Window;
+use pg_lines::{Block, BlockResult, Part, Query, Run};
+use std::alloc::{AllocError, Allocator, Global};
+use std::sync::Arc;
+
+/// What stands behind the name and the number of a line that is kept.
+const KEPT_MARK: u8 = b':';
+
+/// What stands behind the name and the number of a line that is shown as context.
+const CONTEXT_MARK: u8 = b'-';
+
+/// Where a printer stands in a block: the lines before `at`, of which there are `seen`, were passed
+/// or kept.
+#[derive(Clone, Copy, Debug)]
+struct Place {
+    progress: Progress,
+    at: usize,
+    seen: usize,
+}
+
+/// What the first lines of a run of selected lines leave, where they are kept.
+#[derive(Clone, Copy, Debug)]
+struct Step {
+    /// What is remembered behind the lines before the run.
+    passed: Progress,
+    /// The place behind the lines that are kept.
+    place: Place,
+}
+
+/// What is left of a block whose rows were written: the lines from `start` on, which may still be
+/// shown.
+#[derive(Clone, Copy, Debug)]
+pub struct Printed {
+    progress: Progress,
+    /// No line of the block was kept, so what was held before it may still be shown too.
+    fresh: bool,
+    start: usize,
+    lines: usize,
+}
+
+/// How many lines of a block stand before the first selected one behind so many selected ones.
+fn line_beyond(runs: &[Run], room: u64, total: usize) -> usize
+    requires { (q : Search) × (bytes : List ℕ) × HasLines q bytes runs.now total }
+    ensures value { (q : Search) (bytes : List ℕ) (limit kept : ℕ) → HasLines q bytes runs.now total →
+        room ≡ limit - kept → result ≡ cut_at q (Some limit) kept (lines (terminator q) bytes) }
+    ensures short { result ≤ total }
+{
+    let mut left = room;
+    for run in runs {
+        if left < run.count as u64 {
+            return run.first + left as usize;
+        }
+        left -= run.count as u64;
+    }
+    total
+}
+
+/// The rows of files, one file after another.
+///
+/// It remembers of the open file how many lines it had and how many were kept, and holds the last
+/// lines that may still be shown as leading context.
+#[derive(Drop)]
+pub struct Printer<A: Allocator = Global> {
+    format: Format,
+    end: u8,
+    /// -o: rows are those of matched parts.
+    pieces: bool,
+    prefix: Prefix<A>,
+    /// Whether a row was written before the open file.
+    earlier: bool,
+    progress: Progress,
+    window: Window<A>,
+}
+
+impl<A: Allocator> Printer<A> {
+    ghost use Rattle.pg_lines.specs.Search.{HasItsTrees};
+    ghost use Rattle.pg_lines.specs.Searched.{lines_of};
+    ghost use Rattle.pg_rows.specs.Pieces.{HasFound};
+    ghost use Rattle.pg_rows.specs.Cursor.{Cursor, at_start};
+    ghost use Rattle.pg_rows.specs.Remembered.{Remembers, ComesLast, Follows, shows_lines, behind_block};
+    ghost use Rattle.pg_rows.specs.Remembered.{opened_as, end_rows, shown_rows, is_rows};
+    ghost use Rattle.pg_rows.specs.Trail.{run_rows, run_pieces};
+    ghost use Rattle.pg_rows.specs.Window.{held, IsWindow};
+    ghost use Rattle.pg_rows.specs.Progress.{Passes, Keeps};
+    ghost use Rattle.pg_rows.specs.Printing.{ComesNext, EndsKept};
+    ghost use Rattle.pg_rows.specs.Stretch.{marked_rows};
+    ghost use Rattle.pg_rows.specs.Printing.{has_gap, gap_of, leading, rows_of_run, rows_of_kept, rows_of_leading};
+    ghost use Rattle.pg_rows.specs.Printing.{rows_of_passed};
+
+    /// A printer to which nothing was given, for the rows of a query. It reserves the room of its window.
+    ///
+    /// # Errors
+    ///
+    /// `AllocError` where a request for memory is refused.
+    pub fn new(alloc: A, query: &Query<A>, format: Format) -> Result<Printer<A>, AllocError>
+    where
+        A: Copy,
+        ensures { (q : Search) → q.text ≡ query.now.text → IfOk result (λ p. Remembers p q format at_start) }
+    {
+        let window = Window::new(alloc, usize::from(format.before.unwrap_or(0)))?;
+        let prefix = Prefix::new(alloc, b"")?;
+        Ok(Printer {
+            format,
+            end: query.terminator(),
+            pieces: query.text().pieces,
+            prefix,
+            earlier: false,
+            progress: Progress::new(),
+            window,
+        })
+    }
+
+    /// Begins the next file. What was held of the one before is given up.
+    pub fn open(&mut self, prefix: Prefix<A>)
+        ensures { (q : Search) (format : Format) (c : Cursor) → Remembers self.old q format c →
+            Remembers self.new q format (opened_as c prefix) }
+    {
+        self.earlier |= self.progress.shown;
+        self.prefix = prefix;
+        self.progress = Progress::new();
+        self.window.clear();
+    }
+
+    /// What is remembered of the lines of the open file.
+    pub fn progress(&self) -> Progress
+        ensures { result ≡ self.now.progress }
+    {
+        self.progress
+    }
+
+    /// Goes on behind a block whose rows were written. The block is held as long as its last lines may
+    /// still be shown.
+    pub fn pass(&mut self, block: Arc<Block<A>, A>, printed: Printed)
+        requires { (q : Search) × (format : Format) × (c : Cursor) × Remembers self.old q format c
+            × Follows self.old q format (behind_block q format c (arc_value block).bytes)
+            (arc_value block).bytes printed }
+        ensures { (q : Search) (format : Format) (c : Cursor) → Remembers self.old q format c →
+            Follows self.old q format (behind_block q format c (arc_value block).bytes)
+            (arc_value block).bytes printed →
+            Remembers self.new q format (behind_block q format c (arc_value block).bytes) }
+    {
+        self.progress = printed.progress;
+        self.window.clear_unless(printed.fresh);
+        self.window
+            .push_some(self.end, block, printed.start, printed.lines);
+    }
+
+    /// Writes the row that a file's end adds: its count or its name, where they are asked for.
+    ///
+    /// # Errors
+    ///
+    /// `WriteError` where a write failed. A beginning of the row was taken then.
+    pub fn end<W: Sink>(&self, out: &mut W) -> Result<(), WriteError>
+        ensures all { (q : Search) (format : Format) (c : Cursor) → Remembers self.now q format c →
+            OnOk result (W.taken out.new ≡ W.taken out.old ++ end_rows format c) }
+        ensures part { (q : Search) (format : Format) (c : Cursor) → Remembers self.now q format c →
+            OnErr result (TakesPart (end_rows format c) (W.taken out.old) (W.taken out.new)) }
+        ensures failure { OnErr result (W.failures out.old < W.failures out.new) }
+        ensures no_failure { OnOk result (W.failures out.new ≡ W.failures out.old) }
+        ensures never_falls { W.failures out.old ≤ W.failures out.new }
+    {
+        match self.format.mode {
+            Mode::Count => write_count(out, &self.format, &self.prefix, self.progress.kept),
+            Mode::List => self.write_found_name(out),
+            Mode::Rows | Mode::Quiet => Ok(()),
+        }
+    }
+
+    /// Writes the file's name as a row, where a line of it was selected.
+    fn write_found_name<W: Sink>(&self, out: &mut W) -> Result<(), WriteError>
+        ensures all { OnOk result (W.taken out.new ≡ W.taken out.old
+            ++ when (nat_lt 0 self.now.progress.kept) (self.now.prefix ++ 10 ∷ [])) }
+        ensures part { OnErr result (TakesPart (when (nat_lt 0 self.now.progress.kept) (self.now.prefix ++ 10 ∷ []))
+            (W.taken out.old) (W.taken out.new)) }
+        ensures failure { OnErr result (W.failures out.old < W.failures out.new) }
+        ensures no_failure { OnOk result (W.failures out.new ≡ W.failures out.old) }
+        ensures never_falls { W.failures out.old ≤ W.failures out.new }
+    {
+        if self.progress.kept > 0 {
+            write_name(out, &self.prefix)
+        } else {
+            Ok(())
+        }
+    }
+
+    /// Whether lines or their parts have rows.
+    fn shows_rows(&self) -> bool
+        ensures { result ≡ is_rows self.now.format.mode }
+    {
+        match self.format.mode {
+            Mode::Rows => true,
+            Mode::Count | Mode::List | Mode::Quiet => false,
+        }
+    }
+
+    /// Goes past a block of which no line is held, by its runs of selected lines. Nothing looks at a line.
+    fn passed(&self, size: usize, runs: &[Run], total: usize) -> Printed
+        requires small { self.now.progress.number + total < 2 ^ 63 }
+        ensures { (q : Search) (format : Format) (c : Cursor) (bytes : List ℕ) → Remembers self.now q format c →
+            shows_lines q format ≡ false → HasLines q bytes runs.now total → size ≡ length bytes →
+            Follows self.now q format (behind_block q format c bytes) bytes result }
+    {
+        Printed {
+            progress: self.progress.after(&self.format, runs, total as u64),
+            fresh: true,
+            start: size,
+            lines: 0,
+        }
+    }
+
+    /// How many lines of a block stand before the first selected one that isn't kept.
+    fn cut(&self, runs: &[Run], total: usize) -> usize
+        requires { (q : Search) × (bytes : List ℕ) × HasLines q bytes runs.now total }
+        ensures value { (q : Search) (bytes : List ℕ) → HasLines q bytes runs.now total →
+            result ≡ cut_at q self.now.format.limit self.now.progress.kept (lines (terminator q) bytes) }
+        ensures short { result ≤ total }
+    {
+        match self.progress.room(&self.format) {
+            Some(room) => line_beyond(runs, room, total),
+            None => total,
+        }
+    }
+
+    /// Writes the rows of the matched parts of a block.
+    fn print_parts<W: Sink>(
+        &mut self,
+        out: &mut W,
+        bytes: &[u8],
+        runs: &[Run],
+        parts: &[Part],
+        total: usize,
+    ) -> Result<Printed, WriteError>
+        requires stands { (q : Search) × (format : Format) × (c : Cursor) × Remembers self.old q format c
+            × (q.text.pieces ≡ true) × HasFound q bytes.now runs.now parts.now total }
+        requires small { self.old.progress.number + total < 2 ^ 63 }
+        ensures same { self.new ≡ self.old }
+        ensures all { (q : Search) (format : Format) (c : Cursor) → Remembers self.old q format c →
+            q.text.pieces ≡ true → HasFound q bytes.now runs.now parts.now total →
+            OnOk result (W.taken out.new ≡ W.taken out.old
+            ++ run_pieces q format c.name c.trail (lines (terminator q) bytes.now)) }
+        ensures follows { (q : Search) (format : Format) (c : Cursor) → Remembers self.old q format c →
+            q.text.pieces ≡ true → HasFound q bytes.now runs.now parts.now total →
+            IfOk result (λ printed. Follows self.old q format (behind_block q format c bytes.now) bytes.now printed) }
+        ensures part { (q : Search) (format : Format) (c : Cursor) → Remembers self.old q format c →
+            q.text.pieces ≡ true → HasFound q bytes.now runs.now parts.now total →
+            OnErr result (TakesPart (run_pieces q format c.name c.trail (lines (terminator q) bytes.now))
+            (W.taken out.old) (W.taken out.new)) }
+        ensures failure { OnErr result (W.failures out.old < W.failures out.new) }
+        ensures no_failure { OnOk result (W.failures out.new ≡ W.failures out.old) }
+        ensures never_falls { W.failures out.old ≤ W.failures out.new }
+    {
+        let cut = self.cut(runs, total);
+        let before = self.progress.number;
+        let printed = self.passed(bytes.len(), runs, total);
+        write_parts(
+            out,
+            &self.format,
+            self.end,
+            &mut self.prefix,
+            before,
+            cut,
+            bytes,
+            parts,
+        )?;
+        Ok(printed)
+    }
+
+    /// Writes the rows of a block in which these runs of selected lines and these parts were found.
+    fn print_found<W: Sink>(
+        &mut self,
+        out: &mut W,
+        bytes: &[u8],
+        runs: &[Run],
+        parts: &[Part],
+        total: usize,
+    ) -> Result<Printed, WriteError>
+        requires stands { (q : Search) × (format : Format) × (c : Cursor) × Remembers self.old q format c
+            × HasFound q bytes.now runs.now parts.now total }
+        requires small { self.old.progress.number + total < 2 ^ 63 }
+        ensures same { self.new ≡ self.old }
+        ensures all { (q : Search) (format : Format) (c : Cursor) → Remembers self.old q format c →
+            HasFound q bytes.now runs.now parts.now total →
+            OnOk result (W.taken out.new ≡ W.taken out.old ++ shown_rows q format c bytes.now) }
+        ensures follows { (q : Search) (format : Format) (c : Cursor) → Remembers self.old q format c →
+            HasFound q bytes.now runs.now parts.now total →
+            IfOk result (λ printed. Follows self.old q format (behind_block q format c bytes.now) bytes.now printed) }
+        ensures part { (q : Search) (format : Format) (c : Cursor) → Remembers self.old q format c →
+            HasFound q bytes.now runs.now parts.now total →
+            OnErr result (TakesPart (shown_rows q format c bytes.now) (W.taken out.old) (W.taken out.new)) }
+        ensures failure { OnErr result (W.failures out.old < W.failures out.new) }
+        ensures no_failure { OnOk result (W.failures out.new ≡ W.failures out.old) }
+        ensures never_falls { W.failures out.old ≤ W.failures out.new }
+    {
+        if !self.shows_rows() {
+            return Ok(self.passed(bytes.len(), runs, total));
+        }
+        if self.pieces {
+            return self.print_parts(out, bytes, runs, parts, total);
+        }
+        self.print_lines(out, bytes, runs, total)
+    }
+
+    /// Writes the rows that a block adds. The printer stands where it stood; `pass` goes on behind the
+    /// block.
+    ///
+    /// # Errors
+    ///
+    /// `WriteError` where a write failed. A beginning of the rows was taken then.
+    pub fn print<W: Sink>(
+        &mut self,
+        out: &mut W,
+        found: &BlockResult<A>,
+    ) -> Result<Printed, WriteError>
+        requires { (q : Search) × (format : Format) × (c : Cursor) × Remembers self.old q format c × HasItsTrees q
+            × (found.now.query ≡ q.text) × (c.trail.number + length (lines_of found.now) < 2 ^ 63) }
+        ensures same { self.new ≡ self.old }
+        ensures all { (q : Search) (format : Format) (c : Cursor) → Remembers self.old q format c → HasItsTrees q →
+            found.now.query ≡ q.text →
+            OnOk result (W.taken out.new ≡ W.taken out.old ++ shown_rows q format c found.now.block.bytes) }
+        ensures follows { (q : Search) (format : Format) (c : Cursor) → Remembers self.old q format c → HasItsTrees q →
+            found.now.query ≡ q.text → IfOk result (λ printed. Follows self.old q format
+            (behind_block q format c found.now.block.bytes) found.now.block.bytes printed) }
+        ensures part { (q : Search) (format : Format) (c : Cursor) → Remembers self.old q format c → HasItsTrees q →
+            found.now.query ≡ q.text → OnErr result
+            (TakesPart (shown_rows q format c found.now.block.bytes) (W.taken out.old) (W.taken out.new)) }
+        ensures failure { OnErr result (W.failures out.old < W.failures out.new) }
+        ensures no_failure { OnOk result (W.failures out.new ≡ W.failures out.old) }
+        ensures never_falls { W.failures out.old ≤ W.failures out.new }
+    {
+        let block: &Block<A> = found.block();
+        let total = found.lines();
+        self.print_found(
+            out,
+            block.bytes.as_slice(),
+            found.runs(),
+            found.parts(),
+            total,
+        )
+    }
+
+    /// Whether two hyphens stand before the next kept line and its context.
+    fn has_gap(&self, progress: Progress) -> bool
+        ensures { result ≡ has_gap self.now.format self.now.earlier progress }
+    {
+        if self.format.before.is_none() && self.format.after.is_none() {
+            return false;
+        }
+        if progress.shown {
+            u64::from(self.format.before.unwrap_or(0)) < progress.behind
+        } else {
+            self.earlier
+        }
+    }
+
+    /// Writes the two hyphens that may stand before the next kept line and its context.
+    fn print_gap<W: Sink>(&self, out: &mut W, progress: Progress) -> Result<(), WriteError>
+        ensures all { OnOk result (W.taken out.new ≡ W.taken out.old
+            ++ gap_of self.now.format self.now.end self.now.earlier progress) }
+        ensures part { OnErr result (TakesPart (gap_of self.now.format self.now.end self.now.earlier progress)
+            (W.taken out.old) (W.taken out.new)) }
+        ensures failure { OnErr result (W.failures out.old < W.failures out.new) }
+        ensures no_failure { OnOk result (W.failures out.new ≡ W.failures out.old) }
+        ensures never_falls { W.failures out.old ≤ W.failures out.new }
+    {
+        if self.has_gap(progress) {
+            write_gap(out, self.end)
+        } else {
+            Ok(())
+        }
+    }
+
+    /// How many lines are shown before the next kept line as its context.
+    fn leading(&self, progress: Progress) -> usize
+        ensures { result ≡ leading self.now.format progress }
+    {
+        u64::from(self.format.before.unwrap_or(0)).min(progress.behind) as usize
+    }
+
+    /// Writes those lines that are shown as trailing context, where none is kept. The answer is the
+    /// place behind them.
+    fn print_passed<W: Sink>(
+        &mut self,
+        out: &mut W,
+        progress: Progress,
+        text: &[u8],
+        count: usize,
+    ) -> Result<usize, WriteError>
+        requires count { count ≡ length (lines self.old.end text.now) }
+        requires small { progress.number + count < 2 ^ 63 }
+        ensures same { self.new ≡ self.old }
+        ensures all { OnOk result (W.taken out.new ≡ W.taken out.old
+            ++ rows_of_passed self.old.format self.old.end self.old.prefix progress (lines self.old.end text.now)) }
+        ensures within { IfOk result (λ stop. stop ≤ length text.now) }
+        ensures rest { IfOk result (λ stop. lines self.old.end (drop stop text.now)
+            ≡ drop progress.countdown (lines self.old.end text.now)) }
+        ensures part { OnErr result (TakesPart
+            (rows_of_passed self.old.format self.old.end self.old.prefix progress (lines self.old.end text.now))
+            (W.taken out.old) (W.taken out.new)) }
+        ensures failure { OnErr result (W.failures out.old < W.failures out.new) }
+        ensures no_failure { OnOk result (W.failures out.new ≡ W.failures out.old) }
+        ensures never_falls { W.failures out.old ≤ W.failures out.new }
+    {
+        let stop = self.end_of_passed(progress, text, count);
+        write_lines(
+            out,
+            &self.format,
+            self.end,
+            &mut self.prefix,
+            CONTEXT_MARK,
+            progress.number + 1,
+            &text[..stop],
+        )?;
+        Ok(stop)
+    }
+
+    /// Where the lines end that are shown as trailing context, where none is kept.
+    fn end_of_passed(&self, progress: Progress, text: &[u8], count: usize) -> usize
+        requires { count ≡ length (lines self.now.end text.now) }
+        ensures within { result ≤ length text.now }
+        ensures first { lines self.now.end (take result text.now)
+            ≡ take progress.countdown (lines self.now.end text.now) }
+        ensures rest { lines self.now.end (drop result text.now)
+            ≡ drop progress.countdown (lines self.now.end text.now) }
+    {
+        if progress.countdown >= count as u64 {
+            return text.len();
+        }
+        end_of_first(self.end, text, progress.countdown as usize)
+    }
+
+    /// Writes the rows of the lines that are shown before a kept one: the last ones that are held, and
+    /// the last ones of those that stand before it in its block.
+    fn print_leading<W: Sink>(
+        &mut self,
+        out: &mut W,
+        progress: Progress,
+        near: &[u8],
+        count: usize,
+    ) -> Result<(), WriteError>
+        requires window { IsWindow self.old.end self.old.window }
+        requires whole { AreWhole self.old.end near.now }
+        requires count { count ≡ length (lines self.old.end near.now) }
+        requires enough { leading self.old.format progress ≤ length (held self.old.end self.old.window) + count }
+        requires small { progress.number < 2 ^ 63 }
+        ensures same { self.new ≡ self.old }
+        ensures all { OnOk result (W.taken out.new ≡ W.taken out.old
+            ++ rows_of_leading self.old.format self.old.end self.old.prefix
+            (held self.old.end self.old.window ++ lines self.old.end near.now) progress) }
+        ensures part { OnErr result (TakesPart (rows_of_leading self.old.format self.old.end self.old.prefix
+            (held self.old.end self.old.window ++ lines self.old.end near.now) progress)
+            (W.taken out.old) (W.taken out.new)) }
+        ensures failure { OnErr result (W.failures out.old < W.failures out.new) }
+        ensures no_failure { OnOk result (W.failures out.new ≡ W.failures out.old) }
+        ensures never_falls { W.failures out.old ≤ W.failures out.new }
+    {
+        let leading = self.leading(progress);
+        if leading == 0 {
+            return Ok(());
+        }
+        let close = leading.min(count);
+        let first = progress.number + 1 - leading as u64;
+        self.window.write_last(
+            out,
+            &self.format,
+            self.end,
+            &mut self.prefix,
+            first,
+            leading - close,
+        )?;
+        let from = start_of_last(self.end, near, close);
+        write_lines(
+            out,
+            &self.format,
+            self.end,
+            &mut self.prefix,
+            CONTEXT_MARK,
+            progress.number + 1 - close as u64,
+            &near[from..],
+        )
+    }
+
+    /// Writes the rows of kept lines, with what stands before them.
+    fn print_kept<W: Sink>(
+        &mut self,
+        out: &mut W,
+        progress: Progress,
+        near: &[u8],
+        count: usize,
+        text: &[u8],
+    ) -> Result<(), WriteError>
+        requires window { IsWindow self.old.end self.old.window }
+        requires whole { AreWhole self.old.end near.now }
+        requires count { count ≡ length (lines self.old.end near.now) }
+        requires enough { leading self.old.format progress ≤ length (held self.old.end self.old.window) + count }
+        requires small { progress.number + length (lines self.old.end text.now) < 2 ^ 63 }
+        ensures same { self.new ≡ self.old }
+        ensures all { OnOk result (W.taken out.new ≡ W.taken out.old
+            ++ rows_of_kept self.old.format self.old.end self.old.prefix self.old.earlier
+            (held self.old.end self.old.window ++ lines self.old.end near.now) progress (lines self.old.end text.now)) }
+        ensures part { OnErr result (TakesPart
+            (rows_of_kept self.old.format self.old.end self.old.prefix self.old.earlier
+            (held self.old.end self.old.window ++ lines self.old.end near.now) progress (lines self.old.end text.now))
+            (W.taken out.old) (W.taken out.new)) }
+        ensures failure { OnErr result (W.failures out.old < W.failures out.new) }
+        ensures no_failure { OnOk result (W.failures out.new ≡ W.failures out.old) }
+        ensures never_falls { W.failures out.old ≤ W.failures out.new }
+    {
+        self.print_gap(out, progress)?;
+        self.print_leading(out, progress, near, count)?;
+        write_lines(
+            out,
+            &self.format,
+            self.end,
+            &mut self.prefix,
+            KEPT_MARK,
+            progress.number + 1,
+            text,
+        )
+    }
+
+    /// Writes the rows of the lines before a run of selected lines, none of which is kept, and those of
+    /// the lines of the run that are kept.
+    fn print_run<W: Sink>(
+        &mut self,
+        out: &mut W,
+        progress: Progress,
+        passed: Progress,
+        gap: &[u8],
+        count: usize,
+        text: &[u8],
+    ) -> Result<(), WriteError>
+        requires window { IsWindow self.old.end self.old.window }
+        requires whole { AreWhole self.old.end gap.now }
+        requires count { count ≡ length (lines self.old.end gap.now) }
+        requires passes { Passes progress count passed }
+        requires enough { leading self.old.format progress ≤ length (held self.old.end self.old.window) }
+        requires small { passed.number + length (lines self.old.end text.now) < 2 ^ 63 }
+        ensures same { self.new ≡ self.old }
+        ensures all { OnOk result (W.taken out.new ≡ W.taken out.old
+            ++ rows_of_run self.old.format self.old.end self.old.prefix self.old.earlier
+            (held self.old.end self.old.window) progress passed
+            (lines self.old.end gap.now) (lines self.old.end text.now)) }
+        ensures part { OnErr result (TakesPart
+            (rows_of_run self.old.format self.old.end self.old.prefix self.old.earlier
+            (held self.old.end self.old.window) progress passed
+            (lines self.old.end gap.now) (lines self.old.end text.now))
+            (W.taken out.old) (W.taken out.new)) }
+        ensures failure { OnErr result (W.failures out.old < W.failures out.new) }
+        ensures no_failure { OnOk result (W.failures out.new ≡ W.failures out.old) }
+        ensures never_falls { W.failures out.old ≤ W.failures out.new }
+    {
+        let stop = self.print_passed(out, progress, gap, count)?;
+        let hidden = (count as u64).saturating_sub(progress.countdown) as usize;
+        self.print_kept(out, passed, &gap[stop..], hidden, text)
+    }
+
+    /// Where the first lines of a run end, so many.
+    fn end_of_kept(&self, bytes: &[u8], run: Run, count: usize) -> usize
+        requires order { run.span.start ≤ run.span.end }
+        requires within { run.span.end ≤ length bytes.now }
+        requires lines { run.count ≡ length (lines self.now.end (slice_range bytes.now run.span.start run.span.end)) }
+        ensures { EndsKept self.now.end bytes.now run count result }
+    {
+        if count >= run.count {
+            return run.span.end;
+        }
+        run.span.start + end_of_first(self.end, run.span.of(bytes), count)
+    }
+
+    /// Goes from a place to the place behind the first lines of a run, so many.
+    fn step(&self, place: Place, bytes: &[u8], run: Run, count: usize) -> Step
+        requires next { ComesNext self.now.end bytes.now place.at place.seen run }
+        requires few { count ≤ run.count }
+        requires room { run.first + count < 2 ^ 64 }
+        requires small { place.progress.number + ((run.first - place.seen) + count) < 2 ^ 63 }
+        ensures passed { Passes place.progress (run.first - place.seen) result.passed }
+        ensures kept { Keeps result.passed self.now.format count result.place.progress }
+        ensures ends { EndsKept self.now.end bytes.now run count result.place.at }
+        ensures seen { result.place.seen ≡ run.first + count }
+    {
+        let passed = place.progress.pass((run.first - place.seen) as u64);
+        Step {
+            passed,
+            place: Place {
+                progress: passed.keep(count as u64, &self.format),
+                at: self.end_of_kept(bytes, run, count),
+                seen: run.first + count,
+            },
+        }
+    }
+
+    /// Writes the rows of the lines between two places: those before a run of selected lines, none of
+    /// which is kept, and those of the run that are kept.
+    fn print_step<W: Sink>(
+        &mut self,
+        out: &mut W,
+        place: Place,
+        bytes: &[u8],
+        run: Run,
+        next: Step,
+    ) -> Result<(), WriteError>
+        requires window { IsWindow self.old.end self.old.window }
+        requires next { ComesNext self.old.end bytes.now place.at place.seen run }
+        requires passes { Passes place.progress (run.first - place.seen) next.passed }
+        requires low { run.span.start ≤ next.place.at }
+        requires high { next.place.at ≤ run.span.end }
+        requires enough { leading self.old.format place.progress ≤ length (held self.old.end self.old.window) }
+        requires small { next.passed.number
+            + length (lines self.old.end (slice_range bytes.now run.span.start next.place.at)) < 2 ^ 63 }
+        ensures same { self.new ≡ self.old }
+        ensures all { OnOk result (W.taken out.new ≡ W.taken out.old
+            ++ rows_of_run self.old.format self.old.end self.old.prefix self.old.earlier
+            (held self.old.end self.old.window) place.progress next.passed
+            (lines self.old.end (slice_range bytes.now place.at run.span.start))
+            (lines self.old.end (slice_range bytes.now run.span.start next.place.at))) }
+        ensures part { OnErr result (TakesPart
+            (rows_of_run self.old.format self.old.end self.old.prefix self.old.earlier
+            (held self.old.end self.old.window) place.progress next.passed
+            (lines self.old.end (slice_range bytes.now place.at run.span.start))
+            (lines self.old.end (slice_range bytes.now run.span.start next.place.at)))
+            (W.taken out.old) (W.taken out.new)) }
+        ensures failure { OnErr result (W.failures out.old < W.failures out.new) }
+        ensures no_failure { OnOk result (W.failures out.new ≡ W.failures out.old) }
+        ensures never_falls { W.failures out.old ≤ W.failures out.new }
+    {
+        let gap = &bytes[place.at..run.span.start];
+        let text = &bytes[run.span.start..next.place.at];
+        self.print_run(
+            out,
+            place.progress,
+            next.passed,
+            gap,
+            run.first - place.seen,
+            text,
+        )
+    }
+
+    /// Writes the rows of the lines up to the last one of a block that is kept. It goes from run to run,
+    /// and stops once no more line is kept. The answer is the place behind that line.
+    fn print_runs<W: Sink>(
+        &mut self,
+        out: &mut W,
+        bytes: &[u8],
+        runs: &[Run],
+        total: usize,
+    ) -> Result<Place, WriteError>
+        requires stands { (q : Search) × (format : Format) × (c : Cursor) × Remembers self.old q format c
+            × (shows_lines q format ≡ true) × HasLines q bytes.now runs.now total }
+        requires small { self.old.progress.number + total < 2 ^ 63 }
+        ensures same { self.new ≡ self.old }
+        ensures all { (q : Search) (format : Format) (c : Cursor) → Remembers self.old q format c →
+            shows_lines q format ≡ true → HasLines q bytes.now runs.now total →
+            IfOk result (λ place. ComesLast q format c (held (terminator q) self.old.window) bytes.now
+            (W.taken out.old) (W.taken out.new) self.old.progress place) }
+        ensures number { IfOk result (λ place. place.progress.number ≡ self.old.progress.number + place.seen) }
+        ensures part { (q : Search) (format : Format) (c : Cursor) → Remembers self.old q format c →
+            shows_lines q format ≡ true → HasLines q bytes.now runs.now total →
+            OnErr result (TakesPart
+            (run_rows q format c.name c.earlier c.trail (lines (terminator q) bytes.now))
+            (W.taken out.old) (W.taken out.new)) }
+        ensures failure { OnErr result (W.failures out.old < W.failures out.new) }
+        ensures no_failure { OnOk result (W.failures out.new ≡ W.failures out.old) }
+        ensures never_falls { W.failures out.old ≤ W.failures out.new }
+    {
+        let mut place = Place {
+            progress: self.progress,
+            at: 0,
+            seen: 0,
+        };
+        for run in runs {
+            let count = place.progress.keeps(&self.format, run.count as u64) as usize;
+            if count == 0 {
+                return Ok(place);
+            }
+            let next = self.step(place, bytes, *run, count);
+            self.print_step(out, place, bytes, *run, next)?;
+            place = next.place;
+        }
+        Ok(place)
+    }
+
+    /// Writes the rows of the lines of a block.
+    fn print_lines<W: Sink>(
+        &mut self,
+        out: &mut W,
+        bytes: &[u8],
+        runs: &[Run],
+        total: usize,
+    ) -> Result<Printed, WriteError>
+        requires stands { (q : Search) × (format : Format) × (c : Cursor) × Remembers self.old q format c
+            × (shows_lines q format ≡ true) × HasLines q bytes.now runs.now total }
+        requires small { self.old.progress.number + total < 2 ^ 63 }
+        ensures same { self.new ≡ self.old }
+        ensures all { (q : Search) (format : Format) (c : Cursor) → Remembers self.old q format c →
+            shows_lines q format ≡ true → HasLines q bytes.now runs.now total →
+            OnOk result (W.taken out.new ≡ W.taken out.old
+            ++ run_rows q format c.name c.earlier c.trail (lines (terminator q) bytes.now)) }
+        ensures follows { (q : Search) (format : Format) (c : Cursor) → Remembers self.old q format c →
+            shows_lines q format ≡ true → HasLines q bytes.now runs.now total →
+            IfOk result (λ printed. Follows self.old q format (behind_block q format c bytes.now) bytes.now printed) }
+        ensures part { (q : Search) (format : Format) (c : Cursor) → Remembers self.old q format c →
+            shows_lines q format ≡ true → HasLines q bytes.now runs.now total →
+            OnErr result (TakesPart
+            (run_rows q format c.name c.earlier c.trail (lines (terminator q) bytes.now))
+            (W.taken out.old) (W.taken out.new)) }
+        ensures failure { OnErr result (W.failures out.old < W.failures out.new) }
+        ensures no_failure { OnOk result (W.failures out.new ≡ W.failures out.old) }
+        ensures never_falls { W.failures out.old ≤ W.failures out.new }
+    {
+        let place = self.print_runs(out, bytes, runs, total)?;
+        let left = total - place.seen;
+        let last = place.progress.pass(left as u64);
+        let stop = self.print_passed(out, place.progress, &bytes[place.at..], left)?;
+        Ok(Printed {
+            progress: last,
+            fresh: place.at == 0,
+            start: place.at + stop,
+            lines: (left as u64).saturating_sub(place.progress.countdown) as usize,
+        })
+    }
+}

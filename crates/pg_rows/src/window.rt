@@ -1,0 +1,217 @@
+//! Lines that may still be shown.
+ghost use Rattle.std.specs.Prelude.{◌≡◌, ℕ, ◌+◌, ◌<◌, ◌≤◌, ◌^◌, ◌⊎◌, ◌++◌, [], length};
+ghost use Rattle.std.specs.Prelude.{drop, IfOk, OnOk, OnErr, if◌then◌else◌};
+ghost use Rattle.std.specs.Arc.{arc_value};
+ghost use Rattle.circular_buffer.specs.Buffer.{keep_last};
+ghost use Rattle.pg_rows.specs.Sink.{TakesPart};
+ghost use Rattle.pg_rows.specs.Stretch.{marked_rows};
+ghost use Rattle.pg_rows.specs.Window.{lines_from, tail_lines, held, IsTail, IsWindow, GivesUp, HasRoomFor};
+
+use crate::format::Format;
+use crate::places::end_of_first;
+use crate::prefix::Prefix;
+use crate::rows::write_lines;
+use crate::sink::{Sink, WriteError};
+use circular_buffer::HeapCircularBuffer;
+use pg_lines::Block;
+use std::alloc::{AllocError, Allocator, Global};
+use std::sync::Arc;
+
+/// The end of a block, whose lines weren't shown so far: the bytes from `start` on, which have so
+/// many lines, at least one.
+#[derive(Drop)]
+struct Tail<A: Allocator = Global> {
+    block: Arc<Block<A>, A>,
+    start: usize,
+    lines: usize,
+}
+
+impl<A: Allocator> Tail<A> {
+    /// Its bytes.
+    fn text(&self) -> &[u8]
+        requires { self.now.start ≤ length (arc_value self.now.block).bytes }
+        ensures value { result.now ≡ drop self.now.start (arc_value self.now.block).bytes }
+        ensures short { length result.now < 2 ^ 63 }
+    {
+        let block: &Block<A> = &self.block;
+        &block.bytes.as_slice()[self.start..]
+    }
+
+    /// Writes its lines but the first ones as context.
+    fn write_from<W: Sink>(
+        &self,
+        out: &mut W,
+        format: &Format,
+        end: u8,
+        prefix: &mut Prefix<A>,
+        number: u64,
+        skip: usize,
+    ) -> Result<(), WriteError>
+        requires tail { IsTail end self.now }
+        requires small { number + length (drop skip (tail_lines end self.now)) < 2 ^ 64 }
+        ensures same { prefix.new ≡ prefix.old }
+        ensures all { OnOk result (W.taken out.new ≡ W.taken out.old
+            ++ marked_rows format.now end prefix.old 45 number (drop skip (tail_lines end self.now))) }
+        ensures part { OnErr result
+            (TakesPart (marked_rows format.now end prefix.old 45 number (drop skip (tail_lines end self.now)))
+            (W.taken out.old) (W.taken out.new)) }
+        ensures failure { OnErr result (W.failures out.old < W.failures out.new) }
+        ensures no_failure { OnOk result (W.failures out.new ≡ W.failures out.old) }
+        ensures never_falls { W.failures out.old ≤ W.failures out.new }
+    {
+        if skip >= self.lines {
+            return Ok(());
+        }
+        let text = self.text();
+        let from = end_of_first(end, text, skip);
+        write_lines(out, format, end, prefix, b'-', number, &text[from..])
+    }
+}
+
+/// The last lines of a file that weren't shown, as far as they may still be shown before a line to
+/// come.
+#[derive(Drop)]
+pub(crate) struct Window<A: Allocator = Global> {
+    tails: HeapCircularBuffer<Tail<A>, A>,
+    lines: usize,
+}
+
+impl<A: Allocator> Window<A> {
+    /// A window with nothing in it, for the last `size` lines.
+    ///
+    /// # Errors
+    ///
+    /// `AllocError` where the memory for `size` places is refused.
+    pub(crate) fn new(alloc: A, size: usize) -> Result<Window<A>, AllocError>
+        ensures size { IfOk result (λ window. window.tails.capacity ≡ size) }
+        ensures nothing { IfOk result (λ window. window.tails.items ≡ []) }
+        ensures window { (end : ℕ) → IfOk result (λ window. IsWindow end window) }
+    {
+        let tails = HeapCircularBuffer::with_capacity(alloc, size)?;
+        Ok(Window { tails, lines: 0 })
+    }
+
+    /// Gives up all lines.
+    pub(crate) fn clear(&mut self)
+        ensures size { self.new.tails.capacity ≡ self.old.tails.capacity }
+        ensures nothing { self.new.tails.items ≡ [] }
+        ensures window { (end : ℕ) → IsWindow end self.new }
+    {
+        self.tails.clear();
+        self.lines = 0;
+    }
+
+    /// Gives up all lines, unless they are to be kept.
+    pub(crate) fn clear_unless(&mut self, fresh: bool)
+        ensures size { self.new.tails.capacity ≡ self.old.tails.capacity }
+        ensures window { (end : ℕ) → IsWindow end self.old → IsWindow end self.new }
+        ensures held { (end : ℕ) → held end self.new ≡ (if fresh then held end self.old else []) }
+    {
+        if !fresh {
+            self.clear();
+        }
+    }
+
+    /// Gives up first tails, as long as the others and so many lines to come are as many as may be
+    /// shown.
+    fn make_room(&mut self, end: u8, lines: usize)
+        requires window { IsWindow end self.old }
+        requires small { lines < 2 ^ 63 }
+        ensures size { self.new.tails.capacity ≡ self.old.tails.capacity }
+        ensures window { IsWindow end self.new }
+        ensures room { HasRoomFor end lines self.new }
+        ensures gives_up { GivesUp self.old.tails.capacity lines (held end self.old) (held end self.new) }
+    {
+        let size = self.tails.capacity();
+        while let Some(first) = self.tails.front() {
+            let others = self.lines - first.lines;
+            if others + lines < size {
+                return;
+            }
+            self.lines = others;
+            self.tails.pop_front();
+        }
+    }
+
+    /// Takes the lines of a block from `start` on, behind the others. Blocks are given up as soon as
+    /// the others have as many lines as may be shown.
+    pub(crate) fn push(&mut self, end: u8, block: Arc<Block<A>, A>, start: usize, lines: usize)
+        requires window { IsWindow end self.old }
+        requires within { start ≤ length (arc_value block).bytes }
+        requires counted { lines ≡ length (lines_from end (arc_value block) start) }
+        requires some { 0 < lines }
+        ensures size { self.new.tails.capacity ≡ self.old.tails.capacity }
+        ensures window { IsWindow end self.new }
+        ensures last { keep_last self.old.tails.capacity (held end self.new)
+            ≡ keep_last self.old.tails.capacity (held end self.old ++ lines_from end (arc_value block) start) }
+        ensures enough { (self.old.tails.capacity ≤ length (held end self.new))
+            ⊎ (held end self.new ≡ held end self.old ++ lines_from end (arc_value block) start) }
+        ensures nothing { self.old.tails.capacity ≡ 0 → self.new.tails.items ≡ [] }
+    {
+        if self.tails.capacity() == 0 {
+            return;
+        }
+        let tail = Tail {
+            block,
+            start,
+            lines,
+        };
+        // Its contract says that the lines are fewer than 2^63.
+        let _text = tail.text();
+        self.make_room(end, lines);
+        self.lines += lines;
+        self.tails.push_back(tail);
+    }
+
+    /// Takes the lines of a block from `start` on, if there are any, as `push` does.
+    pub(crate) fn push_some(&mut self, end: u8, block: Arc<Block<A>, A>, start: usize, lines: usize)
+        requires window { IsWindow end self.old }
+        requires within { start ≤ length (arc_value block).bytes }
+        requires counted { lines ≡ length (lines_from end (arc_value block) start) }
+        ensures size { self.new.tails.capacity ≡ self.old.tails.capacity }
+        ensures window { IsWindow end self.new }
+        ensures last { keep_last self.old.tails.capacity (held end self.new)
+            ≡ keep_last self.old.tails.capacity (held end self.old ++ lines_from end (arc_value block) start) }
+    {
+        if lines > 0 {
+            self.push(end, block, start, lines);
+        }
+    }
+
+    /// Writes the last `count` lines as context, numbered from a number on.
+    ///
+    /// # Errors
+    ///
+    /// `WriteError` where a write failed. A beginning of the rows was taken then.
+    pub(crate) fn write_last<W: Sink>(
+        &self,
+        out: &mut W,
+        format: &Format,
+        end: u8,
+        prefix: &mut Prefix<A>,
+        number: u64,
+        count: usize,
+    ) -> Result<(), WriteError>
+        requires window { IsWindow end self.now }
+        requires within { count ≤ length (held end self.now) }
+        requires small { number + count < 2 ^ 64 }
+        ensures same { prefix.new ≡ prefix.old }
+        ensures all { OnOk result (W.taken out.new ≡ W.taken out.old
+            ++ marked_rows format.now end prefix.old 45 number (keep_last count (held end self.now))) }
+        ensures part { OnErr result
+            (TakesPart (marked_rows format.now end prefix.old 45 number (keep_last count (held end self.now)))
+            (W.taken out.old) (W.taken out.new)) }
+        ensures failure { OnErr result (W.failures out.old < W.failures out.new) }
+        ensures no_failure { OnOk result (W.failures out.new ≡ W.failures out.old) }
+        ensures never_falls { W.failures out.old ≤ W.failures out.new }
+    {
+        let mut skip = self.lines - count;
+        let mut at = number;
+        for tail in self.tails.iter() {
+            tail.write_from(out, format, end, prefix, at, skip)?;
+            at += tail.lines.saturating_sub(skip) as u64;
+            skip = skip.saturating_sub(tail.lines);
+        }
+        Ok(())
+    }
+}
