@@ -1,6 +1,8 @@
 //! What a command line asks for.
 ghost use Rattle.std.specs.Prelude.{◌<◌, ◌≤◌, ◌+◌, ◌^◌, vec_len};
+ghost use Rattle.pg_rows.specs.Output.{HasRoom};
 
+use pg_rows::Format;
 use pg_syntax::Kind;
 
 /// What the words ask for.
@@ -22,11 +24,16 @@ pub struct Request<'a> {
     pub invert: bool,
     /// -z: a NUL ends each line.
     pub zero: bool,
+    /// -o: the matched parts of selected lines have rows, not the lines.
+    pub pieces: bool,
+    /// How rows look: -c, -l, -q, -n, -m, -A, -B, -C, -H and -h.
+    pub format: Format,
     /// FILE: the path of the file that is searched, or `-` for standard input, also where no FILE is
     /// given.
     pub file: &'a str,
     /// --block N: the file is cut into blocks of at least so many bytes.
     pub block: u32,
     ghost has_pattern: { 0 < vec_len texts + vec_len pattern_files },
+    ghost some_limit: { HasRoom format },
     ghost block_in_range: { (1 ≤ block) × (block ≤ 2 ^ 24) },
 }

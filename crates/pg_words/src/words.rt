@@ -8,6 +8,7 @@ use crate::split::Words;
 use crate::usage::{UsageFault, check_usage};
 use clap::error::ErrorKind;
 use clap::{Arg, ArgAction, ArgMatches, Command, Error};
+use pg_rows::{Format, Mode};
 use pg_syntax::Kind;
 use std::alloc::{AllocError, AllocFailed, Global};
 
@@ -16,6 +17,16 @@ const DEFAULT_BLOCK: u32 = 65_536;
 
 /// The largest block size: 2^24 bytes.
 const MAX_BLOCK: u32 = 16_777_216;
+
+/// Selected lines and nothing else.
+const PLAIN: Format = Format {
+    names: false,
+    numbers: false,
+    mode: Mode::Rows,
+    limit: None,
+    before: None,
+    after: None,
+};
 
 /// Why there is no request.
 #[derive(Drop)]
@@ -155,6 +166,8 @@ fn request_of<'a>(
         word: found.get_flag("word"),
         invert: found.get_flag("invert"),
         zero: found.get_flag("zero"),
+        pieces: false,
+        format: PLAIN,
         file: operands.file.unwrap_or("-"),
         block: block.clamp(1, MAX_BLOCK),
     })
