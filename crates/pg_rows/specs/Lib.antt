@@ -8,3 +8,4 @@ pub mod Printing
 pub mod Window
 pub mod Remembered
 pub mod Pieces
+pub mod Enough

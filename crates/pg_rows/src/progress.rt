@@ -1,7 +1,7 @@
 //! What is remembered of a file's lines.
 ghost use Rattle.std.specs.Prelude.{◌≡◌, ◌+◌, ◌-◌, ◌^◌, ◌<◌, ◌≤◌, true, option_map};
 
-use crate::format::Format;
+use crate::format::{Format, Mode};
 use pg_lines::Run;
 
 /// What is remembered of the lines of a file, without their texts.
@@ -24,7 +24,9 @@ pub struct Progress {
 }
 
 impl Progress {
-    ghost use Rattle.pg_rows.specs.Progress.{Passes, Keeps, kept_of, TellsNone, TellsPassed, TellsKept, TellsBlock};
+    ghost use Rattle.pg_rows.specs.Trail.{Trail};
+    ghost use Rattle.pg_rows.specs.Enough.{trail_suffices};
+    ghost use Rattle.pg_rows.specs.Progress.{Tells, Passes, Keeps, kept_of, TellsNone, TellsPassed, TellsKept, TellsBlock};
 
     /// What is remembered of no lines.
     pub fn new() -> Progress
@@ -86,6 +88,19 @@ impl Progress {
         match self.room(format) {
             Some(room) => count.min(room),
             None => count,
+        }
+    }
+
+    /// Whether no line behind these changes what the file gives.
+    pub fn suffices(self, format: &Format) -> bool
+        ensures { (t : Trail) → Tells self format.now t →
+            result ≡ trail_suffices format.now.mode format.now t }
+    {
+        let is_full = self.room(format) == Some(0);
+        match format.mode {
+            Mode::Rows => is_full && self.countdown == 0,
+            Mode::Count => is_full,
+            Mode::List | Mode::Quiet => self.kept > 0,
         }
     }
 

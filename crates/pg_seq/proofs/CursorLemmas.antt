@@ -94,7 +94,7 @@ module _ (q : Search) (format : Format) (limited : is_below 0 format.limit ≡ t
       go true f = pieces_more q format c.name ls ms c.trail h
       go false f = rows_more q format c.name earlier ls ms c.trail h ∙ ap (λ x. line_rows q format c.name ls earlier ++ run_rows q format c.name x c.trail ms) (sym (f refl))
 
-  open_rows : (name : List ℕ) (p : List Step) → output q format (entries_of (Opens name ∷ p)) ≡ output q format (entries_of p)
+  pub open_rows : (name : List ℕ) (p : List Step) → output q format (entries_of (Opens name ∷ p)) ≡ output q format (entries_of p)
   open_rows name p =
       let earlier = something (output q format (entries_of p)) in
       ap (λ xs. output q format (entries_of p) ++ xs)

@@ -8,8 +8,7 @@ use Rattle.pg_lines.specs.Blocks.{BlockData}
 use Rattle.pg_seq.specs.declared.slot.Slot.{Slot}
 use Rattle.pg_seq.specs.Plan.{Step, Opens, Announces, Ends, Misses, IsShaped, announced}
 use Rattle.pg_seq.specs.History.{is_taken, all_taken, front}
-use Rattle.pg_seq.specs.Bare.{bare_rows}
-use Rattle.pg_seq.specs.Slots.{IsResultOf, slot_block, has_result, slot_rows, rows_of, ready}
+use Rattle.pg_seq.specs.Slots.{IsResultOf, slot_block, has_result, ready}
 use Rattle.pg_seq.proofs.SlotLemmas.{cond_pos}
 
 -- what holds of a plan and of each beginning of it holds of its front
@@ -87,30 +86,6 @@ front_taken taken [] = refl
 front_taken taken (s ∷ p) = front_taken_by taken s p (all_taken taken (s ∷ p)) refl (front_taken taken p)
 
 module _ {A : Type 0} where
-  -- the blocks at the front that were taken are the slots at the front that have results
-  slot_rows_by : (q : Search) (b : BlockData) (o : Option Searched) (t : Bool) (bs : List BlockData)
-      (rest : List (Slot A)) (slot : Slot A) → slot.result ≡ o → t ≡ is_some o
-      → IfSome o (λ r. (r.query ≡ q.text) × (r.block ≡ b))
-      → flat_map (λ x. bare_rows q x.bytes) bs ≡ flat_map (slot_rows q) (take (ready rest) rest)
-      → flat_map (λ x. bare_rows q x.bytes) (cond t (b ∷ bs) [])
-      ≡ flat_map (slot_rows q) (take (cond (is_some o) (1 + ready rest) 0) (slot ∷ rest))
-  slot_rows_by q b None t bs rest slot is e h ih = ap (λ v. flat_map (λ (x : BlockData). bare_rows q x.bytes) (cond v (b ∷ bs) [])) e
-  slot_rows_by q b (Some r) t bs rest slot is e h ih =
-      let n : 1 + ready rest ≡ suc (ready rest) = omega arith in
-      ap (λ v. flat_map (λ (x : BlockData). bare_rows q x.bytes) (cond v (b ∷ bs) [])) e
-      ∙ (ap (λ ys. bare_rows q b.bytes ++ ys) ih
-      ∙ (ap (λ (x : BlockData). bare_rows q x.bytes ++ flat_map (slot_rows q) (take (ready rest) rest)) (sym h.1)
-      ∙ (ap (λ o. rows_of q o ++ flat_map (slot_rows q) (take (ready rest) rest)) (sym is)
-      ∙ ap (λ m. flat_map (slot_rows q) (take m (slot ∷ rest))) (sym n))))
-
-  pub slots_front : (q : Search) (slots : List (Slot A)) (t : BlockData → Bool)
-      → map t (map slot_block slots) ≡ map has_result slots → AllByRecursion (IsResultOf q) slots
-      → flat_map (λ b. bare_rows q b.bytes) (while_all t (map slot_block slots))
-      ≡ flat_map (slot_rows q) (take (ready slots) slots)
-  slots_front q [] t e h = refl
-  slots_front q (slot ∷ slots) t e h =
-      slot_rows_by q (slot_block slot) slot.result (t (slot_block slot)) (while_all t (map slot_block slots)) slots slot refl (cons_head e) h.0 (slots_front q slots t (cons_tail e) h.1)
-
   pub all_ready : (slots : List (Slot A)) → ready slots ≡ length slots → list_all (λ b. b) (map has_result slots) ≡ true
   all_ready [] e = refl
   all_ready (x ∷ slots) e =

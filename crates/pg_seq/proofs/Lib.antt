@@ -1,12 +1,14 @@
-pub mod BareLemmas
 pub mod CursorLemmas
 pub mod Examples
 pub mod BeginLemmas
 pub mod SlotLemmas
+pub mod SelectLemmas
 pub mod FrontLemmas
 pub mod ArrivalLaws
 pub mod KeyLemmas
 pub mod PlaceLemmas
 pub mod CountLemmas
 pub mod ArriveLemmas
+pub mod ComingLemmas
 pub mod StandLemmas
+pub mod DrainSteps

@@ -7,7 +7,7 @@ use Rattle.std.proofs.lemmas.List.Concat.{flat_map-append}
 use Rattle.pg_lines.specs.Search.{Search}
 use Rattle.pg_lines.specs.Searched.{Searched}
 use Rattle.pg_seq.specs.declared.slot.Slot.{Slot}
-use Rattle.pg_seq.specs.Slots.{has_result, slot_block, slot_rows, slot_selects, ready, IsResultOf}
+use Rattle.pg_seq.specs.Slots.{has_result, slot_block, slot_selects, ready, IsResultOf}
 
 or_true : (b : Bool) → (b || true) ≡ true
 or_true true = refl
@@ -19,42 +19,6 @@ cond_pos true n h = refl
 cond_pos false n h = absurd (omega arith)
 
 module _ {A : Type 0} where
-  -- behind slots with results
-  pub ready_behind : (gone slots : List (Slot A)) → AllByRecursion (λ slot. has_result slot ≡ true) gone → ready (gone ++ slots) ≡ length gone + ready slots
-  ready_behind [] slots h = omega arith
-  ready_behind (x ∷ gone) slots h =
-      let here : cond (has_result x) (1 + ready (gone ++ slots)) 0 ≡ 1 + ready (gone ++ slots) = ap (λ b. cond b (1 + ready (gone ++ slots)) 0) h.0 in
-      let ih = ready_behind gone slots h.1 in
-      omega arith
-
-  take_behind : (gone slots : List (Slot A)) (n m : ℕ) → m ≡ length gone + n → take m (gone ++ slots) ≡ gone ++ take n slots
-  take_behind [] slots n m e = ap (λ k. take k slots) (omega arith)
-  take_behind (x ∷ gone) slots n m e =
-      let more : m ≡ suc (length gone + n) = omega arith in
-      ap (λ k. take k (x ∷ (gone ++ slots))) more ∙ ap (λ xs. x ∷ xs) (take_behind gone slots n (length gone + n) refl)
-
-  -- the rows of all slots that are ready
-  pub rows_behind : (q : Search) (gone slots : List (Slot A)) → AllByRecursion (λ slot. has_result slot ≡ true) gone
-      → flat_map (slot_rows q) (take (ready (gone ++ slots)) (gone ++ slots))
-      ≡ flat_map (slot_rows q) gone ++ flat_map (slot_rows q) (take (ready slots) slots)
-  rows_behind q gone slots h =
-      ap (flat_map (slot_rows q)) (take_behind gone slots (ready slots) (ready (gone ++ slots))
-      (ready_behind gone slots h))
-      ∙ flat_map-append (slot_rows q) gone (take (ready slots) slots)
-
-  -- the first of them
-  pub rows_first : (q : Search) (slot : Slot A) (slots : List (Slot A)) → has_result slot ≡ true
-      → flat_map (slot_rows q) (take (ready (slot ∷ slots)) (slot ∷ slots))
-      ≡ slot_rows q slot ++ flat_map (slot_rows q) (take (ready slots) slots)
-  rows_first q slot slots some =
-      let here : cond (has_result slot) (1 + ready slots) 0 ≡ 1 + ready slots = ap (λ b. cond b (1 + ready slots) 0) some in
-      let count : ready (slot ∷ slots) ≡ suc (ready slots) = omega arith in
-      ap (λ n. flat_map (slot_rows q) (take n (slot ∷ slots))) count
-
-  pub rows_none : (q : Search) (slots : List (Slot A)) → ready slots ≡ 0
-      → flat_map (slot_rows q) (take (ready slots) slots) ≡ []
-  rows_none q slots none = ap (λ n. flat_map (slot_rows q) (take n slots)) none
-
   -- whether all slots have their results
   pub all_behind : (gone slots : List (Slot A)) → AllByRecursion (λ slot. has_result slot ≡ true) gone → list_all (λ b. b) (map has_result (gone ++ slots)) ≡ list_all has_result slots
   all_behind [] slots h = held slots

@@ -1,13 +1,13 @@
 -- What a sequencer stands after.
-use Rattle.std.proofs.Common.{◌≡◌, ℕ, ◌+◌, ◌<◌, ◌≤◌, ◌^◌, Bool, true, false, ◌||◌, cond, eqb, is_some, Option, Some}
+use Rattle.std.proofs.Common.{◌≡◌, ℕ, ◌+◌, ◌<◌, ◌≤◌, ◌^◌, Bool, true, false, ◌||◌, ◌&&◌, cond, eqb, is_some, Option, Some}
 use Rattle.std.proofs.Common.{None, IfSome, List, [], ◌∷◌, ◌++◌, length, take, map, refl, sym, ap, ◌∙◌, subst, arith}
 use Rattle.std.proofs.Common.{inl, inr, append_assoc, length-append}
 use Rattle.std.specs.List.{find, flat_map, AllByRecursion, list_any, list_all}
 use Rattle.std.proofs.lemmas.Bool.{false≢true, cases_Bool, eqb-true, and_parts}
-use Rattle.std.proofs.lemmas.List.{append-nil, length-map, map_push}
+use Rattle.std.proofs.lemmas.List.{append-nil, length-map, map-append, map_push}
 use Rattle.std.proofs.lemmas.List.Folds.{list_any-append}
 use Rattle.std.proofs.lemmas.List.Concat.{flat_map-append}
-use Rattle.pg_lines.specs.Search.{Search, terminator}
+use Rattle.pg_lines.specs.Search.{Search, HasItsTrees, terminator}
 use Rattle.pg_lines.specs.Lines.{lines}
 use Rattle.pg_lines.specs.Selection.{selects}
 use Rattle.pg_lines.specs.Same.{same_text, text_equal}
@@ -17,23 +17,28 @@ use Rattle.pg_lines.proofs.LineLemmas.{lines-append}
 use Rattle.pg_seq.specs.declared.answers.Arrival.{Arrival}
 use Rattle.pg_seq.specs.declared.answers.Arrival.TheVariants.{Taken, Double, Stranger}
 use Rattle.pg_seq.specs.declared.slot.Slot.{Slot}
+use Rattle.pg_seq.specs.declared.opening.Opening.{Opening}
 use Rattle.pg_seq.specs.declared.sequencer.Sequencer.{Sequencer}
-use Rattle.pg_rows.specs.Output.{Entry, Missed, Read, Running, Ended, Failed, output, status, is_bad, has_selected}
+use Rattle.pg_rows.specs.declared.format.Format.{Format}
+use Rattle.pg_rows.specs.declared.printer.Printer.{Printer}
+use Rattle.pg_rows.specs.Output.{Entry, Missed, Read, Running, Ended, Failed, HasRoom, is_bad, is_quiet}
+use Rattle.pg_rows.specs.Output.{has_selected}
+use Rattle.pg_rows.specs.Remembered.{Remembers}
 use Rattle.pg_seq.specs.Plan.{Step, Opens, Announces, Ends, Misses, IsShaped, IsNext, IsSmall, MayFollow, is_open}
 use Rattle.pg_seq.specs.Plan.{announced, last_blocks, entries_of, with_bytes, with_end}
-use Rattle.pg_seq.specs.History.{Past, plan, planned, arrived, answer, answer_after, arrival_at, taken_of}
-use Rattle.pg_seq.specs.History.{taken_after, is_taken, is_block, all_taken, front, front_after, handed, handed_after}
+use Rattle.std.specs.Arc.{arc_value}
+use Rattle.pg_seq.specs.History.{Past, start, plan, planned, arrived, answer, answer_after, arrival_at, taken_of}
+use Rattle.pg_seq.specs.History.{taken_after, is_taken, is_block, all_taken, front_after}
 use Rattle.pg_seq.specs.History.{IsComplete, status_of}
-use Rattle.pg_rows.specs.Sink.{IsBeginning, TakesPart}
-use Rattle.pg_seq.specs.Bare.{bare, bare_rows}
+use Rattle.pg_seq.specs.Coming.{behind, blocks_of, openings}
+use Rattle.pg_seq.specs.Cursor.{at_start, cursor_of}
 use Rattle.pg_seq.specs.Slots.{place_of, at_place, slot_block, has_result, arrival_among, with_result, IsResultOf}
-use Rattle.pg_seq.specs.Slots.{slot_rows, slot_selects, result_selects, ready}
-use Rattle.pg_seq.specs.Buffer.{Keeps, OpensFile, Pushes, Puts, IsArrival, HandsOut, HandsPart}
-use Rattle.pg_seq.specs.Standing.{Stands, starts_of}
-use Rattle.pg_seq.proofs.SlotLemmas.{rows_behind, rows_first, rows_none, all_behind, cond_pos}
-use Rattle.pg_seq.proofs.FrontLemmas.{front_shaped, front_blocks, front_all, front_taken, all_map, ready_all}
-use Rattle.pg_seq.proofs.FrontLemmas.{slots_front, while_all}
-use Rattle.pg_seq.proofs.BareLemmas.{output_bare}
+use Rattle.pg_seq.specs.Slots.{slot_selects, result_selects, ready}
+use Rattle.pg_seq.specs.Buffer.{Keeps, OpensFile, Pushes, Puts, IsArrival, HandsOut}
+use Rattle.pg_seq.specs.Standing.{Stands, Writes, starts_of, opening_of}
+use Rattle.pg_seq.proofs.SlotLemmas.{all_behind, cond_pos}
+use Rattle.pg_seq.proofs.FrontLemmas.{front_all, front_taken, all_map, ready_all}
+use Rattle.pg_seq.proofs.ComingLemmas.{behind_push, openings_push, announced_behind, parts_same}
 use Rattle.pg_seq.proofs.BeginLemmas.{shape_of}
 use Rattle.pg_seq.proofs.CursorLemmas.{cursor_is, closed_joined}
 use Rattle.pg_seq.proofs.PlaceLemmas.{starts_length, find_place}
@@ -65,7 +70,7 @@ bad_more bytes [] = refl
 bad_more bytes (Missed name ∷ es) = refl
 bad_more bytes (Read name old ending ∷ es) = refl
 
-all_push : {X : Type 0} (P : X → Type 0) (xs : List X) (x : X) → AllByRecursion P xs → P x
+pub all_push : {X : Type 0} (P : X → Type 0) (xs : List X) (x : X) → AllByRecursion P xs → P x
     → AllByRecursion P (xs ++ x ∷ [])
 all_push P [] x h p = (p, tt)
 all_push P (y ∷ xs) x h p = (h.0, all_push P xs x h.1 p)
@@ -73,17 +78,17 @@ all_push P (y ∷ xs) x h p = (h.0, all_push P xs x h.1 p)
 abbrev block_selects : Search → BlockData → Bool
 block_selects q b = list_any (selects q) (lines (terminator q) b.bytes)
 
-selected_entries : (q : Search) (p : List Step) → IsShaped (terminator q) p
+selected_entries : (q : Search) (format : Format) → HasRoom format → (p : List Step) → IsShaped (terminator q) p
     → list_any (has_selected q) (entries_of p) ≡ list_any (block_selects q) (announced p)
-selected_entries q [] lawful = refl
-selected_entries q (Opens name ∷ p) lawful = selected_entries q p lawful.1
-selected_entries q (Misses name ∷ p) lawful = selected_entries q p lawful.1
-selected_entries q (Ends failed ∷ p) lawful =
-    let f = (cursor_is q bare refl p lawful.1).file lawful.0 in
+selected_entries q format room [] lawful = refl
+selected_entries q format room (Opens name ∷ p) lawful = selected_entries q format room p lawful.1
+selected_entries q format room (Misses name ∷ p) lawful = selected_entries q format room p lawful.1
+selected_entries q format room (Ends failed ∷ p) lawful =
+    let f = (cursor_is q format room p lawful.1).file lawful.0 in
     ap (λ es. list_any (has_selected q) (with_end failed es)) f.entries
-    ∙ (sym (ap (list_any (has_selected q)) f.entries) ∙ selected_entries q p lawful.1)
-selected_entries q (Announces b ∷ p) lawful =
-    let f = (cursor_is q bare refl p lawful.1).file lawful.0.running in
+    ∙ (sym (ap (list_any (has_selected q)) f.entries) ∙ selected_entries q format room p lawful.1)
+selected_entries q format room (Announces b ∷ p) lawful =
+    let f = (cursor_is q format room p lawful.1).file lawful.0.running in
     let rest = list_any (has_selected q) f.rest in
     let seam : lines (terminator q) (f.bytes ++ b.bytes)
     ≡ lines (terminator q) f.bytes ++ lines (terminator q) b.bytes =
@@ -96,7 +101,7 @@ selected_entries q (Announces b ∷ p) lawful =
     ∙ (ap (λ t. t || rest) (list_any-append (selects q) (lines (terminator q) f.bytes) (lines (terminator q) b.bytes))
     ∙ (turn (list_any (selects q) (lines (terminator q) f.bytes)) (block_selects q b) rest
     ∙ (ap (λ t. t || (block_selects q b || false)) (sym (ap (list_any (has_selected q)) f.entries)
-    ∙ selected_entries q p lawful.1)
+    ∙ selected_entries q format room p lawful.1)
     ∙ sym (list_any-append (block_selects q) (announced p) (b ∷ []))))))
   where
     turn : (x y r : Bool) → ((x || y) || r) ≡ ((x || r) || (y || false))
@@ -118,20 +123,64 @@ answer_other past r e =
     let known = find (is_block r.block.file r.block.number) (announced (plan past)) in
     sym (ap (λ t. cond t (arrival_at known (taken_of past.query past.events) r.block) Stranger) e)
 
--- more was written
-abbrev pub wrote : Past → List ℕ → Past
-wrote past text = record past { written = past.written ++ text }
-
 module _ {A : Type 0} where
   -- the slots of all announced blocks
   abbrev pub all : {past : Past} (s : Sequencer A) → Stands s past → List (Slot A)
   all s h = h.gone ++ s.buffer.slots.items
 
-  -- all but the buffer and the failure is the same
+  -- the query, the format and what is told of the plan are the same
   pub record IsAlike (s new : Sequencer A) : Type 0 where
     pub query : new.query ≡ s.query
+    pub format : new.format ≡ s.format
     pub running : new.running ≡ s.running
     pub bad : new.bad ≡ s.bad
+
+  -- no step was done
+  pub record IsIdle (s new : Sequencer A) : Type 0 where
+    pub handed : new.buffer.handed ≡ s.buffer.handed
+    pub printing : new.printing ≡ s.printing
+    pub printer : new.printer ≡ s.printer
+
+  -- the printer stands where it stood
+  still : (s new : Sequencer A) (past : Past) (w : Writes s past) → new.printer ≡ s.printer
+      → Remembers new.printer past.query past.format (cursor_of past.query past.format w.done)
+  still s new past w same =
+      let P : Printer A → Type 0 = λ p. Remembers p past.query past.format (cursor_of past.query past.format w.done) in
+      subst P (sym same) w.cursor
+
+  -- nothing more was written, or a write has failed
+  rested_writes : (s new : Sequencer A) (past : Past) (written : List ℕ) (failed : Bool) → Writes s past → IsIdle s new
+      → new.waiting.items ≡ s.waiting.items → (new.failed ≡ false → written ≡ past.written × (s.failed ≡ false))
+      → Writes new (record past { written = written; failed = failed })
+  rested_writes s new past written failed w i waiting f = record {
+    done = w.done;
+    coming = w.coming;
+    split = w.split;
+    count = w.count ∙ sym i.handed;
+    printing = w.printing ∙ sym i.printing;
+    waiting = ap (map opening_of) waiting ∙ (w.waiting ∙ ap (λ n. openings n w.coming) (sym i.handed));
+    cursor = still s new past w i.printer;
+    written = λ e. (f e).0 ∙ w.written (f e).1;
+  }
+
+  -- one more step is to come
+  planned_writes : (s new : Sequencer A) (past : Past) (step : Step) (w : Writes s past) → IsIdle s new
+      → new.failed ≡ s.failed → (total : ℕ) → total ≡ s.buffer.handed + length (blocks_of w.coming)
+      → map opening_of new.waiting.items ≡ map opening_of s.waiting.items ++ openings total (step ∷ [])
+      → Writes new (planned past step)
+  planned_writes s new past step w i failed' total count waiting = record {
+    done = w.done;
+    coming = w.coming ++ step ∷ [];
+    split = ap (λ p. step ∷ p) w.split ∙ sym (behind_push w.done w.coming step);
+    count = w.count ∙ sym i.handed;
+    printing = w.printing ∙ sym i.printing;
+    waiting = waiting
+        ∙ (ap (λ xs. xs ++ openings total (step ∷ [])) w.waiting
+        ∙ (sym (openings_push s.buffer.handed total w.coming step count)
+        ∙ ap (λ n. openings n (w.coming ++ step ∷ [])) (sym i.handed)));
+    cursor = still s new past w i.printer;
+    written = λ e. w.written (sym failed' ∙ e);
+  }
 
   -- the held slots' results are the query's
   all_later : (P : Slot A → Type 0) (xs ys : List (Slot A)) → AllByRecursion P (xs ++ ys) → AllByRecursion P ys
@@ -148,108 +197,48 @@ module _ {A : Type 0} where
       let P : List (Slot A) → Type 0 = λ xs. AllByRecursion (IsResultOf past.query) xs in
       (subst P e (held_results s past h)).0
 
-  -- what may be handed out are the rows of the slots that are ready
-  handed_all : (s : Sequencer A) (past : Past) (h : Stands s past)
-      → handed past ≡ flat_map (slot_rows past.query) (take (ready (all s h)) (all s h))
-  unfolding handed_after front_after
-  handed_all s past h =
-      let q = past.query in
-      let taken = taken_of q past.events in
-      let f = front taken (plan past) in
-      let P : List BlockData → Type 0 = λ bs. map (is_taken taken) bs ≡ map has_result (all s h) in
-      ap (λ format. output q format (entries_of f)) h.format
-      ∙ (output_bare q f h.whole
-      (front_shaped (terminator q) taken (plan past) (shape_of (terminator q) (plan past) h.lawful))
-      ∙ (ap (flat_map (λ (b : BlockData). bare_rows q b.bytes)) (front_blocks taken (plan past)
-      ∙ ap (while_all (is_taken taken)) h.blocks)
-      ∙ slots_front q (all s h) (is_taken taken) (subst P h.blocks h.taken) h.results))
+  -- The blocks that were handed out, and those that weren't.
+  pub record Halves (s : Sequencer A) (past : Past) (h : Stands s past) : Type 0 where
+    pub before : announced h.writes.done ≡ map slot_block h.gone
+    pub later : blocks_of h.writes.coming ≡ map slot_block s.buffer.slots.items
+    pub taken_before : map (is_taken (taken_of past.query past.events)) (announced h.writes.done)
+        ≡ map has_result h.gone
+    pub taken_later : map (is_taken (taken_of past.query past.events)) (blocks_of h.writes.coming)
+        ≡ map has_result s.buffer.slots.items
 
-  -- the rows of the slots that were given up, and of those that are held and ready
-  handed_is : (s : Sequencer A) (past : Past) (h : Stands s past)
-      → handed past ≡ flat_map (slot_rows past.query) h.gone ++ flat_map (slot_rows past.query)
-      (take (ready s.buffer.slots.items) s.buffer.slots.items)
-  handed_is s past h = handed_all s past h ∙ rows_behind past.query h.gone s.buffer.slots.items h.given_up.results
-
-  -- where the first slot has no result, all was written
-  pub all_handed : (s : Sequencer A) (past : Past) → Stands s past → s.failed ≡ false
-      → ready s.buffer.slots.items ≡ 0 → past.written ≡ handed past
-  all_handed s past h f none =
-      h.written f ∙ (sym (append-nil (flat_map (slot_rows past.query) h.gone))
-      ∙ (ap (λ w. flat_map (slot_rows past.query) h.gone ++ w)
-      (sym (rows_none past.query s.buffer.slots.items none)) ∙ sym (handed_is s past h)))
-
-  -- a part of the first slot's rows
-  pub part_of : (s : Sequencer A) (past : Past) (before after : List ℕ) → Stands s past
-      → (p : HandsPart s.buffer before after) → TakesPart (slot_rows past.query p.slot) before after
-  part_of s past before after h p = p.part past.query h.trees (first_result s past p.slot p.later h p.slots)
-
-  pub part_handed : (s : Sequencer A) (past : Past) (before after : List ℕ) (h : Stands s past) → s.failed ≡ false
-      → (p : HandsPart s.buffer before after)
-      → IsBeginning (past.written ++ (part_of s past before after h p).0) (handed past)
-  part_handed s past before after h f p =
-      let part = part_of s past before after h p in
-      let b = part.1 in
-      let gone = flat_map (slot_rows past.query) h.gone in
-      let later = flat_map (slot_rows past.query) (take (ready p.later) p.later) in
-      let first : flat_map (slot_rows past.query) (take (ready s.buffer.slots.items) s.buffer.slots.items)
-      ≡ slot_rows past.query p.slot ++ later =
-      ap (λ xs. flat_map (slot_rows past.query) (take (ready xs) xs)) p.slots
-      ∙ rows_first past.query p.slot p.later p.some in (
-        b.0 ++ later,
-        append_assoc past.written part.0 (b.0 ++ later)
-            ∙ (ap (λ w. past.written ++ w) (sym (append_assoc part.0 b.0 later) ∙ ap (λ w. w ++ later) b.1)
-            ∙ (ap (λ w. w ++ (slot_rows past.query p.slot ++ later)) (h.written f)
-            ∙ (ap (λ w. gone ++ w) (sym first) ∙ sym (handed_is s past h)))),
-      )
-
-  -- The first slot's rows were written, and it was given up.
-  pub handed_stands : (s new : Sequencer A) (past : Past) (before after : List ℕ) → Stands s past → IsAlike s new
-      → new.failed ≡ s.failed → (o : HandsOut s.buffer new.buffer before after)
-      → Stands new (wrote past (slot_rows past.query o.slot))
-  handed_stands s new past before after h a failed' o =
-      let gone = h.gone ++ o.slot ∷ [] in
-      let same : all s h ≡ gone ++ new.buffer.slots.items = ap (λ xs. h.gone ++ xs) o.slots
-      ∙ sym (append_assoc h.gone (o.slot ∷ []) new.buffer.slots.items) in
-      let R : List (Slot A) → Type 0 = λ xs. AllByRecursion (IsResultOf past.query) xs in
+  pub halves : (s : Sequencer A) (past : Past) (h : Stands s past) → Halves s past h
+  halves s past h =
+      let w = h.writes in
+      let t = is_taken (taken_of past.query past.events) in
+      let slots = s.buffer.slots.items in
+      let joined' : announced w.done ++ blocks_of w.coming ≡ map slot_block h.gone ++ map slot_block slots =
+      sym (ap announced w.split ∙ announced_behind w.done w.coming)
+      ∙ (h.blocks ∙ map-append slot_block h.gone slots) in
+      let marked : map t (announced w.done) ++ map t (blocks_of w.coming) ≡ map has_result h.gone ++ map has_result slots =
+      sym (map-append t (announced w.done) (blocks_of w.coming))
+      ∙ (ap (map t) (sym (ap announced w.split ∙ announced_behind w.done w.coming))
+      ∙ (h.taken ∙ map-append has_result h.gone slots)) in
+      let count : length (announced w.done) ≡ length h.gone = w.count ∙ sym h.given_up.count in
+      let blocks = parts_same (announced w.done) (blocks_of w.coming) (map slot_block h.gone) (map slot_block slots)
+      joined' (count ∙ sym (length-map h.gone slot_block)) in
+      let marks' = parts_same (map t (announced w.done)) (map t (blocks_of w.coming)) (map has_result h.gone)
+      (map has_result slots) marked
+      (length-map (announced w.done) t ∙ (count ∙ sym (length-map h.gone has_result))) in
       record {
-        gone = gone;
-        given_up = record {
-          count = length-append h.gone (o.slot ∷ []) ∙ (ap (λ n. n + 1) h.given_up.count ∙ sym o.handed);
-          results = all_push (λ slot. has_result slot ≡ true) h.gone o.slot h.given_up.results o.some;
-        };
-        query = h.query ∙ ap (λ q. q.value.text) (sym a.query);
-        trees = h.trees;
-        format = h.format;
-        whole = h.whole;
-        lawful = h.lawful;
-        running = h.running ∙ sym a.running;
-        bad = h.bad ∙ sym a.bad;
-        starts = o.starts ∙ h.starts;
-        blocks = h.blocks ∙ ap (map slot_block) same;
-        taken = h.taken ∙ ap (map has_result) same;
-        results = subst R same h.results;
-        failed = h.failed ∙ sym failed';
-        written = λ e. ap (λ w. w ++ slot_rows past.query o.slot) (h.written (sym failed' ∙ e))
-            ∙ (ap (λ w. flat_map (slot_rows past.query) h.gone ++ w) (sym (append-nil (slot_rows past.query o.slot)))
-            ∙ sym (flat_map-append (slot_rows past.query) h.gone (o.slot ∷ [])));
-        selected = o.selected past.query h.trees (first_result s past o.slot new.buffer.slots.items h o.slots)
-            ∙ (ap (λ b. b || slot_selects past.query o.slot) h.selected ∙ selected_more h.gone o.slot);
+        before = blocks.0;
+        later = blocks.1;
+        taken_before = marks'.0;
+        taken_later = marks'.1;
       }
-    where
-      or_none : (b : Bool) → (b || false) ≡ b
-      or_none true = refl
-      or_none false = refl
 
-      selected_more : (gone : List (Slot A)) (x : Slot A)
-          → (list_any (slot_selects past.query) gone || slot_selects past.query x)
-          ≡ list_any (slot_selects past.query) (gone ++ x ∷ [])
-      selected_more gone x = ap (λ b. list_any (slot_selects past.query) gone || b)
-          (sym (or_none (slot_selects past.query x))) ∙ sym (list_any-append (slot_selects past.query) gone (x ∷ []))
+  -- how many blocks are to come
+  pub held_count : (s : Sequencer A) (past : Past) (h : Stands s past)
+      → length (blocks_of h.writes.coming) ≡ length s.buffer.slots.items
+  held_count s past h = ap length (halves s past h).later ∙ length-map s.buffer.slots.items slot_block
 
-  -- the same buffer, whatever its room; the text that was written counts where no write failed
-  rested : (s new : Sequencer A) (past : Past) (written : List ℕ) (failed : Bool) → Stands s past → IsAlike s new
-      → Keeps s.buffer new.buffer → failed ≡ new.failed
-      → (new.failed ≡ false → written ≡ past.written × (s.failed ≡ false))
+  -- the same plan and the same results, whatever was written
+  pub rested : (s new : Sequencer A) (past : Past) (written : List ℕ) (failed : Bool) → Stands s past → IsAlike s new
+      → Keeps s.buffer new.buffer → failed ≡ new.failed → Writes new (record past { written = written; failed = failed })
       → Stands new (record past { written = written; failed = failed })
   rested s new past written failed h a k f w =
       let same : all s h ≡ h.gone ++ new.buffer.slots.items = ap (λ xs. h.gone ++ xs) (sym k.slots) in
@@ -259,8 +248,8 @@ module _ {A : Type 0} where
         given_up = record { count = h.given_up.count ∙ sym k.handed; results = h.given_up.results };
         query = h.query ∙ ap (λ q. q.value.text) (sym a.query);
         trees = h.trees;
-        format = h.format;
-        whole = h.whole;
+        format = h.format ∙ sym a.format;
+        room = h.room;
         lawful = h.lawful;
         running = h.running ∙ sym a.running;
         bad = h.bad ∙ sym a.bad;
@@ -269,32 +258,33 @@ module _ {A : Type 0} where
         taken = h.taken ∙ ap (map has_result) same;
         results = subst R same h.results;
         failed = f;
-        written = λ e. (w e).0 ∙ h.written (w e).1;
         selected = k.selected ∙ h.selected;
+        writes = w;
       }
 
-  pub same_stands : (s new : Sequencer A) (past : Past) → Stands s past → IsAlike s new → Keeps s.buffer new.buffer
-      → new.failed ≡ s.failed → Stands new past
-  same_stands s new past h a k f =
-      rested s new past past.written past.failed h a k (h.failed ∙ sym f) (λ e. (refl, sym f ∙ e))
+  -- nothing happened
+  pub same_stands : (s new : Sequencer A) (past : Past) → Stands s past → IsAlike s new → IsIdle s new
+      → new.waiting.items ≡ s.waiting.items → Keeps s.buffer new.buffer → new.failed ≡ s.failed → Stands new past
+  same_stands s new past h a i waiting k f =
+      rested s new past past.written past.failed h a k (h.failed ∙ sym f)
+      (rested_writes s new past past.written past.failed h.writes i waiting (λ e. (refl, sym f ∙ e)))
 
+  -- a write failed
   pub failed_stands : (s new : Sequencer A) (past : Past) (text : List ℕ) (failed : Bool) → Stands s past
-      → IsAlike s new → Keeps s.buffer new.buffer → new.failed ≡ true → failed ≡ true
+      → IsAlike s new → IsIdle s new → new.waiting.items ≡ s.waiting.items → Keeps s.buffer new.buffer
+      → new.failed ≡ true → failed ≡ true
       → Stands new (record past { written = past.written ++ text; failed = failed })
-  failed_stands s new past text failed h a k f g =
-      rested s new past (past.written ++ text) failed h a k (g ∙ sym f) (λ e. absurd (false≢true (sym e ∙ f)))
-
-  pub idle_stands : (s new : Sequencer A) (past : Past) (failed : Bool) → Stands s past → IsAlike s new
-      → Keeps s.buffer new.buffer → new.failed ≡ s.failed → failed ≡ new.failed
-      → Stands new (record past { failed = failed })
-  idle_stands s new past failed h a k f g = rested s new past past.written failed h a k g (λ e. (refl, sym f ∙ e))
+  failed_stands s new past text failed h a i waiting k f g =
+      rested s new past (past.written ++ text) failed h a k (g ∙ sym f)
+      (rested_writes s new past (past.written ++ text) failed h.writes i waiting (λ e. absurd (false≢true (sym e ∙ f))))
 
   -- the file has ended
   pub ended_stands : (s new : Sequencer A) (past : Past) (failed : Bool) → is_open (plan past) ≡ true → Stands s past
-      → new.query ≡ s.query → new.running ≡ false → new.bad ≡ (s.bad || failed)
-      → Keeps s.buffer new.buffer → new.failed ≡ s.failed → Stands new (planned past (Ends failed))
-  ended_stands s new past failed open' h query running bad k failed' =
-      let f = (cursor_is past.query bare refl (plan past)
+      → new.query ≡ s.query → new.format ≡ s.format → new.running ≡ false → new.bad ≡ (s.bad || failed)
+      → IsIdle s new → new.waiting.items ≡ s.waiting.items → Keeps s.buffer new.buffer → new.failed ≡ s.failed
+      → Stands new (planned past (Ends failed))
+  ended_stands s new past failed open' h query format running bad idle waiting k failed' =
+      let f = (cursor_is past.query past.format h.room (plan past)
       (shape_of (terminator past.query) (plan past) h.lawful)).file open' in
       let same : all s h ≡ h.gone ++ new.buffer.slots.items = ap (λ xs. h.gone ++ xs) (sym k.slots) in
       let R : List (Slot A) → Type 0 = λ xs. AllByRecursion (IsResultOf past.query) xs in
@@ -303,8 +293,8 @@ module _ {A : Type 0} where
         given_up = record { count = h.given_up.count ∙ sym k.handed; results = h.given_up.results };
         query = h.query ∙ ap (λ q. q.value.text) (sym query);
         trees = h.trees;
-        format = h.format;
-        whole = h.whole;
+        format = h.format ∙ sym format;
+        room = h.room;
         lawful = ((open', tt), h.lawful);
         running = sym running;
         bad = bad_ended failed (entries_of (plan past)) _ f.bytes f.rest f.entries
@@ -314,8 +304,37 @@ module _ {A : Type 0} where
         taken = h.taken ∙ ap (map has_result) same;
         results = subst R same h.results;
         failed = h.failed ∙ sym failed';
-        written = λ e. h.written (sym failed' ∙ e);
         selected = k.selected ∙ h.selected;
+        writes = planned_writes s new past (Ends failed) h.writes idle failed' _ refl
+            (ap (map opening_of) waiting ∙ sym (append-nil (map opening_of s.waiting.items)));
+      }
+
+  -- a name was missed
+  pub missed_stands : (s new : Sequencer A) (past : Past) (name : List ℕ) → is_open (plan past) ≡ false → Stands s past
+      → new.query ≡ s.query → new.format ≡ s.format → new.running ≡ s.running → new.bad ≡ true → IsIdle s new
+      → new.waiting.items ≡ s.waiting.items → Keeps s.buffer new.buffer → new.failed ≡ s.failed
+      → Stands new (planned past (Misses name))
+  missed_stands s new past name closed h query format running bad idle waiting k failed' =
+      let same : all s h ≡ h.gone ++ new.buffer.slots.items = ap (λ xs. h.gone ++ xs) (sym k.slots) in
+      let R : List (Slot A) → Type 0 = λ xs. AllByRecursion (IsResultOf past.query) xs in
+      record {
+        gone = h.gone;
+        given_up = record { count = h.given_up.count ∙ sym k.handed; results = h.given_up.results };
+        query = h.query ∙ ap (λ q. q.value.text) (sym query);
+        trees = h.trees;
+        format = h.format ∙ sym format;
+        room = h.room;
+        lawful = ((closed, tt), h.lawful);
+        running = h.running ∙ sym running;
+        bad = sym bad;
+        starts = k.starts ∙ h.starts;
+        blocks = h.blocks ∙ ap (map slot_block) same;
+        taken = h.taken ∙ ap (map has_result) same;
+        results = subst R same h.results;
+        failed = h.failed ∙ sym failed';
+        selected = k.selected ∙ h.selected;
+        writes = planned_writes s new past (Misses name) h.writes idle failed' _ refl
+            (ap (map opening_of) waiting ∙ sym (append-nil (map opening_of s.waiting.items)));
       }
 
   -- Announcing.
@@ -348,10 +367,12 @@ module _ {A : Type 0} where
   )
 
   pub opened_stands : (s new : Sequencer A) (past : Past) (name : List ℕ) → Stands s past
-      → MayFollow (terminator past.query) (plan past) (Opens name) → new.query ≡ s.query → new.running ≡ true
-      → new.bad ≡ s.bad → new.failed ≡ s.failed → OpensFile s.buffer new.buffer
-      → Stands new (planned past (Opens name))
-  opened_stands s new past name h may query running bad failed' o =
+      → MayFollow (terminator past.query) (plan past) (Opens name) → new.query ≡ s.query → new.format ≡ s.format
+      → new.running ≡ true → new.bad ≡ s.bad → IsIdle s new → (opening : Opening A)
+      → new.waiting.items ≡ s.waiting.items ++ opening ∷ []
+      → opening.start ≡ s.buffer.handed + length s.buffer.slots.items → opening.prefix ≡ name
+      → new.failed ≡ s.failed → OpensFile s.buffer new.buffer → Stands new (planned past (Opens name))
+  opened_stands s new past name h may query format running bad idle opening waiting start' prefix failed' o =
       let same : all s h ≡ h.gone ++ new.buffer.slots.items = ap (λ xs. h.gone ++ xs) (sym o.slots) in
       let R : List (Slot A) → Type 0 = λ xs. AllByRecursion (IsResultOf past.query) xs in
       record {
@@ -359,8 +380,8 @@ module _ {A : Type 0} where
         given_up = record { count = h.given_up.count ∙ sym o.handed; results = h.given_up.results };
         query = h.query ∙ ap (λ q. q.value.text) (sym query);
         trees = h.trees;
-        format = h.format;
-        whole = h.whole;
+        format = h.format ∙ sym format;
+        room = h.room;
         lawful = (may, h.lawful);
         running = sym running;
         bad = h.bad ∙ sym bad;
@@ -370,14 +391,20 @@ module _ {A : Type 0} where
         taken = h.taken ∙ ap (map has_result) same;
         results = subst R same h.results;
         failed = h.failed ∙ sym failed';
-        written = λ e. h.written (sym failed' ∙ e);
         selected = o.selected ∙ h.selected;
+        writes = planned_writes s new past (Opens name) h.writes idle failed'
+            (s.buffer.handed + length s.buffer.slots.items) (omega (arith, held_count s past h))
+            (ap (map opening_of) waiting ∙ (map_push opening_of s.waiting.items opening
+            ∙ (ap (λ n. map opening_of s.waiting.items ++ (n, opening.prefix) ∷ []) start'
+            ∙ ap (λ name. map opening_of s.waiting.items
+            ++ (s.buffer.handed + length s.buffer.slots.items, name) ∷ []) prefix)));
       }
 
   pub announced_stands : (s new : Sequencer A) (past : Past) (b : BlockData) → Stands s past
       → IsNext (terminator past.query) (plan past) b × IsSmall (terminator past.query) (plan past) b → IsAlike s new
-      → new.failed ≡ s.failed → Pushes b s.buffer new.buffer → Stands new (planned past (Announces b))
-  announced_stands s new past b h may a failed' p =
+      → IsIdle s new → new.waiting.items ≡ s.waiting.items → new.failed ≡ s.failed → Pushes b s.buffer new.buffer
+      → Stands new (planned past (Announces b))
+  announced_stands s new past b h may a idle waiting failed' p =
       let n = may.0 in
       let old = all s h in
       let keys = taken_of past.query past.events in
@@ -395,8 +422,8 @@ module _ {A : Type 0} where
         given_up = record { count = h.given_up.count ∙ sym p.handed; results = h.given_up.results };
         query = h.query ∙ ap (λ q. q.value.text) (sym a.query);
         trees = h.trees;
-        format = h.format;
-        whole = h.whole;
+        format = h.format ∙ sym a.format;
+        room = h.room;
         lawful = (may, h.lawful);
         running = h.running ∙ sym a.running;
         bad = bad_more b.bytes (entries_of (plan past)) ∙ (h.bad ∙ sym a.bad);
@@ -410,8 +437,9 @@ module _ {A : Type 0} where
             ∙ (sym (map_push has_result old p.slot) ∙ ap (map has_result) same)));
         results = subst N same (all_push (IsResultOf past.query) old p.slot h.results (subst I (sym p.empty) tt));
         failed = h.failed ∙ sym failed';
-        written = λ f. h.written (sym failed' ∙ f);
         selected = p.selected ∙ h.selected;
+        writes = planned_writes s new past (Announces b) h.writes idle failed' _ refl
+            (ap (map opening_of) waiting ∙ sym (append-nil (map opening_of s.waiting.items)));
       }
 
   -- all blocks were taken where all slots have their results
@@ -441,8 +469,8 @@ module _ {A : Type 0} where
       ∙ ap (λ t. slot_selects q x || t) (selected_slots q slots (omega arith) h.1)
 
   pub status_is : (s : Sequencer A) (past : Past) → Stands s past → IsComplete past
-      → status_of past ≡ cond s.bad 2
-      (cond (s.buffer.selected || list_any (slot_selects past.query) s.buffer.slots.items) 0 1)
+      → (let selected = s.buffer.selected || list_any (slot_selects past.query) s.buffer.slots.items in
+      status_of past ≡ cond (is_quiet s.format.mode && selected) 0 (cond s.bad 2 (cond selected 0 1)))
   status_is s past h complete =
       let q = past.query in
       let slots = s.buffer.slots.items in
@@ -451,13 +479,15 @@ module _ {A : Type 0} where
       ready_all (all s h) (all_behind h.gone slots h.given_up.results ∙ results) in
       let selected : list_any (has_selected q) (entries_of (plan past))
       ≡ (s.buffer.selected || list_any (slot_selects past.query) slots) =
-      selected_entries q (plan past) (shape_of (terminator past.query) (plan past) h.lawful)
+      selected_entries q past.format h.room (plan past) (shape_of (terminator past.query) (plan past) h.lawful)
       ∙ (ap (list_any (block_selects q)) h.blocks ∙ (selected_slots q (all s h) whole h.results
       ∙ (list_any-append (slot_selects past.query) h.gone slots
       ∙ ap (λ b. b || list_any (slot_selects past.query) slots) (sym h.selected)))) in
-      ap (λ format. status q format (entries_of (plan past))) h.format
-      ∙ (ap (λ t. cond t 2 (cond (list_any (has_selected q) (entries_of (plan past))) 0 1)) h.bad
-      ∙ ap (λ t. cond s.bad 2 (cond t 0 1)) selected)
+      let any = list_any (has_selected q) (entries_of (plan past)) in
+      ap (λ t. cond (is_quiet past.format.mode && any) 0 (cond t 2 (cond any 0 1))) h.bad
+      ∙ (ap (λ t. cond (is_quiet past.format.mode && t) 0 (cond s.bad 2 (cond t 0 1))) selected
+      ∙ ap (λ f. cond (is_quiet f.mode && (s.buffer.selected || list_any (slot_selects past.query) slots)) 0
+      (cond s.bad 2 (cond (s.buffer.selected || list_any (slot_selects past.query) slots) 0 1))) h.format)
 
   -- the slots have the marks of their blocks
   marks : (s : Sequencer A) (past : Past) (h : Stands s past)
@@ -518,7 +548,7 @@ module _ {A : Type 0} where
         query = h.query;
         trees = h.trees;
         format = h.format;
-        whole = h.whole;
+        room = h.room;
         lawful = h.lawful;
         running = h.running;
         bad = h.bad;
@@ -527,8 +557,17 @@ module _ {A : Type 0} where
         taken = subst T (sym e) h.taken;
         results = h.results;
         failed = h.failed;
-        written = h.written;
         selected = h.selected;
+        writes = record {
+          done = h.writes.done;
+          coming = h.writes.coming;
+          split = h.writes.split;
+          count = h.writes.count;
+          printing = h.writes.printing;
+          waiting = h.writes.waiting;
+          cursor = h.writes.cursor;
+          written = h.writes.written;
+        };
       }
 
   pub kept_stands : (s : Sequencer A) (past : Past) (r : Searched) (a : Arrival) → Stands s past → answer past r ≡ a
@@ -541,9 +580,10 @@ module _ {A : Type 0} where
       same_keys s past r h (ap (λ a. taken_after a r.block (taken_of past.query past.events)) e)
 
   pub taken_stands : (s new : Sequencer A) (past : Past) (r : Searched) → Stands s past → answer past r ≡ Taken
-      → IsAlike s new → new.failed ≡ s.failed → Puts r s.buffer new.buffer → Stands new (arrived past r)
+      → IsAlike s new → IsIdle s new → new.waiting.items ≡ s.waiting.items → new.failed ≡ s.failed
+      → Puts r s.buffer new.buffer → Stands new (arrived past r)
   unfolding answer_after
-  taken_stands s new past r h is alike failed' p =
+  taken_stands s new past r h is alike idle waiting failed' p =
       let old = all s h in
       let b = r.block in
       let keys = taken_of past.query past.events in
@@ -582,8 +622,8 @@ module _ {A : Type 0} where
         given_up = record { count = h.given_up.count ∙ sym p.handed; results = h.given_up.results };
         query = h.query ∙ ap (λ q. q.value.text) (sym alike.query);
         trees = h.trees;
-        format = h.format;
-        whole = h.whole;
+        format = h.format ∙ sym alike.format;
+        room = h.room;
         lawful = h.lawful;
         running = h.running ∙ sym alike.running;
         bad = h.bad ∙ sym alike.bad;
@@ -595,14 +635,53 @@ module _ {A : Type 0} where
         results = subst R (sym slots) (results_with past.query old k t.slot r t.at
             (sym (text_equal.sound past.query.text r.query known_query)) block h.results);
         failed = h.failed ∙ sym failed';
-        written = λ f. h.written (sym failed' ∙ f);
         selected = p.selected ∙ h.selected;
+        writes =
+            let w = rested_writes s new past past.written past.failed h.writes idle waiting (λ e. (refl, sym failed' ∙ e)) in
+            record {
+              done = w.done;
+              coming = w.coming;
+              split = w.split;
+              count = w.count;
+              printing = w.printing;
+              waiting = w.waiting;
+              cursor = w.cursor;
+              written = w.written;
+            };
       }
 
-  -- what a drain has written so far, and one part more
-  pub then_wrote : (s : Sequencer A) (past : Past) (first more : List ℕ) (failed : Bool)
-      → Stands s (record past { written = (past.written ++ first) ++ more; failed = failed })
-      → Stands s (record past { written = past.written ++ (first ++ more); failed = failed })
-  then_wrote s past first more failed h =
-      let P : List ℕ → Type 0 = λ w. Stands s (record past { written = w; failed = failed }) in
-      subst P (append_assoc past.written first more) h
+  -- nothing happened yet
+  pub new_stands : (s : Sequencer A) (q : Search) (format : Format) → q.text ≡ (arc_value s.query).text
+      → HasItsTrees q → s.format ≡ format → HasRoom format → s.running ≡ false → s.bad ≡ false
+      → s.buffer.starts.items ≡ [] → s.buffer.slots.items ≡ [] → s.buffer.handed ≡ 0 → s.buffer.selected ≡ false
+      → s.waiting.items ≡ [] → s.printing ≡ false → Remembers s.printer q format at_start → s.failed ≡ false
+      → Stands s (start q format)
+  new_stands s q format text trees format' room running bad starts slots handed' selected waiting printing remembers
+      failed =
+      record {
+        gone = [];
+        given_up = record { count = sym handed'; results = tt };
+        query = text;
+        trees = trees;
+        format = sym format';
+        room = room;
+        lawful = tt;
+        running = sym running;
+        bad = sym bad;
+        starts = starts;
+        blocks = sym (ap (map slot_block) slots);
+        taken = sym (ap (map has_result) slots);
+        results = (let R : List (Slot A) → Type 0 = λ xs. AllByRecursion (IsResultOf q) xs in subst R (sym slots) tt);
+        failed = sym failed;
+        selected = selected;
+        writes = record {
+          done = [];
+          coming = [];
+          split = refl;
+          count = sym handed';
+          printing = sym printing;
+          waiting = ap (map opening_of) waiting;
+          cursor = remembers;
+          written = λ e. refl;
+        };
+      }

@@ -4,8 +4,7 @@ use Rattle.std.specs.List.{AllByRecursion}
 use Rattle.pg_lines.specs.Search.{Search, HasItsTrees}
 use Rattle.pg_lines.specs.Blocks.{BlockData}
 use Rattle.pg_lines.specs.Searched.{Searched}
-use Rattle.pg_rows.specs.Sink.{TakesPart}
-use Rattle.pg_seq.specs.Slots.{slot_block, has_result, slot_rows, slot_selects, place_of, arrival_among, with_result}
+use Rattle.pg_seq.specs.Slots.{slot_block, has_result, slot_selects, place_of, arrival_among, with_result}
 use Rattle.pg_seq.specs.Slots.{IsResultOf}
 use Rattle.pg_seq.specs.declared.answers.Arrival.{Arrival}
 use Rattle.pg_seq.specs.declared.slot.Slot.{Slot}
@@ -55,22 +54,17 @@ pub record Puts {A : Type 0} (found : Searched) (old new : ReorderBuffer A) : Ty
   pub handed : new.handed ≡ old.handed
   pub selected : new.selected ≡ old.selected
 
--- The rows of the first block were written, and its slot was given up. Of the rows and of what is selected this speaks
--- for the query whose result it has.
-pub record HandsOut {A : Type 0} (old new : ReorderBuffer A) (before after : List ℕ) : Type 0 where
-  pub slot : Slot A
+-- The first block was given up. Of what is selected this speaks for the query whose result it has.
+pub record HandsOut {A : Type 0} (slot : Slot A) (old new : ReorderBuffer A) : Type 0 where
   pub starts : new.starts.items ≡ old.starts.items
   pub slots : old.slots.items ≡ slot ∷ new.slots.items
-  pub some : has_result slot ≡ true
   pub handed : new.handed ≡ old.handed + 1
   pub selected : (q : Search) → HasItsTrees q → IsResultOf q slot →
       new.selected ≡ (old.selected || slot_selects q slot)
-  pub got : (q : Search) → HasItsTrees q → IsResultOf q slot → after ≡ before ++ slot_rows q slot
 
--- a part of the rows of the first block was written
-pub record HandsPart {A : Type 0} (old : ReorderBuffer A) (before after : List ℕ) : Type 0 where
+-- the first block has this result
+pub record HasFirst {A : Type 0} (buffer : ReorderBuffer A) (found : Searched) : Type 0 where
   pub slot : Slot A
   pub later : List (Slot A)
-  pub slots : old.slots.items ≡ slot ∷ later
-  pub some : has_result slot ≡ true
-  pub part : (q : Search) → HasItsTrees q → IsResultOf q slot → TakesPart (slot_rows q slot) before after
+  pub slots : buffer.slots.items ≡ slot ∷ later
+  pub result : slot.result ≡ Some found

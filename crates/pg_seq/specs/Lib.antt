@@ -1,7 +1,7 @@
 pub mod Plan
 pub mod History
 pub mod Cursor
-pub mod Bare
+pub mod Coming
 pub mod Slots
 pub mod Buffer
 pub mod Standing

@@ -10,7 +10,6 @@ use Rattle.pg_lines.specs.Blocks.{BlockData}
 use Rattle.pg_lines.specs.Selection.{selects}
 use Rattle.pg_lines.specs.Searched.{Searched}
 use Rattle.pg_seq.specs.History.{if_same}
-use Rattle.pg_seq.specs.Bare.{bare_rows}
 use Rattle.pg_seq.specs.declared.answers.Arrival.{Arrival}
 use Rattle.pg_seq.specs.declared.answers.Arrival.TheVariants.{Double, Stranger}
 use Rattle.pg_seq.specs.declared.slot.Slot.{Slot}
@@ -32,14 +31,6 @@ slot_block slot = arc_value slot.block
 
 abbrev pub has_result : {A : Type 0} → Slot A → Bool
 has_result slot = is_some slot.result
-
--- the rows of a result of the query
-abbrev pub rows_of : Search → Option Searched → List ℕ
-rows_of q None = []
-rows_of q (Some r) = bare_rows q r.block.bytes
-
-abbrev pub slot_rows : {A : Type 0} → Search → Slot A → List ℕ
-slot_rows q slot = rows_of q slot.result
 
 -- whether a result of the query has a selected line
 abbrev pub result_selects : Search → Option Searched → Bool

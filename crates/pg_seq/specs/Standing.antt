@@ -1,15 +1,19 @@
 -- How a sequencer stands after what happened to it.
-use Rattle.std.specs.Prelude.{◌≡◌, ℕ, Bool, true, false, ◌||◌, Result, Ok, Err, List, [], ◌∷◌, ◌++◌, map, length}
-use Rattle.std.specs.List.{AllByRecursion, flat_map, list_any}
+use Rattle.std.specs.Prelude.{◌≡◌, ℕ, ◌+◌, ◌*◌, ◌==◌, Bool, true, false, not, ◌&&◌, ◌||◌, if◌then◌else◌, Result, Ok, Err}
+use Rattle.std.specs.Prelude.{List, [], ◌∷◌, ◌++◌, map, length}
+use Rattle.std.specs.List.{AllByRecursion, list_any}
 use Rattle.std.specs.Arc.{arc_value}
 use Rattle.pg_lines.specs.Search.{terminator, HasItsTrees}
-use Rattle.pg_seq.specs.Plan.{Step, Opens, Announces, Ends, Misses, announced, IsPlan, MayFollow, is_open, entries_of}
-use Rattle.pg_rows.specs.Output.{is_bad}
-use Rattle.pg_seq.specs.History.{Past, plan, taken_of, is_taken, handed}
+use Rattle.pg_rows.specs.Output.{HasRoom, is_bad, output}
+use Rattle.pg_rows.specs.Remembered.{Remembers}
 use Rattle.pg_rows.specs.Sink.{IsBeginning}
-use Rattle.pg_seq.specs.Bare.{bare}
-use Rattle.pg_seq.specs.Slots.{slot_block, has_result, slot_rows, slot_selects, IsResultOf}
+use Rattle.pg_seq.specs.Plan.{Step, Opens, Announces, Ends, Misses, announced, IsPlan, MayFollow, is_open, entries_of}
+use Rattle.pg_seq.specs.History.{Past, plan, taken_of, is_taken, handed}
+use Rattle.pg_seq.specs.Cursor.{cursor_of}
+use Rattle.pg_seq.specs.Coming.{behind, openings}
+use Rattle.pg_seq.specs.Slots.{slot_block, has_result, slot_selects, IsResultOf}
 use Rattle.pg_seq.specs.Buffer.{AreGone}
+use Rattle.pg_seq.specs.declared.opening.Opening.{Opening}
 use Rattle.pg_seq.specs.declared.slot.Slot.{Slot}
 use Rattle.pg_seq.specs.declared.answers.SinkFault.{SinkFault}
 use Rattle.pg_seq.specs.declared.answers.SinkFault.TheVariants.{WriteFailed, Failed}
@@ -23,14 +27,29 @@ starts_of (Announces block ∷ plan) = starts_of plan
 starts_of (Ends failed ∷ plan) = starts_of plan
 starts_of (Misses name ∷ plan) = starts_of plan
 
+abbrev pub opening_of : {A : Type 0} → Opening A → ℕ × List ℕ
+opening_of opening = (opening.start, opening.prefix)
+
+-- What was written, and what is to come: the steps of the plan whose rows were written, the newest first, and those
+-- whose rows weren't, the oldest first.
+pub record Writes {A : Type 0} (s : Sequencer A) (past : Past) : Type 0 where
+  pub done : List Step
+  pub coming : List Step
+  pub split : plan past ≡ behind done coming
+  pub count : length (announced done) ≡ s.buffer.handed
+  pub printing : is_open done ≡ s.printing
+  pub waiting : map opening_of s.waiting.items ≡ openings s.buffer.handed coming
+  pub cursor : Remembers s.printer past.query past.format (cursor_of past.query past.format done)
+  pub written : s.failed ≡ false → past.written ≡ output past.query past.format (entries_of done)
+
 -- The sequencer stands after this, where these were the slots of the blocks that were handed out.
 pub record Stands {A : Type 0} (s : Sequencer A) (past : Past) : Type 0 where
   pub gone : List (Slot A)
   pub given_up : AreGone s.buffer gone
   pub query : past.query.text ≡ (arc_value s.query).text
   pub trees : HasItsTrees past.query
-  pub format : past.format ≡ bare
-  pub whole : past.query.text.pieces ≡ false
+  pub format : past.format ≡ s.format
+  pub room : HasRoom past.format
   pub lawful : IsPlan (terminator past.query) (plan past)
   pub running : is_open (plan past) ≡ s.running
   pub bad : list_any is_bad (entries_of (plan past)) ≡ s.bad
@@ -40,8 +59,8 @@ pub record Stands {A : Type 0} (s : Sequencer A) (past : Past) : Type 0 where
       ≡ map has_result (gone ++ s.buffer.slots.items)
   pub results : AllByRecursion (IsResultOf past.query) (gone ++ s.buffer.slots.items)
   pub failed : past.failed ≡ s.failed
-  pub written : s.failed ≡ false → past.written ≡ flat_map (slot_rows past.query) gone
   pub selected : s.buffer.selected ≡ list_any (slot_selects past.query) gone
+  pub writes : Writes s past
 
 -- the sequencer stands after this, and the step may follow
 abbrev pub IsReadyFor : {A : Type 0} → Sequencer A → Past → Step → Type 0
@@ -59,3 +78,42 @@ fails (Err fault) = true
 
 abbrev pub drained : Past → List ℕ → Result (Unit {0}) SinkFault → Past
 drained past text result = record past { written = past.written ++ text; failed = past.failed || fails result }
+
+-- more was written
+abbrev pub wrote : Past → List ℕ → Past
+wrote past text = record past { written = past.written ++ text }
+
+-- all that may be handed out was written
+abbrev pub IsWritten : Past → Type 0
+IsWritten past = past.written ≡ handed past
+
+-- the rows of the file that is printed were all written, by the next file that waits, or by the end of the plan
+abbrev pub is_last_block : {A : Type 0} → List (Opening A) → Bool → ℕ → ℕ → Bool
+is_last_block [] more held count = not more && held == 0
+is_last_block (opening ∷ later) more held count = opening.start == count
+
+abbrev pub is_at_end : {A : Type 0} → Sequencer A → Bool
+is_at_end s = is_last_block s.waiting.items s.running (length s.buffer.slots.items) s.buffer.handed
+
+-- how many steps may be left to hand out
+abbrev pub left : {A : Type 0} → Sequencer A → ℕ
+left s = 2 * length s.waiting.items + (if s.printing then 1 else 0) + length s.buffer.slots.items
+
+-- the rows of the next step were written
+pub record Advances {A : Type 0} (new : Sequencer A) (past : Past) (before after : List ℕ) : Type 0 where
+  pub rows : List ℕ
+  pub got : after ≡ before ++ rows
+  pub stands : Stands new (wrote past rows)
+
+-- a beginning of the rows of the next step was written
+pub record Breaks {A : Type 0} (new : Sequencer A) (past : Past) (before after : List ℕ) : Type 0 where
+  pub rows : List ℕ
+  pub got : after ≡ before ++ rows
+  pub part : IsBeginning (past.written ++ rows) (handed past)
+  pub stands : Stands new past
+
+-- no step may be handed out, and nothing changed
+pub record Rests {A : Type 0} (new : Sequencer A) (past : Past) (before after : List ℕ) : Type 0 where
+  pub all : IsWritten past
+  pub same : after ≡ before
+  pub stands : Stands new past

@@ -3,8 +3,8 @@
 
 mod answers;
 mod laws;
+mod opening;
 mod reorder_buffer;
-mod rows;
 mod sequencer;
 mod slot;
 

@@ -1,15 +1,13 @@
 //! Results that wait for those of the blocks before them.
-ghost use Rattle.std.specs.Prelude.{◌≡◌, ◌+◌, ◌<◌, ◌≤◌, ◌^◌, ◌||◌, [], false, IfOk, OnOk, OnErr, MatchBool, length};
-ghost use Rattle.std.specs.Prelude.{get_or};
+ghost use Rattle.std.specs.Prelude.{◌≡◌, ◌+◌, ◌<◌, ◌≤◌, ◌^◌, ◌||◌, ◌==◌, [], false, OnOk, OnErr, MatchOption};
+ghost use Rattle.std.specs.Prelude.{length, get_or};
 ghost use Rattle.std.specs.List.{AllByRecursion, list_all, list_any};
 ghost use Rattle.std.specs.Arc.{arc_value};
 ghost use Rattle.pg_seq.specs.Slots.{place_of};
 
 use crate::answers::Arrival;
-use crate::rows::write_rows;
 use crate::slot::Slot;
 use pg_lines::{Block, BlockResult};
-use pg_rows::{Sink, WriteError};
 use std::alloc::{AllocError, Allocator, Global};
 use std::collections::VecDeque;
 use std::sync::Arc;
@@ -66,7 +64,7 @@ fn place_in(starts: &[u128], total: u128, file: u32, number: u64) -> Option<u128
 impl<A: Allocator> ReorderBuffer<A> {
     ghost use Rattle.pg_lines.specs.Search.{Search, HasItsTrees};
     ghost use Rattle.pg_seq.specs.Slots.{IsResultOf, has_result, slot_selects, ready};
-    ghost use Rattle.pg_seq.specs.Buffer.{Keeps, OpensFile, Pushes, IsArrival, Puts, HandsOut, HandsPart};
+    ghost use Rattle.pg_seq.specs.Buffer.{Keeps, OpensFile, Pushes, IsArrival, Puts, HandsOut, HasFirst};
 
     /// A buffer without files and blocks.
     pub(crate) fn new(alloc: A) -> ReorderBuffer<A>
@@ -86,7 +84,7 @@ impl<A: Allocator> ReorderBuffer<A> {
     }
 
     /// How many blocks were announced.
-    fn announced(&self) -> u128
+    pub(crate) fn announced(&self) -> u128
         ensures { result ≡ self.now.handed + length self.now.slots.items }
     {
         self.handed + self.slots.len() as u128
@@ -172,27 +170,34 @@ impl<A: Allocator> ReorderBuffer<A> {
         self.selected || self.slots.iter().any(|slot| slot.has_selected())
     }
 
-    /// Writes the rows of the first block and gives it up. `false` says that its result hasn't come
-    /// or that there is no block; then nothing is written.
-    pub(crate) fn hand_out<W: Sink>(&mut self, out: &mut W) -> Result<bool, WriteError>
-        ensures ok { IfOk result (λ more. MatchBool more
-            (HandsOut self.old self.new (W.taken out.old) (W.taken out.new))
-            ((ready self.old.slots.items ≡ 0) × Keeps self.old self.new × (W.taken out.new ≡ W.taken out.old))) }
-        ensures part { OnErr result (HandsPart self.old (W.taken out.old) (W.taken out.new) × Keeps self.old self.new) }
-        ensures failure { OnErr result (W.failures out.old < W.failures out.new) }
-        ensures no_failure { OnOk result (W.failures out.new ≡ W.failures out.old) }
-        ensures never_falls { W.failures out.old ≤ W.failures out.new }
+    /// How many blocks were handed out.
+    pub(crate) fn handed(&self) -> u128
+        ensures { result ≡ self.now.handed }
     {
-        let Some(slot) = self.slots.front() else {
-            return Ok(false);
-        };
-        let Some(found) = &slot.result else {
-            return Ok(false);
-        };
-        write_rows(found, out)?;
-        self.selected |= !found.runs().is_empty();
-        self.slots.pop_front();
+        self.handed
+    }
+
+    /// Whether each announced block was handed out.
+    pub(crate) fn is_empty(&self) -> bool
+        ensures { result ≡ (length self.now.slots.items == 0) }
+    {
+        self.slots.is_empty()
+    }
+
+    /// The result of the first block, once it has come.
+    pub(crate) fn first_result(&self) -> Option<&BlockResult<A>>
+        ensures { MatchOption result (ready self.now.slots.items ≡ 0) (λ found. HasFirst self.now found.now) }
+    {
+        self.slots.front()?.result.as_ref()
+    }
+
+    /// Gives the first block up.
+    pub(crate) fn pop_first(&mut self) -> Option<Slot<A>>
+        ensures { MatchOption result (self.old.slots.items ≡ []) (λ slot. HandsOut slot self.old self.new) }
+    {
+        let slot = self.slots.pop_front()?;
+        self.selected |= slot.has_selected();
         self.handed += 1;
-        Ok(true)
+        Some(slot)
     }
 }

@@ -1,29 +1,55 @@
 //! What a run writes, from results that arrive in any order.
 ghost use Rattle.std.specs.Prelude.{◌≡◌, ℕ, ◌<◌, ◌≤◌, ◌++◌, ◌↔◌, List, false, IsTrue, IfOk, OnOk, OnErr, IsErrOf};
-ghost use Rattle.std.specs.Prelude.{MatchOption};
+ghost use Rattle.std.specs.Prelude.{MatchOption, MatchBool, true};
+ghost use Rattle.std.specs.Prelude.{◌&&◌, if◌then◌else◌};
 ghost use Rattle.std.specs.Arc.{arc_value};
+ghost use Rattle.pg_rows.specs.Output.{is_quiet};
 
 use crate::answers::{Arrival, SinkFault};
+use crate::opening::Opening;
 use crate::reorder_buffer::ReorderBuffer;
 use pg_lines::{Block, BlockResult, Query};
-use pg_rows::{Format, Sink, WriteError};
+use pg_rows::{Format, Mode, Prefix, Printer, Sink, WriteError};
 use std::alloc::{AllocError, Allocator, Global};
+use std::collections::VecDeque;
 use std::sync::Arc;
+
+/// The exit status of a run in which a name was missed or the reading of a file failed, and in which a
+/// line was selected.
+fn exit_status(mode: Mode, bad: bool, selected: bool) -> u8
+    ensures { result ≡ (if is_quiet mode && selected then 0 else (if bad then 2 else (if selected then 0 else 1))) }
+{
+    match mode {
+        Mode::Quiet if selected => 0,
+        _ if bad => 2,
+        _ if selected => 0,
+        _ => 1,
+    }
+}
 
 /// Puts the results of blocks in order and writes the output of a run.
 ///
 /// The plan says which files are read and which blocks they have. Results arrive in any order.
 /// What is handed out at any time is the output of the longest beginning of the plan all of whose
-/// results have come. Blocks and results are given up once their rows were written, so what is held
-/// doesn't grow with the file.
-///
-/// So far the rows are plain: the contract of `new` says so.
+/// results have come. Blocks and results are given up once their rows were written, but for the
+/// blocks of the last lines that may still be shown as leading context, so what is held doesn't grow
+/// with the file.
 #[derive(Drop)]
 pub struct Sequencer<A: Allocator = Global> {
+    alloc: A,
     query: Arc<Query<A>, A>,
+    format: Format,
+    /// A file of the plan is open.
     running: bool,
+    /// A name was missed, or the reading of a file failed.
     bad: bool,
     buffer: ReorderBuffer<A>,
+    /// The files of the plan that the printer hasn't opened yet, in their order.
+    waiting: VecDeque<Opening<A>, A>,
+    /// The printer has opened a file and not come to its end.
+    printing: bool,
+    printer: Printer<A>,
+    /// A write has failed.
     failed: bool,
 }
 
@@ -31,14 +57,15 @@ impl<A: Allocator> Sequencer<A> {
     ghost use Rattle.pg_lines.specs.Search.{Pattern, AreTreesOf, search_of, terminator};
     ghost use Rattle.pg_seq.specs.Plan.{Opens, Announces, Ends, Misses, MayFollow};
     ghost use Rattle.pg_seq.specs.History.{Past, start, planned, arrived, plan, answer, IsComplete, status_of};
-    ghost use Rattle.pg_seq.specs.Bare.{bare};
-    ghost use Rattle.pg_seq.specs.Standing.{Stands, IsReadyFor, Drained, drained};
+    ghost use Rattle.pg_rows.specs.Output.{HasRoom};
+    ghost use Rattle.pg_seq.specs.Standing.{Stands, IsReadyFor, Drained, drained, is_at_end, left};
+    ghost use Rattle.pg_seq.specs.Standing.{Advances, Breaks, Rests, IsWritten};
     ghost use Rattle.pg_seq.specs.declared.answers.SinkFault.TheVariants.{WriteFailed};
 
-    /// A sequencer to which nothing happened, for the results of a query.
+    /// A sequencer to which nothing happened, for the results of a query. It reserves the room for the
+    /// lines before a selected one that are shown.
     ///
-    /// The format is that of plain rows, and the query has no -o. A refused request for memory is
-    /// the only error.
+    /// The limit of the format isn't 0. A refused request for memory is the only error.
     pub fn new(
         alloc: A,
         query: Arc<Query<A>, A>,
@@ -46,17 +73,21 @@ impl<A: Allocator> Sequencer<A> {
     ) -> Result<Sequencer<A>, AllocError>
     where
         A: Copy,
-        requires format { format ≡ bare }
-        requires query { (arc_value query).text.pieces ≡ false }
+        requires { HasRoom format }
         ensures { IfOk result (λ s. (trees : List Pattern) → AreTreesOf (arc_value query).text trees →
             Stands s (start (search_of (arc_value query).text trees) format)) }
     {
-        let _ = format;
+        let printer = Printer::new(alloc, &query, format)?;
         Ok(Sequencer {
+            alloc,
             query,
+            format,
             running: false,
             bad: false,
             buffer: ReorderBuffer::new(alloc),
+            waiting: VecDeque::new(alloc),
+            printing: false,
+            printer,
             failed: false,
         })
     }
@@ -66,13 +97,18 @@ impl<A: Allocator> Sequencer<A> {
     ///
     /// A refused request for memory is the only error, and changes nothing.
     pub fn open(&mut self, name: &[u8]) -> Result<(), AllocError>
+    where
+        A: Copy,
         requires { (past : Past) × IsReadyFor self.old past (Opens name.now) }
         ensures ok { (past : Past) → Stands self.old past →
             OnOk result (Stands self.new (planned past (Opens name.now))) }
         ensures err { (past : Past) → Stands self.old past → OnErr result (Stands self.new past) }
     {
-        let _ = name;
+        let prefix = Prefix::new(self.alloc, name)?;
+        self.waiting.reserve(1)?;
+        let start = self.buffer.announced();
         self.buffer.open_file()?;
+        self.waiting.push_back(Opening { start, prefix })?;
         self.running = true;
         Ok(())
     }
@@ -152,6 +188,7 @@ impl<A: Allocator> Sequencer<A> {
     /// a beginning of what was due was written. `Failed` where an earlier call answered
     /// `WriteFailed`; nothing is written.
     pub fn drain<W: Sink>(&mut self, out: &mut W) -> Result<(), SinkFault>
+        requires { (past : Past) × Stands self.old past }
         ensures drained { (past : Past) → Stands self.old past → (text : List ℕ)
             × (W.taken out.new ≡ W.taken out.old ++ text)
             × Drained result past text × Stands self.new (drained past text result) }
@@ -163,7 +200,7 @@ impl<A: Allocator> Sequencer<A> {
             return Err(SinkFault::Failed);
         }
         loop {
-            match self.buffer.hand_out(out) {
+            match self.advance(out) {
                 Ok(true) => {}
                 Ok(false) => return Ok(()),
                 Err(WriteError) => {
@@ -174,6 +211,83 @@ impl<A: Allocator> Sequencer<A> {
         }
     }
 
+    /// Does the next step of the plan that may be done. `false` says that there is none.
+    fn advance<W: Sink>(&mut self, out: &mut W) -> Result<bool, WriteError>
+        requires { (past : Past) × Stands self.old past }
+        ensures ok { (past : Past) → Stands self.old past → self.old.failed ≡ false → IfOk result (λ more.
+            MatchBool more (Advances self.new past (W.taken out.old) (W.taken out.new))
+            (Rests self.new past (W.taken out.old) (W.taken out.new))) }
+        ensures part { (past : Past) → Stands self.old past → self.old.failed ≡ false →
+            OnErr result (Breaks self.new past (W.taken out.old) (W.taken out.new)) }
+        ensures fewer { IfOk result (λ more. more ≡ true → left self.new < left self.old) }
+        ensures same { self.new.failed ≡ self.old.failed }
+        ensures failure { OnErr result (W.failures out.old < W.failures out.new) }
+        ensures no_failure { OnOk result (W.failures out.new ≡ W.failures out.old) }
+        ensures never_falls { W.failures out.old ≤ W.failures out.new }
+    {
+        if !self.printing {
+            return Ok(self.open_next());
+        }
+        if self.is_at_end() {
+            self.printer.end(out)?;
+            self.printing = false;
+            return Ok(true);
+        }
+        self.print_next(out)
+    }
+
+    /// Opens the next file in the printer, where one waits.
+    fn open_next(&mut self) -> bool
+        requires { self.old.printing ≡ false }
+        ensures opened { (past : Past) → Stands self.old past → self.old.failed ≡ false →
+            MatchBool result (Stands self.new past) (IsWritten past × Stands self.new past) }
+        ensures fewer { result ≡ true → left self.new < left self.old }
+        ensures same { self.new.failed ≡ self.old.failed }
+    {
+        let Some(next) = self.waiting.pop_front() else {
+            return false;
+        };
+        self.printer.open(next.prefix);
+        self.printing = true;
+        true
+    }
+
+    /// Whether all blocks of the file that the printer has opened were handed out, and it has ended.
+    fn is_at_end(&self) -> bool
+        ensures { result ≡ is_at_end self.now }
+    {
+        match self.waiting.front() {
+            Some(next) => next.start == self.buffer.handed(),
+            None => !self.running && self.buffer.is_empty(),
+        }
+    }
+
+    /// Writes the rows of the next block of the file that the printer has opened, where its result has
+    /// come.
+    fn print_next<W: Sink>(&mut self, out: &mut W) -> Result<bool, WriteError>
+        requires stands { (past : Past) × Stands self.old past }
+        requires inside { (self.old.printing ≡ true) × (is_at_end self.old ≡ false) }
+        ensures ok { (past : Past) → Stands self.old past → self.old.failed ≡ false → IfOk result (λ more.
+            MatchBool more (Advances self.new past (W.taken out.old) (W.taken out.new))
+            (Rests self.new past (W.taken out.old) (W.taken out.new))) }
+        ensures part { (past : Past) → Stands self.old past → self.old.failed ≡ false →
+            OnErr result (Breaks self.new past (W.taken out.old) (W.taken out.new)) }
+        ensures fewer { IfOk result (λ more. more ≡ true → left self.new < left self.old) }
+        ensures same { self.new.failed ≡ self.old.failed }
+        ensures failure { OnErr result (W.failures out.old < W.failures out.new) }
+        ensures no_failure { OnOk result (W.failures out.new ≡ W.failures out.old) }
+        ensures never_falls { W.failures out.old ≤ W.failures out.new }
+    {
+        let Some(found) = self.buffer.first_result() else {
+            return Ok(false);
+        };
+        let printed = self.printer.print(out, found)?;
+        if let Some(slot) = self.buffer.pop_first() {
+            self.printer.pass(slot.block, printed);
+        }
+        Ok(true)
+    }
+
     /// Whether no file is open and the result of every announced block was taken.
     pub fn complete(&self) -> bool
         ensures { (past : Past) → Stands self.now past → IsTrue result ↔ IsComplete past }
@@ -182,7 +296,8 @@ impl<A: Allocator> Sequencer<A> {
     }
 
     /// The exit status (XCU grep, EXIT STATUS), once all is complete: 2 after a name that was missed
-    /// or a file whose reading failed, else 0 where a line was selected and 1 where none was.
+    /// or a file whose reading failed, but with -q 0 where a line was selected; else 0 where a line was
+    /// selected and 1 where none was.
     pub fn status(&self) -> Option<u8>
         ensures { (past : Past) → Stands self.now past →
             MatchOption result (IsComplete past → ⊥) (λ status. IsComplete past × (status ≡ status_of past)) }
@@ -190,12 +305,7 @@ impl<A: Allocator> Sequencer<A> {
         if !self.complete() {
             return None;
         }
-        Some(if self.bad {
-            2
-        } else if self.buffer.has_selected() {
-            0
-        } else {
-            1
-        })
+        let selected = self.buffer.has_selected();
+        Some(exit_status(self.format.mode, self.bad, selected))
     }
 }

@@ -1,14 +1,13 @@
 use Rattle.std.proofs.Common.{◌≡◌, ◌∙◌, ◌++◌, ◌||◌, Bool, true, false, ℕ, List, [], ap, sym, subst, refl, arith}
-use Rattle.std.proofs.Common.{append_assoc, length}
+use Rattle.std.proofs.Common.{append_assoc}
 use Rattle.std.specs.Bool.{MatchBool}
 use Rattle.std.proofs.lemmas.Bool.{false≢true}
 use Rattle.std.proofs.lemmas.List.{append-nil}
-use Rattle.pg_seq.specs.History.{handed}
 use Rattle.pg_rows.specs.Sink.{IsBeginning}
-use Rattle.pg_seq.specs.Slots.{slot_rows}
-use Rattle.pg_seq.specs.Standing.{Stands}
-use Rattle.pg_seq.proofs.StandLemmas.{wrote, then_wrote, first_result, all_handed, part_of, part_handed}
-use Rattle.pg_seq.proofs.StandLemmas.{handed_stands, idle_stands, failed_stands}
+use Rattle.pg_seq.specs.History.{Past, handed}
+use Rattle.pg_seq.specs.declared.sequencer.Sequencer.{Sequencer}
+use Rattle.pg_seq.specs.Standing.{Stands, Advances, Rests, Breaks, wrote}
+use Rattle.pg_seq.proofs.StandLemmas.{failed_stands}
 use Rattle.pg_seq.proofs.sequencer.Sequencer.drain.Goals as goal
 
 or_true : (b : Bool) → (b || true) ≡ true
@@ -27,54 +26,58 @@ is_false : (b : Bool) (P Q : Type 0) → b ≡ false → MatchBool b P Q → Q
 is_false true P Q e h = absurd (false≢true (sym e))
 is_false false P Q e h = h
 
+-- what was written so far, and one part more
+more_written : {A : Type 0} (s : Sequencer A) (past : Past) (first more : List ℕ) (failed : Bool)
+    → Stands s (record past { written = (past.written ++ first) ++ more; failed = failed })
+    → Stands s (record past { written = past.written ++ (first ++ more); failed = failed })
+more_written s past first more failed h =
+    let P : List ℕ → Type 0 = λ w. Stands s (record past { written = w; failed = failed }) in
+    subst P (append_assoc past.written first more) h
+
 pub loop-self-init : goal.loop-self-init
 loop-self-init g c = record {
   drains = λ past h.
       let P : List ℕ → Type 0 = λ w. Stands c.args.self.now (record past { written = w }) in
       ([], sym (append-nil (g.W.Sink.taken c.args.out.now)), subst P (sym (append-nil past.written)) h);
-  alike = record { query = refl; running = refl; bad = refl };
   unfailed = c.if-self.false;
   no_failure = refl;
 }
 
+pub advance-requires : goal.advance-requires
+advance-requires g c =
+    let d = c.loop-self.invariant.drains c.requires.0 c.requires.1 in
+    (wrote c.requires.0 d.0, d.2)
+
 pub loop-self-smaller : goal.loop-self-smaller
-loop-self-smaller g c =
-    let o = is_true c.in-Ok-true.field-0 _ _ c.in-Ok-true.field-0-test c.in-Ok-true.ensures.ok in
-    omega (arith, ap length o.slots)
+loop-self-smaller g c = c.in-Ok-true.ensures.fewer c.in-Ok-true.field-0-test
 
 pub loop-self-preserved : goal.loop-self-preserved
 loop-self-preserved g c =
     let i = c.loop-self.invariant in
-    let s = c.loop-self.self in
-    let o = is_true c.in-Ok-true.field-0 _ _ c.in-Ok-true.field-0-test c.in-Ok-true.ensures.ok in
     record {
       drains = λ past h.
           let d = i.drains past h in
-          let rows = slot_rows past.query o.slot in (
-            d.0 ++ rows,
-            o.got past.query d.2.trees (first_result s (wrote past d.0) o.slot _ d.2 o.slots)
-                ∙ (ap (λ w. w ++ rows) d.1 ∙ append_assoc (g.W.Sink.taken c.args.out.now) d.0 rows),
-            then_wrote _ past d.0 rows past.failed
-                (handed_stands s _ (wrote past d.0) _ _ d.2
-                (record { query = refl; running = refl; bad = refl }) refl o),
+          let a = is_true c.in-Ok-true.field-0 _ _ c.in-Ok-true.field-0-test
+          (c.in-Ok-true.ensures.ok (wrote past d.0) d.2 i.unfailed) in (
+            d.0 ++ a.rows,
+            a.got ∙ (ap (λ w. w ++ a.rows) d.1 ∙ append_assoc (g.W.Sink.taken c.args.out.now) d.0 a.rows),
+            more_written _ past d.0 a.rows past.failed a.stands,
           );
-      alike = record { query = i.alike.query; running = i.alike.running; bad = i.alike.bad };
-      unfailed = i.unfailed;
+      unfailed = c.in-Ok-true.ensures.same ∙ i.unfailed;
       no_failure = c.in-Ok-true.ensures.no_failure ∙ i.no_failure;
     }
 
 pub returns-in-Ok-false-clause-drained : goal.returns-in-Ok-false-clause-drained
 returns-in-Ok-false-clause-drained g c = λ past h.
     let i = c.loop-self.invariant in
-    let s = c.loop-self.self in
     let d = i.drains past h in
-    let o = is_false c.in-Ok-false.field-0 _ _ c.in-Ok-false.field-0-test c.in-Ok-false.ensures.ok in (
+    let r = is_false c.in-Ok-false.field-0 _ _ c.in-Ok-false.field-0-test
+    (c.in-Ok-false.ensures.ok (wrote past d.0) d.2 i.unfailed) in
+    let P : Bool → Type 0 = λ f. Stands c.advance.new.self (record past { written = past.written ++ d.0; failed = f }) in (
       d.0,
-      o.2 ∙ d.1,
-      (h.failed ∙ c.if-self.false, all_handed s (wrote past d.0) d.2 i.unfailed o.0),
-      idle_stands s _ (wrote past d.0) (past.failed || false) d.2
-          (record { query = refl; running = refl; bad = refl }) o.1 refl
-          (or_false past.failed ∙ d.2.failed),
+      r.same ∙ d.1,
+      (h.failed ∙ c.if-self.false, r.all),
+      subst P (sym (or_false past.failed)) r.stands,
     )
 
 pub returns-in-Ok-false-clause-no_failure : goal.returns-in-Ok-false-clause-no_failure
@@ -87,19 +90,17 @@ returns-in-Ok-false-clause-never_falls g c = omega
 pub returns-in-Err-clause-drained : goal.returns-in-Err-clause-drained
 returns-in-Err-clause-drained g c = λ past h.
     let i = c.loop-self.invariant in
-    let s = c.loop-self.self in
     let d = i.drains past h in
-    let p = c.in-Err.ensures.part in
-    let part = part_of s (wrote past d.0) _ _ d.2 p.0 in
-    let more = part.0 in
-    let b : IsBeginning ((past.written ++ d.0) ++ more) (handed past) = part_handed s
-    (wrote past d.0) _ _ d.2 i.unfailed p.0 in (
-      d.0 ++ more,
-      part.2 ∙ (ap (λ w. w ++ more) d.1 ∙ append_assoc (g.W.Sink.taken c.args.out.now) d.0 more),
-      (h.failed ∙ c.if-self.false, (b.0, ap (λ w. w ++ b.0) (sym (append_assoc past.written d.0 more)) ∙ b.1)),
-      then_wrote _ past d.0 more (past.failed || true)
-          (failed_stands s _ (wrote past d.0) more (past.failed || true) d.2
-          (record { query = refl; running = refl; bad = refl }) p.1 refl (or_true past.failed)),
+    let b = c.in-Err.ensures.part (wrote past d.0) d.2 i.unfailed in (
+      d.0 ++ b.rows,
+      b.got ∙ (ap (λ w. w ++ b.rows) d.1 ∙ append_assoc (g.W.Sink.taken c.args.out.now) d.0 b.rows),
+      (h.failed ∙ c.if-self.false, (b.part.0, ap (λ w. w ++ b.part.0) (sym (append_assoc past.written d.0 b.rows))
+          ∙ b.part.1)),
+      more_written _ past d.0 b.rows (past.failed || true)
+          (failed_stands c.advance.new.self _ (wrote past d.0) b.rows (past.failed || true) b.stands
+          (record { query = refl; format = refl; running = refl; bad = refl })
+          (record { handed = refl; printing = refl; printer = refl }) refl
+          (record { starts = refl; slots = refl; handed = refl; selected = refl }) refl (or_true past.failed)),
     )
 
 pub returns-in-Err-clause-cause : goal.returns-in-Err-clause-cause

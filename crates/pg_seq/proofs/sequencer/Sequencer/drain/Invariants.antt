@@ -1,16 +1,15 @@
-use Rattle.std.proofs.Common.{◌≡◌, ◌++◌, ℕ, List, length, false}
+use Rattle.std.proofs.Common.{◌≡◌, ◌++◌, ℕ, List, false}
 use Rattle.pg_seq.specs.History.{Past}
-use Rattle.pg_seq.specs.Standing.{Stands}
-use Rattle.pg_seq.proofs.StandLemmas.{IsAlike, wrote}
+use Rattle.pg_seq.specs.Standing.{Stands, wrote, left}
 use Rattle.pg_seq.proofs.sequencer.Sequencer.drain.Given as goal
 
 abbrev pub invariant-loop-self : goal.invariant-loop-self
 invariant-loop-self g l = record {
-  drains : (past : Past) → Stands l.fn.self past → (text : List ℕ) × (g.W.Sink.taken l.out ≡ g.W.Sink.taken l.fn.out ++ text) × Stands l.self (wrote past text);
-  alike : IsAlike l.fn.self l.self;
+  drains : (past : Past) → Stands l.fn.self past → (text : List ℕ)
+      × (g.W.Sink.taken l.out ≡ g.W.Sink.taken l.fn.out ++ text) × Stands l.self (wrote past text);
   unfailed : l.self.failed ≡ false;
   no_failure : g.W.Sink.failures l.out ≡ g.W.Sink.failures l.fn.out;
 }
 
 abbrev pub decreases-loop-self : goal.decreases-loop-self
-decreases-loop-self g l = length l.self.buffer.slots.items
+decreases-loop-self g l = left l.self

@@ -1,32 +1,18 @@
-use Rattle.std.proofs.Common.{◌≡◌, ◌∙◌, ◌||◌, ap, sym, true, false, cond}
+use Rattle.std.proofs.Common.{◌≡◌, ◌∙◌, ◌||◌, ◌&&◌, ap, sym, cond}
 use Rattle.std.specs.List.{list_any}
+use Rattle.pg_rows.specs.Output.{is_quiet}
 use Rattle.pg_seq.specs.Slots.{slot_selects}
 use Rattle.pg_seq.specs.History.{IsComplete}
 use Rattle.pg_seq.proofs.StandLemmas.{held_results, status_is}
 use Rattle.pg_seq.proofs.sequencer.Sequencer.status.Goals as goal
 
-pub returns-then-has_selected : goal.returns-then-has_selected
-returns-then-has_selected g c = λ past h.
-    let b = c.args.self.now.buffer in
+pub returns : goal.returns
+returns g c = λ past h.
+    let s = c.args.self.now in
     let whole : IsComplete past = (c.complete.ensures past h).0 c.if-not-complete.false in
-    let selected : (b.selected || list_any (slot_selects past.query) b.slots.items) ≡ true =
-    sym (c.has_selected.ensures past.query h.trees (held_results c.args.self.now past h))
-    ∙ c.if-has_selected.true in (
+    let selected = c.has_selected-selected.ensures past.query h.trees (held_results s past h) in (
       whole,
-      sym (status_is c.args.self.now past h whole
-          ∙ (ap (λ t. cond t 2 (cond (b.selected || list_any
-          (slot_selects past.query) b.slots.items) 0 1)) c.if-self.false ∙ ap (λ t. cond t 0 1) selected)),
-    )
-
-pub returns-else-has_selected : goal.returns-else-has_selected
-returns-else-has_selected g c = λ past h.
-    let b = c.args.self.now.buffer in
-    let whole : IsComplete past = (c.complete.ensures past h).0 c.if-not-complete.false in
-    let selected : (b.selected || list_any (slot_selects past.query) b.slots.items) ≡ false =
-    sym (c.has_selected.ensures past.query h.trees (held_results c.args.self.now past h))
-    ∙ c.if-has_selected.false in (
-      whole,
-      sym (status_is c.args.self.now past h whole
-          ∙ (ap (λ t. cond t 2 (cond (b.selected || list_any
-          (slot_selects past.query) b.slots.items) 0 1)) c.if-self.false ∙ ap (λ t. cond t 0 1) selected)),
+      c.exit_status.ensures
+          ∙ (ap (λ t. cond (is_quiet s.format.mode && t) 0 (cond s.bad 2 (cond t 0 1))) selected
+          ∙ sym (status_is s past h whole)),
     )

@@ -1,6 +1,6 @@
 use Rattle.std.proofs.Common.{◌∙◌, not, ap, sym}
 use Rattle.pg_seq.specs.Slots.{result_selects}
-use Rattle.pg_seq.proofs.BareLemmas.{runs_of, some_runs}
+use Rattle.pg_seq.proofs.SelectLemmas.{runs_of, some_runs}
 use Rattle.pg_seq.proofs.SlotLemmas.{query_of}
 use Rattle.pg_seq.proofs.slot.Slot.has_selected.Goals as goal
 

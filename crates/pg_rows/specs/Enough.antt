@@ -1,0 +1,46 @@
+-- When what was read of a file settles what it gives (XCU grep, -l and -q; GNU grep, -m).
+use Rattle.std.specs.Prelude.{ℕ, Bool, false, not, nat_lt, ◌&&◌, if◌then◌else◌, List, [], ◌∷◌, length}
+use Rattle.std.specs.List.{list_any, count_by}
+use Rattle.pg_lines.specs.Search.{Search, terminator}
+use Rattle.pg_lines.specs.Lines.{lines}
+use Rattle.pg_lines.specs.Selection.{selects}
+use Rattle.pg_rows.specs.declared.format.Format.{Format}
+use Rattle.pg_rows.specs.declared.format.Mode.{Mode}
+use Rattle.pg_rows.specs.declared.format.Mode.TheVariants.{Rows, Count, List as Names, Quiet}
+use Rattle.pg_rows.specs.Output.{Entry, Missed, Read, is_running, is_quiet, is_below, is_shown, has_selected}
+use Rattle.pg_rows.specs.Trail.{Trail}
+
+-- as many lines are selected as may be kept
+abbrev pub is_full : Search → Format → List (List ℕ) → Bool
+is_full q format ls = not (is_below (count_by (selects q) ls) format.limit)
+
+-- a line behind these would be shown as the context of one of them
+abbrev pub is_trailed : Search → Format → List (List ℕ) → Bool
+is_trailed q format ls = is_shown q format ls (length ls)
+
+-- no line behind these changes what a file gives
+abbrev pub lines_suffice : Mode → Search → Format → List (List ℕ) → Bool
+lines_suffice Rows q format ls = is_full q format ls && not (is_trailed q format ls)
+lines_suffice Count q format ls = is_full q format ls
+lines_suffice Names q format ls = list_any (selects q) ls
+lines_suffice Quiet q format ls = list_any (selects q) ls
+
+-- there is an open file, and its lines so far suffice
+abbrev pub file_suffices : Search → Format → List Entry → Bool
+file_suffices q format [] = false
+file_suffices q format (Missed name ∷ entries) = false
+file_suffices q format (Read name bytes ending ∷ entries) =
+    is_running ending && lines_suffice format.mode q format (lines (terminator q) bytes)
+
+-- Enough was read: with -q once a line is selected in any file, else once the open file's lines suffice. The last file
+-- stands first in the list.
+abbrev pub is_enough : Search → Format → List Entry → Bool
+is_enough q format entries =
+    if is_quiet format.mode then list_any (has_selected q) entries else file_suffices q format entries
+
+-- the same for code that reads line by line: by what is remembered of the open file's lines
+abbrev pub trail_suffices : Mode → Format → Trail → Bool
+trail_suffices Rows format t = not (is_below t.kept format.limit) && not (nat_lt 0 t.countdown)
+trail_suffices Count format t = not (is_below t.kept format.limit)
+trail_suffices Names format t = nat_lt 0 t.kept
+trail_suffices Quiet format t = nat_lt 0 t.kept
