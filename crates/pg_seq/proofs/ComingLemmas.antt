@@ -1,12 +1,10 @@
 -- The steps of a plan that are still to come.
-use Rattle.std.proofs.Common.{◌≡◌, ℕ, suc, ◌+◌, ◌<◌, ◌⊎◌, inl, inr, Bool, true, false, not, ◌&&◌, eqb, List, [], ◌∷◌}
-use Rattle.std.proofs.Common.{◌++◌, length, take, drop, map, cond, refl, sym, ap, ◌∙◌, subst, arith, append_assoc}
-use Rattle.std.proofs.Common.{length-append}
-use Rattle.std.specs.Bool.{MatchBool}
+use Rattle.std.proofs.Common.{◌≡◌, ℕ, ◌+◌, ◌<◌, ◌⊎◌, inl, inr, Bool, true, false, not, ◌&&◌, eqb, List, [], ◌∷◌}
+use Rattle.std.proofs.Common.{◌++◌, length, take, drop, cond, refl, sym, ap, ◌∙◌, arith, append_assoc}
 use Rattle.std.specs.List.{list_all}
 use Rattle.std.proofs.lemmas.Bool.{false≢true, cases_Bool, eqb-true, eqb-false}
 use Rattle.std.proofs.lemmas.List.{append-nil}
-use Rattle.std.proofs.Math.Seq.{take-append_seam, drop-append_seam}
+use Rattle.std.proofs.Math.Seq.{take-append_seam, drop-append_seam, drop-append-add}
 use Rattle.pg_lines.specs.Blocks.{BlockData}
 use Rattle.pg_lines.specs.Search.{Search}
 use Rattle.pg_rows.specs.declared.format.Format.{Format}
@@ -63,6 +61,13 @@ parts_same xs ys us vs e n = (
   sym (drop-append_seam xs ys) ∙ (ap (λ zs. drop (length xs) zs) e ∙ (ap (λ k. drop k (us ++ vs)) n
       ∙ drop-append_seam us vs)),
 )
+
+-- what stands behind a longer front of the same list
+pub rest_same : {X : Type 0} (xs ys us vs : List X) (n : ℕ) → xs ++ ys ≡ us ++ vs → length xs ≡ length us + n
+    → ys ≡ drop n vs
+rest_same xs ys us vs n e m =
+    sym (drop-append_seam xs ys) ∙ (ap (λ zs. drop (length xs) zs) e ∙ (ap (λ k. drop k (us ++ vs)) m
+    ∙ drop-append-add us vs n))
 
 -- The front.
 
@@ -122,9 +127,11 @@ front_has taken p (s ∷ coming) h = elim (cases_Bool (all_taken taken (s ∷ p)
   | inl all ↦
       let r = front_has taken (s ∷ p) coming all in
       (r.0 ++ s ∷ [], r.1 ∙ sym (append_assoc r.0 (s ∷ []) p))
-  | inr some ↦
-      ([], front_lacks taken (s ∷ p) coming some
-          ∙ (ap (λ t. cond t (s ∷ p) (front taken p)) some ∙ front_all taken p h))
+  | inr some ↦ (
+    [],
+    front_lacks taken (s ∷ p) coming some
+        ∙ (ap (λ t. cond t (s ∷ p) (front taken p)) some ∙ front_all taken p h),
+  )
 ]
 
 eqb_same : (k : ℕ) → eqb k k ≡ true
@@ -145,6 +152,8 @@ eqb_apart a b h = elim (cases_Bool (eqb a b)) [
 pub record AreMissed (q : Search) (format : Format) (done coming : List Step) : Type 0 where
   pub same : output q format (entries_of (behind done coming)) ≡ output q format (entries_of done)
   pub all : announced (behind done coming) ≡ announced done
+  pub cursor : cursor_of q format (behind done coming) ≡ cursor_of q format done
+  pub closed : is_open (behind done coming) ≡ is_open done
   pub waiting : (n : ℕ) → openings n coming ≡ []
 
 -- a file comes next, behind names that were missed
@@ -160,7 +169,7 @@ pub record OpensNext (q : Search) (format : Format) (done coming : List Step) (n
 
 pub next_file : (q : Search) (format : Format) (end n : ℕ) (done coming : List Step) → is_open done ≡ false
     → IsShaped end (behind done coming) → AreMissed q format done coming ⊎ OpensNext q format done coming n
-next_file q format end n done [] closed h = inl (record { same = refl; all = refl; waiting = λ n. refl })
+next_file q format end n done [] closed h = inl (record { same = refl; all = refl; cursor = refl; closed = refl; waiting = λ n. refl })
 next_file q format end n done (Opens name ∷ coming) closed h = inr (record {
   misses = done;
   name = name;
@@ -177,17 +186,17 @@ next_file q format end n done (Ends failed ∷ coming) closed h =
     absurd (false≢true (sym closed ∙ (shaped_done end (Ends failed ∷ done) coming h).0))
 next_file q format end n done (Misses name ∷ coming) closed h =
     elim (next_file q format end n (Misses name ∷ done) coming closed h) [
-      | inl m ↦ inl (record { same = m.same; all = m.all; waiting = m.waiting })
+      | inl m ↦ inl (record { same = m.same; all = m.all; cursor = m.cursor; closed = m.closed; waiting = m.waiting })
       | inr o ↦ inr (record {
-          misses = o.misses;
-          name = o.name;
-          later = o.later;
-          split = o.split;
-          blocks = o.blocks;
-          waiting = o.waiting;
-          cursor = o.cursor;
-          same = o.same;
-        })
+        misses = o.misses;
+        name = o.name;
+        later = o.later;
+        split = o.split;
+        blocks = o.blocks;
+        waiting = o.waiting;
+        cursor = o.cursor;
+        same = o.same;
+      })
     ]
 
 -- whether the file's blocks came all, by the openings that come

@@ -1,39 +1,59 @@
 -- What a drain does, step by step.
-use Rattle.std.proofs.Common.{◌≡◌, ℕ, suc, ◌+◌, ◌<◌, ◌≤◌, ◌^◌, Bool, true, false, ◌&&◌, ◌||◌, cond, is_some, eqb}
-use Rattle.std.proofs.Common.{Option, Some, None, IfSome, List, [], ◌∷◌, ◌++◌, length, map, refl, sym, ap, ◌∙◌, subst}
+use Rattle.std.proofs.Common.{◌≡◌, ℕ, ◌+◌, ◌<◌, ◌^◌, Bool, true, false, ◌||◌, cond, is_some}
+use Rattle.std.proofs.Common.{Option, Some, IfSome, List, [], ◌∷◌, ◌++◌, length, map, refl, sym, ap, ◌∙◌, subst}
 use Rattle.std.proofs.Common.{arith, inl, inr, append_assoc, length-append}
 use Rattle.std.specs.List.{AllByRecursion, list_any, list_all}
 use Rattle.std.proofs.lemmas.Bool.{false≢true, and_from}
-use Rattle.std.proofs.lemmas.List.{append-nil, length_push}
+use Rattle.std.proofs.lemmas.List.{length_push}
 use Rattle.std.proofs.lemmas.List.Folds.{list_any-append}
 use Rattle.pg_lines.specs.Search.{Search, terminator, terminator_of}
 use Rattle.pg_lines.specs.Lines.{lines}
 use Rattle.pg_lines.specs.Searched.{Searched, lines_of}
-use Rattle.pg_lines.specs.Blocks.{BlockData, joined}
+use Rattle.pg_lines.specs.Blocks.{BlockData}
 use Rattle.pg_lines.proofs.CountLemmas.{few_lines}
 use Rattle.pg_rows.specs.declared.format.Format.{Format}
 use Rattle.pg_rows.specs.declared.printer.Printer.{Printer}
-use Rattle.pg_rows.specs.Output.{output}
+use Rattle.pg_rows.specs.Output.{HasRoom, output}
 use Rattle.pg_rows.specs.Sink.{IsBeginning, TakesPart}
 use Rattle.pg_rows.specs.Cursor.{Cursor}
 use Rattle.pg_rows.specs.Remembered.{Remembers, opened_as, behind_block, shown_rows, end_rows}
 use Rattle.pg_seq.specs.declared.opening.Opening.{Opening}
 use Rattle.pg_seq.specs.declared.slot.Slot.{Slot}
 use Rattle.pg_seq.specs.declared.sequencer.Sequencer.{Sequencer}
-use Rattle.pg_seq.specs.Plan.{Step, Opens, Announces, Ends, Misses, IsPlan, IsShaped, is_open, announced, last_blocks}
+use Rattle.pg_seq.specs.Plan.{Step, Opens, Announces, Ends, IsPlan, IsShaped, is_open, announced}
 use Rattle.pg_seq.specs.Plan.{entries_of}
 use Rattle.pg_seq.specs.History.{Past, plan, taken_of, is_taken, all_taken, front, front_after, handed, handed_after}
 use Rattle.pg_seq.specs.Cursor.{cursor_of, step_rows}
 use Rattle.pg_seq.specs.Coming.{behind, blocks_of, openings}
 use Rattle.pg_seq.specs.Slots.{slot_block, has_result, slot_selects, ready, IsResultOf}
-use Rattle.pg_seq.specs.Buffer.{Keeps, HandsOut, HasFirst}
-use Rattle.pg_seq.specs.Standing.{Stands, Writes, IsWritten, wrote, opening_of, is_last_block, is_at_end}
+use Rattle.pg_seq.specs.Buffer.{Keeps, HandsOut, HasResult}
+use Rattle.pg_seq.specs.Standing.{Stands, IsWritten, wrote, opening_of, is_last_block, is_at_end}
 use Rattle.pg_seq.proofs.FrontLemmas.{all_map, front_all, front_shaped}
 use Rattle.pg_seq.proofs.BeginLemmas.{begins_trans, shape_of}
 use Rattle.pg_seq.proofs.CursorLemmas.{cursor_is, output_step, open_rows, plan_begins}
-use Rattle.pg_seq.proofs.ComingLemmas.{of_done, all_push, front_stops, front_has, AreMissed, OpensNext, next_file}
+use Rattle.pg_seq.proofs.ComingLemmas.{of_done, all_push, front_stops, front_has, AreMissed, next_file}
 use Rattle.pg_seq.proofs.ComingLemmas.{is_over, NextStep, Nothing, Block, End, next_step}
-use Rattle.pg_seq.proofs.StandLemmas.{all, halves, IsAlike, IsIdle, rested, all_push as each_push}
+use Rattle.pg_seq.proofs.StandLemmas.{all, halves, IsAlike, rested, all_push as each_push}
+
+pub last_by : {A : Type 0} (items : List (Opening A)) (more : Bool) (held n : ℕ)
+    → is_last_block items more held n ≡ is_over (map opening_of items) more held n
+last_by [] more held n = refl
+last_by (opening ∷ items) more held n = refl
+
+-- the numbers of a file's lines are small
+pub few_numbers : (q : Search) (format : Format) → HasRoom format → (done : List Step) (b : BlockData)
+    → IsPlan (terminator q) (Announces b ∷ done)
+    → (cursor_of q format done).trail.number + length (lines (terminator q) b.bytes) < 2 ^ 63
+few_numbers q format room done b lawful =
+    let file = (cursor_is q format room done (shape_of (terminator q) done lawful.1)).file lawful.0.0.running in
+    omega (
+      arith,
+      lawful.0.1.small,
+      file.trail.number,
+      few_lines (terminator q) file.bytes,
+      ap length file.same,
+      few_lines (terminator q) b.bytes,
+    )
 
 module _ {A : Type 0} (s : Sequencer A) (past : Past) (h : Stands s past) where
   abbrev q : Search
@@ -61,7 +81,7 @@ module _ {A : Type 0} (s : Sequencer A) (past : Past) (h : Stands s past) where
   shaped_done = of_done (λ p. IsShaped (terminator q) p) (λ s p h. h.1) done coming shaped
 
   -- the blocks that were handed out were taken
-  done_taken : all_taken keys done ≡ true
+  pub done_taken : all_taken keys done ≡ true
   done_taken =
       all_map (is_taken keys) (announced done)
       ∙ (ap (list_all (λ b. b)) (halves s past h).taken_before ∙ gone_all h.gone h.given_up.results)
@@ -135,11 +155,6 @@ module _ {A : Type 0} (s : Sequencer A) (past : Past) (h : Stands s past) where
       ∙ sym (output_step q past.format h.room done here (cursor_is q past.format h.room done shaped_done) step lawful)
 
   -- What comes next.
-
-  last_by : (items : List (Opening A)) (more : Bool) (held n : ℕ)
-      → is_last_block items more held n ≡ is_over (map opening_of items) more held n
-  last_by [] more held n = refl
-  last_by (opening ∷ items) more held n = refl
 
   over_is : is_at_end s
       ≡ is_over (openings s.buffer.handed coming) (is_open (behind done coming)) (length (blocks_of coming))
@@ -259,13 +274,6 @@ module _ {A : Type 0} (s : Sequencer A) (past : Past) (h : Stands s past) where
 
   -- A block comes next, and its slot is the first.
 
-  first_ready : (found : Searched) → (p : HasFirst s.buffer found) → ready s.buffer.slots.items ≡ 0 → ⊥
-  first_ready found p none =
-      let some : has_result p.slot ≡ true = ap (λ o. is_some o) p.result in
-      let count : cond (has_result p.slot) (1 + ready p.later) 0 ≡ 1 + ready p.later =
-      ap (λ b. cond b (1 + ready p.later) 0) some in
-      omega (arith, ap ready p.slots, none, count)
-
   heads : {X : Type 0} {x y : X} {xs ys : List X} → x ∷ xs ≡ y ∷ ys → x ≡ y
   heads e = cc
 
@@ -324,6 +332,8 @@ module _ {A : Type 0} (s : Sequencer A) (past : Past) (h : Stands s past) where
       go (Nothing e none) = stops_at_last (record {
         same = ap (λ c. output q past.format (entries_of (behind done c))) e;
         all = ap (λ c. announced (behind done c)) e;
+        cursor = ap (λ c. cursor_of q past.format (behind done c)) e;
+        closed = ap (λ c. is_open (behind done c)) e;
         waiting = λ n. ap (openings n) e;
       })
       go (End failed later e some) = absurd (false≢true (sym over ∙ some))
@@ -359,15 +369,10 @@ module _ {A : Type 0} (s : Sequencer A) (past : Past) (h : Stands s past) where
       let lawful : IsPlan (terminator q) (Announces (slot_block slot) ∷ done) =
       of_done (λ p. IsPlan (terminator q) p) (λ s p h. h.1) (Announces (slot_block slot) ∷ done) n.later
       (subst P (h.writes.split ∙ ap (behind done) n.is) h.lawful) in
-      let small : length (joined (last_blocks done)) + length (slot_block slot).bytes ≤ 2 ^ 62 = lawful.0.1.small in
-      let file = (cursor_is q past.format h.room done shaped_done).file (h.writes.printing ∙ printing) in
+      let few = few_numbers q past.format h.room done (slot_block slot) lawful in
       omega (
         arith,
-        small,
-        file.trail.number,
-        few_lines (terminator q) file.bytes,
-        ap length file.same,
-        few_lines (terminator q) (slot_block slot).bytes,
+        few,
         ap (λ t. length (lines (terminator_of t) found.block.bytes)) r.0,
         ap (λ b. length (lines (terminator q) b.bytes)) r.1,
       )
@@ -433,7 +438,7 @@ module _ {A : Type 0} (s : Sequencer A) (past : Past) (h : Stands s past) where
           ∙ sym (list_any-append (slot_selects q) gone (x ∷ []))
 
   -- a part of the rows was written
-  pub block_part : (found : Searched) → (p : HasFirst s.buffer found) → s.printing ≡ true → is_at_end s ≡ false
+  pub block_part : (found : Searched) → (p : HasResult s.buffer 0 found) → s.printing ≡ true → is_at_end s ≡ false
       → s.failed ≡ false → (before after : List ℕ)
       → (t : TakesPart (shown_rows q past.format here found.block.bytes) before after)
       → IsBeginning (past.written ++ t.0) (handed past)

@@ -1,14 +1,12 @@
 -- The front of a plan: its longest beginning each of whose blocks was taken.
-use Rattle.std.proofs.Common.{◌≡◌, ℕ, suc, ◌+◌, Bool, true, false, ◌&&◌, cond, is_some, Option, Some, None, IfSome, List, [], ◌∷◌, ◌++◌, length, take, map, refl, sym, ap, ◌∙◌, arith}
-use Rattle.std.specs.List.{flat_map, list_all, AllByRecursion}
+use Rattle.std.proofs.Common.{◌≡◌, ℕ, ◌+◌, Bool, true, false, ◌&&◌, cond, List, [], ◌∷◌, ◌++◌, length, map, refl, sym, ap, ◌∙◌, arith}
+use Rattle.std.specs.List.{list_all}
 use Rattle.std.proofs.lemmas.Bool.{false≢true, and_from, and_parts}
-use Rattle.pg_lines.specs.Search.{Search}
-use Rattle.pg_lines.specs.Searched.{Searched}
 use Rattle.pg_lines.specs.Blocks.{BlockData}
 use Rattle.pg_seq.specs.declared.slot.Slot.{Slot}
 use Rattle.pg_seq.specs.Plan.{Step, Opens, Announces, Ends, Misses, IsShaped, announced}
 use Rattle.pg_seq.specs.History.{is_taken, all_taken, front}
-use Rattle.pg_seq.specs.Slots.{IsResultOf, slot_block, has_result, ready}
+use Rattle.pg_seq.specs.Slots.{has_result, ready}
 use Rattle.pg_seq.proofs.SlotLemmas.{cond_pos}
 
 -- what holds of a plan and of each beginning of it holds of its front

@@ -12,3 +12,5 @@ pub mod ArriveLemmas
 pub mod ComingLemmas
 pub mod StandLemmas
 pub mod DrainSteps
+pub mod EnoughLemmas
+pub mod AheadLemmas

@@ -1,13 +1,12 @@
 -- Slots from the first on that have their results.
 use Rattle.std.proofs.Common.{◌≡◌, ℕ, zero, suc, ◌+◌, ◌<◌, Bool, true, false, ◌&&◌, ◌||◌, cond, List, [], ◌∷◌, ◌++◌}
-use Rattle.std.proofs.Common.{length, take, drop, map, get_or, refl, sym, ap, ◌∙◌, subst, arith, Option, Some, IfSome}
+use Rattle.std.proofs.Common.{length, drop, map, get_or, refl, sym, ap, ◌∙◌, subst, arith, Option, Some, IfSome}
 use Rattle.std.specs.Bool.{MatchBool}
-use Rattle.std.specs.List.{flat_map, list_all, list_any, AllByRecursion, AllWithin, HoldsAt}
-use Rattle.std.proofs.lemmas.List.Concat.{flat_map-append}
+use Rattle.std.specs.List.{list_all, list_any, AllByRecursion, AllWithin, HoldsAt}
 use Rattle.pg_lines.specs.Search.{Search}
 use Rattle.pg_lines.specs.Searched.{Searched}
 use Rattle.pg_seq.specs.declared.slot.Slot.{Slot}
-use Rattle.pg_seq.specs.Slots.{has_result, slot_block, slot_selects, ready, IsResultOf}
+use Rattle.pg_seq.specs.Slots.{has_result, slot_block, slot_selects, IsResultOf}
 
 or_true : (b : Bool) → (b || true) ≡ true
 or_true true = refl

@@ -1,12 +1,11 @@
 -- What a sequencer stands after.
 use Rattle.std.proofs.Common.{◌≡◌, ℕ, ◌+◌, ◌<◌, ◌≤◌, ◌^◌, Bool, true, false, ◌||◌, ◌&&◌, cond, eqb, is_some, Option, Some}
-use Rattle.std.proofs.Common.{None, IfSome, List, [], ◌∷◌, ◌++◌, length, take, map, refl, sym, ap, ◌∙◌, subst, arith}
+use Rattle.std.proofs.Common.{None, IfSome, List, [], ◌∷◌, ◌++◌, length, map, refl, sym, ap, ◌∙◌, subst, arith}
 use Rattle.std.proofs.Common.{inl, inr, append_assoc, length-append}
-use Rattle.std.specs.List.{find, flat_map, AllByRecursion, list_any, list_all}
+use Rattle.std.specs.List.{find, AllByRecursion, list_any, list_all}
 use Rattle.std.proofs.lemmas.Bool.{false≢true, cases_Bool, eqb-true, and_parts}
 use Rattle.std.proofs.lemmas.List.{append-nil, length-map, map-append, map_push}
 use Rattle.std.proofs.lemmas.List.Folds.{list_any-append}
-use Rattle.std.proofs.lemmas.List.Concat.{flat_map-append}
 use Rattle.pg_lines.specs.Search.{Search, HasItsTrees, terminator}
 use Rattle.pg_lines.specs.Lines.{lines}
 use Rattle.pg_lines.specs.Selection.{selects}
@@ -30,11 +29,12 @@ use Rattle.std.specs.Arc.{arc_value}
 use Rattle.pg_seq.specs.History.{Past, start, plan, planned, arrived, answer, answer_after, arrival_at, taken_of}
 use Rattle.pg_seq.specs.History.{taken_after, is_taken, is_block, all_taken, front_after}
 use Rattle.pg_seq.specs.History.{IsComplete, status_of}
-use Rattle.pg_seq.specs.Coming.{behind, blocks_of, openings}
+use Rattle.pg_seq.specs.Coming.{blocks_of, openings}
 use Rattle.pg_seq.specs.Cursor.{at_start, cursor_of}
 use Rattle.pg_seq.specs.Slots.{place_of, at_place, slot_block, has_result, arrival_among, with_result, IsResultOf}
 use Rattle.pg_seq.specs.Slots.{slot_selects, result_selects, ready}
-use Rattle.pg_seq.specs.Buffer.{Keeps, OpensFile, Pushes, Puts, IsArrival, HandsOut}
+use Rattle.pg_seq.specs.Ahead.{block_selects}
+use Rattle.pg_seq.specs.Buffer.{Keeps, OpensFile, Pushes, Puts, IsArrival}
 use Rattle.pg_seq.specs.Standing.{Stands, Writes, starts_of, opening_of}
 use Rattle.pg_seq.proofs.SlotLemmas.{all_behind, cond_pos}
 use Rattle.pg_seq.proofs.FrontLemmas.{front_all, front_taken, all_map, ready_all}
@@ -75,10 +75,7 @@ pub all_push : {X : Type 0} (P : X → Type 0) (xs : List X) (x : X) → AllByRe
 all_push P [] x h p = (p, tt)
 all_push P (y ∷ xs) x h p = (h.0, all_push P xs x h.1 p)
 
-abbrev block_selects : Search → BlockData → Bool
-block_selects q b = list_any (selects q) (lines (terminator q) b.bytes)
-
-selected_entries : (q : Search) (format : Format) → HasRoom format → (p : List Step) → IsShaped (terminator q) p
+pub selected_entries : (q : Search) (format : Format) → HasRoom format → (p : List Step) → IsShaped (terminator q) p
     → list_any (has_selected q) (entries_of p) ≡ list_any (block_selects q) (announced p)
 selected_entries q format room [] lawful = refl
 selected_entries q format room (Opens name ∷ p) lawful = selected_entries q format room p lawful.1
@@ -112,7 +109,7 @@ selected_entries q format room (Announces b ∷ p) lawful =
     turn false false false = refl
 
 -- the same by the slots, where all are ready
-slot_selected : (q : Search) (b : BlockData) (o : Option Searched) → is_some o ≡ true
+pub slot_selected : (q : Search) (b : BlockData) (o : Option Searched) → is_some o ≡ true
     → IfSome o (λ r. (r.query ≡ q.text) × (r.block ≡ b)) → block_selects q b ≡ result_selects q o
 slot_selected q b None e h = absurd (false≢true e)
 slot_selected q b (Some r) e h = ap (block_selects q) (sym h.1)

@@ -1,5 +1,5 @@
 -- What the calls of a reorder buffer do to it.
-use Rattle.std.specs.Prelude.{◌≡◌, ℕ, ◌+◌, ◌≤◌, true, ◌||◌, Some, None, List, [], ◌∷◌, ◌++◌, length}
+use Rattle.std.specs.Prelude.{◌≡◌, ℕ, ◌+◌, ◌≤◌, true, ◌||◌, Some, None, List, [], ◌∷◌, ◌++◌, length, drop}
 use Rattle.std.specs.List.{AllByRecursion}
 use Rattle.pg_lines.specs.Search.{Search, HasItsTrees}
 use Rattle.pg_lines.specs.Blocks.{BlockData}
@@ -62,9 +62,9 @@ pub record HandsOut {A : Type 0} (slot : Slot A) (old new : ReorderBuffer A) : T
   pub selected : (q : Search) → HasItsTrees q → IsResultOf q slot →
       new.selected ≡ (old.selected || slot_selects q slot)
 
--- the first block has this result
-pub record HasFirst {A : Type 0} (buffer : ReorderBuffer A) (found : Searched) : Type 0 where
+-- the block behind so many has this result
+pub record HasResult {A : Type 0} (buffer : ReorderBuffer A) (count : ℕ) (found : Searched) : Type 0 where
   pub slot : Slot A
   pub later : List (Slot A)
-  pub slots : buffer.slots.items ≡ slot ∷ later
+  pub slots : drop count buffer.slots.items ≡ slot ∷ later
   pub result : slot.result ≡ Some found

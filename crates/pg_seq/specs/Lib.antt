@@ -5,3 +5,4 @@ pub mod Coming
 pub mod Slots
 pub mod Buffer
 pub mod Standing
+pub mod Ahead

@@ -1,6 +1,7 @@
 //! Puts the results of blocks in order, and writes the output of a run.
 #![tactic(auto)]
 
+mod ahead;
 mod answers;
 mod laws;
 mod opening;

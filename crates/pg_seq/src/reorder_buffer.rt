@@ -1,6 +1,6 @@
 //! Results that wait for those of the blocks before them.
 ghost use Rattle.std.specs.Prelude.{◌≡◌, ◌+◌, ◌<◌, ◌≤◌, ◌^◌, ◌||◌, ◌==◌, [], false, OnOk, OnErr, MatchOption};
-ghost use Rattle.std.specs.Prelude.{length, get_or};
+ghost use Rattle.std.specs.Prelude.{length, get_or, drop};
 ghost use Rattle.std.specs.List.{AllByRecursion, list_all, list_any};
 ghost use Rattle.std.specs.Arc.{arc_value};
 ghost use Rattle.pg_seq.specs.Slots.{place_of};
@@ -64,7 +64,7 @@ fn place_in(starts: &[u128], total: u128, file: u32, number: u64) -> Option<u128
 impl<A: Allocator> ReorderBuffer<A> {
     ghost use Rattle.pg_lines.specs.Search.{Search, HasItsTrees};
     ghost use Rattle.pg_seq.specs.Slots.{IsResultOf, has_result, slot_selects, ready};
-    ghost use Rattle.pg_seq.specs.Buffer.{Keeps, OpensFile, Pushes, IsArrival, Puts, HandsOut, HasFirst};
+    ghost use Rattle.pg_seq.specs.Buffer.{Keeps, OpensFile, Pushes, IsArrival, Puts, HandsOut, HasResult};
 
     /// A buffer without files and blocks.
     pub(crate) fn new(alloc: A) -> ReorderBuffer<A>
@@ -184,11 +184,26 @@ impl<A: Allocator> ReorderBuffer<A> {
         self.slots.is_empty()
     }
 
-    /// The result of the first block, once it has come.
-    pub(crate) fn first_result(&self) -> Option<&BlockResult<A>>
-        ensures { MatchOption result (ready self.now.slots.items ≡ 0) (λ found. HasFirst self.now found.now) }
+    /// How many blocks weren't handed out.
+    pub(crate) fn len(&self) -> usize
+        ensures { result ≡ length self.now.slots.items }
     {
-        self.slots.front()?.result.as_ref()
+        self.slots.len()
+    }
+
+    /// Whether a line is selected in some block that was handed out.
+    pub(crate) fn has_handed_selected(&self) -> bool
+        ensures { result ≡ self.now.selected }
+    {
+        self.selected
+    }
+
+    /// The result of the block behind the first so many, once it has come.
+    pub(crate) fn result_at(&self, count: usize) -> Option<&BlockResult<A>>
+        ensures { MatchOption result (ready (drop count self.now.slots.items) ≡ 0)
+            (λ found. HasResult self.now count found.now) }
+    {
+        self.slots.get(count)?.result.as_ref()
     }
 
     /// Gives the first block up.

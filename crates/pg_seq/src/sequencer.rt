@@ -1,15 +1,16 @@
 //! What a run writes, from results that arrive in any order.
 ghost use Rattle.std.specs.Prelude.{◌≡◌, ℕ, ◌<◌, ◌≤◌, ◌++◌, ◌↔◌, List, false, IsTrue, IfOk, OnOk, OnErr, IsErrOf};
-ghost use Rattle.std.specs.Prelude.{MatchOption, MatchBool, true};
+ghost use Rattle.std.specs.Prelude.{MatchOption, MatchBool, IfSome, true};
 ghost use Rattle.std.specs.Prelude.{◌&&◌, if◌then◌else◌};
 ghost use Rattle.std.specs.Arc.{arc_value};
 ghost use Rattle.pg_rows.specs.Output.{is_quiet};
 
+use crate::ahead::Ahead;
 use crate::answers::{Arrival, SinkFault};
 use crate::opening::Opening;
 use crate::reorder_buffer::ReorderBuffer;
 use pg_lines::{Block, BlockResult, Query};
-use pg_rows::{Format, Mode, Prefix, Printer, Sink, WriteError};
+use pg_rows::{Format, Mode, Prefix, Printer, Progress, Sink, WriteError};
 use std::alloc::{AllocError, Allocator, Global};
 use std::collections::VecDeque;
 use std::sync::Arc;
@@ -60,6 +61,10 @@ impl<A: Allocator> Sequencer<A> {
     ghost use Rattle.pg_rows.specs.Output.{HasRoom};
     ghost use Rattle.pg_seq.specs.Standing.{Stands, IsReadyFor, Drained, drained, is_at_end, left};
     ghost use Rattle.pg_seq.specs.Standing.{Advances, Breaks, Rests, IsWritten};
+    ghost use Rattle.pg_rows.specs.Enough.{is_enough};
+    ghost use Rattle.pg_seq.specs.Plan.{entries_of};
+    ghost use Rattle.pg_seq.specs.History.{front_of};
+    ghost use Rattle.pg_seq.specs.Ahead.{IsAhead, IsFront, is_over, left_ahead};
     ghost use Rattle.pg_seq.specs.declared.answers.SinkFault.TheVariants.{WriteFailed};
 
     /// A sequencer to which nothing happened, for the results of a query. It reserves the room for the
@@ -278,7 +283,7 @@ impl<A: Allocator> Sequencer<A> {
         ensures no_failure { OnOk result (W.failures out.new ≡ W.failures out.old) }
         ensures never_falls { W.failures out.old ≤ W.failures out.new }
     {
-        let Some(found) = self.buffer.first_result() else {
+        let Some(found) = self.buffer.result_at(0) else {
             return Ok(false);
         };
         let printed = self.printer.print(out, found)?;
@@ -293,6 +298,96 @@ impl<A: Allocator> Sequencer<A> {
         ensures { (past : Past) → Stands self.now past → IsTrue result ↔ IsComplete past }
     {
         !self.running && self.buffer.has_all_results()
+    }
+
+    /// Whether enough was read, by the files that may be handed out: with -q a line of any file is
+    /// selected; else a file is open, and no line that may follow changes what it gives. It takes no
+    /// memory.
+    ///
+    /// While results are missing the open file may be an earlier one than that of the plan.
+    pub fn enough(&self) -> bool
+        requires { (past : Past) × Stands self.now past }
+        ensures { (past : Past) → Stands self.now past →
+            result ≡ is_enough past.query past.format (entries_of (front_of past)) }
+    {
+        let mut ahead = Ahead {
+            blocks: 0,
+            files: 0,
+            inside: self.printing,
+            progress: self.printer.progress(),
+            selected: self.buffer.has_handed_selected(),
+        };
+        while let Some(next) = self.next_ahead(ahead) {
+            ahead = next;
+        }
+        ahead.is_enough(&self.format)
+    }
+
+    /// One step further, where it could be done.
+    fn next_ahead(&self, ahead: Ahead) -> Option<Ahead>
+        requires { (past : Past) × Stands self.now past × IsAhead self.now past ahead }
+        ensures further { (past : Past) → Stands self.now past → IsAhead self.now past ahead →
+            MatchOption result (IsFront past ahead) (IsAhead self.now past) }
+        ensures fewer { IfSome result (λ next. left_ahead self.now next < left_ahead self.now ahead) }
+    {
+        if !ahead.inside {
+            return self.file_ahead(ahead);
+        }
+        if self.is_over(ahead) {
+            return Some(Ahead {
+                inside: false,
+                ..ahead
+            });
+        }
+        self.block_ahead(ahead)
+    }
+
+    /// Opens the next file.
+    fn file_ahead(&self, ahead: Ahead) -> Option<Ahead>
+        requires { ahead.inside ≡ false }
+        ensures further { (past : Past) → Stands self.now past → IsAhead self.now past ahead →
+            MatchOption result (IsFront past ahead) (IsAhead self.now past) }
+        ensures fewer { IfSome result (λ next. left_ahead self.now next < left_ahead self.now ahead) }
+    {
+        if ahead.files >= self.waiting.len() {
+            return None;
+        }
+        Some(Ahead {
+            files: ahead.files + 1,
+            inside: true,
+            progress: Progress::new(),
+            ..ahead
+        })
+    }
+
+    /// Whether the open file has no more blocks and has ended.
+    fn is_over(&self, ahead: Ahead) -> bool
+        ensures { result ≡ is_over self.now ahead }
+    {
+        match self.waiting.get(ahead.files) {
+            Some(next) => next.start == self.buffer.handed() + ahead.blocks as u128,
+            None => !self.running && self.buffer.len() <= ahead.blocks,
+        }
+    }
+
+    /// Goes past the next block, where its result has come.
+    fn block_ahead(&self, ahead: Ahead) -> Option<Ahead>
+        requires stands { (past : Past) × Stands self.now past × IsAhead self.now past ahead }
+        requires inside { (ahead.inside ≡ true) × (is_over self.now ahead ≡ false) }
+        ensures further { (past : Past) → Stands self.now past → IsAhead self.now past ahead →
+            MatchOption result (IsFront past ahead) (IsAhead self.now past) }
+        ensures fewer { IfSome result (λ next. left_ahead self.now next < left_ahead self.now ahead) }
+    {
+        let Some(found) = self.buffer.result_at(ahead.blocks) else {
+            return None;
+        };
+        let (runs, lines) = (found.runs(), found.lines() as u64);
+        Some(Ahead {
+            blocks: ahead.blocks + 1,
+            progress: ahead.progress.after(&self.format, runs, lines),
+            selected: ahead.selected | !runs.is_empty(),
+            ..ahead
+        })
     }
 
     /// The exit status (XCU grep, EXIT STATUS), once all is complete: 2 after a name that was missed

@@ -1,4 +1,4 @@
-use Rattle.std.proofs.Common.{◌≡◌, ◌∙◌, Bool, true, false, [], ◌++◌, ap, sym, subst, refl, List, ℕ}
+use Rattle.std.proofs.Common.{◌∙◌, Bool, true, false, [], sym, subst, refl, List, ℕ}
 use Rattle.std.specs.Bool.{MatchBool}
 use Rattle.std.proofs.lemmas.List.{append-nil}
 use Rattle.pg_rows.specs.Remembered.{end_rows}
@@ -6,7 +6,6 @@ use Rattle.pg_rows.proofs.SinkLemmas.{on_err}
 use Rattle.pg_seq.specs.History.{Past}
 use Rattle.pg_seq.specs.declared.sequencer.Sequencer.{Sequencer}
 use Rattle.pg_seq.specs.Standing.{Stands, Advances, Rests, IsWritten}
-use Rattle.pg_seq.proofs.StandLemmas.{same_stands}
 use Rattle.pg_seq.proofs.DrainSteps.{here, ended_next, end_part}
 use Rattle.pg_seq.proofs.sequencer.Sequencer.advance.Goals as goal
 

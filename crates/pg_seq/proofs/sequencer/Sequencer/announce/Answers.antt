@@ -1,4 +1,4 @@
-use Rattle.std.proofs.Common.{refl, sym}
+use Rattle.std.proofs.Common.{refl}
 use Rattle.std.specs.Arc.{arc_value}
 use Rattle.pg_rows.proofs.SinkLemmas.{on_ok, on_err_too}
 use Rattle.pg_seq.proofs.StandLemmas.{same_stands, announced_stands, has_room}

@@ -3,10 +3,9 @@ use Rattle.std.proofs.Common.{append_assoc}
 use Rattle.std.specs.Bool.{MatchBool}
 use Rattle.std.proofs.lemmas.Bool.{false≢true}
 use Rattle.std.proofs.lemmas.List.{append-nil}
-use Rattle.pg_rows.specs.Sink.{IsBeginning}
-use Rattle.pg_seq.specs.History.{Past, handed}
+use Rattle.pg_seq.specs.History.{Past}
 use Rattle.pg_seq.specs.declared.sequencer.Sequencer.{Sequencer}
-use Rattle.pg_seq.specs.Standing.{Stands, Advances, Rests, Breaks, wrote}
+use Rattle.pg_seq.specs.Standing.{Stands, wrote}
 use Rattle.pg_seq.proofs.StandLemmas.{failed_stands}
 use Rattle.pg_seq.proofs.sequencer.Sequencer.drain.Goals as goal
 
@@ -94,8 +93,14 @@ returns-in-Err-clause-drained g c = λ past h.
     let b = c.in-Err.ensures.part (wrote past d.0) d.2 i.unfailed in (
       d.0 ++ b.rows,
       b.got ∙ (ap (λ w. w ++ b.rows) d.1 ∙ append_assoc (g.W.Sink.taken c.args.out.now) d.0 b.rows),
-      (h.failed ∙ c.if-self.false, (b.part.0, ap (λ w. w ++ b.part.0) (sym (append_assoc past.written d.0 b.rows))
-          ∙ b.part.1)),
+      (
+        h.failed ∙ c.if-self.false,
+        (
+          b.part.0,
+          ap (λ w. w ++ b.part.0) (sym (append_assoc past.written d.0 b.rows))
+              ∙ b.part.1,
+        ),
+      ),
       more_written _ past d.0 b.rows (past.failed || true)
           (failed_stands c.advance.new.self _ (wrote past d.0) b.rows (past.failed || true) b.stands
           (record { query = refl; format = refl; running = refl; bad = refl })

@@ -1,5 +1,4 @@
 use Rattle.std.proofs.Common.{refl, sym, ap, ◌∙◌, arith, ◌≡◌, drop, List, [], ◌∷◌, length}
-use Rattle.pg_seq.specs.declared.opening.Opening.{Opening}
 use Rattle.pg_seq.proofs.DrainSteps.{none_waits, opened_next, here}
 use Rattle.pg_seq.proofs.StandLemmas.{same_stands}
 use Rattle.pg_seq.proofs.sequencer.Sequencer.open_next.Goals as goal

@@ -1,12 +1,9 @@
-use Rattle.std.proofs.Common.{◌≡◌, ◌∙◌, List, ◌∷◌, Some, ap, sym, subst, refl}
+use Rattle.std.proofs.Common.{◌≡◌, ◌∙◌, List, ◌∷◌, ap, sym, subst, refl}
 use Rattle.pg_lines.specs.Blocks.{BlockData}
-use Rattle.pg_lines.specs.Searched.{Searched}
 use Rattle.pg_rows.specs.declared.printer.Printer.{Printer}
 use Rattle.pg_rows.specs.Remembered.{Remembers, Follows, behind_block, shown_rows}
 use Rattle.pg_rows.proofs.SinkLemmas.{on_err}
-use Rattle.pg_seq.specs.declared.slot.Slot.{Slot}
 use Rattle.pg_seq.specs.Slots.{slot_block}
-use Rattle.pg_seq.specs.Standing.{Stands}
 use Rattle.pg_seq.proofs.StandLemmas.{same_stands}
 use Rattle.pg_seq.proofs.DrainSteps.{here, none_ready, result_is, lines_fit, printed_next, block_part}
 use Rattle.pg_seq.proofs.sequencer.Sequencer.print_next.Goals as goal

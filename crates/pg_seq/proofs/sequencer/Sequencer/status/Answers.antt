@@ -1,7 +1,5 @@
-use Rattle.std.proofs.Common.{◌≡◌, ◌∙◌, ◌||◌, ◌&&◌, ap, sym, cond}
-use Rattle.std.specs.List.{list_any}
+use Rattle.std.proofs.Common.{◌∙◌, ◌&&◌, ap, sym, cond}
 use Rattle.pg_rows.specs.Output.{is_quiet}
-use Rattle.pg_seq.specs.Slots.{slot_selects}
 use Rattle.pg_seq.specs.History.{IsComplete}
 use Rattle.pg_seq.proofs.StandLemmas.{held_results, status_is}
 use Rattle.pg_seq.proofs.sequencer.Sequencer.status.Goals as goal

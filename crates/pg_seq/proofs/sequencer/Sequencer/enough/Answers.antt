@@ -1,0 +1,24 @@
+use Rattle.std.proofs.Common.{◌∙◌, ◌&&◌, cond, ap, sym, subst, refl}
+use Rattle.pg_rows.specs.declared.format.Format.{Format}
+use Rattle.pg_rows.specs.Progress.{Tells}
+use Rattle.pg_rows.specs.Output.{is_quiet}
+use Rattle.pg_rows.specs.Enough.{trail_suffices}
+use Rattle.pg_seq.specs.Cursor.{cursor_of}
+use Rattle.pg_seq.specs.History.{front_of}
+use Rattle.pg_seq.proofs.AheadLemmas.{at_first, front_enough}
+use Rattle.pg_seq.proofs.sequencer.Sequencer.enough.Goals as goal
+
+pub loop-next-init : goal.loop-next-init
+loop-next-init g c = λ past h.
+    at_first c.args.self.now past h _ refl refl refl c.progress.ensures c.has_handed_selected.ensures
+
+pub returns : goal.returns
+returns g c = λ past h.
+    let s = c.args.self.now in
+    let a = c.loop-next.ahead in
+    let f = c.in_default.ensures.further past h (c.loop-next.invariant past h) in
+    let trail = (cursor_of past.query past.format (front_of past)).trail in
+    let T : Format → Type 0 = λ x. Tells a.progress x trail in
+    c.is_enough.ensures trail (subst T h.format f.progress)
+    ∙ (ap (λ (x : Format). cond (is_quiet x.mode) a.selected (a.inside && trail_suffices x.mode x trail)) (sym h.format)
+    ∙ front_enough s past h a f)

@@ -1,0 +1,47 @@
+-- How far the rows of a plan could be written by the results that have come.
+use Rattle.std.specs.Prelude.{◌≡◌, ℕ, ◌+◌, ◌-◌, ◌*◌, Bool, true, if◌then◌else◌, List, length, map, drop}
+use Rattle.std.specs.List.{list_any}
+use Rattle.pg_lines.specs.Search.{Search, terminator}
+use Rattle.pg_lines.specs.Lines.{lines}
+use Rattle.pg_lines.specs.Selection.{selects}
+use Rattle.pg_lines.specs.Blocks.{BlockData}
+use Rattle.pg_rows.specs.Output.{has_selected}
+use Rattle.pg_rows.specs.Progress.{Tells}
+use Rattle.pg_seq.specs.Plan.{Step, announced, is_open, entries_of}
+use Rattle.pg_seq.specs.History.{Past, plan, taken_of, all_taken, front_of}
+use Rattle.pg_seq.specs.Cursor.{cursor_of}
+use Rattle.pg_seq.specs.Coming.{behind, openings}
+use Rattle.pg_seq.specs.Standing.{opening_of, is_last_block}
+use Rattle.pg_seq.specs.declared.ahead.Ahead.{Ahead}
+use Rattle.pg_seq.specs.declared.sequencer.Sequencer.{Sequencer}
+
+abbrev pub block_selects : Search → BlockData → Bool
+block_selects q b = list_any (selects q) (lines (terminator q) b.bytes)
+
+-- The steps that could be done so far, the newest first, and those behind them, the oldest first.
+pub record IsAhead {A : Type 0} (s : Sequencer A) (past : Past) (a : Ahead) : Type 0 where
+  pub done : List Step
+  pub coming : List Step
+  pub split : plan past ≡ behind done coming
+  pub whole : all_taken (taken_of past.query past.events) done ≡ true
+  pub count : length (announced done) ≡ s.buffer.handed + a.blocks
+  pub inside : is_open done ≡ a.inside
+  pub waiting : map opening_of (drop a.files s.waiting.items) ≡ openings (s.buffer.handed + a.blocks) coming
+  pub progress : Tells a.progress past.format (cursor_of past.query past.format done).trail
+  pub selected : list_any (block_selects past.query) (announced done) ≡ a.selected
+
+-- no further step can be done: this is told of the files of the front
+pub record IsFront (past : Past) (a : Ahead) : Type 0 where
+  pub inside : is_open (front_of past) ≡ a.inside
+  pub progress : Tells a.progress past.format (cursor_of past.query past.format (front_of past)).trail
+  pub selected : list_any (has_selected past.query) (entries_of (front_of past)) ≡ a.selected
+
+-- whether the blocks of the file came all, by the files and blocks behind
+abbrev pub is_over : {A : Type 0} → Sequencer A → Ahead → Bool
+is_over s a = is_last_block (drop a.files s.waiting.items) s.running (length s.buffer.slots.items - a.blocks)
+    (s.buffer.handed + a.blocks)
+
+-- how many steps may be left
+abbrev pub left_ahead : {A : Type 0} → Sequencer A → Ahead → ℕ
+left_ahead s a = 2 * (length s.waiting.items - a.files) + (if a.inside then 1 else 0)
+    + (length s.buffer.slots.items - a.blocks)

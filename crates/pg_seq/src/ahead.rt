@@ -1,0 +1,38 @@
+//! How far the rows of a plan could be written.
+ghost use Rattle.std.specs.Prelude.{◌≡◌, ◌&&◌, if◌then◌else◌};
+ghost use Rattle.pg_rows.specs.Output.{is_quiet};
+
+use pg_rows::{Format, Mode, Progress};
+
+/// How far the rows could be written by the results that have come.
+#[derive(Clone, Copy, Debug)]
+pub(crate) struct Ahead {
+    /// How many of the blocks that wait would be handed out.
+    pub(crate) blocks: usize,
+    /// How many of the files that wait would be opened.
+    pub(crate) files: usize,
+    /// A file would be open.
+    pub(crate) inside: bool,
+    /// What would be remembered of its lines.
+    pub(crate) progress: Progress,
+    /// A line of some file is selected.
+    pub(crate) selected: bool,
+}
+
+impl Ahead {
+    ghost use Rattle.pg_rows.specs.Enough.{trail_suffices};
+    ghost use Rattle.pg_rows.specs.Progress.{Tells};
+    ghost use Rattle.pg_rows.specs.Trail.{Trail};
+
+    /// Whether enough was read.
+    pub(crate) fn is_enough(self, format: &Format) -> bool
+        ensures { (t : Trail) → Tells self.progress format.now t →
+            result ≡ (if is_quiet format.now.mode then self.selected
+            else (self.inside && trail_suffices format.now.mode format.now t)) }
+    {
+        match format.mode {
+            Mode::Quiet => self.selected,
+            Mode::Rows | Mode::Count | Mode::List => self.inside && self.progress.suffices(format),
+        }
+    }
+}
