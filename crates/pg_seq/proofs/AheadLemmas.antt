@@ -19,7 +19,7 @@ use Rattle.pg_rows.specs.Progress.{Tells, TellsNone, TellsBlock}
 use Rattle.pg_seq.specs.declared.ahead.Ahead.{Ahead}
 use Rattle.pg_seq.specs.declared.opening.Opening.{Opening}
 use Rattle.pg_seq.specs.declared.slot.Slot.{Slot}
-use Rattle.pg_seq.specs.declared.sequencer.Sequencer.{Sequencer}
+use Rattle.pg_seq.specs.declared.assembler.Assembler.{Assembler}
 use Rattle.pg_seq.specs.Plan.{Step, Opens, Announces, Ends, IsPlan, IsShaped, is_open, announced, entries_of}
 use Rattle.pg_seq.specs.History.{Past, plan, taken_of, is_taken, all_taken, front, front_after, front_of}
 use Rattle.pg_seq.specs.Cursor.{cursor_of}
@@ -37,7 +37,7 @@ use Rattle.pg_seq.proofs.ComingLemmas.{next_file, NextStep, Nothing, Block, End,
 use Rattle.pg_seq.proofs.StandLemmas.{selected_entries, slot_selected, halves}
 use Rattle.pg_seq.proofs.DrainSteps.{last_by, few_numbers, done_taken, here}
 
-module _ {A : Type 0} (s : Sequencer A) (past : Past) (h : Stands s past) where
+module _ {A : Type 0} (s : Assembler A) (past : Past) (h : Stands s past) where
   -- whether a line is selected in the blocks that were handed out
   gone_selected : (gone : List (Slot A)) → AllByRecursion (λ slot. has_result slot ≡ true) gone
       → AllByRecursion (IsResultOf past.query) gone
@@ -74,7 +74,7 @@ module _ {A : Type 0} (s : Sequencer A) (past : Past) (h : Stands s past) where
             ∙ (sym h.selected ∙ sym selected));
       }
 
-module _ {A : Type 0} (s : Sequencer A) (past : Past) (h : Stands s past) (a : Ahead) (i : IsAhead s past a) where
+module _ {A : Type 0} (s : Assembler A) (past : Past) (h : Stands s past) (a : Ahead) (i : IsAhead s past a) where
   abbrev q : Search
   q = past.query
 
@@ -373,7 +373,7 @@ module _ {A : Type 0} (s : Sequencer A) (past : Past) (h : Stands s past) (a : A
       or_none false = refl
 
 -- whether enough was read, by what is told of the front
-pub front_enough : {A : Type 0} (s : Sequencer A) (past : Past) → Stands s past → (a : Ahead) → IsFront past a
+pub front_enough : {A : Type 0} (s : Assembler A) (past : Past) → Stands s past → (a : Ahead) → IsFront past a
     → (let format = past.format in
     cond (is_quiet format.mode) a.selected
     (a.inside && trail_suffices format.mode format (cursor_of past.query format (front_of past)).trail)

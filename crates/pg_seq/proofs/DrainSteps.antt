@@ -19,7 +19,7 @@ use Rattle.pg_rows.specs.Cursor.{Cursor}
 use Rattle.pg_rows.specs.Remembered.{Remembers, opened_as, behind_block, shown_rows, end_rows}
 use Rattle.pg_seq.specs.declared.opening.Opening.{Opening}
 use Rattle.pg_seq.specs.declared.slot.Slot.{Slot}
-use Rattle.pg_seq.specs.declared.sequencer.Sequencer.{Sequencer}
+use Rattle.pg_seq.specs.declared.assembler.Assembler.{Assembler}
 use Rattle.pg_seq.specs.Plan.{Step, Opens, Announces, Ends, IsPlan, IsShaped, is_open, announced}
 use Rattle.pg_seq.specs.Plan.{entries_of}
 use Rattle.pg_seq.specs.History.{Past, plan, taken_of, is_taken, all_taken, front, front_after, handed, handed_after}
@@ -55,7 +55,7 @@ few_numbers q format room done b lawful =
       few_lines (terminator q) b.bytes,
     )
 
-module _ {A : Type 0} (s : Sequencer A) (past : Past) (h : Stands s past) where
+module _ {A : Type 0} (s : Assembler A) (past : Past) (h : Stands s past) where
   abbrev q : Search
   q = past.query
 
@@ -195,7 +195,7 @@ module _ {A : Type 0} (s : Sequencer A) (past : Past) (h : Stands s past) where
       no_cons x xs e = cc
 
   -- the next file was opened in the printer
-  pub opened_next : (new : Sequencer A) (next : Opening A) → s.printing ≡ false
+  pub opened_next : (new : Assembler A) (next : Opening A) → s.printing ≡ false
       → s.waiting.items ≡ next ∷ new.waiting.items → IsAlike s new → new.printing ≡ true
       → Keeps s.buffer new.buffer → new.failed ≡ s.failed
       → Remembers new.printer q past.format (opened_as here next.prefix) → Stands new past
@@ -244,7 +244,7 @@ module _ {A : Type 0} (s : Sequencer A) (past : Past) (h : Stands s past) where
       go (End failed later e some) = (failed, later, e)
 
   -- the row at the file's end was written
-  pub ended_next : (new : Sequencer A) → s.printing ≡ true → is_at_end s ≡ true → s.failed ≡ false
+  pub ended_next : (new : Assembler A) → s.printing ≡ true → is_at_end s ≡ true → s.failed ≡ false
       → IsAlike s new → new.printing ≡ false → new.waiting.items ≡ s.waiting.items → new.printer ≡ s.printer
       → Keeps s.buffer new.buffer → new.failed ≡ s.failed → Stands new (wrote past (end_rows past.format here))
   ended_next new printing over f a stopped waiting printer k f' =
@@ -378,7 +378,7 @@ module _ {A : Type 0} (s : Sequencer A) (past : Past) (h : Stands s past) where
       )
 
   -- the rows were written, and the printer stands behind the block
-  pub printed_next : (new : Sequencer A) (slot : Slot A) (found : Searched) → s.printing ≡ true → is_at_end s ≡ false
+  pub printed_next : (new : Assembler A) (slot : Slot A) (found : Searched) → s.printing ≡ true → is_at_end s ≡ false
       → s.failed ≡ false → slot.result ≡ Some found → HandsOut slot s.buffer new.buffer → IsAlike s new
       → new.printing ≡ s.printing → new.waiting.items ≡ s.waiting.items → new.failed ≡ s.failed
       → Remembers new.printer q past.format (behind_block q past.format here (slot_block slot).bytes)

@@ -13,13 +13,13 @@ use Rattle.pg_seq.specs.Cursor.{cursor_of}
 use Rattle.pg_seq.specs.Coming.{behind, openings}
 use Rattle.pg_seq.specs.Standing.{opening_of, is_last_block}
 use Rattle.pg_seq.specs.declared.ahead.Ahead.{Ahead}
-use Rattle.pg_seq.specs.declared.sequencer.Sequencer.{Sequencer}
+use Rattle.pg_seq.specs.declared.assembler.Assembler.{Assembler}
 
 abbrev pub block_selects : Search → BlockData → Bool
 block_selects q b = list_any (selects q) (lines (terminator q) b.bytes)
 
 -- The steps that could be done so far, the newest first, and those behind them, the oldest first.
-pub record IsAhead {A : Type 0} (s : Sequencer A) (past : Past) (a : Ahead) : Type 0 where
+pub record IsAhead {A : Type 0} (s : Assembler A) (past : Past) (a : Ahead) : Type 0 where
   pub done : List Step
   pub coming : List Step
   pub split : plan past ≡ behind done coming
@@ -37,11 +37,11 @@ pub record IsFront (past : Past) (a : Ahead) : Type 0 where
   pub selected : list_any (has_selected past.query) (entries_of (front_of past)) ≡ a.selected
 
 -- whether the blocks of the file came all, by the files and blocks behind
-abbrev pub is_over : {A : Type 0} → Sequencer A → Ahead → Bool
+abbrev pub is_over : {A : Type 0} → Assembler A → Ahead → Bool
 is_over s a = is_last_block (drop a.files s.waiting.items) s.running (length s.buffer.slots.items - a.blocks)
     (s.buffer.handed + a.blocks)
 
 -- how many steps may be left
-abbrev pub left_ahead : {A : Type 0} → Sequencer A → Ahead → ℕ
+abbrev pub left_ahead : {A : Type 0} → Assembler A → Ahead → ℕ
 left_ahead s a = 2 * (length s.waiting.items - a.files) + (if a.inside then 1 else 0)
     + (length s.buffer.slots.items - a.blocks)

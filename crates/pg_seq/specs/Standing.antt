@@ -17,7 +17,7 @@ use Rattle.pg_seq.specs.declared.opening.Opening.{Opening}
 use Rattle.pg_seq.specs.declared.slot.Slot.{Slot}
 use Rattle.pg_seq.specs.declared.answers.SinkFault.{SinkFault}
 use Rattle.pg_seq.specs.declared.answers.SinkFault.TheVariants.{WriteFailed, Failed}
-use Rattle.pg_seq.specs.declared.sequencer.Sequencer.{Sequencer}
+use Rattle.pg_seq.specs.declared.assembler.Assembler.{Assembler}
 
 -- how many blocks were announced before each file that was opened, in the files' order
 abbrev pub starts_of : List Step → List ℕ
@@ -32,7 +32,7 @@ opening_of opening = (opening.start, opening.prefix)
 
 -- What was written, and what is to come: the steps of the plan whose rows were written, the newest first, and those
 -- whose rows weren't, the oldest first.
-pub record Writes {A : Type 0} (s : Sequencer A) (past : Past) : Type 0 where
+pub record Writes {A : Type 0} (s : Assembler A) (past : Past) : Type 0 where
   pub done : List Step
   pub coming : List Step
   pub split : plan past ≡ behind done coming
@@ -43,7 +43,7 @@ pub record Writes {A : Type 0} (s : Sequencer A) (past : Past) : Type 0 where
   pub written : s.failed ≡ false → past.written ≡ output past.query past.format (entries_of done)
 
 -- The sequencer stands after this, where these were the slots of the blocks that were handed out.
-pub record Stands {A : Type 0} (s : Sequencer A) (past : Past) : Type 0 where
+pub record Stands {A : Type 0} (s : Assembler A) (past : Past) : Type 0 where
   pub gone : List (Slot A)
   pub given_up : AreGone s.buffer gone
   pub query : past.query.text ≡ (arc_value s.query).text
@@ -63,7 +63,7 @@ pub record Stands {A : Type 0} (s : Sequencer A) (past : Past) : Type 0 where
   pub writes : Writes s past
 
 -- the sequencer stands after this, and the step may follow
-abbrev pub IsReadyFor : {A : Type 0} → Sequencer A → Past → Step → Type 0
+abbrev pub IsReadyFor : {A : Type 0} → Assembler A → Past → Step → Type 0
 IsReadyFor s past step = Stands s past × MayFollow (terminator past.query) (plan past) step
 
 -- what a drain did that wrote a text
@@ -92,28 +92,28 @@ abbrev pub is_last_block : {A : Type 0} → List (Opening A) → Bool → ℕ �
 is_last_block [] more held count = not more && held == 0
 is_last_block (opening ∷ later) more held count = opening.start == count
 
-abbrev pub is_at_end : {A : Type 0} → Sequencer A → Bool
+abbrev pub is_at_end : {A : Type 0} → Assembler A → Bool
 is_at_end s = is_last_block s.waiting.items s.running (length s.buffer.slots.items) s.buffer.handed
 
 -- how many steps may be left to hand out
-abbrev pub left : {A : Type 0} → Sequencer A → ℕ
+abbrev pub left : {A : Type 0} → Assembler A → ℕ
 left s = 2 * length s.waiting.items + (if s.printing then 1 else 0) + length s.buffer.slots.items
 
 -- the rows of the next step were written
-pub record Advances {A : Type 0} (new : Sequencer A) (past : Past) (before after : List ℕ) : Type 0 where
+pub record Advances {A : Type 0} (new : Assembler A) (past : Past) (before after : List ℕ) : Type 0 where
   pub rows : List ℕ
   pub got : after ≡ before ++ rows
   pub stands : Stands new (wrote past rows)
 
 -- a beginning of the rows of the next step was written
-pub record Breaks {A : Type 0} (new : Sequencer A) (past : Past) (before after : List ℕ) : Type 0 where
+pub record Breaks {A : Type 0} (new : Assembler A) (past : Past) (before after : List ℕ) : Type 0 where
   pub rows : List ℕ
   pub got : after ≡ before ++ rows
   pub part : IsBeginning (past.written ++ rows) (handed past)
   pub stands : Stands new past
 
 -- no step may be handed out, and nothing changed
-pub record Rests {A : Type 0} (new : Sequencer A) (past : Past) (before after : List ℕ) : Type 0 where
+pub record Rests {A : Type 0} (new : Assembler A) (past : Past) (before after : List ℕ) : Type 0 where
   pub all : IsWritten past
   pub same : after ≡ before
   pub stands : Stands new past

@@ -3,6 +3,7 @@
 
 mod ahead;
 mod answers;
+mod assembler;
 mod laws;
 mod opening;
 mod reorder_buffer;

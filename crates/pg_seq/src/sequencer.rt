@@ -1,32 +1,14 @@
 //! What a run writes, from results that arrive in any order.
-ghost use Rattle.std.specs.Prelude.{◌≡◌, ℕ, ◌<◌, ◌≤◌, ◌++◌, ◌↔◌, List, false, IsTrue, IfOk, OnOk, OnErr, IsErrOf};
-ghost use Rattle.std.specs.Prelude.{MatchOption, MatchBool, IfSome, true};
-ghost use Rattle.std.specs.Prelude.{◌&&◌, if◌then◌else◌};
+ghost use Rattle.std.specs.Prelude.{◌≡◌, ℕ, ◌<◌, ◌≤◌, ◌++◌, ◌↔◌, List, IsTrue, IfOk, OnOk, OnErr, IsErrOf, MatchOption};
 ghost use Rattle.std.specs.Arc.{arc_value};
-ghost use Rattle.pg_rows.specs.Output.{is_quiet};
 
-use crate::ahead::Ahead;
 use crate::answers::{Arrival, SinkFault};
-use crate::opening::Opening;
-use crate::reorder_buffer::ReorderBuffer;
+use crate::assembler::Assembler;
 use pg_lines::{Block, BlockResult, Query};
-use pg_rows::{Format, Mode, Prefix, Printer, Progress, Sink, WriteError};
+use pg_rows::{Format, Sink};
 use std::alloc::{AllocError, Allocator, Global};
-use std::collections::VecDeque;
+use std::marker::Model;
 use std::sync::Arc;
-
-/// The exit status of a run in which a name was missed or the reading of a file failed, and in which a
-/// line was selected.
-fn exit_status(mode: Mode, bad: bool, selected: bool) -> u8
-    ensures { result ≡ (if is_quiet mode && selected then 0 else (if bad then 2 else (if selected then 0 else 1))) }
-{
-    match mode {
-        Mode::Quiet if selected => 0,
-        _ if bad => 2,
-        _ if selected => 0,
-        _ => 1,
-    }
-}
 
 /// Puts the results of blocks in order and writes the output of a run.
 ///
@@ -35,36 +17,33 @@ fn exit_status(mode: Mode, bad: bool, selected: bool) -> u8
 /// results have come. Blocks and results are given up once their rows were written, but for the
 /// blocks of the last lines that may still be shown as leading context, so what is held doesn't grow
 /// with the file.
+///
+/// A sequencer always stands after some past: what was planned, what arrived and what was written. Contracts see it as
+/// its assembler, of which they know nothing else.
 #[derive(Drop)]
 pub struct Sequencer<A: Allocator = Global> {
-    alloc: A,
-    query: Arc<Query<A>, A>,
-    format: Format,
-    /// A file of the plan is open.
-    running: bool,
-    /// A name was missed, or the reading of a file failed.
-    bad: bool,
-    buffer: ReorderBuffer<A>,
-    /// The files of the plan that the printer hasn't opened yet, in their order.
-    waiting: VecDeque<Opening<A>, A>,
-    /// The printer has opened a file and not come to its end.
-    printing: bool,
-    printer: Printer<A>,
-    /// A write has failed.
-    failed: bool,
+    assembler: Assembler<A>,
+}
+
+impl<A: Allocator> Model for Sequencer<A> {
+    ghost use Rattle.pg_seq.specs.History.{Past};
+    ghost use Rattle.pg_seq.specs.Standing.{Stands};
+    ghost use Rattle.pg_seq.specs.declared.assembler.Assembler.{Assembler};
+
+    ghost Value = { Assembler A };
+
+    ghost view = { λ s. s.assembler };
+
+    ghost invariant = { λ s. (past : Past) × Stands s.assembler past };
 }
 
 impl<A: Allocator> Sequencer<A> {
     ghost use Rattle.pg_lines.specs.Search.{Pattern, AreTreesOf, search_of, terminator};
-    ghost use Rattle.pg_seq.specs.Plan.{Opens, Announces, Ends, Misses, MayFollow};
-    ghost use Rattle.pg_seq.specs.History.{Past, start, planned, arrived, plan, answer, IsComplete, status_of};
     ghost use Rattle.pg_rows.specs.Output.{HasRoom};
-    ghost use Rattle.pg_seq.specs.Standing.{Stands, IsReadyFor, Drained, drained, is_at_end, left};
-    ghost use Rattle.pg_seq.specs.Standing.{Advances, Breaks, Rests, IsWritten};
     ghost use Rattle.pg_rows.specs.Enough.{is_enough};
-    ghost use Rattle.pg_seq.specs.Plan.{entries_of};
-    ghost use Rattle.pg_seq.specs.History.{front_of};
-    ghost use Rattle.pg_seq.specs.Ahead.{IsAhead, IsFront, is_over, left_ahead};
+    ghost use Rattle.pg_seq.specs.Plan.{Opens, Announces, Ends, Misses, MayFollow, entries_of};
+    ghost use Rattle.pg_seq.specs.History.{Past, start, planned, arrived, plan, answer, front_of, IsComplete, status_of};
+    ghost use Rattle.pg_seq.specs.Standing.{Stands, IsReadyFor, Drained, drained};
     ghost use Rattle.pg_seq.specs.declared.answers.SinkFault.TheVariants.{WriteFailed};
 
     /// A sequencer to which nothing happened, for the results of a query. It reserves the room for the
@@ -82,19 +61,11 @@ impl<A: Allocator> Sequencer<A> {
         ensures { IfOk result (λ s. (trees : List Pattern) → AreTreesOf (arc_value query).text trees →
             Stands s (start (search_of (arc_value query).text trees) format)) }
     {
-        let printer = Printer::new(alloc, &query, format)?;
-        Ok(Sequencer {
-            alloc,
-            query,
-            format,
-            running: false,
-            bad: false,
-            buffer: ReorderBuffer::new(alloc),
-            waiting: VecDeque::new(alloc),
-            printing: false,
-            printer,
-            failed: false,
-        })
+        let compiled: &Query<A> = &query;
+        // Its contract says that the patterns have trees.
+        let _text = compiled.text();
+        let assembler = Assembler::new(alloc, query, format)?;
+        Ok(Sequencer { assembler })
     }
 
     /// Opens a file, which gets the next number from 0. No file is open, and at most 2^32 - 2 files
@@ -109,13 +80,7 @@ impl<A: Allocator> Sequencer<A> {
             OnOk result (Stands self.new (planned past (Opens name.now))) }
         ensures err { (past : Past) → Stands self.old past → OnErr result (Stands self.new past) }
     {
-        let prefix = Prefix::new(self.alloc, name)?;
-        self.waiting.reserve(1)?;
-        let start = self.buffer.announced();
-        self.buffer.open_file()?;
-        self.waiting.push_back(Opening { start, prefix })?;
-        self.running = true;
-        Ok(())
+        self.assembler.open(name)
     }
 
     /// Announces the open file's next block.
@@ -130,7 +95,7 @@ impl<A: Allocator> Sequencer<A> {
             OnOk result (Stands self.new (planned past (Announces (arc_value block)))) }
         ensures err { (past : Past) → Stands self.old past → OnErr result (Stands self.new past) }
     {
-        self.buffer.push(block)
+        self.assembler.announce(block)
     }
 
     /// Ends the open file, whose reading has failed or has come to its end. It takes no memory.
@@ -138,8 +103,7 @@ impl<A: Allocator> Sequencer<A> {
         requires { (past : Past) × IsReadyFor self.old past (Ends failed) }
         ensures { (past : Past) → Stands self.old past → Stands self.new (planned past (Ends failed)) }
     {
-        self.running = false;
-        self.bad |= failed;
+        self.assembler.end(failed);
     }
 
     /// Notes a name that could not be opened or listed. No file is open.
@@ -151,9 +115,7 @@ impl<A: Allocator> Sequencer<A> {
             OnOk result (Stands self.new (planned past (Misses name.now))) }
         ensures err { (past : Past) → Stands self.old past → OnErr result (Stands self.new past) }
     {
-        let _ = name;
-        self.bad = true;
-        Ok(())
+        self.assembler.miss(name)
     }
 
     /// Takes a result, which may be of any query and block. Only `Taken` changes anything.
@@ -163,26 +125,7 @@ impl<A: Allocator> Sequencer<A> {
         ensures answer { (past : Past) → Stands self.old past → result ≡ answer past found }
         ensures stands { (past : Past) → Stands self.old past → Stands self.new (arrived past found) }
     {
-        match self.arrival_of(&found) {
-            Arrival::Taken => {
-                self.buffer.put(found);
-                Arrival::Taken
-            }
-            Arrival::Double => Arrival::Double,
-            Arrival::Stranger => Arrival::Stranger,
-        }
-    }
-
-    /// What a result is.
-    fn arrival_of(&self, found: &BlockResult<A>) -> Arrival
-        ensures { (past : Past) → Stands self.now past → result ≡ answer past found.now }
-    {
-        let query: &Query<A> = &self.query;
-        let other: &Query<A> = found.query();
-        if query != other {
-            return Arrival::Stranger;
-        }
-        self.buffer.arrival_of(found.block())
+        self.assembler.arrive(found)
     }
 
     /// Writes all that may be handed out and was not yet written. It takes no memory.
@@ -193,7 +136,6 @@ impl<A: Allocator> Sequencer<A> {
     /// a beginning of what was due was written. `Failed` where an earlier call answered
     /// `WriteFailed`; nothing is written.
     pub fn drain<W: Sink>(&mut self, out: &mut W) -> Result<(), SinkFault>
-        requires { (past : Past) × Stands self.old past }
         ensures drained { (past : Past) → Stands self.old past → (text : List ℕ)
             × (W.taken out.new ≡ W.taken out.old ++ text)
             × Drained result past text × Stands self.new (drained past text result) }
@@ -201,103 +143,14 @@ impl<A: Allocator> Sequencer<A> {
         ensures no_failure { OnOk result (W.failures out.new ≡ W.failures out.old) }
         ensures never_falls { W.failures out.old ≤ W.failures out.new }
     {
-        if self.failed {
-            return Err(SinkFault::Failed);
-        }
-        loop {
-            match self.advance(out) {
-                Ok(true) => {}
-                Ok(false) => return Ok(()),
-                Err(WriteError) => {
-                    self.failed = true;
-                    return Err(SinkFault::WriteFailed);
-                }
-            }
-        }
-    }
-
-    /// Does the next step of the plan that may be done. `false` says that there is none.
-    fn advance<W: Sink>(&mut self, out: &mut W) -> Result<bool, WriteError>
-        requires { (past : Past) × Stands self.old past }
-        ensures ok { (past : Past) → Stands self.old past → self.old.failed ≡ false → IfOk result (λ more.
-            MatchBool more (Advances self.new past (W.taken out.old) (W.taken out.new))
-            (Rests self.new past (W.taken out.old) (W.taken out.new))) }
-        ensures part { (past : Past) → Stands self.old past → self.old.failed ≡ false →
-            OnErr result (Breaks self.new past (W.taken out.old) (W.taken out.new)) }
-        ensures fewer { IfOk result (λ more. more ≡ true → left self.new < left self.old) }
-        ensures same { self.new.failed ≡ self.old.failed }
-        ensures failure { OnErr result (W.failures out.old < W.failures out.new) }
-        ensures no_failure { OnOk result (W.failures out.new ≡ W.failures out.old) }
-        ensures never_falls { W.failures out.old ≤ W.failures out.new }
-    {
-        if !self.printing {
-            return Ok(self.open_next());
-        }
-        if self.is_at_end() {
-            self.printer.end(out)?;
-            self.printing = false;
-            return Ok(true);
-        }
-        self.print_next(out)
-    }
-
-    /// Opens the next file in the printer, where one waits.
-    fn open_next(&mut self) -> bool
-        requires { self.old.printing ≡ false }
-        ensures opened { (past : Past) → Stands self.old past → self.old.failed ≡ false →
-            MatchBool result (Stands self.new past) (IsWritten past × Stands self.new past) }
-        ensures fewer { result ≡ true → left self.new < left self.old }
-        ensures same { self.new.failed ≡ self.old.failed }
-    {
-        let Some(next) = self.waiting.pop_front() else {
-            return false;
-        };
-        self.printer.open(next.prefix);
-        self.printing = true;
-        true
-    }
-
-    /// Whether all blocks of the file that the printer has opened were handed out, and it has ended.
-    fn is_at_end(&self) -> bool
-        ensures { result ≡ is_at_end self.now }
-    {
-        match self.waiting.front() {
-            Some(next) => next.start == self.buffer.handed(),
-            None => !self.running && self.buffer.is_empty(),
-        }
-    }
-
-    /// Writes the rows of the next block of the file that the printer has opened, where its result has
-    /// come.
-    fn print_next<W: Sink>(&mut self, out: &mut W) -> Result<bool, WriteError>
-        requires stands { (past : Past) × Stands self.old past }
-        requires inside { (self.old.printing ≡ true) × (is_at_end self.old ≡ false) }
-        ensures ok { (past : Past) → Stands self.old past → self.old.failed ≡ false → IfOk result (λ more.
-            MatchBool more (Advances self.new past (W.taken out.old) (W.taken out.new))
-            (Rests self.new past (W.taken out.old) (W.taken out.new))) }
-        ensures part { (past : Past) → Stands self.old past → self.old.failed ≡ false →
-            OnErr result (Breaks self.new past (W.taken out.old) (W.taken out.new)) }
-        ensures fewer { IfOk result (λ more. more ≡ true → left self.new < left self.old) }
-        ensures same { self.new.failed ≡ self.old.failed }
-        ensures failure { OnErr result (W.failures out.old < W.failures out.new) }
-        ensures no_failure { OnOk result (W.failures out.new ≡ W.failures out.old) }
-        ensures never_falls { W.failures out.old ≤ W.failures out.new }
-    {
-        let Some(found) = self.buffer.result_at(0) else {
-            return Ok(false);
-        };
-        let printed = self.printer.print(out, found)?;
-        if let Some(slot) = self.buffer.pop_first() {
-            self.printer.pass(slot.block, printed);
-        }
-        Ok(true)
+        self.assembler.drain(out)
     }
 
     /// Whether no file is open and the result of every announced block was taken.
     pub fn complete(&self) -> bool
         ensures { (past : Past) → Stands self.now past → IsTrue result ↔ IsComplete past }
     {
-        !self.running && self.buffer.has_all_results()
+        self.assembler.complete()
     }
 
     /// Whether enough was read, by the files that may be handed out: with -q a line of any file is
@@ -306,88 +159,10 @@ impl<A: Allocator> Sequencer<A> {
     ///
     /// While results are missing the open file may be an earlier one than that of the plan.
     pub fn enough(&self) -> bool
-        requires { (past : Past) × Stands self.now past }
         ensures { (past : Past) → Stands self.now past →
             result ≡ is_enough past.query past.format (entries_of (front_of past)) }
     {
-        let mut ahead = Ahead {
-            blocks: 0,
-            files: 0,
-            inside: self.printing,
-            progress: self.printer.progress(),
-            selected: self.buffer.has_handed_selected(),
-        };
-        while let Some(next) = self.next_ahead(ahead) {
-            ahead = next;
-        }
-        ahead.is_enough(&self.format)
-    }
-
-    /// One step further, where it could be done.
-    fn next_ahead(&self, ahead: Ahead) -> Option<Ahead>
-        requires { (past : Past) × Stands self.now past × IsAhead self.now past ahead }
-        ensures further { (past : Past) → Stands self.now past → IsAhead self.now past ahead →
-            MatchOption result (IsFront past ahead) (IsAhead self.now past) }
-        ensures fewer { IfSome result (λ next. left_ahead self.now next < left_ahead self.now ahead) }
-    {
-        if !ahead.inside {
-            return self.file_ahead(ahead);
-        }
-        if self.is_over(ahead) {
-            return Some(Ahead {
-                inside: false,
-                ..ahead
-            });
-        }
-        self.block_ahead(ahead)
-    }
-
-    /// Opens the next file.
-    fn file_ahead(&self, ahead: Ahead) -> Option<Ahead>
-        requires { ahead.inside ≡ false }
-        ensures further { (past : Past) → Stands self.now past → IsAhead self.now past ahead →
-            MatchOption result (IsFront past ahead) (IsAhead self.now past) }
-        ensures fewer { IfSome result (λ next. left_ahead self.now next < left_ahead self.now ahead) }
-    {
-        if ahead.files >= self.waiting.len() {
-            return None;
-        }
-        Some(Ahead {
-            files: ahead.files + 1,
-            inside: true,
-            progress: Progress::new(),
-            ..ahead
-        })
-    }
-
-    /// Whether the open file has no more blocks and has ended.
-    fn is_over(&self, ahead: Ahead) -> bool
-        ensures { result ≡ is_over self.now ahead }
-    {
-        match self.waiting.get(ahead.files) {
-            Some(next) => next.start == self.buffer.handed() + ahead.blocks as u128,
-            None => !self.running && self.buffer.len() <= ahead.blocks,
-        }
-    }
-
-    /// Goes past the next block, where its result has come.
-    fn block_ahead(&self, ahead: Ahead) -> Option<Ahead>
-        requires stands { (past : Past) × Stands self.now past × IsAhead self.now past ahead }
-        requires inside { (ahead.inside ≡ true) × (is_over self.now ahead ≡ false) }
-        ensures further { (past : Past) → Stands self.now past → IsAhead self.now past ahead →
-            MatchOption result (IsFront past ahead) (IsAhead self.now past) }
-        ensures fewer { IfSome result (λ next. left_ahead self.now next < left_ahead self.now ahead) }
-    {
-        let Some(found) = self.buffer.result_at(ahead.blocks) else {
-            return None;
-        };
-        let (runs, lines) = (found.runs(), found.lines() as u64);
-        Some(Ahead {
-            blocks: ahead.blocks + 1,
-            progress: ahead.progress.after(&self.format, runs, lines),
-            selected: ahead.selected | !runs.is_empty(),
-            ..ahead
-        })
+        self.assembler.enough()
     }
 
     /// The exit status (XCU grep, EXIT STATUS), once all is complete: 2 after a name that was missed
@@ -397,10 +172,6 @@ impl<A: Allocator> Sequencer<A> {
         ensures { (past : Past) → Stands self.now past →
             MatchOption result (IsComplete past → ⊥) (λ status. IsComplete past × (status ≡ status_of past)) }
     {
-        if !self.complete() {
-            return None;
-        }
-        let selected = self.buffer.has_selected();
-        Some(exit_status(self.format.mode, self.bad, selected))
+        self.assembler.status()
     }
 }

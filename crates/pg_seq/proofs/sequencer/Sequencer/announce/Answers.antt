@@ -1,21 +1,16 @@
-use Rattle.std.proofs.Common.{refl}
+use Rattle.std.proofs.Common.{sym, subst}
+use Rattle.pg_seq.specs.declared.assembler.Assembler.{Assembler}
+use Rattle.pg_seq.specs.Standing.{Stands}
 use Rattle.std.specs.Arc.{arc_value}
-use Rattle.pg_rows.proofs.SinkLemmas.{on_ok, on_err_too}
-use Rattle.pg_seq.proofs.StandLemmas.{same_stands, announced_stands, has_room}
+use Rattle.pg_seq.specs.Plan.{Announces}
+use Rattle.pg_seq.specs.History.{planned}
+use Rattle.pg_seq.proofs.StandLemmas.{some_past}
 use Rattle.pg_seq.proofs.sequencer.Sequencer.announce.Goals as goal
 
-pub push-requires : goal.push-requires
-push-requires g c = has_room c.args.self.now c.requires.0 c.requires.1.0
-
-pub returns-clause-ok : goal.returns-clause-ok
-returns-clause-ok g c = λ past h may.
-    on_ok c.push.result _ _ (λ p. announced_stands c.args.self.now _ past (arc_value c.args.block) h may
-    (record { query = refl; format = refl; running = refl; bad = refl })
-    (record { handed = p.handed; printing = refl; printer = refl }) refl refl p) c.push.ensures.ok
-
-pub returns-clause-err : goal.returns-clause-err
-returns-clause-err g c = λ past h.
-    on_err_too c.push.result _ _ (λ k.
-    same_stands c.args.self.now _ past h
-    (record { query = refl; format = refl; running = refl; bad = refl })
-    (record { handed = k.handed; printing = refl; printer = refl }) refl k refl) c.push.ensures.err
+pub invariant_of-self : goal.invariant_of-self
+invariant_of-self g c =
+    let past = c.requires in
+    let P : Assembler _ → Type 0 = λ s. Stands s past.0 in
+    let stands = subst P (sym c.self.view_is) past.1.0 in
+    some_past c.announce.result _ (planned past.0 (Announces (arc_value c.args.block))) past.0
+    (c.announce.ensures.ok past.0 stands past.1.1) (c.announce.ensures.err past.0 stands)

@@ -1,10 +1,8 @@
-use Rattle.std.proofs.Common.{◌∙◌, sym, refl}
-use Rattle.pg_seq.proofs.StandLemmas.{ended_stands}
+use Rattle.pg_seq.specs.Plan.{Ends}
+use Rattle.pg_seq.specs.History.{planned}
 use Rattle.pg_seq.proofs.sequencer.Sequencer.end.Goals as goal
 
-pub returns : goal.returns
-returns g c = λ past h.
-    ended_stands c.args.self.now _ past c.args.failed
-    (h.running ∙ (sym c.requires.1.0.running ∙ c.requires.1.1.0)) h refl refl refl refl
-    (record { handed = refl; printing = refl; printer = refl }) refl
-    (record { starts = refl; slots = refl; handed = refl; selected = refl }) refl
+pub invariant_of-self : goal.invariant_of-self
+invariant_of-self g c =
+    let past = c.self.invariant in
+    (planned past.0 (Ends c.args.failed), c.end.ensures past.0 past.1)

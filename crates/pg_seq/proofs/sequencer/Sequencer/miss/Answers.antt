@@ -1,10 +1,10 @@
-use Rattle.std.proofs.Common.{◌∙◌, sym, refl}
-use Rattle.pg_seq.proofs.StandLemmas.{missed_stands}
+use Rattle.pg_seq.specs.Plan.{Misses}
+use Rattle.pg_seq.specs.History.{planned}
+use Rattle.pg_seq.proofs.StandLemmas.{some_past}
 use Rattle.pg_seq.proofs.sequencer.Sequencer.miss.Goals as goal
 
-pub returns-clause-ok : goal.returns-clause-ok
-returns-clause-ok g c = λ past h.
-    missed_stands c.args.self.now _ past c.args.name.now
-    (h.running ∙ (sym c.requires.1.0.running ∙ c.requires.1.1.0)) h refl refl refl refl
-    (record { handed = refl; printing = refl; printer = refl }) refl
-    (record { starts = refl; slots = refl; handed = refl; selected = refl }) refl
+pub invariant_of-self : goal.invariant_of-self
+invariant_of-self g c =
+    let past = c.self.invariant in
+    some_past c.miss.result _ (planned past.0 (Misses c.args.name.now)) past.0 (c.miss.ensures.ok past.0 past.1)
+    (c.miss.ensures.err past.0 past.1)

@@ -1,13 +1,13 @@
-use Rattle.std.proofs.Common.{ap, sym, refl}
+use Rattle.std.proofs.Common.{subst}
 use Rattle.std.specs.Arc.{arc_value}
 use Rattle.pg_lines.specs.Search.{search_of}
-use Rattle.pg_lines.specs.Queries.{Compiled}
-use Rattle.pg_seq.proofs.StandLemmas.{new_stands}
+use Rattle.pg_lines.specs.Queries.{Compiled, IsCompiled}
+use Rattle.pg_seq.specs.History.{start}
 use Rattle.pg_seq.proofs.sequencer.Sequencer.new.Goals as goal
 
-pub returns : goal.returns
-returns g c = λ trees are.
-    let q = search_of (arc_value c.args.query).text trees in
-    new_stands _ q c.args.format refl are refl c.requires refl refl c.new-2.ensures.starts c.new-2.ensures.slots
-    c.new-2.ensures.handed c.new-2.ensures.selected c.new-3.ensures.items refl
-    (c.in_ok-printer.ensures q (sym (ap (λ (x : Compiled). x.text) c.deref.ensures))) refl
+pub invariant_of-result : goal.invariant_of-result
+invariant_of-result g c =
+    let text = (arc_value c.args.query).text in
+    let P : Compiled → Type 0 = λ q. IsCompiled q in
+    let compiled : IsCompiled (arc_value c.args.query) = subst P c.deref-compiled.ensures c.text-text.ensures.compiled in
+    (start (search_of text compiled.0) c.args.format, c.in_ok-assembler.ensures compiled.0 compiled.1)

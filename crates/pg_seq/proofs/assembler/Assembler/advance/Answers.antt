@@ -4,13 +4,13 @@ use Rattle.std.proofs.lemmas.List.{append-nil}
 use Rattle.pg_rows.specs.Remembered.{end_rows}
 use Rattle.pg_rows.proofs.SinkLemmas.{on_err}
 use Rattle.pg_seq.specs.History.{Past}
-use Rattle.pg_seq.specs.declared.sequencer.Sequencer.{Sequencer}
+use Rattle.pg_seq.specs.declared.assembler.Assembler.{Assembler}
 use Rattle.pg_seq.specs.Standing.{Stands, Advances, Rests, IsWritten}
 use Rattle.pg_seq.proofs.DrainSteps.{here, ended_next, end_part}
-use Rattle.pg_seq.proofs.sequencer.Sequencer.advance.Goals as goal
+use Rattle.pg_seq.proofs.assembler.Assembler.advance.Goals as goal
 
 -- a file was opened in the printer, which writes nothing
-opened : {A : Type 0} (new : Sequencer A) (past : Past) (text : List ℕ) (more : Bool)
+opened : {A : Type 0} (new : Assembler A) (past : Past) (text : List ℕ) (more : Bool)
     → MatchBool more (Stands new past) (IsWritten past × Stands new past)
     → MatchBool more (Advances new past text text) (Rests new past text text)
 opened new past text true h = record {

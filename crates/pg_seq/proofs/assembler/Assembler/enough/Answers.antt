@@ -6,7 +6,7 @@ use Rattle.pg_rows.specs.Enough.{trail_suffices}
 use Rattle.pg_seq.specs.Cursor.{cursor_of}
 use Rattle.pg_seq.specs.History.{front_of}
 use Rattle.pg_seq.proofs.AheadLemmas.{at_first, front_enough}
-use Rattle.pg_seq.proofs.sequencer.Sequencer.enough.Goals as goal
+use Rattle.pg_seq.proofs.assembler.Assembler.enough.Goals as goal
 
 pub loop-next-init : goal.loop-next-init
 loop-next-init g c = λ past h.

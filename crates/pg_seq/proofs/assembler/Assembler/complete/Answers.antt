@@ -1,6 +1,6 @@
 use Rattle.std.proofs.Common.{◌∙◌, sym}
 use Rattle.pg_seq.proofs.StandLemmas.{complete_is}
-use Rattle.pg_seq.proofs.sequencer.Sequencer.complete.Goals as goal
+use Rattle.pg_seq.proofs.assembler.Assembler.complete.Goals as goal
 
 pub returns-then-not-self : goal.returns-then-not-self
 returns-then-not-self g c = λ past h.

@@ -2,7 +2,7 @@ use Rattle.std.proofs.Common.{◌∙◌, ◌&&◌, ap, sym, cond}
 use Rattle.pg_rows.specs.Output.{is_quiet}
 use Rattle.pg_seq.specs.History.{IsComplete}
 use Rattle.pg_seq.proofs.StandLemmas.{held_results, status_is}
-use Rattle.pg_seq.proofs.sequencer.Sequencer.status.Goals as goal
+use Rattle.pg_seq.proofs.assembler.Assembler.status.Goals as goal
 
 pub returns : goal.returns
 returns g c = λ past h.

@@ -1,7 +1,7 @@
 use Rattle.pg_seq.specs.History.{Past}
 use Rattle.pg_seq.specs.Standing.{Stands}
 use Rattle.pg_seq.specs.Ahead.{IsAhead, left_ahead}
-use Rattle.pg_seq.proofs.sequencer.Sequencer.enough.Given as goal
+use Rattle.pg_seq.proofs.assembler.Assembler.enough.Given as goal
 
 abbrev pub invariant-loop-next : goal.invariant-loop-next
 invariant-loop-next g l = (past : Past) → Stands l.fn.self past → IsAhead l.fn.self past l.ahead

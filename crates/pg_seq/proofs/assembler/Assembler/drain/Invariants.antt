@@ -1,7 +1,7 @@
 use Rattle.std.proofs.Common.{◌≡◌, ◌++◌, ℕ, List, false}
 use Rattle.pg_seq.specs.History.{Past}
 use Rattle.pg_seq.specs.Standing.{Stands, wrote, left}
-use Rattle.pg_seq.proofs.sequencer.Sequencer.drain.Given as goal
+use Rattle.pg_seq.proofs.assembler.Assembler.drain.Given as goal
 
 abbrev pub invariant-loop-self : goal.invariant-loop-self
 invariant-loop-self g l = record {

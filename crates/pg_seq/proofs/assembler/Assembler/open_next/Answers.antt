@@ -1,7 +1,7 @@
 use Rattle.std.proofs.Common.{refl, sym, ap, ◌∙◌, arith, ◌≡◌, drop, List, [], ◌∷◌, length}
 use Rattle.pg_seq.proofs.DrainSteps.{none_waits, opened_next, here}
 use Rattle.pg_seq.proofs.StandLemmas.{same_stands}
-use Rattle.pg_seq.proofs.sequencer.Sequencer.open_next.Goals as goal
+use Rattle.pg_seq.proofs.assembler.Assembler.open_next.Goals as goal
 
 nil_of : {X : Type 0} (xs : List X) → length xs ≡ 0 → xs ≡ []
 nil_of [] e = refl

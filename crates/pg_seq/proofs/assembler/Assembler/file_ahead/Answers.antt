@@ -1,7 +1,7 @@
 use Rattle.std.proofs.Common.{◌≡◌, ◌<◌, List, ◌∷◌, [], length, drop, refl, arith}
 use Rattle.std.proofs.lemmas.List.{drop_all, length-drop}
 use Rattle.pg_seq.proofs.AheadLemmas.{no_file, file_next}
-use Rattle.pg_seq.proofs.sequencer.Sequencer.file_ahead.Goals as goal
+use Rattle.pg_seq.proofs.assembler.Assembler.file_ahead.Goals as goal
 
 first_of : {X : Type 0} (xs : List X) → 0 < length xs → (x : X) × (rest : List X) × (xs ≡ x ∷ rest)
 first_of [] some = absurd (omega (arith, some))

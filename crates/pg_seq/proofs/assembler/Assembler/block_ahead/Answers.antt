@@ -2,7 +2,7 @@ use Rattle.std.proofs.Common.{sym, subst, ◌||◌, not, ap, refl, arith}
 use Rattle.pg_rows.specs.declared.format.Format.{Format}
 use Rattle.pg_rows.specs.Progress.{TellsBlock}
 use Rattle.pg_seq.proofs.AheadLemmas.{no_block, block_of, block_fits, block_next}
-use Rattle.pg_seq.proofs.sequencer.Sequencer.block_ahead.Goals as goal
+use Rattle.pg_seq.proofs.assembler.Assembler.block_ahead.Goals as goal
 
 pub returns-in_default-clause-further : goal.returns-in_default-clause-further
 returns-in_default-clause-further g c = λ past h i.

@@ -1,6 +1,6 @@
 use Rattle.std.proofs.Common.{◌≡◌, ◌∙◌, Bool, true, false, not, sym, refl}
 use Rattle.pg_seq.proofs.AheadLemmas.{end_next}
-use Rattle.pg_seq.proofs.sequencer.Sequencer.next_ahead.Goals as goal
+use Rattle.pg_seq.proofs.assembler.Assembler.next_ahead.Goals as goal
 
 not_false : (b : Bool) → not b ≡ false → b ≡ true
 not_false true e = refl

@@ -5,7 +5,7 @@ use Rattle.pg_lines.specs.Same.{same_text}
 use Rattle.pg_lines.specs.Blocks.{BlockData}
 use Rattle.pg_seq.specs.Buffer.{IsArrival}
 use Rattle.pg_seq.proofs.StandLemmas.{answer_is, answer_other}
-use Rattle.pg_seq.proofs.sequencer.Sequencer.arrival_of.Goals as goal
+use Rattle.pg_seq.proofs.assembler.Assembler.arrival_of.Goals as goal
 
 not_false : (b : Bool) → not b ≡ false → b ≡ true
 not_false true e = refl

@@ -6,7 +6,7 @@ use Rattle.pg_rows.proofs.SinkLemmas.{on_err}
 use Rattle.pg_seq.specs.Slots.{slot_block}
 use Rattle.pg_seq.proofs.StandLemmas.{same_stands}
 use Rattle.pg_seq.proofs.DrainSteps.{here, none_ready, result_is, lines_fit, printed_next, block_part}
-use Rattle.pg_seq.proofs.sequencer.Sequencer.print_next.Goals as goal
+use Rattle.pg_seq.proofs.assembler.Assembler.print_next.Goals as goal
 
 pub returns-in_default-clause-ok : goal.returns-in_default-clause-ok
 returns-in_default-clause-ok g c = λ past h f. record {

@@ -1,0 +1,115 @@
+use Rattle.std.proofs.Common.{◌≡◌, ◌∙◌, ◌++◌, ◌||◌, Bool, true, false, ℕ, List, [], ap, sym, subst, refl, arith}
+use Rattle.std.proofs.Common.{append_assoc}
+use Rattle.std.specs.Bool.{MatchBool}
+use Rattle.std.proofs.lemmas.Bool.{false≢true}
+use Rattle.std.proofs.lemmas.List.{append-nil}
+use Rattle.pg_seq.specs.History.{Past}
+use Rattle.pg_seq.specs.declared.assembler.Assembler.{Assembler}
+use Rattle.pg_seq.specs.Standing.{Stands, wrote}
+use Rattle.pg_seq.proofs.StandLemmas.{failed_stands}
+use Rattle.pg_seq.proofs.assembler.Assembler.drain.Goals as goal
+
+or_true : (b : Bool) → (b || true) ≡ true
+or_true true = refl
+or_true false = refl
+
+or_false : (b : Bool) → (b || false) ≡ b
+or_false true = refl
+or_false false = refl
+
+is_true : (b : Bool) (P Q : Type 0) → b ≡ true → MatchBool b P Q → P
+is_true true P Q e h = h
+is_true false P Q e h = absurd (false≢true e)
+
+is_false : (b : Bool) (P Q : Type 0) → b ≡ false → MatchBool b P Q → Q
+is_false true P Q e h = absurd (false≢true (sym e))
+is_false false P Q e h = h
+
+-- what was written so far, and one part more
+more_written : {A : Type 0} (s : Assembler A) (past : Past) (first more : List ℕ) (failed : Bool)
+    → Stands s (record past { written = (past.written ++ first) ++ more; failed = failed })
+    → Stands s (record past { written = past.written ++ (first ++ more); failed = failed })
+more_written s past first more failed h =
+    let P : List ℕ → Type 0 = λ w. Stands s (record past { written = w; failed = failed }) in
+    subst P (append_assoc past.written first more) h
+
+pub loop-self-init : goal.loop-self-init
+loop-self-init g c = record {
+  drains = λ past h.
+      let P : List ℕ → Type 0 = λ w. Stands c.args.self.now (record past { written = w }) in
+      ([], sym (append-nil (g.W.Sink.taken c.args.out.now)), subst P (sym (append-nil past.written)) h);
+  unfailed = c.if-self.false;
+  no_failure = refl;
+}
+
+pub advance-requires : goal.advance-requires
+advance-requires g c =
+    let d = c.loop-self.invariant.drains c.requires.0 c.requires.1 in
+    (wrote c.requires.0 d.0, d.2)
+
+pub loop-self-smaller : goal.loop-self-smaller
+loop-self-smaller g c = c.in-Ok-true.ensures.fewer c.in-Ok-true.field-0-test
+
+pub loop-self-preserved : goal.loop-self-preserved
+loop-self-preserved g c =
+    let i = c.loop-self.invariant in
+    record {
+      drains = λ past h.
+          let d = i.drains past h in
+          let a = is_true c.in-Ok-true.field-0 _ _ c.in-Ok-true.field-0-test
+          (c.in-Ok-true.ensures.ok (wrote past d.0) d.2 i.unfailed) in (
+            d.0 ++ a.rows,
+            a.got ∙ (ap (λ w. w ++ a.rows) d.1 ∙ append_assoc (g.W.Sink.taken c.args.out.now) d.0 a.rows),
+            more_written _ past d.0 a.rows past.failed a.stands,
+          );
+      unfailed = c.in-Ok-true.ensures.same ∙ i.unfailed;
+      no_failure = c.in-Ok-true.ensures.no_failure ∙ i.no_failure;
+    }
+
+pub returns-in-Ok-false-clause-drained : goal.returns-in-Ok-false-clause-drained
+returns-in-Ok-false-clause-drained g c = λ past h.
+    let i = c.loop-self.invariant in
+    let d = i.drains past h in
+    let r = is_false c.in-Ok-false.field-0 _ _ c.in-Ok-false.field-0-test
+    (c.in-Ok-false.ensures.ok (wrote past d.0) d.2 i.unfailed) in
+    let P : Bool → Type 0 = λ f. Stands c.advance.new.self (record past { written = past.written ++ d.0; failed = f }) in (
+      d.0,
+      r.same ∙ d.1,
+      (h.failed ∙ c.if-self.false, r.all),
+      subst P (sym (or_false past.failed)) r.stands,
+    )
+
+pub returns-in-Ok-false-clause-no_failure : goal.returns-in-Ok-false-clause-no_failure
+returns-in-Ok-false-clause-no_failure g c = c.in-Ok-false.ensures.no_failure ∙ c.loop-self.invariant.no_failure
+
+pub returns-in-Ok-false-clause-never_falls : goal.returns-in-Ok-false-clause-never_falls
+returns-in-Ok-false-clause-never_falls g c = omega
+    (arith, c.loop-self.invariant.no_failure, c.in-Ok-false.ensures.never_falls)
+
+pub returns-in-Err-clause-drained : goal.returns-in-Err-clause-drained
+returns-in-Err-clause-drained g c = λ past h.
+    let i = c.loop-self.invariant in
+    let d = i.drains past h in
+    let b = c.in-Err.ensures.part (wrote past d.0) d.2 i.unfailed in (
+      d.0 ++ b.rows,
+      b.got ∙ (ap (λ w. w ++ b.rows) d.1 ∙ append_assoc (g.W.Sink.taken c.args.out.now) d.0 b.rows),
+      (
+        h.failed ∙ c.if-self.false,
+        (
+          b.part.0,
+          ap (λ w. w ++ b.part.0) (sym (append_assoc past.written d.0 b.rows))
+              ∙ b.part.1,
+        ),
+      ),
+      more_written _ past d.0 b.rows (past.failed || true)
+          (failed_stands c.advance.new.self _ (wrote past d.0) b.rows (past.failed || true) b.stands
+          (record { query = refl; format = refl; running = refl; bad = refl })
+          (record { handed = refl; printing = refl; printer = refl }) refl
+          (record { starts = refl; slots = refl; handed = refl; selected = refl }) refl (or_true past.failed)),
+    )
+
+pub returns-in-Err-clause-cause : goal.returns-in-Err-clause-cause
+returns-in-Err-clause-cause g c = λ e. omega (arith, c.loop-self.invariant.no_failure, c.in-Err.ensures.failure)
+
+pub returns-in-Err-clause-never_falls : goal.returns-in-Err-clause-never_falls
+returns-in-Err-clause-never_falls g c = omega (arith, c.loop-self.invariant.no_failure, c.in-Err.ensures.never_falls)

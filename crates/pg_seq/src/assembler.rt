@@ -1,0 +1,375 @@
+//! How results are put in order, and what is known of it.
+ghost use Rattle.std.specs.Prelude.{◌≡◌, ℕ, ◌<◌, ◌≤◌, ◌++◌, ◌↔◌, List, false, IsTrue, IfOk, OnOk, OnErr, IsErrOf};
+ghost use Rattle.std.specs.Prelude.{MatchOption, MatchBool, IfSome, true};
+ghost use Rattle.std.specs.Prelude.{◌&&◌, if◌then◌else◌};
+ghost use Rattle.std.specs.Arc.{arc_value};
+ghost use Rattle.pg_rows.specs.Output.{is_quiet};
+
+use crate::ahead::Ahead;
+use crate::answers::{Arrival, SinkFault};
+use crate::opening::Opening;
+use crate::reorder_buffer::ReorderBuffer;
+use pg_lines::{Block, BlockResult, Query};
+use pg_rows::{Format, Mode, Prefix, Printer, Progress, Sink, WriteError};
+use std::alloc::{AllocError, Allocator, Global};
+use std::collections::VecDeque;
+use std::sync::Arc;
+
+/// The exit status of a run in which a name was missed or the reading of a file failed, and in which a
+/// line was selected.
+fn exit_status(mode: Mode, bad: bool, selected: bool) -> u8
+    ensures { result ≡ (if is_quiet mode && selected then 0 else (if bad then 2 else (if selected then 0 else 1))) }
+{
+    match mode {
+        Mode::Quiet if selected => 0,
+        _ if bad => 2,
+        _ if selected => 0,
+        _ => 1,
+    }
+}
+
+/// A sequencer, of which nothing is known but what the contracts of its methods tell. Those of `Sequencer` say what it
+/// does.
+#[derive(Drop)]
+pub(crate) struct Assembler<A: Allocator = Global> {
+    alloc: A,
+    query: Arc<Query<A>, A>,
+    format: Format,
+    /// A file of the plan is open.
+    running: bool,
+    /// A name was missed, or the reading of a file failed.
+    bad: bool,
+    buffer: ReorderBuffer<A>,
+    /// The files of the plan that the printer hasn't opened yet, in their order.
+    waiting: VecDeque<Opening<A>, A>,
+    /// The printer has opened a file and not come to its end.
+    printing: bool,
+    printer: Printer<A>,
+    /// A write has failed.
+    failed: bool,
+}
+
+impl<A: Allocator> Assembler<A> {
+    ghost use Rattle.pg_lines.specs.Search.{Pattern, AreTreesOf, search_of, terminator};
+    ghost use Rattle.pg_seq.specs.Plan.{Opens, Announces, Ends, Misses, MayFollow};
+    ghost use Rattle.pg_seq.specs.History.{Past, start, planned, arrived, plan, answer, IsComplete, status_of};
+    ghost use Rattle.pg_rows.specs.Output.{HasRoom};
+    ghost use Rattle.pg_seq.specs.Standing.{Stands, IsReadyFor, Drained, drained, is_at_end, left};
+    ghost use Rattle.pg_seq.specs.Standing.{Advances, Breaks, Rests, IsWritten};
+    ghost use Rattle.pg_rows.specs.Enough.{is_enough};
+    ghost use Rattle.pg_seq.specs.Plan.{entries_of};
+    ghost use Rattle.pg_seq.specs.History.{front_of};
+    ghost use Rattle.pg_seq.specs.Ahead.{IsAhead, IsFront, is_over, left_ahead};
+    ghost use Rattle.pg_seq.specs.declared.answers.SinkFault.TheVariants.{WriteFailed};
+
+    /// One to which nothing happened.
+    pub(crate) fn new(
+        alloc: A,
+        query: Arc<Query<A>, A>,
+        format: Format,
+    ) -> Result<Assembler<A>, AllocError>
+    where
+        A: Copy,
+        requires { HasRoom format }
+        ensures { IfOk result (λ s. (trees : List Pattern) → AreTreesOf (arc_value query).text trees →
+            Stands s (start (search_of (arc_value query).text trees) format)) }
+    {
+        let printer = Printer::new(alloc, &query, format)?;
+        Ok(Assembler {
+            alloc,
+            query,
+            format,
+            running: false,
+            bad: false,
+            buffer: ReorderBuffer::new(alloc),
+            waiting: VecDeque::new(alloc),
+            printing: false,
+            printer,
+            failed: false,
+        })
+    }
+
+    /// Opens a file. A refused request for memory is the only error, and changes nothing.
+    pub(crate) fn open(&mut self, name: &[u8]) -> Result<(), AllocError>
+    where
+        A: Copy,
+        requires { (past : Past) × IsReadyFor self.old past (Opens name.now) }
+        ensures ok { (past : Past) → Stands self.old past →
+            OnOk result (Stands self.new (planned past (Opens name.now))) }
+        ensures err { (past : Past) → Stands self.old past → OnErr result (Stands self.new past) }
+    {
+        let prefix = Prefix::new(self.alloc, name)?;
+        self.waiting.reserve(1)?;
+        let start = self.buffer.announced();
+        self.buffer.open_file()?;
+        self.waiting.push_back(Opening { start, prefix })?;
+        self.running = true;
+        Ok(())
+    }
+
+    /// Announces the open file's next block. A refused request for memory is the only error, and changes nothing.
+    pub(crate) fn announce(&mut self, block: Arc<Block<A>, A>) -> Result<(), AllocError>
+        requires { (past : Past) × IsReadyFor self.old past (Announces (arc_value block)) }
+        ensures ok { (past : Past) → Stands self.old past →
+            MayFollow (terminator past.query) (plan past) (Announces (arc_value block)) →
+            OnOk result (Stands self.new (planned past (Announces (arc_value block)))) }
+        ensures err { (past : Past) → Stands self.old past → OnErr result (Stands self.new past) }
+    {
+        self.buffer.push(block)
+    }
+
+    /// Ends the open file.
+    pub(crate) fn end(&mut self, failed: bool)
+        requires { (past : Past) × IsReadyFor self.old past (Ends failed) }
+        ensures { (past : Past) → Stands self.old past → Stands self.new (planned past (Ends failed)) }
+    {
+        self.running = false;
+        self.bad |= failed;
+    }
+
+    /// Notes a name that could not be opened or listed.
+    pub(crate) fn miss(&mut self, name: &[u8]) -> Result<(), AllocError>
+        requires { (past : Past) × IsReadyFor self.old past (Misses name.now) }
+        ensures ok { (past : Past) → Stands self.old past →
+            OnOk result (Stands self.new (planned past (Misses name.now))) }
+        ensures err { (past : Past) → Stands self.old past → OnErr result (Stands self.new past) }
+    {
+        let _ = name;
+        self.bad = true;
+        Ok(())
+    }
+
+    /// Takes a result. Only `Taken` changes anything.
+    pub(crate) fn arrive(&mut self, found: BlockResult<A>) -> Arrival
+        ensures answer { (past : Past) → Stands self.old past → result ≡ answer past found }
+        ensures stands { (past : Past) → Stands self.old past → Stands self.new (arrived past found) }
+    {
+        match self.arrival_of(&found) {
+            Arrival::Taken => {
+                self.buffer.put(found);
+                Arrival::Taken
+            }
+            Arrival::Double => Arrival::Double,
+            Arrival::Stranger => Arrival::Stranger,
+        }
+    }
+
+    /// What a result is.
+    fn arrival_of(&self, found: &BlockResult<A>) -> Arrival
+        ensures { (past : Past) → Stands self.now past → result ≡ answer past found.now }
+    {
+        let query: &Query<A> = &self.query;
+        let other: &Query<A> = found.query();
+        if query != other {
+            return Arrival::Stranger;
+        }
+        self.buffer.arrival_of(found.block())
+    }
+
+    /// Writes all that may be handed out and was not yet written.
+    pub(crate) fn drain<W: Sink>(&mut self, out: &mut W) -> Result<(), SinkFault>
+        requires { (past : Past) × Stands self.old past }
+        ensures drained { (past : Past) → Stands self.old past → (text : List ℕ)
+            × (W.taken out.new ≡ W.taken out.old ++ text)
+            × Drained result past text × Stands self.new (drained past text result) }
+        ensures cause { IsErrOf result WriteFailed → W.failures out.old < W.failures out.new }
+        ensures no_failure { OnOk result (W.failures out.new ≡ W.failures out.old) }
+        ensures never_falls { W.failures out.old ≤ W.failures out.new }
+    {
+        if self.failed {
+            return Err(SinkFault::Failed);
+        }
+        loop {
+            match self.advance(out) {
+                Ok(true) => {}
+                Ok(false) => return Ok(()),
+                Err(WriteError) => {
+                    self.failed = true;
+                    return Err(SinkFault::WriteFailed);
+                }
+            }
+        }
+    }
+
+    /// Does the next step of the plan that may be done. `false` says that there is none.
+    fn advance<W: Sink>(&mut self, out: &mut W) -> Result<bool, WriteError>
+        requires { (past : Past) × Stands self.old past }
+        ensures ok { (past : Past) → Stands self.old past → self.old.failed ≡ false → IfOk result (λ more.
+            MatchBool more (Advances self.new past (W.taken out.old) (W.taken out.new))
+            (Rests self.new past (W.taken out.old) (W.taken out.new))) }
+        ensures part { (past : Past) → Stands self.old past → self.old.failed ≡ false →
+            OnErr result (Breaks self.new past (W.taken out.old) (W.taken out.new)) }
+        ensures fewer { IfOk result (λ more. more ≡ true → left self.new < left self.old) }
+        ensures same { self.new.failed ≡ self.old.failed }
+        ensures failure { OnErr result (W.failures out.old < W.failures out.new) }
+        ensures no_failure { OnOk result (W.failures out.new ≡ W.failures out.old) }
+        ensures never_falls { W.failures out.old ≤ W.failures out.new }
+    {
+        if !self.printing {
+            return Ok(self.open_next());
+        }
+        if self.is_at_end() {
+            self.printer.end(out)?;
+            self.printing = false;
+            return Ok(true);
+        }
+        self.print_next(out)
+    }
+
+    /// Opens the next file in the printer, where one waits.
+    fn open_next(&mut self) -> bool
+        requires { self.old.printing ≡ false }
+        ensures opened { (past : Past) → Stands self.old past → self.old.failed ≡ false →
+            MatchBool result (Stands self.new past) (IsWritten past × Stands self.new past) }
+        ensures fewer { result ≡ true → left self.new < left self.old }
+        ensures same { self.new.failed ≡ self.old.failed }
+    {
+        let Some(next) = self.waiting.pop_front() else {
+            return false;
+        };
+        self.printer.open(next.prefix);
+        self.printing = true;
+        true
+    }
+
+    /// Whether all blocks of the file that the printer has opened were handed out, and it has ended.
+    fn is_at_end(&self) -> bool
+        ensures { result ≡ is_at_end self.now }
+    {
+        match self.waiting.front() {
+            Some(next) => next.start == self.buffer.handed(),
+            None => !self.running && self.buffer.is_empty(),
+        }
+    }
+
+    /// Writes the rows of the next block of the file that the printer has opened, where its result has
+    /// come.
+    fn print_next<W: Sink>(&mut self, out: &mut W) -> Result<bool, WriteError>
+        requires stands { (past : Past) × Stands self.old past }
+        requires inside { (self.old.printing ≡ true) × (is_at_end self.old ≡ false) }
+        ensures ok { (past : Past) → Stands self.old past → self.old.failed ≡ false → IfOk result (λ more.
+            MatchBool more (Advances self.new past (W.taken out.old) (W.taken out.new))
+            (Rests self.new past (W.taken out.old) (W.taken out.new))) }
+        ensures part { (past : Past) → Stands self.old past → self.old.failed ≡ false →
+            OnErr result (Breaks self.new past (W.taken out.old) (W.taken out.new)) }
+        ensures fewer { IfOk result (λ more. more ≡ true → left self.new < left self.old) }
+        ensures same { self.new.failed ≡ self.old.failed }
+        ensures failure { OnErr result (W.failures out.old < W.failures out.new) }
+        ensures no_failure { OnOk result (W.failures out.new ≡ W.failures out.old) }
+        ensures never_falls { W.failures out.old ≤ W.failures out.new }
+    {
+        let Some(found) = self.buffer.result_at(0) else {
+            return Ok(false);
+        };
+        let printed = self.printer.print(out, found)?;
+        if let Some(slot) = self.buffer.pop_first() {
+            self.printer.pass(slot.block, printed);
+        }
+        Ok(true)
+    }
+
+    /// Whether no file is open and the result of every announced block was taken.
+    pub(crate) fn complete(&self) -> bool
+        ensures { (past : Past) → Stands self.now past → IsTrue result ↔ IsComplete past }
+    {
+        !self.running && self.buffer.has_all_results()
+    }
+
+    /// Whether enough was read, by the files that may be handed out.
+    pub(crate) fn enough(&self) -> bool
+        requires { (past : Past) × Stands self.now past }
+        ensures { (past : Past) → Stands self.now past →
+            result ≡ is_enough past.query past.format (entries_of (front_of past)) }
+    {
+        let mut ahead = Ahead {
+            blocks: 0,
+            files: 0,
+            inside: self.printing,
+            progress: self.printer.progress(),
+            selected: self.buffer.has_handed_selected(),
+        };
+        while let Some(next) = self.next_ahead(ahead) {
+            ahead = next;
+        }
+        ahead.is_enough(&self.format)
+    }
+
+    /// One step further, where it could be done.
+    fn next_ahead(&self, ahead: Ahead) -> Option<Ahead>
+        requires { (past : Past) × Stands self.now past × IsAhead self.now past ahead }
+        ensures further { (past : Past) → Stands self.now past → IsAhead self.now past ahead →
+            MatchOption result (IsFront past ahead) (IsAhead self.now past) }
+        ensures fewer { IfSome result (λ next. left_ahead self.now next < left_ahead self.now ahead) }
+    {
+        if !ahead.inside {
+            return self.file_ahead(ahead);
+        }
+        if self.is_over(ahead) {
+            return Some(Ahead {
+                inside: false,
+                ..ahead
+            });
+        }
+        self.block_ahead(ahead)
+    }
+
+    /// Opens the next file.
+    fn file_ahead(&self, ahead: Ahead) -> Option<Ahead>
+        requires { ahead.inside ≡ false }
+        ensures further { (past : Past) → Stands self.now past → IsAhead self.now past ahead →
+            MatchOption result (IsFront past ahead) (IsAhead self.now past) }
+        ensures fewer { IfSome result (λ next. left_ahead self.now next < left_ahead self.now ahead) }
+    {
+        if ahead.files >= self.waiting.len() {
+            return None;
+        }
+        Some(Ahead {
+            files: ahead.files + 1,
+            inside: true,
+            progress: Progress::new(),
+            ..ahead
+        })
+    }
+
+    /// Whether the open file has no more blocks and has ended.
+    fn is_over(&self, ahead: Ahead) -> bool
+        ensures { result ≡ is_over self.now ahead }
+    {
+        match self.waiting.get(ahead.files) {
+            Some(next) => next.start == self.buffer.handed() + ahead.blocks as u128,
+            None => !self.running && self.buffer.len() <= ahead.blocks,
+        }
+    }
+
+    /// Goes past the next block, where its result has come.
+    fn block_ahead(&self, ahead: Ahead) -> Option<Ahead>
+        requires stands { (past : Past) × Stands self.now past × IsAhead self.now past ahead }
+        requires inside { (ahead.inside ≡ true) × (is_over self.now ahead ≡ false) }
+        ensures further { (past : Past) → Stands self.now past → IsAhead self.now past ahead →
+            MatchOption result (IsFront past ahead) (IsAhead self.now past) }
+        ensures fewer { IfSome result (λ next. left_ahead self.now next < left_ahead self.now ahead) }
+    {
+        let Some(found) = self.buffer.result_at(ahead.blocks) else {
+            return None;
+        };
+        let (runs, lines) = (found.runs(), found.lines() as u64);
+        Some(Ahead {
+            blocks: ahead.blocks + 1,
+            progress: ahead.progress.after(&self.format, runs, lines),
+            selected: ahead.selected | !runs.is_empty(),
+            ..ahead
+        })
+    }
+
+    /// The exit status, once all is complete.
+    pub(crate) fn status(&self) -> Option<u8>
+        ensures { (past : Past) → Stands self.now past →
+            MatchOption result (IsComplete past → ⊥) (λ status. IsComplete past × (status ≡ status_of past)) }
+    {
+        if !self.complete() {
+            return None;
+        }
+        let selected = self.buffer.has_selected();
+        Some(exit_status(self.format.mode, self.bad, selected))
+    }
+}
