@@ -65,7 +65,7 @@ halved true n = omega arith
 halved false n = omega arith
 
 -- a shift drops the lowest lanes
-pub mask_l-shifted : (ms : List Bool) (k : ℕ) → mask_l ms / 2 ^ k ≡ mask_l (drop k ms)
+mask_l-shifted : (ms : List Bool) (k : ℕ) → mask_l ms / 2 ^ k ≡ mask_l (drop k ms)
 mask_l-shifted [] zero = div-one 0
 mask_l-shifted [] (suc k) = zero-div (2 ^ suc k)
 mask_l-shifted (m ∷ ms) zero = div-one (mask_l (m ∷ ms))
