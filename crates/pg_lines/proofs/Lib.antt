@@ -6,6 +6,7 @@ pub mod Examples
 pub mod FixedLemmas
 pub mod GatherLemmas
 pub mod HitLemmas
+pub mod LaneLemmas
 pub mod LineLaws
 pub mod LineLemmas
 pub mod LongLemmas

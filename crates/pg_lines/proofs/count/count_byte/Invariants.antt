@@ -5,19 +5,8 @@ use Rattle.pg_lines.proofs.count.count_byte.Given as goal
 abbrev pub invariant-loop-at : goal.invariant-loop-at
 invariant-loop-at l = record {
   within : l.at ≤ length l.bytes;
-  few : l.count ≤ l.at;
   counted : l.count ≡ count_by (λ b. b == l.byte) (take l.at l.bytes);
 }
 
 abbrev pub decreases-loop-at : goal.decreases-loop-at
 decreases-loop-at l = length l.bytes - l.at
-
-abbrev pub invariant-loop-at-2 : goal.invariant-loop-at-2
-invariant-loop-at-2 l = record {
-  within : l.at ≤ length l.bytes;
-  few : l.count ≤ l.at;
-  counted : l.count ≡ count_by (λ b. b == l.byte) (take l.at l.bytes);
-}
-
-abbrev pub decreases-loop-at-2 : goal.decreases-loop-at-2
-decreases-loop-at-2 l = length l.bytes - l.at
