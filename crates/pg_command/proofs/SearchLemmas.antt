@@ -1,5 +1,5 @@
 -- What a search answers at each of its exits.
-use Rattle.std.proofs.Common.{◌≡◌, ◌∙◌, ◌<◌, ◌++◌, List, [], ℕ, Bool, true, false, Result, Ok, Err, sym, refl, subst}
+use Rattle.std.proofs.Common.{◌≡◌, ◌∙◌, ◌<◌, List, [], ℕ, Bool, true, false, Result, Ok, Err, sym, refl, subst}
 use Rattle.std.proofs.lemmas.Bool.{false≢true}
 use Rattle.std.specs.Result.{IfErr, IsErrAnd, MatchResult}
 use Rattle.std.proofs.lemmas.List.{append-nil}
@@ -9,6 +9,7 @@ use Rattle.pg_run.specs.Past.{Past, Opens, Turns, Misses, IsCalm, EndsOrFails, F
 use Rattle.pg_run.specs.Run.{IsTooLong}
 use Rattle.pg_run.specs.declared.fault.RunFault.{RunFault}
 use Rattle.pg_run.specs.declared.fault.RunFault.TheVariants.{OutOfMemory as NoMemoryToRun, Sink, TooLong}
+use Rattle.pg_command.specs.Answers.{WritesUpTo}
 use Rattle.pg_command.specs.Causes.{BreaksTheFile, fault_of_run}
 
 -- what follows of the one error holds of it
@@ -19,10 +20,6 @@ if_err P Q (Err e) h f = f e h
 -- nothing is a part of any text
 pub takes_nothing : (text before : List ℕ) → TakesPart text before before
 takes_nothing text before = ([], (text, refl), sym (append-nil before))
-
--- a text is a part of itself
-pub takes_all : (text before after : List ℕ) → after ≡ before ++ text → TakesPart text before after
-takes_all text before after e = (text, ([], append-nil text), e)
 
 -- a file that could not be opened was missed
 pub missed : (E : Type 0) (path : List ℕ) (past past' : Past) (b : Bool) → b ≡ false
@@ -44,6 +41,13 @@ pub explains_run : (run : RunFault) (q : Search) (file : List ℕ) (past past' :
 explains_run NoMemoryToRun q file past past' failed failed' misses cause long = misses
 explains_run Sink q file past past' failed failed' misses cause long = (misses, cause refl)
 explains_run TooLong q file past past' failed failed' misses cause long = (misses, long refl)
+
+-- a fault of a run leaves a beginning of the output
+pub writes_run : (run : RunFault) (output before after : List ℕ) → TakesPart output before after
+    → WritesUpTo (fault_of_run run) output before after
+writes_run NoMemoryToRun output before after part = part
+writes_run Sink output before after part = part
+writes_run TooLong output before after part = part
 
 -- reads of an opened file failed, and nothing else had before
 pub failed_to_read : (T E : Type 0) (past opened past' : Past) (end : Result T E) (e : E) → end ≡ Err e

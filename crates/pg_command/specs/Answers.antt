@@ -5,10 +5,11 @@ use Rattle.pg_rows.specs.Sink.{TakesPart}
 use Rattle.pg_run.specs.Past.{Past, MeetsTheEnd}
 use Rattle.pg_run.specs.Run.{output_of, status_of}
 use Rattle.pg_command.specs.Asked.{Asked, text_of_query}
-use Rattle.pg_command.specs.Reading.{HasRead, FailsToReadAll}
+use Rattle.pg_command.specs.Reading.{HasRead, FailsToReadAll, IsCalled}
 use Rattle.pg_command.specs.Causes.{BreaksTheQuery, BreaksTheFile}
 use Rattle.pg_command.specs.Told.{IsTold}
 use Rattle.pg_command.specs.declared.fault.Fault.{Fault}
+use Rattle.pg_command.specs.declared.fault.Fault.TheVariants.{ReadFailed}
 
 -- what a stream took, and how often it failed
 pub record Stream : Type 0 where
@@ -22,28 +23,38 @@ pub record HasQuery (asked : Asked) (past past' : Past) (q : Search) : Type 0 wh
   pub text : q.text ≡ text_of_query asked contents
   pub trees : HasItsTrees q
 
--- The file was read to its end and its output written whole; no write failed.
-pub record Searches (q : Search) (file : List ℕ) (past past' : Past) (out out' : Stream) (s : ℕ) : Type 0 where
-  pub path : past'.path ≡ file
+-- The file was read to its end and its output written whole, in the format that is asked for and under the name that
+-- the file is called by; no write failed.
+pub record Searches (q : Search) (asked : Asked) (past past' : Past) (out out' : Stream) (s : ℕ) : Type 0 where
+  pub path : past'.path ≡ asked.file
   pub to_the_end : MeetsTheEnd past past'
-  pub output : out'.taken ≡ out.taken ++ output_of q past'.given
+  pub name : List ℕ
+  pub called : IsCalled asked.file name
+  pub output : out'.taken ≡ out.taken ++ output_of q asked.format name past'.given
   pub no_failure : out'.failures ≡ out.failures
-  pub status : s ≡ status_of q past'.given
+  pub status : s ≡ status_of q asked.format name past'.given
 
--- The search of the very file ended with a fault that has its cause. A beginning of the output was written, for what
--- was read.
-pub record FailsToSearch (q : Search) (file : List ℕ) (past past' : Past) (out out' : Stream) (fault : Fault)
+-- what was written where a fault ended the search: all of the output of what was read, if a read failed, and else a
+-- beginning of it
+abbrev pub WritesUpTo : Fault → (output before after : List ℕ) → Type 0
+WritesUpTo (ReadFailed name) output before after = after ≡ before ++ output
+WritesUpTo fault output before after = TakesPart output before after
+
+-- The search of the very file ended with a fault that has its cause.
+pub record FailsToSearch (q : Search) (asked : Asked) (past past' : Past) (out out' : Stream) (fault : Fault)
     : Type 0 where
-  pub path : past'.path ≡ file
-  pub cause : BreaksTheFile fault q file past past' out.failures out'.failures
-  pub part : TakesPart (output_of q past'.given) out.taken out'.taken
+  pub path : past'.path ≡ asked.file
+  pub cause : BreaksTheFile fault q asked.file past past' out.failures out'.failures
+  pub name : List ℕ
+  pub called : IsCalled asked.file name
+  pub written : WritesUpTo fault (output_of q asked.format name past'.given) out.taken out'.taken
 
 -- The -f files were read, and then the file was searched for their patterns and those of the texts.
 pub record Succeeds (asked : Asked) (past past' : Past) (out out' : Stream) (s : ℕ) : Type 0 where
   pub between : Past
   pub search : Search
   pub query : HasQuery asked past between search
-  pub searches : Searches search asked.file between past' out out' s
+  pub searches : Searches search asked between past' out out' s
 
 -- Some -f file couldn't be read, and nothing was written.
 pub record FailsAtAPatternFile (asked : Asked) (past past' : Past) (out out' : Stream) (fault : Fault) : Type 0 where
@@ -62,7 +73,7 @@ pub record FailsAtTheFile (asked : Asked) (past past' : Past) (out out' : Stream
   pub between : Past
   pub search : Search
   pub query : HasQuery asked past between search
-  pub fails : FailsToSearch search asked.file between past' out out' fault
+  pub fails : FailsToSearch search asked between past' out out' fault
 
 abbrev pub Fails : Asked → (past past' : Past) (out out' : Stream) → Fault → Type 0
 Fails asked past past' out out' fault =

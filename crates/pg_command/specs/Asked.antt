@@ -1,11 +1,12 @@
 -- What a command line asks for, as plain data.
-use Rattle.std.specs.Prelude.{ℕ, Bool, false, List, map, ◌++◌}
+use Rattle.std.specs.Prelude.{ℕ, Bool, List, map, ◌++◌}
 use Rattle.pg_syntax.specs.Slices.{bytes_of}
 use Rattle.pg_lines.specs.Search.{Kind, Patterns, Split, ByLine, SearchText}
+use Rattle.pg_rows.specs.declared.format.Format.{Format}
 use Rattle.pg_words.specs.declared.request.Request.{Request}
 
--- the syntax of the patterns, the -e texts, the paths of the -f files, the options -i, -x, -w, -v and -z, and the path
--- of the file that is searched
+-- the syntax of the patterns, the -e texts, the paths of the -f files, the options -i, -x, -w, -v, -z and -o, how rows
+-- look, and the path of the file that is searched
 pub record Asked : Type 0 where
   pub kind : Kind
   pub texts : List (List ℕ)
@@ -15,6 +16,8 @@ pub record Asked : Type 0 where
   pub word : Bool
   pub invert : Bool
   pub zero : Bool
+  pub pieces : Bool
+  pub format : Format
   pub file : List ℕ
 
 -- what a request asks for; how large the blocks are is no part of it
@@ -28,6 +31,8 @@ asked_of request = record {
   word = request.word;
   invert = request.invert;
   zero = request.zero;
+  pieces = request.pieces;
+  format = request.format;
   file = request.file.now;
 }
 
@@ -40,7 +45,7 @@ text_with asked lists = record {
   whole = asked.whole;
   word = asked.word;
   invert = asked.invert;
-  pieces = false;
+  pieces = asked.pieces;
   zero = asked.zero;
 }
 

@@ -39,7 +39,7 @@ pub(crate) fn query_of<'a>(
         whole: request.whole,
         word: request.word,
         invert: request.invert,
-        pieces: false,
+        pieces: request.pieces,
         zero: request.zero,
     };
     let query = Query::compile(alloc, text)?;

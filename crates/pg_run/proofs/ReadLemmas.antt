@@ -2,7 +2,7 @@
 use Rattle.std.proofs.Common.{◌≡◌, ◌≢◌, ℕ, suc, ◌+◌, ◌<◌, ◌≤◌, ◌^◌, ◌⊎◌, inl, inr, Bool, true, false, ◌||◌, Some, None}
 use Rattle.std.proofs.Common.{List, [], ◌∷◌, ◌++◌, length, refl, sym, ap, ◌∙◌, subst, arith, append_assoc}
 use Rattle.std.proofs.Common.{length-append}
-use Rattle.std.specs.List.{AllByRecursion, Any, flat_map}
+use Rattle.std.specs.List.{AllByRecursion, Any}
 use Rattle.std.proofs.lemmas.List.{append-nil}
 use Rattle.std.proofs.lemmas.List.Concat.{flat_map-append}
 use Rattle.pg_lines.specs.Search.{Search, terminator}
@@ -15,27 +15,18 @@ use Rattle.pg_lines.specs.declared.cutter.Cutter.{Cutter}
 use Rattle.pg_lines.proofs.LineLemmas.{lines-append, whole_append}
 use Rattle.pg_lines.proofs.LongLemmas.{long_decides, long_append}
 use Rattle.pg_lines.proofs.CutLaws.{cut_is_cutting}
-use Rattle.pg_seq.specs.Bare.{bare_rows, line_or_nothing}
-use Rattle.pg_seq.specs.Plan.{Opens, Announces, Ends}
+use Rattle.pg_rows.specs.declared.format.Format.{Format}
+use Rattle.pg_rows.specs.Output.{HasRoom, Read, Running, output}
 use Rattle.pg_rows.specs.Sink.{IsBeginning, TakesPart}
-use Rattle.pg_seq.proofs.BareLemmas.{output_bare}
-use Rattle.pg_run.specs.Run.{Aim, Reads, HasSearched, Holds, IsNextBlock, IsTooLong, rows_of, output_of, aimed}
+use Rattle.pg_rows.proofs.SinkLemmas.{takes_longer}
+use Rattle.pg_seq.specs.Plan.{Opens, Announces, Ends, IsNext}
+use Rattle.pg_seq.proofs.CursorLemmas.{joined_push, plan_begins}
+use Rattle.pg_run.specs.Run.{Task, Aim, Reads, HasSearched, Holds, IsNextBlock, IsTooLong, aimed, output_of}
+use Rattle.pg_run.specs.Run.{output_so_far, whole_output}
 use Rattle.pg_run.specs.declared.searcher.Searcher.{Searcher}
+use Rattle.pg_run.proofs.HoldLemmas.{room_of}
 
--- The output of a file, from its rows.
-
-no_pieces : {A : Type 0} (s : Searcher A) (q : Search) (blocks : List BlockData) (text : List ℕ) → Holds s q blocks text
-    → q.text.pieces ≡ false
-no_pieces s q blocks text h = ap (λ x. x.text.pieces) (sym h.query) ∙ h.stands.whole
-
-file_output : (q : Search) (file : List ℕ) → q.text.pieces ≡ false → output_of q file ≡ bare_rows q file
-file_output q [] whole = output_bare q (Ends false ∷ Opens [] ∷ []) whole (refl, (refl, tt))
-file_output q (x ∷ file) whole =
-    let b : BlockData = record { file = 0; number = 0; bytes = x ∷ file } in
-    let some : b.bytes ≢ [] = λ e. absurd (omega (arith, ap length e)) in
-    output_bare q (Ends false ∷ Announces b ∷ Opens [] ∷ []) whole
-    (refl, (record { running = refl; file = refl; number = refl; some = some; seam = tt }, (refl, tt)))
-    ∙ append-nil (bare_rows q (x ∷ file))
+-- Bytes of a file, and bytes behind them.
 
 -- bytes that end with the terminator, or that nothing follows
 abbrev IsApart : ℕ → List ℕ → List ℕ → Type 0
@@ -48,27 +39,12 @@ lines_apart end xs ys (inr e) =
     ∙ (ap (lines end) (append-nil xs)
     ∙ (sym (append-nil (lines end xs)) ∙ ap (λ zs. lines end xs ++ lines end zs) (sym e)))
 
-rows_apart : (q : Search) (xs ys : List ℕ) → IsApart (terminator q) xs ys
-    → bare_rows q (xs ++ ys) ≡ bare_rows q xs ++ bare_rows q ys
-rows_apart q xs ys a =
-    ap (flat_map (line_or_nothing q)) (lines_apart (terminator q) xs ys a)
-    ∙ flat_map-append (line_or_nothing q) (lines (terminator q) xs) (lines (terminator q) ys)
-
 abbrev AllEnd : ℕ → List BlockData → Type 0
 AllEnd end blocks = AllByRecursion (λ b. EndsWith end b.bytes) blocks
 
 whole_joined : (end : ℕ) (blocks : List BlockData) → AllEnd end blocks → AreWhole end (joined blocks)
 whole_joined end [] h = inl refl
 whole_joined end (b ∷ blocks) h = whole_append end b.bytes (joined blocks) (inr h.0) (whole_joined end blocks h.1)
-
-rows_joined : (q : Search) (blocks : List BlockData) (ys : List ℕ) → AllEnd (terminator q) blocks
-    → bare_rows q (joined blocks ++ ys) ≡ rows_of q blocks ++ bare_rows q ys
-rows_joined q [] ys h = refl
-rows_joined q (b ∷ blocks) ys h =
-    ap (bare_rows q) (append_assoc b.bytes (joined blocks) ys)
-    ∙ (rows_apart q b.bytes (joined blocks ++ ys) (inl (inr h.0))
-    ∙ (ap (λ xs. bare_rows q b.bytes ++ xs) (rows_joined q blocks ys h.1)
-    ∙ sym (append_assoc (bare_rows q b.bytes) (rows_of q blocks) (bare_rows q ys))))
 
 -- The blocks that a cutter gave.
 
@@ -191,7 +167,6 @@ reads_on cutter s aim piece after r = record {
   longest = r.longest;
   whole = ap (λ xs. xs ++ piece) (sym (append-nil r.fed.bytes) ∙ r.whole);
   holds = r.holds;
-  got = r.got;
 }
 
 -- a cutter takes at most 2^62 bytes
@@ -202,30 +177,23 @@ reads_few cutter s aim after r =
 
 pub next_in_reads : {A : Type 0} (cutter : Cutter A) (s : Searcher A) (aim : Aim) (rest after : List ℕ)
     (r : Reads cutter s aim rest after) (b : BlockData) → IsNextOfCutter r.fed b
-    → IsNextBlock aim.query r.fed.taken b
+    → IsNextBlock aim.task.query r.fed.taken b
 next_in_reads cutter s aim rest after r b n =
     let gives = gives_next r.fed b n in
-    given_next cutter aim.query r.fed b gives.0 r.stands r.ends r.number r.longest gives.1
+    given_next cutter aim.task.query r.fed b gives.0 r.stands r.ends r.number r.longest gives.1
 
 pub last_in_reads : {A : Type 0} (cutter : Cutter A) (s : Searcher A) (aim : Aim) (rest after : List ℕ)
     (r : Reads cutter s aim rest after) (b : BlockData) → AreAllBlocks (handed_out r.fed (Some b))
-    → IsNextBlock aim.query r.fed.taken b
+    → IsNextBlock aim.task.query r.fed.taken b
 last_in_reads cutter s aim rest after r b all =
-    given_next cutter aim.query r.fed b [] r.stands r.ends r.number r.longest (gives_last r.fed b all)
-
-rows_more : (q : Search) (blocks : List BlockData) (b : BlockData)
-    → rows_of q (blocks ++ b ∷ []) ≡ rows_of q blocks ++ bare_rows q b.bytes
-rows_more q blocks b =
-    flat_map-append (λ (x : BlockData). bare_rows q x.bytes) blocks (b ∷ [])
-    ∙ ap (λ xs. rows_of q blocks ++ xs) (append-nil (bare_rows q b.bytes))
+    given_next cutter aim.task.query r.fed b [] r.stands r.ends r.number r.longest (gives_last r.fed b all)
 
 -- one more block was searched
 pub reads_more : {A : Type 0} (cutter cutter' : Cutter A) (s s' : Searcher A) (aim : Aim) (rest after after' : List ℕ)
     (r : Reads cutter s aim rest after) (b : BlockData)
     → CutterStands cutter' (handed_out r.fed (Some b))
-    → Holds s' aim.query (r.fed.taken ++ b ∷ []) (rows_of aim.query (r.fed.taken ++ b ∷ []))
-    → after' ≡ after ++ bare_rows aim.query b.bytes → Reads cutter' s' aim rest after'
-reads_more cutter cutter' s s' aim rest after after' r b stands holds got = record {
+    → Holds s' aim.task (r.fed.taken ++ b ∷ []) aim.before after' → Reads cutter' s' aim rest after'
+reads_more cutter cutter' s s' aim rest after after' r b stands holds = record {
   fed = handed_out r.fed (Some b);
   stands = stands;
   ends = r.ends;
@@ -233,10 +201,6 @@ reads_more cutter cutter' s s' aim rest after after' r b stands holds got = reco
   longest = r.longest;
   whole = r.whole;
   holds = holds;
-  got =
-      got ∙ (ap (λ xs. xs ++ bare_rows aim.query b.bytes) r.got
-      ∙ (append_assoc aim.before (rows_of aim.query r.fed.taken) (bare_rows aim.query b.bytes)
-      ∙ ap (λ xs. aim.before ++ xs) (sym (rows_more aim.query r.fed.taken b))));
 }
 
 -- no block was left
@@ -252,7 +216,6 @@ reads_none cutter cutter' s aim rest after r stands =
       longest = r.longest;
       whole = r.whole;
       holds = r.holds;
-      got = r.got;
     }
 
 -- a piece was fed
@@ -267,133 +230,135 @@ reads_piece cutter cutter' s aim rest piece later after r parts stands = record 
   longest = r.longest;
   whole = append_assoc r.fed.bytes piece later ∙ (ap (λ xs. r.fed.bytes ++ xs) (sym parts) ∙ r.whole);
   holds = r.holds;
-  got = r.got;
 }
 
 -- What was written is a beginning of the output.
 
-beginning : {A : Type 0} (s : Searcher A) (aim : Aim) (blocks : List BlockData) (text : List ℕ)
-    → Holds s aim.query blocks text → AllEnd (terminator aim.query) blocks → (part more later : List ℕ)
-    → bare_rows aim.query more ≡ part ++ later → joined blocks ++ more ≡ aim.file
-    → IsBeginning (rows_of aim.query blocks ++ part) (output_of aim.query aim.file)
-beginning s aim blocks text h ends part more later parts whole = (
-  later,
-  append_assoc (rows_of aim.query blocks) part later
-      ∙ (ap (λ xs. rows_of aim.query blocks ++ xs) (sym parts)
-      ∙ (sym (rows_joined aim.query blocks more ends)
-      ∙ (ap (bare_rows aim.query) whole
-      ∙ sym (file_output aim.query aim.file (no_pieces s aim.query blocks text h))))),
-)
+module _ (q : Search) (format : Format) (room : HasRoom format) (name : List ℕ) where
+  abbrev block_of : ℕ → List ℕ → BlockData
+  block_of number bytes = record { file = 0; number = number; bytes = bytes }
 
-takes : (aim : Aim) (blocks : List BlockData) (part after after' : List ℕ)
-    → after ≡ aim.before ++ rows_of aim.query blocks → after' ≡ after ++ part
-    → IsBeginning (rows_of aim.query blocks ++ part) (output_of aim.query aim.file)
-    → TakesPart (output_of aim.query aim.file) aim.before after'
-takes aim blocks part after after' got more begins = (
-  rows_of aim.query blocks ++ part,
-  begins,
-  more ∙ (ap (λ xs. xs ++ part) got ∙ append_assoc aim.before (rows_of aim.query blocks) part),
-)
+  first_place : (x : ℕ) (xs : List ℕ) → IsNext (terminator q) (Opens name ∷ []) (block_of 0 (x ∷ xs))
+  first_place x xs = record { running = refl; file = refl; number = refl; some = λ e. cc; seam = tt }
+
+  ends_whole : (x : ℕ) (xs : List ℕ) → AreWhole (terminator q) (x ∷ xs) → EndsWith (terminator q) (x ∷ xs)
+  ends_whole x xs (inl e) = cc
+  ends_whole x xs (inr ends) = ends
+
+  next_place : (x y : ℕ) (xs ys : List ℕ) → IsApart (terminator q) (x ∷ xs) (y ∷ ys)
+      → IsNext (terminator q) (Announces (block_of 0 (x ∷ xs)) ∷ Opens name ∷ []) (block_of 1 (y ∷ ys))
+  next_place x y xs ys (inl whole) = record {
+    running = refl;
+    file = refl;
+    number = refl;
+    some = λ e. cc;
+    seam = (ends_whole x xs whole, tt);
+  }
+  next_place x y xs ys (inr e) = cc
+
+  -- what is written of a file while it is read begins its output
+  file_begins : (xs ys : List ℕ) → IsApart (terminator q) xs ys
+      → IsBeginning (output q format (Read name xs Running ∷ [])) (output_of q format name (xs ++ ys))
+  file_begins [] [] apart = plan_begins q format room (Opens name ∷ []) (Ends false ∷ []) (refl, (refl, tt))
+  file_begins [] (y ∷ ys) apart =
+      plan_begins q format room (Opens name ∷ []) (Ends false ∷ Announces (block_of 0 (y ∷ ys)) ∷ [])
+      (refl, (first_place y ys, (refl, tt)))
+  file_begins (x ∷ xs) [] apart =
+      let P : List ℕ → Type 0 =
+      λ file. IsBeginning (output q format (Read name (x ∷ xs) Running ∷ [])) (output_of q format name file) in
+      subst P (sym (append-nil (x ∷ xs)))
+      (plan_begins q format room (Announces (block_of 0 (x ∷ xs)) ∷ Opens name ∷ []) (Ends false ∷ [])
+      (refl, (first_place x xs, (refl, tt))))
+  file_begins (x ∷ xs) (y ∷ ys) apart =
+      plan_begins q format room (Announces (block_of 0 (x ∷ xs)) ∷ Opens name ∷ [])
+      (Ends false ∷ Announces (block_of 1 (y ∷ ys)) ∷ [])
+      (refl, (next_place x y xs ys apart, (first_place x xs, (refl, tt))))
+
+-- a part of the output of some blocks is a part of the output of the file
+part_of_file : (task : Task) → HasRoom task.format → (blocks : List BlockData) (more file before after : List ℕ)
+    → IsApart (terminator task.query) (joined blocks) more → joined blocks ++ more ≡ file
+    → TakesPart (output_so_far task blocks) before after → TakesPart (whole_output task file) before after
+part_of_file task room blocks more file before after apart whole part =
+    let P : List ℕ → Type 0 = λ xs. IsBeginning (output_so_far task blocks) (whole_output task xs) in
+    takes_longer _ _ before after part
+    (subst P whole (file_begins task.query task.format room task.name (joined blocks) more apart))
 
 -- so far, whatever is still to come
 pub reads_part : {A : Type 0} (cutter : Cutter A) (s : Searcher A) (aim : Aim) (rest after : List ℕ)
-    → Reads cutter s aim rest after → TakesPart (output_of aim.query aim.file) aim.before after
+    → Reads cutter s aim rest after → TakesPart (whole_output aim.task aim.file) aim.before after
 reads_part cutter s aim rest after r =
     let f = r.fed in
+    let h = r.holds in
     let more = (joined cutter.ready.items ++ cutter.rest.items) ++ rest in
     let whole : joined f.taken ++ more ≡ aim.file =
     sym (append_assoc (joined f.taken) (joined cutter.ready.items ++ cutter.rest.items) rest)
     ∙ (ap (λ xs. xs ++ rest)
     (sym (joined_apart f.taken cutter.ready.items cutter.rest.items) ∙ sym r.stands.cut.whole) ∙ r.whole) in
-    takes aim f.taken [] after after r.got (sym (append-nil after))
-    (beginning s aim f.taken (rows_of aim.query f.taken) r.holds
-    (given_end cutter f (terminator aim.query) r.stands r.ends) [] more
-    (bare_rows aim.query more) refl whole)
+    let ends = given_end cutter f (terminator aim.task.query) r.stands r.ends in
+    part_of_file aim.task (room_of h) f.taken more aim.file aim.before after
+    (inl (whole_joined (terminator aim.task.query) f.taken ends)) whole (h.past.written, h.part, h.got)
 
-given_part : {A : Type 0} (cutter : Cutter A) (s : Searcher A) (aim : Aim) (rest after after' : List ℕ)
+-- the file, where a cutter gave one more block
+with_given : {A : Type 0} (cutter : Cutter A) (s : Searcher A) (aim : Aim) (rest after : List ℕ)
     (r : Reads cutter s aim rest after) (b : BlockData) (more : List ℕ) → Gives r.fed b more
-    → IsApart (terminator aim.query) b.bytes (more ++ rest)
-    → TakesPart (bare_rows aim.query b.bytes) after after' → TakesPart (output_of aim.query aim.file) aim.before after'
-given_part cutter s aim rest after after' r b more gives apart (part, (end, joins), is) =
-    let f = r.fed in
-    let q = aim.query in
-    let whole : joined f.taken ++ (b.bytes ++ (more ++ rest)) ≡ aim.file =
-    ap (λ xs. joined f.taken ++ xs) (sym (append_assoc b.bytes more rest))
-    ∙ (sym (append_assoc (joined f.taken) (b.bytes ++ more) rest)
-    ∙ (ap (λ xs. xs ++ rest) (sym gives.whole) ∙ r.whole)) in
-    let rows : bare_rows q (b.bytes ++ (more ++ rest)) ≡ part ++ (end ++ bare_rows q (more ++ rest)) =
-    rows_apart q b.bytes (more ++ rest) apart
-    ∙ (ap (λ xs. xs ++ bare_rows q (more ++ rest)) (sym joins) ∙ append_assoc part end (bare_rows q (more ++ rest))) in
-    takes aim f.taken part after after' r.got is
-    (beginning s aim f.taken (rows_of q f.taken) r.holds (given_end cutter f (terminator aim.query) r.stands r.ends)
-    part
-    (b.bytes ++ (more ++ rest)) (end ++ bare_rows q (more ++ rest)) rows whole)
+    → joined (r.fed.taken ++ b ∷ []) ++ (more ++ rest) ≡ aim.file
+with_given cutter s aim rest after r b more gives =
+    let front = joined r.fed.taken in
+    ap (λ xs. xs ++ (more ++ rest)) (joined_push r.fed.taken b)
+    ∙ (sym (append_assoc (front ++ b.bytes) more rest)
+    ∙ (ap (λ xs. xs ++ rest) (append_assoc front b.bytes more ∙ sym gives.whole) ∙ r.whole))
 
 pub next_part : {A : Type 0} (cutter : Cutter A) (s : Searcher A) (aim : Aim) (rest after after' : List ℕ)
     (r : Reads cutter s aim rest after) (b : BlockData) → IsNextOfCutter r.fed b
-    → TakesPart (bare_rows aim.query b.bytes) after after' → TakesPart (output_of aim.query aim.file) aim.before after'
+    → TakesPart (output_so_far aim.task (r.fed.taken ++ b ∷ [])) aim.before after'
+    → TakesPart (whole_output aim.task aim.file) aim.before after'
 next_part cutter s aim rest after after' r b n part =
-    let gives = gives_next r.fed b n in
-    let P : ℕ → Type 0 = λ e. EndsWith e b.bytes in
-    let Q : BlockData → Type 0 = λ x. IsFinished r.fed.end r.fed.size x.bytes in
-    let finished = all_apart Q r.fed.taken (b ∷ n.cut.0) n.cut.2.finished in
-    let ends : EndsWith (terminator aim.query) b.bytes = subst P r.ends finished.1.0.ends in
-    given_part cutter s aim rest after after' r b gives.0 gives.1 (inl (inr ends)) part
+    let f = r.fed in
+    let end = terminator aim.task.query in
+    let blocks = f.taken ++ b ∷ [] in
+    let gives = gives_next f b n in
+    let Q : BlockData → Type 0 = λ x. IsFinished f.end f.size x.bytes in
+    let E : ℕ → Type 0 = λ e. AllEnd e blocks in
+    let cuts : AllByRecursion Q ((f.taken ++ b ∷ []) ++ n.cut.0) =
+    subst (AllByRecursion Q) (sym (append_assoc f.taken (b ∷ []) n.cut.0)) n.cut.2.finished in
+    let ends : AllEnd end blocks = subst E r.ends (all_end f.end f.size blocks (all_apart Q blocks n.cut.0 cuts).0) in
+    part_of_file aim.task (room_of r.holds) blocks (gives.0 ++ rest) aim.file aim.before after'
+    (inl (whole_joined end blocks ends)) (with_given cutter s aim rest after r b gives.0 gives.1) part
+
+-- the file, where a cutter gave its last block
+with_last : {A : Type 0} (cutter : Cutter A) (s : Searcher A) (aim : Aim) (after : List ℕ)
+    (r : Reads cutter s aim [] after) (b : BlockData) → AreAllBlocks (handed_out r.fed (Some b))
+    → joined (r.fed.taken ++ b ∷ []) ++ [] ≡ aim.file
+with_last cutter s aim after r b all = with_given cutter s aim [] after r b [] (gives_last r.fed b all)
 
 pub last_part : {A : Type 0} (cutter : Cutter A) (s : Searcher A) (aim : Aim) (after after' : List ℕ)
     (r : Reads cutter s aim [] after) (b : BlockData) → AreAllBlocks (handed_out r.fed (Some b))
-    → TakesPart (bare_rows aim.query b.bytes) after after' → TakesPart (output_of aim.query aim.file) aim.before after'
+    → TakesPart (output_so_far aim.task (r.fed.taken ++ b ∷ [])) aim.before after'
+    → TakesPart (whole_output aim.task aim.file) aim.before after'
 last_part cutter s aim after after' r b all part =
-    given_part cutter s aim [] after after' r b [] (gives_last r.fed b all) (inr refl) part
+    part_of_file aim.task (room_of r.holds) (r.fed.taken ++ b ∷ []) [] aim.file aim.before after'
+    (inr refl) (with_last cutter s aim after r b all) part
 
 -- All blocks were searched.
 
 pub searched_last : {A : Type 0} (cutter : Cutter A) (s s' : Searcher A) (aim : Aim) (after after' : List ℕ)
     (r : Reads cutter s aim [] after) (b : BlockData) → AreAllBlocks (handed_out r.fed (Some b))
-    → Holds s' aim.query (r.fed.taken ++ b ∷ []) (rows_of aim.query (r.fed.taken ++ b ∷ []))
-    → after' ≡ after ++ bare_rows aim.query b.bytes → HasSearched s' aim after'
-searched_last cutter s s' aim after after' r b all holds got =
-    let f = r.fed in
-    let q = aim.query in
-    let gives = gives_last f b all in
-    let file : joined f.taken ++ b.bytes ≡ aim.file =
-    ap (λ xs. joined f.taken ++ xs) (sym (append-nil b.bytes))
-    ∙ (sym gives.whole ∙ (sym (append-nil f.bytes) ∙ r.whole)) in
-    let rows = rows_joined q f.taken b.bytes (given_end cutter f (terminator aim.query) r.stands r.ends) in
-    let whole = no_pieces s q f.taken (rows_of q f.taken) r.holds in
-    record {
-      blocks = f.taken ++ b ∷ [];
-      text = rows_of q (f.taken ++ b ∷ []);
-      whole =
-          flat_map-append (λ (x : BlockData). x.bytes) f.taken (b ∷ [])
-          ∙ (ap (λ xs. joined f.taken ++ xs) (append-nil b.bytes) ∙ file);
-      holds = holds;
-      got =
-          got ∙ (ap (λ xs. xs ++ bare_rows q b.bytes) r.got
-          ∙ (append_assoc aim.before (rows_of q f.taken) (bare_rows q b.bytes)
-          ∙ ap (λ xs. aim.before ++ xs)
-          (sym rows ∙ (ap (bare_rows q) file ∙ sym (file_output q aim.file whole)))));
-    }
+    → Holds s' aim.task (r.fed.taken ++ b ∷ []) aim.before after' → HasSearched s' aim after'
+searched_last cutter s s' aim after after' r b all holds = record {
+  blocks = r.fed.taken ++ b ∷ [];
+  whole = sym (append-nil (joined (r.fed.taken ++ b ∷ []))) ∙ with_last cutter s aim after r b all;
+  holds = holds;
+}
 
 pub searched_none : {A : Type 0} (cutter : Cutter A) (s : Searcher A) (aim : Aim) (after : List ℕ)
     (r : Reads cutter s aim [] after) → AreAllBlocks (handed_out r.fed None) → HasSearched s aim after
 searched_none cutter s aim after r all =
     let f = r.fed in
-    let q = aim.query in
     let cutting = cut_is_cutting f.end f.size f.bytes (f.taken ++ []) all.cut in
-    let file : joined f.taken ≡ aim.file =
-    ap joined (sym (append-nil f.taken)) ∙ (cutting.whole ∙ (sym (append-nil f.bytes) ∙ r.whole)) in
-    let rows = rows_joined q f.taken [] (given_end cutter f (terminator aim.query) r.stands r.ends) in
-    let whole = no_pieces s q f.taken (rows_of q f.taken) r.holds in
     record {
       blocks = f.taken;
-      text = rows_of q f.taken;
-      whole = file;
+      whole = ap joined (sym (append-nil f.taken)) ∙ (cutting.whole ∙ (sym (append-nil f.bytes) ∙ r.whole));
       holds = r.holds;
-      got =
-          r.got ∙ ap (λ xs. aim.before ++ xs)
-          (sym (append-nil (rows_of q f.taken))
-          ∙ (sym rows ∙ (ap (bare_rows q) (append-nil (joined f.taken) ∙ file) ∙ sym (file_output q aim.file whole))));
     }
 
 -- Lines that are too long.
@@ -411,10 +376,10 @@ long_stays end longest xs ys a =
 
 pub line_too_long : {A : Type 0} (cutter : Cutter A) (s : Searcher A) (aim : Aim) (rest piece later after : List ℕ)
     (r : Reads cutter s aim rest after) → rest ≡ piece ++ later → HasLongLine (fed_after r.fed piece)
-    → IsTooLong (terminator aim.query) aim.file
+    → IsTooLong (terminator aim.task.query) aim.file
 line_too_long cutter s aim rest piece later after r parts long =
     let f = r.fed in
-    let end = terminator aim.query in
+    let end = terminator aim.task.query in
     let L : ℕ → Type 0 = λ n. Any (λ l. n < length l) (lines f.end (f.bytes ++ piece)) in
     let E : ℕ → Type 0 = λ e. Any (λ l. 2 ^ 30 < length l) (lines e (f.bytes ++ piece)) in
     let F : List ℕ → Type 0 = λ xs. Any (λ l. 2 ^ 30 < length l) (lines end xs) in
@@ -424,14 +389,14 @@ line_too_long cutter s aim rest piece later after r parts long =
 
 pub file_too_long : {A : Type 0} (cutter : Cutter A) (s : Searcher A) (aim : Aim) (rest piece later after : List ℕ)
     (r : Reads cutter s aim rest after) → rest ≡ piece ++ later → 2 ^ 62 < length r.fed.bytes + length piece
-    → IsTooLong (terminator aim.query) aim.file
+    → IsTooLong (terminator aim.task.query) aim.file
 file_too_long cutter s aim rest piece later after r parts long =
     inr (omega (arith, ap length r.whole, length-append r.fed.bytes rest, ap length parts, length-append piece later))
 
 -- a run that begins
 pub reads_new : {A : Type 0} (cutter : Cutter A) (s : Searcher A) (aim : Aim) (end size : ℕ)
-    → end ≡ terminator aim.query → aim.file ≡ [] → CutterStands cutter (unfed end 0 size (2 ^ 30))
-    → Holds s aim.query [] [] → Reads cutter s aim [] aim.before
+    → end ≡ terminator aim.task.query → aim.file ≡ [] → CutterStands cutter (unfed end 0 size (2 ^ 30))
+    → Holds s aim.task [] aim.before aim.before → Reads cutter s aim [] aim.before
 reads_new cutter s aim end size ends none stands holds = record {
   fed = unfed end 0 size (2 ^ 30);
   stands = stands;
@@ -440,5 +405,4 @@ reads_new cutter s aim end size ends none stands holds = record {
   longest = refl;
   whole = sym none;
   holds = holds;
-  got = sym (append-nil aim.before);
 }

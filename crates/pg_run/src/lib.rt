@@ -7,6 +7,7 @@ mod mem_store;
 mod past;
 mod run;
 mod searcher;
+mod setup;
 mod store;
 
 pub use disk_store::DiskStore;
@@ -14,4 +15,5 @@ pub use fault::RunFault;
 pub use mem_store::{Ending, MemStore};
 pub use past::StorePast;
 pub use run::first_run;
+pub use setup::Setup;
 pub use store::{ReadFault, Store};

@@ -1,16 +1,19 @@
 //! The run of one file.
-ghost use Rattle.std.specs.Prelude.{◌≡◌, ℕ, ◌<◌, ◌≤◌, ◌^◌, ◌++◌, List, [], false, length};
+ghost use Rattle.std.specs.Prelude.{◌≡◌, ℕ, ◌<◌, ◌≤◌, ◌^◌, ◌++◌, List, [], length};
 ghost use Rattle.std.specs.Prelude.{IfOk, OnOk, OnErr, IsErrOf};
 ghost use Rattle.std.specs.Arc.{arc_value};
 ghost use Rattle.pg_lines.specs.Search.{Pattern, AreTreesOf, search_of, terminator, terminator_of};
 ghost use Rattle.pg_lines.specs.Cutter.{IsDrained};
+ghost use Rattle.pg_lines.specs.Queries.{IsCompiled};
 ghost use Rattle.pg_rows.specs.Sink.{TakesPart};
 ghost use Rattle.pg_run.specs.Past.{EndsOrFails};
-ghost use Rattle.pg_run.specs.Run.{Aim, Reads, HasSearched, IsTooLong, aimed, output_of, status_of};
+ghost use Rattle.pg_run.specs.Run.{Aim, Reads, HasSearched, IsTooLong, aim_of, aimed, task_of};
+ghost use Rattle.pg_run.specs.Run.{output_of, status_of, whole_output};
 ghost use Rattle.pg_run.specs.declared.fault.RunFault.TheVariants.{Sink as RunSink, TooLong};
 
 use crate::fault::RunFault;
 use crate::searcher::Searcher;
+use crate::setup::Setup;
 use crate::store::{ReadFault, Store};
 use pg_lines::{Cutter, Query};
 use pg_seq::Sink;
@@ -35,7 +38,7 @@ fn search_ready<A: Allocator + Copy, W: Sink>(
         OnOk result (Reads cutter.new searcher.new aim rest (W.taken out.new)) }
     ensures drained { OnOk result (IsDrained cutter.new) }
     ensures part { (aim : Aim) → (rest : List ℕ) → Reads cutter.old searcher.old aim rest (W.taken out.old) →
-        OnErr result (TakesPart (output_of aim.query aim.file) aim.before (W.taken out.new)) }
+        OnErr result (TakesPart (whole_output aim.task aim.file) aim.before (W.taken out.new)) }
     ensures cause { IsErrOf result RunSink → W.failures out.old < W.failures out.new }
     ensures short { IsErrOf result TooLong → ⊥ }
     ensures no_failure { OnOk result (W.failures out.new ≡ W.failures out.old) }
@@ -64,11 +67,11 @@ fn search_all<A: Allocator + Copy, S: Store, W: Sink>(
     ensures drained { OnOk result (IsDrained cutter.new) }
     ensures part { (aim : Aim) → Reads cutter.old searcher.old aim [] (W.taken out.old) →
         aim.file ≡ (S.past store.old).given →
-        OnErr result (TakesPart (output_of aim.query (S.past store.new).given) aim.before (W.taken out.new)) }
+        OnErr result (TakesPart (whole_output aim.task (S.past store.new).given) aim.before (W.taken out.new)) }
     ensures cause { IsErrOf result RunSink → W.failures out.old < W.failures out.new }
     ensures long { (aim : Aim) → Reads cutter.old searcher.old aim [] (W.taken out.old) →
         aim.file ≡ (S.past store.old).given →
-        IsErrOf result TooLong → IsTooLong (terminator aim.query) (S.past store.new).given }
+        IsErrOf result TooLong → IsTooLong (terminator aim.task.query) (S.past store.new).given }
     ensures no_failure { OnOk result (W.failures out.new ≡ W.failures out.old) }
     ensures never_falls { W.failures out.old ≤ W.failures out.new }
     ensures read { IfOk result (EndsOrFails (S.past store.old) (S.past store.new)) }
@@ -97,7 +100,7 @@ fn search_last<A: Allocator + Copy, W: Sink>(
     ensures ok { (aim : Aim) → Reads cutter searcher.old aim [] (W.taken out.old) →
         OnOk result (HasSearched searcher.new aim (W.taken out.new)) }
     ensures part { (aim : Aim) → Reads cutter searcher.old aim [] (W.taken out.old) →
-        OnErr result (TakesPart (output_of aim.query aim.file) aim.before (W.taken out.new)) }
+        OnErr result (TakesPart (whole_output aim.task aim.file) aim.before (W.taken out.new)) }
     ensures cause { IsErrOf result RunSink → W.failures out.old < W.failures out.new }
     ensures short { IsErrOf result TooLong → ⊥ }
     ensures no_failure { OnOk result (W.failures out.new ≡ W.failures out.old) }
@@ -109,11 +112,29 @@ fn search_last<A: Allocator + Copy, W: Sink>(
     }
 }
 
-/// Reads the open file to its end and searches it, in blocks of at least `block` bytes. Its selected
-/// lines go to `out`, and the answer is the exit status: 0 where a line was selected and 1 where none
-/// was. Where a read failed the answer is its fault, and `out` got the selected lines of the bytes
-/// that were read before. Nothing of the file was read yet, the query asks for no parts of lines, and
-/// `block` is from 1 to 2^24.
+/// A cutter and a searcher for a file of which nothing was read.
+fn begin<A: Allocator + Copy>(
+    alloc: A,
+    query: &Arc<Query<A>, A>,
+    setup: Setup,
+    name: &[u8],
+) -> Result<(Cutter<A>, Searcher<A>), AllocError>
+    ensures reads { (trees : List Pattern) → AreTreesOf (arc_value query.now).text trees → (before : List ℕ) →
+        IfOk result (λ both. Reads both.0 both.1
+        (aim_of (task_of (arc_value query.now).text trees setup.format name.now) before) [] before) }
+    ensures drained { IfOk result (λ both. IsDrained both.0) }
+    ensures compiled { IsCompiled (arc_value query.now) }
+{
+    let searcher = Searcher::new(alloc, query, setup.format, name)?;
+    let cutter = Cutter::new(alloc, 0, setup.block, LONGEST_LINE, query.terminator());
+    Ok((cutter, searcher))
+}
+
+/// Reads the open file to its end and searches it. What is asked for of it goes to `out`, as the setup's
+/// format has it, in rows that call the file by its name, and the answer is the exit status: 0 where a
+/// line was selected and 1 where none was. Where a read failed the answer is its fault, and `out` got
+/// all that is asked for of the bytes that were read before, as if the file ended there. Nothing of the
+/// file was read yet.
 ///
 /// Not more of the file is held than a block and what was read ahead of it.
 ///
@@ -125,21 +146,21 @@ fn search_last<A: Allocator + Copy, W: Sink>(
 pub fn first_run<A: Allocator + Copy, S: Store, W: Sink>(
     alloc: A,
     query: &Arc<Query<A>, A>,
+    setup: Setup,
+    name: &[u8],
     store: &mut S,
-    block: u32,
     out: &mut W,
 ) -> Result<Result<u8, ReadFault>, RunFault>
-    requires query { (arc_value query.now).text.pieces ≡ false }
-    requires block { (1 ≤ block) × (block ≤ 2 ^ 24) }
-    requires unread { (S.past store.old).given ≡ [] }
+    requires { (S.past store.old).given ≡ [] }
     ensures output { (trees : List Pattern) → AreTreesOf (arc_value query.now).text trees → OnOk result
         (W.taken out.new ≡ W.taken out.old
-        ++ output_of (search_of (arc_value query.now).text trees) (S.past store.new).given) }
+        ++ output_of (search_of (arc_value query.now).text trees) setup.format name.now (S.past store.new).given) }
     ensures status { (trees : List Pattern) → AreTreesOf (arc_value query.now).text trees → IfOk result
-        (λ end. IfOk end (λ s. s ≡ status_of (search_of (arc_value query.now).text trees) (S.past store.new).given)) }
+        (λ end. IfOk end (λ status. status
+        ≡ status_of (search_of (arc_value query.now).text trees) setup.format name.now (S.past store.new).given)) }
     ensures read { IfOk result (EndsOrFails (S.past store.old) (S.past store.new)) }
-    ensures part { (trees : List Pattern) → AreTreesOf (arc_value query.now).text trees → OnErr result
-        (TakesPart (output_of (search_of (arc_value query.now).text trees) (S.past store.new).given)
+    ensures part { (trees : List Pattern) → AreTreesOf (arc_value query.now).text trees → OnErr result (TakesPart
+        (output_of (search_of (arc_value query.now).text trees) setup.format name.now (S.past store.new).given)
         (W.taken out.old) (W.taken out.new)) }
     ensures cause { IsErrOf result RunSink → W.failures out.old < W.failures out.new }
     ensures long { IsErrOf result TooLong →
@@ -149,13 +170,13 @@ pub fn first_run<A: Allocator + Copy, S: Store, W: Sink>(
     ensures path { (S.past store.new).path ≡ (S.past store.old).path }
     ensures no_miss { (S.past store.new).misses ≡ (S.past store.old).misses }
 {
-    let mut searcher = Searcher::new(alloc, query)?;
-    let mut cutter = Cutter::new(alloc, 0, block, LONGEST_LINE, query.terminator());
+    let (mut cutter, mut searcher) = begin(alloc, query, setup, name)?;
     let mut buffer = zeros(alloc, READ_SIZE)?;
     let end = search_all(&mut cutter, &mut searcher, store, &mut buffer, out)?;
     search_last(cutter, &mut searcher, out)?;
+    let status = searcher.finish(out)?;
     match end {
-        Ok(()) => Ok(Ok(searcher.status())),
+        Ok(()) => Ok(Ok(status)),
         Err(ReadFault) => Ok(Err(ReadFault)),
     }
 }

@@ -3,8 +3,19 @@ ghost use Rattle.std.specs.Prelude.{◌≡◌, ◌≤◌, IfOk, false, length};
 ghost use Rattle.std.specs.Arc.{arc_value};
 
 use pg_lines::{Block, BlockResult, Kind, PatternList, Query, QueryText, Scratch, search_block};
+use pg_rows::{Format, Mode};
 use std::alloc::{AllocError, Allocator};
 use std::sync::Arc;
+
+/// Selected lines and nothing else.
+pub(crate) const PLAIN: Format = Format {
+    names: false,
+    numbers: false,
+    mode: Mode::Rows,
+    limit: None,
+    before: None,
+    after: None,
+};
 
 /// What a query is compiled from that has one text and no option.
 pub(crate) fn text_of<A: Allocator + Copy>(
@@ -12,7 +23,7 @@ pub(crate) fn text_of<A: Allocator + Copy>(
     kind: Kind,
     pattern: &[u8],
 ) -> Result<QueryText<A>, AllocError>
-    ensures { IfOk result (λ text. (text.pieces ≡ false) × (text.zero ≡ false)) }
+    ensures { IfOk result (λ text. text.zero ≡ false) }
 {
     let mut lists = Vec::new(alloc);
     lists.push(PatternList::Text(Vec::from_slice(alloc, pattern)?))?;
@@ -33,8 +44,7 @@ pub(crate) fn query_of<A: Allocator + Copy>(
     alloc: A,
     pattern: &[u8],
 ) -> Result<Arc<Query<A>, A>, AllocError>
-    ensures { IfOk result
-        (λ query. ((arc_value query).text.pieces ≡ false) × ((arc_value query).text.zero ≡ false)) }
+    ensures { IfOk result (λ query. (arc_value query).text.zero ≡ false) }
 {
     match Query::compile(alloc, text_of(alloc, Kind::Fixed, pattern)?) {
         Ok(query) => {

@@ -3,24 +3,14 @@ ghost use Rattle.std.specs.Prelude.{◌≡◌, ℕ, ◌+◌, ◌<◌, ◌≤◌,
 ghost use Rattle.std.specs.Arc.{arc_value};
 ghost use Rattle.pg_tests.specs.Reading.{IsReading};
 
-use crate::fixtures::{query_of, search};
+use crate::fixtures::{PLAIN, query_of, search};
 use pg_lines::{Block, BlockResult, Query};
-use pg_seq::{Arrival, Format, MemSink, Mode, Sequencer, SinkFault};
+use pg_seq::{Arrival, MemSink, Sequencer, SinkFault};
 use refusing::Refusing;
 use std::alloc::{AllocError, Allocator};
 use std::process::Abort;
 use std::sync::Arc;
 use std::test::Fail;
-
-/// Selected lines and nothing else.
-const PLAIN: Format = Format {
-    names: false,
-    numbers: false,
-    mode: Mode::Rows,
-    limit: None,
-    before: None,
-    after: None,
-};
 
 /// All that is written, where the lines are selected.
 const OUTPUT: &[u8] = b"xa\nxb\nxc\n";
@@ -30,8 +20,7 @@ fn open_file<A: Allocator + Copy>(
     alloc: A,
     query: &Arc<Query<A>, A>,
 ) -> Result<Sequencer<A>, AllocError>
-    requires pieces { (arc_value query.now).text.pieces ≡ false }
-    requires zero { (arc_value query.now).text.zero ≡ false }
+    requires { (arc_value query.now).text.zero ≡ false }
     ensures { IfOk result (λ sequencer. IsReading sequencer 0 0) }
 {
     let searched: &Query<A> = query;
@@ -98,7 +87,6 @@ fn plan_lines<A: Allocator + Copy>(
     query: &Arc<Query<A>, A>,
     letters: &[u8],
 ) -> Result<(Sequencer<A>, bool), AllocError>
-    requires pieces { (arc_value query.now).text.pieces ≡ false }
     requires zero { (arc_value query.now).text.zero ≡ false }
     requires few { length letters.now ≤ 100 }
 {

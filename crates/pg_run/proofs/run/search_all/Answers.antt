@@ -4,7 +4,7 @@ use Rattle.std.proofs.lemmas.List.{append-nil, length-take-le}
 use Rattle.pg_lines.specs.Search.{terminator}
 use Rattle.pg_rows.specs.Sink.{TakesPart}
 use Rattle.pg_rows.proofs.SinkLemmas.{on_err}
-use Rattle.pg_run.specs.Run.{Reads, IsTooLong, aimed, output_of}
+use Rattle.pg_run.specs.Run.{Reads, IsTooLong, aimed, whole_output}
 use Rattle.pg_run.proofs.ReadLemmas.{reads_on, reads_piece, reads_part, reads_few, line_too_long, file_too_long}
 use Rattle.pg_run.proofs.HoldLemmas.{cut_long}
 use Rattle.pg_run.proofs.run.search_all.Goals as goal
@@ -16,7 +16,7 @@ returns-in_err-feed-clause-part g c = λ aim h e.
     let given = (g.S.Store.past c.loop-count.store).given in
     let on = reads_on c.loop-count.cutter c.loop-count.searcher (aimed aim given) piece before
     (c.loop-count.invariant.reads aim h e) in
-    let P : List ℕ → Type 0 = λ file. TakesPart (output_of aim.query file) aim.before before in
+    let P : List ℕ → Type 0 = λ file. TakesPart (whole_output aim.task file) aim.before before in
     on_err (P (g.S.Store.past c.read.new.self).given) c.from_residual.result
     (subst P (sym c.in-Ok.ensures.given)
     (reads_part c.loop-count.cutter c.loop-count.searcher (aimed aim (given ++ piece)) piece before on))
@@ -31,7 +31,7 @@ returns-in_err-feed-clause-long g c = λ aim h e is.
     let searcher = c.loop-count.searcher in
     let on : Reads cutter searcher more piece before =
     reads_on cutter searcher (aimed aim given) piece before (c.loop-count.invariant.reads aim h e) in
-    let P : List ℕ → Type 0 = λ file. IsTooLong (terminator aim.query) file in
+    let P : List ℕ → Type 0 = λ file. IsTooLong (terminator aim.task.query) file in
     subst P (sym c.in-Ok.ensures.given)
     (elim (cut_long c.from_residual.result c.in_err-feed.field-0.0 c.from_residual.ensures.1 is) [
       | inl line ↦ line_too_long cutter searcher more piece piece [] before on (sym (append-nil piece))
@@ -118,6 +118,6 @@ returns-in_err-search_ready-clause-part g c = λ aim h e.
     let fed = reads_piece c.loop-count.cutter c.feed.new.self c.loop-count.searcher more piece piece [] before on
     (sym (append-nil piece)) (c.in_ok-feed.ensures.ok on.fed on.stands) in
     let P : List ℕ → Type 0 =
-    λ file. TakesPart (output_of aim.query file) aim.before (g.W.Sink.taken c.search_ready.new.out) in
+    λ file. TakesPart (whole_output aim.task file) aim.before (g.W.Sink.taken c.search_ready.new.out) in
     on_err (P (g.S.Store.past c.read.new.self).given) c.from_residual-in_err-search_ready.result
     (subst P (sym c.in-Ok.ensures.given) (c.in_err-search_ready.ensures.part more [] fed))

@@ -1,7 +1,7 @@
 use Rattle.std.proofs.Common.{◌∙◌, refl}
 use Rattle.pg_rows.specs.Sink.{TakesPart}
 use Rattle.pg_rows.proofs.SinkLemmas.{on_err}
-use Rattle.pg_run.specs.Run.{output_of}
+use Rattle.pg_run.specs.Run.{whole_output}
 use Rattle.pg_run.proofs.ReadLemmas.{next_in_reads, reads_more, reads_none, next_part}
 use Rattle.pg_run.proofs.run.search_ready.Goals as goal
 
@@ -14,7 +14,7 @@ search-requires g c =
     let r = c.loop-block.invariant.reads aim c.requires.1 c.requires.2 in
     let next = c.in-Some.ensures.next r.fed r.stands in
     let n = next_in_reads c.loop-block.cutter c.loop-block.searcher aim c.requires.1 _ r c.in-Some.block next in
-    (aim.query, r.fed.taken, (r.holds, n))
+    (aim.task, r.fed.taken, aim.before, (r.holds, n))
 
 pub loop-block-preserved : goal.loop-block-preserved
 loop-block-preserved g c = record {
@@ -22,9 +22,9 @@ loop-block-preserved g c = record {
       let r = c.loop-block.invariant.reads aim rest h in
       let n = next_in_reads c.loop-block.cutter c.loop-block.searcher aim rest _ r c.in-Some.block
       (c.in-Some.ensures.next r.fed r.stands) in
-      let o = c.in_ok-search.ensures.ok aim.query r.fed.taken (r.holds, n) in
       reads_more c.loop-block.cutter _ c.loop-block.searcher _ aim rest _ _ r c.in-Some.block
-      (c.in-Some.ensures.stands r.fed r.stands) o.0 o.1;
+      (c.in-Some.ensures.stands r.fed r.stands)
+      (c.in_ok-search.ensures.ok aim.task r.fed.taken aim.before (r.holds, n));
   no_failure = c.in_ok-search.ensures.no_failure ∙ c.loop-block.invariant.no_failure;
 }
 
@@ -34,10 +34,9 @@ returns-in_err-search-clause-part g c = λ aim rest h.
     let next = c.in-Some.ensures.next r.fed r.stands in
     let n = next_in_reads c.loop-block.cutter c.loop-block.searcher aim rest _ r c.in-Some.block next in
     let after = g.W.Sink.taken c.search.new.out in
-    on_err (TakesPart (output_of aim.query aim.file) aim.before after) c.from_residual.result
-    (next_part c.loop-block.cutter c.loop-block.searcher aim rest
-    (g.W.Sink.taken c.loop-block.out) after r c.in-Some.block next
-    (c.in_err-search.ensures.part aim.query r.fed.taken (r.holds, n)))
+    on_err (TakesPart (whole_output aim.task aim.file) aim.before after) c.from_residual.result
+    (next_part c.loop-block.cutter c.loop-block.searcher aim rest (g.W.Sink.taken c.loop-block.out) after r
+    c.in-Some.block next (c.in_err-search.ensures.part aim.task r.fed.taken aim.before (r.holds, n)))
 
 pub returns-clause-ok : goal.returns-clause-ok
 returns-clause-ok g c = λ aim rest h.
