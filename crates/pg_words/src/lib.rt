@@ -4,12 +4,15 @@
 //! [`Request`] is what they ask for.
 #![tactic(auto)]
 
+mod command;
 mod operands;
+mod options;
 mod request;
 mod split;
 mod usage;
 mod words;
 
+pub use options::Options;
 pub use request::Request;
 pub use split::Words;
 pub use usage::{UsageFault, check_usage};
