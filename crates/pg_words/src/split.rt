@@ -125,8 +125,8 @@ fn value_start(word: &str) -> usize
     ensures exact { result ≡ value_start word.now }
     ensures boundary { result ≤ length word.now → (0 < result) × (slice_index word.now (result - 1) < 128) }
 {
-    for (at, byte) in word.as_bytes().iter().enumerate() {
-        if has_value(*byte) {
+    for (at, letter) in word.as_bytes().iter().enumerate() {
+        if has_value(*letter) {
             return at + 1;
         }
     }
