@@ -4,6 +4,9 @@ use crate::options::Options;
 use clap::{Arg, ArgAction, ArgMatches, Command};
 use std::alloc::{AllocError, Global};
 
+/// The largest block size: 2^24 bytes.
+pub const MAX_BLOCK: u32 = 16_777_216;
+
 /// The options and operands of a search.
 pub fn search_command<'a>(alloc: Global) -> Result<Command<'a>, AllocError> {
     let command = Command::new(alloc, "pargrep")
@@ -78,7 +81,7 @@ fn block_option<'a>(alloc: Global) -> Arg<'a> {
         .long("block")
         .value_name("N")
         .action(ArgAction::Set)
-        .value_parser(clap::value_parser!(u32).range(1..=16_777_216))
+        .value_parser(clap::value_parser!(u32).range(1..=i64::from(MAX_BLOCK)))
 }
 
 fn operand<'a>(alloc: Global, name: &'a str) -> Arg<'a> {

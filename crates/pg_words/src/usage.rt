@@ -1,4 +1,4 @@
-//! Words that `clap` accepts and that ask for nothing.
+//! Words that `clap` accepts and that exclude one another or ask for nothing.
 ghost use Rattle.std.specs.Prelude.{◌≡◌, ◌<◌, ◌+◌, OnOk, length};
 ghost use Rattle.std.specs.Result.{result_err};
 ghost use Rattle.pg_words.specs.Usage.{usage_fault, usage_text};

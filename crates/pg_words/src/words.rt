@@ -2,7 +2,7 @@
 ghost use Rattle.std.specs.Prelude.{◌≡◌};
 ghost use Rattle.pg_words.specs.declared.words.WordsFault.TheVariants.{OutOfMemory, Usage};
 
-use crate::command::{options_of, search_command};
+use crate::command::{MAX_BLOCK, options_of, search_command};
 use crate::operands::place_operands;
 use crate::request::Request;
 use crate::split::Words;
@@ -14,15 +14,12 @@ use std::alloc::{AllocError, AllocFailed, Global};
 /// The block size where --block isn't given, in bytes.
 const DEFAULT_BLOCK: u32 = 65_536;
 
-/// The largest block size: 2^24 bytes.
-const MAX_BLOCK: u32 = 16_777_216;
-
 /// Why there is no request.
 #[derive(Drop)]
 pub enum WordsFault {
     /// They aren't the command's. The text says why, and ends with a newline.
     Refused(String),
-    /// They are the command's, and ask for nothing.
+    /// They are the command's, and exclude one another or ask for nothing.
     Usage(UsageFault),
     /// A request for memory was refused.
     OutOfMemory,
@@ -56,13 +53,14 @@ impl<T: Drop> From<AllocFailed<T>> for WordsFault {
 ///
 /// `pargrep [options] [PATTERN] [FILE]`: PATTERN is the first operand where neither -e nor -f is
 /// given. Options may stand behind operands, until `--`. Of an option that is given twice the last
-/// one counts; -e and -f collect.
+/// one counts; -e and -f collect. -C gives the lines before and after where -B or -A doesn't.
 ///
 /// # Errors
 ///
-/// `Refused` where the words aren't as above, hold an option that isn't known, or give --block no
-/// number from 1 to 2^24. `Usage` where they are, by `check_usage`. `OutOfMemory` where a request
-/// for memory was refused.
+/// `Refused` where the words aren't as above, hold an option that isn't known (-h asks for no help),
+/// or give an option no number in its range: --block 1 to 2^24, -m 1 to 2^32 - 1, -A 0 to 2^32 - 1,
+/// -B and -C 0 to 65,535. `Usage` where `clap` takes them and [`check_usage`] finds a fault.
+/// `OutOfMemory` where a request for memory was refused.
 pub fn read_words<'a>(alloc: Global, words: &'a Words<'_>) -> Result<Request<'a>, WordsFault> {
     let mut command = search_command(alloc)?;
     match command.try_get_matches_from_mut(words.as_slice()) {
