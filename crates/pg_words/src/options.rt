@@ -8,33 +8,33 @@ use pg_syntax::Kind;
 /// The options that exclude one another or decide how rows look, as they are given.
 #[derive(Clone, Copy, Debug)]
 pub struct Options {
-    /// -E
+    /// -E: extended expressions.
     pub extended: bool,
-    /// -F
+    /// -F: fixed strings.
     pub fixed: bool,
-    /// -v
+    /// -v: the lines without a match.
     pub invert: bool,
-    /// -o
+    /// -o: the matched parts of lines.
     pub pieces: bool,
-    /// -c
+    /// -c: the number of lines.
     pub count: bool,
-    /// -l
+    /// -l: the file's name.
     pub list: bool,
-    /// -q
+    /// -q: nothing.
     pub quiet: bool,
-    /// -n
+    /// -n: the lines' numbers.
     pub numbers: bool,
-    /// -H
+    /// -H: the file's name before each row.
     pub names: bool,
-    /// -h
+    /// -h: no names before rows.
     pub no_names: bool,
-    /// -m N
+    /// -m N: N selected lines at most; 0 counts as 1.
     pub limit: Option<u32>,
-    /// -A N
+    /// -A N: the N lines behind each selected line.
     pub after: Option<u32>,
-    /// -B N
+    /// -B N: the N lines before it.
     pub before: Option<u16>,
-    /// -C N
+    /// -C N: both, where the other option isn't given.
     pub around: Option<u16>,
 }
 

@@ -1,5 +1,6 @@
 //! Words of a command line, cut so that each value of an option's letter stands alone.
-ghost use Rattle.std.specs.Prelude.{◌≡◌, ◌∷◌, ◌++◌, ◌≤◌, ◌<◌, ◌-◌, ◌==◌, if◌then◌else◌, IfOk, map, length, slice_index, true};
+ghost use Rattle.std.specs.Prelude.{◌≡◌, ◌∷◌, ◌++◌, ◌≤◌, ◌<◌, ◌-◌, ◌==◌, if◌then◌else◌, true};
+ghost use Rattle.std.specs.Prelude.{IfOk, map, length, slice_index};
 ghost use Rattle.std.specs.String.{string_bytes};
 ghost use Rattle.pg_words.specs.Split.{bundle_pieces, cut, has_value, is_bundle, is_mark, pieces, place_behind};
 ghost use Rattle.pg_words.specs.Split.{value_start};
