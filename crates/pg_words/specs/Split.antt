@@ -1,6 +1,7 @@
 -- Words of a command line, cut.
-use Rattle.std.specs.Prelude.{ℕ, ◌+◌, ◌==◌, nat_lt, Bool, ◌&&◌, ◌||◌, not, if◌then◌else◌}
-use Rattle.std.specs.Prelude.{List, [], ◌∷◌, ◌++◌, length, slice_index, take, drop}
+use Rattle.std.specs.Prelude.{ℕ, ◌+◌, ◌==◌, nat_lt, Bool, ◌&&◌, not, if◌then◌else◌}
+use Rattle.std.specs.Prelude.{List, [], ◌∷◌, ◌++◌, length, slice_index, take, drop, codes}
+use Rattle.std.specs.List.{list_any, position_or_len}
 use Rattle.pg_words.specs.declared.split.Place.{Place}
 use Rattle.pg_words.specs.declared.split.Place.TheVariants.{Free, Value, Operand}
 
@@ -12,18 +13,13 @@ is_bundle word = (slice_index word 0 == 45) && not (slice_index word 1 == 45)
 abbrev pub is_mark : List ℕ → Bool
 is_mark word = (length word == 2) && ((slice_index word 0 == 45) && (slice_index word 1 == 45))
 
--- e and f, whose options have a value
+-- the letters whose options have a value
 abbrev pub has_value : ℕ → Bool
-has_value letter = (letter == 101) || (letter == 102)
+has_value letter = list_any (λ other. letter == other) (codes "efmABC")
 
--- the offset behind the first such letter, counted from `at`; one more than the end where there is none
-abbrev pub value_start_from : ℕ → List ℕ → ℕ
-value_start_from at [] = at + 1
-value_start_from at (byte ∷ rest) = if has_value byte then at + 1 else value_start_from (at + 1) rest
-
--- the offset at which a bundle's value begins
+-- the offset behind the first such letter of a bundle; one more than the end where there is none
 abbrev pub value_start : List ℕ → ℕ
-value_start word = value_start_from 0 word
+value_start word = position_or_len has_value word + 1
 
 -- a bundle and its value, where it holds one
 abbrev pub bundle_pieces : List ℕ → List (List ℕ)

@@ -1,9 +1,25 @@
--- The texts of usage faults.
-use Rattle.std.specs.Prelude.{ℕ, List, codes}
+-- Usage faults: when each is told, and its text.
+use Rattle.std.specs.Prelude.{ℕ, ◌==◌, ◌&&◌, if◌then◌else◌, Option, Some, None, List, codes}
+use Rattle.pg_words.specs.declared.options.Options.{Options}
 use Rattle.pg_words.specs.declared.usage.UsageFault.{UsageFault}
-use Rattle.pg_words.specs.declared.usage.UsageFault.TheVariants.{ExtendedAndFixed, NoPattern}
+use Rattle.pg_words.specs.declared.usage.UsageFault.TheVariants.{SeveralModes, ExtendedAndFixed, NamesAndNoNames}
+use Rattle.pg_words.specs.declared.usage.UsageFault.TheVariants.{ExcludedByPieces, NoPattern}
+use Rattle.pg_words.specs.Options.{has_excluded_by_pieces, has_several_modes}
+
+-- what is wrong with options beside so many texts and files of patterns: the first of these
+abbrev pub usage_fault : Options → ℕ → Option UsageFault
+usage_fault options patterns =
+    if has_several_modes options then Some SeveralModes
+    else (if options.extended && options.fixed then Some ExtendedAndFixed
+    else (if options.names && options.no_names then Some NamesAndNoNames
+    else (if options.pieces && has_excluded_by_pieces options then Some ExcludedByPieces
+    else (if patterns == 0 then Some NoPattern
+    else None))))
 
 -- what is told of a usage fault
 abbrev pub usage_text : UsageFault → List ℕ
+usage_text SeveralModes = codes "only one of -c, -l and -q may be given"
 usage_text ExtendedAndFixed = codes "only one of -E and -F may be given"
+usage_text NamesAndNoNames = codes "only one of -H and -h may be given"
+usage_text ExcludedByPieces = codes "-o excludes -v, -c, -l, -q, -A, -B and -C"
 usage_text NoPattern = codes "no pattern given"

@@ -26,7 +26,7 @@ pub struct Request<'a> {
     pub zero: bool,
     /// -o: the matched parts of selected lines have rows, not the lines.
     pub pieces: bool,
-    /// How rows look: -c, -l, -q, -n, -m, -A, -B, -C, -H and -h.
+    /// How rows look: -c, -l, -q, -n, -m, -A, -B, -C, -H and -h. Without -H they have no names.
     pub format: Format,
     /// FILE: the path of the file that is searched, or `-` for standard input, also where no FILE is
     /// given.

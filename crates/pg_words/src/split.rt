@@ -1,14 +1,16 @@
-//! Words of a command line, cut so that a value of -e or -f stands alone.
-ghost use Rattle.std.specs.Prelude.{◌≡◌, ◌∷◌, ◌++◌, ◌≤◌, ◌<◌, ◌-◌, ◌==◌, if◌then◌else◌, IfOk, map, length, slice_index};
+//! Words of a command line, cut so that each value of an option's letter stands alone.
+ghost use Rattle.std.specs.Prelude.{◌≡◌, ◌∷◌, ◌++◌, ◌≤◌, ◌<◌, ◌-◌, ◌==◌, if◌then◌else◌, true};
+ghost use Rattle.std.specs.Prelude.{IfOk, map, length, slice_index};
 ghost use Rattle.std.specs.String.{string_bytes};
-ghost use Rattle.pg_words.specs.Split.{bundle_pieces, cut, is_bundle, is_mark, pieces, place_behind, value_start};
+ghost use Rattle.pg_words.specs.Split.{bundle_pieces, cut, has_value, is_bundle, is_mark, pieces, place_behind};
+ghost use Rattle.pg_words.specs.Split.{value_start};
 
 use std::alloc::{AllocError, Global};
 
-/// The words of a command line without the program's name, each value of -e or -f a word of its own:
-/// `-ve=x` is the two words `-ve` and `=x`.
+/// The words of a command line without the program's name, each value of -e, -f, -m, -A, -B or -C a
+/// word of its own: `-ve=x` is the two words `-ve` and `=x`.
 ///
-/// `clap` drops the `=` of `-e=x`, which belongs to the pattern here.
+/// `clap` drops the `=` of `-e=x`, which belongs to the value here.
 #[derive(Drop)]
 pub struct Words<'a> {
     parts: Vec<&'a str>,
@@ -19,7 +21,7 @@ pub struct Words<'a> {
 enum Place {
     /// An option or an operand.
     Free,
-    /// The value of the -e or -f before it.
+    /// The value of the letter that ends the word before it.
     Value,
     /// An operand, since it stands behind `--`.
     Operand,
@@ -118,15 +120,24 @@ fn byte_at(word: &str, at: usize) -> u8
     word.as_bytes().get(at).copied().unwrap_or(0)
 }
 
-/// The offset behind the first -e or -f of a bundle; one more than the end where it has neither.
+/// The offset behind the first letter of a bundle that has a value; one more than the end where none
+/// has.
 fn value_start(word: &str) -> usize
     ensures exact { result ≡ value_start word.now }
     ensures boundary { result ≤ length word.now → (0 < result) × (slice_index word.now (result - 1) < 128) }
 {
-    for (at, byte) in word.as_bytes().iter().enumerate() {
-        if matches!(*byte, b'e' | b'f') {
+    for (at, letter) in word.as_bytes().iter().enumerate() {
+        if has_value(*letter) {
             return at + 1;
         }
     }
     word.len() + 1
+}
+
+/// Whether the letter's option has a value.
+fn has_value(letter: u8) -> bool
+    ensures exact { result ≡ has_value letter }
+    ensures ascii { result ≡ true → letter < 128 }
+{
+    matches!(letter, b'e' | b'f' | b'm' | b'A' | b'B' | b'C')
 }

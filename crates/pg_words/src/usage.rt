@@ -1,13 +1,22 @@
-//! Words that `clap` accepts and that ask for nothing.
-ghost use Rattle.std.specs.Prelude.{◌≡◌, ◌<◌, ◌+◌, ◌&&◌, true, false, length};
-ghost use Rattle.pg_words.specs.Usage.{usage_text};
+//! Words that `clap` accepts and that exclude one another or ask for nothing.
+ghost use Rattle.std.specs.Prelude.{◌≡◌, ◌<◌, ◌+◌, OnOk, length};
+ghost use Rattle.std.specs.Result.{result_err};
+ghost use Rattle.pg_words.specs.Usage.{usage_fault, usage_text};
 
-/// What is wrong with words that are the command's. Of two faults the one that stands first here is
-/// told.
+use crate::options::Options;
+
+/// What is wrong with words that are the command's. Of several faults the one that stands first here
+/// is told.
 #[derive(Clone, Copy, Debug, PartialEq, Eq)]
 pub enum UsageFault {
+    /// More than one of -c, -l and -q is given.
+    SeveralModes,
     /// Both -E and -F are given.
     ExtendedAndFixed,
+    /// Both -H and -h are given.
+    NamesAndNoNames,
+    /// Beside -o one of -v, -c, -l, -q, -A, -B and -C is given.
+    ExcludedByPieces,
     /// There is no -e, no -f and no operand.
     NoPattern,
 }
@@ -18,32 +27,36 @@ impl UsageFault {
         ensures { result.now ≡ usage_text self }
     {
         match self {
+            UsageFault::SeveralModes => "only one of -c, -l and -q may be given",
             UsageFault::ExtendedAndFixed => "only one of -E and -F may be given",
+            UsageFault::NamesAndNoNames => "only one of -H and -h may be given",
+            UsageFault::ExcludedByPieces => "-o excludes -v, -c, -l, -q, -A, -B and -C",
             UsageFault::NoPattern => "no pattern given",
         }
     }
 }
 
-/// Judges words that `clap` accepted, by whether -E and -F are given, and by the texts and the files
-/// of patterns.
+/// Judges words that `clap` accepted, by the options, and by the texts and the files of patterns.
 ///
 /// # Errors
 ///
-/// `ExtendedAndFixed` where both -E and -F are given, and else `NoPattern` where there is neither a
-/// text nor a file.
-pub fn check_usage(
-    extended: bool,
-    fixed: bool,
-    texts: &[&str],
-    files: &[&str],
-) -> Result<(), UsageFault>
-    ensures both { (extended && fixed) ≡ true → result ≡ Err UsageFault.ExtendedAndFixed }
-    ensures neither { (extended && fixed) ≡ false → length texts.now + length files.now ≡ 0 →
-        result ≡ Err UsageFault.NoPattern }
-    ensures fine { (extended && fixed) ≡ false → 0 < length texts.now + length files.now → result ≡ Ok tt }
+/// The first fault that there is, in the order of [`UsageFault`]: `NoPattern` where there is neither a
+/// text nor a file, and no other fault.
+pub fn check_usage(options: &Options, texts: &[&str], files: &[&str]) -> Result<(), UsageFault>
+    ensures exact { result_err result ≡ usage_fault options.now (length texts.now + length files.now) }
+    ensures some_pattern { OnOk result (0 < length texts.now + length files.now) }
 {
-    if extended && fixed {
+    if options.has_several_modes() {
+        return Err(UsageFault::SeveralModes);
+    }
+    if options.extended && options.fixed {
         return Err(UsageFault::ExtendedAndFixed);
+    }
+    if options.names && options.no_names {
+        return Err(UsageFault::NamesAndNoNames);
+    }
+    if options.pieces && options.has_excluded_by_pieces() {
+        return Err(UsageFault::ExcludedByPieces);
     }
     if texts.is_empty() && files.is_empty() {
         return Err(UsageFault::NoPattern);

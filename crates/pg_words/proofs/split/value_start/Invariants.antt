@@ -1,6 +1,7 @@
-use Rattle.std.proofs.Common.{◌≡◌, drop}
-use Rattle.pg_words.specs.Split.{value_start, value_start_from}
+use Rattle.std.proofs.Common.{◌≡◌, ◌+◌, drop}
+use Rattle.std.specs.List.{position_or_len}
+use Rattle.pg_words.specs.Split.{has_value}
 use Rattle.pg_words.proofs.split.value_start.Given as goal
 
 abbrev pub invariant-loop-at : goal.invariant-loop-at
-invariant-loop-at l = value_start_from l.at (drop l.at l.word) ≡ value_start l.word
+invariant-loop-at l = l.at + position_or_len has_value (drop l.at l.word) ≡ position_or_len has_value l.word

@@ -1,0 +1,108 @@
+//! The options for the kind of the patterns and for how rows look.
+ghost use Rattle.std.specs.Prelude.{◌≡◌};
+ghost use Rattle.pg_rows.specs.Output.{HasRoom};
+
+use pg_rows::{Format, Mode};
+use pg_syntax::Kind;
+
+/// The options that exclude one another or decide how rows look, as they are given.
+#[derive(Clone, Copy, Debug)]
+pub struct Options {
+    /// -E: extended expressions.
+    pub extended: bool,
+    /// -F: fixed strings.
+    pub fixed: bool,
+    /// -v: the lines without a match.
+    pub invert: bool,
+    /// -o: the matched parts of lines.
+    pub pieces: bool,
+    /// -c: the number of lines.
+    pub count: bool,
+    /// -l: the file's name.
+    pub list: bool,
+    /// -q: nothing.
+    pub quiet: bool,
+    /// -n: the lines' numbers.
+    pub numbers: bool,
+    /// -H: the file's name before each row.
+    pub names: bool,
+    /// -h: no names before rows.
+    pub no_names: bool,
+    /// -m N: N selected lines at most; 0 counts as 1.
+    pub limit: Option<u32>,
+    /// -A N: the N lines behind each selected line.
+    pub after: Option<u32>,
+    /// -B N: the N lines before it.
+    pub before: Option<u16>,
+    /// -C N: both, where the other option isn't given.
+    pub around: Option<u16>,
+}
+
+impl Options {
+    ghost use Rattle.pg_words.specs.Options.{format_of, has_context, has_excluded_by_pieces};
+    ghost use Rattle.pg_words.specs.Options.{has_several_modes, kind_of, mode_of};
+
+    /// The syntax of the patterns, where not both -E and -F are given.
+    pub(crate) fn kind(&self) -> Kind
+        ensures { result ≡ kind_of self.now }
+    {
+        if self.extended {
+            Kind::Extended
+        } else if self.fixed {
+            Kind::Fixed
+        } else {
+            Kind::Basic
+        }
+    }
+
+    /// How rows look, where none of the options excludes another.
+    pub(crate) fn format(&self) -> Format
+        ensures exact { result ≡ format_of self.now }
+        ensures some_limit { HasRoom result }
+    {
+        Format {
+            names: self.names && !self.no_names,
+            numbers: self.numbers,
+            mode: self.mode(),
+            limit: self.limit.map(|lines| lines.max(1)),
+            before: self.before.or(self.around),
+            after: self.after.or(self.around.map(u32::from)),
+        }
+    }
+
+    /// What is written, where at most one of -c, -l and -q is given.
+    fn mode(&self) -> Mode
+        ensures { result ≡ mode_of self.now }
+    {
+        if self.count {
+            Mode::Count
+        } else if self.list {
+            Mode::List
+        } else if self.quiet {
+            Mode::Quiet
+        } else {
+            Mode::Rows
+        }
+    }
+
+    /// Whether more than one of -c, -l and -q is given.
+    pub(crate) fn has_several_modes(&self) -> bool
+        ensures { result ≡ has_several_modes self.now }
+    {
+        self.count && self.list || self.count && self.quiet || self.list && self.quiet
+    }
+
+    /// Whether one of -A, -B and -C is given.
+    fn has_context(&self) -> bool
+        ensures { result ≡ has_context self.now }
+    {
+        self.after.is_some() || self.before.is_some() || self.around.is_some()
+    }
+
+    /// Whether an option is given that -o excludes.
+    pub(crate) fn has_excluded_by_pieces(&self) -> bool
+        ensures { result ≡ has_excluded_by_pieces self.now }
+    {
+        self.invert || self.count || self.list || self.quiet || self.has_context()
+    }
+}
