@@ -21,7 +21,7 @@ use Rattle.pg_rows.specs.Sink.{IsBeginning, TakesPart}
 use Rattle.pg_seq.specs.declared.answers.Arrival.TheVariants.{Taken}
 use Rattle.pg_seq.specs.declared.answers.SinkFault.{SinkFault}
 use Rattle.pg_seq.specs.declared.answers.SinkFault.TheVariants.{WriteFailed, Failed}
-use Rattle.pg_seq.specs.declared.sequencer.Sequencer.{Sequencer}
+use Rattle.pg_seq.specs.declared.assembler.Assembler.{Assembler}
 use Rattle.pg_seq.specs.Plan.{Announces, Ends, MayFollow, with_bytes, with_end, announced, entries_of}
 use Rattle.pg_seq.specs.History.{Past, planned, arrived, plan, answer, answer_after, front_after, handed}
 use Rattle.pg_seq.specs.History.{handed_after, taken_of, taken_after, is_taken, IsComplete, status_of}
@@ -127,7 +127,7 @@ module _ {A : Type 0} {s : Searcher A} {task : Task} {blocks : List BlockData} {
 
   -- the result of the block that was announced is taken
   is_first : (b : BlockData) → IsNextBlock task.query blocks b
-      → (middle : Sequencer A) → Stands middle (planned h.past (Announces b)) → (r : Searched)
+      → (middle : Assembler A) → Stands middle (planned h.past (Announces b)) → (r : Searched)
       → r ≡ record { query = task.query.text; block = b } → answer (planned h.past (Announces b)) r ≡ Taken
   is_first b n middle stands r is =
       let past = planned h.past (Announces b) in
@@ -145,7 +145,7 @@ module _ {A : Type 0} {s : Searcher A} {task : Task} {blocks : List BlockData} {
 
   -- one more block was searched
   pub taken_holds : (s' : Searcher A) (b : BlockData) → IsNextBlock task.query blocks b
-      → (middle : Sequencer A) → Stands middle (planned h.past (Announces b)) → (r : Searched)
+      → (middle : Assembler A) → Stands middle (planned h.past (Announces b)) → (r : Searched)
       → r ≡ record { query = task.query.text; block = b }
       → Stands s'.sequencer (arrived (planned h.past (Announces b)) r)
       → (arc_value s'.query).text ≡ (arc_value s.query).text → Holds s' task (blocks ++ b ∷ []) before after

@@ -10,7 +10,7 @@ use Rattle.pg_lines.specs.Search.{terminator}
 use Rattle.pg_seq.specs.Plan.{Opens, Announces, Ends, MayFollow, last_blocks}
 use Rattle.pg_seq.specs.History.{planned, plan}
 use Rattle.pg_seq.specs.Standing.{Stands}
-use Rattle.pg_seq.specs.declared.sequencer.Sequencer.{Sequencer}
+use Rattle.pg_seq.specs.declared.assembler.Assembler.{Assembler}
 use Rattle.pg_tests.specs.Reading.{IsReading}
 
 abbrev AreShort : ℕ → List (List ℕ) → Type 0
@@ -43,7 +43,7 @@ abbrev pub line_block : ℕ → ℕ → ℕ → BlockData
 line_block file number letter = record { file = file; number = number; bytes = 120 ∷ letter ∷ 10 ∷ [] }
 
 -- it may be announced
-pub may_announce : {A : Type 0} (s : Sequencer A) (f n letter : ℕ) (r : IsReading s f n) → n < 100
+pub may_announce : {A : Type 0} (s : Assembler A) (f n letter : ℕ) (r : IsReading s f n) → n < 100
     → MayFollow (terminator r.past.query) (plan r.past) (Announces (line_block f n letter))
 may_announce s f n letter r few =
     let P : ℕ → Type 0 = λ end. AllByRecursion (λ b. EndsWith end b.bytes) (last_blocks (plan r.past)) in (
@@ -66,7 +66,7 @@ all_push [] b h e = (e, tt)
 all_push (x ∷ bs) b h e = (h.0, all_push bs b h.1 e)
 
 -- it was announced
-pub announced : {A : Type 0} (s s' : Sequencer A) (f n letter : ℕ) (r : IsReading s f n)
+pub announced : {A : Type 0} (s s' : Assembler A) (f n letter : ℕ) (r : IsReading s f n)
     → Stands s' (planned r.past (Announces (line_block f n letter))) → IsReading s' f (n + 1)
 announced s s' f n letter r h =
     let blocks = last_blocks (plan r.past) in
@@ -84,7 +84,7 @@ announced s s' f n letter r h =
     }
 
 -- the next file was opened
-pub opened_next : {A : Type 0} (s s' : Sequencer A) (f n : ℕ) (r : IsReading s f n)
+pub opened_next : {A : Type 0} (s s' : Assembler A) (f n : ℕ) (r : IsReading s f n)
     → Stands s' (planned (planned r.past (Ends false)) (Opens (102 ∷ []))) → IsReading s' (f + 1) 0
 opened_next s s' f n r h = record {
   past = planned (planned r.past (Ends false)) (Opens (102 ∷ []));
@@ -98,15 +98,15 @@ opened_next s s' f n r h = record {
 }
 
 -- once a file has ended, the next one may be opened
-pub may_open : {A : Type 0} (s : Sequencer A) (f n : ℕ) (r : IsReading s f n) → f < 100
+pub may_open : {A : Type 0} (s : Assembler A) (f n : ℕ) (r : IsReading s f n) → f < 100
     → MayFollow (terminator r.past.query) (plan (planned r.past (Ends false))) (Opens (102 ∷ []))
 may_open s f n r few = (refl, omega (arith, r.last))
 
 -- the same of values that are equal
-pub reading_as : {A : Type 0} (s t : Sequencer A) (f g n m : ℕ) → s ≡ t → f ≡ g → n ≡ m → IsReading t g m
+pub reading_as : {A : Type 0} (s t : Assembler A) (f g n m : ℕ) → s ≡ t → f ≡ g → n ≡ m → IsReading t g m
     → IsReading s f n
 reading_as {A = A} s t f g n m same file number r =
-    let S : Sequencer A → Type 0 = λ x. IsReading x f n in
+    let S : Assembler A → Type 0 = λ x. IsReading x f n in
     let F : ℕ → Type 0 = λ x. IsReading t x n in
     let N : ℕ → Type 0 = λ x. IsReading t g x in
     subst S (sym same) (subst F (sym file) (subst N (sym number) r))

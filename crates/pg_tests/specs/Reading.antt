@@ -6,11 +6,11 @@ use Rattle.pg_lines.specs.Search.{terminator}
 use Rattle.pg_seq.specs.Plan.{is_open, opened, last_blocks}
 use Rattle.pg_seq.specs.History.{Past, plan}
 use Rattle.pg_seq.specs.Standing.{Stands}
-use Rattle.pg_seq.specs.declared.sequencer.Sequencer.{Sequencer}
+use Rattle.pg_seq.specs.declared.assembler.Assembler.{Assembler}
 
 -- Lines end with newlines, the file of this number is open, and so many blocks of it were announced, each a line of
 -- three bytes.
-pub record IsReading {A : Type 0} (s : Sequencer A) (file count : ℕ) : Type 0 where
+pub record IsReading {A : Type 0} (s : Assembler A) (file count : ℕ) : Type 0 where
   pub past : Past
   pub stands : Stands s past
   pub running : is_open (plan past) ≡ true

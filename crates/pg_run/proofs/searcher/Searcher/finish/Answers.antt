@@ -44,7 +44,3 @@ returns-clause-status g c = λ task blocks before h.
     λ r. MatchOption r (IsComplete past → ⊥) (λ s. IsComplete past × (s ≡ status_of past)) in
     (subst P c.unwrap.ensures (c.status.ensures past d.3)).1 ∙ ended_status h
 
-pub drain-requires : goal.drain-requires
-drain-requires g c =
-    let h = c.requires.3 in
-    (planned h.past (Ends false), c.end.ensures h.past h.stands)

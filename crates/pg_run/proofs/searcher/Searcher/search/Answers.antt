@@ -10,11 +10,6 @@ returns-in_err-take-clause-part g c = λ task blocks before ready.
     on_err (TakesPart (output_so_far task (blocks ++ c.args.block ∷ [])) before (g.W.Sink.taken c.args.out.now))
     c.from_residual.result (part_before ready.0 c.args.block ready.1)
 
-pub drain-requires : goal.drain-requires
-drain-requires g c =
-    let h = c.in_ok-take.ensures c.requires.0 c.requires.1 c.requires.2 _ c.requires.3 in
-    (h.past, h.stands)
-
 pub returns-in_err-drain-clause-part : goal.returns-in_err-drain-clause-part
 returns-in_err-drain-clause-part g c = λ task blocks before ready.
     let h = c.in_ok-take.ensures task blocks before _ ready in
