@@ -1,11 +1,11 @@
 -- The rows of matched parts.
-use Rattle.std.proofs.Common.{◌≡◌, ℕ, zero, suc, ◌+◌, ◌-◌, ◌<◌, ◌≤◌, inl, inr, Bool, true, false, cond, ◌&&◌, nat_lt}
+use Rattle.std.proofs.Common.{◌≡◌, ℕ, zero, suc, ◌+◌, ◌-◌, ◌<◌, ◌≤◌, inl, inr, Bool, true, false, cond, nat_lt}
 use Rattle.std.proofs.Common.{Option, Some, None, List, []}
 use Rattle.std.proofs.Common.{◌∷◌, ◌++◌, length, take, drop, slice_range, map, refl, sym, ap, ◌∙◌, subst, arith}
 use Rattle.std.proofs.Common.{append_assoc, length-append, length-drop, get_or, option_map}
 use Rattle.std.specs.List.{AllByRecursion, flat_map, filter}
 use Rattle.std.proofs.lemmas.Bool.{lt-ltb, le-ltb, and_from, and_left, cases_lt, cases_Bool}
-use Rattle.std.proofs.lemmas.List.{take_at, take_all, take-append-drop, take-append-le, drop-append-le, drop-drop}
+use Rattle.std.proofs.lemmas.List.{take_at, take-append-drop, take-append-le, drop-append-le, drop-drop}
 use Rattle.std.proofs.lemmas.List.{append-nil}
 use Rattle.std.proofs.lemmas.List.Concat.{flat_map-append}
 use Rattle.std.proofs.lemmas.List.Elements.{filter-append}

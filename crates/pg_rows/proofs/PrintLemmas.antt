@@ -1,9 +1,9 @@
 -- The rows of a block, stretch by stretch.
-use Rattle.std.proofs.Common.{◌≡◌, ℕ, zero, suc, ◌+◌, ◌-◌, ◌<◌, ◌≤◌, ◌⊎◌, inl, inr, Bool, true, false, ◌&&◌, cond}
+use Rattle.std.proofs.Common.{◌≡◌, ℕ, ◌+◌, ◌-◌, ◌<◌, ◌≤◌, ◌⊎◌, inl, inr, Bool, true, false, ◌&&◌, cond}
 use Rattle.std.proofs.Common.{nat_lt, min, List, [], ◌∷◌, ◌++◌, length, take, drop, refl, sym, ap, ◌∙◌, subst, arith}
 use Rattle.std.proofs.Common.{append_assoc, length-append, length-drop}
 use Rattle.circular_buffer.specs.Buffer.{keep_last}
-use Rattle.std.proofs.lemmas.List.{append-nil, drop-append-le, drop-drop, drop_all, append_cancel_left}
+use Rattle.std.proofs.lemmas.List.{append-nil, drop-append-le, drop-drop, drop_all}
 use Rattle.std.proofs.Math.Seq.{drop-append_seam}
 use Rattle.pg_lines.specs.Search.{Search, terminator}
 use Rattle.pg_lines.specs.Lines.{lines, AreWhole}
@@ -11,12 +11,12 @@ use Rattle.pg_lines.proofs.LineLemmas.{lines-append}
 use Rattle.pg_rows.specs.declared.format.Format.{Format}
 use Rattle.pg_rows.specs.declared.progress.Progress.{Progress}
 use Rattle.pg_rows.specs.Output.{context, has_context, when, is_below}
-use Rattle.pg_rows.specs.Sink.{IsBeginning, TakesPart}
+use Rattle.pg_rows.specs.Sink.{TakesPart}
 use Rattle.pg_rows.specs.Trail.{Trail, run, run_rows, gap_row, context_rows}
 use Rattle.pg_rows.specs.Cursor.{Cursor}
 use Rattle.pg_rows.specs.Progress.{Tells, Passes, Keeps}
 use Rattle.pg_rows.specs.Stretch.{marked_rows, AllSelected, AreUnkept}
-use Rattle.pg_rows.specs.Printing.{has_gap, gap_of, leading, rows_of_kept, rows_of_passed, IsAt}
+use Rattle.pg_rows.specs.Printing.{gap_of, leading, rows_of_kept, rows_of_passed, IsAt}
 use Rattle.pg_rows.proofs.FoldLemmas.{rows_append}
 use Rattle.pg_rows.proofs.StretchLemmas.{run_append, context_is_marked, passed_rows, passed_trail, kept_lines_rows}
 use Rattle.pg_rows.proofs.StretchLemmas.{kept_trail, unselected_unkept, full_unkept, length_keep_last}
@@ -109,7 +109,7 @@ pub behind_front : (at : ℕ) (bytes front rest : List ℕ) → at ≤ length by
 behind_front at bytes front rest within joins = (
   sym (drop-drop (length front) at bytes) ∙ (ap (drop (length front)) joins ∙ drop-append_seam front rest),
   let left = length-drop at bytes in let e = ap (λ xs. length xs) joins in let s = length-append front rest in omega
-    arith,
+      arith,
 )
 
 -- how many lines of the blocks before were not shown

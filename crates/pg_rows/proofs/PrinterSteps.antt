@@ -1,13 +1,13 @@
 -- What the printer does at a run of selected lines, and behind the last one.
-use Rattle.std.proofs.Common.{◌≡◌, ℕ, ◌+◌, ◌-◌, ◌<◌, ◌≤◌, ◌⊎◌, inl, inr, min, Bool, true, false, cond, nat_eq, eqb}
+use Rattle.std.proofs.Common.{◌≡◌, ℕ, ◌+◌, ◌-◌, ◌<◌, ◌≤◌, ◌⊎◌, inl, inr, min, Bool, true, false, cond, nat_eq}
 use Rattle.std.proofs.Common.{List, [], ◌∷◌, ◌++◌}
 use Rattle.std.proofs.Common.{length, take, drop, slice_range, get_or, refl, sym, ap, ◌∙◌, subst, arith, append_assoc}
 use Rattle.std.proofs.Common.{length-append, length-drop}
 use Rattle.circular_buffer.specs.Buffer.{keep_last}
 use Rattle.std.proofs.lemmas.Bool.{cases_lt, cases_eq, eq-eqb, ne_eqb}
-use Rattle.std.proofs.lemmas.List.{drop_more, drop_all, append-nil, drop-drop, length-take-le}
+use Rattle.std.proofs.lemmas.List.{drop_more, append-nil, drop-drop, length-take-le}
 use Rattle.pg_lines.specs.Search.{SearchText, Search, HasItsTrees, terminator, terminator_of}
-use Rattle.pg_lines.specs.Lines.{lines, AreWhole}
+use Rattle.pg_lines.specs.Lines.{lines}
 use Rattle.pg_lines.specs.Runs.{AreRuns, HasRuns}
 use Rattle.pg_lines.specs.BlockParts.{parts_of_lines, HasParts}
 use Rattle.pg_lines.specs.declared.run.Run.{Run}
@@ -17,17 +17,15 @@ use Rattle.pg_rows.specs.declared.format.Mode.TheVariants.{Rows, Count, List as 
 use Rattle.pg_rows.specs.declared.format.Format.{Format}
 use Rattle.pg_rows.specs.declared.progress.Progress.{Progress}
 use Rattle.pg_rows.specs.declared.printer.Printer.{Printer}
-use Rattle.pg_rows.specs.declared.printer.Printed.{Printed}
 use Rattle.pg_rows.specs.declared.printer.Place.{Place}
 use Rattle.pg_rows.specs.declared.window.Window.{Window}
 use Rattle.pg_rows.specs.Output.{context, is_below, rows_in}
-use Rattle.pg_rows.specs.Sink.{TakesPart}
-use Rattle.pg_rows.specs.Trail.{Trail, run, run_rows, run_pieces}
+use Rattle.pg_rows.specs.Trail.{run_rows, run_pieces}
 use Rattle.pg_rows.specs.Stretch.{part_rows}
 use Rattle.pg_rows.specs.Pieces.{cut_at, HasFound}
 use Rattle.pg_rows.specs.Cursor.{Cursor}
 use Rattle.pg_rows.specs.Window.{held, IsWindow}
-use Rattle.pg_rows.specs.Progress.{Tells, Passes, Keeps, kept_of}
+use Rattle.pg_rows.specs.Progress.{Passes, Keeps, kept_of}
 use Rattle.pg_rows.specs.Printing.{leading, rows_of_passed, rows_of_run, IsAt, ComesNext, EndsKept}
 use Rattle.pg_rows.specs.Remembered.{Remembers, HasLines, ComesLast, Follows, shows_lines, behind_block}
 use Rattle.pg_rows.specs.Remembered.{is_rows, shown_rows}
@@ -36,7 +34,7 @@ use Rattle.pg_rows.proofs.BlockLemmas.{no_run, stretches, full_none, none_full, 
 use Rattle.pg_rows.proofs.PrintLemmas.{at_first, at_last, enough_hidden, passed_step, keep_none}
 use Rattle.pg_rows.proofs.LeadLemmas.{last_of_both}
 use Rattle.pg_rows.proofs.PieceLemmas.{block_pieces}
-use Rattle.pg_rows.proofs.RunSteps.{IsBefore, comes_next, run_step, failed_before}
+use Rattle.pg_rows.proofs.RunSteps.{IsBefore, comes_next, run_step}
 
 -- the printer has written nothing of a block
 pub before_all : {A : Type 0} (s : Printer A) (q : Search) (format : Format) (c : Cursor) (bytes taken : List ℕ)

@@ -1,9 +1,8 @@
 -- From one run of selected lines to the next.
-use Rattle.std.proofs.Common.{◌≡◌, ℕ, ◌+◌, ◌-◌, ◌<◌, ◌≤◌, ◌⊎◌, inl, inr, min, true, false, List, [], ◌∷◌, ◌++◌}
+use Rattle.std.proofs.Common.{◌≡◌, ℕ, ◌+◌, ◌-◌, ◌<◌, ◌≤◌, ◌⊎◌, inl, inr, true, false, List, [], ◌∷◌, ◌++◌}
 use Rattle.std.proofs.Common.{length, take}
-use Rattle.std.proofs.Common.{drop, slice_range, refl, sym, ap, ◌∙◌, subst, arith, append_assoc, length-append}
+use Rattle.std.proofs.Common.{drop, slice_range, refl, sym, ap, ◌∙◌, subst, arith, append_assoc}
 use Rattle.std.proofs.Common.{length-drop}
-use Rattle.circular_buffer.specs.Buffer.{keep_last}
 use Rattle.std.proofs.lemmas.Bool.{cases_lt}
 use Rattle.std.proofs.lemmas.List.{take_at, length-take-le, append_cancel_left}
 use Rattle.std.proofs.lemmas.List.Folds.{drop_split}
@@ -14,13 +13,13 @@ use Rattle.pg_lines.specs.Runs.{AreRuns, IsNextRun}
 use Rattle.pg_lines.specs.declared.run.Run.{Run}
 use Rattle.pg_rows.specs.declared.format.Format.{Format}
 use Rattle.pg_rows.specs.declared.progress.Progress.{Progress}
-use Rattle.pg_rows.specs.Output.{context, is_below}
+use Rattle.pg_rows.specs.Output.{is_below}
 use Rattle.pg_rows.specs.Sink.{TakesPart}
 use Rattle.pg_rows.specs.Trail.{run_rows}
 use Rattle.pg_rows.specs.Cursor.{Cursor}
 use Rattle.pg_rows.specs.Progress.{Passes, Keeps, kept_of}
 use Rattle.pg_rows.specs.Stretch.{AllSelected}
-use Rattle.pg_rows.specs.Printing.{leading, rows_of_passed, rows_of_kept, rows_of_run, IsAt, ComesNext, EndsKept}
+use Rattle.pg_rows.specs.Printing.{rows_of_passed, rows_of_kept, IsAt, ComesNext, EndsKept}
 use Rattle.pg_rows.proofs.PrintLemmas.{behind_front, passed_step, kept_step}
 use Rattle.pg_rows.proofs.BlockLemmas.{kept_few, kept_fits, kept_full, all_take}
 

@@ -19,6 +19,5 @@ pub use mem_sink::MemSink;
 pub use prefix::Prefix;
 pub use printer::{Printed, Printer};
 pub use progress::Progress;
-pub use rows::write_bare_lines;
 pub use sink::{Sink, WriteError, write_all};
 pub use writer::Out;

@@ -27,7 +27,7 @@ fn is_incomplete(end: u8, text: &[u8]) -> bool
 /// # Errors
 ///
 /// `WriteError` where a write failed. A beginning of the lines was taken then.
-pub fn write_bare_lines<W: Sink>(out: &mut W, end: u8, text: &[u8]) -> Result<(), WriteError>
+pub(crate) fn write_bare_lines<W: Sink>(out: &mut W, end: u8, text: &[u8]) -> Result<(), WriteError>
     ensures all { OnOk result (W.taken out.new ≡ W.taken out.old ++ terminated end (lines end text.now)) }
     ensures part { OnErr result (TakesPart (terminated end (lines end text.now)) (W.taken out.old) (W.taken out.new)) }
     ensures failure { OnErr result (W.failures out.old < W.failures out.new) }

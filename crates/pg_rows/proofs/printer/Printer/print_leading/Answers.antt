@@ -1,4 +1,4 @@
-use Rattle.std.proofs.Common.{◌≡◌, ℕ, ◌+◌, ◌-◌, ◌≤◌, ◌++◌, List, [], length, take, drop, min, sym, ap, ◌∙◌, subst}
+use Rattle.std.proofs.Common.{◌≡◌, ℕ, ◌+◌, ◌-◌, ◌≤◌, ◌++◌, List, length, take, drop, min, sym, ap, ◌∙◌, subst}
 use Rattle.std.proofs.Common.{arith, append_assoc}
 use Rattle.std.proofs.lemmas.List.{append-nil, take_rest}
 use Rattle.circular_buffer.specs.Buffer.{keep_last}
@@ -33,8 +33,12 @@ returns-in_err-write_last-clause-part g c =
     let front = marked_rows s.format s.end s.prefix 45 ((a.progress.number + 1) - n) (keep_last (n - close) xs) in
     let rest = marked_rows s.format s.end s.prefix 45 ((a.progress.number + 1) - close) (keep_last close ys) in
     let close_is : close ≡ min n (length ys) = c.min-close.ensures ∙ ap (min n) c.requires.count in
-    let fits : n ≤ length xs + length ys = omega (arith, c.requires.enough, c.leading-leading.ensures,
-    c.requires.count) in
+    let fits : n ≤ length xs + length ys = omega (
+      arith,
+      c.requires.enough,
+      c.leading-leading.ensures,
+      c.requires.count,
+    ) in
     let few : n ≤ a.progress.number = omega (arith, c.leading-leading.ensures, a.progress.few_behind) in
     let whole = leading_rows s.format s.end s.prefix a.progress xs ys n close c.leading-leading.ensures
     (close_is) (fits) (few) in
@@ -55,8 +59,12 @@ returns-clause-all g c =
     let front = marked_rows s.format s.end s.prefix 45 ((a.progress.number + 1) - n) (keep_last (n - close) xs) in
     let rest = marked_rows s.format s.end s.prefix 45 number (keep_last close ys) in
     let close_is : close ≡ min n (length ys) = c.min-close.ensures ∙ ap (min n) c.requires.count in
-    let fits : n ≤ length xs + length ys = omega (arith, c.requires.enough, c.leading-leading.ensures,
-    c.requires.count) in
+    let fits : n ≤ length xs + length ys = omega (
+      arith,
+      c.requires.enough,
+      c.leading-leading.ensures,
+      c.requires.count,
+    ) in
     let few : n ≤ a.progress.number = omega (arith, c.leading-leading.ensures, a.progress.few_behind) in
     let whole = leading_rows s.format s.end s.prefix a.progress xs ys n close c.leading-leading.ensures
     (close_is) (fits) (few) in
@@ -89,8 +97,12 @@ returns-clause-part g c =
     let front = marked_rows s.format s.end s.prefix 45 ((a.progress.number + 1) - n) (keep_last (n - close) xs) in
     let rest = marked_rows s.format s.end s.prefix 45 number (keep_last close ys) in
     let close_is : close ≡ min n (length ys) = c.min-close.ensures ∙ ap (min n) c.requires.count in
-    let fits : n ≤ length xs + length ys = omega (arith, c.requires.enough, c.leading-leading.ensures,
-    c.requires.count) in
+    let fits : n ≤ length xs + length ys = omega (
+      arith,
+      c.requires.enough,
+      c.leading-leading.ensures,
+      c.requires.count,
+    ) in
     let few : n ≤ a.progress.number = omega (arith, c.leading-leading.ensures, a.progress.few_behind) in
     let whole = leading_rows s.format s.end s.prefix a.progress xs ys n close c.leading-leading.ensures
     (close_is) (fits) (few) in

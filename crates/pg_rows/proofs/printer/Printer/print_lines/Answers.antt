@@ -1,14 +1,13 @@
-use Rattle.std.proofs.Common.{◌≡◌, ℕ, ◌+◌, ◌-◌, ◌≤◌, true, List, ◌++◌, length, take, drop, refl, sym, ap, ◌∙◌, subst}
+use Rattle.std.proofs.Common.{◌≡◌, ℕ, ◌+◌, ◌-◌, ◌≤◌, List, ◌++◌, length, take, drop, refl, ap, ◌∙◌, subst}
 use Rattle.std.proofs.Common.{arith}
 use Rattle.std.proofs.lemmas.List.{take_rest}
-use Rattle.pg_lines.specs.Search.{Search, terminator}
+use Rattle.pg_lines.specs.Search.{terminator}
 use Rattle.pg_lines.specs.Lines.{lines}
 use Rattle.pg_rows.specs.declared.printer.Printer.{Printer}
 use Rattle.pg_rows.specs.Sink.{TakesPart}
 use Rattle.pg_rows.specs.Trail.{run_rows}
 use Rattle.pg_rows.specs.Window.{held}
 use Rattle.pg_rows.specs.Printing.{rows_of_passed}
-use Rattle.pg_rows.specs.Remembered.{Remembers, ComesLast}
 use Rattle.pg_rows.proofs.SinkLemmas.{on_err}
 use Rattle.pg_rows.proofs.PrintLemmas.{at_last}
 use Rattle.pg_rows.proofs.RunSteps.{failed_before}

@@ -1,14 +1,11 @@
-use Rattle.std.proofs.Common.{◌≡◌, ℕ, ◌+◌, ◌-◌, ◌≤◌, ◌++◌, List, length, take, drop, min, sym, ap, ◌∙◌, subst, arith}
-use Rattle.std.proofs.Common.{append_assoc}
-use Rattle.std.proofs.Common.{length-drop}
+use Rattle.std.proofs.Common.{◌≡◌, ℕ, ◌-◌, ◌++◌, List, length, take, drop, ap, ◌∙◌, subst}
 use Rattle.std.proofs.lemmas.List.{take_rest}
-use Rattle.pg_lines.specs.Lines.{lines, AreWhole}
+use Rattle.pg_lines.specs.Lines.{lines}
 use Rattle.pg_rows.specs.Sink.{TakesPart}
-use Rattle.pg_rows.specs.Window.{held, IsWindow}
-use Rattle.pg_rows.specs.Printing.{leading, rows_of_passed, rows_of_kept, rows_of_run}
-use Rattle.pg_rows.proofs.SinkLemmas.{on_err, on_ok, on_err_too}
+use Rattle.pg_rows.specs.Window.{held}
+use Rattle.pg_rows.specs.Printing.{rows_of_passed, rows_of_kept}
+use Rattle.pg_rows.proofs.SinkLemmas.{on_err, on_err_too}
 use Rattle.pg_rows.proofs.LeftLemmas.{takes_first, takes_second}
-use Rattle.pg_rows.proofs.LeadLemmas.{whole_drop}
 use Rattle.pg_rows.proofs.printer.Printer.print_run.Goals as goal
 
 pub returns-in_err-stop-clause-part : goal.returns-in_err-stop-clause-part

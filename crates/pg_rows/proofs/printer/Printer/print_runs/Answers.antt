@@ -1,24 +1,18 @@
-use Rattle.std.proofs.Common.{◌≡◌, ℕ, ◌+◌, ◌-◌, ◌<◌, ◌≤◌, inl, inr, true, List, [], ◌++◌, length, drop, get_or}
+use Rattle.std.proofs.Common.{◌≡◌, ℕ, ◌+◌, ◌<◌, inl, inr, List, [], length, drop, get_or}
 use Rattle.std.proofs.Common.{slice_range}
 use Rattle.std.proofs.Common.{refl, sym, ap, ◌∙◌, subst, arith}
 use Rattle.std.proofs.lemmas.List.{drop_all, length-take-le}
-use Rattle.pg_lines.specs.Search.{Search, terminator}
+use Rattle.pg_lines.specs.Search.{terminator}
 use Rattle.pg_lines.specs.Lines.{lines}
-use Rattle.pg_lines.specs.declared.run.Run.{Run}
-use Rattle.pg_rows.specs.declared.format.Format.{Format}
 use Rattle.pg_rows.specs.declared.printer.Printer.{Printer}
-use Rattle.pg_rows.specs.Output.{is_below}
-use Rattle.pg_rows.specs.Cursor.{Cursor}
 use Rattle.pg_rows.specs.Sink.{TakesPart}
 use Rattle.pg_rows.specs.Trail.{run_rows}
 use Rattle.pg_rows.specs.Window.{held}
-use Rattle.pg_rows.specs.Progress.{kept_of}
-use Rattle.pg_rows.specs.Printing.{ComesNext}
-use Rattle.pg_rows.specs.Remembered.{Remembers, HasLines, ComesLast, shows_lines}
+use Rattle.pg_rows.specs.Remembered.{Remembers, ComesLast}
 use Rattle.pg_rows.proofs.SinkLemmas.{on_err}
-use Rattle.pg_rows.proofs.BlockLemmas.{no_run, none_full}
+use Rattle.pg_rows.proofs.BlockLemmas.{no_run}
 use Rattle.pg_rows.proofs.RunSteps.{IsBefore, failed_before}
-use Rattle.pg_rows.proofs.PrinterSteps.{before_all, CanStep, can_step, IsStep, step_rows, stepped, comes_last}
+use Rattle.pg_rows.proofs.PrinterSteps.{before_all, can_step, IsStep, step_rows, stepped, comes_last}
 use Rattle.pg_rows.proofs.PrinterSteps.{stops, ends_some}
 use Rattle.pg_rows.proofs.printer.Printer.print_runs.Goals as goal
 

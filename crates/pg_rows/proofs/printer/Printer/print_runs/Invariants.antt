@@ -1,4 +1,4 @@
-use Rattle.std.proofs.Common.{◌≡◌, ℕ, ◌+◌, ◌<◌, true, List, drop}
+use Rattle.std.proofs.Common.{◌≡◌, ◌+◌, ◌<◌, true, drop}
 use Rattle.pg_lines.specs.Search.{Search, terminator}
 use Rattle.pg_rows.specs.declared.format.Format.{Format}
 use Rattle.pg_rows.specs.Cursor.{Cursor}
