@@ -78,6 +78,10 @@ echo "$(grep --version | head -n 1); $(wc -c < "$file") bytes; best of $rounds r
 for text in zzqq water the e; do
   compare "$file" -F "$text"
 done
+compare "$file" -nF water
+compare "$file" -cF the
+compare "$file" -FC3 water
+compare "$file" -nFA1 zzqq
 rounds=3
 echo "An eighth of it, best of $rounds runs:"
 compare "$folder/eighth" -E 'wat.r'
@@ -87,3 +91,4 @@ compare "$folder/eighth" -Fi WATER
 compare "$folder/eighth" -Fw the
 compare "$folder/eighth" -Fv the
 compare "$folder/eighth" -Fx 'of the people'
+compare "$folder/eighth" -oF the

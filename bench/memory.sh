@@ -1,0 +1,38 @@
+#!/bin/sh
+# Prints the most memory that pargrep and GNU grep hold while they search a large file, in several formats.
+# Usage: bench/memory.sh PARGREP [MEGABYTES]
+# The file is lines of 60 bytes, of which one in 100 is selected. It is kept in a folder of its own that is removed at
+# the end. The memory is the largest resident set that the system tells of the process, which GNU time prints.
+set -eu
+export LC_ALL=C
+
+pargrep=${1:?usage: bench/memory.sh PARGREP [MEGABYTES]}
+megabytes=${2:-1024}
+
+folder=$(mktemp -d)
+trap 'rm -rf "$folder"' EXIT
+awk 'BEGIN {
+  for (size = 0; size < 1048576; size += 60) {
+    printf "%010d %48s\n", size, (size / 60 % 100 == 99 ? "needle" : "hay")
+  }
+}' > "$folder/part"
+i=0
+while [ "$i" -lt "$megabytes" ]; do
+  cat "$folder/part"
+  i=$((i + 1))
+done > "$folder/text"
+
+# measure OPTIONS..: the kilobytes that each program holds at most.
+measure() {
+  /usr/bin/time -f %M -o "$folder/ours" "$pargrep" "$@" -e needle "$folder/text" > "$folder/out"
+  /usr/bin/time -f %M -o "$folder/theirs" grep "$@" -e needle "$folder/text" > "$folder/expected"
+  cmp -s "$folder/out" "$folder/expected" || { echo "the outputs for $* differ" >&2; exit 1; }
+  printf '%-14s pargrep %6d kB  grep %6d kB\n' "$*" "$(tail -n 1 "$folder/ours")" "$(tail -n 1 "$folder/theirs")"
+}
+
+echo "$(wc -c < "$folder/text") bytes"
+measure -F
+measure -nF
+measure -cF
+measure -F -C 3
+measure -nF -B 1000
