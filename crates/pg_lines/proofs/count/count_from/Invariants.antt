@@ -14,7 +14,7 @@ invariant-loop-at l = record {
   behind : l.from ≤ l.at;
   few : l.count ≤ l.at;
   counted : l.count + count_by (λ b. b == l.byte) (drop l.at l.bytes)
-    ≡ count_by (λ b. b == l.byte) (drop l.from l.bytes);
+      ≡ count_by (λ b. b == l.byte) (drop l.from l.bytes);
 }
 
 abbrev pub decreases-loop-at : goal.decreases-loop-at

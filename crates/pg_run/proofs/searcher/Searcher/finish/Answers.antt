@@ -43,4 +43,3 @@ returns-clause-status g c = λ task blocks before h.
     let P : Option ℕ → Type 0 =
     λ r. MatchOption r (IsComplete past → ⊥) (λ s. IsComplete past × (s ≡ status_of past)) in
     (subst P c.unwrap.ensures (c.status.ensures past d.3)).1 ∙ ended_status h
-
