@@ -10,7 +10,8 @@ use Rattle.pg_lines.specs.Selection.{selects}
 use Rattle.pg_rows.specs.declared.format.Format.{Format}
 use Rattle.pg_rows.specs.Output.{is_below, when, row, is_nothing, line_rows, piece_rows, count_row, name_row}
 use Rattle.pg_rows.specs.Sink.{IsBeginning}
-use Rattle.pg_rows.specs.Trail.{Trail, no_lines, step, trail_of, added, run_rows, run, added_pieces, run_pieces, keeps, after_kept, after_context, after_other, kept_rows, context_rows, gap_row}
+use Rattle.pg_rows.specs.Trail.{Trail, no_lines, step, trail_of, added, run_rows, run, added_pieces, run_pieces}
+use Rattle.pg_rows.specs.Trail.{keeps, after_kept, after_context, after_other, kept_rows, context_rows, gap_row}
 use Rattle.pg_rows.proofs.TrailLemmas.{IsTrail, Quota, trail_step, rows_step, pieces_step, no_trail}
 
 pub trail_more : (q : Search) (format : Format) (ls ms : List (List ℕ)) (t : Trail) → IsTrail q format ls t → IsTrail q format (ls ++ ms) (run q format t ms)

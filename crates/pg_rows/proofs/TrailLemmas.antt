@@ -11,9 +11,12 @@ use Rattle.pg_lines.specs.Search.{Search, terminator}
 use Rattle.pg_lines.specs.Selection.{selects}
 use Rattle.pg_lines.proofs.HitLemmas.{some_in_range}
 use Rattle.pg_rows.specs.declared.format.Format.{Format}
-use Rattle.pg_rows.specs.Output.{line_at, is_below, is_kept, is_near, context, members, when, row, has_context, is_behind, separator, mark_of, line_rows, piece_rows}
-use Rattle.pg_rows.specs.Trail.{Trail, no_lines, keeps, after_kept, after_context, after_other, step, gap_row, context_rows, kept_rows, added, pieces_in, added_pieces}
-use Rattle.pg_rows.proofs.NearLemmas.{range_more, IsNear, near_none, near_same, old_below, new_above, new_self, IsNear-kept, IsNear-context, IsNear-other}
+use Rattle.pg_rows.specs.Output.{line_at, is_below, is_kept, is_near, context, members, when, row, has_context}
+use Rattle.pg_rows.specs.Output.{is_behind, separator, mark_of, line_rows, piece_rows}
+use Rattle.pg_rows.specs.Trail.{Trail, no_lines, keeps, after_kept, after_context, after_other, step, gap_row}
+use Rattle.pg_rows.specs.Trail.{context_rows, kept_rows, added, pieces_in, added_pieces}
+use Rattle.pg_rows.proofs.NearLemmas.{range_more, IsNear, near_none, near_same, old_below, new_above, new_self}
+use Rattle.pg_rows.proofs.NearLemmas.{IsNear-kept, IsNear-context, IsNear-other}
 use Rattle.pg_rows.proofs.PutLemmas.{put, put_first, put_same, put_none, put_all, put_split, separator_same}
 
 -- the first place of the window: the last B of the places from d to n

@@ -26,7 +26,8 @@ pub struct Progress {
 impl Progress {
     ghost use Rattle.pg_rows.specs.Trail.{Trail};
     ghost use Rattle.pg_rows.specs.Enough.{trail_suffices};
-    ghost use Rattle.pg_rows.specs.Progress.{Tells, Passes, Keeps, kept_of, TellsNone, TellsPassed, TellsKept, TellsBlock};
+    ghost use Rattle.pg_rows.specs.Progress.{Tells, Passes, Keeps, kept_of, TellsNone, TellsPassed, TellsKept};
+    ghost use Rattle.pg_rows.specs.Progress.{TellsBlock};
 
     /// What is remembered of no lines.
     pub fn new() -> Progress

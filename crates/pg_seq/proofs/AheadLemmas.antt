@@ -1,6 +1,8 @@
 -- How far the rows of a plan could be written.
-use Rattle.std.proofs.Common.{◌≡◌, ℕ, zero, suc, ◌==◌, ◌+◌, ◌-◌, ◌<◌, ◌^◌, Bool, true, false, not, ◌&&◌, ◌||◌, cond, is_some, Option}
-use Rattle.std.proofs.Common.{IfSome, List, [], ◌∷◌, ◌++◌, length, drop, map, refl, sym, ap, ◌∙◌, subst, arith, inl, inr}
+use Rattle.std.proofs.Common.{◌≡◌, ℕ, zero, suc, ◌==◌, ◌+◌, ◌-◌, ◌<◌, ◌^◌, Bool, true, false, not, ◌&&◌, ◌||◌, cond}
+use Rattle.std.proofs.Common.{is_some, Option}
+use Rattle.std.proofs.Common.{IfSome, List, [], ◌∷◌, ◌++◌, length, drop, map, refl, sym, ap, ◌∙◌, subst, arith, inl}
+use Rattle.std.proofs.Common.{inr}
 use Rattle.std.specs.List.{AllByRecursion, list_any, list_all}
 use Rattle.std.proofs.lemmas.Bool.{false≢true, and_from}
 use Rattle.std.proofs.lemmas.List.{length-map, length-drop, map-append, drop-map, drop-drop, length_push}
@@ -317,7 +319,8 @@ module _ {A : Type 0} (s : Assembler A) (past : Past) (h : Stands s past) (a : A
         block = b;
         later = later;
         is = e;
-        taken = heads (sym (ap (λ c. map (is_taken keys) (blocks_of c)) e) ∙ (later_marks ∙ ap (map has_result) r.slots))
+        taken = heads (sym (ap (λ c. map (is_taken keys) (blocks_of c)) e)
+            ∙ (later_marks ∙ ap (map has_result) r.slots))
             ∙ ap (λ o. is_some o) r.result;
         query = is.0;
         same = is.1 ∙ sym (heads (sym (ap blocks_of e) ∙ blocks));

@@ -19,7 +19,8 @@ pub behind_push : (done coming : List Step) (s : Step) → behind done (coming +
 behind_push done [] s = refl
 behind_push done (t ∷ coming) s = behind_push (t ∷ done) coming s
 
-pub blocks_push : (coming : List Step) (s : Step) → blocks_of (coming ++ s ∷ []) ≡ blocks_of coming ++ blocks_of (s ∷ [])
+pub blocks_push : (coming : List Step) (s : Step)
+    → blocks_of (coming ++ s ∷ []) ≡ blocks_of coming ++ blocks_of (s ∷ [])
 blocks_push [] s = refl
 blocks_push (Opens name ∷ coming) s = blocks_push coming s
 blocks_push (Announces b ∷ coming) s = ap (λ bs. b ∷ bs) (blocks_push coming s)
@@ -169,7 +170,8 @@ pub record OpensNext (q : Search) (format : Format) (done coming : List Step) (n
 
 pub next_file : (q : Search) (format : Format) (end n : ℕ) (done coming : List Step) → is_open done ≡ false
     → IsShaped end (behind done coming) → AreMissed q format done coming ⊎ OpensNext q format done coming n
-next_file q format end n done [] closed h = inl (record { same = refl; all = refl; cursor = refl; closed = refl; waiting = λ n. refl })
+next_file q format end n done [] closed h =
+    inl (record { same = refl; all = refl; cursor = refl; closed = refl; waiting = λ n. refl })
 next_file q format end n done (Opens name ∷ coming) closed h = inr (record {
   misses = done;
   name = name;

@@ -11,13 +11,15 @@ use Rattle.pg_lines.proofs.LineLemmas.{lines-append}
 use Rattle.pg_rows.specs.declared.format.Format.{Format}
 use Rattle.pg_rows.specs.declared.format.Mode.{Mode}
 use Rattle.pg_rows.specs.declared.format.Mode.TheVariants.{Rows, Count, List as Names, Quiet}
-use Rattle.pg_rows.specs.Output.{Entry, Read, Running, Ended, Failed, output, is_running, file_rows, rows_in, is_below, line_rows, piece_rows, count_row, name_row}
+use Rattle.pg_rows.specs.Output.{Entry, Read, Running, Ended, Failed, output, is_running, file_rows, rows_in}
+use Rattle.pg_rows.specs.Output.{is_below, line_rows, piece_rows, count_row, name_row}
 use Rattle.pg_seq.specs.Plan.{Step, Opens, Announces, Ends, Misses, IsShaped, is_open, last_blocks, entries_of, with_bytes, with_end}
 use Rattle.pg_rows.specs.Sink.{IsBeginning}
 use Rattle.pg_rows.specs.Trail.{run, run_rows, run_pieces}
 use Rattle.pg_seq.specs.Cursor.{Cursor, moved, cursor_of, block_rows, counted, named, step_rows}
 use Rattle.pg_rows.proofs.TrailLemmas.{IsTrail, no_trail}
-use Rattle.pg_rows.proofs.FoldLemmas.{trail_more, rows_more, pieces_more, count_by_trail, name_by_trail, something, some_append, run_some}
+use Rattle.pg_rows.proofs.FoldLemmas.{trail_more, rows_more, pieces_more, count_by_trail, name_by_trail, something}
+use Rattle.pg_rows.proofs.FoldLemmas.{some_append, run_some}
 
 pub joined_push : (xs : List BlockData) (b : BlockData) → joined (xs ++ b ∷ []) ≡ joined xs ++ b.bytes
 joined_push xs b = flat_map-append (λ (x : BlockData). x.bytes) xs (b ∷ []) ∙ ap (λ ys. joined xs ++ ys) (append-nil b.bytes)
@@ -94,7 +96,8 @@ module _ (q : Search) (format : Format) (limited : is_below 0 format.limit ≡ t
       go true f = pieces_more q format c.name ls ms c.trail h
       go false f = rows_more q format c.name earlier ls ms c.trail h ∙ ap (λ x. line_rows q format c.name ls earlier ++ run_rows q format c.name x c.trail ms) (sym (f refl))
 
-  pub open_rows : (name : List ℕ) (p : List Step) → output q format (entries_of (Opens name ∷ p)) ≡ output q format (entries_of p)
+  pub open_rows : (name : List ℕ) (p : List Step)
+      → output q format (entries_of (Opens name ∷ p)) ≡ output q format (entries_of p)
   open_rows name p =
       let earlier = something (output q format (entries_of p)) in
       ap (λ xs. output q format (entries_of p) ++ xs)

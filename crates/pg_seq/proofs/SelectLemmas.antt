@@ -1,5 +1,6 @@
 -- A line is selected where a result has a run.
-use Rattle.std.proofs.Common.{◌≡◌, ◌≢◌, ℕ, ◌<◌, Bool, true, false, not, ◌||◌, ◌==◌, nat_lt, List, [], ◌∷◌, ◌++◌, length, refl}
+use Rattle.std.proofs.Common.{◌≡◌, ◌≢◌, ℕ, ◌<◌, Bool, true, false, not, ◌||◌, ◌==◌, nat_lt, List, [], ◌∷◌, ◌++◌}
+use Rattle.std.proofs.Common.{length, refl}
 use Rattle.std.proofs.Common.{sym, ap, ◌∙◌, subst, arith}
 use Rattle.std.specs.List.{AllByRecursion, list_any}
 use Rattle.std.proofs.lemmas.Bool.{lt-ltb, ne_eqb}
@@ -36,7 +37,8 @@ any_selected q at seen bytes (run ∷ runs) h =
     ∙ (or_true (list_any (selects q) (lines (terminator q) n.gap))
     ∙ sym (lt-ltb 0 (length (run ∷ runs)) (omega arith)))))
   where
-    all_of : (ls : List (List ℕ)) → AllByRecursion (λ l. selects q l ≡ true) ls → 0 < length ls → list_any (selects q) ls ≡ true
+    all_of : (ls : List (List ℕ)) → AllByRecursion (λ l. selects q l ≡ true) ls → 0 < length ls
+        → list_any (selects q) ls ≡ true
     all_of [] h some = absurd (omega arith)
     all_of (l ∷ ls) h some = ap (λ t. t || list_any (selects q) ls) h.0
 

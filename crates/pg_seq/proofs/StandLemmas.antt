@@ -1,5 +1,6 @@
 -- What a sequencer stands after.
-use Rattle.std.proofs.Common.{◌≡◌, ℕ, ◌+◌, ◌<◌, ◌≤◌, ◌^◌, Bool, true, false, ◌||◌, ◌&&◌, cond, eqb, is_some, Option, Some}
+use Rattle.std.proofs.Common.{◌≡◌, ℕ, ◌+◌, ◌<◌, ◌≤◌, ◌^◌, Bool, true, false, ◌||◌, ◌&&◌, cond, eqb, is_some, Option}
+use Rattle.std.proofs.Common.{Some}
 use Rattle.std.proofs.Common.{None, IfSome, List, [], ◌∷◌, ◌++◌, length, map, refl, sym, ap, ◌∙◌, subst, arith}
 use Rattle.std.proofs.Common.{inl, inr, append_assoc, length-append}
 use Rattle.std.specs.List.{find, AllByRecursion, list_any, list_all}
@@ -212,7 +213,8 @@ module _ {A : Type 0} where
       let joined' : announced w.done ++ blocks_of w.coming ≡ map slot_block h.gone ++ map slot_block slots =
       sym (ap announced w.split ∙ announced_behind w.done w.coming)
       ∙ (h.blocks ∙ map-append slot_block h.gone slots) in
-      let marked : map t (announced w.done) ++ map t (blocks_of w.coming) ≡ map has_result h.gone ++ map has_result slots =
+      let marked : map t (announced w.done) ++ map t (blocks_of w.coming)
+      ≡ map has_result h.gone ++ map has_result slots =
       sym (map-append t (announced w.done) (blocks_of w.coming))
       ∙ (ap (map t) (sym (ap announced w.split ∙ announced_behind w.done w.coming))
       ∙ (h.taken ∙ map-append has_result h.gone slots)) in
@@ -236,7 +238,8 @@ module _ {A : Type 0} where
 
   -- the same plan and the same results, whatever was written
   pub rested : (s new : Assembler A) (past : Past) (written : List ℕ) (failed : Bool) → Stands s past → IsAlike s new
-      → Keeps s.buffer new.buffer → failed ≡ new.failed → Writes new (record past { written = written; failed = failed })
+      → Keeps s.buffer new.buffer → failed ≡ new.failed
+      → Writes new (record past { written = written; failed = failed })
       → Stands new (record past { written = written; failed = failed })
   rested s new past written failed h a k f w =
       let same : all s h ≡ h.gone ++ new.buffer.slots.items = ap (λ xs. h.gone ++ xs) (sym k.slots) in
@@ -635,7 +638,8 @@ module _ {A : Type 0} where
         failed = h.failed ∙ sym failed';
         selected = p.selected ∙ h.selected;
         writes =
-            let w = rested_writes s new past past.written past.failed h.writes idle waiting (λ e. (refl, sym failed' ∙ e)) in
+            let w = rested_writes s new past past.written past.failed h.writes idle waiting
+            (λ e. (refl, sym failed' ∙ e)) in
             record {
               done = w.done;
               coming = w.coming;

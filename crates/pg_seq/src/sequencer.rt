@@ -42,7 +42,8 @@ impl<A: Allocator> Sequencer<A> {
     ghost use Rattle.pg_rows.specs.Output.{HasRoom};
     ghost use Rattle.pg_rows.specs.Enough.{is_enough};
     ghost use Rattle.pg_seq.specs.Plan.{Opens, Announces, Ends, Misses, MayFollow, entries_of};
-    ghost use Rattle.pg_seq.specs.History.{Past, start, planned, arrived, plan, answer, front_of, IsComplete, status_of};
+    ghost use Rattle.pg_seq.specs.History.{Past, start, planned, arrived, plan, answer, front_of, IsComplete};
+    ghost use Rattle.pg_seq.specs.History.{status_of};
     ghost use Rattle.pg_seq.specs.Standing.{Stands, IsReadyFor, Drained, drained};
     ghost use Rattle.pg_seq.specs.declared.answers.SinkFault.TheVariants.{WriteFailed};
 

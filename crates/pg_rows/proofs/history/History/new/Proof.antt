@@ -1,5 +1,8 @@
 -- `new` chooses the empty list.
-use Rattle.pg_rows.proofs.HistorySteps.{[], ◌∷◌, refl, proved, inst_fn, a_type, ‵, raw, ◌⊛◌, ◌$◌, ◌∵◌, !, qed, done, move, keep, split, suffices, agg, enter, returns, no_more, and_then, alloc_all, pass_all, free_all, look_at, get, sets, param, layouts, RattleType, owns, pure_i, types_at, alive, Stays, walk_of, says, ends_at, none, one_none}
+use Rattle.pg_rows.proofs.HistorySteps.{[], ◌∷◌, refl, proved, inst_fn, a_type, ‵, raw, ◌⊛◌, ◌$◌, ◌∵◌, !, qed, done}
+use Rattle.pg_rows.proofs.HistorySteps.{move, keep, split, suffices, agg, enter, returns, no_more, and_then}
+use Rattle.pg_rows.proofs.HistorySteps.{alloc_all, pass_all, free_all, look_at, get, sets, param, layouts, RattleType}
+use Rattle.pg_rows.proofs.HistorySteps.{owns, pure_i, types_at, alive, Stays, walk_of, says, ends_at, none, one_none}
 use Rattle.pg_rows.specs.contracts.history.History as History
 use Rattle.pg_rows.specs.contracts.history.History.new as f
 use Rattle.pg_rows.proofs.history.History.new.Statement.{statement}

@@ -1,5 +1,10 @@
 -- `with` chooses the list with the value at its end.
-use Rattle.pg_rows.proofs.HistorySteps.{[], ◌∷◌, ◌++◌, refl, proved, inst_fn, a_type, named, ‵, raw, ◌⊛◌, ◌$◌, ◌∵◌, !, qed, done, move, keep, split, suffices, agg, enter, returns, no_more, and_then, alloc_all, pass_all, free_all, look_at, get, sets, yes, param, layouts, RattleType, owns, shr_vals, shr_Tells, pure_i, plain, types_at, alive, Stays, walk_of, says, stay_none_ref, Goes-none_ref, ends_at, none, one_none}
+use Rattle.pg_rows.proofs.HistorySteps.{[], ◌∷◌, ◌++◌, refl, proved, inst_fn, a_type, named, ‵, raw, ◌⊛◌, ◌$◌, ◌∵◌, ! }
+use Rattle.pg_rows.proofs.HistorySteps.{qed, done, move, keep, split, suffices, agg, enter, returns, no_more}
+use Rattle.pg_rows.proofs.HistorySteps.{and_then, alloc_all, pass_all, free_all, look_at, get, sets, yes, param}
+use Rattle.pg_rows.proofs.HistorySteps.{layouts, RattleType, owns, shr_vals, shr_Tells, pure_i, plain, types_at}
+use Rattle.pg_rows.proofs.HistorySteps.{alive, Stays, walk_of, says, stay_none_ref, Goes-none_ref, ends_at, none}
+use Rattle.pg_rows.proofs.HistorySteps.{one_none}
 use Rattle.pg_rows.specs.contracts.history.History as History
 use Rattle.pg_rows.specs.contracts.history.History.with as f
 use Rattle.pg_rows.proofs.history.History.with.Statement.{statement}

@@ -1,5 +1,11 @@
 -- `with_all` chooses the list with the values at its end.
-use Rattle.pg_rows.proofs.HistorySteps.{[], ◌∷◌, ◌++◌, refl, proved, inst_fn, a_type, named, ‵, raw, ◌⊛◌, ◌$◌, ◌∵◌, !, qed, done, move, keep, split, suffices, agg, enter, returns, no_more, and_then, alloc_all, pass_all, free_all, look_at, get, sets, yes, param, layouts, RattleType, owns, shr_vals, shr_Tells, shr_slice_vals, shr_slice_Tells, pure_i, plain, types_at, alive, Stays, walk_of, says, stay_none_ref, stay_none_slice, Goes-none_ref, Goes-none_slice, ends_at, none, one_none}
+use Rattle.pg_rows.proofs.HistorySteps.{[], ◌∷◌, ◌++◌, refl, proved, inst_fn, a_type, named, ‵, raw, ◌⊛◌, ◌$◌, ◌∵◌, ! }
+use Rattle.pg_rows.proofs.HistorySteps.{qed, done, move, keep, split, suffices, agg, enter, returns, no_more}
+use Rattle.pg_rows.proofs.HistorySteps.{and_then, alloc_all, pass_all, free_all, look_at, get, sets, yes, param}
+use Rattle.pg_rows.proofs.HistorySteps.{layouts, RattleType, owns, shr_vals, shr_Tells, shr_slice_vals}
+use Rattle.pg_rows.proofs.HistorySteps.{shr_slice_Tells, pure_i, plain, types_at, alive, Stays, walk_of, says}
+use Rattle.pg_rows.proofs.HistorySteps.{stay_none_ref, stay_none_slice, Goes-none_ref, Goes-none_slice, ends_at, none}
+use Rattle.pg_rows.proofs.HistorySteps.{one_none}
 use Rattle.pg_rows.specs.contracts.history.History as History
 use Rattle.pg_rows.specs.contracts.history.History.with_all as f
 use Rattle.pg_rows.proofs.history.History.with_all.Statement.{statement}

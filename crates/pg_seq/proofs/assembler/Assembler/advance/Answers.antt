@@ -23,7 +23,8 @@ opened new past text true h = record {
 opened new past text false h = record { all = h.0; same = refl; stands = h.1 }
 
 pub returns-then-not-self-clause-ok : goal.returns-then-not-self-clause-ok
-returns-then-not-self-clause-ok g c = λ past h f. opened _ past _ c.open_next.result (c.open_next.ensures.opened past h f)
+returns-then-not-self-clause-ok g c = λ past h f.
+    opened _ past _ c.open_next.result (c.open_next.ensures.opened past h f)
 
 pub returns-in_err-end-clause-part : goal.returns-in_err-end-clause-part
 returns-in_err-end-clause-part g c = λ past h f.

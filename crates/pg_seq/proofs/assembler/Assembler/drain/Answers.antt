@@ -72,7 +72,8 @@ returns-in-Ok-false-clause-drained g c = λ past h.
     let d = i.drains past h in
     let r = is_false c.in-Ok-false.field-0 _ _ c.in-Ok-false.field-0-test
     (c.in-Ok-false.ensures.ok (wrote past d.0) d.2 i.unfailed) in
-    let P : Bool → Type 0 = λ f. Stands c.advance.new.self (record past { written = past.written ++ d.0; failed = f }) in (
+    let P : Bool → Type 0 =
+    λ f. Stands c.advance.new.self (record past { written = past.written ++ d.0; failed = f }) in (
       d.0,
       r.same ∙ d.1,
       (h.failed ∙ c.if-self.false, r.all),
