@@ -24,8 +24,8 @@ returns-clause-further g c = λ past h i.
     let a = c.args.ahead in
     let found = c.in-Some.found.now in
     let w = block_of s past h a i found c.requires.inside.0 c.requires.inside.1 c.in-Some.ensures in
-    block_next s past h a i found w c.runs-runs.result.now c.lines.result c.runs-runs.ensures c.lines.ensures _ refl refl
-    refl
+    block_next s past h a i found w c.runs-runs.result.now c.lines.result c.runs-runs.ensures c.lines.ensures
+    _ refl refl refl
     (let P : Format → Type 0 = λ f. TellsBlock a.progress f c.runs-runs.result.now c.lines.result c.after.result in
     subst P (sym h.format) c.after.ensures.tells)
     (ap (λ t. a.selected || not t) c.is_empty.ensures)
