@@ -126,7 +126,7 @@ module _ {A : Type 0} {s : Searcher A} {task : Task} {blocks : List BlockData} {
   part_before b n = (h.past.written, more_part b n, h.got)
 
   -- the result of the block that was announced is taken
-  is_first : (b : BlockData) → IsNextBlock task.query blocks b
+  pub is_first : (b : BlockData) → IsNextBlock task.query blocks b
       → (middle : Assembler A) → Stands middle (planned h.past (Announces b)) → (r : Searched)
       → r ≡ record { query = task.query.text; block = b } → answer (planned h.past (Announces b)) r ≡ Taken
   is_first b n middle stands r is =

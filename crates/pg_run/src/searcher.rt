@@ -70,7 +70,7 @@ impl<A: Allocator + Copy> Searcher<A> {
             Arc::try_clone(&block)?,
         )?;
         self.sequencer.announce(block)?;
-        self.sequencer.arrive(found);
+        self.sequencer.keep(found);
         Ok(())
     }
 

@@ -60,6 +60,7 @@ impl<A: Allocator> Assembler<A> {
     ghost use Rattle.pg_seq.specs.Plan.{entries_of};
     ghost use Rattle.pg_seq.specs.History.{front_of};
     ghost use Rattle.pg_seq.specs.Ahead.{IsAhead, IsFront, is_over, left_ahead};
+    ghost use Rattle.pg_seq.specs.declared.answers.Arrival.TheVariants.{Taken};
     ghost use Rattle.pg_seq.specs.declared.answers.SinkFault.TheVariants.{WriteFailed};
 
     /// One to which nothing happened.
@@ -152,6 +153,15 @@ impl<A: Allocator> Assembler<A> {
             Arrival::Double => Arrival::Double,
             Arrival::Stranger => Arrival::Stranger,
         }
+    }
+
+    /// Takes a result that is the first of its block.
+    pub(crate) fn keep(&mut self, found: BlockResult<A>)
+        requires { (past : Past) × Stands self.old past × (answer past found ≡ Taken) }
+        ensures { (past : Past) → Stands self.old past → answer past found ≡ Taken →
+            Stands self.new (arrived past found) }
+    {
+        self.buffer.put(found);
     }
 
     /// What a result is.

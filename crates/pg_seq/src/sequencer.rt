@@ -45,6 +45,7 @@ impl<A: Allocator> Sequencer<A> {
     ghost use Rattle.pg_seq.specs.History.{Past, start, planned, arrived, plan, answer, front_of, IsComplete};
     ghost use Rattle.pg_seq.specs.History.{status_of};
     ghost use Rattle.pg_seq.specs.Standing.{Stands, IsReadyFor, Drained, drained};
+    ghost use Rattle.pg_seq.specs.declared.answers.Arrival.TheVariants.{Taken};
     ghost use Rattle.pg_seq.specs.declared.answers.SinkFault.TheVariants.{WriteFailed};
 
     /// A sequencer to which nothing happened, for the results of a query. It reserves the room for the
@@ -127,6 +128,16 @@ impl<A: Allocator> Sequencer<A> {
         ensures stands { (past : Past) → Stands self.old past → Stands self.new (arrived past found) }
     {
         self.assembler.arrive(found)
+    }
+
+    /// Takes a result whose arrival would be answered by `Taken`, as that of a block that was just
+    /// announced and searched. Neither queries nor blocks are compared. It takes no memory.
+    pub fn keep(&mut self, found: BlockResult<A>)
+        requires { (past : Past) × Stands self.old past × (answer past found ≡ Taken) }
+        ensures { (past : Past) → Stands self.old past → answer past found ≡ Taken →
+            Stands self.new (arrived past found) }
+    {
+        self.assembler.keep(found);
     }
 
     /// Writes all that may be handed out and was not yet written. It takes no memory.
