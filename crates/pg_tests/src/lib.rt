@@ -2,6 +2,8 @@
 #![tactic(auto)]
 
 #[cfg(test)]
+mod cases;
+#[cfg(test)]
 mod command;
 #[cfg(test)]
 mod cutter;
@@ -10,7 +12,11 @@ mod disk_store;
 #[cfg(test)]
 mod fixtures;
 #[cfg(test)]
+mod formats;
+#[cfg(test)]
 mod patterns;
+#[cfg(test)]
+mod planning;
 #[cfg(test)]
 mod run;
 #[cfg(test)]
