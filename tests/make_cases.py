@@ -156,7 +156,7 @@ def main():
             is_dull = mode != "q" and row.endswith(":") and rng.random() < LEFT_OUT
             if len(row) <= WIDTH and row not in rows and not is_dull:
                 rows.append(row)
-    print(HEAD.removesuffix("\\\n") + "\n".join(rows) + '";')
+    print(HEAD + "\n".join(rows) + '";')
 
 
 if __name__ == "__main__":

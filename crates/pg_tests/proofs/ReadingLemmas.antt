@@ -1,4 +1,4 @@
--- Lines of blocks, and the plan of a sequencer's test.
+-- The plan of a sequencer's test, block by block.
 use Rattle.std.proofs.Common.{◌≡◌, ℕ, suc, ◌+◌, ◌<◌, ◌≤◌, ◌^◌, ◌==◌, true, false, cond, List, [], ◌∷◌, ◌++◌, length}
 use Rattle.std.proofs.Common.{refl, ap, sym, subst, ◌∙◌, lit≤, arith}
 use Rattle.std.specs.List.{AllByRecursion, onto_first}
@@ -48,10 +48,9 @@ not_empty bytes h e =
     let none : length bytes ≡ 0 = ap length e in
     absurd (omega (arith, len, none))
 
--- the open file's next block may be announced
-pub may_announce : {A : Type 0} (s : Assembler A) (f n : ℕ) (bytes : List ℕ) (r : IsReading s f n) → n < 100
+may_announce_bytes : {A : Type 0} (s : Assembler A) (f n : ℕ) (bytes : List ℕ) (r : IsReading s f n) → n < 100
     → IsBlock bytes → MayFollow (terminator r.past.query) (plan r.past) (Announces (block_of f n bytes))
-may_announce s f n bytes r few block =
+may_announce_bytes s f n bytes r few block =
     let P : ℕ → Type 0 = λ end. AllByRecursion (λ b. EndsWith end b.bytes) (last_blocks (plan r.past)) in (
       record {
         running = r.running;
@@ -66,20 +65,30 @@ may_announce s f n bytes r few block =
       },
     )
 
+-- the open file's next block may be announced
+pub may_announce : {A : Type 0} (s : Assembler A) (f n : ℕ) (bytes : List ℕ) (b : BlockData) (r : IsReading s f n)
+    → n < 100 → IsBlock bytes → b ≡ block_of f n bytes
+    → MayFollow (terminator r.past.query) (plan r.past) (Announces b)
+may_announce s f n bytes b r few block same =
+    let F : BlockData → Type 0 = λ x. MayFollow (terminator r.past.query) (plan r.past) (Announces x) in
+    subst F (sym same) (may_announce_bytes s f n bytes r few block)
+
 all_push : (bs : List BlockData) (b : BlockData) → AllByRecursion (λ x. EndsWith 10 x.bytes) bs → EndsWith 10 b.bytes
     → AllByRecursion (λ x. EndsWith 10 x.bytes) (bs ++ b ∷ [])
 all_push [] b h e = (e, tt)
 all_push (x ∷ bs) b h e = (h.0, all_push bs b h.1 e)
 
 -- it was announced
-pub announced : {A : Type 0} (s s' : Assembler A) (f n : ℕ) (bytes : List ℕ) (r : IsReading s f n) → IsBlock bytes
-    → Stands s' (planned r.past (Announces (block_of f n bytes))) → IsReading s' f (n + 1)
-announced s s' f n bytes r block h =
+pub announced : {A : Type 0} (s s' : Assembler A) (f n : ℕ) (bytes : List ℕ) (b : BlockData) (r : IsReading s f n)
+    → IsBlock bytes → b ≡ block_of f n bytes → Stands s' (planned r.past (Announces b)) → IsReading s' f (n + 1)
+announced s s' f n bytes b r block same h =
     let blocks = last_blocks (plan r.past) in
-    let b = block_of f n bytes in
-    let len : length (joined (blocks ++ b ∷ [])) ≡ length (joined blocks) + length (bytes ++ []) =
-    ap length (flat_map-append (λ (x : BlockData). x.bytes) blocks (b ∷ [])) ∙ length-append (joined blocks) (bytes ++ []) in
-    let same : length (bytes ++ []) ≡ length bytes + 0 = length-append bytes [] in
+    let text : b.bytes ≡ bytes = ap (λ (x : BlockData). x.bytes) same in
+    let len : length (joined (blocks ++ b ∷ [])) ≡ length (joined blocks) + length (b.bytes ++ []) =
+    ap length (flat_map-append (λ (x : BlockData). x.bytes) blocks (b ∷ []))
+    ∙ length-append (joined blocks) (b.bytes ++ []) in
+    let more : length (b.bytes ++ []) ≡ length b.bytes + 0 = length-append b.bytes [] in
+    let short : length b.bytes ≤ 100 = subst (λ (x : List ℕ). length x ≤ 100) (sym text) block.short in
     record {
       past = planned r.past (Announces b);
       stands = h;
@@ -87,8 +96,8 @@ announced s s' f n bytes r block h =
       last = r.last;
       ends = r.ends;
       number = length_push blocks b ∙ ap (λ k. k + 1) r.number;
-      seam = all_push blocks b r.seam block.ends;
-      size = omega (arith, len, same, r.size, block.short);
+      seam = all_push blocks b r.seam (subst (λ (x : List ℕ). EndsWith 10 x) (sym text) block.ends);
+      size = omega (arith, len, more, short, r.size);
     }
 
 -- a result arrived

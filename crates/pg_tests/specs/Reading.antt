@@ -21,8 +21,8 @@ pub record IsBetween {A : Type 0} (s : Assembler A) (files : ℕ) : Type 0 where
   pub number : opened (plan past) ≡ files
   pub ends : terminator past.query ≡ 10
 
--- Lines end with newlines, the file of this number is open, and so many blocks of it were announced, each of at most 100
--- bytes.
+-- Lines end with newlines, the file of this number is open, and so many blocks of it were announced, each of at most
+-- 100 bytes.
 pub record IsReading {A : Type 0} (s : Assembler A) (file count : ℕ) : Type 0 where
   pub past : Past
   pub stands : Stands s past

@@ -219,17 +219,24 @@ fn put_in_order(blocks: &mut [Block], order: Order) {
     }
 }
 
-/// A sequencer that gets results, what it writes, and what is wanted of it.
+/// A case whose files are planned: the sequencer that gets the results, and what it writes.
 #[derive(Drop)]
 struct Trial<'a> {
     alloc: Global,
+    case: &'a Case,
     sequencer: Sequencer,
     sink: MemSink,
-    output: &'a [u8],
 }
 
 impl Trial<'_> {
-    /// Whether the result of a block has this answer, and a beginning of the output is written then.
+    /// Whether a drain succeeds, and a beginning of the output is written then.
+    fn drains(&mut self) -> bool {
+        let drained = self.sequencer.drain(&mut self.sink);
+        let output = self.case.output.as_bytes();
+        drained.is_ok() && output.starts_with(self.sink.bytes())
+    }
+
+    /// Whether the result of a block has this answer, and a drain succeeds.
     fn takes(
         &mut self,
         rt: &impl Abort,
@@ -241,22 +248,20 @@ impl Trial<'_> {
         assert!(rt; bytes.len() <= 100);
         let found = search(self.alloc, query, block.file, block.number, bytes)?;
         let answer = self.sequencer.arrive(found);
-        let drained = self.sequencer.drain(&mut self.sink);
-        Ok(answer == arrival && drained.is_ok() && self.output.starts_with(self.sink.bytes()))
+        Ok(answer == arrival && self.drains())
     }
 
-    /// Whether the whole output of the case is written, and its status is there.
-    fn ends(&mut self, case: &Case) -> bool {
-        let drained = self.sequencer.drain(&mut self.sink);
-        drained.is_ok()
-            && self.sink.bytes() == case.output.as_bytes()
+    /// Whether the whole output is written, and the status is there.
+    fn ends(&mut self) -> bool {
+        self.drains()
+            && self.sink.bytes().len() == self.case.output.len()
             && self.sequencer.complete()
-            && self.sequencer.status() == Some(case.status)
+            && self.sequencer.status() == Some(self.case.status)
     }
 }
 
-/// Whether a case has its output and status where its blocks have at least `size` bytes and results arrive in this order.
-/// Behind each third result come one of another query, and the same once more.
+/// Whether a case has its output and status where blocks have at least `size` bytes and results arrive in this order.
+/// Behind each third result come one of another query and the same once more.
 fn passes(rt: &impl Abort, alloc: Global, case: &Case, size: u8, order: Order) -> Result<bool, Fail>
     requires room { HasRoom case.now.format }
     requires zero { (arc_value case.now.query).text.zero ≡ false }
@@ -264,11 +269,12 @@ fn passes(rt: &impl Abort, alloc: Global, case: &Case, size: u8, order: Order) -
     let (sequencer, mut blocks) = plan_case(rt, alloc, case, size)?;
     put_in_order(&mut blocks, order);
     let other = query_of(alloc, b"other")?;
+    let sink = MemSink::new(alloc, 1000)?;
     let mut trial = Trial {
         alloc,
+        case,
         sequencer,
-        sink: MemSink::new(alloc, 1000)?,
-        output: case.output.as_bytes(),
+        sink,
     };
     let mut right = true;
     for (turn, block) in blocks.iter().enumerate() {
@@ -278,10 +284,10 @@ fn passes(rt: &impl Abort, alloc: Global, case: &Case, size: u8, order: Order) -
             right &= trial.takes(rt, &case.query, block, Arrival::Double)?;
         }
     }
-    Ok(right && trial.ends(case))
+    Ok(right && trial.ends())
 }
 
-/// A case has its output and status in blocks of its size and of one line, in the order of its seed and the falling one.
+/// A case has its output and status in blocks of its size and of a line, in the order of its seed and the falling one.
 fn assert_case(rt: &impl Abort, alloc: Global, row: &str) -> Result<(), Fail> {
     let case = case_of(rt, alloc, row)?;
     let seeded = Order::Seeded(case.seed);
@@ -304,8 +310,8 @@ fn formats_give_the_output_of_grep(rt: HostRuntime) -> Result<(), Fail> {
     Ok(())
 }
 
-/// A format, and what is read of files in which `m` is searched for: a letter is a line that arrives, `|` ends a file and
-/// opens the next one. Behind each stands `+` where enough was read then, and else `-`.
+/// A format, and what is read of files in which `m` is searched for: a letter is a line that arrives, `|` ends a file
+/// and opens the next one. Behind each stands `+` where enough was read then, and else `-`.
 const ENOUGH: &str = r"---1-1 m-a+b+
 --l--- a-m+
 --q--- a-|-m+|+

@@ -1,4 +1,5 @@
-//! Tests of the search, the sequencer and the command: sinks, refused memory, results in any order, command lines.
+//! Tests of the search, the sequencer and the command: sinks, formats, refused memory, results in any order, command
+//! lines.
 #![tactic(auto)]
 
 #[cfg(test)]

@@ -4,4 +4,5 @@ use Rattle.pg_tests.proofs.formats.take_result.Goals as goal
 pub returns : goal.returns
 returns g c =
     let r = c.requires in
-    arrived_on c.args.sequencer.now _ c.args.file c.args.count c.args.found r (c.arrive-arrival.ensures.stands r.past r.stands)
+    let stands = c.arrive-arrival.ensures.stands r.past r.stands in
+    arrived_on c.args.sequencer.now _ c.args.file c.args.count c.args.found r stands
