@@ -39,20 +39,30 @@ pub(crate) fn text_of<A: Allocator + Copy>(
     })
 }
 
-/// A query for one fixed string. No memory is there for one whose text is no pattern.
-pub(crate) fn query_of<A: Allocator + Copy>(
+/// A query for a text. No memory is there for one whose text is no pattern.
+pub(crate) fn compile<A: Allocator + Copy>(
     alloc: A,
-    pattern: &[u8],
+    text: QueryText<A>,
 ) -> Result<Arc<Query<A>, A>, AllocError>
-    ensures { IfOk result (λ query. (arc_value query).text.zero ≡ false) }
+    ensures { IfOk result (λ query. (arc_value query).text ≡ text) }
 {
-    match Query::compile(alloc, text_of(alloc, Kind::Fixed, pattern)?) {
+    match Query::compile(alloc, text) {
         Ok(query) => {
             let query = Arc::new(alloc, query)?;
             Ok(query)
         }
         Err(_) => Err(AllocError),
     }
+}
+
+/// A query for one fixed string.
+pub(crate) fn query_of<A: Allocator + Copy>(
+    alloc: A,
+    pattern: &[u8],
+) -> Result<Arc<Query<A>, A>, AllocError>
+    ensures { IfOk result (λ query. (arc_value query).text.zero ≡ false) }
+{
+    compile(alloc, text_of(alloc, Kind::Fixed, pattern)?)
 }
 
 /// What a search finds in a block of at most 100 bytes.

@@ -1,6 +1,9 @@
-//! Tests of the search, the sequencer and the command: sinks, refused memory, results in any order, command lines.
+//! Tests of the search, the sequencer and the command: sinks, formats, refused memory, results in any order, command
+//! lines.
 #![tactic(auto)]
 
+#[cfg(test)]
+mod cases;
 #[cfg(test)]
 mod command;
 #[cfg(test)]
@@ -10,7 +13,11 @@ mod disk_store;
 #[cfg(test)]
 mod fixtures;
 #[cfg(test)]
+mod formats;
+#[cfg(test)]
 mod patterns;
+#[cfg(test)]
+mod planning;
 #[cfg(test)]
 mod run;
 #[cfg(test)]

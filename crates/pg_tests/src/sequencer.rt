@@ -1,10 +1,11 @@
 //! Results that arrive in any order, sinks that fail, and requests for memory that are refused.
-ghost use Rattle.std.specs.Prelude.{◌≡◌, ℕ, ◌+◌, ◌<◌, ◌≤◌, length, IfOk, OnOk, false};
+ghost use Rattle.std.specs.Prelude.{◌≡◌, ◌+◌, ◌<◌, ◌≤◌, length, OnOk, false};
 ghost use Rattle.std.specs.Arc.{arc_value};
 ghost use Rattle.pg_tests.specs.Reading.{IsReading};
 
 use crate::fixtures::{PLAIN, query_of, search};
-use pg_lines::{Block, BlockResult, Query};
+use crate::planning::{announce_block, end_file, new_sequencer, open_file, open_next};
+use pg_lines::{BlockResult, Query};
 use pg_seq::{Arrival, MemSink, Sequencer, SinkFault};
 use refusing::Refusing;
 use std::alloc::{AllocError, Allocator};
@@ -15,43 +16,7 @@ use std::test::Fail;
 /// All that is written, where the lines are selected.
 const OUTPUT: &[u8] = b"xa\nxb\nxc\n";
 
-/// A sequencer with an open file.
-fn open_file<A: Allocator + Copy>(
-    alloc: A,
-    query: &Arc<Query<A>, A>,
-) -> Result<Sequencer<A>, AllocError>
-    requires { (arc_value query.now).text.zero ≡ false }
-    ensures { IfOk result (λ sequencer. IsReading sequencer 0 0) }
-{
-    let searched: &Query<A> = query;
-    let _compiled = searched.text();
-    let mut sequencer = Sequencer::new(alloc, Arc::try_clone(query)?, PLAIN)?;
-    sequencer.open(b"f")?;
-    Ok(sequencer)
-}
-
-/// Ends the open file and opens the next one, and opens it again where a request for memory is
-/// refused. The answer says whether one was.
-fn open_next<A: Allocator + Copy>(
-    sequencer: &mut Sequencer<A>,
-    file: u32,
-) -> Result<bool, AllocError>
-    requires reading { (count : ℕ) × IsReading sequencer.old file count }
-    requires few { file < 100 }
-    ensures { OnOk result (IsReading sequencer.new (file + 1) 0) }
-{
-    sequencer.end(false);
-    match sequencer.open(b"f") {
-        Ok(()) => Ok(false),
-        Err(AllocError) => {
-            sequencer.open(b"f")?;
-            Ok(true)
-        }
-    }
-}
-
-/// Announces the next block, which is a line of `x` and a letter, and announces it again where a
-/// request for memory is refused. The answer says whether one was.
+/// Announces the next block, which is a line of `x` and a letter, as `announce_block` does.
 fn announce_line<A: Allocator + Copy>(
     alloc: A,
     sequencer: &mut Sequencer<A>,
@@ -63,20 +28,7 @@ fn announce_line<A: Allocator + Copy>(
     requires few { number < 100 }
     ensures { OnOk result (IsReading sequencer.new file (number + 1)) }
 {
-    let block = Block {
-        file,
-        number,
-        bytes: Vec::from_slice(alloc, &[b'x', letter, b'\n'])?,
-    };
-    let block = Arc::new(alloc, block)?;
-    let again = Arc::try_clone(&block)?;
-    match sequencer.announce(block) {
-        Ok(()) => Ok(false),
-        Err(AllocError) => {
-            sequencer.announce(again)?;
-            Ok(true)
-        }
-    }
+    announce_block(alloc, sequencer, file, number, &[b'x', letter, b'\n'])
 }
 
 /// A sequencer with files that have ended, and whether a request for memory of an announcement or
@@ -90,8 +42,8 @@ fn plan_lines<A: Allocator + Copy>(
     requires zero { (arc_value query.now).text.zero ≡ false }
     requires few { length letters.now ≤ 100 }
 {
-    let mut sequencer = open_file(alloc, query)?;
-    let mut again = false;
+    let mut sequencer = new_sequencer(alloc, query, PLAIN)?;
+    let mut again = open_file(&mut sequencer, 0, b"f")?;
     let mut file = 0;
     let mut number = 0;
     for letter in letters {
@@ -104,7 +56,7 @@ fn plan_lines<A: Allocator + Copy>(
             number += 1;
         }
     }
-    sequencer.end(false);
+    end_file(&mut sequencer, file);
     Ok((sequencer, again))
 }
 
@@ -251,7 +203,8 @@ fn nothing_is_selected(rt: HostRuntime) -> Result<(), Fail> {
 #[test]
 fn open_file_is_not_complete(rt: HostRuntime) -> Result<(), Fail> {
     let query = query_of(rt.alloc(), b"x")?;
-    let mut sequencer = open_file(rt.alloc(), &query)?;
+    let mut sequencer = new_sequencer(rt.alloc(), &query, PLAIN)?;
+    open_file(&mut sequencer, 0, b"f")?;
     assert!(rt; !sequencer.complete());
     assert_eq!(rt; sequencer.status(), None);
     sequencer.end(true);

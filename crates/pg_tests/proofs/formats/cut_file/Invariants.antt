@@ -1,0 +1,5 @@
+use Rattle.pg_lines.specs.Cutter.{waiting}
+use Rattle.pg_tests.proofs.formats.cut_file.Given as goal
+
+abbrev pub decreases-loop-block : goal.decreases-loop-block
+decreases-loop-block l = waiting l.cutter

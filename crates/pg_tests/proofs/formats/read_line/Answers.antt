@@ -1,0 +1,5 @@
+use Rattle.std.proofs.Common.{◌∷◌, [], refl, lit≤}
+use Rattle.pg_tests.proofs.formats.read_line.Goals as goal
+
+pub announce_block-requires-clause-block : goal.announce_block-requires-clause-block
+announce_block-requires-clause-block g c = record { short = lit≤ tt; ends = (c.args.letter ∷ [], refl) }

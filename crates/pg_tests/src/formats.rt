@@ -1,0 +1,390 @@
+//! Every format, over results in any order, against what GNU grep writes.
+ghost use Rattle.std.specs.Prelude.{◌≡◌, ◌+◌, ◌<◌, ◌≤◌, false, true, IfOk, OnOk};
+ghost use Rattle.std.specs.Arc.{arc_value};
+ghost use Rattle.pg_rows.specs.Output.{is_below, HasRoom};
+ghost use Rattle.pg_tests.specs.Reading.{IsBetween, IsReading};
+
+use crate::cases::CASES;
+use crate::fixtures::{compile, query_of, search, text_of};
+use crate::planning::{
+    announce_block, end_file, is_block, miss_name, new_sequencer, open_file, open_next,
+};
+use pg_lines::{Block, BlockResult, Cutter, Kind, Query};
+use pg_seq::{Arrival, Format, MemSink, Mode, Sequencer};
+use std::alloc::{AllocError, Global};
+use std::process::Abort;
+use std::sync::Arc;
+use std::test::Fail;
+
+/// What stands before a mark and what stands behind it. Without the mark nothing stands behind.
+fn cut<'a>(text: &'a str, mark: &str) -> (&'a str, &'a str) {
+    text.split_once(mark).unwrap_or((text, ""))
+}
+
+/// A field with newlines in place of its slashes.
+fn with_newlines(alloc: Global, field: &str) -> Result<String, AllocError> {
+    field
+        .chars()
+        .map(|c| if c == '/' { '\n' } else { c })
+        .collect(alloc)
+}
+
+/// The number of a digit, if the letter is one.
+fn digit(letter: u8) -> Option<u16> {
+    match letter {
+        b'0'..=b'9' => Some(u16::from(letter - b'0')),
+        _ => None,
+    }
+}
+
+/// The limit of a digit above 0.
+fn limit_of(letter: u8) -> Option<u32>
+    ensures { is_below 0 result ≡ true }
+{
+    match letter {
+        b'1'..=b'9' => Some(u32::from(letter - b'0')),
+        _ => None,
+    }
+}
+
+fn mode_of(letter: u8) -> Mode {
+    match letter {
+        b'c' => Mode::Count,
+        b'l' => Mode::List,
+        b'q' => Mode::Quiet,
+        _ => Mode::Rows,
+    }
+}
+
+/// The format of six letters: names, numbers, mode, limit, lines before and lines after.
+fn format_of(rt: &impl Abort, letters: &str) -> Format
+    ensures { HasRoom result }
+{
+    let [names, numbers, mode, limit, before, after] = letters.as_bytes() else {
+        panic!(rt; "six letters");
+    };
+    Format {
+        names: *names == b'H',
+        numbers: *numbers == b'n',
+        mode: mode_of(*mode),
+        limit: limit_of(*limit),
+        before: digit(*before),
+        after: digit(*after).map(u32::from),
+    }
+}
+
+fn kind_of(letters: &str) -> Kind {
+    match letters.as_bytes().first() {
+        Some(b'F') => Kind::Fixed,
+        Some(b'E') => Kind::Extended,
+        _ => Kind::Basic,
+    }
+}
+
+/// The query of letters and a text behind a colon: its kind, `o` for matched parts, `v` for lines that aren't matched.
+fn asked_query(alloc: Global, field: &str) -> Result<Arc<Query>, AllocError>
+    ensures { IfOk result (λ query. (arc_value query).text.zero ≡ false) }
+{
+    let (letters, pattern) = cut(field, ":");
+    let mut text = text_of(alloc, kind_of(letters), pattern.as_bytes())?;
+    text.pieces = letters.ends_with('o');
+    text.invert = letters.ends_with('v');
+    compile(alloc, text)
+}
+
+/// A row of the table.
+#[derive(Drop)]
+struct Case {
+    format: Format,
+    query: Arc<Query>,
+    /// The least bytes of a block.
+    size: u8,
+    /// Of the order in which results arrive.
+    seed: u8,
+    /// Each behind a `|`.
+    files: String,
+    output: String,
+    status: u8,
+}
+
+fn case_of(rt: &impl Abort, alloc: Global, row: &str) -> Result<Case, Fail>
+    ensures room { IfOk result (λ case. HasRoom case.format) }
+    ensures zero { IfOk result (λ case. (arc_value case.query).text.zero ≡ false) }
+{
+    let fields: Vec<&str> = row.split(' ').collect(alloc)?;
+    let [letters, asked, size, seed, files, answer] = fields.as_slice() else {
+        panic!(rt; "six fields: {row}");
+    };
+    let (status, output) = cut(answer, ":");
+    Ok(Case {
+        format: format_of(rt, letters),
+        query: asked_query(alloc, asked)?,
+        size: size.parse()?,
+        seed: seed.parse()?,
+        files: with_newlines(alloc, files)?,
+        output: with_newlines(alloc, output)?,
+        status: status.parse()?,
+    })
+}
+
+/// The blocks of a file. All but the last one have at least `size` bytes, and each has at least one.
+fn cut_file(alloc: Global, file: u32, text: &str, size: u8) -> Result<Vec<Block>, Fail> {
+    let mut cutter = Cutter::new(alloc, file, u32::from(size.max(1)), 100, b'\n');
+    cutter.feed(text.as_bytes())?;
+    let mut blocks = Vec::new(alloc);
+    while let Some(block) = cutter.take() {
+        blocks.push(block)?;
+    }
+    if let Some(block) = cutter.finish() {
+        blocks.push(block)?;
+    }
+    Ok(blocks)
+}
+
+/// Plans a file with these blocks.
+fn plan_file(
+    rt: &impl Abort,
+    alloc: Global,
+    sequencer: &mut Sequencer,
+    file: u32,
+    name: u8,
+    blocks: &[Block],
+) -> Result<(), AllocError>
+    requires between { IsBetween sequencer.old file }
+    requires few { file ≤ 100 }
+    ensures { OnOk result (IsBetween sequencer.new (file + 1)) }
+{
+    open_file(sequencer, file, &[name])?;
+    let mut number = 0;
+    for block in blocks {
+        assert!(rt; number < 100);
+        assert!(rt; is_block(&block.bytes));
+        announce_block(alloc, sequencer, file, number, &block.bytes)?;
+        number += 1;
+    }
+    end_file(sequencer, file);
+    Ok(())
+}
+
+/// A sequencer with the files of a case, and their blocks, which have at least `size` bytes. `!` is a file that isn't
+/// there.
+fn plan_case(
+    rt: &impl Abort,
+    alloc: Global,
+    case: &Case,
+    size: u8,
+) -> Result<(Sequencer, Vec<Block>), Fail>
+    requires room { HasRoom case.now.format }
+    requires zero { (arc_value case.now.query).text.zero ≡ false }
+{
+    let mut sequencer = new_sequencer(alloc, &case.query, case.format)?;
+    let mut planned = Vec::new(alloc);
+    let mut file = 0;
+    let mut name = b'a';
+    for text in case.files.as_str().split('|').skip(1) {
+        assert!(rt; file < 100);
+        if text == "!" {
+            miss_name(&mut sequencer, file, &[name])?;
+        } else {
+            let mut blocks = cut_file(alloc, file, text, size)?;
+            plan_file(rt, alloc, &mut sequencer, file, name, &blocks)?;
+            planned.append(&mut blocks)?;
+            file += 1;
+        }
+        name = name.wrapping_add(1);
+    }
+    Ok((sequencer, planned))
+}
+
+/// The order in which results arrive.
+#[derive(Clone, Copy)]
+enum Order {
+    /// One that a seed gives.
+    Seeded(u8),
+    /// The last block first.
+    Falling,
+}
+
+/// Puts the blocks into an order.
+fn put_in_order(blocks: &mut [Block], order: Order) {
+    match order {
+        Order::Seeded(seed) => {
+            let mut state = u32::from(seed);
+            for at in 0..blocks.len() {
+                state = state.wrapping_mul(1_664_525).wrapping_add(1_013_904_223);
+                blocks.swap(at, (state >> 16) as usize % blocks.len());
+            }
+        }
+        Order::Falling => blocks.reverse(),
+    }
+}
+
+/// A case whose files are planned: the sequencer that gets the results, and what it writes.
+#[derive(Drop)]
+struct Trial<'a> {
+    alloc: Global,
+    case: &'a Case,
+    sequencer: Sequencer,
+    sink: MemSink,
+}
+
+impl Trial<'_> {
+    /// Whether a drain succeeds, and a beginning of the output is written then.
+    fn drains(&mut self) -> bool {
+        let drained = self.sequencer.drain(&mut self.sink);
+        let output = self.case.output.as_bytes();
+        drained.is_ok() && output.starts_with(self.sink.bytes())
+    }
+
+    /// Whether the result of a block has this answer, and a drain succeeds.
+    fn takes(
+        &mut self,
+        rt: &impl Abort,
+        query: &Arc<Query>,
+        block: &Block,
+        arrival: Arrival,
+    ) -> Result<bool, AllocError> {
+        let bytes = block.bytes.as_slice();
+        assert!(rt; bytes.len() <= 100);
+        let found = search(self.alloc, query, block.file, block.number, bytes)?;
+        let answer = self.sequencer.arrive(found);
+        Ok(answer == arrival && self.drains())
+    }
+
+    /// Whether the whole output is written, and the status is there.
+    fn ends(&mut self) -> bool {
+        self.drains()
+            && self.sink.bytes().len() == self.case.output.len()
+            && self.sequencer.complete()
+            && self.sequencer.status() == Some(self.case.status)
+    }
+}
+
+/// Whether a case has its output and status where blocks have at least `size` bytes and results arrive in this order.
+/// Behind each third result come one of another query and the same once more.
+fn passes(rt: &impl Abort, alloc: Global, case: &Case, size: u8, order: Order) -> Result<bool, Fail>
+    requires room { HasRoom case.now.format }
+    requires zero { (arc_value case.now.query).text.zero ≡ false }
+{
+    let (sequencer, mut blocks) = plan_case(rt, alloc, case, size)?;
+    put_in_order(&mut blocks, order);
+    let other = query_of(alloc, b"other")?;
+    let sink = MemSink::new(alloc, 1000)?;
+    let mut trial = Trial {
+        alloc,
+        case,
+        sequencer,
+        sink,
+    };
+    let mut right = true;
+    for (turn, block) in blocks.iter().enumerate() {
+        right &= trial.takes(rt, &case.query, block, Arrival::Taken)?;
+        if turn % 3 == 2 {
+            right &= trial.takes(rt, &other, block, Arrival::Stranger)?;
+            right &= trial.takes(rt, &case.query, block, Arrival::Double)?;
+        }
+    }
+    Ok(right && trial.ends())
+}
+
+/// A case has its output and status in blocks of its size and of a line, in the order of its seed and the falling one.
+fn assert_case(rt: &impl Abort, alloc: Global, row: &str) -> Result<(), Fail> {
+    let case = case_of(rt, alloc, row)?;
+    let seeded = Order::Seeded(case.seed);
+    for (size, order) in [
+        (case.size, seeded),
+        (1, seeded),
+        (case.size, Order::Falling),
+    ] {
+        let right = passes(rt, alloc, &case, size, order)?;
+        assert!(rt; right, "{row}");
+    }
+    Ok(())
+}
+
+#[test]
+fn formats_give_the_output_of_grep(rt: HostRuntime) -> Result<(), Fail> {
+    for row in CASES.lines() {
+        assert_case(&rt, rt.alloc(), row)?;
+    }
+    Ok(())
+}
+
+/// A format, and what is read of files in which `m` is searched for: a letter is a line that arrives, `|` ends a file
+/// and opens the next one. Behind each stands `+` where enough was read then, and else `-`.
+const ENOUGH: &str = r"---1-1 m-a+b+
+--l--- a-m+
+--q--- a-|-m+|+
+--c2-- m-m+
+------ m-a-m-";
+
+/// A result of the open file arrives, and is taken.
+fn take_result(
+    rt: &impl Abort,
+    sequencer: &mut Sequencer,
+    file: u32,
+    count: u64,
+    found: BlockResult,
+)
+    requires { IsReading sequencer.old file count }
+    ensures { IsReading sequencer.new file count }
+{
+    let arrival = sequencer.arrive(found);
+    assert_eq!(rt; arrival, Arrival::Taken);
+}
+
+/// Announces the next block, a line of one letter. Its result arrives.
+fn read_line(
+    rt: &impl Abort,
+    alloc: Global,
+    query: &Arc<Query>,
+    sequencer: &mut Sequencer,
+    file: u32,
+    number: u64,
+    letter: u8,
+) -> Result<(), AllocError>
+    requires reading { IsReading sequencer.old file number }
+    requires few { number < 100 }
+    ensures { OnOk result (IsReading sequencer.new file (number + 1)) }
+{
+    let line = [letter, b'\n'];
+    announce_block(alloc, sequencer, file, number, &line)?;
+    let found = search(alloc, query, file, number, &line)?;
+    take_result(rt, sequencer, file, number + 1, found);
+    Ok(())
+}
+
+/// What was read is enough where the row says so.
+fn assert_enough(rt: &impl Abort, alloc: Global, row: &str) -> Result<(), Fail> {
+    let (letters, steps) = cut(row, " ");
+    let query = query_of(alloc, b"m")?;
+    let mut sequencer = new_sequencer(alloc, &query, format_of(rt, letters))?;
+    open_file(&mut sequencer, 0, b"f")?;
+    let mut file = 0;
+    let mut number = 0;
+    for step in steps.as_bytes().chunks(2) {
+        let [letter, answer] = step else {
+            panic!(rt; "a letter and a sign: {row}");
+        };
+        assert!(rt; file < 100);
+        assert!(rt; number < 100);
+        if *letter == b'|' {
+            open_next(&mut sequencer, file)?;
+            file += 1;
+            number = 0;
+        } else {
+            read_line(rt, alloc, &query, &mut sequencer, file, number, *letter)?;
+            number += 1;
+        }
+        assert_eq!(rt; sequencer.enough(), *answer == b'+', "{row}");
+    }
+    Ok(())
+}
+
+#[test]
+fn enough_was_read(rt: HostRuntime) -> Result<(), Fail> {
+    for row in ENOUGH.lines() {
+        assert_enough(&rt, rt.alloc(), row)?;
+    }
+    Ok(())
+}
