@@ -147,8 +147,8 @@ impl<A: Allocator> Printer<A> {
         self.progress
     }
 
-    /// Goes on behind a block whose rows were written. The block is held as long as its last lines may
-    /// still be shown.
+    /// Goes on behind a block whose rows were written: the one that `print` was given last, with what it
+    /// answered. The block is held as long as its last lines may still be shown.
     pub fn pass(&mut self, block: Arc<Block<A>, A>, printed: Printed)
         requires { (q : Search) × (format : Format) × (c : Cursor) × Remembers self.old q format c
             × Follows self.old q format (behind_block q format c (arc_value block).bytes)
@@ -319,8 +319,9 @@ impl<A: Allocator> Printer<A> {
         self.print_lines(out, bytes, runs, total)
     }
 
-    /// Writes the rows that a block adds. The printer stands where it stood; `pass` goes on behind the
-    /// block.
+    /// Writes the rows that a block adds: the open file's next one, by its result under the query that the
+    /// printer is for, and with fewer than 2^63 lines in the file up to its end. The printer stands where it
+    /// stood; `pass` goes on behind the block.
     ///
     /// # Errors
     ///

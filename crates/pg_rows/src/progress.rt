@@ -42,7 +42,8 @@ impl Progress {
         }
     }
 
-    /// Passes `count` more lines, none of which is kept. The first of them may be shown as trailing context.
+    /// Passes `count` more lines, none of which is kept. The first of them may be shown as trailing context. With those
+    /// before them they are fewer than 2^63.
     pub fn pass(self, count: u64) -> Progress
         requires { self.number + count < 2 ^ 63 }
         ensures fields { Passes self count result }
@@ -57,7 +58,7 @@ impl Progress {
         }
     }
 
-    /// Takes `count` more lines, at least one, that are all kept.
+    /// Takes `count` more lines, at least one, that are all kept. With those before them they are fewer than 2^63.
     pub fn keep(self, count: u64, format: &Format) -> Progress
         requires { self.number + count < 2 ^ 63 }
         ensures fields { Keeps self format.now count result }
@@ -106,7 +107,8 @@ impl Progress {
     }
 
     /// Goes past a block of so many lines, by its runs of selected lines. It costs a step for each run and none for a
-    /// line, and stops at the first run that has no line within the limit.
+    /// line, and stops at the first run that has no line within the limit. With those before them the lines are fewer than
+    /// 2^63.
     pub fn after(self, format: &Format, runs: &[Run], lines: u64) -> Progress
         requires { self.number + lines < 2 ^ 63 }
         ensures number { result.number ≡ self.number + lines }

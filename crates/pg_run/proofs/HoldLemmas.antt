@@ -4,7 +4,7 @@ use Rattle.std.proofs.Common.{Some, None, Result, Ok, Err, List, [], ◌∷◌, 
 use Rattle.std.proofs.Common.{subst, arith, append_assoc}
 use Rattle.std.specs.List.{AllByRecursion, Contains, list_all}
 use Rattle.std.specs.Option.{IsSome, MatchOption}
-use Rattle.std.specs.Result.{OnErr, IsErrAnd, IsErrOf}
+use Rattle.std.specs.Result.{IsErrAnd, IsErrOf}
 use Rattle.std.specs.Arc.{arc_value}
 use Rattle.std.proofs.lemmas.Bool.{eq-eqb, false≢true}
 use Rattle.std.proofs.lemmas.List.{append-nil, get_or_at, length_push}
@@ -210,6 +210,11 @@ module _ {A : Type 0} {s : Searcher A} {task : Task} {blocks : List BlockData} {
     part = ([], append-nil (h.past.written ++ text) ∙ (all ∙ handed_is));
     got = written_more text after' got;
   }
+
+  -- and leaves nothing of it back
+  pub drain_written : (text after' : List ℕ) → h.past.written ++ text ≡ handed h.past → after' ≡ after ++ text
+      → after' ≡ before ++ output_so_far task blocks
+  drain_written text after' all got = written_more text after' got ∙ ap (λ xs. before ++ xs) (all ∙ handed_is)
 
   -- a drain that fails
   pub drain_part : (text after' : List ℕ) (fault : SinkFault) → Drained (Err fault) h.past text

@@ -1,5 +1,5 @@
 //! Searches blocks of one file and writes their rows.
-ghost use Rattle.std.specs.Prelude.{◌≡◌, ℕ, ◌<◌, ◌≤◌, ◌∷◌, ◌++◌, List, [], IfOk, OnOk, OnErr, IsErrOf};
+ghost use Rattle.std.specs.Prelude.{◌≡◌, ℕ, ◌<◌, ◌≤◌, ◌∷◌, ◌++◌, List, [], IfOk, OnOk, OnErr, IsErr, IsErrOf};
 ghost use Rattle.std.specs.Arc.{arc_value};
 ghost use Rattle.pg_match.specs.Machines.{Fits};
 ghost use Rattle.pg_lines.specs.Search.{Pattern, AreTreesOf};
@@ -74,13 +74,16 @@ impl<A: Allocator + Copy> Searcher<A> {
         Ok(())
     }
 
-    /// Searches the file's next block, and writes its rows.
+    /// Searches the file's next block, and writes its rows at once.
     pub(crate) fn search<W: Sink>(&mut self, block: Block<A>, out: &mut W) -> Result<(), RunFault>
         requires { (task : Task) × (blocks : List BlockData) × (before : List ℕ)
             × IsReadyFor self.old task blocks block before (W.taken out.old) }
         ensures ok { (task : Task) → (blocks : List BlockData) → (before : List ℕ) →
             IsReadyFor self.old task blocks block before (W.taken out.old) →
             OnOk result (Holds self.new task (blocks ++ block ∷ []) before (W.taken out.new)) }
+        ensures written { (task : Task) → (blocks : List BlockData) → (before : List ℕ) →
+            IsReadyFor self.old task blocks block before (W.taken out.old) →
+            OnOk result (W.taken out.new ≡ before ++ output_so_far task (blocks ++ block ∷ [])) }
         ensures part { (task : Task) → (blocks : List BlockData) → (before : List ℕ) →
             IsReadyFor self.old task blocks block before (W.taken out.old) →
             OnErr result (TakesPart (output_so_far task (blocks ++ block ∷ [])) before (W.taken out.new)) }
@@ -108,7 +111,7 @@ impl<A: Allocator + Copy> Searcher<A> {
             Holds self.old task blocks before (W.taken out.old) →
             OnErr result (TakesPart (whole_output task (joined blocks)) before (W.taken out.new)) }
         ensures cause { IsErrOf result RunSink → W.failures out.old < W.failures out.new }
-        ensures short { IsErrOf result TooLong → ⊥ }
+        ensures fault { IsErr result → IsErrOf result RunSink }
         ensures no_failure { OnOk result (W.failures out.new ≡ W.failures out.old) }
         ensures never_falls { W.failures out.old ≤ W.failures out.new }
     {

@@ -2,7 +2,7 @@ use Rattle.std.proofs.Common.{◌∷◌, ◌++◌, [], refl}
 use Rattle.pg_rows.specs.Sink.{TakesPart}
 use Rattle.pg_rows.proofs.SinkLemmas.{on_err}
 use Rattle.pg_run.specs.Run.{output_so_far}
-use Rattle.pg_run.proofs.HoldLemmas.{part_before, drain_all, drain_part, drain_cause}
+use Rattle.pg_run.proofs.HoldLemmas.{part_before, drain_all, drain_written, drain_part, drain_cause}
 use Rattle.pg_run.proofs.searcher.Searcher.search.Goals as goal
 
 pub returns-in_err-take-clause-part : goal.returns-in_err-take-clause-part
@@ -22,6 +22,12 @@ returns-clause-ok g c = λ task blocks before ready.
     let h = c.in_ok-take.ensures task blocks before _ ready in
     let d = c.in_ok-drain.ensures.drained h.past h.stands in
     drain_all h _ d.0 _ d.2.1 d.1 d.3 refl
+
+pub returns-clause-written : goal.returns-clause-written
+returns-clause-written g c = λ task blocks before ready.
+    let h = c.in_ok-take.ensures task blocks before _ ready in
+    let d = c.in_ok-drain.ensures.drained h.past h.stands in
+    drain_written h d.0 _ d.2.1 d.1
 
 pub returns-in_err-drain-clause-cause : goal.returns-in_err-drain-clause-cause
 returns-in_err-drain-clause-cause g c = λ e.
