@@ -2,7 +2,7 @@ use Rattle.std.proofs.Common.{◌≡◌, ◌+◌, ◌-◌, ◌∷◌, [], ◌++�
 use Rattle.std.specs.Prelude.{position}
 use Rattle.pg_syntax.specs.Slices.{bytes_of}
 use Rattle.pg_syntax.proofs.SplitLemmas.{newline}
-use Rattle.pg_syntax.proofs.ListLemmas.{map-push, within-more, split-more, lines-more, split-end, lines-end}
+use Rattle.pg_syntax.proofs.ListLemmas.{bytes-pushed, within-more, split-more, lines-more, split-end, lines-end}
 use Rattle.pg_syntax.proofs.list.push_ended.Goals as goal
 
 pub loop-len-preserved : goal.loop-len-preserved
@@ -12,7 +12,7 @@ loop-len-preserved g c =
     let len = c.in-Some.len in
     let done = bytes_of c.loop-len.texts.items in
     let found : position newline (take (length text - start) (drop start text)) ≡ Some len = sym c.in-Some.ensures in
-    let pushed : bytes_of c.push.new.self.items ≡ done ++ take ((start + len) - start) (drop start text) ∷ [] = ap bytes_of c.in_ok-push.ensures.items ∙ map-push (λ s. s.now) c.loop-len.texts.items _ in
+    let pushed : bytes_of c.push.new.self.items ≡ done ++ take ((start + len) - start) (drop start text) ∷ [] = bytes-pushed c.push.new.self.items c.loop-len.texts.items _ c.in_ok-push.ensures.items in
     record {
       within = within-more text start len c.loop-len.invariant.within found;
       split = split-more (bytes_of c.push.new.self.items) done text start len pushed found ∙ c.loop-len.invariant.split;
