@@ -6,7 +6,6 @@ use pg_run::{Ending, MemStore};
 use pg_seq::MemSink;
 use pg_words::{Words, read_words};
 use std::alloc::{AllocError, Global};
-use std::process::Abort;
 use std::test::Fail;
 
 /// The most bytes that a test writes to a stream.
@@ -75,10 +74,9 @@ fn run(alloc: Global, text: &str, ending: Ending, limits: Limits) -> Result<Outc
     Ok(Outcome { status, out, err })
 }
 
-fn assert_outcome(rt: &impl Abort, found: &Outcome, status: u8, out: &[u8], told: &str) {
-    assert_eq!(rt; found.status, status);
-    assert_eq!(rt; found.out.bytes(), out);
-    assert_eq!(rt; found.err.bytes(), told.as_bytes());
+/// Whether a command line has this status, and has written and told these.
+fn is_outcome(found: &Outcome, status: u8, out: &[u8], told: &str) -> bool {
+    found.status == status && found.out.bytes() == out && found.err.bytes() == told.as_bytes()
 }
 
 /// Command lines that differ in the size of blocks.
@@ -102,7 +100,7 @@ fn few_bytes_at_a_time(rt: HostRuntime) -> Result<(), Fail> {
                 ..UNLIMITED
             };
             let found = run(rt.alloc(), text, Ending::Ends, limits)?;
-            assert_outcome(&rt, &found, 0, OUTPUT, "");
+            assert!(rt; is_outcome(&found, 0, OUTPUT, ""), "{text}");
         }
     }
     Ok(())
@@ -156,7 +154,7 @@ fn reading_fails_in_mid_stream(rt: HostRuntime) -> Result<(), Fail> {
     for row in BROKEN.split('|') {
         let (text, told) = row.split_once('=').unwrap_or(("", ""));
         let found = run(rt.alloc(), text, Ending::Fails, UNLIMITED)?;
-        assert_outcome(&rt, &found, 2, OUTPUT, told);
+        assert!(rt; is_outcome(&found, 2, OUTPUT, told), "{row}");
     }
     Ok(())
 }
@@ -172,7 +170,7 @@ fn reading_patterns_fails(rt: HostRuntime) -> Result<(), Fail> {
     for row in BROKEN_PATTERNS.split('|') {
         let (text, told) = row.split_once('=').unwrap_or(("", ""));
         let found = run(rt.alloc(), text, Ending::Fails, UNLIMITED)?;
-        assert_outcome(&rt, &found, 2, b"", told);
+        assert!(rt; is_outcome(&found, 2, b"", told), "{row}");
     }
     Ok(())
 }
@@ -189,7 +187,7 @@ fn an_output_that_fails(rt: HostRuntime) -> Result<(), Fail> {
             let found = run(rt.alloc(), "-F b -", Ending::Ends, limits)?;
             let written = if write == 0 { 0 } else { room };
             let told = "pargrep: write failed\n";
-            assert_outcome(&rt, &found, 2, &OUTPUT[..written], told);
+            assert!(rt; is_outcome(&found, 2, &OUTPUT[..written], told));
         }
     }
     Ok(())
@@ -204,7 +202,7 @@ fn both_streams_fail(rt: HostRuntime) -> Result<(), Fail> {
             ..UNLIMITED
         };
         let found = run(rt.alloc(), "-F b -", Ending::Ends, limits)?;
-        assert_outcome(&rt, &found, 2, &OUTPUT[..room], "");
+        assert!(rt; is_outcome(&found, 2, &OUTPUT[..room], ""));
     }
     Ok(())
 }
@@ -216,8 +214,8 @@ fn texts_of_rare_faults(rt: HostRuntime) -> Result<(), Fail> {
         (Fault::LineTooLong, "pargrep: line too long\n"),
     ] {
         let mut err = MemSink::new(rt.alloc(), ROOM)?;
-        assert_eq!(rt; report(rt.alloc(), fault, &mut err), 2);
-        assert_eq!(rt; err.bytes(), line.as_bytes());
+        let status = report(rt.alloc(), fault, &mut err);
+        assert!(rt; status == 2 && err.bytes() == line.as_bytes(), "{line}");
     }
     Ok(())
 }

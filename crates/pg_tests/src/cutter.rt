@@ -2,7 +2,7 @@
 use crate::fixtures::{query_of, search, text_of};
 use pg_lines::{Block, CutFault, Cutter, Kind, Query, QueryFault};
 use refusing::Refusing;
-use std::alloc::Allocator;
+use std::alloc::{AllocError, Allocator, Global};
 use std::process::Abort;
 use std::test::Fail;
 
@@ -11,49 +11,76 @@ const FILE: &[u8] = b"a\nbc\n\nd\nefg\nh";
 /// The blocks of the file that have at least two bytes, but for the last one.
 const BLOCKS: [&[u8]; 4] = [b"a\n", b"bc\n", b"\nd\n", b"efg\n"];
 
-/// Feeds a piece, and again where a request for memory is refused, which happens once.
-fn feed_at_last<A: Allocator + Copy>(rt: &impl Abort, cutter: &mut Cutter<A>, piece: &[u8]) {
-    let fed = cutter.feed(piece);
-    if fed.is_err() {
-        assert_eq!(rt; fed, Err(CutFault::OutOfMemory));
-        assert_eq!(rt; cutter.feed(piece), Ok(()));
+/// Feeds a piece, and again where a request for memory is refused, which happens once. Answers whether it succeeds.
+fn feed_at_last<A: Allocator + Copy>(cutter: &mut Cutter<A>, piece: &[u8]) -> bool {
+    match cutter.feed(piece) {
+        Ok(()) => true,
+        Err(CutFault::OutOfMemory) => cutter.feed(piece).is_ok(),
+        Err(_) => false,
     }
 }
 
-/// A block is there, has a number and bytes, and is of file 3.
-fn assert_block<A: Allocator>(rt: &impl Abort, block: Option<Block<A>>, number: u64, bytes: &[u8]) {
-    let block = block.expect(rt, "a block");
-    assert_eq!(rt; block.file, 3);
-    assert_eq!(rt; block.number, number);
-    assert_eq!(rt; block.bytes.as_slice(), bytes);
+/// Whether a block is there, has a number and bytes, and is of file 3.
+fn is_block<A: Allocator>(block: Option<Block<A>>, number: u64, bytes: &[u8]) -> bool {
+    match block {
+        Some(block) => {
+            block.file == 3 && block.number == number && block.bytes.as_slice() == bytes
+        }
+        None => false,
+    }
 }
 
-/// The cutter has the blocks of the file, which was fed to it.
-fn assert_blocks<A: Allocator + Copy>(rt: &impl Abort, cutter: Cutter<A>) {
+/// Whether the cutter has the blocks of the file, which was fed to it.
+fn has_blocks<A: Allocator + Copy>(cutter: Cutter<A>) -> bool {
     let mut cutter = cutter;
+    let mut right = true;
     for (number, bytes) in BLOCKS.iter().enumerate() {
-        assert_block(rt, cutter.take(), number as u64, bytes);
+        right &= is_block(cutter.take(), number as u64, bytes);
     }
-    let none = cutter.take();
-    assert!(rt; none.is_none());
-    assert_block(rt, cutter.finish(), 4, b"h");
+    right &= cutter.take().is_none();
+    right && is_block(cutter.finish(), 4, b"h")
+}
+
+/// Whether the file, fed at once, has its blocks, at a second call where a request for memory is refused.
+fn is_fed(heap: &Refusing) -> bool {
+    let mut cutter = Cutter::new(heap, 3, 2, 100, b'\n');
+    match cutter.feed(FILE) {
+        Ok(()) => !heap.has_refused() && has_blocks(cutter),
+        Err(CutFault::OutOfMemory) => {
+            heap.has_refused() && cutter.feed(FILE).is_ok() && has_blocks(cutter)
+        }
+        Err(_) => false,
+    }
 }
 
 #[test]
 fn refused_feed_changes_nothing(rt: HostRuntime) {
     for passes in 0..100u64 {
         let heap = Refusing::new(rt.alloc(), passes);
-        let mut cutter = Cutter::new(&heap, 3, 2, 100, b'\n');
-        let fed = cutter.feed(FILE);
+        assert!(rt; is_fed(&heap), "at {passes}");
         if !heap.has_refused() {
-            assert_eq!(rt; fed, Ok(()));
-            assert_blocks(&rt, cutter);
             assert!(rt; passes > 4, "a request for each block");
             return;
         }
-        assert_eq!(rt; fed, Err(CutFault::OutOfMemory), "at {passes}");
-        assert_eq!(rt; cutter.feed(FILE), Ok(()), "at {passes}");
-        assert_blocks(&rt, cutter);
+    }
+    panic!(rt; "more than 100 requests")
+}
+
+/// Whether the file, fed in two pieces, has its blocks.
+fn is_fed_in_pieces(heap: &Refusing, piece: &[u8], later: &[u8]) -> bool {
+    let mut cutter = Cutter::new(heap, 3, 2, 100, b'\n');
+    feed_at_last(&mut cutter, piece) && feed_at_last(&mut cutter, later) && has_blocks(cutter)
+}
+
+/// Refuses each request for memory of a file in two pieces in turn.
+fn refuse_pieces(rt: &impl Abort, alloc: Global, piece: &[u8], later: &[u8]) {
+    for passes in 0..100u64 {
+        let heap = Refusing::new(alloc, passes);
+        assert!(rt; is_fed_in_pieces(&heap, piece, later));
+        if !heap.has_refused() {
+            assert!(rt; passes > 4, "a request for each block");
+            return;
+        }
     }
     panic!(rt; "more than 100 requests")
 }
@@ -62,67 +89,59 @@ fn refused_feed_changes_nothing(rt: HostRuntime) {
 fn refused_feed_of_a_piece_changes_nothing(rt: HostRuntime) {
     for at in 0..=FILE.len() {
         let (piece, later) = FILE.split_at(at);
-        let mut is_refused = true;
-        for passes in 0..100u64 {
-            let heap = Refusing::new(rt.alloc(), passes);
-            let mut cutter = Cutter::new(&heap, 3, 2, 100, b'\n');
-            feed_at_last(&rt, &mut cutter, piece);
-            feed_at_last(&rt, &mut cutter, later);
-            assert_blocks(&rt, cutter);
-            is_refused = heap.has_refused();
-            if !is_refused {
-                assert!(rt; passes > 4, "a request for each block");
-                break;
-            }
-        }
-        assert!(rt; !is_refused, "more than 100 requests");
+        refuse_pieces(&rt, rt.alloc(), piece, later);
     }
 }
 
+/// Compiles a text, for which four requests are made before, and answers whether the query has it.
+fn compile_once<A: Allocator + Copy>(alloc: A) -> Result<bool, QueryFault> {
+    let same = text_of(alloc, Kind::Extended, b"ab|c")?;
+    let query = Query::compile(alloc, text_of(alloc, Kind::Extended, b"ab|c")?)?;
+    Ok(*query.text() == same)
+}
+
 #[test]
-fn refused_compilation(rt: HostRuntime) -> Result<(), Fail> {
-    let mut refused: u64 = 0;
+fn refused_compilation(rt: HostRuntime) {
     for passes in 0..100u64 {
         let heap = Refusing::new(rt.alloc(), passes);
-        let text = text_of(&heap, Kind::Extended, b"ab|c");
-        let same = text_of(&heap, Kind::Extended, b"ab|c");
-        let (Ok(text), Ok(same)) = (text, same) else {
-            continue;
-        };
-        let compiled = Query::compile(&heap, text);
+        let compiled = compile_once(&heap);
         if !heap.has_refused() {
-            assert!(rt; *compiled?.text() == same);
-            assert!(rt; refused > 0);
-            return Ok(());
+            assert!(rt; compiled == Ok(true));
+            assert!(rt; passes > 4, "some of the compilation were refused");
+            return;
         }
-        assert!(rt;
-            matches!(compiled, Err(QueryFault::OutOfMemory)),
-            "at {passes}"
-        );
-        refused = refused.wrapping_add(1);
+        assert!(rt; compiled == Err(QueryFault::OutOfMemory), "at {passes}");
     }
     panic!(rt; "more than 100 requests")
 }
 
+/// Makes a query and searches six runs of lines, and answers how many were found.
+fn search_once<A: Allocator + Copy>(alloc: A) -> Result<usize, AllocError> {
+    let query = query_of(alloc, b"b")?;
+    let found = search(alloc, &query, 0, 0, b"b\na\nb\na\nb\na\nb\na\nb\na\nb\n")?;
+    Ok(found.runs().len())
+}
+
+/// How many requests for memory the query of `search_once` makes.
+fn requests_of_query(alloc: Global) -> Result<u64, AllocError> {
+    let heap = Refusing::new(alloc, 1000);
+    let _query = query_of(&heap, b"b")?;
+    Ok(heap.requests())
+}
+
 #[test]
 fn refused_search(rt: HostRuntime) -> Result<(), Fail> {
-    let mut refused: u64 = 0;
+    let before = requests_of_query(rt.alloc())?;
     for passes in 0..100u64 {
         let heap = Refusing::new(rt.alloc(), passes);
-        let Ok(query) = query_of(&heap, b"b") else {
-            continue;
-        };
-        let found = search(&heap, &query, 0, 0, b"b\na\nb\na\nb\na\nb\na\nb\na\nb\n");
+        let found = search_once(&heap);
         if !heap.has_refused() {
-            assert_eq!(rt; found?.runs().len(), 6);
-            assert!(rt;
-                refused > 3,
-                "two requests for the block and more for the runs"
-            );
+            assert!(rt; found == Ok(6));
+            // Two requests for the block and more for the runs.
+            assert!(rt; passes > before.wrapping_add(3));
             return Ok(());
         }
         assert!(rt; found.is_err(), "at {passes}");
-        refused = refused.wrapping_add(1);
     }
     panic!(rt; "more than 100 requests")
 }

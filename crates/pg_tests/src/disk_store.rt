@@ -1,44 +1,36 @@
 //! The system's files.
-use pg_run::{DiskStore, ReadFault, Store};
+use crate::formats::cut;
+use pg_run::{DiskStore, Store};
 use std::alloc::AllocError;
-use std::process::Abort;
 use std::test::Fail;
 
-/// A read into 16 bytes has this answer.
-fn assert_read<S: Store>(
-    rt: &impl Abort,
-    store: &mut S,
-    answer: Result<usize, ReadFault>,
-    path: &str,
-) {
+/// Whether a read into 16 bytes gives so many, or fails where `wanted` is no number.
+fn reads<S: Store>(store: &mut S, wanted: &str) -> bool {
     let mut buffer = [0u8; 16];
-    assert_eq!(rt; store.read(&mut buffer), answer, "of {path}");
+    store.read(&mut buffer).ok() == wanted.parse().ok()
 }
 
-/// A path can be opened or can't, and a read then has this answer.
-fn assert_path<S: Store>(
-    rt: &impl Abort,
-    store: &mut S,
-    path: &str,
-    opened: bool,
-    answer: Result<usize, ReadFault>,
-) -> Result<(), AllocError> {
-    assert_eq!(rt; store.open(path)?, opened, "of {path}");
-    assert_read(rt, store, answer, path);
-    Ok(())
+/// Whether a path can be opened or can't, and a read is as a row says.
+fn is_right<S: Store>(store: &mut S, row: &str) -> Result<bool, AllocError> {
+    let (path, rest) = cut(row, " ");
+    let (opened, wanted) = cut(rest, " ");
+    let is_open = store.open(path)?;
+    Ok(is_open == (opened == "opens") && reads(store, wanted))
 }
+
+/// Paths, whether each can be opened, and what a read gives then.
+const PATHS: &str = "/dev/null opens 0
+/ opens fault
+/dev/zero opens 16
+/dev/null/below misses fault";
 
 #[test]
 fn real_files(rt: HostRuntime) -> Result<(), Fail> {
     let mut store = DiskStore::new(&rt);
-    assert_read(&rt, &mut store, Err(ReadFault), "no file");
-    for (path, opened, answer) in [
-        ("/dev/null", true, Ok(0)),
-        ("/", true, Err(ReadFault)),
-        ("/dev/zero", true, Ok(16)),
-        ("/dev/null/below", false, Err(ReadFault)),
-    ] {
-        assert_path(&rt, &mut store, path, opened, answer)?;
+    assert!(rt; reads(&mut store, "fault"), "no file");
+    for row in PATHS.lines() {
+        let right = is_right(&mut store, row)?;
+        assert!(rt; right, "{row}");
     }
     Ok(())
 }

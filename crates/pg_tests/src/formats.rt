@@ -17,12 +17,12 @@ use std::sync::Arc;
 use std::test::Fail;
 
 /// What stands before a mark and what stands behind it. Without the mark nothing stands behind.
-fn cut<'a>(text: &'a str, mark: &str) -> (&'a str, &'a str) {
+pub(crate) fn cut<'a>(text: &'a str, mark: &str) -> (&'a str, &'a str) {
     text.split_once(mark).unwrap_or((text, ""))
 }
 
 /// A field with newlines in place of its slashes.
-fn with_newlines(alloc: Global, field: &str) -> Result<String, AllocError> {
+pub(crate) fn with_newlines(alloc: Global, field: &str) -> Result<String, AllocError> {
     field
         .chars()
         .map(|c| if c == '/' { '\n' } else { c })
@@ -57,7 +57,7 @@ fn mode_of(letter: u8) -> Mode {
 }
 
 /// The format of six letters: names, numbers, mode, limit, lines before and lines after.
-fn format_of(rt: &impl Abort, letters: &str) -> Format
+pub(crate) fn format_of(rt: &impl Abort, letters: &str) -> Format
     ensures { HasRoom result }
 {
     let [names, numbers, mode, limit, before, after] = letters.as_bytes() else {
@@ -166,8 +166,54 @@ fn plan_file(
     Ok(())
 }
 
-/// A sequencer with the files of a case, and their blocks, which have at least `size` bytes. `!` is a file that isn't
-/// there.
+/// Plans the next file, cut into blocks of at least `size` bytes, which are appended to those that were planned. `!` is
+/// a file that isn't there. The answer is how many files were opened.
+fn plan_text(
+    rt: &impl Abort,
+    alloc: Global,
+    sequencer: &mut Sequencer,
+    planned: &mut Vec<Block>,
+    file: u32,
+    name: u8,
+    text: &str,
+    size: u8,
+) -> Result<u32, Fail>
+    requires between { IsBetween sequencer.old file }
+    requires few { file ≤ 100 }
+    ensures { IfOk result (λ files. IsBetween sequencer.new files) }
+{
+    if text == "!" {
+        miss_name(sequencer, file, &[name])?;
+        return Ok(file);
+    }
+    let mut blocks = cut_file(alloc, file, text, size)?;
+    plan_file(rt, alloc, sequencer, file, name, &blocks)?;
+    planned.append(&mut blocks)?;
+    Ok(file + 1)
+}
+
+/// Plans files, each behind a `|`, as `plan_text` does. They are `a`, `b` and so on.
+fn plan_files(
+    rt: &impl Abort,
+    alloc: Global,
+    sequencer: &mut Sequencer,
+    planned: &mut Vec<Block>,
+    files: &str,
+    size: u8,
+) -> Result<(), Fail>
+    requires { IsBetween sequencer.old 0 }
+{
+    let mut file = 0;
+    let mut name = b'a';
+    for text in files.split('|').skip(1) {
+        assert!(rt; file <= 100);
+        file = plan_text(rt, alloc, sequencer, planned, file, name, text, size)?;
+        name = name.wrapping_add(1);
+    }
+    Ok(())
+}
+
+/// A sequencer with the files of a case, and their blocks, which have at least `size` bytes.
 fn plan_case(
     rt: &impl Abort,
     alloc: Global,
@@ -179,20 +225,14 @@ fn plan_case(
 {
     let mut sequencer = new_sequencer(alloc, &case.query, case.format)?;
     let mut planned = Vec::new(alloc);
-    let mut file = 0;
-    let mut name = b'a';
-    for text in case.files.as_str().split('|').skip(1) {
-        assert!(rt; file < 100);
-        if text == "!" {
-            miss_name(&mut sequencer, file, &[name])?;
-        } else {
-            let mut blocks = cut_file(alloc, file, text, size)?;
-            plan_file(rt, alloc, &mut sequencer, file, name, &blocks)?;
-            planned.append(&mut blocks)?;
-            file += 1;
-        }
-        name = name.wrapping_add(1);
-    }
+    plan_files(
+        rt,
+        alloc,
+        &mut sequencer,
+        &mut planned,
+        case.files.as_str(),
+        size,
+    )?;
     Ok((sequencer, planned))
 }
 

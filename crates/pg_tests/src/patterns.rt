@@ -3,15 +3,19 @@ use pg_syntax::{
     FaultKind, Kind, ListFault, PatternList, SyntaxFault, fixed, parse_bre, parse_ere, parse_list,
 };
 use refusing::Refusing;
-use std::alloc::Allocator;
-use std::test::Fail;
+use std::alloc::{Allocator, Global};
+use std::process::Abort;
 
-/// Parses a text as each kind, and a list of patterns, on one allocator.
-fn parse_all<A: Allocator + Copy>(alloc: A, text: &[u8]) -> Result<usize, ListFault> {
-    let fault_of = |fault: SyntaxFault| ListFault { pattern: 0, fault };
-    let _basic = parse_bre(alloc, text, false).map_err(fault_of)?;
-    let _extended = parse_ere(alloc, text, true).map_err(fault_of)?;
-    let _literal = fixed(alloc, text, false).map_err(fault_of)?;
+/// Parses a text as each kind of pattern.
+fn parse_kinds<A: Allocator + Copy>(alloc: A, text: &[u8]) -> Result<(), SyntaxFault> {
+    let _basic = parse_bre(alloc, text, false)?;
+    let _extended = parse_ere(alloc, text, true)?;
+    let _literal = fixed(alloc, text, false)?;
+    Ok(())
+}
+
+/// Parses a list of patterns: a text, and a file of it.
+fn parse_lists<A: Allocator + Copy>(alloc: A, text: &[u8]) -> Result<usize, ListFault> {
     let mut lists = Vec::new(alloc);
     lists.push(PatternList::Text(Vec::from_slice(alloc, text)?))?;
     lists.push(PatternList::Lines(Vec::from_slice(alloc, text)?))?;
@@ -19,8 +23,16 @@ fn parse_all<A: Allocator + Copy>(alloc: A, text: &[u8]) -> Result<usize, ListFa
     Ok(trees.len())
 }
 
-#[test]
-fn memory_may_be_refused(rt: HostRuntime) -> Result<(), Fail> {
+/// Parses a text as each kind, and a list of patterns, on one allocator.
+fn parse_all<A: Allocator + Copy>(alloc: A, text: &[u8]) -> Result<usize, ListFault> {
+    match parse_kinds(alloc, text) {
+        Ok(()) => parse_lists(alloc, text),
+        Err(fault) => Err(ListFault { pattern: 0, fault }),
+    }
+}
+
+/// Refuses each request for memory of parsing a text in turn.
+fn refuse_each(rt: &impl Abort, alloc: Global, text: &[u8]) {
     let no_memory = ListFault {
         pattern: 0,
         fault: SyntaxFault {
@@ -28,20 +40,22 @@ fn memory_may_be_refused(rt: HostRuntime) -> Result<(), Fail> {
             at: 0,
         },
     };
+    for passes in 0..200u64 {
+        let heap = Refusing::new(alloc, passes);
+        let parsed = parse_all(&heap, text);
+        if !heap.has_refused() {
+            assert!(rt; parsed.is_ok());
+            return;
+        }
+        assert!(rt; parsed == Err(no_memory), "at {passes}");
+    }
+    panic!(rt; "more than 200 requests")
+}
+
+#[test]
+fn memory_may_be_refused(rt: HostRuntime) {
     let texts: [&'static [u8]; 3] = [b"a|b", b"(a|bc*)+\n^[a-z]$", b"\\(^a$\\)"];
     for text in texts {
-        let mut ended = false;
-        for passes in 0..200u64 {
-            let heap = Refusing::new(rt.alloc(), passes);
-            let parsed = parse_all(&heap, text);
-            if !heap.has_refused() {
-                assert!(rt; parsed.is_ok());
-                ended = true;
-                break;
-            }
-            assert_eq!(rt; parsed.err(), Some(no_memory), "at {passes}");
-        }
-        assert!(rt; ended);
+        refuse_each(&rt, rt.alloc(), text);
     }
-    Ok(())
 }

@@ -3,46 +3,18 @@ ghost use Rattle.std.specs.Prelude.{◌≡◌, ◌≤◌, [], IfOk};
 ghost use Rattle.pg_rows.specs.Output.{HasRoom};
 
 use crate::fixtures::{PLAIN, query_of};
+use crate::formats::{cut, format_of, with_newlines};
 use pg_lines::Query;
-use pg_rows::{Format, Mode};
+use pg_rows::Format;
 use pg_run::{Ending, MemStore, ReadFault, RunFault, Setup, Store, first_run};
 use pg_seq::MemSink;
 use refusing::Refusing;
-use std::alloc::{AllocError, Allocator, Global};
+use std::alloc::{AllocError, Global};
 use std::process::Abort;
 use std::sync::Arc;
 use std::test::Fail;
 
 const FILE: &[u8] = b"abc\nxyz\nb";
-
-/// Its lines that have a `b`.
-const OUTPUT: &[u8] = b"abc\nb\n";
-
-/// -H -n: each row has its file's name and its line's number.
-const NUMBERED: Format = Format {
-    names: true,
-    numbers: true,
-    mode: Mode::Rows,
-    limit: None,
-    before: None,
-    after: None,
-};
-
-/// The lines of `FILE` that have a `b`, with these.
-const NUMBERED_OUTPUT: &[u8] = b"f:1:abc\nf:3:b\n";
-
-/// -H -c: one row with the file's name and the number of its selected lines.
-const COUNTED: Format = Format {
-    names: true,
-    numbers: false,
-    mode: Mode::Count,
-    limit: None,
-    before: None,
-    after: None,
-};
-
-/// How many lines of `FILE` have a `b`.
-const COUNTED_OUTPUT: &[u8] = b"f:2\n";
 
 /// A store of one file, which is open. A read gives at most so many bytes.
 fn open_file(
@@ -61,6 +33,24 @@ fn open_file(
     Ok(store)
 }
 
+/// Whether a run writes these bytes and has this status, where a read gives at most so many bytes.
+fn runs(
+    alloc: Global,
+    query: &Arc<Query>,
+    setup: Setup,
+    read_limit: usize,
+    file: &[u8],
+    output: &[u8],
+    status: u8,
+) -> Result<bool, AllocError>
+    requires { 1 ≤ read_limit }
+{
+    let mut store = open_file(alloc, file, Ending::Ends, read_limit)?;
+    let mut sink = MemSink::new(alloc, 100)?;
+    let ended = first_run(alloc, query, setup, b"f", &mut store, &mut sink);
+    Ok(ended == Ok(Ok(status)) && sink.bytes() == output)
+}
+
 /// A run writes these bytes and has this status, whatever the size of its blocks and of the reads.
 fn assert_run(
     rt: &impl Abort,
@@ -77,39 +67,50 @@ fn assert_run(
     for block in 1..=64u32 {
         let setup = Setup { format, block };
         for read_limit in [1, 2, 5, 100] {
-            let mut store = open_file(alloc, file, Ending::Ends, read_limit)?;
-            let mut sink = MemSink::new(alloc, 100)?;
-            let ended = first_run(alloc, &query, setup, b"f", &mut store, &mut sink);
-            assert_eq!(rt; ended, Ok(Ok(status)), "in blocks of {block}");
-            assert_eq!(rt; sink.bytes(), output, "in blocks of {block}");
+            let right = runs(alloc, &query, setup, read_limit, file, output, status)?;
+            assert!(rt; right, "in blocks of {block}");
         }
     }
     Ok(())
 }
 
-#[test]
-fn small_files(rt: HostRuntime) -> Result<(), Fail> {
-    let heap = rt.alloc();
-    assert_run(&rt, heap, b"b", PLAIN, FILE, OUTPUT, 0)?;
-    assert_run(&rt, heap, b"q", PLAIN, FILE, b"", 1)?;
-    assert_run(&rt, heap, b"b", PLAIN, b"", b"", 1)?;
-    assert_run(&rt, heap, b"", PLAIN, b"", b"", 1)?;
-    assert_run(&rt, heap, b"", PLAIN, b"\n\n", b"\n\n", 0)?;
-    assert_run(&rt, heap, b"", PLAIN, FILE, b"abc\nxyz\nb\n", 0)?;
-    assert_run(&rt, heap, b"yz", PLAIN, b"abc\nxyz", b"xyz\n", 0)?;
-    assert_run(&rt, heap, b"ab", PLAIN, b"a\nb\n", b"", 1)?;
+/// A pattern, the letters of a format, a file, the status, and behind a colon the output. In files and output `/`
+/// stands for a newline.
+const RUNS: &str = "b ------ abc/xyz/b 0:abc/b/
+q ------ abc/xyz/b 1:
+b ------  1:
+ ------  1:
+ ------ // 0://
+ ------ abc/xyz/b 0:abc/xyz/b/
+yz ------ abc/xyz 0:xyz/
+ab ------ a/b/ 1:
+b Hn---- abc/xyz/b 0:f:1:abc/f:3:b/
+ Hn---- // 0:f:1:/f:2:/
+q Hn---- abc/xyz/b 1:
+b H-c--- abc/xyz/b 0:f:2/
+q H-c--- abc/xyz/b 1:f:0/
+ H-c---  1:f:0/";
+
+/// A run is as a row says.
+fn assert_row(rt: &impl Abort, alloc: Global, row: &str) -> Result<(), Fail> {
+    let (pattern, rest) = cut(row, " ");
+    let (letters, rest) = cut(rest, " ");
+    let (file, answer) = cut(rest, " ");
+    let (status, output) = cut(answer, ":");
+    let status: u8 = status.parse()?;
+    let file = with_newlines(alloc, file)?;
+    let output = with_newlines(alloc, output)?;
+    let format = format_of(rt, letters);
+    let (file, output) = (file.as_bytes(), output.as_bytes());
+    assert_run(rt, alloc, pattern.as_bytes(), format, file, output, status)?;
     Ok(())
 }
 
 #[test]
-fn names_numbers_and_counts(rt: HostRuntime) -> Result<(), Fail> {
-    let heap = rt.alloc();
-    assert_run(&rt, heap, b"b", NUMBERED, FILE, NUMBERED_OUTPUT, 0)?;
-    assert_run(&rt, heap, b"", NUMBERED, b"\n\n", b"f:1:\nf:2:\n", 0)?;
-    assert_run(&rt, heap, b"q", NUMBERED, FILE, b"", 1)?;
-    assert_run(&rt, heap, b"b", COUNTED, FILE, COUNTED_OUTPUT, 0)?;
-    assert_run(&rt, heap, b"q", COUNTED, FILE, b"f:0\n", 1)?;
-    assert_run(&rt, heap, b"", COUNTED, b"", b"f:0\n", 1)?;
+fn small_files(rt: HostRuntime) -> Result<(), Fail> {
+    for row in RUNS.lines() {
+        assert_row(&rt, rt.alloc(), row)?;
+    }
     Ok(())
 }
 
@@ -123,23 +124,32 @@ fn any_byte_is_searched_for(rt: HostRuntime) -> Result<(), Fail> {
     Ok(())
 }
 
-/// A run over a sink that takes as many bytes as these, and `write_limit` in a write, ends so, and has written these.
-fn assert_writes(
-    rt: &impl Abort,
+/// The letters of a format, the output for `FILE`, and how much of it is written before the last request for memory:
+/// the first line, and nothing of a count, which is written at the end.
+const OUTPUTS: &str = "------ abc/b/ 4
+Hn---- f:1:abc/f:3:b/ 8
+H-c--- f:2/ 0";
+
+/// Whether a run over a sink that takes as many bytes as these, and `write_limit` in a write, has written these, and
+/// fails unless they are all.
+fn writes(
     alloc: Global,
     query: &Arc<Query>,
     setup: Setup,
     written: &[u8],
     write_limit: usize,
-    answer: Result<Result<u8, ReadFault>, RunFault>,
-) -> Result<(), AllocError> {
+    is_all: bool,
+) -> Result<bool, AllocError> {
     let mut store = open_file(alloc, FILE, Ending::Ends, 100)?;
     let mut sink = MemSink::new(alloc, written.len())?;
     sink.set_write_limit(write_limit);
     let ended = first_run(alloc, query, setup, b"f", &mut store, &mut sink);
-    assert_eq!(rt; ended, answer);
-    assert_eq!(rt; sink.bytes(), written);
-    Ok(())
+    let is_answered = if is_all {
+        ended == Ok(Ok(0))
+    } else {
+        ended == Err(RunFault::Sink)
+    };
+    Ok(is_answered && sink.bytes() == written)
 }
 
 /// A run whose sink takes less than the output fails once the sink is full, and one whose sink takes a byte at a time
@@ -156,101 +166,102 @@ fn assert_sinks(
     for block in 1..=10u32 {
         let setup = Setup { format, block };
         for limit in 0..output.len() {
-            let written = &output[..limit];
-            assert_writes(
-                rt,
-                alloc,
-                &query,
-                setup,
-                written,
-                usize::MAX,
-                Err(RunFault::Sink),
-            )?;
+            let right = writes(alloc, &query, setup, &output[..limit], usize::MAX, false)?;
+            assert!(rt; right);
         }
-        assert_writes(rt, alloc, &query, setup, output, 1, Ok(Ok(0)))?;
+        let right = writes(alloc, &query, setup, output, 1, true)?;
+        assert!(rt; right);
     }
     Ok(())
 }
 
 #[test]
 fn each_write_may_fail(rt: HostRuntime) -> Result<(), Fail> {
-    assert_sinks(&rt, rt.alloc(), PLAIN, OUTPUT)?;
-    assert_sinks(&rt, rt.alloc(), NUMBERED, NUMBERED_OUTPUT)?;
-    assert_sinks(&rt, rt.alloc(), COUNTED, COUNTED_OUTPUT)?;
+    for row in OUTPUTS.lines() {
+        let (letters, rest) = cut(row, " ");
+        let (output, _) = cut(rest, " ");
+        let output = with_newlines(rt.alloc(), output)?;
+        assert_sinks(&rt, rt.alloc(), format_of(&rt, letters), output.as_bytes())?;
+    }
     Ok(())
 }
 
-/// A run of the first `count` bytes of `FILE`, behind which a read fails, writes these bytes, whatever the size of its
-/// blocks.
-fn assert_broken(
-    rt: &impl Abort,
+/// Whether a run of the first `count` bytes of `FILE`, behind which a read fails, writes these bytes.
+fn breaks(
     alloc: Global,
-    format: Format,
+    query: &Arc<Query>,
+    setup: Setup,
     count: usize,
     output: &[u8],
-) -> Result<(), AllocError>
-    requires room { HasRoom format }
-    requires count { count ≤ 9 }
+) -> Result<bool, AllocError>
+    requires { count ≤ 9 }
 {
+    let mut store = open_file(alloc, &FILE[..count], Ending::Fails, 2)?;
+    let mut sink = MemSink::new(alloc, 100)?;
+    let ended = first_run(alloc, query, setup, b"f", &mut store, &mut sink);
+    Ok(ended == Ok(Err(ReadFault)) && sink.bytes() == output)
+}
+
+/// The letters of a format, how many bytes of `FILE` are read, and what is written of them.
+const BROKEN: &str = "------ 0
+------ 1
+------ 2 ab/
+------ 4 abc/
+------ 8 abc/
+------ 9 abc/b/
+H-c--- 0 f:0/
+H-c--- 2 f:1/
+H-c--- 8 f:1/
+H-c--- 9 f:2/";
+
+/// A run whose reading fails writes what a row says, whatever the size of its blocks.
+fn assert_broken(rt: &impl Abort, alloc: Global, row: &str) -> Result<(), Fail> {
+    let (letters, rest) = cut(row, " ");
+    let (count, output) = cut(rest, " ");
+    let count: usize = count.parse()?;
+    assert!(rt; count <= 9);
+    let output = with_newlines(alloc, output)?;
     let query = query_of(alloc, b"b")?;
+    let format = format_of(rt, letters);
     for block in 1..=10u32 {
         let setup = Setup { format, block };
-        let mut store = open_file(alloc, &FILE[..count], Ending::Fails, 2)?;
-        let mut sink = MemSink::new(alloc, 100)?;
-        let ended = first_run(alloc, &query, setup, b"f", &mut store, &mut sink);
-        assert_eq!(rt; ended, Ok(Err(ReadFault)), "after {count}");
-        assert_eq!(rt; sink.bytes(), output, "after {count}");
+        let right = breaks(alloc, &query, setup, count, output.as_bytes())?;
+        assert!(rt; right, "{row}");
     }
     Ok(())
 }
 
 #[test]
 fn each_read_may_fail(rt: HostRuntime) -> Result<(), Fail> {
-    for (count, output) in [
-        (0, b"".as_slice()),
-        (1, b""),
-        (2, b"ab\n"),
-        (4, b"abc\n"),
-        (8, b"abc\n"),
-        (9, OUTPUT),
-    ] {
-        assert_broken(&rt, rt.alloc(), PLAIN, count, output)?;
-    }
-    for (count, output) in [
-        (0, b"f:0\n".as_slice()),
-        (2, b"f:1\n"),
-        (8, b"f:1\n"),
-        (9, COUNTED_OUTPUT),
-    ] {
-        assert_broken(&rt, rt.alloc(), COUNTED, count, output)?;
+    for row in BROKEN.lines() {
+        assert_broken(&rt, rt.alloc(), row)?;
     }
     Ok(())
 }
 
 /// A run whose memory refuses a request has written a beginning of the output, and one whose memory refuses none has
-/// written all of it. The answer is how much was written.
-fn assert_refused<'a>(
-    rt: &impl Abort,
+/// written all of it. The answer is whether that is so, and how much was written.
+fn run_refused(
     alloc: Global,
-    heap: &'a Refusing,
-    query: &Arc<Query<&'a Refusing>, &'a Refusing>,
+    heap: &Refusing,
     format: Format,
     output: &[u8],
-) -> Result<usize, AllocError>
+) -> Result<(bool, usize), AllocError>
     requires { HasRoom format }
 {
+    let Ok(query) = query_of(heap, b"b") else {
+        return Ok((heap.has_refused(), 0));
+    };
     let setup = Setup { format, block: 1 };
     let mut store = open_file(alloc, FILE, Ending::Ends, 3)?;
     let mut sink = MemSink::new(alloc, 100)?;
-    let ended = first_run(heap, query, setup, b"f", &mut store, &mut sink);
-    if heap.has_refused() {
-        assert_eq!(rt; ended, Err(RunFault::OutOfMemory));
-        assert!(rt; output.starts_with(sink.bytes()));
+    let ended = first_run(heap, &query, setup, b"f", &mut store, &mut sink);
+    let right = if heap.has_refused() {
+        ended == Err(RunFault::OutOfMemory) && output.starts_with(sink.bytes())
     } else {
-        assert_eq!(rt; ended, Ok(Ok(0)));
-        assert_eq!(rt; sink.bytes(), output);
-    }
-    Ok(sink.bytes().len())
+        ended == Ok(Ok(0)) && sink.bytes() == output
+    };
+    Ok((right, sink.bytes().len()))
 }
 
 /// Each request for memory of a run is refused in turn. Where the last one is, so many bytes were written.
@@ -266,12 +277,10 @@ fn assert_refusals(
     let mut longest = 0;
     for passes in 0..1000u64 {
         let heap = Refusing::new(alloc, passes);
-        let Ok(query) = query_of(&heap, b"b") else {
-            continue;
-        };
-        let written = assert_refused(rt, alloc, &heap, &query, format, output)?;
+        let (right, written) = run_refused(alloc, &heap, format, output)?;
+        assert!(rt; right, "at {passes}");
         if !heap.has_refused() {
-            assert_eq!(rt; longest, early);
+            assert!(rt; longest == early);
             return Ok(());
         }
         longest = written;
@@ -281,9 +290,13 @@ fn assert_refusals(
 
 #[test]
 fn each_request_may_be_refused(rt: HostRuntime) -> Result<(), Fail> {
-    // The first line was written before the last refusal, and a count is written at the end.
-    assert_refusals(&rt, rt.alloc(), PLAIN, OUTPUT, 4)?;
-    assert_refusals(&rt, rt.alloc(), NUMBERED, NUMBERED_OUTPUT, 8)?;
-    assert_refusals(&rt, rt.alloc(), COUNTED, COUNTED_OUTPUT, 0)?;
+    for row in OUTPUTS.lines() {
+        let (letters, rest) = cut(row, " ");
+        let (output, early) = cut(rest, " ");
+        let early: usize = early.parse()?;
+        let output = with_newlines(rt.alloc(), output)?;
+        let format = format_of(&rt, letters);
+        assert_refusals(&rt, rt.alloc(), format, output.as_bytes(), early)?;
+    }
     Ok(())
 }

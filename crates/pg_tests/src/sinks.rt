@@ -19,14 +19,15 @@ fn a_history_has_no_bytes(rt: HostRuntime) {
     history.extend(&[2, 3]);
 }
 
-/// The sink has the first bytes of the text, as many as it takes, and takes no more.
-fn assert_full(rt: &impl Abort, sink: &mut MemSink, limit: usize)
+/// Whether the sink has the first bytes of the text, as many as it takes, and takes no more.
+fn is_full(sink: &mut MemSink, limit: usize) -> bool
     requires { limit ≤ 11 }
 {
-    assert_eq!(rt; sink.bytes(), &TEXT[..limit], "at {limit}");
-    assert_eq!(rt; sink.write(b"x"), Err(WriteError), "at {limit}");
-    assert_eq!(rt; sink.write(b""), Ok(0), "at {limit}");
-    assert_eq!(rt; sink.bytes(), &TEXT[..limit], "at {limit}");
+    let is_filled = sink.bytes() == &TEXT[..limit];
+    let more = sink.write(b"x");
+    let nothing = sink.write(b"");
+    let is_still = sink.bytes() == &TEXT[..limit];
+    is_filled && more == Err(WriteError) && nothing == Ok(0) && is_still
 }
 
 /// A sink that takes `limit` bytes in all takes these of the text.
@@ -41,8 +42,11 @@ fn assert_takes(
     let mut sink = MemSink::new(alloc, limit)?;
     sink.set_write_limit(write_limit);
     let written = write_all(&mut sink, TEXT);
-    assert_eq!(rt; written.is_ok(), limit == TEXT.len(), "at {limit}");
-    assert_full(rt, &mut sink, limit);
+    let is_whole = limit == TEXT.len();
+    assert!(rt;
+        written.is_ok() == is_whole && is_full(&mut sink, limit),
+        "at {limit}"
+    );
     Ok(())
 }
 
@@ -60,13 +64,11 @@ fn memory_fails_at_each_byte(rt: HostRuntime) -> Result<(), Fail> {
 fn memory_that_takes_no_byte(rt: HostRuntime) -> Result<(), Fail> {
     let mut sink = MemSink::new(rt.alloc(), TEXT.len())?;
     sink.set_write_limit(0);
-    assert_eq!(rt; sink.write(TEXT), Ok(0));
-    assert_eq!(rt; write_all(&mut sink, TEXT), Err(WriteError));
-    assert!(rt; write_all(&mut sink, b"").is_ok());
-    assert!(rt; sink.bytes().is_empty());
+    assert!(rt; sink.write(TEXT) == Ok(0));
+    assert!(rt; write_all(&mut sink, TEXT) == Err(WriteError));
+    assert!(rt; write_all(&mut sink, b"").is_ok() && sink.bytes().is_empty());
     sink.set_write_limit(TEXT.len());
-    assert!(rt; write_all(&mut sink, TEXT).is_ok());
-    assert_eq!(rt; sink.bytes(), TEXT);
+    assert!(rt; write_all(&mut sink, TEXT).is_ok() && sink.bytes() == TEXT);
     assert!(rt; MemSink::new(rt.alloc(), usize::MAX).is_err());
     Ok(())
 }
@@ -75,11 +77,12 @@ fn memory_that_takes_no_byte(rt: HostRuntime) -> Result<(), Fail> {
 fn a_writer_gets_the_text(rt: HostRuntime) -> Result<(), Fail> {
     let mut bytes = Vec::new(rt.alloc());
     let mut out = Out::new(&mut bytes);
-    assert_eq!(rt; out.write(b""), Ok(0));
-    assert!(rt; write_all(&mut out, b"alpha\n").is_ok());
-    assert!(rt; write_all(&mut out, b"beta\n").is_ok());
-    assert!(rt; out.flush().is_ok());
-    assert_eq!(rt; bytes.as_slice(), TEXT);
+    let nothing = out.write(b"");
+    let first = write_all(&mut out, b"alpha\n");
+    let second = write_all(&mut out, b"beta\n");
+    let flushed = out.flush();
+    assert!(rt; nothing == Ok(0) && first.is_ok() && second.is_ok() && flushed.is_ok());
+    assert!(rt; bytes.as_slice() == TEXT);
     Ok(())
 }
 
@@ -159,11 +162,12 @@ fn a_writer_fails_once_in_mid_stream(rt: HostRuntime) -> Result<(), Fail> {
 fn a_flush_fails(rt: HostRuntime) -> Result<(), Fail> {
     let mut faulty = Faulty::new(rt.alloc(), Third::Failed);
     let mut out = Out::new(&mut faulty);
-    assert_eq!(rt; out.write(TEXT), Ok(2));
-    assert!(rt; out.flush().is_ok());
-    assert_eq!(rt; out.flush(), Err(WriteError));
-    assert!(rt; out.flush().is_ok());
-    assert_eq!(rt; faulty.bytes.as_slice(), b"al".as_slice());
+    let written = out.write(TEXT);
+    let first = out.flush();
+    let second = out.flush();
+    let third = out.flush();
+    assert!(rt; written == Ok(2) && first.is_ok() && second == Err(WriteError) && third.is_ok());
+    assert!(rt; faulty.bytes.as_slice() == b"al".as_slice());
     Ok(())
 }
 

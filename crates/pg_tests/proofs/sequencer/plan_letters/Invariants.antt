@@ -1,6 +1,6 @@
 use Rattle.std.proofs.Common.{◌≤◌}
 use Rattle.pg_tests.specs.Reading.{IsReading}
-use Rattle.pg_tests.proofs.sequencer.plan_lines.Given as goal
+use Rattle.pg_tests.proofs.sequencer.plan_letters.Given as goal
 
 abbrev pub invariant-loop-letter : goal.invariant-loop-letter
 invariant-loop-letter g l = record {
