@@ -93,7 +93,7 @@ fn refused_feed_of_a_piece_changes_nothing(rt: HostRuntime) {
     }
 }
 
-/// Compiles a text, for which four requests are made before, and answers whether the query has it.
+/// Compiles a text, for which eight requests are made before, and answers whether the query has it.
 fn compile_once<A: Allocator + Copy>(alloc: A) -> Result<bool, QueryFault> {
     let same = text_of(alloc, Kind::Extended, b"ab|c")?;
     let query = Query::compile(alloc, text_of(alloc, Kind::Extended, b"ab|c")?)?;
@@ -107,7 +107,7 @@ fn refused_compilation(rt: HostRuntime) {
         let compiled = compile_once(&heap);
         if !heap.has_refused() {
             assert!(rt; compiled == Ok(true));
-            assert!(rt; passes > 4, "some of the compilation were refused");
+            assert!(rt; passes > 8, "some of the compilation were refused");
             return;
         }
         assert!(rt; compiled == Err(QueryFault::OutOfMemory), "at {passes}");
