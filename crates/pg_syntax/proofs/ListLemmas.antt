@@ -23,7 +23,8 @@ map-push f [] x = refl
 map-push f (y ∷ xs) x = ap (λ t. f y ∷ t) (map-push f xs x)
 
 -- one more slice, by the bytes that it refers to
-pub bytes-pushed : (new old : List (Bor (List ℕ))) (slice : Bor (List ℕ)) → new ≡ old ++ slice ∷ [] → bytes_of new ≡ bytes_of old ++ slice.now ∷ []
+pub bytes-pushed : (new old : List (Bor (List ℕ))) (slice : Bor (List ℕ)) → new ≡ old ++ slice ∷ []
+    → bytes_of new ≡ bytes_of old ++ slice.now ∷ []
 bytes-pushed new old slice e = ap bytes_of e ∙ map-push (λ s. s.now) old slice
 
 rest-is : (text : List ℕ) (start : ℕ) (o : Option ℕ) → position newline (take (length text - start) (drop start text)) ≡ o → position newline (drop start text) ≡ o

@@ -166,8 +166,9 @@ fn plan_file(
     Ok(())
 }
 
-/// Plans the next file, cut into blocks of at least `size` bytes, which are appended to those that were planned. `!` is
-/// a file that isn't there. The answer is how many files were opened.
+/// Plans the next file, of at most 101, cut into blocks of at least `size` bytes, which are appended to those that were
+/// planned. `!` is a file that isn't there. The sequencer has `file` files and none is open, and the answer is how many
+/// it has then.
 fn plan_text(
     rt: &impl Abort,
     alloc: Global,
@@ -192,7 +193,7 @@ fn plan_text(
     Ok(file + 1)
 }
 
-/// Plans files, each behind a `|`, as `plan_text` does. They are `a`, `b` and so on.
+/// Plans files, each behind a `|`, as `plan_text` does, in a sequencer that has none. They are `a`, `b` and so on.
 fn plan_files(
     rt: &impl Abort,
     alloc: Global,

@@ -16,7 +16,7 @@ use std::test::Fail;
 
 const FILE: &[u8] = b"abc\nxyz\nb";
 
-/// A store of one file, which is open. A read gives at most so many bytes.
+/// A store of one file, which is open. A read gives at most so many bytes, which are at least one.
 fn open_file(
     heap: Global,
     file: &[u8],
@@ -33,7 +33,8 @@ fn open_file(
     Ok(store)
 }
 
-/// Whether a run writes these bytes and has this status, where a read gives at most so many bytes.
+/// Whether a run writes these bytes and has this status, where a read gives at most so many bytes, which are at least
+/// one.
 fn runs(
     alloc: Global,
     query: &Arc<Query>,
@@ -186,7 +187,7 @@ fn each_write_may_fail(rt: HostRuntime) -> Result<(), Fail> {
     Ok(())
 }
 
-/// Whether a run of the first `count` bytes of `FILE`, behind which a read fails, writes these bytes.
+/// Whether a run of the first `count` of the nine bytes of `FILE`, behind which a read fails, writes these bytes.
 fn breaks(
     alloc: Global,
     query: &Arc<Query>,

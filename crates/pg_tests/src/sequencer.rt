@@ -32,9 +32,9 @@ fn announce_line<A: Allocator + Copy>(
     announce_block(alloc, sequencer, file, number, &[b'x', letter, b'\n'])
 }
 
-/// Plans files, of which the first one is open, and ends the last one. The answer says whether a request for memory of
-/// an announcement or of an opening was refused. A letter is a block, the line of `x` and the letter, and `|` stands
-/// between two files.
+/// Plans files, of which the first one is open without a block, and ends the last one. The answer says whether a
+/// request for memory of an announcement or of an opening was refused. A letter is a block, the line of `x` and the
+/// letter, and `|` stands between two files.
 fn plan_letters<A: Allocator + Copy>(
     alloc: A,
     sequencer: &mut Sequencer<A>,
@@ -61,6 +61,7 @@ fn plan_letters<A: Allocator + Copy>(
 }
 
 /// A sequencer with files that have ended, and whether a request for memory was refused, as `plan_letters` plans them.
+/// The query's lines end with newlines, and there are at most 100 letters.
 fn plan_lines<A: Allocator + Copy>(
     alloc: A,
     query: &Arc<Query<A>, A>,

@@ -12,7 +12,8 @@ loop-len-preserved g c =
     let len = c.in-Some.len in
     let done = bytes_of c.loop-len.texts.items in
     let found : position newline (take (length text - start) (drop start text)) ≡ Some len = sym c.in-Some.ensures in
-    let pushed : bytes_of c.push.new.self.items ≡ done ++ take ((start + len) - start) (drop start text) ∷ [] = bytes-pushed c.push.new.self.items c.loop-len.texts.items _ c.in_ok-push.ensures.items in
+    let pushed : bytes_of c.push.new.self.items ≡ done ++ take ((start + len) - start) (drop start text) ∷ [] =
+    bytes-pushed c.push.new.self.items c.loop-len.texts.items _ c.in_ok-push.ensures.items in
     record {
       within = within-more text start len c.loop-len.invariant.within found;
       split = split-more (bytes_of c.push.new.self.items) done text start len pushed found ∙ c.loop-len.invariant.split;
