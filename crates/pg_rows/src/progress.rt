@@ -107,8 +107,8 @@ impl Progress {
     }
 
     /// Goes past a block of so many lines, by its runs of selected lines. It costs a step for each run and none for a
-    /// line, and stops at the first run that has no line within the limit. With those before them the lines are fewer than
-    /// 2^63.
+    /// line, and stops at the first run that has no line within the limit. With those before them the lines are fewer
+    /// than 2^63.
     pub fn after(self, format: &Format, runs: &[Run], lines: u64) -> Progress
         requires { self.number + lines < 2 ^ 63 }
         ensures number { result.number ≡ self.number + lines }
