@@ -1,3 +1,6 @@
+pub mod Asking
+pub mod Faults
+pub mod Given
 pub mod MemStore
-pub mod Past
-pub mod Run
+pub mod Outcome
+pub mod Told

@@ -1,16 +1,28 @@
-//! How a file is searched, and how its rows look.
+//! How files are searched, and how their rows look.
 ghost use Rattle.std.specs.Prelude.{◌≤◌, ◌^◌};
 ghost use Rattle.pg_rows.specs.Output.{HasRoom};
 
 use pg_rows::Format;
 
-/// How a file is searched, and how its rows look.
+/// How files are searched, and how their rows look. `workers`, `block` and `round` have no part in what
+/// is written.
 #[derive(Clone, Copy, Debug)]
 pub struct Setup {
     /// Which rows are written. A limit is at least 1.
     pub format: Format,
-    /// The file is cut into blocks of at least so many bytes, from 1 to 2^24.
+    /// How many threads search beside the calling one, at most 64.
+    pub workers: u32,
+    /// Files are cut into blocks of at least so many bytes, from 1 to 2^24.
     pub block: u32,
+    /// The longest line in bytes, without its terminator, from 1 to 2^30.
+    pub line: u32,
+    /// So many blocks are searched at a time, from 1 to 1,024.
+    pub round: u32,
+    /// Fault lines of files are left out.
+    pub silent: bool,
     ghost some_limit: { HasRoom format },
+    ghost workers_in_range: { workers ≤ 64 },
     ghost block_in_range: { (1 ≤ block) × (block ≤ 2 ^ 24) },
+    ghost line_in_range: { (1 ≤ line) × (line ≤ 2 ^ 30) },
+    ghost round_in_range: { (1 ≤ round) × (round ≤ 1024) },
 }

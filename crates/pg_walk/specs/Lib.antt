@@ -4,3 +4,4 @@ pub mod Places
 pub mod Walks
 pub mod Descent
 pub mod MemTree
+pub mod Causes

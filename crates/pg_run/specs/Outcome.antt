@@ -1,0 +1,83 @@
+-- What a run did, by what its files gave.
+use Rattle.std.specs.Prelude.{◌≡◌, ◌⊎◌, ℕ, ◌<◌, ◌≤◌, ◌-◌, ◌^◌, true, false, List, [], ◌∷◌, ◌++◌}
+use Rattle.std.specs.List.{list_any}
+use Rattle.pg_lines.specs.Search.{Search, SearchText, Pattern, AreTreesOf, HasItsTrees, search_of, terminator_of}
+use Rattle.pg_lines.specs.Queries.{IsQueryFault}
+use Rattle.pg_lines.specs.declared.query.QueryFault.TheVariants.{OutOfMemory as NoMemoryForQuery}
+use Rattle.pg_rows.specs.Output.{Entry, Missed, Read, Ending, Running, Ended, Failed, Left, is_running, is_quiet}
+use Rattle.pg_rows.specs.Output.{has_selected, output, status}
+use Rattle.pg_rows.specs.Sink.{TakesPart}
+use Rattle.pg_seq.specs.Settled.{AreLeftRightly}
+use Rattle.pg_run.specs.Given.{FilesPast, nothing_given, entries_given, files_given, IsTooLong}
+use Rattle.pg_run.specs.Told.{told_of}
+use Rattle.pg_run.specs.declared.setup.Setup.{Setup}
+use Rattle.pg_run.specs.declared.fault.RunFault.{RunFault}
+use Rattle.pg_run.specs.declared.fault.RunFault.TheVariants.{Query, OutOfMemory, Sink, TooManyFiles, TooLong}
+
+-- what a writer took, and how often it failed
+pub record Stream : Type 0 where
+  pub taken : List ℕ
+  pub failures : ℕ
+
+-- the search for a text, whose patterns spell its trees
+abbrev pub IsSearchFor : SearchText → Search → Type 0
+IsSearchFor text q = (q.text ≡ text) × HasItsTrees q
+
+-- there is no more, or with -q a line was selected
+abbrev pub AsksToTheEnd : Search → Setup → FilesPast → Type 0
+AsksToTheEnd q setup past =
+    (past.done ≡ true)
+    ⊎ ((is_quiet setup.format.mode ≡ true) × (list_any (has_selected q) (entries_given past.given) ≡ true))
+
+-- no name was asked for behind a file with a selected line
+abbrev pub EndsAtSelected : Search → List Entry → Type 0
+EndsAtSelected q [] = Unit {0}
+EndsAtSelected q (last ∷ entries) = list_any (has_selected q) entries ≡ false
+
+-- A run came to its end: its output is that of what files gave, and so are the fault lines and the status. Files were
+-- asked for to the end, with -q up to one with a selected line, and each was read to its end, but where some whole
+-- lines at its front were enough.
+pub record Finishes (q : Search) (setup : Setup) (past : FilesPast) (out out' told told' : Stream) (answer : ℕ)
+    : Type 0 where
+  pub written : out'.taken ≡ out.taken ++ output q setup.format (entries_given past.given)
+  pub faults : told'.taken ≡ told.taken ++ told_of setup.silent past.given
+  pub answered : answer ≡ status q setup.format (entries_given past.given)
+  pub asked : AsksToTheEnd q setup past
+  pub quiet : is_quiet setup.format.mode ≡ true → EndsAtSelected q (entries_given past.given)
+  pub left : AreLeftRightly q setup.format (entries_given past.given)
+  pub no_failure : (out'.failures ≡ out.failures) × (told'.failures ≡ told.failures)
+
+-- the entry itself, or for a file that was left the same file with any bytes more and any end
+abbrev pub MayBecome : Entry → Entry → Type 0
+MayBecome (Missed name) other = other ≡ Missed name
+MayBecome (Read name bytes Running) other = other ≡ Read name bytes Running
+MayBecome (Read name bytes Ended) other = other ≡ Read name bytes Ended
+MayBecome (Read name bytes Failed) other = other ≡ Read name bytes Failed
+MayBecome (Read name bytes Left) other =
+    (more : List ℕ) × (ending : Ending) × (is_running ending ≡ false) × (other ≡ Read name (bytes ++ more) ending)
+
+-- one list of files goes on from another
+abbrev pub GoesOn : List Entry → List Entry → Type 0
+GoesOn [] files = Unit {0}
+GoesOn (last ∷ entries) files =
+    (later : List Entry) × (other : Entry) × MayBecome last other × (files ≡ later ++ other ∷ entries)
+
+-- what happened, by the fault that says it
+abbrev pub HasCause : RunFault → SearchText → Setup → FilesPast → (out out' told told' : Stream) → Type 0
+HasCause (Query why) text setup past out out' told told' =
+    IsQueryFault text why × ¬ (why ≡ NoMemoryForQuery) × (past ≡ nothing_given) × (out' ≡ out) × (told' ≡ told)
+HasCause OutOfMemory text setup past out out' told told' = Unit {0}
+HasCause Sink text setup past out out' told told' =
+    (out.failures < out'.failures) ⊎ (told.failures < told'.failures)
+HasCause TooManyFiles text setup past out out' told told' = 2 ^ 32 - 1 < files_given past.given
+HasCause TooLong text setup past out out' told told' = IsTooLong (terminator_of text) setup.line past.given
+
+-- A run broke off by a fault that has its cause: its output is a beginning of that of every list of files that goes on
+-- from what was given, and the fault lines are a beginning of those of what was given.
+pub record BreaksOff (text : SearchText) (setup : Setup) (past : FilesPast) (out out' told told' : Stream)
+    (fault : RunFault) : Type 0 where
+  pub cause : HasCause fault text setup past out out' told told'
+  pub written : (trees : List Pattern) → AreTreesOf text trees → (files : List Entry) →
+      GoesOn (entries_given past.given) files →
+      TakesPart (output (search_of text trees) setup.format files) out.taken out'.taken
+  pub faults : TakesPart (told_of setup.silent past.given) told.taken told'.taken

@@ -1,0 +1,24 @@
+-- The lines that are told of files.
+use Rattle.std.specs.Prelude.{ℕ, Bool, not, List, [], ◌∷◌, ◌++◌, codes}
+use Rattle.pg_walk.specs.Causes.{cause_text}
+use Rattle.pg_walk.specs.declared.item.Cause.{Cause}
+use Rattle.pg_walk.specs.declared.item.Cause.TheVariants.{ReadFailed}
+use Rattle.pg_rows.specs.Output.{is_failed, when}
+use Rattle.pg_run.specs.Given.{Given, NoFile, File}
+
+abbrev pub fault_line : List ℕ → Cause → List ℕ
+fault_line name cause = codes "pargrep: " ++ name ++ codes ": " ++ cause_text cause ++ codes "\n"
+
+-- a name that gives no file has a line, and so has a file whose reading failed
+abbrev pub fault_of : Given → List ℕ
+fault_of (NoFile name cause) = fault_line name cause
+fault_of (File name bytes ending) = when (is_failed ending) (fault_line name ReadFailed)
+
+-- the lines in the order in which the names were given, which is last to first
+abbrev pub faults_of : List Given → List ℕ
+faults_of [] = []
+faults_of (g ∷ given) = faults_of given ++ fault_of g
+
+-- none where the run is silent
+abbrev pub told_of : (silent : Bool) → List Given → List ℕ
+told_of silent given = when (not silent) (faults_of given)
