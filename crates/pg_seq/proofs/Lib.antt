@@ -14,3 +14,6 @@ pub mod StandLemmas
 pub mod DrainSteps
 pub mod EnoughLemmas
 pub mod AheadLemmas
+pub mod SettleLemmas
+pub mod LongerLemmas
+pub mod WholeLemmas

@@ -6,3 +6,4 @@ pub mod Slots
 pub mod Buffer
 pub mod Standing
 pub mod Ahead
+pub mod Settled

@@ -1,12 +1,16 @@
 //! Laws of the definitions that contracts cite. They speak of all values, and a call does nothing.
-ghost use Rattle.std.specs.Prelude.{◌≡◌, List, false};
-ghost use Rattle.std.specs.List.{Contains};
-ghost use Rattle.pg_lines.specs.Search.{terminator};
+ghost use Rattle.std.specs.Prelude.{◌≡◌, ◌++◌, ℕ, List, [], false, true};
+ghost use Rattle.std.specs.List.{Contains, list_any};
+ghost use Rattle.pg_lines.specs.Search.{Search, terminator};
+ghost use Rattle.pg_lines.specs.Lines.{AreWhole, lines};
 ghost use Rattle.pg_lines.specs.Searched.{Searched};
-ghost use Rattle.pg_rows.specs.Output.{Entry, HasRoom, output};
+ghost use Rattle.pg_rows.specs.declared.format.Format.{Format};
+ghost use Rattle.pg_rows.specs.Output.{Entry, HasRoom, has_selected, is_quiet, output, status};
+ghost use Rattle.pg_rows.specs.Enough.{lines_suffice};
 ghost use Rattle.pg_seq.specs.Plan.{IsPlan, Begins, announced};
 ghost use Rattle.pg_seq.specs.History.{Past, plan, handed, answer, is_taken, taken_of};
 ghost use Rattle.pg_rows.specs.Sink.{IsBeginning};
+ghost use Rattle.pg_seq.specs.Settled.{IsSettled, AreLeftRightly, AreLonger, GiveTheSame};
 ghost use Rattle.pg_seq.specs.declared.answers.Arrival.TheVariants.{Taken};
 
 /// What may be handed out is a beginning of the output of every list of files that the plan begins.
@@ -21,4 +25,32 @@ pub fn first_arrival_is_taken()
     ensures { (past : Past) (found : Searched) → IsPlan (terminator past.query) (plan past) →
         found.query ≡ past.query.text → Contains (announced (plan past)) found.block →
         is_taken (taken_of past.query past.events) found.block ≡ false → answer past found ≡ Taken }
+{}
+
+/// Where whole lines that were read of a file suffice, what the file gives is settled: whatever follows
+/// them in it, its rows are the same, and a line of it is selected. The limit of the format isn't 0.
+pub fn lines_that_suffice_settle()
+    ensures { (q : Search) (format : Format) (bytes : List ℕ) → HasRoom format →
+        AreWhole (terminator q) bytes →
+        lines_suffice format.mode q format (lines (terminator q) bytes) ≡ true →
+        IsSettled q format bytes }
+{}
+
+/// Files that were left rightly give the same, output and status, however long they are. The limit of
+/// the format isn't 0.
+pub fn left_files_may_be_longer()
+    ensures { (q : Search) (format : Format) (entries : List Entry) (others : List Entry) →
+        HasRoom format → AreLeftRightly q format entries → AreLonger entries others →
+        GiveTheSame q format entries others }
+{}
+
+/// With -q, once a line is selected, nothing is written and the status is 0, whatever files follow, also
+/// missed and failed ones: later files change nothing.
+pub fn later_files_stay_unread()
+    ensures nothing { (q : Search) (format : Format) (entries : List Entry) (later : List Entry) →
+        is_quiet format.mode ≡ true → list_any (has_selected q) entries ≡ true →
+        (output q format (later ++ entries) ≡ []) × (status q format (later ++ entries) ≡ 0) }
+    ensures same { (q : Search) (format : Format) (entries : List Entry) (later : List Entry) →
+        is_quiet format.mode ≡ true → list_any (has_selected q) entries ≡ true →
+        GiveTheSame q format entries (later ++ entries) }
 {}
