@@ -1,2 +1,1 @@
-pub mod HoldLemmas
-pub mod ReadLemmas
+pub mod ListedLemmas

@@ -1,6 +1,9 @@
+pub mod Accesses
 pub mod Asking
 pub mod Faults
 pub mod Given
+pub mod Listed
 pub mod MemStore
 pub mod Outcome
+pub mod Store
 pub mod Told

@@ -1,7 +1,8 @@
 //! The system's files.
+use crate::files::ReadFault;
 use crate::past::StorePast;
-use crate::store::{ReadFault, Store};
-use std::alloc::AllocError;
+use crate::store::{OpenFault, Store};
+use pg_walk::Cause;
 use std::fs;
 use std::io::{ErrorKind, Read};
 use std::rt::Files;
@@ -35,24 +36,23 @@ impl<R: Files + Input + Drop> DiskStore<R> {
 impl<R: Files + Input + Drop> Store for DiskStore<R> {
     ghost past = { λ s. s.past };
 
-    fn open(&mut self, path: &str) -> Result<bool, AllocError> {
-        self.past.turn(path);
+    fn open(&mut self, path: &str) -> Result<(), OpenFault> {
         if path == "-" {
             self.source = Source::Standard(self.rt.reader());
-            return Ok(true);
+            self.past.open(path);
+            return Ok(());
         }
         match fs::open(&self.rt, path) {
             Ok(file) => {
                 self.source = Source::Open(file);
-                Ok(true)
+                self.past.open(path);
+                Ok(())
             }
-            Err(error) => {
+            Err(error) if error.kind() == ErrorKind::OutOfMemory => Err(OpenFault::OutOfMemory),
+            Err(_) => {
                 self.source = Source::Closed;
-                if error.kind() == ErrorKind::OutOfMemory {
-                    return Err(AllocError);
-                }
-                self.past.miss();
-                Ok(false)
+                self.past.refuse(path, Cause::CannotOpen);
+                Err(OpenFault::Refused(Cause::CannotOpen))
             }
         }
     }
@@ -60,22 +60,23 @@ impl<R: Files + Input + Drop> Store for DiskStore<R> {
     fn read(&mut self, into: &mut [u8]) -> Result<usize, ReadFault> {
         let read = match &mut self.source {
             Source::Closed => {
-                self.past.fail();
+                self.past.end(true);
                 return Err(ReadFault);
             }
             Source::Standard(input) => input.read(into),
             Source::Open(file) => file.read(into),
         };
         match read {
+            Ok(0) => {
+                self.past.end(false);
+                Ok(0)
+            }
             Ok(count) => {
                 self.past.give(&into[..count]);
-                if count == 0 && !into.is_empty() {
-                    self.past.end();
-                }
                 Ok(count)
             }
             Err(_) => {
-                self.past.fail();
+                self.past.end(true);
                 Err(ReadFault)
             }
         }

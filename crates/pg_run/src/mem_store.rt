@@ -1,10 +1,13 @@
 //! Files in memory, for tests.
 ghost use Rattle.std.specs.Prelude.{◌≡◌, ◌≤◌, ◌+◌, ◌^◌, ◌⊎◌, ◌++◌, ◌∷◌, [], map, min, length, is_some, option_and_then};
 ghost use Rattle.std.specs.Prelude.{option_map, slice_get, IfOk, IfSome, OnOk, OnErr};
-ghost use Rattle.pg_run.specs.Past.{unopened, Opens, Reads};
+ghost use Rattle.pg_run.specs.Asking.{ReadGives};
+ghost use Rattle.pg_run.specs.Store.{Opens};
 
+use crate::files::ReadFault;
 use crate::past::StorePast;
-use crate::store::{ReadFault, Store};
+use crate::store::{OpenFault, Store};
+use pg_walk::Cause;
 use std::alloc::{AllocError, Global};
 
 /// What happens behind the bytes of a file.
@@ -41,7 +44,7 @@ impl MemStore {
     /// A store without files, in which no file can be opened. A read gives as much as it can.
     pub fn new(alloc: Global) -> MemStore
         ensures files { files result ≡ [] }
-        ensures past { result.past ≡ unopened }
+        ensures past { result.past ≡ [] }
     {
         MemStore {
             alloc,
@@ -113,46 +116,53 @@ impl MemStore {
 }
 
 impl Store for MemStore {
+    ghost use Rattle.std.specs.Prelude.{None, true};
+    ghost use Rattle.pg_walk.specs.declared.item.Cause.TheVariants.{CannotOpen};
+    ghost use Rattle.pg_run.specs.declared.store.OpenFault.TheVariants.{Refused};
     ghost use Rattle.pg_run.specs.MemStore.{files, left, file_at, Takes};
 
     ghost past = { λ s. s.past };
 
-    fn open(&mut self, path: &str) -> Result<bool, AllocError>
+    fn open(&mut self, path: &str) -> Result<(), OpenFault>
         ensures opens { Opens path.now self.old.past self.new.past result }
-        ensures found { IfOk result (λ found. found ≡ is_some (file_at (files self.old) path.now)) }
+        ensures found { OnOk result (is_some (file_at (files self.old) path.now) ≡ true) }
+        ensures missing { OnErr result ((file_at (files self.old) path.now ≡ None)
+            × (result ≡ Err (Refused CannotOpen))) }
         ensures left { left self.new ≡ file_at (files self.old) path.now }
         ensures files { files self.new ≡ files self.old }
     {
-        self.past.turn(path);
         self.at = 0;
         self.open = self.place_of(path);
         if self.open.is_none() {
-            self.past.miss();
-            return Ok(false);
+            self.past.refuse(path, Cause::CannotOpen);
+            return Err(OpenFault::Refused(Cause::CannotOpen));
         }
-        Ok(true)
+        self.past.open(path);
+        Ok(())
     }
 
     fn read(&mut self, into: &mut [u8]) -> Result<usize, ReadFault>
-        ensures reads { Reads into.new self.old.past self.new.past result }
+        ensures given { ReadGives into.new self.old.past self.new.past result }
+        ensures size { length into.new ≡ length into.old }
         ensures takes { Takes (left self.old) (left self.new)
             (min (length into.old) self.old.read_limit) into.new result }
         ensures files { files self.new ≡ files self.old }
     {
         let Some((rest, ending)) = MemStore::left_of(&self.files, self.open, self.at) else {
-            self.past.fail();
+            self.past.end(true);
             return Err(ReadFault);
         };
         if rest.is_empty() && ending == Ending::Fails {
-            self.past.fail();
+            self.past.end(true);
             return Err(ReadFault);
         }
         let count = rest.len().min(into.len()).min(self.read_limit);
         into[..count].copy_from_slice(&rest[..count]);
         self.at += count;
-        self.past.give(&into[..count]);
-        if count == 0 && !into.is_empty() {
-            self.past.end();
+        if count == 0 {
+            self.past.end(false);
+        } else {
+            self.past.give(&into[..count]);
         }
         Ok(count)
     }

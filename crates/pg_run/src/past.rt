@@ -1,93 +1,120 @@
 //! What a store gave, for contracts alone.
-ghost use Rattle.std.specs.Prelude.{◌≡◌, [], ◌++◌, ◌<◌};
-ghost use Rattle.pg_run.specs.Past.{unopened, Turns, Misses, IsCalm, Fails};
+ghost use Rattle.std.specs.Prelude.{◌≡◌, List, [], ◌∷◌};
+ghost use Rattle.pg_run.specs.Given.{Given, NoFile, File, gave_bytes, gave_end};
+ghost use Rattle.pg_run.specs.Accesses.{ended, given_as};
+ghost use Rattle.pg_rows.specs.Output.{Left};
 
-use pg_seq::History;
+use pg_rows::History;
+use pg_walk::Cause;
 use std::marker::Model;
 
-/// What a store gave and how often it failed. It has no bytes, and its methods do nothing when they
-/// run.
+/// How far a path was read.
+#[derive(Clone, Copy, Debug)]
+pub(crate) enum Reading {
+    /// It gave no file.
+    Refused(Cause),
+    /// Its end wasn't met yet.
+    Unfinished,
+    /// Its end was met.
+    Finished,
+    /// A read failed.
+    Broken,
+}
+
+impl Reading {
+    fn ended(self, failed: bool) -> Reading
+        ensures { result ≡ ended failed self }
+    {
+        match self {
+            Reading::Refused(cause) => Reading::Refused(cause),
+            _ if failed => Reading::Broken,
+            _ => Reading::Finished,
+        }
+    }
+}
+
+/// A path that was opened, and what it gave.
+#[derive(Drop)]
+pub(crate) struct Access {
+    path: History<u8>,
+    bytes: History<u8>,
+    reading: Reading,
+}
+
+/// What a store gave, the newest first. Paths and bytes take no memory, and nothing is copied when the
+/// methods run.
 #[derive(Drop)]
 pub struct StorePast {
-    path: History<u8>,
-    given: History<u8>,
-    missed: History<()>,
-    ended: History<()>,
-    failed: History<()>,
+    earlier: History<Access>,
+    newest: Option<Access>,
 }
 
 impl Model for StorePast {
-    ghost use Rattle.std.specs.Prelude.{length};
-    ghost use Rattle.pg_run.specs.Past.{Past};
+    ghost use Rattle.std.specs.Prelude.{List};
+    ghost use Rattle.pg_run.specs.Given.{Given};
+    ghost use Rattle.pg_run.specs.Accesses.{past_of};
 
-    ghost Value = { Past };
+    ghost Value = { List Given };
 
-    ghost view = { λ p. record {
-      path = p.path.items;
-      given = p.given.items;
-      misses = length p.missed.items;
-      ends = length p.ended.items;
-      failures = length p.failed.items;
-    } };
+    ghost view = { λ p. past_of p.earlier.items p.newest };
 }
 
 impl StorePast {
-    /// No file was opened.
+    /// Nothing was opened.
     pub fn new() -> StorePast
-        ensures { result ≡ unopened }
+        ensures { result ≡ [] }
     {
         StorePast {
-            path: History::new(),
-            given: History::new(),
-            missed: History::new(),
-            ended: History::new(),
-            failed: History::new(),
+            earlier: History::new(),
+            newest: None,
         }
     }
 
-    /// Another path is opened. The bytes of the former file are forgotten.
-    pub fn turn(&mut self, path: &str)
-        ensures turns { Turns path.now self.new }
-        ensures calm { IsCalm self.old self.new }
+    /// The file at a path was opened.
+    pub fn open(&mut self, path: &str)
+        ensures { self.new ≡ File path.now [] Left ∷ self.old }
     {
-        self.path = History::new();
-        self.path.extend(path.as_bytes());
-        self.given = History::new();
+        self.begin(path, Reading::Unfinished);
     }
 
-    /// A file could not be opened.
-    pub fn miss(&mut self)
-        ensures path { self.new.path ≡ self.old.path }
-        ensures given { self.new.given ≡ self.old.given }
-        ensures missed { Misses self.old self.new }
+    /// The path gives no file.
+    pub fn refuse(&mut self, path: &str, cause: Cause)
+        ensures { self.new ≡ NoFile path.now cause ∷ self.old }
     {
-        self.missed.push(&());
+        self.begin(path, Reading::Refused(cause));
     }
 
-    /// The file gave bytes.
+    fn begin(&mut self, path: &str, reading: Reading)
+        ensures { self.new ≡ given_as path.now [] reading ∷ self.old }
+    {
+        match &self.newest {
+            Some(newest) => self.earlier.push(newest),
+            None => self.earlier = History::new(),
+        }
+        let mut name = History::new();
+        name.extend(path.as_bytes());
+        self.newest = Some(Access {
+            path: name,
+            bytes: History::new(),
+            reading,
+        });
+    }
+
+    /// The newest file gave bytes.
     pub fn give(&mut self, bytes: &[u8])
-        ensures path { self.new.path ≡ self.old.path }
-        ensures given { self.new.given ≡ self.old.given ++ bytes.now }
-        ensures calm { IsCalm self.old self.new }
+        ensures { self.new ≡ gave_bytes bytes.now self.old }
     {
-        self.given.extend(bytes);
+        if let Some(newest) = &mut self.newest {
+            newest.bytes.extend(bytes);
+        }
     }
 
-    /// The file's end was met.
-    pub fn end(&mut self)
-        ensures path { self.new.path ≡ self.old.path }
-        ensures given { self.new.given ≡ self.old.given }
-        ensures met { self.old.ends < self.new.ends }
-        ensures no_miss { self.new.misses ≡ self.old.misses }
-        ensures no_failure { self.new.failures ≡ self.old.failures }
+    /// The newest file's end was met, or a read of it failed.
+    pub fn end(&mut self, failed: bool)
+        ensures { self.new ≡ gave_end failed self.old }
     {
-        self.ended.push(&());
-    }
-
-    /// A read failed.
-    pub fn fail(&mut self)
-        ensures { Fails self.old self.new }
-    {
-        self.failed.push(&());
+        if let Some(newest) = &mut self.newest {
+            newest.reading = newest.reading.ended(failed);
+        }
     }
 }

@@ -1,36 +1,44 @@
 //! Files by their paths.
-ghost use Rattle.pg_run.specs.Past.{Past, Opens, Reads};
+ghost use Rattle.std.specs.Prelude.{◌≡◌, ◌<◌, length, List};
+ghost use Rattle.pg_run.specs.Given.{Given};
+ghost use Rattle.pg_run.specs.Asking.{ReadGives};
+ghost use Rattle.pg_run.specs.Store.{Opens};
 
-use std::alloc::AllocError;
-use thiserror::Error;
+use crate::files::ReadFault;
+use pg_walk::Cause;
 
-/// A read that failed.
-#[derive(Clone, Copy, Debug, PartialEq, Eq, Error)]
-#[error("read failed")]
-pub struct ReadFault;
+/// Why a path isn't opened.
+#[derive(Clone, Copy, Debug, PartialEq, Eq)]
+pub enum OpenFault {
+    /// It gives no file.
+    Refused(Cause),
+    /// A request for memory was refused.
+    OutOfMemory,
+}
 
 /// Files that are opened by their paths and read one at a time.
 pub trait Store {
-    /// What the files gave, and how often they failed.
-    ghost past: { Self → Past };
+    /// What the files gave, by their paths.
+    ghost past: { Self → List Given };
 
-    /// Makes the file at a path, or for `-` standard input, the one that `read` reads. `false` says
-    /// that it couldn't be opened.
+    /// Makes the file at a path, or for `-` standard input, the one that `read` reads.
     ///
     /// # Errors
     ///
-    /// `AllocError` where a request for memory was refused.
-    fn open(&mut self, path: &str) -> Result<bool, AllocError>
+    /// `Refused` where the path gives no file, with its cause, and `OutOfMemory` where a request for
+    /// memory was refused. Then nothing has changed.
+    fn open(&mut self, path: &str) -> Result<(), OpenFault>
         ensures { Opens path.now (past self.old) (past self.new) result };
 
-    /// Reads the next bytes of the open file into the front of a buffer.
+    /// Reads the next bytes of the open file into the front of a buffer that isn't empty.
     ///
-    /// `Ok(k)` says that these are the buffer's first k bytes. `Ok(0)` for a buffer that isn't empty
-    /// is the file's end.
+    /// `Ok(k)` says that these are the buffer's first k bytes. `Ok(0)` is the file's end.
     ///
     /// # Errors
     ///
     /// `ReadFault` where the read failed, also where it was interrupted, and where no file is open.
     fn read(&mut self, into: &mut [u8]) -> Result<usize, ReadFault>
-        ensures { Reads into.new (past self.old) (past self.new) result };
+        requires { 0 < length into.old }
+        ensures given { ReadGives into.new (past self.old) (past self.new) result }
+        ensures size { length into.new ≡ length into.old };
 }
