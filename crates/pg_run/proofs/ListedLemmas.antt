@@ -1,5 +1,5 @@
 -- The items of a walk as files that are given.
-use Rattle.std.proofs.Common.{◌≡◌, ℕ, zero, suc, ◌+◌, ◌<◌, Bool, true, false, List, [], ◌∷◌, length, map, take}
+use Rattle.std.proofs.Common.{◌≡◌, ℕ, zero, suc, ◌+◌, ◌<◌, Bool, true, false, List, [], ◌∷◌, length, map, take, drop}
 use Rattle.std.proofs.Common.{reverse, Result, Ok, Err, refl, sym, ap, subst, ◌∙◌, arith, get_or, inl}
 use Rattle.std.proofs.Common.{inr}
 use Rattle.std.proofs.lemmas.Bool.{false≢true}
@@ -9,7 +9,7 @@ use Rattle.pg_walk.specs.Items.{Found, File as AFile, Fault}
 use Rattle.pg_run.specs.Given.{Given, NoFile, File, FilesPast, is_reading, newest_name, gave_bytes, gave_end}
 use Rattle.pg_run.specs.Asking.{NextGives, ReadGives, read_given}
 use Rattle.pg_run.specs.Listed.{asked_for, file_paths, newest_paths, path_of, path_in, shown, shown_name, given_by, files_past}
-use Rattle.pg_run.specs.Listed.{Reaches}
+use Rattle.pg_run.specs.Listed.{Reaches, sources}
 use Rattle.pg_run.specs.declared.files.Step.{Step}
 
 -- one more item is asked for
@@ -49,6 +49,37 @@ pub read_by : {E : Type 0} (into : List ℕ) (items : List Found) (past past' : 
 read_by into items past past' (Ok count) r gives =
     (gives.0, ap (given_by items) gives.1 ∙ given_count into count items past r)
 read_by into items past past' (Err e) r gives = ap (given_by items) gives ∙ end_by true items past r
+
+-- what is behind the open file stays
+bytes_behind : (more : List ℕ) (items : List Found) (past : List Given) → is_reading (given_by items past) ≡ true →
+    drop (length (file_paths items)) (gave_bytes more past) ≡ drop (length (file_paths items)) past
+bytes_behind more [] past r = absurd (false≢true r)
+bytes_behind more (Fault path cause ∷ items) past r = absurd (false≢true r)
+bytes_behind more (AFile path ∷ items) [] r = refl
+bytes_behind more (AFile path ∷ items) (NoFile name cause ∷ past) r = refl
+bytes_behind more (AFile path ∷ items) (File name bytes ending ∷ past) r = refl
+
+end_behind : (failed : Bool) (items : List Found) (past : List Given) → is_reading (given_by items past) ≡ true →
+    drop (length (file_paths items)) (gave_end failed past) ≡ drop (length (file_paths items)) past
+end_behind failed [] past r = absurd (false≢true r)
+end_behind failed (Fault path cause ∷ items) past r = absurd (false≢true r)
+end_behind failed (AFile path ∷ items) [] r = refl
+end_behind failed (AFile path ∷ items) (NoFile name cause ∷ past) r = refl
+end_behind failed (AFile path ∷ items) (File name bytes ending ∷ past) r = refl
+
+count_behind : (into : List ℕ) (count : ℕ) (items : List Found) (past : List Given) →
+    is_reading (given_by items past) ≡ true →
+    drop (length (file_paths items)) (read_given into count past) ≡ drop (length (file_paths items)) past
+count_behind into zero items past r = end_behind false items past r
+count_behind into (suc count) items past r = bytes_behind (take (suc count) into) items past r
+
+pub read_behind : {E : Type 0} (into : List ℕ) (items : List Found) (past past' : List Given) (result : Result ℕ E) →
+    is_reading (given_by items past) ≡ true → ReadGives into past past' result →
+    drop (length (file_paths items)) past' ≡ drop (length (file_paths items)) past
+read_behind into items past past' (Ok count) r gives =
+    ap (drop (length (file_paths items))) gives.1 ∙ count_behind into count items past r
+read_behind into items past past' (Err e) r gives =
+    ap (drop (length (file_paths items))) gives ∙ end_behind true items past r
 
 -- a path was opened after the others
 pub paths_more : (path : List ℕ) (items : List Found) (g : Given) (past : List Given) → path_of g ≡ path →
@@ -122,6 +153,18 @@ module _ {E : Type 0} (view : E → Found) (items : List E) (asked : ℕ) (item 
   next_gives done step past past' r =
       subst (λ found. NextGives step (given done so_far past) (given done found past')) (sym more)
       (gives_by done (view item) step past past' r)
+
+  behind_by : (f : Found) (step : Step) (past past' : List Given) → Reaches f step past past' →
+      drop (length (file_paths (f ∷ so_far))) past' ≡ drop (length (file_paths so_far)) past
+  behind_by (Fault path cause) step past past' r = ap (drop (length (file_paths so_far))) r.1
+  behind_by (AFile path) step past past' (inl r) = ap (drop (length (file_paths (AFile path ∷ so_far)))) r.1
+  behind_by (AFile path) step past past' (inr r) = ap (drop (length (file_paths (AFile path ∷ so_far)))) r.2
+
+  pub next_behind : (step : Step) (past past' : List Given) → Reaches (view item) step past past' →
+      sources (asked + 1) (map view items) past' ≡ sources asked (map view items) past
+  next_behind step past past' r =
+      ap (λ found. record { items = map view items; earlier = drop (length (file_paths found)) past' }) more
+      ∙ ap (λ g. record { items = map view items; earlier = g }) (behind_by (view item) step past past' r)
 
   -- and then the newest is called by its path
   pub next_name : (past : List Given) → AreOpened (asked_for (asked + 1) (map view items)) past →

@@ -2,6 +2,7 @@
 use Rattle.std.specs.Prelude.{◌⊎◌, ℕ, ◌+◌, ◌<◌, ◌^◌, Bool, true, false, if◌then◌else◌, List, [], ◌∷◌, ◌++◌, length, map}
 use Rattle.std.specs.List.{Any}
 use Rattle.pg_lines.specs.Lines.{lines}
+use Rattle.pg_walk.specs.Items.{Found}
 use Rattle.pg_walk.specs.declared.item.Cause.{Cause}
 use Rattle.pg_rows.specs.Output.{Entry, Missed, Read, Ending, Running, Ended, Failed, Left}
 
@@ -15,6 +16,11 @@ pub data Given : Type 0 where
 pub record FilesPast : Type 0 where
   pub given : List Given
   pub done : Bool
+
+-- the names that are looked for, and what was given of others before
+pub record Sources : Type 0 where
+  pub items : List Found
+  pub earlier : List Given
 
 abbrev pub nothing_given : FilesPast
 nothing_given = record { given = []; done = false }

@@ -1,10 +1,11 @@
 -- The items of a walk as files that are given, by what a store gave for their paths.
-use Rattle.std.specs.Prelude.{◌≡◌, ◌⊎◌, ℕ, nat_eq, Bool, List, [], ◌∷◌, map, take, reverse, codes, if◌then◌else◌}
+use Rattle.std.specs.Prelude.{◌≡◌, ◌⊎◌, ℕ, nat_eq, Bool, List, [], ◌∷◌, map, length, take, drop, reverse}
+use Rattle.std.specs.Prelude.{codes, if◌then◌else◌}
 use lib.Pointwise.{pointwise}
 use Rattle.pg_walk.specs.Items.{Found, File as AFile, Fault}
 use Rattle.pg_walk.specs.declared.item.Cause.{Cause}
 use Rattle.pg_rows.specs.Output.{Left}
-use Rattle.pg_run.specs.Given.{Given, NoFile, File, FilesPast}
+use Rattle.pg_run.specs.Given.{Given, NoFile, File, FilesPast, Sources}
 use Rattle.pg_run.specs.declared.files.Step.{Step}
 use Rattle.pg_run.specs.declared.files.Step.TheVariants.{File as NextFile, Miss as NextMiss}
 
@@ -55,3 +56,7 @@ Reaches (AFile path) step past past' =
 
 abbrev pub files_past : ℕ → Bool → List Found → List Given → FilesPast
 files_past asked done items past = record { given = given_by (asked_for asked items) past; done = done }
+
+-- what the store gave before the items' files were opened stands behind these
+abbrev pub sources : ℕ → List Found → List Given → Sources
+sources asked items past = record { items = items; earlier = drop (length (file_paths (asked_for asked items))) past }

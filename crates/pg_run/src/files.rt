@@ -1,7 +1,6 @@
 //! Files that are given one after another.
-ghost use Rattle.std.specs.Prelude.{◌≡◌, ◌<◌, false, true, List, length, IfOk, OnErr};
-ghost use Rattle.pg_walk.specs.Items.{Found};
-ghost use Rattle.pg_run.specs.Given.{FilesPast, is_reading, newest_name};
+ghost use Rattle.std.specs.Prelude.{◌≡◌, ◌<◌, false, true, length, IfOk, OnErr};
+ghost use Rattle.pg_run.specs.Given.{FilesPast, Sources, is_reading, newest_name};
 ghost use Rattle.pg_run.specs.Asking.{NextGives, ReadGives};
 
 use pg_walk::Cause;
@@ -26,8 +25,8 @@ pub enum Step {
 
 /// Files that are given one after another, and read as far as that is asked for.
 pub trait Files {
-    /// What is looked for. No call changes it.
-    ghost list: { Self → List Found };
+    /// What is looked for, and where. No call changes it.
+    ghost list: { Self → Sources };
 
     /// What was given.
     ghost past: { Self → FilesPast };

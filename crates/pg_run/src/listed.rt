@@ -55,9 +55,9 @@ impl<S: Store + Drop> Listed<S> {
 impl<S: Store + Drop> Files for Listed<S> {
     ghost use Rattle.std.specs.Prelude.{map};
     ghost use Rattle.pg_walk.specs.Items.{found};
-    ghost use Rattle.pg_run.specs.Listed.{files_past};
+    ghost use Rattle.pg_run.specs.Listed.{files_past, sources};
 
-    ghost list = { λ s. map found s.items.items };
+    ghost list = { λ s. sources s.asked (map found s.items.items) (S.past s.store) };
 
     ghost past = { λ s. files_past s.asked s.done (map found s.items.items) (S.past s.store) };
 

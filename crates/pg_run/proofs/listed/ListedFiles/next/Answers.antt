@@ -1,6 +1,6 @@
 use Rattle.std.proofs.Common.{◌∙◌, ◌<◌, length, get_or, ap, arith, subst}
 use Rattle.pg_walk.specs.Items.{found}
-use Rattle.pg_run.proofs.ListedLemmas.{next_opened, next_gives}
+use Rattle.pg_run.proofs.ListedLemmas.{next_behind, next_gives, next_opened}
 use Rattle.pg_run.proofs.listed.ListedFiles.next.Goals as goal
 
 pub invariant_of-self-2 : goal.invariant_of-self-2
@@ -22,3 +22,11 @@ returns-clause-ok g c =
     ∙ ap (λ items. get_or items c.args.self.now.asked c.in-Some.item.now) c.deref.ensures.value)
     c.args.self.now.done c.in_ok-step.step
     (g.S.Store.past c.args.self.now.store) (g.S.Store.past c.reach.new.store) c.in_ok-step.ensures.ok
+
+pub returns-clause-same_list : goal.returns-clause-same_list
+returns-clause-same_list g c =
+    next_behind found c.args.self.now.items.items c.args.self.now.asked c.in-Some.item.now
+    (subst (λ items. c.args.self.now.asked < length items) c.deref.ensures.value c.in-Some.ensures.lookup.3.0)
+    (c.in-Some.ensures.lookup.3.1 c.in-Some.item.now
+    ∙ ap (λ items. get_or items c.args.self.now.asked c.in-Some.item.now) c.deref.ensures.value)
+    c.in_ok-step.step (g.S.Store.past c.args.self.now.store) (g.S.Store.past c.reach.new.store) c.in_ok-step.ensures.ok

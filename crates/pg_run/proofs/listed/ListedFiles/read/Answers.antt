@@ -1,7 +1,7 @@
-use Rattle.std.proofs.Common.{map}
+use Rattle.std.proofs.Common.{ap, map}
 use Rattle.pg_walk.specs.Items.{found}
 use Rattle.pg_run.specs.Listed.{asked_for}
-use Rattle.pg_run.proofs.ListedLemmas.{read_by}
+use Rattle.pg_run.proofs.ListedLemmas.{read_behind, read_by}
 use Rattle.pg_run.proofs.listed.ListedFiles.read.Goals as goal
 
 pub returns-clause-given : goal.returns-clause-given
@@ -9,3 +9,10 @@ returns-clause-given g c =
     read_by c.read.new.into (asked_for c.args.self.now.asked (map found c.args.self.now.items.items))
     (g.S.Store.past c.args.self.now.store) (g.S.Store.past c.read.new.self) c.read.result c.requires.reading
     c.read.ensures.given
+
+pub returns-clause-same_list : goal.returns-clause-same_list
+returns-clause-same_list g c =
+    ap (λ earlier. record { items = map found c.args.self.now.items.items; earlier = earlier })
+    (read_behind c.read.new.into (asked_for c.args.self.now.asked (map found c.args.self.now.items.items))
+    (g.S.Store.past c.args.self.now.store) (g.S.Store.past c.read.new.self) c.read.result c.requires.reading
+    c.read.ensures.given)
