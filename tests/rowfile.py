@@ -19,11 +19,12 @@ class DataFault(Exception):
 
 @dataclass
 class Entry:
-    """What lies in the folder where a row runs: a file, a locked one, a folder, a locked one, or a link."""
+    """What lies in the folder where a row runs: a file, a folder, a link or a pipe."""
 
     kind: str
     path: bytes
     text: bytes = b""
+    mode: int | None = None
 
 
 @dataclass
@@ -43,13 +44,12 @@ class Row:
     error: bytes = b""
     status: int = 0
     variants: list = field(default_factory=list)
-    asks_grep: bool = True
+    grep: str = "yes"
     keys: set = field(default_factory=set)
 
-    @property
-    def error_begins(self):
-        """Whether only the beginning of standard error is stated."""
-        return "error-begins" in self.keys
+    def begins(self, stream):
+        """Whether only the beginning of what a stream gets is stated."""
+        return f"{stream}-begins" in self.keys
 
 
 def unescaped(text):
@@ -151,6 +151,12 @@ def read_flag(text, flag):
     return True
 
 
+def read_grep(text):
+    if text.strip() not in ("no", "any order"):
+        raise DataFault("the machine's grep is asked, or 'no', or in 'any order'")
+    return text.strip()
+
+
 def read_status(text):
     if not re.fullmatch(r"[0-9]{1,3}", text.strip()) or int(text) > 255:
         raise DataFault("a status is a number from 0 to 255")
@@ -172,36 +178,54 @@ KEYS = {
     "closed": ("closed", read_streams),
     "unread": ("unread", lambda text: read_flag(text, "output")),
     "output": ("output", read_text),
+    "output-begins": ("output", read_text),
     "output-to": ("output_to", read_one_word),
     "error": ("error", read_text),
     "error-begins": ("error", read_text),
     "status": ("status", read_status),
     "also": ("variants", lambda text: [] if read_flag(text, "none") else None),
-    "grep": ("asks_grep", lambda text: not read_flag(text, "no")),
+    "grep": ("grep", read_grep),
 }
 
-ENTRIES = ("file", "locked", "folder", "link")
+ENTRIES = ("file", "locked", "folder", "link", "pipe")
 
 # Of each pair a row states one at most.
 EXCLUDED = [
     ("input", "input-from"),
+    ("output", "output-begins"),
     ("output", "output-to"),
     ("output", "unread"),
+    ("output-begins", "output-to"),
+    ("output-begins", "unread"),
     ("output-to", "unread"),
     ("error", "error-begins"),
 ]
+
+
+def read_mode(text):
+    """The mode of a folder, or None where it is as any other."""
+    if not text.strip():
+        return None
+    found = re.fullmatch(r"\s*(locked|mode ([0-7]{3}))\s*", text)
+    if not found:
+        raise DataFault("a folder is 'locked', has a 'mode NNN', or nothing is said of it")
+    return int(found[2] or "0", 8)
 
 
 def read_entry(key, text):
     """What a line 'KIND PATH: VALUE' puts into the folder."""
     kind, _, rest = key.partition(" ")
     path = read_path(rest)
-    if kind in ("file", "locked"):
-        return Entry(kind, path, read_text(text))
+    if kind == "file":
+        return Entry("file", path, read_text(text))
+    if kind == "locked":
+        return Entry("file", path, read_text(text), 0)
     if kind == "link":
-        return Entry(kind, path, read_one_word(text))
-    is_locked = text.strip() and read_flag(text, "locked")
-    return Entry("locked-folder" if is_locked else "folder", path)
+        return Entry("link", path, read_one_word(text))
+    if kind == "pipe":
+        read_flag(text, "")
+        return Entry("pipe", path)
+    return Entry("folder", path, mode=read_mode(text))
 
 
 def key_end(line):
@@ -233,7 +257,7 @@ class Reader:
     def __init__(self, path, shown):
         self.path, self.shown = path, shown
         self.rows, self.faults = [], []
-        self.variants, self.asks_grep = [], True
+        self.variants, self.grep = [], "yes"
 
     def read(self):
         try:
@@ -259,12 +283,12 @@ class Reader:
         elif key == "also":
             self.variants.append(read_words(text))
         elif key == "grep":
-            self.asks_grep = not read_flag(text, "no")
+            self.grep = read_grep(text)
         else:
             raise DataFault(f"unknown key {key!r} before the first row")
 
     def open_row(self, name):
-        row = Row(name, self.place, variants=list(self.variants), asks_grep=self.asks_grep)
+        row = Row(name, self.place, variants=list(self.variants), grep=self.grep)
         self.rows.append(row)
         if not NAME.fullmatch(name):
             raise DataFault("a name is of small letters, digits and single hyphens between them")
