@@ -11,6 +11,7 @@ ESCAPE = re.compile(r"\\(x[0-9A-Fa-f]{2}|.)")
 ESCAPES = {"n": b"\n", "t": b"\t", "r": b"\r", "0": b"\0", "\\": b"\\", '"': b'"'}
 STREAMS = {"input": 0, "output": 1, "error": 2}
 LONGEST_TEXT = 2**26
+LONGEST_BEFORE_A_FAULT = 2000
 
 
 class DataFault(Exception):
@@ -37,6 +38,7 @@ class Row:
     entries: list = field(default_factory=list)
     input: bytes = b""
     input_from: bytes | None = None
+    input_fails: bool = False
     closed: set = field(default_factory=set)
     output: bytes = b""
     output_to: bytes | None = None
@@ -175,6 +177,7 @@ KEYS = {
     "words": ("words", read_words),
     "input": ("input", read_text),
     "input-from": ("input_from", read_one_word),
+    "fails": ("input_fails", lambda text: read_flag(text, "input")),
     "closed": ("closed", read_streams),
     "unread": ("unread", lambda text: read_flag(text, "output")),
     "output": ("output", read_text),
@@ -192,6 +195,7 @@ ENTRIES = ("file", "locked", "folder", "link", "pipe")
 # Of each pair a row states one at most.
 EXCLUDED = [
     ("input", "input-from"),
+    ("fails", "input-from"),
     ("output", "output-begins"),
     ("output", "output-to"),
     ("output", "unread"),
@@ -318,6 +322,10 @@ class Reader:
         for one, other in EXCLUDED:
             if {one, other} <= row.keys:
                 self.faults.append(f"{row.place}: the row states both {one!r} and {other!r}")
+        if row.input_fails and len(row.input) > LONGEST_BEFORE_A_FAULT:
+            self.faults.append(f"{row.place}: input that fails has at most {LONGEST_BEFORE_A_FAULT} bytes")
+        if "input" in row.closed and row.input_fails:
+            self.faults.append(f"{row.place}: input is closed, and its reading fails as well")
         if "output" in row.closed and row.unread:
             self.faults.append(f"{row.place}: output is closed, and nobody reads it as well")
         for stream in row.closed:

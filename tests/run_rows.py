@@ -12,6 +12,7 @@ import subprocess
 import sys
 import tempfile
 import threading
+import tty
 from concurrent.futures import ThreadPoolExecutor
 from dataclasses import dataclass, field
 from pathlib import Path
@@ -166,12 +167,23 @@ def environment():
     return {"PATH": os.environ.get("PATH", os.defpath), "LC_ALL": "C"}
 
 
+def failing_input(text):
+    """A descriptor that gives a short text, and then fails: a terminal whose other end is gone."""
+    reader, writer = os.openpty()
+    tty.setraw(writer)
+    os.write(writer, text)
+    os.close(writer)
+    return reader
+
+
 def given_streams(row, folder):
     """The descriptors of the streams that don't lead to the runner."""
     streams = {}
     try:
         if row.input_from is not None:
             streams["stdin"] = os.open(os.path.join(os.fsencode(folder), row.input_from), os.O_RDONLY)
+        if row.input_fails:
+            streams["stdin"] = failing_input(row.input)
         if row.output_to is not None:
             streams["stdout"] = os.open(os.path.join(os.fsencode(folder), row.output_to), os.O_WRONLY)
         if row.unread:
@@ -202,7 +214,7 @@ def start(program, case, folder):
 
 def outcome_of(program, case, folder):
     process = start(program, case, folder)
-    given = case.row.input if case.row.input_from is None else None
+    given = case.row.input if case.row.input_from is None and not case.row.input_fails else None
     try:
         output, error = process.communicate(given, timeout=LIMIT)
     except subprocess.TimeoutExpired:
@@ -327,6 +339,8 @@ def keep(program, case, locks_hold):
         parts.append(f"> {quoted(row.output_to)}")
     if row.unread:
         parts.append("> >(exec true)")
+    if row.input_fails:
+        parts.append("# without the failed read behind the input")
     print(f"{case.label}:\n  cd {folder} && {' '.join(parts)}")
 
 
