@@ -227,7 +227,8 @@ def read_entry(key, text):
     if kind == "link":
         return Entry("link", path, read_one_word(text))
     if kind == "pipe":
-        read_flag(text, "")
+        if text.strip():
+            raise DataFault("nothing is said of a pipe")
         return Entry("pipe", path)
     return Entry("folder", path, mode=read_mode(text))
 
