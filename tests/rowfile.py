@@ -11,6 +11,7 @@ ESCAPE = re.compile(r"\\(x[0-9A-Fa-f]{2}|.)")
 ESCAPES = {"n": b"\n", "t": b"\t", "r": b"\r", "0": b"\0", "\\": b"\\", '"': b'"'}
 STREAMS = {"input": 0, "output": 1, "error": 2}
 LONGEST_TEXT = 2**26
+LONGEST_BEFORE_A_FAULT = 2000
 
 
 class DataFault(Exception):
@@ -19,11 +20,12 @@ class DataFault(Exception):
 
 @dataclass
 class Entry:
-    """What lies in the folder where a row runs: a file, a locked one, a folder, a locked one, or a link."""
+    """What lies in the folder where a row runs: a file, a folder, a link or a pipe."""
 
     kind: str
     path: bytes
     text: bytes = b""
+    mode: int | None = None
 
 
 @dataclass
@@ -36,6 +38,7 @@ class Row:
     entries: list = field(default_factory=list)
     input: bytes = b""
     input_from: bytes | None = None
+    input_fails: bool = False
     closed: set = field(default_factory=set)
     output: bytes = b""
     output_to: bytes | None = None
@@ -43,13 +46,12 @@ class Row:
     error: bytes = b""
     status: int = 0
     variants: list = field(default_factory=list)
-    asks_grep: bool = True
+    grep: str = "yes"
     keys: set = field(default_factory=set)
 
-    @property
-    def error_begins(self):
-        """Whether only the beginning of standard error is stated."""
-        return "error-begins" in self.keys
+    def begins(self, stream):
+        """Whether only the beginning of what a stream gets is stated."""
+        return f"{stream}-begins" in self.keys
 
 
 def unescaped(text):
@@ -151,6 +153,12 @@ def read_flag(text, flag):
     return True
 
 
+def read_grep(text):
+    if text.strip() not in ("no", "any order"):
+        raise DataFault("the machine's grep is asked, or 'no', or in 'any order'")
+    return text.strip()
+
+
 def read_status(text):
     if not re.fullmatch(r"[0-9]{1,3}", text.strip()) or int(text) > 255:
         raise DataFault("a status is a number from 0 to 255")
@@ -169,39 +177,60 @@ KEYS = {
     "words": ("words", read_words),
     "input": ("input", read_text),
     "input-from": ("input_from", read_one_word),
+    "fails": ("input_fails", lambda text: read_flag(text, "input")),
     "closed": ("closed", read_streams),
     "unread": ("unread", lambda text: read_flag(text, "output")),
     "output": ("output", read_text),
+    "output-begins": ("output", read_text),
     "output-to": ("output_to", read_one_word),
     "error": ("error", read_text),
     "error-begins": ("error", read_text),
     "status": ("status", read_status),
     "also": ("variants", lambda text: [] if read_flag(text, "none") else None),
-    "grep": ("asks_grep", lambda text: not read_flag(text, "no")),
+    "grep": ("grep", read_grep),
 }
 
-ENTRIES = ("file", "locked", "folder", "link")
+ENTRIES = ("file", "locked", "folder", "link", "pipe")
 
 # Of each pair a row states one at most.
 EXCLUDED = [
     ("input", "input-from"),
+    ("fails", "input-from"),
+    ("output", "output-begins"),
     ("output", "output-to"),
     ("output", "unread"),
+    ("output-begins", "output-to"),
+    ("output-begins", "unread"),
     ("output-to", "unread"),
     ("error", "error-begins"),
 ]
+
+
+def read_mode(text):
+    """The mode of a folder, or None where it is as any other."""
+    if not text.strip():
+        return None
+    found = re.fullmatch(r"\s*(locked|mode ([0-7]{3}))\s*", text)
+    if not found:
+        raise DataFault("a folder is 'locked', has a 'mode NNN', or nothing is said of it")
+    return int(found[2] or "0", 8)
 
 
 def read_entry(key, text):
     """What a line 'KIND PATH: VALUE' puts into the folder."""
     kind, _, rest = key.partition(" ")
     path = read_path(rest)
-    if kind in ("file", "locked"):
-        return Entry(kind, path, read_text(text))
+    if kind == "file":
+        return Entry("file", path, read_text(text))
+    if kind == "locked":
+        return Entry("file", path, read_text(text), 0)
     if kind == "link":
-        return Entry(kind, path, read_one_word(text))
-    is_locked = text.strip() and read_flag(text, "locked")
-    return Entry("locked-folder" if is_locked else "folder", path)
+        return Entry("link", path, read_one_word(text))
+    if kind == "pipe":
+        if text.strip():
+            raise DataFault("nothing is said of a pipe")
+        return Entry("pipe", path)
+    return Entry("folder", path, mode=read_mode(text))
 
 
 def key_end(line):
@@ -233,7 +262,7 @@ class Reader:
     def __init__(self, path, shown):
         self.path, self.shown = path, shown
         self.rows, self.faults = [], []
-        self.variants, self.asks_grep = [], True
+        self.variants, self.grep = [], "yes"
 
     def read(self):
         try:
@@ -259,12 +288,12 @@ class Reader:
         elif key == "also":
             self.variants.append(read_words(text))
         elif key == "grep":
-            self.asks_grep = not read_flag(text, "no")
+            self.grep = read_grep(text)
         else:
             raise DataFault(f"unknown key {key!r} before the first row")
 
     def open_row(self, name):
-        row = Row(name, self.place, variants=list(self.variants), asks_grep=self.asks_grep)
+        row = Row(name, self.place, variants=list(self.variants), grep=self.grep)
         self.rows.append(row)
         if not NAME.fullmatch(name):
             raise DataFault("a name is of small letters, digits and single hyphens between them")
@@ -294,6 +323,10 @@ class Reader:
         for one, other in EXCLUDED:
             if {one, other} <= row.keys:
                 self.faults.append(f"{row.place}: the row states both {one!r} and {other!r}")
+        if row.input_fails and len(row.input) > LONGEST_BEFORE_A_FAULT:
+            self.faults.append(f"{row.place}: input that fails has at most {LONGEST_BEFORE_A_FAULT} bytes")
+        if "input" in row.closed and row.input_fails:
+            self.faults.append(f"{row.place}: input is closed, and its reading fails as well")
         if "output" in row.closed and row.unread:
             self.faults.append(f"{row.place}: output is closed, and nobody reads it as well")
         for stream in row.closed:

@@ -12,6 +12,7 @@ import subprocess
 import sys
 import tempfile
 import threading
+import tty
 from concurrent.futures import ThreadPoolExecutor
 from dataclasses import dataclass, field
 from pathlib import Path
@@ -31,6 +32,12 @@ SHOWN = 200
 
 # Options that grep doesn't have; each takes a value.
 OWN_OPTIONS = (b"--block", b"--round", b"--workers")
+
+# Every row is run once more with these words: a block for each line, a round for each block, and threads.
+SMALLEST = [b"--block", b"1", b"--round", b"1", b"--workers", b"2"]
+
+# Rows that give more lines are not, since a round for each line takes its time.
+MOST_ROUNDS = 1000
 
 # Held while a program is started, so that no other one inherits an end of its pipes on the way.
 STARTING = threading.Lock()
@@ -63,9 +70,28 @@ class SetupFault(Exception):
     """Why a row can't be run."""
 
 
+def own_options(words):
+    """Which of the words are options that only this program has."""
+    mark = words.index(b"--") if b"--" in words else len(words)
+    return {word.partition(b"=")[0] for word in words[:mark]} & set(OWN_OPTIONS)
+
+
+def lines_given(row):
+    """How many lines the row's files and its input have, whichever byte ends them."""
+    texts = [row.input, *(entry.text for entry in row.entries)]
+    return sum(text.count(b"\n") + text.count(b"\0") for text in texts)
+
+
+def variants_of(row):
+    """The words before which a row's own are run once more."""
+    if "also" in row.keys or own_options(row.words) or lines_given(row) > MOST_ROUNDS:
+        return row.variants
+    return [*row.variants, SMALLEST]
+
+
 def cases_of(row, with_variants):
     cases = [Case(row, row.name, row.words)]
-    for words in row.variants if with_variants else []:
+    for words in variants_of(row) if with_variants else []:
         label = f"{row.name} with {' '.join(quoted(word) for word in words)}"
         cases.append(Case(row, label, words + row.words))
     return cases
@@ -96,24 +122,27 @@ def heed_locks():
 
 
 def make_entries(entries, folder, locks_hold):
-    """Puts files, folders and links where the row runs. Modes come last, so that all can be put in."""
-    locked = []
+    """Puts files, folders, links and pipes where the row runs. Modes come last, so that all can be put in."""
+    modes = []
     for entry in entries:
         path = os.path.join(os.fsencode(folder), entry.path)
         os.makedirs(os.path.dirname(path), exist_ok=True)
         if entry.kind == "link":
             os.symlink(entry.text, path)
-        elif entry.kind in ("folder", "locked-folder"):
+        elif entry.kind == "pipe":
+            os.mkfifo(path)
+        elif entry.kind == "folder":
             os.makedirs(path, exist_ok=True)
         else:
             with open(path, "wb") as file:
                 file.write(entry.text)
-        if entry.kind.startswith("locked"):
-            locked.append(path)
-    if locked and not locks_hold:
+        if entry.mode is not None:
+            modes.append((path, entry.mode))
+    if modes and not locks_hold:
         raise SetupFault("root opens locked files here, so this row needs another user")
-    for path in locked:
-        os.chmod(path, 0)
+    # What lies in a folder has the greater path, and gets its mode before the folder does.
+    for path, mode in sorted(modes, reverse=True):
+        os.chmod(path, mode)
 
 
 def remove(folder):
@@ -138,12 +167,23 @@ def environment():
     return {"PATH": os.environ.get("PATH", os.defpath), "LC_ALL": "C"}
 
 
+def failing_input(text):
+    """A descriptor that gives a short text, and then fails: a terminal whose other end is gone."""
+    reader, writer = os.openpty()
+    tty.setraw(writer)
+    os.write(writer, text)
+    os.close(writer)
+    return reader
+
+
 def given_streams(row, folder):
     """The descriptors of the streams that don't lead to the runner."""
     streams = {}
     try:
         if row.input_from is not None:
             streams["stdin"] = os.open(os.path.join(os.fsencode(folder), row.input_from), os.O_RDONLY)
+        if row.input_fails:
+            streams["stdin"] = failing_input(row.input)
         if row.output_to is not None:
             streams["stdout"] = os.open(os.path.join(os.fsencode(folder), row.output_to), os.O_WRONLY)
         if row.unread:
@@ -174,7 +214,7 @@ def start(program, case, folder):
 
 def outcome_of(program, case, folder):
     process = start(program, case, folder)
-    given = case.row.input if case.row.input_from is None else None
+    given = case.row.input if case.row.input_from is None and not case.row.input_fails else None
     try:
         output, error = process.communicate(given, timeout=LIMIT)
     except subprocess.TimeoutExpired:
@@ -219,27 +259,35 @@ def status_fault(wanted, came):
     return f"status:\n    wanted status {wanted}\n    came   {how}"
 
 
+def stream_faults(row, stream, wanted, came):
+    """What differs of standard output or standard error, of which a row may state the beginning alone."""
+    if not row.begins(stream):
+        return [] if came == wanted else [text_fault(stream, wanted, came)]
+    if came.startswith(wanted) and came.endswith(b"\n"):
+        return []
+    return [f"{stream}:\n    wanted {shown(wanted)}, some text and a newline\n    came   {shown(came)}"]
+
+
 def differences(row, outcome):
     """What is not as the row wants it."""
-    faults = []
-    if outcome.output != row.output:
-        faults.append(text_fault("output", row.output, outcome.output))
-    if row.error_begins:
-        if not (outcome.error.startswith(row.error) and outcome.error.endswith(b"\n")):
-            wanted = f"{shown(row.error)}, some text and a newline"
-            faults.append(f"error:\n    wanted {wanted}\n    came   {shown(outcome.error)}")
-    elif outcome.error != row.error:
-        faults.append(text_fault("error", row.error, outcome.error))
+    faults = stream_faults(row, "output", row.output, outcome.output)
+    faults += stream_faults(row, "error", row.error, outcome.error)
     if outcome.status != row.status:
         faults.append(status_fault(row.status, outcome.status))
     return faults
 
 
+def in_order(text):
+    """The lines of a text in the order of their bytes, whichever byte ends them."""
+    return b"".join(sorted(re.findall(rb"[^\n\0]*[\n\0]|[^\n\0]+", text)))
+
+
 def differences_of_grep(row, outcome):
     """What the machine's grep does otherwise than the row says; texts of faults are each program's own."""
-    faults = []
-    if outcome.output != row.output:
-        faults.append(text_fault("output", row.output, outcome.output))
+    output, came = row.output, outcome.output
+    if row.grep == "any order":
+        output, came = in_order(output), in_order(came)
+    faults = stream_faults(row, "output", output, came)
     if bool(outcome.error) != bool(row.error):
         faults.append(f"error:\n    wanted {shown(row.error)}\n    came   {shown(outcome.error)}")
     if outcome.status != row.status:
@@ -279,7 +327,7 @@ def keep(program, case, locks_hold):
     make_entries(case.row.entries, folder, locks_hold)
     Path(room, "input").write_bytes(case.row.input)
     row, parts = case.row, ["env -i", 'PATH="$PATH"', "LC_ALL=C"]
-    if os.geteuid() == 0 and any(entry.kind.startswith("locked") for entry in row.entries):
+    if os.geteuid() == 0 and any(entry.mode is not None for entry in row.entries):
         parts.append("setpriv --bounding-set=-dac_override,-dac_read_search")
     parts += [quoted(word) for word in (os.fsencode(program), *case.words)]
     if "input" in row.closed:
@@ -291,6 +339,8 @@ def keep(program, case, locks_hold):
         parts.append(f"> {quoted(row.output_to)}")
     if row.unread:
         parts.append("> >(exec true)")
+    if row.input_fails:
+        parts.append("# without the failed read behind the input")
     print(f"{case.label}:\n  cd {folder} && {' '.join(parts)}")
 
 
@@ -339,7 +389,7 @@ def check_program(program, cases, words, locks_hold):
 def check_grep(program, cases, is_whole, locks_hold):
     """Compares the machine's grep with what the rows want; a chosen difference has to be one."""
     chosen, faults = read_chosen()
-    asked = [case for case in cases if case.row.asks_grep]
+    asked = [case for case in cases if case.row.grep != "no"]
     for case in asked:
         case.words = own_words_left_out(case.words)
     failed = 0
