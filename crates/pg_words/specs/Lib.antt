@@ -1,3 +1,4 @@
+pub mod Operands
 pub mod Options
 pub mod Split
 pub mod Usage

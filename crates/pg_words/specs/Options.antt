@@ -7,6 +7,8 @@ use Rattle.pg_rows.specs.declared.format.Format.{Format}
 use Rattle.pg_rows.specs.declared.format.Mode.{Mode}
 use Rattle.pg_rows.specs.declared.format.Mode.TheVariants.{Rows, Count, List, Quiet}
 use Rattle.pg_words.specs.declared.options.Options.{Options}
+use Rattle.pg_words.specs.declared.options.Naming.{Naming}
+use Rattle.pg_words.specs.declared.options.Naming.TheVariants.{Always, Never, BySeveral}
 
 -- the syntax of the patterns
 abbrev pub kind_of : Options → Kind
@@ -16,6 +18,10 @@ kind_of options = if options.extended then Extended else (if options.fixed then 
 abbrev pub mode_of : Options → Mode
 mode_of options =
     if options.count then Count else (if options.list then List else (if options.quiet then Quiet else Rows))
+
+-- when names are written: -h takes them away, and without either option the number of files decides
+abbrev pub naming_of : Options → Naming
+naming_of options = if options.no_names then Never else (if options.names then Always else BySeveral)
 
 -- How rows look: -h takes the names away, a limit is at least 1, and -C gives what -B or -A doesn't.
 abbrev pub format_of : Options → Format

@@ -1,7 +1,8 @@
 -- Words of a command line, cut.
-use Rattle.std.specs.Prelude.{ℕ, ◌+◌, ◌==◌, nat_lt, Bool, ◌&&◌, not, if◌then◌else◌}
+use Rattle.std.specs.Prelude.{ℕ, ◌+◌, ◌==◌, nat_eq, nat_lt, Bool, ◌&&◌, ◌||◌, not, if◌then◌else◌}
 use Rattle.std.specs.Prelude.{List, [], ◌∷◌, ◌++◌, length, slice_index, take, drop, codes}
 use Rattle.std.specs.List.{list_any, position_or_len}
+use lib.Pointwise.{pointwise}
 use Rattle.pg_words.specs.declared.split.Place.{Place}
 use Rattle.pg_words.specs.declared.split.Place.TheVariants.{Free, Value, Operand}
 
@@ -12,6 +13,15 @@ is_bundle word = (slice_index word 0 == 45) && not (slice_index word 1 == 45)
 -- the word is `--`
 abbrev pub is_mark : List ℕ → Bool
 is_mark word = (length word == 2) && ((slice_index word 0 == 45) && (slice_index word 1 == 45))
+
+-- the word is a long name whose option has a value, which is the next word
+abbrev pub wants_value : List ℕ → Bool
+wants_value word =
+    pointwise nat_eq word (codes "--regexp") || pointwise nat_eq word (codes "--file")
+    || pointwise nat_eq word (codes "--max-count") || pointwise nat_eq word (codes "--after-context")
+    || pointwise nat_eq word (codes "--before-context") || pointwise nat_eq word (codes "--context")
+    || pointwise nat_eq word (codes "--workers") || pointwise nat_eq word (codes "--block")
+    || pointwise nat_eq word (codes "--round")
 
 -- the letters whose options have a value
 abbrev pub has_value : ℕ → Bool
@@ -34,12 +44,12 @@ pieces Free word = if is_bundle word then bundle_pieces word else (word ∷ [])
 pieces Value word = word ∷ []
 pieces Operand word = word ∷ []
 
--- what stands behind it: the value of a letter that ends it, or operands alone behind `--`
+-- what stands behind it: the value of a letter that ends it or of a long name, or operands alone behind `--`
 abbrev pub place_behind : Place → List ℕ → Place
 place_behind Free word =
     if is_bundle word
     then (if value_start word == length word then Value else Free)
-    else (if is_mark word then Operand else Free)
+    else (if is_mark word then Operand else (if wants_value word then Value else Free))
 place_behind Value word = Free
 place_behind Operand word = Operand
 

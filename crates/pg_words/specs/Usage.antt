@@ -3,18 +3,19 @@ use Rattle.std.specs.Prelude.{ℕ, ◌==◌, ◌&&◌, if◌then◌else◌, Opti
 use Rattle.pg_words.specs.declared.options.Options.{Options}
 use Rattle.pg_words.specs.declared.usage.UsageFault.{UsageFault}
 use Rattle.pg_words.specs.declared.usage.UsageFault.TheVariants.{SeveralModes, ExtendedAndFixed, NamesAndNoNames}
-use Rattle.pg_words.specs.declared.usage.UsageFault.TheVariants.{ExcludedByPieces, NoPattern}
+use Rattle.pg_words.specs.declared.usage.UsageFault.TheVariants.{ExcludedByPieces, NoPattern, NoOperand}
 use Rattle.pg_words.specs.Options.{has_excluded_by_pieces, has_several_modes}
 
--- what is wrong with options beside so many texts and files of patterns: the first of these
-abbrev pub usage_fault : Options → ℕ → Option UsageFault
-usage_fault options patterns =
+-- What is wrong with options beside so many texts and files of patterns and so many FILE operands: the first of these.
+abbrev pub usage_fault : Options → ℕ → ℕ → Option UsageFault
+usage_fault options patterns files =
     if has_several_modes options then Some SeveralModes
     else (if options.extended && options.fixed then Some ExtendedAndFixed
     else (if options.names && options.no_names then Some NamesAndNoNames
     else (if options.pieces && has_excluded_by_pieces options then Some ExcludedByPieces
     else (if patterns == 0 then Some NoPattern
-    else None))))
+    else (if options.recursive && (files == 0) then Some NoOperand
+    else None)))))
 
 -- what is told of a usage fault
 abbrev pub usage_text : UsageFault → List ℕ
@@ -23,3 +24,4 @@ usage_text ExtendedAndFixed = codes "only one of -E and -F may be given"
 usage_text NamesAndNoNames = codes "only one of -H and -h may be given"
 usage_text ExcludedByPieces = codes "-o excludes -v, -c, -l, -q, -A, -B and -C"
 usage_text NoPattern = codes "no pattern given"
+usage_text NoOperand = codes "-r needs an operand"

@@ -1,10 +1,12 @@
 //! The words of the command line, read with `clap`.
 //!
-//! [`Words`] cuts the words so that each value stands alone, [`read_words`] reads them, and a
-//! [`Request`] is what they ask for. [`check_usage`] says which [`Options`] exclude one another.
+//! [`Words`] cuts the words so that each value stands alone, [`read_words`] reads them, and a [`Task`]
+//! is what they ask for, mostly the search of a [`Request`]. [`check_usage`] says which [`Options`]
+//! exclude one another or want an operand.
 #![tactic(auto)]
 
 mod command;
+mod help;
 mod operands;
 mod options;
 mod request;
@@ -12,8 +14,8 @@ mod split;
 mod usage;
 mod words;
 
-pub use options::Options;
+pub use options::{Naming, Options};
 pub use request::Request;
 pub use split::Words;
 pub use usage::{UsageFault, check_usage};
-pub use words::{WordsFault, read_words};
+pub use words::{Task, WordsFault, read_words};

@@ -5,7 +5,18 @@ ghost use Rattle.pg_rows.specs.Output.{HasRoom};
 use pg_rows::{Format, Mode};
 use pg_syntax::Kind;
 
-/// The options that exclude one another or decide how rows look, as they are given.
+/// When rows and counts begin with the file's name.
+#[derive(Clone, Copy, Debug, PartialEq, Eq)]
+pub enum Naming {
+    /// With -H: always.
+    Always,
+    /// With -h: never.
+    Never,
+    /// With neither: where several files are searched, or a directory.
+    BySeveral,
+}
+
+/// The options that exclude one another, want operands or decide how rows look, as they are given.
 #[derive(Clone, Copy, Debug)]
 pub struct Options {
     /// -E: extended expressions.
@@ -28,6 +39,8 @@ pub struct Options {
     pub names: bool,
     /// -h: no names before rows.
     pub no_names: bool,
+    /// -r: directories are visited.
+    pub recursive: bool,
     /// -m N: N selected lines at most; 0 counts as 1.
     pub limit: Option<u32>,
     /// -A N: the N lines behind each selected line.
@@ -40,7 +53,7 @@ pub struct Options {
 
 impl Options {
     ghost use Rattle.pg_words.specs.Options.{format_of, has_context, has_excluded_by_pieces};
-    ghost use Rattle.pg_words.specs.Options.{has_several_modes, kind_of, mode_of};
+    ghost use Rattle.pg_words.specs.Options.{has_several_modes, kind_of, mode_of, naming_of};
 
     /// The syntax of the patterns, where not both -E and -F are given.
     pub(crate) fn kind(&self) -> Kind
@@ -55,7 +68,7 @@ impl Options {
         }
     }
 
-    /// How rows look, where none of the options excludes another.
+    /// How rows look, where none of the options excludes another. They have names with -H alone.
     pub(crate) fn format(&self) -> Format
         ensures exact { result ≡ format_of self.now }
         ensures some_limit { HasRoom result }
@@ -67,6 +80,19 @@ impl Options {
             limit: self.limit.map(|lines| lines.max(1)),
             before: self.before.or(self.around),
             after: self.after.or(self.around.map(u32::from)),
+        }
+    }
+
+    /// When names are written, where not both -H and -h are given.
+    pub(crate) fn naming(&self) -> Naming
+        ensures { result ≡ naming_of self.now }
+    {
+        if self.no_names {
+            Naming::Never
+        } else if self.names {
+            Naming::Always
+        } else {
+            Naming::BySeveral
         }
     }
 

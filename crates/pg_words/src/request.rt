@@ -2,6 +2,7 @@
 ghost use Rattle.std.specs.Prelude.{◌<◌, ◌≤◌, ◌+◌, ◌^◌, vec_len};
 ghost use Rattle.pg_rows.specs.Output.{HasRoom};
 
+use crate::options::Naming;
 use pg_rows::Format;
 use pg_syntax::Kind;
 
@@ -28,12 +29,24 @@ pub struct Request<'a> {
     pub pieces: bool,
     /// How rows look: -c, -l, -q, -n, -m, -A, -B, -C, -H and -h. Without -H they have no names.
     pub format: Format,
-    /// FILE: the path of the file that is searched, or `-` for standard input, also where no FILE is
-    /// given.
-    pub file: &'a str,
-    /// --block N: the file is cut into blocks of at least so many bytes.
+    /// -H, -h, or neither: when rows have names.
+    pub names: Naming,
+    /// The FILE operands in their order, `-` for standard input; `-` alone where none is given.
+    pub files: Vec<&'a str>,
+    /// -r: directories are visited.
+    pub recursive: bool,
+    /// -s: nothing is told of files that can't be searched.
+    pub silent: bool,
+    /// --workers N: so many threads search.
+    pub workers: u32,
+    /// --block N: each file is cut into blocks of at least so many bytes.
     pub block: u32,
+    /// --round N: at most so many blocks are searched together.
+    pub round: u32,
     ghost has_pattern: { 0 < vec_len texts + vec_len pattern_files },
     ghost some_limit: { HasRoom format },
+    ghost some_file: { 0 < vec_len files },
+    ghost workers_in_range: { (1 ≤ workers) × (workers ≤ 64) },
     ghost block_in_range: { (1 ≤ block) × (block ≤ 2 ^ 24) },
+    ghost round_in_range: { (1 ≤ round) × (round ≤ 1024) },
 }

@@ -1,16 +1,17 @@
 //! Words of a command line, cut so that each value of an option's letter stands alone.
-ghost use Rattle.std.specs.Prelude.{◌≡◌, ◌∷◌, ◌++◌, ◌≤◌, ◌<◌, ◌-◌, ◌==◌, if◌then◌else◌, true};
+ghost use Rattle.std.specs.Prelude.{◌≡◌, ◌∷◌, ◌++◌, ◌≤◌, ◌<◌, ◌-◌, ◌==◌, if◌then◌else◌, false, true};
 ghost use Rattle.std.specs.Prelude.{IfOk, map, length, slice_index};
 ghost use Rattle.std.specs.String.{string_bytes};
 ghost use Rattle.pg_words.specs.Split.{bundle_pieces, cut, has_value, is_bundle, is_mark, pieces, place_behind};
-ghost use Rattle.pg_words.specs.Split.{value_start};
+ghost use Rattle.pg_words.specs.Split.{value_start, wants_value};
 
 use std::alloc::{AllocError, Global};
 
 /// The words of a command line without the program's name, each value of -e, -f, -m, -A, -B or -C a
 /// word of its own: `-ve=x` is the two words `-ve` and `=x`.
 ///
-/// `clap` drops the `=` of `-e=x`, which belongs to the value here.
+/// `clap` drops the `=` of `-e=x`, which belongs to the value here. A long name keeps its value, as in
+/// `--regexp=x`, and the word behind `--regexp` isn't cut.
 #[derive(Drop)]
 pub struct Words<'a> {
     parts: Vec<&'a str>,
@@ -21,7 +22,7 @@ pub struct Words<'a> {
 enum Place {
     /// An option or an operand.
     Free,
-    /// The value of the letter that ends the word before it.
+    /// The value of the option that the word before it is, or of the letter that ends that word.
     Value,
     /// An operand, since it stands behind `--`.
     Operand,
@@ -70,9 +71,21 @@ fn push_word<'a>(parts: &mut Vec<&'a str>, word: &'a str, place: Place) -> Resul
         Place::Free if is_bundle(word) => push_bundle(parts, word),
         Place::Free => {
             parts.push(word)?;
-            let is_mark = is_mark(word);
-            Ok(if is_mark { Place::Operand } else { Place::Free })
+            Ok(place_behind_word(word))
         }
+    }
+}
+
+/// What the next word is behind one that is no bundle.
+fn place_behind_word(word: &str) -> Place
+    ensures { is_bundle word.now ≡ false → result ≡ place_behind Place.Free word.now }
+{
+    if is_mark(word) {
+        Place::Operand
+    } else if wants_value(word) {
+        Place::Value
+    } else {
+        Place::Free
     }
 }
 
@@ -140,4 +153,19 @@ fn has_value(letter: u8) -> bool
     ensures ascii { result ≡ true → letter < 128 }
 {
     matches!(letter, b'e' | b'f' | b'm' | b'A' | b'B' | b'C')
+}
+
+/// Whether the word is a long name whose option has a value, which is the next word.
+fn wants_value(word: &str) -> bool
+    ensures { result ≡ wants_value word.now }
+{
+    word == "--regexp"
+        || word == "--file"
+        || word == "--max-count"
+        || word == "--after-context"
+        || word == "--before-context"
+        || word == "--context"
+        || word == "--workers"
+        || word == "--block"
+        || word == "--round"
 }

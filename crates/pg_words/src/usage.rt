@@ -19,6 +19,8 @@ pub enum UsageFault {
     ExcludedByPieces,
     /// There is no -e, no -f and no operand.
     NoPattern,
+    /// Beside -r there is no FILE.
+    NoOperand,
 }
 
 impl UsageFault {
@@ -32,19 +34,27 @@ impl UsageFault {
             UsageFault::NamesAndNoNames => "only one of -H and -h may be given",
             UsageFault::ExcludedByPieces => "-o excludes -v, -c, -l, -q, -A, -B and -C",
             UsageFault::NoPattern => "no pattern given",
+            UsageFault::NoOperand => "-r needs an operand",
         }
     }
 }
 
-/// Judges words that `clap` accepted, by the options, and by the texts and the files of patterns.
+/// Judges words that `clap` accepted, by the options, the texts and the files of patterns, and the FILE
+/// operands.
 ///
 /// # Errors
 ///
 /// The first fault that there is, in the order of [`UsageFault`]: `NoPattern` where there is neither a
-/// text nor a file, and no other fault.
-pub fn check_usage(options: &Options, texts: &[&str], files: &[&str]) -> Result<(), UsageFault>
-    ensures exact { result_err result ≡ usage_fault options.now (length texts.now + length files.now) }
-    ensures some_pattern { OnOk result (0 < length texts.now + length files.now) }
+/// text nor a file of patterns, `NoOperand` where there is -r and no FILE, and no other fault.
+pub fn check_usage(
+    options: &Options,
+    texts: &[&str],
+    pattern_files: &[&str],
+    files: &[&str],
+) -> Result<(), UsageFault>
+    ensures exact { result_err result
+        ≡ usage_fault options.now (length texts.now + length pattern_files.now) (length files.now) }
+    ensures some_pattern { OnOk result (0 < length texts.now + length pattern_files.now) }
 {
     if options.has_several_modes() {
         return Err(UsageFault::SeveralModes);
@@ -58,8 +68,11 @@ pub fn check_usage(options: &Options, texts: &[&str], files: &[&str]) -> Result<
     if options.pieces && options.has_excluded_by_pieces() {
         return Err(UsageFault::ExcludedByPieces);
     }
-    if texts.is_empty() && files.is_empty() {
+    if texts.is_empty() && pattern_files.is_empty() {
         return Err(UsageFault::NoPattern);
+    }
+    if options.recursive && files.is_empty() {
+        return Err(UsageFault::NoOperand);
     }
     Ok(())
 }
