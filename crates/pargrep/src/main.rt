@@ -1,11 +1,10 @@
-//! Pargrep: prints the lines of a file that patterns select.
+//! Pargrep: prints the lines of files that patterns select.
 #![tactic(auto)]
 
-ghost use Rattle.std.specs.Prelude.{◌≤◌};
-
 use pg_command::{Fault, report, run};
-use pg_run::DiskStore;
-use pg_seq::Out;
+use pg_rows::Out;
+use pg_run::{DiskStore, Listed};
+use pg_walk::DiskTree;
 use std::alloc::Global;
 use std::env;
 use std::io::{BufWriter, ErrorKind};
@@ -17,30 +16,22 @@ use std::rt::Env;
 const OUT_BUFFER: usize = 65_536;
 
 fn main(rt: HostRuntime) -> ExitCode {
-    ExitCode::from(run_on_system(rt))
-}
-
-/// Runs the command over the system's files and streams, and answers the exit status.
-fn run_on_system(rt: HostRuntime) -> u8
-    ensures { result ≤ 2 }
-{
     let alloc = rt.alloc();
     let mut err = Out::new(rt.stderr());
     let words = match words_of(&rt) {
         Ok(words) => words,
-        Err(fault) => return report(alloc, fault, &mut err),
+        Err(fault) => return ExitCode::from(report(alloc, fault, &mut err)),
     };
     let Ok(buffered) = BufWriter::with_capacity(alloc, OUT_BUFFER, rt.stdout()) else {
-        return report(alloc, Fault::OutOfMemory, &mut err);
+        return ExitCode::from(report(alloc, Fault::OutOfMemory, &mut err));
     };
-    let mut store = DiskStore::new(&rt);
-    run(
-        alloc,
-        words.as_slice(),
-        &mut store,
-        &mut Out::new(buffered),
-        &mut err,
-    )
+    let tree = DiskTree::new(&rt);
+    let mut files = Listed::new(alloc, DiskStore::new(&rt));
+    let mut out = Out::new(buffered);
+    let words = words.as_slice();
+    ExitCode::from(run(
+        &rt, alloc, words, &tree, &mut files, &mut out, &mut err,
+    ))
 }
 
 /// The words behind the program's name.

@@ -1,3 +1,3 @@
 mod ReadingLemmas
-mod SearchLemmas
-mod TellLemmas
+mod WorkLemmas
+mod StatusLemmas

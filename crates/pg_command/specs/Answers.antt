@@ -1,91 +1,108 @@
 -- What a search answers, and what it writes.
-use Rattle.std.specs.Prelude.{◌≡◌, ℕ, ◌<◌, ◌≤◌, ◌⊎◌, List, ◌++◌}
-use Rattle.pg_lines.specs.Search.{Search, HasItsTrees}
-use Rattle.pg_rows.specs.Sink.{TakesPart}
-use Rattle.pg_run.specs.Past.{Past, MeetsTheEnd}
-use Rattle.pg_run.specs.Run.{output_of, status_of}
-use Rattle.pg_command.specs.Asked.{Asked, text_of_query}
-use Rattle.pg_command.specs.Reading.{HasRead, FailsToReadAll, IsCalled}
-use Rattle.pg_command.specs.Causes.{BreaksTheQuery, BreaksTheFile}
-use Rattle.pg_command.specs.Told.{IsTold}
+use Rattle.std.specs.Prelude.{◌≡◌, ℕ, ◌^◌, ◌⊎◌, Bool, not, ◌&&◌, List, [], ◌∷◌, length, drop, Option, Some, None, Result}
+use Rattle.std.specs.Prelude.{Ok, Err, MatchResult}
+use Rattle.pg_lines.specs.Search.{Search}
+use Rattle.pg_walk.specs.Answers.{Answers as Tree}
+use Rattle.pg_walk.specs.Items.{Found}
+use Rattle.pg_walk.specs.Places.{is_standard_input}
+use Rattle.pg_walk.specs.Walks.{FilesOf}
+use Rattle.pg_walk.specs.declared.tree.FileKind.{FileKind}
+use Rattle.pg_walk.specs.declared.tree.FileKind.TheVariants.{Regular, Directory, Link, Other}
+use Rattle.pg_run.specs.Given.{Given, Sources}
+use Rattle.pg_run.specs.Listed.{asked_for, file_paths, files_past, newest_paths, sources}
+use Rattle.pg_run.specs.Outcome.{Stream, IsSearchFor, Finishes, BreaksOff}
+use Rattle.pg_run.specs.declared.fault.RunFault.{RunFault}
+use Rattle.pg_run.specs.declared.setup.Setup.{Setup}
+use Rattle.pg_command.specs.Asked.{Asked, has_names, text_of_query}
+use Rattle.pg_command.specs.Causes.{fault_of_run}
+use Rattle.pg_command.specs.Reading.{HasRead, FailsToReadAll}
+use Rattle.pg_command.specs.Told.{Tells}
 use Rattle.pg_command.specs.declared.fault.Fault.{Fault}
-use Rattle.pg_command.specs.declared.fault.Fault.TheVariants.{ReadFailed}
+use Rattle.pg_command.specs.declared.fault.Fault.TheVariants.{OutOfMemory}
 
--- what a stream took, and how often it failed
-pub record Stream : Type 0 where
-  pub taken : List ℕ
-  pub failures : ℕ
+abbrev pub is_directory : Option FileKind → Bool
+is_directory None = Bool.false
+is_directory (Some Regular) = Bool.false
+is_directory (Some Directory) = Bool.true
+is_directory (Some Link) = Bool.false
+is_directory (Some Other) = Bool.false
 
--- The -f files were read, and this is the search for the patterns that are asked for then.
-pub record HasQuery (asked : Asked) (past past' : Past) (q : Search) : Type 0 where
+-- Where there is one operand, this says whether it is a directory, links followed; `-` is none.
+abbrev pub IsDirectory : Tree → List (List ℕ) → Bool → Type 0
+IsDirectory tree [] directory = Unit {0}
+IsDirectory tree (file ∷ []) directory =
+    directory ≡ (not (is_standard_input file) && is_directory (tree.kind file Bool.true))
+IsDirectory tree (file ∷ other ∷ files) directory = Unit {0}
+
+-- How files are searched and rows look: as asked for, with or without names, in lines of at most 2^30 bytes. A tree
+-- that doesn't tell its answers may call anything a directory.
+pub record IsSetup (tells : Type 0) (tree : Tree) (asked : Asked) (setup : Setup) : Type 0 where
+  pub directory : Bool
+  pub is_directory : tells → IsDirectory tree asked.files directory
+  pub format :
+      setup.format ≡ record asked.format { names = has_names asked.names asked.files asked.recursive directory }
+  pub silent : setup.silent ≡ asked.silent
+  pub line : setup.line ≡ 2 ^ 30
+
+-- What was searched: the -f files were read, then the operands walked over, and some first items of the walk were asked
+-- for, each file by its path, and nothing else was opened. `done` says that there were no more.
+pub record Work (tells : Type 0) (tree : Tree) (asked : Asked) (past past' : List Given) : Type 0 where
   pub contents : List (List ℕ)
-  pub read : HasRead past past' asked.files contents
-  pub text : q.text ≡ text_of_query asked contents
-  pub trees : HasItsTrees q
+  pub between : List Given
+  pub read : HasRead past between asked.pattern_files contents
+  pub items : List Found
+  pub walked : tells → FilesOf tree asked.files asked.recursive items
+  pub setup : Setup
+  pub is_setup : IsSetup tells tree asked setup
+  pub count : ℕ
+  pub done : Bool
+  pub opened : newest_paths (length (file_paths (asked_for count items))) past' ≡ file_paths (asked_for count items)
+  pub earlier : drop (length (file_paths (asked_for count items))) past' ≡ between
 
--- The file was read to its end and its output written whole, in the format that is asked for and under the name that
--- the file is called by; no write failed.
-pub record Searches (q : Search) (asked : Asked) (past past' : Past) (out out' : Stream) (s : ℕ) : Type 0 where
-  pub path : past'.path ≡ asked.file
-  pub to_the_end : MeetsTheEnd past past'
-  pub name : List ℕ
-  pub called : IsCalled asked.file name
-  pub output : out'.taken ≡ out.taken ++ output_of q asked.format name past'.given
-  pub no_failure : out'.failures ≡ out.failures
-  pub status : s ≡ status_of q asked.format name past'.given
-
--- what was written where a fault ended the search: all of the output of what was read, if a read failed, and else a
--- beginning of it
-abbrev pub WritesUpTo : Fault → (output before after : List ℕ) → Type 0
-WritesUpTo (ReadFailed name) output before after = after ≡ before ++ output
-WritesUpTo fault output before after = TakesPart output before after
-
--- The search of the very file ended with a fault that has its cause.
-pub record FailsToSearch (q : Search) (asked : Asked) (past past' : Past) (out out' : Stream) (fault : Fault)
-    : Type 0 where
-  pub path : past'.path ≡ asked.file
-  pub cause : BreaksTheFile fault q asked.file past past' out.failures out'.failures
-  pub name : List ℕ
-  pub called : IsCalled asked.file name
-  pub written : WritesUpTo fault (output_of q asked.format name past'.given) out.taken out'.taken
-
--- The -f files were read, and then the file was searched for their patterns and those of the texts.
-pub record Succeeds (asked : Asked) (past past' : Past) (out out' : Stream) (s : ℕ) : Type 0 where
-  pub between : Past
+-- The run over all of it came to its end.
+pub record Succeeds (tells : Type 0) (tree : Tree) (asked : Asked) (past past' : List Given) (out out' err err' : Stream)
+    (status : ℕ) : Type 0 where
+  pub work : Work tells tree asked past past'
   pub search : Search
-  pub query : HasQuery asked past between search
-  pub searches : Searches search asked between past' out out' s
+  pub is_search : IsSearchFor (text_of_query asked work.contents) search
+  pub finishes : Finishes search work.setup (files_past work.count work.done work.items past') out out' err err' status
 
 -- Some -f file couldn't be read, and nothing was written.
-pub record FailsAtAPatternFile (asked : Asked) (past past' : Past) (out out' : Stream) (fault : Fault) : Type 0 where
-  pub stopped : FailsToReadAll asked.files past past' fault
-  pub unwritten : out' ≡ out
+pub record FailsAtAPatternFile (asked : Asked) (past past' : List Given) (out out' err err' : Stream) (fault : Fault)
+    : Type 0 where
+  pub stopped : FailsToReadAll asked.pattern_files past past' fault
+  pub unwritten : (out' ≡ out) × (err' ≡ err)
 
--- The -f files were read, and the text can't be searched for: nothing else was opened, and nothing written.
-pub record FailsAtTheQuery (asked : Asked) (past past' : Past) (out out' : Stream) (fault : Fault) : Type 0 where
+-- Memory was lacking behind the -f files, and nothing was written.
+pub record FailsBeforeTheRun (asked : Asked) (past past' : List Given) (out out' err err' : Stream) (fault : Fault)
+    : Type 0 where
   pub contents : List (List ℕ)
-  pub read : HasRead past past' asked.files contents
-  pub cause : BreaksTheQuery fault (text_of_query asked contents)
-  pub unwritten : out' ≡ out
+  pub read : HasRead past past' asked.pattern_files contents
+  pub memory : fault ≡ OutOfMemory
+  pub unwritten : (out' ≡ out) × (err' ≡ err)
 
--- The -f files were read and all patterns have their trees, and the file couldn't be searched to its end.
-pub record FailsAtTheFile (asked : Asked) (past past' : Past) (out out' : Stream) (fault : Fault) : Type 0 where
-  pub between : Past
-  pub search : Search
-  pub query : HasQuery asked past between search
-  pub fails : FailsToSearch search asked between past' out out' fault
+-- The run broke off.
+pub record FailsInTheRun (tells : Type 0) (tree : Tree) (asked : Asked) (past past' : List Given)
+    (out out' err err' : Stream) (fault : Fault) : Type 0 where
+  pub work : Work tells tree asked past past'
+  pub run : RunFault
+  pub is : fault ≡ fault_of_run run
+  pub breaks :
+      BreaksOff (text_of_query asked work.contents) work.setup (files_past work.count work.done work.items past')
+      out out' err err' run
 
-abbrev pub Fails : Asked → (past past' : Past) (out out' : Stream) → Fault → Type 0
-Fails asked past past' out out' fault =
-    FailsAtAPatternFile asked past past' out out' fault
-    ⊎ (FailsAtTheQuery asked past past' out out' fault ⊎ FailsAtTheFile asked past past' out out' fault)
+abbrev pub Fails : (tells : Type 0) → Tree → Asked → (past past' : List Given) → (out out' err err' : Stream) → Fault
+    → Type 0
+Fails tells tree asked past past' out out' err err' fault =
+    FailsAtAPatternFile asked past past' out out' err err' fault
+    ⊎ (FailsBeforeTheRun asked past past' out out' err err' fault
+    ⊎ FailsInTheRun tells tree asked past past' out out' err err' fault)
 
--- The fault's line was written, or standard error failed.
-abbrev pub Tells : Fault → Stream → Stream → Type 0
-Tells fault err err' = IsTold fault err.taken err'.taken ⊎ (err.failures < err'.failures)
-
--- Status 0 or 1 of a search that went through, and nothing told. Status 2 after a fault that was told.
-pub record Answers (asked : Asked) (past past' : Past) (out out' err err' : Stream) (s : ℕ) : Type 0 where
-  pub within : s ≤ 2
-  pub success : s < 2 → Succeeds asked past past' out out' s × (err'.taken ≡ err.taken)
-  pub fault : s ≡ 2 → (f : Fault) × Fails asked past past' out out' f × Tells f err err'
+-- The status of a search that went through, or a fault was told behind the lines of files.
+abbrev pub Answers : {T : Type 0} → (tells : Type 0) → Tree → Asked → (past past' : List Given)
+    → (out out' err err' : Stream) → Result ℕ T → Type 0
+Answers tells tree asked past past' out out' err err' (Ok status) =
+    Succeeds tells tree asked past past' out out' err err' status
+Answers tells tree asked past past' out out' err err' (Err _) =
+    (fault : Fault) × (middle : Stream) × Fails tells tree asked past past' out out' err middle fault
+    × Tells fault middle err'

@@ -1,16 +1,18 @@
 -- What a command line asks for, as plain data.
-use Rattle.std.specs.Prelude.{ℕ, Bool, List, map, ◌++◌}
+use Rattle.std.specs.Prelude.{ℕ, Bool, true, false, not, ◌&&◌, ◌||◌, List, [], ◌∷◌, map, ◌++◌, Option, Some, None}
 use Rattle.pg_syntax.specs.Slices.{bytes_of}
 use Rattle.pg_lines.specs.Search.{Kind, Patterns, Split, ByLine, SearchText}
 use Rattle.pg_rows.specs.declared.format.Format.{Format}
+use Rattle.pg_words.specs.declared.options.Naming.{Naming}
+use Rattle.pg_words.specs.declared.options.Naming.TheVariants.{Always, Never, BySeveral}
 use Rattle.pg_words.specs.declared.request.Request.{Request}
 
 -- the syntax of the patterns, the -e texts, the paths of the -f files, the options -i, -x, -w, -v, -z and -o, how rows
--- look, and the path of the file that is searched
+-- look and when they have names, the FILE operands, and the options -r and -s
 pub record Asked : Type 0 where
   pub kind : Kind
   pub texts : List (List ℕ)
-  pub files : List (List ℕ)
+  pub pattern_files : List (List ℕ)
   pub fold : Bool
   pub whole : Bool
   pub word : Bool
@@ -18,14 +20,17 @@ pub record Asked : Type 0 where
   pub zero : Bool
   pub pieces : Bool
   pub format : Format
-  pub file : List ℕ
+  pub names : Naming
+  pub files : List (List ℕ)
+  pub recursive : Bool
+  pub silent : Bool
 
--- what a request asks for; how large the blocks are is no part of it
+-- what a request asks for; by how many threads and in which blocks is no part of it
 abbrev pub asked_of : Request → Asked
 asked_of request = record {
   kind = request.kind;
   texts = bytes_of request.texts.items;
-  files = bytes_of request.pattern_files.items;
+  pattern_files = bytes_of request.pattern_files.items;
   fold = request.fold;
   whole = request.whole;
   word = request.word;
@@ -33,7 +38,10 @@ asked_of request = record {
   zero = request.zero;
   pieces = request.pieces;
   format = request.format;
-  file = request.file.now;
+  names = request.names;
+  files = bytes_of request.files.items;
+  recursive = request.recursive;
+  silent = request.silent;
 }
 
 -- what is searched for with these lists behind the -e texts
@@ -53,3 +61,14 @@ text_with asked lists = record {
 -- then those of all -f files, which are their lines.
 abbrev pub text_of_query : Asked → List (List ℕ) → SearchText
 text_of_query asked contents = text_with asked (map ByLine contents)
+
+abbrev pub are_several : List (List ℕ) → Bool
+are_several [] = false
+are_several (file ∷ []) = false
+are_several (file ∷ other ∷ files) = true
+
+-- rows have names: always, never, or where there are several operands or a directory is visited
+abbrev pub has_names : Naming → (files : List (List ℕ)) → (recursive directory : Bool) → Bool
+has_names Always files recursive directory = true
+has_names Never files recursive directory = false
+has_names BySeveral files recursive directory = are_several files || (recursive && directory)

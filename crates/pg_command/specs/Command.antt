@@ -1,32 +1,55 @@
 -- What the command answers, and what it writes.
-use Rattle.std.specs.Prelude.{◌≡◌, ℕ, ◌<◌, ◌≤◌, ◌⊎◌, List, ◌++◌, codes}
-use Rattle.pg_run.specs.Past.{Past}
+use Rattle.std.specs.Prelude.{◌≡◌, ℕ, ◌<◌, ◌⊎◌, List, ◌++◌, codes, Result, Ok, Err, MatchResult}
+use Rattle.std.specs.Result.{IsErr}
+use Rattle.pg_rows.specs.Sink.{TakesPart}
+use Rattle.pg_walk.specs.Answers.{Answers as Tree}
+use Rattle.pg_run.specs.Given.{Given}
+use Rattle.pg_run.specs.Outcome.{Stream}
 use Rattle.pg_command.specs.Asked.{Asked}
-use Rattle.pg_command.specs.Answers.{Stream, Answers, Tells}
+use Rattle.pg_command.specs.Answers.{Answers}
+use Rattle.pg_command.specs.Told.{Tells, TellsText}
 use Rattle.pg_command.specs.declared.fault.Fault.TheVariants.{WriteFailed}
+use Rattle.pg_command.specs.declared.search.Told.{Told}
 
 -- The words weren't taken: nothing was opened or written, and a text was told that says why, or that memory is lacking.
-pub record Refuses (past past' : Past) (out out' err err' : Stream) (s : ℕ) : Type 0 where
-  pub status : s ≡ 2
+pub record Refuses {T : Type 0} (past past' : List Given) (out out' err err' : Stream) (answer : Result ℕ T) : Type 0 where
+  pub fault : IsErr answer
   pub unopened : past' ≡ past
   pub unwritten : out' ≡ out
-  pub told : ((text : List ℕ) × (err'.taken ≡ err.taken ++ (codes "pargrep: " ++ text)))
-      ⊎ (err.failures < err'.failures)
+  pub text : List ℕ
+  pub told : TellsText (codes "pargrep: " ++ text) err err'
 
--- The words asked for some search, which was answered, or weren't taken. What they ask for is the parser's to say.
-abbrev pub Commands : (past past' : Past) (out out' err err' : Stream) → ℕ → Type 0
-Commands past past' out out' err err' s =
-    ((asked : Asked) × Answers asked past past' out out' err err' s) ⊎ Refuses past past' out out' err err' s
+-- a text was written, and the status is 0; or a beginning of it, and the failure was told
+abbrev pub IsShown : {T : Type 0} → List ℕ → (out out' err err' : Stream) → Result ℕ T → Type 0
+IsShown text out out' err err' (Ok status) =
+    (status ≡ 0) × (out'.taken ≡ out.taken ++ text) × (out'.failures ≡ out.failures) × (err' ≡ err)
+IsShown text out out' err err' (Err _) =
+    TakesPart text out.taken out'.taken × (out.failures < out'.failures) × Tells WriteFailed err err'
 
--- The command was run, which may have failed at last: where a status below 2 couldn't be kept, for what was held back
--- couldn't be sent on, that fault was told. A status below 2 means that no write and no sending on failed.
-pub record Runs (past past' : Past) (out out' err err' : Stream) (s : ℕ) : Type 0 where
-  pub within : s ≤ 2
+-- The words asked for a text. Nothing was opened.
+pub record Shows {T : Type 0} (past past' : List Given) (out out' err err' : Stream) (answer : Result ℕ T) : Type 0 where
+  pub unopened : past' ≡ past
+  pub text : List ℕ
+  pub shown : IsShown text out out' err err' answer
+
+-- The words asked for some search, which was answered, or for a text, or weren't taken. What they ask for is the
+-- parser's to say.
+abbrev pub Commands : {T : Type 0} → (tells : Type 0) → Tree → (past past' : List Given) → (out out' err err' : Stream)
+    → Result ℕ T → Type 0
+Commands tells tree past past' out out' err err' answer =
+    ((asked : Asked) × Answers tells tree asked past past' out out' err err' answer)
+    ⊎ (Shows past past' out out' err err' answer ⊎ Refuses past past' out out' err err' answer)
+
+-- The status of the command stands where all that was held back could be sent on; else that is told, and the status is
+-- 2, as after a fault that was told.
+pub record Runs (tells : Type 0) (tree : Tree) (past past' : List Given) (out out' err err' : Stream)
+    (status : ℕ) : Type 0 where
   pub middle : Stream
   pub told : Stream
-  pub before : ℕ
-  pub command : Commands past past' out middle err told before
+  pub answer : Result ℕ Told
+  pub command : Commands tells tree past past' out middle err told answer
   pub taken : out'.taken ≡ middle.taken
-  pub kept : s < 2 → (s ≡ before) × (out'.failures ≡ out.failures) × (err' ≡ told)
-  pub failed : s ≡ 2
-      → ((before ≡ 2) × (err' ≡ told)) ⊎ ((middle.failures < out'.failures) × Tells WriteFailed told err')
+  pub ended : MatchResult answer
+      (λ before. ((status ≡ before) × (out'.failures ≡ middle.failures) × (err' ≡ told))
+      ⊎ ((status ≡ 2) × (middle.failures < out'.failures) × Tells WriteFailed told err'))
+      (λ _. (status ≡ 2) × (err' ≡ told))

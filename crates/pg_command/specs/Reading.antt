@@ -1,52 +1,63 @@
 -- The files of patterns, read one after the other.
-use Rattle.std.specs.Prelude.{◌≡◌, ◌≢◌, ℕ, ◌⊎◌, List, [], ◌∷◌, ◌++◌, codes}
-use Rattle.pg_run.specs.Past.{Past, MeetsTheEnd, Misses, FailsToRead}
+use Rattle.std.specs.Prelude.{◌≡◌, ℕ, ◌⊎◌, false, List, [], ◌∷◌, ◌++◌, Result, Ok, Err}
+use Rattle.pg_rows.specs.Output.{Ending, Ended, Failed, Left, is_failed}
+use Rattle.pg_walk.specs.declared.item.Cause.{Cause}
+use Rattle.pg_walk.specs.declared.item.Cause.TheVariants.{ReadFailed}
+use Rattle.pg_run.specs.Given.{Given, NoFile, File}
+use Rattle.pg_run.specs.Listed.{shown_name}
 use Rattle.pg_command.specs.declared.fault.Fault.{Fault}
-use Rattle.pg_command.specs.declared.fault.Fault.TheVariants.{NotText, Usage, CannotOpen, ReadFailed, Pattern}
-use Rattle.pg_command.specs.declared.fault.Fault.TheVariants.{TooLarge, OutOfMemory, WriteFailed, LineTooLong}
-
--- how a file is called in rows and fault lines
-abbrev pub IsCalled : List ℕ → List ℕ → Type 0
-IsCalled path name = ((path ≡ codes "-") × (name ≡ codes "(standard input)")) ⊎ ((path ≢ codes "-") × (name ≡ path))
-
--- The file at the path was opened and read to its end, and gave this content.
-pub record IsReadWhole (file content : List ℕ) (past past' : Past) : Type 0 where
-  pub path : past'.path ≡ file
-  pub given : past'.given ≡ content
-  pub to_the_end : MeetsTheEnd past past'
+use Rattle.pg_command.specs.declared.fault.Fault.TheVariants.{NotText, Usage, Unreadable, Pattern, TooLarge}
+use Rattle.pg_command.specs.declared.fault.Fault.TheVariants.{OutOfMemory, WriteFailed, TooManyFiles, LineTooLong}
 
 -- The files at the paths were opened one after the other, each was read to its end, and they gave these contents.
-abbrev pub HasRead : Past → Past → List (List ℕ) → List (List ℕ) → Type 0
+abbrev pub HasRead : List Given → List Given → List (List ℕ) → List (List ℕ) → Type 0
 HasRead past past' [] [] = past' ≡ past
 HasRead past past' [] (content ∷ contents) = ⊥
 HasRead past past' (path ∷ paths) [] = ⊥
-HasRead past past' (path ∷ paths) (content ∷ contents) =
-    (mid : Past) × IsReadWhole path content past mid × HasRead mid past' paths contents
+HasRead past past' (path ∷ paths) (content ∷ contents) = HasRead (File path content Ended ∷ past) past' paths contents
 
--- what happened to a file that was to be read, for the fault that says it
-abbrev pub BreaksTheReading : Fault → List ℕ → Past → Past → Type 0
-BreaksTheReading (CannotOpen name) path past past' = Misses past past' × IsCalled path name.now
-BreaksTheReading (ReadFailed name) path past past' = FailsToRead past past' × IsCalled path name.now
-BreaksTheReading OutOfMemory path past past' = (past'.misses ≡ past.misses) × (past'.failures ≡ past.failures)
-BreaksTheReading NotText path past past' = ⊥
-BreaksTheReading (Usage fault) path past past' = ⊥
-BreaksTheReading (Pattern fault) path past past' = ⊥
-BreaksTheReading TooLarge path past past' = ⊥
-BreaksTheReading WriteFailed path past past' = ⊥
-BreaksTheReading LineTooLong path past past' = ⊥
+-- the path gave no file, or a read of it failed
+abbrev pub IsUnread : List ℕ → Cause → List Given → List Given → Type 0
+IsUnread path cause past past' =
+    (past' ≡ NoFile path cause ∷ past)
+    ⊎ ((cause ≡ ReadFailed) × (bytes : List ℕ) × (past' ≡ File path bytes Failed ∷ past))
 
--- The file at the path wasn't read to its end, by a fault that has its cause.
-pub record StopsAt (file : List ℕ) (past past' : Past) (fault : Fault) : Type 0 where
-  pub path : past'.path ≡ file
-  pub cause : BreaksTheReading fault file past past'
+-- the path wasn't opened, or some of its file was read
+abbrev pub IsGivenUp : List ℕ → List Given → List Given → Type 0
+IsGivenUp path past past' =
+    (past' ≡ past)
+    ⊎ ((bytes : List ℕ) × (ending : Ending) × (is_failed ending ≡ false) × (past' ≡ File path bytes ending ∷ past))
+
+-- The open file, which gave these bytes by now, was read to its end, or to a read that failed.
+abbrev pub IsReadBy : {T E : Type 0} → (path : List ℕ) → List Given → Result T E → List ℕ → List Given → Type 0
+IsReadBy path past (Ok _) bytes past' = past' ≡ File path bytes Ended ∷ past
+IsReadBy path past (Err _) bytes past' = past' ≡ File path bytes Failed ∷ past
+
+-- and so, or it was given up
+abbrev pub ReadsOn : {T E F : Type 0} → (path : List ℕ) → List Given → Result (Result T E) F → List ℕ → List Given
+    → Type 0
+ReadsOn path past (Ok end) bytes past' = IsReadBy path past end bytes past'
+ReadsOn path past (Err _) bytes past' = (got : List ℕ) × (past' ≡ File path got Left ∷ past)
+
+-- a path wasn't read to its end, by a fault that has its cause
+abbrev pub StopsAt : List ℕ → List Given → List Given → Fault → Type 0
+StopsAt path past past' (Unreadable name cause) = (name.now ≡ shown_name path) × IsUnread path cause past past'
+StopsAt path past past' OutOfMemory = IsGivenUp path past past'
+StopsAt path past past' NotText = ⊥
+StopsAt path past past' (Usage fault) = ⊥
+StopsAt path past past' (Pattern fault) = ⊥
+StopsAt path past past' TooLarge = ⊥
+StopsAt path past past' WriteFailed = ⊥
+StopsAt path past past' TooManyFiles = ⊥
+StopsAt path past past' LineTooLong = ⊥
 
 -- The files in front of some path were read, and that one wasn't.
-pub record FailsToReadAll (paths : List (List ℕ)) (past past' : Past) (fault : Fault) : Type 0 where
+pub record FailsToReadAll (paths : List (List ℕ)) (past past' : List Given) (fault : Fault) : Type 0 where
   pub front : List (List ℕ)
   pub path : List ℕ
   pub rest : List (List ℕ)
   pub joins : paths ≡ front ++ path ∷ rest
   pub contents : List (List ℕ)
-  pub between : Past
+  pub between : List Given
   pub read : HasRead past between front contents
   pub stops : StopsAt path between past' fault

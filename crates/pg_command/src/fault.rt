@@ -1,32 +1,31 @@
 //! The faults of the program.
-ghost use Rattle.std.specs.Prelude.{◌≡◌, ◌<◌, ◌⊎◌, ◌++◌, codes, OnErr, OnOk};
+ghost use Rattle.std.specs.Prelude.{◌≡◌, ◌<◌, ◌++◌, codes, OnErr, OnOk};
 ghost use Rattle.std.specs.List.{flat_map};
+ghost use Rattle.pg_run.specs.Told.{fault_line as file_line};
 ghost use Rattle.pg_command.specs.Causes.{fault_of_query, fault_of_run};
-ghost use Rattle.pg_command.specs.Told.{IsTold, pattern_line, subject_of, text_of};
+ghost use Rattle.pg_command.specs.Told.{IsPlain, Tells, line_of, pattern_line, plain_line};
 ghost use Rattle.pg_command.specs.declared.fault.Fault.TheVariants.{OutOfMemory};
 
-use crate::tell::tell;
 use itoa::Buffer;
 use pg_lines::{ListFault, QueryFault};
-use pg_run::RunFault;
-use pg_seq::{Sink, WriteError};
+use pg_rows::{Sink, WriteError};
+use pg_run::{RunFault, tell};
+use pg_walk::Cause;
 use pg_words::UsageFault;
 use std::alloc::{AllocError, AllocFailed, Global};
 
 /// The status of a run that met a fault.
 pub const FAULT_STATUS: u8 = 2;
 
-/// Why the program doesn't search a file to its end.
+/// Why the program doesn't search all that it was asked to.
 #[derive(Clone, Copy, Debug, Drop)]
 pub enum Fault<'a> {
     /// An argument isn't UTF-8.
     NotText,
     /// The words of the command line ask for nothing.
     Usage(UsageFault),
-    /// The file of this name couldn't be opened.
-    CannotOpen(&'a str),
-    /// A read of the file of this name failed.
-    ReadFailed(&'a str),
+    /// The file of patterns of this name couldn't be opened or read to its end, and why.
+    Unreadable(&'a str, Cause),
     /// A pattern is no expression.
     Pattern(ListFault),
     /// The patterns ask for more than 65,536 states together.
@@ -35,7 +34,9 @@ pub enum Fault<'a> {
     OutOfMemory,
     /// Standard output failed.
     WriteFailed,
-    /// A line of the file has more than 2^30 bytes, or the file more than 2^62.
+    /// More than 2^32 - 1 files are to be searched.
+    TooManyFiles,
+    /// A line of a file has more than 2^30 bytes, or the file more than 2^62.
     LineTooLong,
 }
 
@@ -72,38 +73,29 @@ impl<'a> From<RunFault> for Fault<'a> {
 
     fn from(fault: RunFault) -> Fault<'a> {
         match fault {
+            RunFault::Query(fault) => Fault::from(fault),
             RunFault::OutOfMemory => Fault::OutOfMemory,
             RunFault::Sink => Fault::WriteFailed,
+            RunFault::TooManyFiles => Fault::TooManyFiles,
             RunFault::TooLong => Fault::LineTooLong,
         }
     }
 }
 
 impl<'a> Fault<'a> {
-    /// The name of the file that it is about, and nothing where it is about none.
-    fn subject(self) -> &'a str
-        ensures { result.now ≡ subject_of self.entry }
-    {
-        match self {
-            Fault::CannotOpen(name) | Fault::ReadFailed(name) => name,
-            _ => "",
-        }
-    }
-
-    /// What its line says is wrong.
+    /// What its line says is wrong, where that is neither about a file nor about a pattern.
     fn text(self) -> &'static str
-        ensures { result.now ≡ text_of self.entry }
+        ensures { IsPlain self.entry → line_of self.entry ≡ plain_line result.now }
     {
         match self {
             Fault::NotText => "an argument is not UTF-8",
             Fault::Usage(fault) => fault.text(),
-            Fault::CannotOpen(_) => ": cannot open",
-            Fault::ReadFailed(_) => ": read failed",
-            Fault::Pattern(fault) => fault.fault.kind.text(),
             Fault::TooLarge => "pattern too large",
             Fault::OutOfMemory => "out of memory",
             Fault::WriteFailed => "write failed",
+            Fault::TooManyFiles => "too many files",
             Fault::LineTooLong => "line too long",
+            Fault::Unreadable(..) | Fault::Pattern(_) => "",
         }
     }
 }
@@ -111,24 +103,45 @@ impl<'a> Fault<'a> {
 /// Writes the line of a fault to standard error. The answer is the status that the program ends with.
 pub fn report<W: Sink>(alloc: Global, fault: Fault<'_>, err: &mut W) -> u8
     ensures status { result ≡ 2 }
-    ensures told { IsTold fault.entry (W.taken err.old) (W.taken err.new) ⊎ (W.failures err.old < W.failures err.new) }
+    ensures told { Tells fault.entry
+        (record { taken = W.taken err.old; failures = W.failures err.old })
+        (record { taken = W.taken err.new; failures = W.failures err.new }) }
 {
     let _ = match fault {
         Fault::Pattern(fault) => tell_pattern(alloc, fault, err),
-        _ => tell(
-            alloc,
-            &line_of("pargrep: ", fault.subject(), fault.text(), "\n"),
-            err,
-        ),
+        Fault::Unreadable(name, cause) => tell_file(alloc, name, cause, err),
+        _ => tell_text(alloc, fault.text(), err),
     };
     FAULT_STATUS
 }
 
-/// The parts of a line, in their order.
-fn line_of<'a>(name: &'a str, subject: &'a str, text: &'a str, end: &'a str) -> [&'a str; 4]
-    ensures { flat_map (λ part. part.now) result ≡ name.now ++ subject.now ++ text.now ++ end.now }
+/// Writes a line that says what is wrong.
+fn tell_text<W: Sink>(alloc: Global, text: &str, err: &mut W) -> Result<(), WriteError>
+    ensures told { OnOk result (W.taken err.new ≡ W.taken err.old ++ plain_line text.now) }
+    ensures failure { OnErr result (W.failures err.old < W.failures err.new) }
 {
-    [name, subject, text, end]
+    tell(alloc, &[b"pargrep: ", text.as_bytes(), b"\n"], err)
+}
+
+/// Writes the line of a file's fault.
+fn tell_file<W: Sink>(
+    alloc: Global,
+    name: &str,
+    cause: Cause,
+    err: &mut W,
+) -> Result<(), WriteError>
+    ensures told { OnOk result (W.taken err.new ≡ W.taken err.old ++ file_line name.now cause) }
+    ensures failure { OnErr result (W.failures err.old < W.failures err.new) }
+{
+    tell(alloc, &file_parts(name, cause.text()), err)
+}
+
+/// The parts of the line of a file's fault, in their order.
+fn file_parts<'a>(name: &'a str, text: &'a str) -> [&'a [u8]; 5]
+    ensures { flat_map (λ part. part.now) result
+        ≡ codes "pargrep: " ++ name.now ++ codes ": " ++ text.now ++ codes "\n" }
+{
+    [b"pargrep: ", name.as_bytes(), b": ", text.as_bytes(), b"\n"]
 }
 
 /// Writes the line of a pattern's fault, with the number of the pattern and the offset of the fault.
@@ -137,27 +150,17 @@ fn tell_pattern<W: Sink>(alloc: Global, fault: ListFault, err: &mut W) -> Result
     ensures failure { OnErr result (W.failures err.old < W.failures err.new) }
 {
     let (mut number, mut offset) = (Buffer::new(), Buffer::new());
-    let parts = pattern_parts(
-        number.format(fault.pattern),
-        fault.fault.kind.text(),
-        offset.format(fault.fault.at),
-    );
-    tell(alloc, &parts, err)
-}
-
-/// The parts of the line of a pattern's fault, in their order.
-fn pattern_parts<'a>(number: &'a str, text: &'a str, offset: &'a str) -> [&'a str; 7]
-    ensures { flat_map (λ part. part.now) result
-        ≡ codes "pargrep: pattern " ++ number.now ++ codes ": " ++ text.now ++ codes " at " ++ offset.now
-        ++ codes "\n" }
-{
-    [
-        "pargrep: pattern ",
-        number,
-        ": ",
-        text,
-        " at ",
-        offset,
-        "\n",
-    ]
+    tell(
+        alloc,
+        &[
+            b"pargrep: pattern ",
+            number.format(fault.pattern).as_bytes(),
+            b": ",
+            fault.fault.kind.text().as_bytes(),
+            b" at ",
+            offset.format(fault.fault.at).as_bytes(),
+            b"\n",
+        ],
+        err,
+    )
 }

@@ -2,12 +2,12 @@
 #![tactic(auto)]
 
 mod fault;
+mod names;
 mod patterns;
 mod program;
 mod query;
 mod search;
-mod tell;
 
 pub use fault::{FAULT_STATUS, Fault, report};
 pub use program::{command, run};
-pub use search::answer;
+pub use search::{Told, answer};

@@ -1,14 +1,16 @@
 //! The files of patterns.
-ghost use Rattle.std.specs.Prelude.{◌≡◌, ◌<◌, ◌++◌, [], List, ℕ, map, IfErr, IfOk, OnErr, OnOk, length};
+ghost use Rattle.std.specs.Prelude.{◌≡◌, ◌<◌, ◌∷◌, List, ℕ, map, IfErr, IfOk, length};
 ghost use Rattle.pg_syntax.specs.Memory.{patterns_of};
 ghost use Rattle.pg_syntax.specs.Slices.{bytes_of};
 ghost use Rattle.pg_lines.specs.Search.{ByLine};
-ghost use Rattle.pg_run.specs.Past.{EndsOrFails, IsCalm};
-ghost use Rattle.pg_command.specs.Reading.{FailsToReadAll, HasRead, IsCalled, IsReadWhole, StopsAt};
+ghost use Rattle.pg_rows.specs.Output.{Ended, Left};
+ghost use Rattle.pg_run.specs.Given.{Given, File};
+ghost use Rattle.pg_command.specs.Reading.{FailsToReadAll, HasRead, ReadsOn, StopsAt};
 
 use crate::fault::Fault;
 use pg_lines::PatternList;
-use pg_run::{ReadFault, Store};
+use pg_run::{OpenFault, ReadFault, Store, shown_name};
+use pg_walk::Cause;
 use std::alloc::{AllocError, Global};
 
 /// How many bytes are asked for in one read.
@@ -19,8 +21,8 @@ const READ_SIZE: usize = 65_536;
 ///
 /// # Errors
 ///
-/// `CannotOpen` and `ReadFailed` of the first file that couldn't be read, and `OutOfMemory` where a
-/// request for memory was refused.
+/// `Unreadable` for the first file that couldn't be opened or read to its end, and `OutOfMemory` where
+/// a request for memory was refused.
 pub(crate) fn read_patterns<'a, S: Store>(
     alloc: Global,
     paths: &[&'a str],
@@ -45,17 +47,19 @@ fn read_file<'a, S: Store>(
     path: &'a str,
     store: &mut S,
 ) -> Result<Vec<u8>, Fault<'a>>
-    ensures read { IfOk result (λ bytes. IsReadWhole path.now bytes.items (S.past store.old) (S.past store.new)) }
+    ensures read { IfOk result (λ bytes. S.past store.new ≡ File path.now bytes.items Ended ∷ S.past store.old) }
     ensures fault { IfErr result (StopsAt path.now (S.past store.old) (S.past store.new)) }
 {
     let name = shown_name(path);
-    if !store.open(path)? {
-        return Err(Fault::CannotOpen(name));
+    match store.open(path) {
+        Ok(()) => {}
+        Err(OpenFault::Refused(cause)) => return Err(Fault::Unreadable(name, cause)),
+        Err(OpenFault::OutOfMemory) => return Err(Fault::OutOfMemory),
     }
     let mut bytes = Vec::new(alloc);
     match read_to_end(alloc, &mut bytes, store)? {
         Ok(()) => Ok(bytes),
-        Err(ReadFault) => Err(Fault::ReadFailed(name)),
+        Err(ReadFault) => Err(Fault::Unreadable(name, Cause::ReadFailed)),
     }
 }
 
@@ -65,11 +69,8 @@ fn read_to_end<S: Store>(
     bytes: &mut Vec<u8>,
     store: &mut S,
 ) -> Result<Result<(), ReadFault>, AllocError>
-    requires unread { (S.past store.old).given ≡ bytes.old.items }
-    ensures given { OnOk result ((S.past store.new).given ≡ bytes.new.items) }
-    ensures read { IfOk result (EndsOrFails (S.past store.old) (S.past store.new)) }
-    ensures path { (S.past store.new).path ≡ (S.past store.old).path }
-    ensures memory { OnErr result (IsCalm (S.past store.old) (S.past store.new)) }
+    ensures { (path : List ℕ) → (past : List Given) → S.past store.old ≡ File path bytes.old.items Left ∷ past →
+        ReadsOn path past result bytes.new.items (S.past store.new) }
 {
     let mut buffer = vec![in alloc; 0u8; READ_SIZE]?;
     read_by(&mut buffer, bytes, store)
@@ -81,12 +82,9 @@ fn read_by<S: Store>(
     bytes: &mut Vec<u8>,
     store: &mut S,
 ) -> Result<Result<(), ReadFault>, AllocError>
-    requires room { 0 < length buffer.old }
-    requires unread { (S.past store.old).given ≡ bytes.old.items }
-    ensures given { OnOk result ((S.past store.new).given ≡ bytes.new.items) }
-    ensures read { IfOk result (EndsOrFails (S.past store.old) (S.past store.new)) }
-    ensures path { (S.past store.new).path ≡ (S.past store.old).path }
-    ensures memory { OnErr result (IsCalm (S.past store.old) (S.past store.new)) }
+    requires { 0 < length buffer.old }
+    ensures { (path : List ℕ) → (past : List Given) → S.past store.old ≡ File path bytes.old.items Left ∷ past →
+        ReadsOn path past result bytes.new.items (S.past store.new) }
 {
     loop {
         let Ok(count) = store.read(buffer) else {
@@ -96,16 +94,5 @@ fn read_by<S: Store>(
             return Ok(Ok(()));
         }
         bytes.extend_from_slice(&buffer[..count])?;
-    }
-}
-
-/// How a file is called in rows and fault lines.
-pub(crate) fn shown_name(path: &str) -> &str
-    ensures { IsCalled path.now result.now }
-{
-    if path == "-" {
-        "(standard input)"
-    } else {
-        path
     }
 }

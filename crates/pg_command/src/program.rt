@@ -1,65 +1,118 @@
 //! The command, over any files and streams.
-ghost use Rattle.pg_command.specs.Command.{Commands, Runs};
+ghost use Rattle.std.specs.Prelude.{◌≡◌, ◌≤◌, ◌++◌, false, ℕ, List, codes, IfOk, IsErr};
+ghost use Rattle.pg_command.specs.Command.{Commands, IsShown, Runs};
+ghost use Rattle.pg_command.specs.Told.{TellsText};
 
 use crate::fault::{FAULT_STATUS, Fault, report};
-use crate::search::answer;
-use crate::tell::tell;
-use pg_run::Store;
-use pg_seq::{Out, Sink};
-use pg_words::{Words, WordsFault, read_words};
+use crate::search::{Told, answer};
+use pg_rows::{Out, Sink, write_all};
+use pg_run::{Listed, Store, tell};
+use pg_walk::FileTree;
+use pg_words::{Task, Words, WordsFault, read_words};
 use std::alloc::Global;
 use std::io::Write;
+use std::sync::Wait;
 
-/// Does what the words of a command line ask for, which leave out the program's name. The answer is
-/// the status: 0 where a line was selected, 1 where none was, and 2 after a fault.
+/// Does what the words of a command line ask for, which leave out the program's name: a search, as
+/// [`answer`] has it, or a text about the program. The answer is the status.
 ///
-/// The selected lines go to `out`. The line of a fault goes to `err`, and only the first fault is
-/// looked for: first the words, then what `answer` looks for.
-pub fn command<S: Store, W: Sink, E: Sink>(
+/// # Errors
+///
+/// `Told` where a fault ended it, whose line went to `err`; the words are looked at first.
+pub fn command<R: Wait, T: FileTree, S: Store + Drop, W: Sink, E: Sink>(
+    rt: &R,
     alloc: Global,
     words: &[String],
-    store: &mut S,
+    tree: &T,
+    files: &mut Listed<S>,
     out: &mut W,
     err: &mut E,
-) -> u8
-    ensures { Commands (S.past store.old) (S.past store.new)
+) -> Result<u8, Told>
+    requires { (files.old.asked ≡ 0) × (files.old.done ≡ false) }
+    ensures commands { Commands (T.tells tree.now) (T.answers tree.now)
+        (S.past files.old.store) (S.past files.new.store)
+        (record { taken = W.taken out.old; failures = W.failures out.old })
+        (record { taken = W.taken out.new; failures = W.failures out.new })
+        (record { taken = E.taken err.old; failures = E.failures err.old })
+        (record { taken = E.taken err.new; failures = E.failures err.new }) result }
+    ensures small { IfOk result (λ status. status ≤ 2) }
+{
+    let Ok(words) = Words::new(alloc, words) else {
+        return refuse(alloc, WordsFault::OutOfMemory, err);
+    };
+    match read_words(alloc, &words) {
+        Ok(Task::Search(request)) => answer(rt, alloc, &request, tree, files, out, err),
+        Ok(Task::Help(text) | Task::Version(text)) => show(alloc, text.as_str(), out, err),
+        Err(fault) => refuse(alloc, fault, err),
+    }
+}
+
+/// Tells why the words aren't taken.
+fn refuse<E: Sink>(alloc: Global, fault: WordsFault, err: &mut E) -> Result<u8, Told>
+    ensures fault { IsErr result }
+    ensures told { (text : List ℕ) × TellsText (codes "pargrep: " ++ text)
+        (record { taken = E.taken err.old; failures = E.failures err.old })
+        (record { taken = E.taken err.new; failures = E.failures err.new }) }
+{
+    match fault {
+        WordsFault::Refused(text) => {
+            let _ = tell(alloc, &[b"pargrep: ", text.as_bytes()], err);
+        }
+        WordsFault::Usage(fault) => {
+            report(alloc, Fault::Usage(fault), err);
+        }
+        WordsFault::OutOfMemory => {
+            report(alloc, Fault::OutOfMemory, err);
+        }
+    }
+    Err(Told)
+}
+
+/// Writes a text that was asked for.
+fn show<W: Sink, E: Sink>(
+    alloc: Global,
+    text: &str,
+    out: &mut W,
+    err: &mut E,
+) -> Result<u8, Told>
+    ensures { IsShown text.now
         (record { taken = W.taken out.old; failures = W.failures out.old })
         (record { taken = W.taken out.new; failures = W.failures out.new })
         (record { taken = E.taken err.old; failures = E.failures err.old })
         (record { taken = E.taken err.new; failures = E.failures err.new }) result }
 {
-    let Ok(words) = Words::new(alloc, words) else {
-        return report(alloc, Fault::OutOfMemory, err);
-    };
-    match read_words(alloc, &words) {
-        Ok(request) => answer(alloc, &request, store, out, err),
-        Err(WordsFault::Refused(text)) => {
-            let _ = tell(alloc, &["pargrep: ", text.as_str()], err);
-            FAULT_STATUS
-        }
-        Err(WordsFault::Usage(fault)) => report(alloc, Fault::Usage(fault), err),
-        Err(WordsFault::OutOfMemory) => report(alloc, Fault::OutOfMemory, err),
+    if write_all(out, text.as_bytes()).is_err() {
+        report(alloc, Fault::WriteFailed, err);
+        return Err(Told);
     }
+    Ok(0)
 }
 
 /// Runs the command and sends on what standard output holds back, which is part of success. The answer
 /// is the exit status of the program.
-pub fn run<S: Store, W: Write, E: Sink>(
+pub fn run<R: Wait, T: FileTree, S: Store + Drop, W: Write, E: Sink>(
+    rt: &R,
     alloc: Global,
     words: &[String],
-    store: &mut S,
+    tree: &T,
+    files: &mut Listed<S>,
     out: &mut Out<W>,
     err: &mut E,
 ) -> u8
-    ensures { Runs (S.past store.old) (S.past store.new)
+    requires { (files.old.asked ≡ 0) × (files.old.done ≡ false) }
+    ensures runs { Runs (T.tells tree.now) (T.answers tree.now)
+        (S.past files.old.store) (S.past files.new.store)
         (record { taken = out.old.taken; failures = out.old.failures })
         (record { taken = out.new.taken; failures = out.new.failures })
         (record { taken = E.taken err.old; failures = E.failures err.old })
         (record { taken = E.taken err.new; failures = E.failures err.new }) result }
+    ensures small { result ≤ 2 }
 {
-    let status = command(alloc, words, store, out, err);
-    if out.flush().is_err() && status != FAULT_STATUS {
-        return report(alloc, Fault::WriteFailed, err);
+    let answer = command(rt, alloc, words, tree, files, out, err);
+    let flushed = out.flush();
+    match answer {
+        Ok(_) if flushed.is_err() => report(alloc, Fault::WriteFailed, err),
+        Ok(status) => status,
+        Err(Told) => FAULT_STATUS,
     }
-    status
 }

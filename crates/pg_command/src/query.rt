@@ -1,38 +1,24 @@
-//! The query of a request.
-ghost use Rattle.std.specs.Prelude.{◌≡◌, ◌++◌, map, IfErr, IfOk};
-ghost use Rattle.std.specs.Arc.{arc_value};
+//! What a request searches for.
+ghost use Rattle.std.specs.Prelude.{◌≡◌, ◌++◌, map, IfOk};
 ghost use Rattle.pg_syntax.specs.Memory.{patterns_of};
 ghost use Rattle.pg_syntax.specs.Slices.{bytes_of};
 ghost use Rattle.pg_lines.specs.Search.{Split};
-ghost use Rattle.pg_lines.specs.Queries.{IsCompiled};
 ghost use Rattle.pg_command.specs.Asked.{asked_of, text_with};
-ghost use Rattle.pg_command.specs.Causes.{BreaksTheQuery};
 
-use crate::fault::Fault;
-use pg_lines::{PatternList, Query, QueryText};
+use pg_lines::{PatternList, QueryText};
 use pg_words::Request;
 use std::alloc::{AllocError, Global};
-use std::sync::Arc;
 
-/// The query of a request whose -f files hold these lists of patterns.
-///
-/// # Errors
-///
-/// `Pattern` for the first pattern that is no expression, `TooLarge` where all are and ask for more
-/// than 65,536 states together, and `OutOfMemory` where a request for memory was refused.
-pub(crate) fn query_of<'a>(
+/// What a request searches for where its -f files hold these lists of patterns.
+pub(crate) fn text_of(
     alloc: Global,
-    request: &Request<'a>,
+    request: &Request<'_>,
     files: Vec<PatternList>,
-) -> Result<Arc<Query>, Fault<'a>>
-    ensures text { IfOk result
-        (λ query. (arc_value query).text ≡ text_with (asked_of request.now) (map patterns_of files.items)) }
-    ensures compiled { IfOk result (λ query. IsCompiled (arc_value query)) }
-    ensures fault { IfErr result
-        (λ fault. BreaksTheQuery fault (text_with (asked_of request.now) (map patterns_of files.items))) }
+) -> Result<QueryText, AllocError>
+    ensures { IfOk result (λ text. text ≡ text_with (asked_of request.now) (map patterns_of files.items)) }
 {
     let lists = lists_of(alloc, request.texts.as_slice(), files)?;
-    let text = QueryText {
+    Ok(QueryText {
         kind: request.kind,
         lists,
         fold: request.fold,
@@ -41,12 +27,7 @@ pub(crate) fn query_of<'a>(
         invert: request.invert,
         pieces: request.pieces,
         zero: request.zero,
-    };
-    let query = Query::compile(alloc, text)?;
-    match Arc::new(alloc, query) {
-        Ok(query) => Ok(query),
-        Err(_) => Err(Fault::OutOfMemory),
-    }
+    })
 }
 
 /// All lists of patterns: the texts, and then the files.

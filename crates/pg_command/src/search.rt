@@ -1,97 +1,141 @@
 //! The search that a request asks for, over any files and streams.
-ghost use Rattle.std.specs.Prelude.{List, IfOk, IfErr};
-ghost use Rattle.std.specs.Arc.{arc_value};
-ghost use Rattle.pg_lines.specs.Search.{Pattern, AreTreesOf, search_of};
-ghost use Rattle.pg_command.specs.Asked.{asked_of};
-ghost use Rattle.pg_command.specs.Answers.{Answers, Succeeds, Fails, Searches, FailsToSearch};
+ghost use Rattle.std.specs.Prelude.{◌≡◌, ◌≤◌, ◌^◌, false, map, IfOk, IfErr, OnOk};
+ghost use Rattle.pg_syntax.specs.Slices.{bytes_of};
+ghost use Rattle.pg_walk.specs.Items.{found};
+ghost use Rattle.pg_walk.specs.Walks.{FilesOf};
+ghost use Rattle.pg_command.specs.Asked.{asked_of, has_names};
+ghost use Rattle.pg_command.specs.Answers.{Answers, Fails, IsSetup, Succeeds};
 
 use crate::fault::{Fault, report};
-use crate::patterns::{read_patterns, shown_name};
-use crate::query::query_of;
-use pg_lines::Query;
-use pg_run::{ReadFault, Setup, Store, first_run};
-use pg_seq::Sink;
-use pg_words::Request;
-use std::alloc::Global;
-use std::sync::Arc;
+use crate::names::{is_directory, operands_of};
+use crate::patterns::read_patterns;
+use crate::query::text_of;
+use pg_rows::{Format, Sink};
+use pg_run::{Listed, Setup, Store, run};
+use pg_walk::{FileTree, walk};
+use pg_words::{Naming, Request};
+use std::alloc::{AllocError, Global};
+use std::sync::Wait;
 
-/// Searches the file that a request names. What is asked for of it goes to `out`, in the request's
-/// format; rows call the file by its path, and standard input `(standard input)`. The answer is the
-/// status: 0 where a line was selected, 1 where none was, and 2 after a fault, whose line goes to `err`.
+/// The longest line that is searched, in bytes.
+const LONGEST_LINE: u32 = 1_073_741_824;
+
+/// A fault was told, and the status is 2.
+#[derive(Clone, Copy, Debug, PartialEq, Eq)]
+pub struct Told;
+
+/// Searches the files that a request names, which a walk over its operands in a tree gives and the
+/// store of `files` opens. What is asked for of them goes to `out`, in the request's format; rows call
+/// a file by its path, and standard input `(standard input)`. Each name that gives no file, and each
+/// file whose reading fails, has a line in `err` unless the request is silent. The answer is the
+/// status: 0 where a line was selected, 1 where none was, and 2 where a name gave no file or a reading
+/// failed; but with -q 0 where a line was selected. Nothing was listed in `files` yet.
 ///
-/// Only the first fault is looked for: that of the -f files in their order, then that of the patterns,
-/// the first of them that has one, or of their size, and then that of the file. Where a read of it
-/// failed, what was read before was searched as if the file ended there.
-pub fn answer<S: Store, W: Sink, E: Sink>(
+/// # Errors
+///
+/// `Told` where a fault ended the search, whose line went to `err`: that of the first -f file that
+/// can't be read, then that of the patterns, the first of them that has one, or of their size, and then
+/// those that end a run. `out` got a beginning of its output then.
+pub fn answer<R: Wait, T: FileTree, S: Store + Drop, W: Sink, E: Sink>(
+    rt: &R,
     alloc: Global,
     request: &Request<'_>,
-    store: &mut S,
+    tree: &T,
+    files: &mut Listed<S>,
     out: &mut W,
     err: &mut E,
-) -> u8
-    ensures { Answers (asked_of request.now)
-        (S.past store.old) (S.past store.new)
+) -> Result<u8, Told>
+    requires { (files.old.asked ≡ 0) × (files.old.done ≡ false) }
+    ensures answers { Answers (T.tells tree.now) (T.answers tree.now) (asked_of request.now)
+        (S.past files.old.store) (S.past files.new.store)
         (record { taken = W.taken out.old; failures = W.failures out.old })
         (record { taken = W.taken out.new; failures = W.failures out.new })
         (record { taken = E.taken err.old; failures = E.failures err.old })
         (record { taken = E.taken err.new; failures = E.failures err.new }) result }
+    ensures small { IfOk result (λ status. status ≤ 2) }
 {
-    match search(alloc, request, store, out) {
-        Ok(status) => status,
-        Err(fault) => report(alloc, fault, err),
-    }
-}
-
-/// Reads the files of patterns, and searches the file that a request names.
-fn search<'a, S: Store, W: Sink>(
-    alloc: Global,
-    request: &Request<'a>,
-    store: &mut S,
-    out: &mut W,
-) -> Result<u8, Fault<'a>>
-    ensures success { IfOk result (Succeeds (asked_of request.now)
-        (S.past store.old) (S.past store.new)
-        (record { taken = W.taken out.old; failures = W.failures out.old })
-        (record { taken = W.taken out.new; failures = W.failures out.new })) }
-    ensures fault { IfErr result (Fails (asked_of request.now)
-        (S.past store.old) (S.past store.new)
-        (record { taken = W.taken out.old; failures = W.failures out.old })
-        (record { taken = W.taken out.new; failures = W.failures out.new })) }
-{
-    let files = read_patterns(alloc, request.pattern_files.as_slice(), store)?;
-    let query = query_of(alloc, request, files)?;
-    search_file(alloc, &query, request, store, out)
-}
-
-/// Opens and searches the file that a request names.
-fn search_file<'a, S: Store, W: Sink>(
-    alloc: Global,
-    query: &Arc<Query>,
-    request: &Request<'a>,
-    store: &mut S,
-    out: &mut W,
-) -> Result<u8, Fault<'a>>
-    ensures success { (trees : List Pattern) → AreTreesOf (arc_value query.now).text trees →
-        IfOk result (Searches (search_of (arc_value query.now).text trees) (asked_of request.now)
-        (S.past store.old) (S.past store.new)
-        (record { taken = W.taken out.old; failures = W.failures out.old })
-        (record { taken = W.taken out.new; failures = W.failures out.new })) }
-    ensures fault { (trees : List Pattern) → AreTreesOf (arc_value query.now).text trees →
-        IfErr result (FailsToSearch (search_of (arc_value query.now).text trees) (asked_of request.now)
-        (S.past store.old) (S.past store.new)
-        (record { taken = W.taken out.old; failures = W.failures out.old })
-        (record { taken = W.taken out.new; failures = W.failures out.new })) }
-{
-    let name = shown_name(request.file);
-    if !store.open(request.file)? {
-        return Err(Fault::CannotOpen(name));
-    }
-    let setup = Setup {
-        format: request.format,
-        block: request.block,
-    };
-    match first_run(alloc, query, setup, name.as_bytes(), store, out)? {
+    match search(rt, alloc, request, tree, files, out, err) {
         Ok(status) => Ok(status),
-        Err(ReadFault) => Err(Fault::ReadFailed(name)),
+        Err(fault) => {
+            report(alloc, fault, err);
+            Err(Told)
+        }
+    }
+}
+
+/// Reads the files of patterns, walks over the operands, and searches the files that this gives.
+fn search<'a, R: Wait, T: FileTree, S: Store + Drop, W: Sink, E: Sink>(
+    rt: &R,
+    alloc: Global,
+    request: &Request<'a>,
+    tree: &T,
+    files: &mut Listed<S>,
+    out: &mut W,
+    err: &mut E,
+) -> Result<u8, Fault<'a>>
+    requires { (files.old.asked ≡ 0) × (files.old.done ≡ false) }
+    ensures success { IfOk result (Succeeds (T.tells tree.now) (T.answers tree.now) (asked_of request.now)
+        (S.past files.old.store) (S.past files.new.store)
+        (record { taken = W.taken out.old; failures = W.failures out.old })
+        (record { taken = W.taken out.new; failures = W.failures out.new })
+        (record { taken = E.taken err.old; failures = E.failures err.old })
+        (record { taken = E.taken err.new; failures = E.failures err.new })) }
+    ensures small { IfOk result (λ status. status ≤ 2) }
+    ensures fault { IfErr result (Fails (T.tells tree.now) (T.answers tree.now) (asked_of request.now)
+        (S.past files.old.store) (S.past files.new.store)
+        (record { taken = W.taken out.old; failures = W.failures out.old })
+        (record { taken = W.taken out.new; failures = W.failures out.new })
+        (record { taken = E.taken err.old; failures = E.failures err.old })
+        (record { taken = E.taken err.new; failures = E.failures err.new })) }
+{
+    let lists = read_patterns(alloc, request.pattern_files.as_slice(), &mut files.store)?;
+    let text = text_of(alloc, request, lists)?;
+    let setup = list_files(alloc, request, tree, files)?;
+    Ok(run(rt, alloc, text, setup, files, out, err)?)
+}
+
+/// Lists what a walk over the operands gives, and says how that is searched.
+fn list_files<T: FileTree, S: Store + Drop>(
+    alloc: Global,
+    request: &Request<'_>,
+    tree: &T,
+    files: &mut Listed<S>,
+) -> Result<Setup, AllocError>
+    requires { (files.old.asked ≡ 0) × (files.old.done ≡ false) }
+    ensures fresh { (files.new.asked ≡ 0) × (files.new.done ≡ false) }
+    ensures store { files.new.store ≡ files.old.store }
+    ensures walked { T.tells tree.now → OnOk result (FilesOf (T.answers tree.now) (asked_of request.now).files
+        request.now.recursive (map found files.new.items.items)) }
+    ensures setup { IfOk result (IsSetup (T.tells tree.now) (T.answers tree.now) (asked_of request.now)) }
+{
+    let directory = is_directory(tree, request.files.as_slice())?;
+    let operands = operands_of(alloc, request.files.as_slice())?;
+    let items = walk(alloc, tree, operands.as_slice(), request.recursive)?;
+    files.list(items);
+    Ok(setup_of(request, directory))
+}
+
+/// How files are searched, where it is known whether the one operand is a directory.
+fn setup_of(request: &Request<'_>, directory: bool) -> Setup
+    ensures format { result.format ≡ record request.now.format {
+        names = has_names request.now.names (bytes_of request.now.files.items) request.now.recursive directory } }
+    ensures silent { result.silent ≡ request.now.silent }
+    ensures line { result.line ≡ 2 ^ 30 }
+{
+    let names = match request.names {
+        Naming::Always => true,
+        Naming::Never => false,
+        Naming::BySeveral => request.files.len() > 1 || request.recursive && directory,
+    };
+    Setup {
+        format: Format {
+            names,
+            ..request.format
+        },
+        workers: request.workers,
+        block: request.block,
+        line: LONGEST_LINE,
+        round: request.round,
+        silent: request.silent,
     }
 }

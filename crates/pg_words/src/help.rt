@@ -37,14 +37,14 @@ Output:
   -C, --context=N            both, at most 65,535
 
 Files:
-  -r, --recursive            search the files below each FILE, a directory
+  -r, --recursive            search the files below each directory
   -s, --no-messages          tell nothing of files that cannot be searched
   -a, --text                 no effect: every file is text
 
 Work, which changes no output:
-      --workers=N            N threads search, 1 to 64; the default is 4
-      --block=N              blocks of N bytes, 1 to 16,777,216; 65,536
-      --round=N              at most N blocks at once, 1 to 1,024; 64
+      --workers=N            N threads, 1 to 64 (default 4)
+      --block=N              blocks of N bytes, 1 to 16,777,216 (default 65,536)
+      --round=N              rounds of N blocks, 1 to 1,024 (default 64)
 
       --help                 write this text
   -V, --version              write the version

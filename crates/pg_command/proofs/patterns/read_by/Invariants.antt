@@ -1,13 +1,13 @@
-use Rattle.std.proofs.Common.{◌≡◌, ◌-◌, ◌^◌, ◌<◌, length}
-use Rattle.pg_run.specs.Past.{IsCalm}
+use Rattle.std.proofs.Common.{◌≡◌, ◌∷◌, ◌-◌, ◌^◌, ◌<◌, ℕ, List, length}
+use Rattle.pg_rows.specs.Output.{Left}
+use Rattle.pg_run.specs.Given.{Given, File}
 use Rattle.pg_command.proofs.patterns.read_by.Given as goal
 
 abbrev pub invariant-loop-count : goal.invariant-loop-count
 invariant-loop-count g l = record {
   room : 0 < length l.buffer;
-  given : (g.S.Store.past l.store).given ≡ l.bytes.items;
-  calm : IsCalm (g.S.Store.past l.fn.store) (g.S.Store.past l.store);
-  path : (g.S.Store.past l.store).path ≡ (g.S.Store.past l.fn.store).path;
+  given : (path : List ℕ) (past : List Given) → g.S.Store.past l.fn.store ≡ File path l.fn.bytes.items Left ∷ past →
+      g.S.Store.past l.store ≡ File path l.bytes.items Left ∷ past;
 }
 
 abbrev pub decreases-loop-count : goal.decreases-loop-count

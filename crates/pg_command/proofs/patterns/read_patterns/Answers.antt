@@ -1,4 +1,5 @@
-use Rattle.std.proofs.Common.{◌≡◌, ◌∙◌, ◌++◌, ◌∷◌, [], map, ap, subst, sym}
+use Rattle.std.proofs.Common.{◌≡◌, ◌∙◌, ◌++◌, ◌∷◌, [], map, ap, inr, refl, subst, sym}
+use Rattle.pg_rows.specs.Output.{Ended}
 use Rattle.pg_syntax.specs.Memory.{patterns_of}
 use Rattle.pg_syntax.specs.Slices.{bytes_of}
 use Rattle.pg_syntax.proofs.ListLemmas.{map-push}
@@ -6,8 +7,7 @@ use Rattle.pg_lines.specs.Search.{ByLine}
 use Rattle.pg_command.specs.Reading.{FailsToReadAll}
 use Rattle.pg_command.specs.declared.fault.Fault.{Fault}
 use Rattle.pg_command.specs.declared.fault.Fault.TheVariants.{OutOfMemory}
-use Rattle.pg_command.proofs.ReadingLemmas.{read_more, stops_behind}
-use Rattle.pg_command.proofs.SearchLemmas.{if_err}
+use Rattle.pg_command.proofs.ReadingLemmas.{if_err, read_more, stops_behind}
 use Rattle.pg_command.proofs.patterns.read_patterns.Goals as goal
 
 pub returns-in_err-bytes-clause-fault : goal.returns-in_err-bytes-clause-fault
@@ -36,7 +36,7 @@ returns-in_err-push-clause-fault g c =
     if_err P _ c.from_residual-in_err-push.result c.from_residual-in_err-push.ensures.1
     (λ e h. subst P (sym h)
     (stops_behind paths i _ read.0 past mid past' OutOfMemory c.loop-path-test.true read.2
-    (record { path = whole.path; cause = (whole.to_the_end.no_miss, whole.to_the_end.no_failure) })))
+    (inr (c.in_ok-bytes.bytes.items, Ended, refl, whole))))
 
 pub loop-path-preserved : goal.loop-path-preserved
 loop-path-preserved g c =

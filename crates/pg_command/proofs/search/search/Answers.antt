@@ -1,0 +1,76 @@
+use Rattle.std.proofs.Common.{◌≡◌, ◌∙◌, map, ap, inr, refl, subst, sym}
+use Rattle.pg_syntax.specs.Slices.{bytes_of}
+use Rattle.pg_walk.specs.Items.{found}
+use Rattle.pg_run.specs.Listed.{files_past, sources}
+use Rattle.pg_run.specs.Outcome.{BreaksOff, IsSearchFor, Stream}
+use Rattle.pg_command.specs.Asked.{asked_of, text_with}
+use Rattle.pg_command.specs.Answers.{Fails}
+use Rattle.pg_command.specs.Reading.{HasRead}
+use Rattle.pg_command.specs.declared.fault.Fault.{Fault}
+use Rattle.pg_command.proofs.ReadingLemmas.{if_err}
+use Rattle.pg_command.proofs.StatusLemmas.{finishes_small}
+use Rattle.pg_command.proofs.WorkLemmas.{work_of}
+use Rattle.pg_command.proofs.search.search.Goals as goal
+
+pub returns-in_err-run-clause-fault : goal.returns-in_err-run-clause-fault
+returns-in_err-run-clause-fault g c =
+    let asked = asked_of c.args.request.now in
+    let contents = c.in_ok-lists.ensures.read.0 in
+    let past = g.S.Store.past c.args.files.now.store in
+    let between = g.S.Store.past c.read_patterns.new.store in
+    let past' = g.S.Store.past c.run.new.files.store in
+    let listed = map found c.list_files.new.files.items.items in
+    let items = map found c.run.new.files.items.items in
+    let text = c.in_ok-text.ensures ∙ ap (text_with asked) c.in_ok-lists.ensures.read.1 in
+    let tells = g.T.FileTree.tells c.args.tree.now in
+    let tree = g.T.FileTree.answers c.args.tree.now in
+    let read = subst (λ paths. HasRead past between (bytes_of paths) contents) c.as_slice.ensures.value
+    c.in_ok-lists.ensures.read.2 in
+    let out : Stream = record { taken = g.W.Sink.taken c.args.out.now; failures = g.W.Sink.failures c.args.out.now } in
+    let out' : Stream = record { taken = g.W.Sink.taken c.run.new.out; failures = g.W.Sink.failures c.run.new.out } in
+    let err : Stream = record { taken = g.E.Sink.taken c.args.err.now; failures = g.E.Sink.failures c.args.err.now } in
+    let err' : Stream =
+    record { taken = g.E.Sink.taken c.run.new.faults; failures = g.E.Sink.failures c.run.new.faults } in
+    let P : Fault → Type 0 = λ fault. Fails tells tree asked past past' out out' err err' fault in
+    if_err P _ c.from_residual-in_err-run.result c.from_residual-in_err-run.ensures.1
+    (λ fault h. subst P (sym h) (inr (inr (record {
+      work = work_of tells tree asked past between past' contents read listed items c.in_ok-setup.ensures.walked
+          c.in_ok-setup.setup c.in_ok-setup.ensures.setup c.list_files.new.files.asked c.run.new.files.asked
+          c.run.new.files.done c.in_ok-setup.ensures.fresh.0 c.run.new.files.are_opened
+          (c.in_err-run.ensures.same_list
+          ∙ ap (λ store. sources c.list_files.new.files.asked listed (g.S.Store.past store)) c.in_ok-setup.ensures.store);
+      run = c.in_err-run.field-0.0;
+      is = refl;
+      breaks = subst (λ t. BreaksOff t c.in_ok-setup.setup
+          (files_past c.run.new.files.asked c.run.new.files.done items past') out out' err err' c.in_err-run.field-0.0)
+          text c.in_err-run.ensures.err;
+    }))))
+
+pub returns-clause-success : goal.returns-clause-success
+returns-clause-success g c =
+    let asked = asked_of c.args.request.now in
+    let contents = c.in_ok-lists.ensures.read.0 in
+    let past = g.S.Store.past c.args.files.now.store in
+    let between = g.S.Store.past c.read_patterns.new.store in
+    let past' = g.S.Store.past c.run.new.files.store in
+    let listed = map found c.list_files.new.files.items.items in
+    let items = map found c.run.new.files.items.items in
+    let text = c.in_ok-text.ensures ∙ ap (text_with asked) c.in_ok-lists.ensures.read.1 in
+    let tells = g.T.FileTree.tells c.args.tree.now in
+    let tree = g.T.FileTree.answers c.args.tree.now in
+    let read = subst (λ paths. HasRead past between (bytes_of paths) contents) c.as_slice.ensures.value
+    c.in_ok-lists.ensures.read.2 in
+    let done = c.in_ok-run.ensures.ok in
+    record {
+      work = work_of tells tree asked past between past' contents read listed items c.in_ok-setup.ensures.walked
+          c.in_ok-setup.setup c.in_ok-setup.ensures.setup c.list_files.new.files.asked c.run.new.files.asked
+          c.run.new.files.done c.in_ok-setup.ensures.fresh.0 c.run.new.files.are_opened
+          (c.in_ok-run.ensures.same_list
+          ∙ ap (λ store. sources c.list_files.new.files.asked listed (g.S.Store.past store)) c.in_ok-setup.ensures.store);
+      search = done.0;
+      is_search = subst (λ t. IsSearchFor t done.0) text done.1;
+      finishes = done.2;
+    }
+
+pub returns-clause-small : goal.returns-clause-small
+returns-clause-small g c = finishes_small c.in_ok-run.ensures.ok.2
