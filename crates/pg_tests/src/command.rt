@@ -1,11 +1,13 @@
 //! The command over files and streams in memory: what no command line shows on the built program.
 ghost use Rattle.std.specs.Prelude.{◌≤◌};
 
-use pg_command::{Fault, command, report};
-use pg_run::{Ending, MemStore};
-use pg_seq::MemSink;
-use pg_words::{Words, read_words};
+use pg_command::{Fault, Told, command, report};
+use pg_rows::MemSink;
+use pg_run::{Ending, Listed, MemStore};
+use pg_walk::{FileKind, MemTree, Node};
+use pg_words::{Request, Task, Words, read_words};
 use std::alloc::{AllocError, Global};
+use std::sync::Wait;
 use std::test::Fail;
 
 /// The most bytes that a test writes to a stream.
@@ -36,7 +38,7 @@ const UNLIMITED: Limits = Limits {
 /// What a command line wrote and answered.
 #[derive(Drop)]
 struct Outcome {
-    status: u8,
+    answer: Result<u8, Told>,
     out: MemSink,
     err: MemSink,
 }
@@ -62,21 +64,30 @@ fn store_of(alloc: Global, ending: Ending, read_limit: usize) -> Result<MemStore
 }
 
 /// What a command line does.
-fn run(alloc: Global, text: &str, ending: Ending, limits: Limits) -> Result<Outcome, AllocError>
+fn run(
+    rt: &impl Wait,
+    alloc: Global,
+    text: &str,
+    ending: Ending,
+    limits: Limits,
+) -> Result<Outcome, AllocError>
     requires { 1 ≤ limits.read }
 {
     let words = words_of(alloc, text)?;
-    let mut store = store_of(alloc, ending, limits.read)?;
+    let mut tree = MemTree::new(alloc);
+    tree.add("broken", Node::new(FileKind::Regular))?;
+    let mut files = Listed::new(alloc, store_of(alloc, ending, limits.read)?);
     let mut out = MemSink::new(alloc, limits.out)?;
     out.set_write_limit(limits.write);
     let mut err = MemSink::new(alloc, limits.err)?;
-    let status = command(alloc, words.as_slice(), &mut store, &mut out, &mut err);
-    Ok(Outcome { status, out, err })
+    let words = words.as_slice();
+    let answer = command(rt, alloc, words, &tree, &mut files, &mut out, &mut err);
+    Ok(Outcome { answer, out, err })
 }
 
-/// Whether a command line has this status, and has written and told these.
-fn is_outcome(found: &Outcome, status: u8, out: &[u8], told: &str) -> bool {
-    found.status == status && found.out.bytes() == out && found.err.bytes() == told.as_bytes()
+/// Whether a command line has this answer, and has written and told these.
+fn is_outcome(found: &Outcome, answer: Result<u8, Told>, out: &[u8], told: &str) -> bool {
+    found.answer == answer && found.out.bytes() == out && found.err.bytes() == told.as_bytes()
 }
 
 /// Command lines that differ in the size of blocks.
@@ -99,8 +110,8 @@ fn few_bytes_at_a_time(rt: HostRuntime) -> Result<(), Fail> {
                 write: limit,
                 ..UNLIMITED
             };
-            let found = run(rt.alloc(), text, Ending::Ends, limits)?;
-            assert!(rt; is_outcome(&found, 0, OUTPUT, ""), "{text}");
+            let found = run(&rt, rt.alloc(), text, Ending::Ends, limits)?;
+            assert!(rt; is_outcome(&found, Ok(0), OUTPUT, ""), "{text}");
         }
     }
     Ok(())
@@ -116,15 +127,16 @@ const BLOCK_SIZES: &str = "\
 /// The size of blocks that words give in a search for one text in standard input.
 fn block_asked(alloc: Global, words: &Words<'_>) -> Option<u32> {
     match read_words(alloc, words) {
-        Ok(request) => {
-            if request.texts.len() == 1 && request.file == "-" {
-                Some(request.block)
-            } else {
-                None
-            }
+        Ok(Task::Search(request)) if request.texts.len() == 1 && is_standard_input(&request) => {
+            Some(request.block)
         }
-        Err(_fault) => None,
+        _ => None,
     }
+}
+
+/// Whether standard input alone is searched.
+fn is_standard_input(request: &Request<'_>) -> bool {
+    request.files.len() == 1 && request.files[0] == "-"
 }
 
 /// The same for the words of a text.
@@ -153,8 +165,8 @@ const BROKEN: &str = "\
 fn reading_fails_in_mid_stream(rt: HostRuntime) -> Result<(), Fail> {
     for row in BROKEN.split('|') {
         let (text, told) = row.split_once('=').unwrap_or(("", ""));
-        let found = run(rt.alloc(), text, Ending::Fails, UNLIMITED)?;
-        assert!(rt; is_outcome(&found, 2, OUTPUT, told), "{row}");
+        let found = run(&rt, rt.alloc(), text, Ending::Fails, UNLIMITED)?;
+        assert!(rt; is_outcome(&found, Ok(2), OUTPUT, told), "{row}");
     }
     Ok(())
 }
@@ -169,8 +181,8 @@ const BROKEN_PATTERNS: &str = "\
 fn reading_patterns_fails(rt: HostRuntime) -> Result<(), Fail> {
     for row in BROKEN_PATTERNS.split('|') {
         let (text, told) = row.split_once('=').unwrap_or(("", ""));
-        let found = run(rt.alloc(), text, Ending::Fails, UNLIMITED)?;
-        assert!(rt; is_outcome(&found, 2, b"", told), "{row}");
+        let found = run(&rt, rt.alloc(), text, Ending::Fails, UNLIMITED)?;
+        assert!(rt; is_outcome(&found, Err(Told), b"", told), "{row}");
     }
     Ok(())
 }
@@ -184,10 +196,10 @@ fn an_output_that_fails(rt: HostRuntime) -> Result<(), Fail> {
                 out: room,
                 ..UNLIMITED
             };
-            let found = run(rt.alloc(), "-F b -", Ending::Ends, limits)?;
+            let found = run(&rt, rt.alloc(), "-F b -", Ending::Ends, limits)?;
             let written = if write == 0 { 0 } else { room };
             let told = "pargrep: write failed\n";
-            assert!(rt; is_outcome(&found, 2, &OUTPUT[..written], told));
+            assert!(rt; is_outcome(&found, Err(Told), &OUTPUT[..written], told));
         }
     }
     Ok(())
@@ -201,8 +213,8 @@ fn both_streams_fail(rt: HostRuntime) -> Result<(), Fail> {
             err: 0,
             ..UNLIMITED
         };
-        let found = run(rt.alloc(), "-F b -", Ending::Ends, limits)?;
-        assert!(rt; is_outcome(&found, 2, &OUTPUT[..room], ""));
+        let found = run(&rt, rt.alloc(), "-F b -", Ending::Ends, limits)?;
+        assert!(rt; is_outcome(&found, Err(Told), &OUTPUT[..room], ""));
     }
     Ok(())
 }
@@ -212,6 +224,7 @@ fn texts_of_rare_faults(rt: HostRuntime) -> Result<(), Fail> {
     for (fault, line) in [
         (Fault::OutOfMemory, "pargrep: out of memory\n"),
         (Fault::LineTooLong, "pargrep: line too long\n"),
+        (Fault::TooManyFiles, "pargrep: too many files\n"),
     ] {
         let mut err = MemSink::new(rt.alloc(), ROOM)?;
         let status = report(rt.alloc(), fault, &mut err);

@@ -1,74 +1,123 @@
-//! The run of one file, over sinks that fail and memory that is refused.
-ghost use Rattle.std.specs.Prelude.{◌≡◌, ◌≤◌, [], IfOk};
+//! The run over files in memory: sinks that fail, reads that fail and memory that is refused.
+ghost use Rattle.std.specs.Prelude.{◌≡◌, ◌≤◌, ◌^◌, false, IfOk};
 ghost use Rattle.pg_rows.specs.Output.{HasRoom};
 
-use crate::fixtures::{PLAIN, query_of};
+use crate::fixtures::{PLAIN, text_of};
 use crate::formats::{cut, format_of, with_newlines};
-use pg_lines::Query;
-use pg_rows::Format;
-use pg_run::{Ending, MemStore, ReadFault, RunFault, Setup, Store, first_run};
-use pg_seq::MemSink;
+use pg_lines::Kind;
+use pg_rows::{Format, MemSink};
+use pg_run::{Ending, Listed, MemStore, RunFault, Setup, run};
+use pg_walk::{Cause, Item};
 use refusing::Refusing;
-use std::alloc::{AllocError, Global};
+use std::alloc::{AllocError, Allocator, Global};
 use std::process::Abort;
-use std::sync::Arc;
+use std::sync::Wait;
 use std::test::Fail;
 
 const FILE: &[u8] = b"abc\nxyz\nb";
 
-/// A store of one file, which is open. A read gives at most so many bytes, which are at least one.
-fn open_file(
-    heap: Global,
-    file: &[u8],
+/// A file named `f`, how it is read and cut, and what is asked for of it.
+#[derive(Clone, Copy)]
+struct Case<'a> {
+    pattern: &'a [u8],
+    format: Format,
+    file: &'a [u8],
     ending: Ending,
     read_limit: usize,
-) -> Result<MemStore, AllocError>
-    requires { 1 ≤ read_limit }
-    ensures { IfOk result (λ store. store.past.given ≡ []) }
-{
-    let mut store = MemStore::new(heap);
-    store.add("f", file, ending)?;
-    store.set_read_limit(read_limit);
-    store.open("f")?;
-    Ok(store)
+    block: u32,
+    ghost some_limit: { HasRoom format },
+    ghost some_bytes: { 1 ≤ read_limit },
+    ghost block_in_range: { (1 ≤ block) × (block ≤ 2 ^ 24) },
 }
 
-/// Whether a run writes these bytes and has this status, where a read gives at most so many bytes, which are at least
-/// one.
-fn runs(
-    alloc: Global,
-    query: &Arc<Query>,
-    setup: Setup,
-    read_limit: usize,
-    file: &[u8],
-    output: &[u8],
-    status: u8,
-) -> Result<bool, AllocError>
-    requires { 1 ≤ read_limit }
+/// The search for `b` in `FILE`.
+fn case_of<'a>(format: Format, block: u32) -> Case<'a>
+    requires { HasRoom format }
+    requires { (1 ≤ block) × (block ≤ 2 ^ 24) }
 {
-    let mut store = open_file(alloc, file, Ending::Ends, read_limit)?;
-    let mut sink = MemSink::new(alloc, 100)?;
-    let ended = first_run(alloc, query, setup, b"f", &mut store, &mut sink);
-    Ok(ended == Ok(Ok(status)) && sink.bytes() == output)
+    Case {
+        pattern: b"b",
+        format,
+        file: FILE,
+        ending: Ending::Ends,
+        read_limit: 100,
+        block,
+    }
+}
+
+/// The file, listed in front of a name that gives none.
+fn list(alloc: Global, case: Case<'_>, is_alone: bool) -> Result<Listed<MemStore>, AllocError>
+    ensures { IfOk result (λ files. (files.asked ≡ 0) × (files.done ≡ false)) }
+{
+    let mut store = MemStore::new(alloc);
+    store.add("f", case.file, case.ending)?;
+    store.set_read_limit(case.read_limit);
+    let mut items = Vec::new(alloc);
+    items.push(Item::File(String::from_str(alloc, "f")?))?;
+    if !is_alone {
+        items.push(Item::File(String::from_str(alloc, "g")?))?;
+        items.push(Item::Fault(String::from_str(alloc, "d")?, Cause::CannotList))?;
+    }
+    let mut files = Listed::new(alloc, store);
+    files.list(items);
+    Ok(files)
+}
+
+/// What a run answers, with the memory that `heap` gives. A refused text counts as a refused run.
+fn run_case<R: Wait, A: Allocator + Copy>(
+    rt: &R,
+    heap: A,
+    case: Case<'_>,
+    files: &mut Listed<MemStore>,
+    out: &mut MemSink,
+    faults: &mut MemSink,
+) -> Result<u8, RunFault>
+    requires { (files.old.asked ≡ 0) × (files.old.done ≡ false) }
+{
+    let text = text_of(heap, Kind::Fixed, case.pattern)?;
+    let setup = Setup {
+        format: case.format,
+        workers: 0,
+        block: case.block,
+        line: 100,
+        round: 1,
+        silent: false,
+    };
+    run(rt, heap, text, setup, files, out, faults)
+}
+
+/// Whether a run over the file alone writes and tells these, and has this status.
+fn runs<R: Wait>(
+    rt: &R,
+    alloc: Global,
+    case: Case<'_>,
+    output: &[u8],
+    told: &str,
+    status: u8,
+) -> Result<bool, AllocError> {
+    let mut files = list(alloc, case, true)?;
+    let mut out = MemSink::new(alloc, 100)?;
+    let mut faults = MemSink::new(alloc, 100)?;
+    let answer = run_case(rt, alloc, case, &mut files, &mut out, &mut faults);
+    Ok(answer == Ok(status) && out.bytes() == output && faults.bytes() == told.as_bytes())
 }
 
 /// A run writes these bytes and has this status, whatever the size of its blocks and of the reads.
 fn assert_run(
-    rt: &impl Abort,
+    rt: &(impl Abort + Wait),
     alloc: Global,
-    pattern: &[u8],
-    format: Format,
-    file: &[u8],
+    case: Case<'_>,
     output: &[u8],
     status: u8,
-) -> Result<(), AllocError>
-    requires { HasRoom format }
-{
-    let query = query_of(alloc, pattern)?;
+) -> Result<(), AllocError> {
     for block in 1..=64u32 {
-        let setup = Setup { format, block };
         for read_limit in [1, 2, 5, 100] {
-            let right = runs(alloc, &query, setup, read_limit, file, output, status)?;
+            let case = Case {
+                block,
+                read_limit,
+                ..case
+            };
+            let right = runs(rt, alloc, case, output, "", status)?;
             assert!(rt; right, "in blocks of {block}");
         }
     }
@@ -93,7 +142,7 @@ q H-c--- abc/xyz/b 1:f:0/
  H-c---  1:f:0/";
 
 /// A run is as a row says.
-fn assert_row(rt: &impl Abort, alloc: Global, row: &str) -> Result<(), Fail> {
+fn assert_row(rt: &(impl Abort + Wait), alloc: Global, row: &str) -> Result<(), Fail> {
     let (pattern, rest) = cut(row, " ");
     let (letters, rest) = cut(rest, " ");
     let (file, answer) = cut(rest, " ");
@@ -101,9 +150,12 @@ fn assert_row(rt: &impl Abort, alloc: Global, row: &str) -> Result<(), Fail> {
     let status: u8 = status.parse()?;
     let file = with_newlines(alloc, file)?;
     let output = with_newlines(alloc, output)?;
-    let format = format_of(rt, letters);
-    let (file, output) = (file.as_bytes(), output.as_bytes());
-    assert_run(rt, alloc, pattern.as_bytes(), format, file, output, status)?;
+    let case = Case {
+        pattern: pattern.as_bytes(),
+        file: file.as_bytes(),
+        ..case_of(format_of(rt, letters), 1)
+    };
+    assert_run(rt, alloc, case, output.as_bytes(), status)?;
     Ok(())
 }
 
@@ -117,11 +169,17 @@ fn small_files(rt: HostRuntime) -> Result<(), Fail> {
 
 #[test]
 fn any_byte_is_searched_for(rt: HostRuntime) -> Result<(), Fail> {
-    let file = b"a\0\xff\n\0\n\xff\x80\n\xff\0";
-    let output = b"a\0\xff\n\0\n\xff\0\n";
-    assert_run(&rt, rt.alloc(), b"\0", PLAIN, file, output, 0)?;
-    let output = b"\xff\x80\n";
-    assert_run(&rt, rt.alloc(), b"\xff\x80", PLAIN, file, output, 0)?;
+    let case = Case {
+        pattern: b"\0",
+        file: b"a\0\xff\n\0\n\xff\x80\n\xff\0",
+        ..case_of(PLAIN, 1)
+    };
+    assert_run(&rt, rt.alloc(), case, b"a\0\xff\n\0\n\xff\0\n", 0)?;
+    let case = Case {
+        pattern: b"\xff\x80",
+        ..case
+    };
+    assert_run(&rt, rt.alloc(), case, b"\xff\x80\n", 0)?;
     Ok(())
 }
 
@@ -133,44 +191,40 @@ H-c--- f:2/ 0";
 
 /// Whether a run over a sink that takes as many bytes as these, and `write_limit` in a write, has written these, and
 /// fails unless they are all.
-fn writes(
+fn writes<R: Wait>(
+    rt: &R,
     alloc: Global,
-    query: &Arc<Query>,
-    setup: Setup,
+    case: Case<'_>,
     written: &[u8],
     write_limit: usize,
     is_all: bool,
 ) -> Result<bool, AllocError> {
-    let mut store = open_file(alloc, FILE, Ending::Ends, 100)?;
-    let mut sink = MemSink::new(alloc, written.len())?;
-    sink.set_write_limit(write_limit);
-    let ended = first_run(alloc, query, setup, b"f", &mut store, &mut sink);
-    let is_answered = if is_all {
-        ended == Ok(Ok(0))
-    } else {
-        ended == Err(RunFault::Sink)
-    };
-    Ok(is_answered && sink.bytes() == written)
+    let mut files = list(alloc, case, true)?;
+    let mut out = MemSink::new(alloc, written.len())?;
+    out.set_write_limit(write_limit);
+    let mut faults = MemSink::new(alloc, 0)?;
+    let answer = run_case(rt, alloc, case, &mut files, &mut out, &mut faults);
+    let wanted = if is_all { Ok(0) } else { Err(RunFault::Sink) };
+    Ok(answer == wanted && out.bytes() == written)
 }
 
 /// A run whose sink takes less than the output fails once the sink is full, and one whose sink takes a byte at a time
 /// goes through.
 fn assert_sinks(
-    rt: &impl Abort,
+    rt: &(impl Abort + Wait),
     alloc: Global,
     format: Format,
     output: &[u8],
 ) -> Result<(), AllocError>
     requires { HasRoom format }
 {
-    let query = query_of(alloc, b"b")?;
     for block in 1..=10u32 {
-        let setup = Setup { format, block };
+        let case = case_of(format, block);
         for limit in 0..output.len() {
-            let right = writes(alloc, &query, setup, &output[..limit], usize::MAX, false)?;
+            let right = writes(rt, alloc, case, &output[..limit], usize::MAX, false)?;
             assert!(rt; right);
         }
-        let right = writes(alloc, &query, setup, output, 1, true)?;
+        let right = writes(rt, alloc, case, output, 1, true)?;
         assert!(rt; right);
     }
     Ok(())
@@ -187,22 +241,6 @@ fn each_write_may_fail(rt: HostRuntime) -> Result<(), Fail> {
     Ok(())
 }
 
-/// Whether a run of the first `count` of the nine bytes of `FILE`, behind which a read fails, writes these bytes.
-fn breaks(
-    alloc: Global,
-    query: &Arc<Query>,
-    setup: Setup,
-    count: usize,
-    output: &[u8],
-) -> Result<bool, AllocError>
-    requires { count ≤ 9 }
-{
-    let mut store = open_file(alloc, &FILE[..count], Ending::Fails, 2)?;
-    let mut sink = MemSink::new(alloc, 100)?;
-    let ended = first_run(alloc, query, setup, b"f", &mut store, &mut sink);
-    Ok(ended == Ok(Err(ReadFault)) && sink.bytes() == output)
-}
-
 /// The letters of a format, how many bytes of `FILE` are read, and what is written of them.
 const BROKEN: &str = "------ 0
 ------ 1
@@ -215,18 +253,23 @@ H-c--- 2 f:1/
 H-c--- 8 f:1/
 H-c--- 9 f:2/";
 
-/// A run whose reading fails writes what a row says, whatever the size of its blocks.
-fn assert_broken(rt: &impl Abort, alloc: Global, row: &str) -> Result<(), Fail> {
+/// A run whose reading fails writes what a row says, whatever the size of its blocks, and tells it.
+fn assert_broken(rt: &(impl Abort + Wait), alloc: Global, row: &str) -> Result<(), Fail> {
     let (letters, rest) = cut(row, " ");
     let (count, output) = cut(rest, " ");
     let count: usize = count.parse()?;
     assert!(rt; count <= 9);
     let output = with_newlines(alloc, output)?;
-    let query = query_of(alloc, b"b")?;
     let format = format_of(rt, letters);
     for block in 1..=10u32 {
-        let setup = Setup { format, block };
-        let right = breaks(alloc, &query, setup, count, output.as_bytes())?;
+        let case = Case {
+            file: &FILE[..count],
+            ending: Ending::Fails,
+            read_limit: 2,
+            ..case_of(format, block)
+        };
+        let told = "pargrep: f: read failed\n";
+        let right = runs(rt, alloc, case, output.as_bytes(), told, 2)?;
         assert!(rt; right, "{row}");
     }
     Ok(())
@@ -240,9 +283,13 @@ fn each_read_may_fail(rt: HostRuntime) -> Result<(), Fail> {
     Ok(())
 }
 
-/// A run whose memory refuses a request has written a beginning of the output, and one whose memory refuses none has
-/// written all of it. The answer is whether that is so, and how much was written.
-fn run_refused(
+/// What is told of the names behind the file.
+const TOLD: &[u8] = b"pargrep: g: cannot open\npargrep: d: cannot list\n";
+
+/// A run whose memory refuses a request has written and told beginnings, and one whose memory refuses none all of it.
+/// The answer is whether that is so, and how much was written.
+fn run_refused<R: Wait>(
+    rt: &R,
     alloc: Global,
     heap: &Refusing,
     format: Format,
@@ -250,24 +297,28 @@ fn run_refused(
 ) -> Result<(bool, usize), AllocError>
     requires { HasRoom format }
 {
-    let Ok(query) = query_of(heap, b"b") else {
-        return Ok((heap.has_refused(), 0));
+    let case = Case {
+        read_limit: 3,
+        ..case_of(format, 1)
     };
-    let setup = Setup { format, block: 1 };
-    let mut store = open_file(alloc, FILE, Ending::Ends, 3)?;
-    let mut sink = MemSink::new(alloc, 100)?;
-    let ended = first_run(heap, &query, setup, b"f", &mut store, &mut sink);
-    let right = if heap.has_refused() {
-        ended == Err(RunFault::OutOfMemory) && output.starts_with(sink.bytes())
+    let mut files = list(alloc, case, false)?;
+    let mut out = MemSink::new(alloc, 100)?;
+    let mut faults = MemSink::new(alloc, 100)?;
+    let answer = run_case(rt, heap, case, &mut files, &mut out, &mut faults);
+    let right = if answer == Ok(2) {
+        out.bytes() == output && faults.bytes() == TOLD
     } else {
-        ended == Ok(Ok(0)) && sink.bytes() == output
+        heap.has_refused()
+            && answer == Err(RunFault::OutOfMemory)
+            && output.starts_with(out.bytes())
+            && TOLD.starts_with(faults.bytes())
     };
-    Ok((right, sink.bytes().len()))
+    Ok((right, out.bytes().len()))
 }
 
-/// Each request for memory of a run is refused in turn. Where the last one is, so many bytes were written.
+/// Each request for memory of a run is refused in turn. Where the last one is, at least so many bytes were written.
 fn assert_refusals(
-    rt: &impl Abort,
+    rt: &(impl Abort + Wait),
     alloc: Global,
     format: Format,
     output: &[u8],
@@ -278,10 +329,10 @@ fn assert_refusals(
     let mut longest = 0;
     for passes in 0..1000u64 {
         let heap = Refusing::new(alloc, passes);
-        let (right, written) = run_refused(alloc, &heap, format, output)?;
+        let (right, written) = run_refused(rt, alloc, &heap, format, output)?;
         assert!(rt; right, "at {passes}");
         if !heap.has_refused() {
-            assert!(rt; longest == early);
+            assert!(rt; early <= longest);
             return Ok(());
         }
         longest = written;
@@ -298,6 +349,23 @@ fn each_request_may_be_refused(rt: HostRuntime) -> Result<(), Fail> {
         let output = with_newlines(rt.alloc(), output)?;
         let format = format_of(&rt, letters);
         assert_refusals(&rt, rt.alloc(), format, output.as_bytes(), early)?;
+    }
+    Ok(())
+}
+
+#[test]
+fn long_lines_end_a_run(rt: HostRuntime) -> Result<(), Fail> {
+    for (length, wanted) in [(100, Ok(1)), (101, Err(RunFault::TooLong))] {
+        let file = vec![in rt.alloc(); b'a'; length]?;
+        let case = Case {
+            file: &file,
+            ..case_of(PLAIN, 1)
+        };
+        let mut files = list(rt.alloc(), case, true)?;
+        let mut out = MemSink::new(rt.alloc(), 100)?;
+        let mut faults = MemSink::new(rt.alloc(), 100)?;
+        let answer = run_case(&rt, rt.alloc(), case, &mut files, &mut out, &mut faults);
+        assert!(&rt; answer == wanted, "{length} bytes");
     }
     Ok(())
 }
