@@ -1,9 +1,12 @@
 pub mod Accesses
 pub mod Asking
+pub mod Cover
 pub mod Faults
 pub mod Given
+pub mod Holding
 pub mod Listed
 pub mod MemStore
 pub mod Outcome
+pub mod Reading
 pub mod Store
 pub mod Told

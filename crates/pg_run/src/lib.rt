@@ -1,16 +1,18 @@
-//! Reads files and searches them, one block after the other.
+//! The run over any files: reads them, searches their blocks and writes the output; and the files that it reads.
 #![tactic(auto)]
 
 mod disk_store;
+mod engine;
 mod fault;
 mod files;
 mod listed;
 mod mem_store;
 mod past;
-mod run;
+mod reading;
+mod running;
 mod setup;
 mod store;
-mod tell;
+mod telling;
 
 pub use disk_store::DiskStore;
 pub use fault::RunFault;
@@ -18,7 +20,7 @@ pub use files::{Files, ReadFault, Step};
 pub use listed::{Listed, shown_name};
 pub use mem_store::{Ending, MemStore};
 pub use past::StorePast;
-pub use run::run;
+pub use running::run;
 pub use setup::Setup;
 pub use store::{OpenFault, Store};
-pub use tell::tell;
+pub use telling::tell;

@@ -30,18 +30,42 @@ struct Case<'a> {
     ghost block_in_range: { (1 ≤ block) × (block ≤ 2 ^ 24) },
 }
 
-/// The search for `b` in `FILE`.
-fn case_of<'a>(format: Format, block: u32) -> Case<'a>
-    requires { HasRoom format }
-    requires { (1 ≤ block) × (block ≤ 2 ^ 24) }
-{
-    Case {
-        pattern: b"b",
-        format,
-        file: FILE,
-        ending: Ending::Ends,
-        read_limit: 100,
-        block,
+impl<'a> Case<'a> {
+    /// The search for `b` in `FILE`, which is cut into the smallest blocks.
+    fn new(format: Format) -> Case<'a>
+        requires { HasRoom format }
+    {
+        Case {
+            pattern: b"b",
+            format,
+            file: FILE,
+            ending: Ending::Ends,
+            read_limit: 100,
+            block: 1,
+        }
+    }
+
+    /// The search for another pattern in another file.
+    fn with(mut self, pattern: &'a [u8], file: &'a [u8]) -> Case<'a> {
+        self.pattern = pattern;
+        self.file = file;
+        self
+    }
+
+    /// The first bytes of `FILE`, behind which a read fails.
+    fn broken(mut self, file: &'a [u8]) -> Case<'a> {
+        self.file = file;
+        self.ending = Ending::Fails;
+        self
+    }
+
+    /// Blocks of at least so many bytes, and reads of at most so many.
+    fn cut(mut self, block: u32, read_limit: usize) -> Case<'a>
+        requires { (1 ≤ block) × (block ≤ 2 ^ 24) × (1 ≤ read_limit) }
+    {
+        self.block = block;
+        self.read_limit = read_limit;
+        self
     }
 }
 
@@ -112,11 +136,7 @@ fn assert_run(
 ) -> Result<(), AllocError> {
     for block in 1..=64u32 {
         for read_limit in [1, 2, 5, 100] {
-            let case = Case {
-                block,
-                read_limit,
-                ..case
-            };
+            let case = case.cut(block, read_limit);
             let right = runs(rt, alloc, case, output, "", status)?;
             assert!(rt; right, "in blocks of {block}");
         }
@@ -150,11 +170,7 @@ fn assert_row(rt: &(impl Abort + Wait), alloc: Global, row: &str) -> Result<(), 
     let status: u8 = status.parse()?;
     let file = with_newlines(alloc, file)?;
     let output = with_newlines(alloc, output)?;
-    let case = Case {
-        pattern: pattern.as_bytes(),
-        file: file.as_bytes(),
-        ..case_of(format_of(rt, letters), 1)
-    };
+    let case = Case::new(format_of(rt, letters)).with(pattern.as_bytes(), file.as_bytes());
     assert_run(rt, alloc, case, output.as_bytes(), status)?;
     Ok(())
 }
@@ -169,16 +185,10 @@ fn small_files(rt: HostRuntime) -> Result<(), Fail> {
 
 #[test]
 fn any_byte_is_searched_for(rt: HostRuntime) -> Result<(), Fail> {
-    let case = Case {
-        pattern: b"\0",
-        file: b"a\0\xff\n\0\n\xff\x80\n\xff\0",
-        ..case_of(PLAIN, 1)
-    };
+    let file = b"a\0\xff\n\0\n\xff\x80\n\xff\0";
+    let case = Case::new(PLAIN).with(b"\0", file);
     assert_run(&rt, rt.alloc(), case, b"a\0\xff\n\0\n\xff\0\n", 0)?;
-    let case = Case {
-        pattern: b"\xff\x80",
-        ..case
-    };
+    let case = Case::new(PLAIN).with(b"\xff\x80", file);
     assert_run(&rt, rt.alloc(), case, b"\xff\x80\n", 0)?;
     Ok(())
 }
@@ -219,7 +229,7 @@ fn assert_sinks(
     requires { HasRoom format }
 {
     for block in 1..=10u32 {
-        let case = case_of(format, block);
+        let case = Case::new(format).cut(block, 100);
         for limit in 0..output.len() {
             let right = writes(rt, alloc, case, &output[..limit], usize::MAX, false)?;
             assert!(rt; right);
@@ -262,12 +272,7 @@ fn assert_broken(rt: &(impl Abort + Wait), alloc: Global, row: &str) -> Result<(
     let output = with_newlines(alloc, output)?;
     let format = format_of(rt, letters);
     for block in 1..=10u32 {
-        let case = Case {
-            file: &FILE[..count],
-            ending: Ending::Fails,
-            read_limit: 2,
-            ..case_of(format, block)
-        };
+        let case = Case::new(format).broken(&FILE[..count]).cut(block, 2);
         let told = "pargrep: f: read failed\n";
         let right = runs(rt, alloc, case, output.as_bytes(), told, 2)?;
         assert!(rt; right, "{row}");
@@ -297,10 +302,7 @@ fn run_refused<R: Wait>(
 ) -> Result<(bool, usize), AllocError>
     requires { HasRoom format }
 {
-    let case = Case {
-        read_limit: 3,
-        ..case_of(format, 1)
-    };
+    let case = Case::new(format).cut(1, 3);
     let mut files = list(alloc, case, false)?;
     let mut out = MemSink::new(alloc, 100)?;
     let mut faults = MemSink::new(alloc, 100)?;
@@ -357,10 +359,7 @@ fn each_request_may_be_refused(rt: HostRuntime) -> Result<(), Fail> {
 fn long_lines_end_a_run(rt: HostRuntime) -> Result<(), Fail> {
     for (length, wanted) in [(100, Ok(1)), (101, Err(RunFault::TooLong))] {
         let file = vec![in rt.alloc(); b'a'; length]?;
-        let case = Case {
-            file: &file,
-            ..case_of(PLAIN, 1)
-        };
+        let case = Case::new(PLAIN).with(b"b", &file);
         let mut files = list(rt.alloc(), case, true)?;
         let mut out = MemSink::new(rt.alloc(), 100)?;
         let mut faults = MemSink::new(rt.alloc(), 100)?;

@@ -1,17 +1,21 @@
 //! What is told on standard error.
 ghost use Rattle.std.specs.Prelude.{◌≡◌, ◌<◌, ◌++◌, OnErr, OnOk, IfOk};
 ghost use Rattle.std.specs.List.{flat_map};
+ghost use Rattle.pg_rows.specs.Sink.{TakesPart};
 
-use pg_seq::{Sink, WriteError, write_all};
-use std::alloc::{AllocError, Global};
+use pg_rows::{Sink, WriteError, write_all};
+use std::alloc::{AllocError, Allocator};
 
 /// Writes a text that is given in parts: in one write where there is memory for it, else part by part.
 ///
 /// # Errors
 ///
-/// `WriteError` where a write failed.
-pub(crate) fn tell<W: Sink>(alloc: Global, parts: &[&str], err: &mut W) -> Result<(), WriteError>
+/// `WriteError` where a write failed. A beginning of the text was taken then.
+pub fn tell<A: Allocator, W: Sink>(alloc: A, parts: &[&[u8]], err: &mut W) -> Result<(), WriteError>
     ensures told { OnOk result (W.taken err.new ≡ W.taken err.old ++ flat_map (λ part. part.now) parts.now) }
+    ensures no_failure { OnOk result (W.failures err.new ≡ W.failures err.old) }
+    ensures part { OnErr result (TakesPart (flat_map (λ part. part.now) parts.now)
+        (W.taken err.old) (W.taken err.new)) }
     ensures failure { OnErr result (W.failures err.old < W.failures err.new) }
 {
     match join(alloc, parts) {
@@ -21,23 +25,26 @@ pub(crate) fn tell<W: Sink>(alloc: Global, parts: &[&str], err: &mut W) -> Resul
 }
 
 /// The parts, one behind the other.
-fn join(alloc: Global, parts: &[&str]) -> Result<Vec<u8>, AllocError>
+fn join<A: Allocator>(alloc: A, parts: &[&[u8]]) -> Result<Vec<u8, A>, AllocError>
     ensures { IfOk result (λ text. text.items ≡ flat_map (λ part. part.now) parts.now) }
 {
     let mut text = Vec::new(alloc);
     for part in parts {
-        text.extend_from_slice(part.as_bytes())?;
+        text.extend_from_slice(part)?;
     }
     Ok(text)
 }
 
 /// Writes one part after the other.
-fn write_each<W: Sink>(parts: &[&str], err: &mut W) -> Result<(), WriteError>
+fn write_each<W: Sink>(parts: &[&[u8]], err: &mut W) -> Result<(), WriteError>
     ensures told { OnOk result (W.taken err.new ≡ W.taken err.old ++ flat_map (λ part. part.now) parts.now) }
+    ensures no_failure { OnOk result (W.failures err.new ≡ W.failures err.old) }
+    ensures part { OnErr result (TakesPart (flat_map (λ part. part.now) parts.now)
+        (W.taken err.old) (W.taken err.new)) }
     ensures failure { OnErr result (W.failures err.old < W.failures err.new) }
 {
     for part in parts {
-        write_all(err, part.as_bytes())?;
+        write_all(err, part)?;
     }
     Ok(())
 }

@@ -1,0 +1,119 @@
+-- The blocks that a cutter gives, and lines that are too long.
+use Rattle.std.proofs.Common.{◌≡◌, ◌≢◌, ℕ, suc, ◌+◌, ◌<◌, ◌≤◌, ◌^◌, ◌⊎◌, inl, inr, Some, None, List, [], ◌∷◌, ◌++◌}
+use Rattle.std.proofs.Common.{length, refl, sym, ap, ◌∙◌, subst, arith, append_assoc, length-append}
+use Rattle.std.specs.List.{AllByRecursion, Any}
+use Rattle.std.proofs.lemmas.List.{append-nil}
+use Rattle.std.proofs.lemmas.List.Concat.{flat_map-append}
+use Rattle.pg_lines.specs.Lines.{lines, AreShort, AreWhole}
+use Rattle.pg_lines.specs.Blocks.{BlockData, joined, EndsWith, IsFinished, AreNumbered}
+use Rattle.pg_lines.specs.Cutter.{Fed, handed as handed_out, Stands as CutterStands, IsNextBlock, AreAllBlocks}
+use Rattle.pg_lines.specs.declared.cutter.Cutter.{Cutter}
+use Rattle.pg_lines.proofs.LineLemmas.{lines-append, whole_append}
+use Rattle.pg_lines.proofs.CutLaws.{cut_is_cutting}
+
+-- bytes that end with the terminator, or that nothing follows
+abbrev pub IsApart : ℕ → List ℕ → List ℕ → Type 0
+IsApart end xs ys = AreWhole end xs ⊎ (ys ≡ [])
+
+lines_apart : (end : ℕ) (xs ys : List ℕ) → IsApart end xs ys → lines end (xs ++ ys) ≡ lines end xs ++ lines end ys
+lines_apart end xs ys (inl w) = lines-append end xs ys w
+lines_apart end xs ys (inr e) =
+    ap (λ zs. lines end (xs ++ zs)) e
+    ∙ (ap (lines end) (append-nil xs)
+    ∙ (sym (append-nil (lines end xs)) ∙ ap (λ zs. lines end xs ++ lines end zs) (sym e)))
+
+abbrev pub AllEnd : ℕ → List BlockData → Type 0
+AllEnd end blocks = AllByRecursion (λ b. EndsWith end b.bytes) blocks
+
+whole_joined : (end : ℕ) (blocks : List BlockData) → AllEnd end blocks → AreWhole end (joined blocks)
+whole_joined end [] h = inl refl
+whole_joined end (b ∷ blocks) h = whole_append end b.bytes (joined blocks) (inr h.0) (whole_joined end blocks h.1)
+
+all_apart : {X : Type 0} (P : X → Type 0) (xs ys : List X) → AllByRecursion P (xs ++ ys)
+    → AllByRecursion P xs × AllByRecursion P ys
+all_apart P [] ys h = (tt, h)
+all_apart P (x ∷ xs) ys h = let r = all_apart P xs ys h.1 in ((h.0, r.0), r.1)
+
+all_end : (end size : ℕ) (blocks : List BlockData) → AllByRecursion (λ b. IsFinished end size b.bytes) blocks
+    → AllEnd end blocks
+all_end end size [] h = tt
+all_end end size (b ∷ blocks) h = (h.0.ends, all_end end size blocks h.1)
+
+pub given_end : {A : Type 0} (cutter : Cutter A) (f : Fed) (end : ℕ) → CutterStands cutter f → f.end ≡ end
+    → AllEnd end f.taken
+given_end cutter f end s ends =
+    let finished = all_apart (λ b. IsFinished f.end f.size b.bytes) f.taken cutter.ready.items s.cut.finished in
+    let P : ℕ → Type 0 = λ e. AllEnd e f.taken in
+    subst P ends (all_end f.end f.size f.taken finished.0)
+
+joined_apart : (xs ys : List BlockData) (zs : List ℕ) → joined (xs ++ ys) ++ zs ≡ joined xs ++ (joined ys ++ zs)
+joined_apart xs ys zs =
+    ap (λ t. t ++ zs) (flat_map-append (λ (b : BlockData). b.bytes) xs ys)
+    ∙ append_assoc (joined xs) (joined ys) zs
+
+-- the block that a cutter gives, and what comes behind it
+pub record Gives (f : Fed) (b : BlockData) (more : List ℕ) : Type 0 where
+  pub numbered : AreNumbered f.file 0 (f.taken ++ b ∷ [])
+  pub some : b.bytes ≢ []
+  pub whole : f.bytes ≡ joined f.taken ++ (b.bytes ++ more)
+  pub apart : IsApart f.end b.bytes more
+
+not_nothing : (end : ℕ) (xs : List ℕ) → EndsWith end xs → xs ≢ []
+not_nothing end xs h e = absurd (omega (arith, ap length (sym h.1 ∙ e), length-append h.0 (end ∷ [])))
+
+pub gives_next : (f : Fed) (b : BlockData) → IsNextBlock f b
+    → (more : List ℕ) × Gives f b more × AreWhole f.end b.bytes
+gives_next f b n =
+    let later = n.cut.0 in
+    let cuts = n.cut.2 in
+    let finished = all_apart (λ x. IsFinished f.end f.size x.bytes) f.taken (b ∷ later) cuts.finished in
+    let ends : EndsWith f.end b.bytes = finished.1.0.ends in (
+      joined later ++ n.cut.1,
+      record {
+        numbered = n.numbered;
+        some = not_nothing f.end b.bytes ends;
+        whole =
+            cuts.whole ∙ (joined_apart f.taken (b ∷ later) n.cut.1
+            ∙ ap (λ xs. joined f.taken ++ xs) (append_assoc b.bytes (joined later) n.cut.1));
+        apart = inl (inr ends);
+      },
+      inr ends,
+    )
+
+pub gives_last : (f : Fed) (b : BlockData) → AreAllBlocks (handed_out f (Some b)) → Gives f b []
+gives_last f b all =
+    let cutting = cut_is_cutting f.end f.size f.bytes (f.taken ++ b ∷ []) all.cut in
+    record {
+      numbered = all.numbered;
+      some = (all_apart (λ x. x.bytes ≢ []) f.taken (b ∷ []) cutting.some).1.0;
+      whole = sym cutting.whole ∙ flat_map-append (λ (x : BlockData). x.bytes) f.taken (b ∷ []);
+      apart = inr refl;
+    }
+
+pub numbered_last : (file n : ℕ) (front : List BlockData) (b : BlockData) → AreNumbered file n (front ++ b ∷ [])
+    → (b.file ≡ file) × (b.number ≡ n + length front)
+numbered_last file n [] b h = (h.0, omega (arith, h.1))
+numbered_last file n (x ∷ front) b h = let r = numbered_last file (n + 1) front b h.2 in (r.0, omega (arith, r.1))
+
+-- where no line is too long, no line of a part is
+all_short : (longest : ℕ) (ls : List (List ℕ)) → (Any (λ l. longest < length l) ls → ⊥) → longest ≤ 2 ^ 30
+    → AllByRecursion (λ l. length l ≤ 2 ^ 30) ls
+all_short longest [] h few = tt
+all_short longest (l ∷ ls) h few = (
+  omega (arith, few, λ (k : longest < length l). h (0, l, omega arith, refl, k)),
+  all_short longest ls (λ a. h (suc a.0, a.1, omega (arith, a.2), a.3, a.4)) few,
+)
+
+pub short_part : {A : Type 0} (cutter : Cutter A) (f : Fed) (b : BlockData) (more : List ℕ) → CutterStands cutter f
+    → f.longest ≤ 2 ^ 30 → Gives f b more → AreShort f.end b.bytes
+short_part cutter f b more s few gives =
+    let end = f.end in
+    let P : List ℕ → Type 0 = λ l. length l ≤ 2 ^ 30 in
+    let parts : lines end f.bytes ≡ lines end (joined f.taken) ++ (lines end b.bytes ++ lines end more) =
+    ap (lines end) gives.whole
+    ∙ (lines_apart end (joined f.taken) (b.bytes ++ more)
+    (inl (whole_joined end f.taken (given_end cutter f end s refl)))
+    ∙ ap (λ ls. lines end (joined f.taken) ++ ls) (lines_apart end b.bytes more gives.apart)) in
+    let all = subst (AllByRecursion P) parts (all_short f.longest (lines end f.bytes) s.short few) in
+    let both = all_apart P (lines end (joined f.taken)) (lines end b.bytes ++ lines end more) all in
+    (all_apart P (lines end b.bytes) (lines end more) both.1).0

@@ -1,0 +1,262 @@
+-- An engine's sequencer, one call further.
+use Rattle.std.proofs.Common.{◌≡◌, ℕ, ◌+◌, ◌<◌, ◌≤◌, Bool, true, false, ◌&&◌, ◌||◌, ◌==◌, Option, Some, None, Result, Ok, Err}
+use Rattle.std.proofs.Common.{List, [], ◌∷◌, ◌++◌, length, refl, sym, ap, ◌∙◌, subst, arith, append_assoc}
+use Rattle.std.specs.List.{Contains, list_all}
+use Rattle.std.specs.Option.{IsSome, MatchOption}
+use Rattle.std.specs.Result.{IsErrAnd, IsErrOf, IfErr, OnOk, OnErr, IfOk}
+use Rattle.std.specs.Arc.{arc_value}
+use Rattle.std.proofs.lemmas.Bool.{eq-eqb, false≢true}
+use Rattle.std.proofs.lemmas.List.{append-nil, get_or_at, length_push}
+use Rattle.std.proofs.lemmas.List.Folds.{list_all-append}
+use Rattle.pg_lines.specs.Search.{terminator}
+use Rattle.pg_lines.specs.Blocks.{BlockData}
+use Rattle.pg_lines.specs.Searched.{Searched}
+use Rattle.pg_rows.specs.Output.{HasRoom, output, status}
+use Rattle.pg_rows.specs.Enough.{is_enough}
+use Rattle.pg_rows.specs.Sink.{IsBeginning}
+use Rattle.pg_seq.specs.declared.answers.Arrival.TheVariants.{Taken}
+use Rattle.pg_seq.specs.declared.answers.SinkFault.{SinkFault}
+use Rattle.pg_seq.specs.declared.answers.SinkFault.TheVariants.{WriteFailed, Failed}
+use Rattle.pg_seq.specs.Plan.{Step, Announces, MayFollow, IsShaped, IsPlan, announced, opened, entries_of, is_open}
+use Rattle.pg_seq.specs.History.{Past, Planned, Arrived, start, planned, arrived, plan, plan_of, taken_of, taken_after}
+use Rattle.pg_seq.specs.History.{is_taken, all_taken, answer, answer_after, front_of, front_after, handed, handed_after}
+use Rattle.pg_seq.specs.History.{IsComplete, status_of}
+use Rattle.pg_seq.specs.Standing.{Stands, Drained, drained}
+use Rattle.pg_seq.proofs.ArrivalLaws.{first_is_taken}
+use Rattle.pg_seq.proofs.BeginLemmas.{begins_trans, shape_of}
+use Rattle.pg_seq.proofs.CursorLemmas.{plan_begins}
+use Rattle.pg_seq.proofs.FrontLemmas.{front_all}
+use Rattle.pg_seq.proofs.KeyLemmas.{next_not_taken}
+use Rattle.pg_run.specs.Outcome.{Stream}
+use Rattle.pg_run.specs.Holding.{Aim, Holds, May, Broke, IsWritten, past_of, format_of, output_of}
+use Rattle.pg_run.specs.declared.engine.Engine.{Engine}
+use Rattle.pg_run.specs.declared.fault.RunFault.{RunFault}
+use Rattle.pg_run.specs.declared.fault.RunFault.TheVariants.{OutOfMemory, Sink}
+
+-- Keys of blocks that were taken.
+
+any_more : (key : ℕ × ℕ) (keys : List (ℕ × ℕ)) (b : BlockData) → is_taken keys b ≡ true
+    → is_taken (key ∷ keys) b ≡ true
+any_more key keys b e = ap (λ t. (b.file == key.0 && b.number == key.1) || t) e
+    ∙ or_true (b.file == key.0 && b.number == key.1)
+  where
+    or_true : (t : Bool) → (t || true) ≡ true
+    or_true true = refl
+    or_true false = refl
+
+all_by : (t : Bool) (rest rest' : Bool) → (t && rest) ≡ true → (rest ≡ true → rest' ≡ true) → (t' : Bool)
+    → (t ≡ true → t' ≡ true) → (t' && rest') ≡ true
+all_by true rest rest' e f t' h = ap (λ x. x && rest') (h refl) ∙ f e
+all_by false rest rest' e f t' h = absurd (false≢true e)
+
+all_more : (key : ℕ × ℕ) (keys : List (ℕ × ℕ)) (bs : List BlockData) → list_all (is_taken keys) bs ≡ true
+    → list_all (is_taken (key ∷ keys)) bs ≡ true
+all_more key keys [] e = refl
+all_more key keys (b ∷ bs) e =
+    all_by (is_taken keys b) (list_all (is_taken keys) bs) (list_all (is_taken (key ∷ keys)) bs) e
+    (all_more key keys bs) (is_taken (key ∷ keys) b) (any_more key keys b)
+
+own_key : (keys : List (ℕ × ℕ)) (b : BlockData) → is_taken ((b.file, b.number) ∷ keys) b ≡ true
+own_key keys b =
+    ap (λ t. (t && b.number == b.number) || is_taken keys b) (eq-eqb b.file b.file refl)
+    ∙ ap (λ t. t || is_taken keys b) (eq-eqb b.number b.number refl)
+
+all_push : (keys : List (ℕ × ℕ)) (bs : List BlockData) (b : BlockData) → list_all (is_taken keys) bs ≡ true
+    → list_all (is_taken ((b.file, b.number) ∷ keys)) (bs ++ b ∷ []) ≡ true
+all_push keys bs b e =
+    let more = (b.file, b.number) ∷ keys in
+    list_all-append (is_taken more) bs (b ∷ [])
+    ∙ (ap (λ t. t && (is_taken more b && true)) (all_more (b.file, b.number) keys bs e)
+    ∙ ap (λ t. t && true) (own_key keys b))
+
+-- a new engine
+pub holds_new : {A : Type 0} (engine : Engine A) (aim : Aim) → (arc_value engine.query).text ≡ aim.query.text
+    → engine.setup ≡ aim.setup → engine.files ≡ 0 → Stands engine.sequencer (start aim.query (format_of aim))
+    → Holds engine aim [] aim.out
+holds_new engine aim same set count stands = record {
+  same = same;
+  set = set;
+  count = count;
+  events = [];
+  written = [];
+  stands = stands;
+  planned = refl;
+  all = refl;
+  safe = (output aim.query (format_of aim) [], refl);
+  got = sym (append-nil aim.out.taken);
+  calm = refl;
+}
+
+-- What an engine holds.
+module _ {A : Type 0} {engine : Engine A} {aim : Aim} {steps : List Step} {out : Stream}
+    (h : Holds engine aim steps out) where
+  abbrev past : Past
+  past = past_of aim.query (format_of aim) h.events h.written
+
+  pub room_of : HasRoom (format_of aim)
+  room_of = h.stands.room
+
+  pub shaped_of : IsShaped (terminator aim.query) steps
+  shaped_of =
+      let P : List Step → Type 0 = λ p. IsPlan (terminator aim.query) p in
+      shape_of (terminator aim.query) steps (subst P h.planned h.stands.lawful)
+
+  pub may_past : (s : Step) → May aim steps s → MayFollow (terminator past.query) (plan past) s
+  may_past s m =
+      let P : List Step → Type 0 = λ p. MayFollow (terminator aim.query) p s in
+      subst P (sym h.planned) m
+
+  -- what was written is a beginning of what one more step gives too
+  safe_step : (s : Step) → May aim steps s → IsBeginning h.written (output_of aim (s ∷ steps))
+  safe_step s m =
+      begins_trans _ _ _ h.safe (plan_begins aim.query (format_of aim) room_of steps (s ∷ []) (m.0, shaped_of))
+
+  -- where memory is lacking for one more step
+  pub broke_step : (s : Step) → May aim steps s → Broke aim (s ∷ steps) out OutOfMemory
+  broke_step s m = record { cause = tt; part = (h.written, safe_step s m, h.got) }
+
+  -- a step without a block
+  pub holds_step : (engine' : Engine A) (s : Step) → May aim steps s → (arc_value engine'.query).text ≡ aim.query.text
+      → engine'.setup ≡ aim.setup → engine'.files ≡ opened (s ∷ steps)
+      → all_taken (taken_of aim.query h.events) (s ∷ steps) ≡ true → Stands engine'.sequencer (planned past s)
+      → Holds engine' aim (s ∷ steps) out
+  holds_step engine' s m same set count all stands = record {
+    same = same;
+    set = set;
+    count = count;
+    events = Planned s ∷ h.events;
+    written = h.written;
+    stands = stands;
+    planned = ap (λ p. s ∷ p) h.planned;
+    all = all;
+    safe = safe_step s m;
+    got = h.got;
+    calm = h.calm;
+  }
+
+  -- the result of the block that was announced is taken
+  pub is_first : (b : BlockData) → May aim steps (Announces b) → (r : Searched)
+      → r ≡ record { query = aim.query.text; block = b } → answer (planned past (Announces b)) r ≡ Taken
+  is_first b m r is =
+      let next = planned past (Announces b) in
+      let place = (may_past (Announces b) m).0 in
+      let known : Contains (announced (plan next)) b = (
+        length (announced (plan past)),
+        omega (arith, length_push (announced (plan past)) b),
+        get_or_at (announced (plan past)) b [] b (length (announced (plan past))) refl,
+      ) in
+      let shaped = shape_of (terminator aim.query) (plan past) h.stands.lawful in
+      let new : is_taken (taken_of aim.query h.events) b ≡ false =
+      next_not_taken (terminator aim.query) aim.query h.events b shaped place in
+      let F : Searched → Type 0 = λ x. answer next x ≡ Taken in
+      subst F (sym is)
+      (first_is_taken next (record { query = aim.query.text; block = b }) (place, shaped) refl known new)
+
+  -- the next block was announced, and its result kept
+  pub holds_block : (engine' : Engine A) (b : BlockData) (r : Searched) → May aim steps (Announces b)
+      → (arc_value engine'.query).text ≡ aim.query.text → engine'.setup ≡ aim.setup → engine'.files ≡ opened steps
+      → r ≡ record { query = aim.query.text; block = b }
+      → Stands engine'.sequencer (arrived (planned past (Announces b)) r) → Holds engine' aim (Announces b ∷ steps) out
+  unfolding answer_after
+  holds_block engine' b r m same set count is stands =
+      let next = planned past (Announces b) in
+      let first : answer next r ≡ Taken = is_first b m r is in
+      let block : r.block ≡ b = ap (λ x. x.block) is in
+      let keys = taken_of aim.query h.events in
+      let K : List (ℕ × ℕ) → Type 0 = λ ks. list_all (is_taken ks) (announced steps ++ b ∷ []) ≡ true in
+      let own : taken_after (answer next r) r.block keys ≡ (b.file, b.number) ∷ keys =
+      ap (λ a. taken_after a r.block keys) first ∙ ap (λ x. (x.file, x.number) ∷ keys) block in
+      record {
+        same = same;
+        set = set;
+        count = count;
+        events = Arrived r ∷ Planned (Announces b) ∷ h.events;
+        written = h.written;
+        stands = stands;
+        planned = ap (λ p. Announces b ∷ p) h.planned;
+        all = subst K (sym own) (all_push keys (announced steps) b h.all);
+        safe = safe_step (Announces b) m;
+        got = h.got;
+        calm = h.calm;
+      }
+
+  -- What drains write.
+
+  front_is : front_of past ≡ steps
+  unfolding front_after
+  front_is =
+      let P : List Step → Type 0 = λ p. all_taken (taken_of aim.query h.events) p ≡ true in
+      front_all (taken_of aim.query h.events) (plan past) (subst P (sym h.planned) h.all) ∙ h.planned
+
+  handed_is : handed past ≡ output_of aim steps
+  unfolding handed_after
+  handed_is = ap (λ (p : List Step). output aim.query (format_of aim) (entries_of p)) front_is
+
+  -- a drain that writes all
+  pub holds_drained : (engine' : Engine A) (text : List ℕ) (out' : Stream)
+      → (arc_value engine'.query).text ≡ aim.query.text → engine'.setup ≡ aim.setup → engine'.files ≡ opened steps
+      → out'.taken ≡ out.taken ++ text → out'.failures ≡ out.failures → Drained (Ok tt) past text
+      → Stands engine'.sequencer (drained past text (Ok tt)) → Holds engine' aim steps out' × IsWritten aim steps out'
+  holds_drained engine' text out' same set count more calm d stands =
+      let all : h.written ++ text ≡ output_of aim steps = d.1 ∙ handed_is in
+      let got : out'.taken ≡ aim.out.taken ++ (h.written ++ text) =
+      more ∙ (ap (λ xs. xs ++ text) h.got ∙ append_assoc aim.out.taken h.written text) in (
+        record {
+          same = same;
+          set = set;
+          count = count;
+          events = h.events;
+          written = h.written ++ text;
+          stands = stands;
+          planned = h.planned;
+          all = h.all;
+          safe = ([], append-nil (h.written ++ text) ∙ all);
+          got = got;
+          calm = calm ∙ h.calm;
+        },
+        got ∙ ap (λ xs. aim.out.taken ++ xs) all,
+      )
+
+  -- a drain that fails
+  pub broke_drained : (text : List ℕ) (out' : Stream) (fault : SinkFault) → out'.taken ≡ out.taken ++ text
+      → Drained (Err fault) past text
+      → (IsErrOf {T = Unit {0}} (Err fault) WriteFailed → out.failures < out'.failures) → Broke aim steps out' Sink
+  broke_drained text out' WriteFailed more d cause =
+      let P : List ℕ → Type 0 = λ xs. IsBeginning (h.written ++ text) xs in
+      let rose : out.failures < out'.failures = cause refl in
+      record {
+        cause = omega (arith, rose, h.calm);
+        part = (
+          h.written ++ text,
+          subst P handed_is d.1,
+          more ∙ (ap (λ xs. xs ++ text) h.got ∙ append_assoc aim.out.taken h.written text),
+        );
+      }
+  broke_drained text out' Failed more d cause = absurd (false≢true d.0)
+
+  -- What it answers.
+
+  pub enough_is : is_enough aim.query (format_of aim) (entries_of (front_of past))
+      ≡ is_enough aim.query (format_of aim) (entries_of steps)
+  enough_is = ap (λ (p : List Step). is_enough aim.query (format_of aim) (entries_of p)) front_is
+
+  pub complete_is : is_open steps ≡ false → IsComplete past
+  complete_is closed = (ap is_open h.planned ∙ closed, front_is ∙ sym h.planned)
+
+  pub status_is : status_of past ≡ status aim.query (format_of aim) (entries_of steps)
+  status_is = ap (λ (p : List Step). status aim.query (format_of aim) (entries_of p)) h.planned
+
+pub some_status : (p : Past) (r : Option ℕ) → IsComplete p
+    → MatchOption r (IsComplete p → ⊥) (λ s. IsComplete p × (s ≡ status_of p)) → IsSome r
+some_status p None c m = absurd (m c)
+some_status p (Some s) c m = refl
+
+-- What holds of the fault with which a call ended.
+
+pub err_by : {T E : Type 0} (r : Result T E) (P : E → Type 0) (e : E) → IsErrAnd r (λ x. x ≡ e) → P e → IfErr r P
+err_by (Ok x) P e h p = tt
+err_by (Err x) P e h p = subst P (sym h) p
+
+pub if_err_too : {T E : Type 0} (r : Result T E) (P Q : E → Type 0) → ((e : E) → P e → Q e) → IfErr r P → IfErr r Q
+if_err_too (Ok x) P Q f h = tt
+if_err_too (Err e) P Q f h = f e h

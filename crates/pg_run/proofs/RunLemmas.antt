@@ -1,0 +1,382 @@
+-- Between files, and a whole run.
+use Rattle.std.proofs.Common.{◌≡◌, ◌⊎◌, inl, inr, ℕ, ◌+◌, ◌-◌, ◌<◌, ◌≤◌, ◌^◌, Bool, true, false, not, cond, List, [], ◌∷◌, ◌++◌}
+use Rattle.std.proofs.Common.{drop, refl, sym, ap, ◌∙◌, subst, arith, append_assoc}
+use Rattle.std.specs.List.{list_any}
+use Rattle.std.proofs.lemmas.Bool.{false≢true}
+use Rattle.std.proofs.lemmas.List.{append-nil}
+use Rattle.pg_lines.specs.Search.{SearchText, Pattern, AreTreesOf, search_of, terminator}
+use Rattle.pg_lines.specs.Cutter.{unfed, Stands as CutterStands}
+use Rattle.pg_lines.specs.declared.cutter.Cutter.{Cutter}
+use Rattle.pg_walk.specs.declared.item.Cause.{Cause}
+use Rattle.pg_walk.specs.declared.item.Cause.TheVariants.{ReadFailed}
+use Rattle.pg_rows.specs.Output.{Entry, Missed, Read, Running, Left, output, status, when, is_quiet, has_selected}
+use Rattle.pg_rows.specs.Enough.{is_enough, file_suffices}
+use Rattle.pg_rows.specs.Sink.{TakesPart}
+use Rattle.pg_rows.proofs.SinkLemmas.{takes_longer}
+use Rattle.pg_seq.specs.Plan.{Step, Opens, Announces, Ends, Misses, IsShaped, is_open, entries_of, with_end}
+use Rattle.pg_seq.proofs.BeginLemmas.{begins_trans}
+use Rattle.pg_run.specs.Given.{Given, NoFile, File, FilesPast, entries_given, files_given, newest_name, nothing_given}
+use Rattle.pg_run.specs.Told.{faults_of, fault_of, fault_line, told_of}
+use Rattle.pg_run.specs.Outcome.{Stream, EndsAtSelected, Finishes, BreaksOff, HasCause}
+use Rattle.pg_run.specs.Holding.{Aim, Holds, Broke, IsWritten, format_of, output_of}
+use Rattle.pg_run.specs.Reading.{InFile, Between, IsTold, Breaks, IsSafe, ReadCause, StopCause, Stops, IsDone}
+use Rattle.pg_run.specs.declared.engine.Engine.{Engine}
+use Rattle.pg_run.specs.declared.setup.Setup.{Setup}
+use Rattle.pg_run.specs.declared.fault.RunFault.{RunFault}
+use Rattle.pg_run.specs.declared.fault.RunFault.TheVariants.{Query, OutOfMemory, Sink, TooManyFiles, TooLong}
+use Rattle.pg_run.proofs.CoverLemmas.{follows_begins, covers_alike, covers_same, covers_left, later_begins}
+use Rattle.pg_run.proofs.StepLemmas.{opens, misses}
+use Rattle.pg_run.proofs.HoldLemmas.{room_of, shaped_of}
+use Rattle.pg_run.proofs.ReadingLemmas.{safe_by, read_cause}
+
+-- What was told.
+
+more_told : (silent : Bool) (given given' : List Given) (line : List ℕ) → faults_of given' ≡ faults_of given ++ line
+    → told_of silent given' ≡ told_of silent given ++ when (not silent) line
+more_told true given given' line e = refl
+more_told false given given' line e = e
+
+-- a text that was told behind what was told of what was given before
+pub told_by : (aim : Aim) (given given' : List Given) (told told' : Stream) (silent : Bool) (line : List ℕ)
+    → silent ≡ aim.setup.silent → IsTold aim given told → faults_of given' ≡ faults_of given ++ line
+    → told'.taken ≡ told.taken ++ when (not silent) line → told'.failures ≡ told.failures → IsTold aim given' told'
+told_by aim given given' told told' silent line set t e took calm =
+    let front = told_of aim.setup.silent given in
+    let P : Bool → Type 0 = λ s. told'.taken ≡ told.taken ++ when (not s) line in
+    record {
+      all =
+          subst P set took
+          ∙ (ap (λ xs. xs ++ when (not aim.setup.silent) line) t.all
+          ∙ (append_assoc aim.told.taken front (when (not aim.setup.silent) line)
+          ∙ ap (λ xs. aim.told.taken ++ xs) (sym (more_told aim.setup.silent given given' line e))));
+      calm = calm ∙ t.calm;
+    }
+
+none_when : (b : Bool) → when b [] ≡ []
+none_when true = refl
+none_when false = refl
+
+-- nothing is told of a file that goes on or ends
+pub told_same : (aim : Aim) (given given' : List Given) (told : Stream) → IsTold aim given told
+    → faults_of given' ≡ faults_of given ++ [] → IsTold aim given' told
+told_same aim given given' told t e =
+    let silent = aim.setup.silent in
+    told_by aim given given' told told silent [] refl t e
+    (sym (append-nil told.taken) ∙ ap (λ xs. told.taken ++ xs) (sym (none_when (not silent)))) refl
+
+pub told_all : (aim : Aim) (given : List Given) (told : Stream) → IsTold aim given told
+    → TakesPart (told_of aim.setup.silent given) aim.told.taken told.taken
+told_all aim given told t =
+    let text = told_of aim.setup.silent given in
+    (text, ([], append-nil text), t.all)
+
+part_told : (aim : Aim) (given given' : List Given) (told told' : Stream) (silent : Bool) (line : List ℕ)
+    → silent ≡ aim.setup.silent → IsTold aim given told → faults_of given' ≡ faults_of given ++ line
+    → TakesPart (when (not silent) line) told.taken told'.taken
+    → TakesPart (told_of aim.setup.silent given') aim.told.taken told'.taken
+part_told aim given given' told told' silent line set t e part =
+    let front = told_of aim.setup.silent given in
+    let P : Bool → Type 0 = λ s. TakesPart (when (not s) line) told.taken told'.taken in
+    let p = subst P set part in (
+      front ++ p.0,
+      (
+        p.1.0,
+        append_assoc front p.0 p.1.0
+        ∙ (ap (λ xs. front ++ xs) p.1.1 ∙ sym (more_told aim.setup.silent given given' line e)),
+      ),
+      p.2 ∙ (ap (λ xs. xs ++ p.0) t.all ∙ append_assoc aim.told.taken front p.0),
+    )
+
+-- what was told of what was given before is a beginning of what is told of more
+part_before : (aim : Aim) (given given' : List Given) (told : Stream) (line : List ℕ) → IsTold aim given told
+    → faults_of given' ≡ faults_of given ++ line → TakesPart (told_of aim.setup.silent given') aim.told.taken told.taken
+part_before aim given given' told line t e =
+    part_told aim given given' told told aim.setup.silent line refl t e
+    ([], (when (not aim.setup.silent) line, refl), sym (append-nil told.taken))
+
+-- only the newest changed
+faults_grow : (given given' : List Given) → drop 1 given' ≡ given
+    → (line : List ℕ) × (faults_of given' ≡ faults_of given ++ line)
+faults_grow given [] e = ([], ap (λ gs. faults_of gs ++ []) e)
+faults_grow given (g ∷ given') e = (fault_of g, ap (λ gs. faults_of gs ++ fault_of g) e)
+
+-- a file that was read further, by whether its reading failed
+told_read : (given before given' : List Given) (name line : List ℕ) (failed : Bool) → before ≡ File name [] Left ∷ given
+    → faults_of given' ≡ faults_of before ++ when failed line → faults_of given' ≡ faults_of given ++ when failed line
+told_read given before given' name line failed is e =
+    e ∙ ap (λ xs. xs ++ when failed line) (ap faults_of is ∙ append-nil (faults_of given))
+
+pub told_failed : (given before given' : List Given) (name name' : List ℕ) (failed : Bool)
+    → before ≡ File name [] Left ∷ given
+    → faults_of given' ≡ faults_of before ++ when failed (fault_line (newest_name given') ReadFailed)
+    → failed ≡ true → name' ≡ newest_name given' → faults_of given' ≡ faults_of given ++ fault_line name' ReadFailed
+told_failed given before given' name name' failed is e t named =
+    told_read given before given' name (fault_line (newest_name given') ReadFailed) failed is e
+    ∙ (ap (λ b. faults_of given ++ when b (fault_line (newest_name given') ReadFailed)) t
+    ∙ ap (λ n. faults_of given ++ fault_line n ReadFailed) (sym named))
+
+pub told_unfailed : (given before given' : List Given) (name : List ℕ) (failed : Bool)
+    → before ≡ File name [] Left ∷ given
+    → faults_of given' ≡ faults_of before ++ when failed (fault_line (newest_name given') ReadFailed)
+    → failed ≡ false → faults_of given' ≡ faults_of given ++ []
+told_unfailed given before given' name failed is e t =
+    told_read given before given' name (fault_line (newest_name given') ReadFailed) failed is e
+    ∙ ap (λ b. faults_of given ++ when b (fault_line (newest_name given') ReadFailed)) t
+
+-- Why a run breaks off.
+
+stop_cause : (fault : RunFault) (aim : Aim) (given : List Given) (out told : Stream) → ReadCause fault aim given out
+    → StopCause fault aim given out told
+stop_cause (Query why) aim given out told c = absurd c
+stop_cause OutOfMemory aim given out told c = tt
+stop_cause Sink aim given out told c = inl c
+stop_cause TooManyFiles aim given out told c = c
+stop_cause TooLong aim given out told c = c
+
+pub has_cause : (fault : RunFault) (aim : Aim) (past : FilesPast) (out told : Stream)
+    → StopCause fault aim past.given out told → HasCause fault aim.query.text aim.setup past aim.out out aim.told told
+has_cause (Query why) aim past out told c = absurd c
+has_cause OutOfMemory aim past out told c = tt
+has_cause Sink aim past out told c = c
+has_cause TooManyFiles aim past out told c = c
+has_cause TooLong aim past out told c = c
+
+-- the reading of a file broke off
+pub stops_reading : (aim : Aim) (given given' : List Given) (out told : Stream) (fault : RunFault)
+    → Breaks aim given' out fault → IsTold aim given told → drop 1 given' ≡ given → Stops aim given' out told fault
+stops_reading aim given given' out told fault b t before =
+    let grown = faults_grow given given' before in
+    record {
+      cause = stop_cause fault aim given' out told b.cause;
+      written = b.written;
+      faults = part_before aim given given' told grown.0 t grown.1;
+    }
+
+-- a line couldn't be told
+pub stops_telling : (aim : Aim) (given given' : List Given) (out told told' : Stream) (silent : Bool) (line : List ℕ)
+    → silent ≡ aim.setup.silent → IsSafe aim given' out.taken → IsTold aim given told
+    → faults_of given' ≡ faults_of given ++ line → TakesPart (when (not silent) line) told.taken told'.taken
+    → told.failures < told'.failures → Stops aim given' out told' Sink
+stops_telling aim given given' out told told' silent line set safe t e part rose = record {
+  cause = inr (omega (arith, rose, t.calm));
+  written = safe;
+  faults = part_told aim given given' told told' silent line set t e part;
+}
+
+-- memory is lacking
+pub stops_memory : (aim : Aim) (given : List Given) (out told : Stream) → IsSafe aim given out.taken
+    → IsTold aim given told → Stops aim given out told OutOfMemory
+stops_memory aim given out told safe t = record { cause = tt; written = safe; faults = told_all aim given told t }
+
+-- while no file is open, no file's lines suffice
+closed_entries : (aim : Aim) (steps : List Step) → is_open steps ≡ false → IsShaped (terminator aim.query) steps
+    → file_suffices aim.query (format_of aim) (entries_of steps) ≡ false
+closed_entries aim [] e h = refl
+closed_entries aim (Opens name ∷ steps) e h = absurd (false≢true (sym e))
+closed_entries aim (Announces b ∷ steps) e h = absurd (false≢true (sym e ∙ h.0.running))
+closed_entries aim (Ends failed ∷ steps) e h = ended failed (entries_of steps)
+  where
+    ended : (failed : Bool) (es : List Entry)
+        → file_suffices aim.query (format_of aim) (with_end failed es) ≡ false
+    ended failed [] = refl
+    ended failed (Missed name ∷ es) = refl
+    ended true (Read name bytes ending ∷ es) = refl
+    ended false (Read name bytes ending ∷ es) = refl
+closed_entries aim (Misses name ∷ steps) e h = refl
+
+-- Between files.
+module _ {A : Type 0} {engine : Engine A} {aim : Aim} {given : List Given} {out : Stream}
+    (h : Between engine aim given out) where
+  pub between_safe : IsSafe aim given out.taken
+  between_safe = safe_by aim h.steps given out.taken (h.holds.written, h.holds.safe, h.holds.got) (λ files on.
+      follows_begins aim.query (format_of aim) (entries_of h.steps) (entries_given given) files (room_of h.holds)
+      (inl h.covers) on)
+
+  -- a file was given, and is not opened yet
+  pub unopened_safe : (name : List ℕ) → IsSafe aim (File name [] Left ∷ given) out.taken
+  unopened_safe name =
+      let es = entries_of h.steps in
+      let more = Read name [] Running ∷ [] in
+      let q = aim.query in
+      let format = format_of aim in
+      safe_by aim h.steps (File name [] Left ∷ given) out.taken (h.holds.written, h.holds.safe, h.holds.got)
+      (λ files on.
+      begins_trans (output q format es) (output q format (more ++ es)) (output q format files)
+      (later_begins q format more es)
+      (follows_begins q format (Read name [] Running ∷ es) (entries_given (File name [] Left ∷ given)) files
+      (room_of h.holds) (inr (name, [], [], Left, opens q format name es (entries_given given) h.covers)) on))
+
+  -- a name was given that gives no file
+  pub unmissed_safe : (name : List ℕ) (cause : Cause) → IsSafe aim (NoFile name cause ∷ given) out.taken
+  unmissed_safe name cause =
+      safe_by aim h.steps (NoFile name cause ∷ given) out.taken (h.holds.written, h.holds.safe, h.holds.got)
+      (λ files on.
+      follows_begins aim.query (format_of aim) (Missed name ∷ entries_of h.steps) (entries_given (NoFile name cause ∷ given)) files
+      (room_of h.holds)
+      (inl (misses aim.query (format_of aim) name (entries_of h.steps) (entries_given given) h.covers)) on)
+
+  -- a name is missed
+  pub name_missed : (engine' : Engine A) (name : List ℕ) (cause : Cause) → Holds engine' aim (Misses name ∷ h.steps) out
+      → Between engine' aim (NoFile name cause ∷ given) out
+  name_missed engine' name cause k = record {
+    steps = Misses name ∷ h.steps;
+    holds = k;
+    closed = h.closed;
+    number = h.number;
+    covers = misses aim.query (format_of aim) name (entries_of h.steps) (entries_given given) h.covers;
+  }
+
+  -- a file is opened, and a cutter was made for it
+  pub file_opened : (cutter : Cutter A) (engine' : Engine A) (name : List ℕ)
+      → CutterStands cutter (unfed (terminator aim.query) engine.files aim.setup.block aim.setup.line)
+      → Holds engine' aim (Opens name ∷ h.steps) out → InFile cutter engine' aim Left (File name [] Left ∷ given) out
+  file_opened cutter engine' name cut k = record {
+    fed = unfed (terminator aim.query) engine.files aim.setup.block aim.setup.line;
+    cut = cut;
+    ends = refl;
+    longest = refl;
+    steps = Opens name ∷ h.steps;
+    holds = k;
+    running = refl;
+    file = ap (λ n. n + 1) h.holds.count;
+    number = ap (λ n. n + 1) h.number;
+    last = refl;
+    name = name;
+    rest = [];
+    whole = refl;
+    reads = opens aim.query (format_of aim) name (entries_of h.steps) (entries_given given) h.covers;
+  }
+
+  -- the same, where the name is told by what was given
+  pub file_started : (cutter : Cutter A) (engine' : Engine A) (now : List Given) (name name' : List ℕ)
+      → now ≡ File name [] Left ∷ given → name' ≡ newest_name now
+      → CutterStands cutter (unfed (terminator aim.query) engine.files aim.setup.block aim.setup.line)
+      → Holds engine' aim (Opens name' ∷ h.steps) out → InFile cutter engine' aim Left now out
+  file_started cutter engine' now name name' is named cut k =
+      let P : List Given → Type 0 = λ gs. InFile cutter engine' aim Left gs out in
+      let same : name' ≡ name = named ∙ ap newest_name is in
+      subst P (sym (is ∙ ap (λ n. File n [] Left ∷ given) (sym same))) (file_opened cutter engine' name' cut k)
+
+  -- there is no number for it
+  pub stops_many : (told : Stream) (name : List ℕ) → 2 ^ 32 - 1 ≤ engine.files → IsTold aim given told
+      → Stops aim (File name [] Left ∷ given) out told TooManyFiles
+  stops_many told name e t = record {
+    cause = omega (arith, e, h.holds.count, h.number);
+    written = unopened_safe name;
+    faults = told_all aim (File name [] Left ∷ given) told (told_same aim given (File name [] Left ∷ given) told t refl);
+  }
+
+  -- between files it is enough only with -q and a selected line
+  selected_same : list_any (has_selected aim.query) (entries_of h.steps)
+      ≡ list_any (has_selected aim.query) (entries_given given)
+  selected_same =
+      let room = room_of h.holds in
+      (covers_alike aim.query (format_of aim) (entries_of h.steps) (entries_given given) room h.covers).selected
+
+  pub between_enough : is_enough aim.query (format_of aim) (entries_of h.steps) ≡ true
+      → (is_quiet (format_of aim).mode ≡ true) × (list_any (has_selected aim.query) (entries_given given) ≡ true)
+  between_enough e = go (is_quiet (format_of aim).mode) refl e
+    where
+      go : (b : Bool) → is_quiet (format_of aim).mode ≡ b
+          → cond b (list_any (has_selected aim.query) (entries_of h.steps))
+          (file_suffices aim.query (format_of aim) (entries_of h.steps)) ≡ true
+          → (is_quiet (format_of aim).mode ≡ true) × (list_any (has_selected aim.query) (entries_given given) ≡ true)
+      go true m e = (m, sym selected_same ∙ e)
+      go false m e =
+          absurd (false≢true
+          (sym (closed_entries aim h.steps h.closed (shaped_of h.holds)) ∙ e))
+
+  pub between_more : is_enough aim.query (format_of aim) (entries_of h.steps) ≡ false
+      → is_quiet (format_of aim).mode ≡ true → list_any (has_selected aim.query) (entries_given given) ≡ false
+  between_more n quiet =
+      sym selected_same
+      ∙ (ap (λ t. cond t (list_any (has_selected aim.query) (entries_of h.steps))
+      (file_suffices aim.query (format_of aim) (entries_of h.steps))) (sym quiet)
+      ∙ n)
+
+-- no name was asked for behind a selected line
+pub ends_at : (aim : Aim) (given before : List Given) → drop 1 given ≡ before
+    → list_any (has_selected aim.query) (entries_given before) ≡ false
+    → EndsAtSelected aim.query (entries_given given)
+ends_at aim [] before e h = tt
+ends_at aim (g ∷ given) before e h = ap (λ gs. list_any (has_selected aim.query) (entries_given gs)) e ∙ h
+
+-- A whole run.
+
+pub between_new : {A : Type 0} (engine : Engine A) (aim : Aim) → Holds engine aim [] aim.out
+    → Between engine aim [] aim.out
+between_new engine aim h = record { steps = []; holds = h; closed = refl; number = refl; covers = tt }
+
+none_told : (silent : Bool) → told_of silent [] ≡ []
+none_told true = refl
+none_told false = refl
+
+pub told_new : (aim : Aim) → IsTold aim [] aim.told
+told_new aim = record {
+  all = sym (append-nil aim.told.taken) ∙ ap (λ xs. aim.told.taken ++ xs) (sym (none_told aim.setup.silent));
+  calm = refl;
+}
+
+module _ {A : Type 0} {engine : Engine A} {aim : Aim} {past : FilesPast} {out told : Stream}
+    (d : IsDone engine aim past out told) where
+  pub done_finishes : (out' : Stream) (answer : ℕ) → IsWritten aim d.rests.0.steps out'
+      → answer ≡ status aim.query (format_of aim) (entries_of d.rests.0.steps) → out'.failures ≡ aim.out.failures
+      → Finishes aim.query aim.setup past aim.out out' aim.told told answer
+  done_finishes out' answer written answered calm =
+      let b = d.rests.0 in
+      let room = room_of b.holds in
+      let same = covers_same aim.query (format_of aim) (entries_of b.steps) (entries_given past.given) room b.covers in
+      record {
+        written = written ∙ ap (λ xs. aim.out.taken ++ xs) same.output;
+        faults = d.rests.1.all;
+        answered = answered ∙ same.status;
+        asked = d.asked;
+        quiet = d.quiet;
+        left = covers_left aim.query (format_of aim) (entries_of b.steps) (entries_given past.given) room b.covers;
+        no_failure = (calm, d.rests.1.calm);
+      }
+
+  pub done_breaks : (out' : Stream) (fault : RunFault) → Broke aim d.rests.0.steps out' fault
+      → Stops aim past.given out' told fault
+  done_breaks out' fault k =
+      let b = d.rests.0 in
+      record {
+        cause = stop_cause fault aim past.given out' told (read_cause fault aim past.given out' k.cause);
+        written = safe_by aim b.steps past.given out'.taken k.part (λ files on.
+            follows_begins aim.query (format_of aim) (entries_of b.steps) (entries_given past.given) files
+            (room_of b.holds) (inl b.covers) on);
+        faults = told_all aim past.given told d.rests.1;
+      }
+
+-- what a run is for, where the patterns have these trees
+abbrev pub aim_for : SearchText → List Pattern → Setup → (out told : Stream) → Aim
+aim_for text trees setup out told = record { query = search_of text trees; setup = setup; out = out; told = told }
+
+pub breaks_off : (text : SearchText) (setup : Setup) (past : FilesPast) (out out' told told' : Stream) (fault : RunFault)
+    → (trees : List Pattern) × AreTreesOf text trees
+    → ((trees : List Pattern) → AreTreesOf text trees
+    → Stops (aim_for text trees setup out told) past.given out' told' fault)
+    → BreaksOff text setup past out out' told told' fault
+breaks_off text setup past out out' told told' fault own stops =
+    let s = stops own.0 own.1 in
+    record {
+      cause = has_cause fault (aim_for text own.0 setup out told) past out' told' s.cause;
+      written = λ trees spelled. (stops trees spelled).written;
+      faults = s.faults;
+    }
+
+none_taken : (text before : List ℕ) → TakesPart text before before
+none_taken text before = ([], (text, refl), sym (append-nil before))
+
+-- nothing was asked for or written
+pub breaks_first : (text : SearchText) (setup : Setup) (past : FilesPast) (out told : Stream) (fault : RunFault)
+    → past ≡ nothing_given → HasCause fault text setup nothing_given out out told told
+    → BreaksOff text setup past out out told told fault
+breaks_first text setup past out told fault new cause =
+    let P : FilesPast → Type 0 = λ p. HasCause fault text setup p out out told told in
+    record {
+      cause = subst P (sym new) cause;
+      written = λ trees spelled files on.
+          none_taken (output (search_of text trees) setup.format files) out.taken;
+      faults = none_taken (told_of setup.silent past.given) told.taken;
+    }

@@ -1,0 +1,10 @@
+use Rattle.pg_seq.specs.Plan.{Ends}
+use Rattle.pg_run.specs.Holding.{past_of, format_of}
+use Rattle.pg_run.proofs.HoldLemmas.{holds_step}
+use Rattle.pg_run.proofs.engine.Engine.end.Goals as goal
+
+pub returns : goal.returns
+returns g c = λ aim steps out ready.
+    let h = ready.0 in
+    holds_step h _ (Ends c.args.failed) ready.1 h.same h.set h.count h.all
+    (c.end.ensures (past_of aim.query (format_of aim) h.events h.written) h.stands)

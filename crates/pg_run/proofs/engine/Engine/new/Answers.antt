@@ -1,0 +1,21 @@
+use Rattle.std.proofs.Common.{◌≡◌, ◌∙◌, ap, refl, subst, sym}
+use Rattle.std.specs.Arc.{arc_value}
+use Rattle.pg_lines.specs.Search.{SearchText, AreTreesOf, search_of}
+use Rattle.pg_rows.specs.declared.format.Format.{Format}
+use Rattle.pg_seq.specs.History.{start}
+use Rattle.pg_seq.specs.Standing.{Stands}
+use Rattle.pg_run.proofs.HoldLemmas.{holds_new}
+use Rattle.pg_run.proofs.engine.Engine.new.Goals as goal
+
+pub returns : goal.returns
+returns g c = λ aim trees text set.
+    let own : (arc_value c.in_ok-query.query).text ≡ aim.query.text =
+    ap (λ q. q.text) c.in_ok-query.ensures.ok ∙ sym text in
+    let same : (arc_value c.in_ok-try_clone.field-0).text ≡ aim.query.text =
+    ap (λ q. q.text) c.in_ok-try_clone.ensures ∙ own in
+    let T : SearchText → Type 0 = λ t. AreTreesOf t aim.query.trees in
+    let S : SearchText → Type 0 =
+    λ t. Stands c.in_ok-sequencer.sequencer (start (search_of t aim.query.trees) c.args.setup.format) in
+    let F : Format → Type 0 = λ f. Stands c.in_ok-sequencer.sequencer (start aim.query f) in
+    let stands = subst S same (c.in_ok-sequencer.ensures aim.query.trees (subst T (sym same) trees)) in
+    holds_new _ aim own (sym set) refl (subst F (ap (λ s. s.format) (sym set)) stands)

@@ -1,0 +1,47 @@
+use Rattle.std.proofs.Common.{◌≡◌, ◌∙◌, ap, subst, sym}
+use Rattle.std.specs.Arc.{arc_value}
+use Rattle.pg_lines.specs.Search.{terminator}
+use Rattle.pg_lines.specs.Blocks.{BlockData}
+use Rattle.pg_seq.specs.Plan.{Announces, MayFollow}
+use Rattle.pg_seq.specs.History.{plan, planned}
+use Rattle.pg_seq.specs.Standing.{Stands}
+use Rattle.pg_run.specs.Holding.{past_of, format_of}
+use Rattle.pg_run.proofs.HoldLemmas.{may_past, is_first, holds_block}
+use Rattle.pg_run.proofs.engine.Engine.take.Goals as goal
+
+pub keep-requires : goal.keep-requires
+keep-requires g c =
+    let aim = c.requires.0 in
+    let h = c.requires.3.0 in
+    let m = c.requires.3.1 in
+    let past = past_of aim.query (format_of aim) h.events h.written in
+    let b : arc_value c.in_ok-block.block ≡ c.args.block = c.in_ok-block.ensures.ok in
+    let same : arc_value c.in_ok-try_clone.field-0 ≡ c.args.block = c.in_ok-try_clone.ensures ∙ b in
+    let F : BlockData → Type 0 = λ x. MayFollow (terminator aim.query) (plan past) (Announces x) in
+    let M : BlockData → Type 0 = λ x. Stands c.announce.new.self (planned past (Announces x)) in
+    let may = subst F (sym b) (may_past h (Announces c.args.block) m) in (
+      planned past (Announces c.args.block),
+      subst M b (c.in_ok-announce.ensures.ok past h.stands may),
+      is_first h c.args.block m c.in_ok-found.found
+          (c.in_ok-found.ensures.found
+          ∙ (ap (λ x. record { query = (arc_value c.args.self.now.query).text; block = x }) same
+          ∙ ap (λ x. record { query = x; block = c.args.block }) h.same)),
+    )
+
+pub returns : goal.returns
+returns g c = λ aim steps out ready.
+    let h = ready.0 in
+    let m = ready.1 in
+    let past = past_of aim.query (format_of aim) h.events h.written in
+    let b : arc_value c.in_ok-block.block ≡ c.args.block = c.in_ok-block.ensures.ok in
+    let same : arc_value c.in_ok-try_clone.field-0 ≡ c.args.block = c.in_ok-try_clone.ensures ∙ b in
+    let F : BlockData → Type 0 = λ x. MayFollow (terminator aim.query) (plan past) (Announces x) in
+    let M : BlockData → Type 0 = λ x. Stands c.announce.new.self (planned past (Announces x)) in
+    let may = subst F (sym b) (may_past h (Announces c.args.block) m) in
+    let middle = subst M b (c.in_ok-announce.ensures.ok past h.stands may) in
+    let found : c.in_ok-found.found ≡ record { query = aim.query.text; block = c.args.block } =
+    c.in_ok-found.ensures.found
+    ∙ (ap (λ x. record { query = (arc_value c.args.self.now.query).text; block = x }) same
+    ∙ ap (λ x. record { query = x; block = c.args.block }) h.same) in
+    holds_block h _ c.args.block c.in_ok-found.found m h.same h.set h.count found
+    (c.keep.ensures (planned past (Announces c.args.block)) middle (is_first h c.args.block m c.in_ok-found.found found))

@@ -1,0 +1,24 @@
+use Rattle.std.proofs.Common.{◌≡◌, length, drop}
+use Rattle.pg_lines.specs.Cutter.{IsDrained}
+use Rattle.pg_rows.specs.Output.{Left}
+use Rattle.pg_run.specs.Holding.{Aim, stream}
+use Rattle.pg_run.specs.Reading.{InFile}
+use Rattle.pg_run.proofs.reading.read_file.Given as goal
+
+abbrev pub invariant-loop : goal.invariant-loop
+invariant-loop g l =
+    let now = stream (g.W.Sink.taken l.out) (g.W.Sink.failures l.out) in
+    let start = stream (g.W.Sink.taken l.initial.out) (g.W.Sink.failures l.initial.out) in
+    let past = g.F.Files.past l.files in
+    let past' = g.F.Files.past l.initial.files in
+    record {
+      can_next : (goal.iterator-loop g).can_next l.iterator';
+      is_finite : (goal.iterator-loop g).is_finite l.iterator';
+      done : past.done ≡ past'.done;
+      drained : IsDrained l.cutter;
+      size : length l.buffer ≡ length l.initial.buffer;
+      before : drop 1 past.given ≡ drop 1 past'.given;
+      same_list : g.F.Files.list l.files ≡ g.F.Files.list l.initial.files;
+      reads : (aim : Aim) → InFile l.initial.cutter l.initial.engine aim Left past'.given start
+          → InFile l.cutter l.engine aim Left past.given now;
+    }

@@ -1,0 +1,67 @@
+use Rattle.std.proofs.Common.{◌∙◌, Bool, List, inl, inr, refl, sym, ap, subst}
+use Rattle.pg_run.specs.Given.{Given, FilesPast, entries_given}
+use Rattle.pg_run.specs.Outcome.{EndsAtSelected}
+use Rattle.pg_run.specs.Holding.{stream}
+use Rattle.pg_run.specs.Reading.{Goes, Stops}
+use Rattle.pg_run.proofs.HoldLemmas.{err_by}
+use Rattle.pg_run.proofs.RunLemmas.{between_enough, between_more, ends_at}
+use Rattle.pg_run.proofs.running.all_files.Goals as goal
+
+pub returns-then-enough-clause-same_list : goal.returns-then-enough-clause-same_list
+returns-then-enough-clause-same_list g c = c.loop.invariant.same_list
+
+pub returns-then-enough-clause-ok : goal.returns-then-enough-clause-ok
+returns-then-enough-clause-ok g c = λ aim start.
+    let r = c.loop.invariant.rests aim start in
+    let b = r.0.0 in
+    record {
+      rests = r.0;
+      asked = inr (between_enough b (sym (c.enough.ensures aim b.steps _ b.holds) ∙ c.if-enough.true));
+      quiet = r.1;
+    }
+
+pub take_next-requires-clause-rests : goal.take_next-requires-clause-rests
+take_next-requires-clause-rests g c =
+    let r = c.requires.rests in
+    (r.0, (c.loop.invariant.rests r.0 r.1).0)
+
+pub returns-in_err-take_next-clause-err : goal.returns-in_err-take_next-clause-err
+returns-in_err-take_next-clause-err g c = λ aim start.
+    let out' = stream (g.W.Sink.taken c.take_next.new.out) (g.W.Sink.failures c.take_next.new.out) in
+    let told' = stream (g.E.Sink.taken c.take_next.new.faults) (g.E.Sink.failures c.take_next.new.faults) in
+    err_by c.from_residual.result (Stops aim (g.F.Files.past c.take_next.new.files).given out' told')
+    c.in_err-take_next.field-0.0 c.from_residual.ensures.1
+    (c.in_err-take_next.ensures.err aim (c.loop.invariant.rests aim start).0)
+
+pub returns-then-not-branch-clause-ok : goal.returns-then-not-branch-clause-ok
+returns-then-not-branch-clause-ok g c = λ aim start.
+    let r = c.loop.invariant.rests aim start in
+    let G : Bool → Type 0 = λ more. Goes more (g.F.Files.past c.loop.files) (g.F.Files.past c.take_next.new.files) in
+    let goes = subst G c.if-not-branch.true c.in_ok-take_next.ensures.goes in
+    let Q : List Given → Type 0 = λ gs. EndsAtSelected aim.query (entries_given gs) in
+    record {
+      rests = c.in_ok-take_next.ensures.ok aim r.0;
+      asked = inl goes.1;
+      quiet = λ m. subst Q (sym goes.0) (r.1 m);
+    }
+
+pub loop-preserved : goal.loop-preserved
+loop-preserved g c =
+    let i = c.loop.invariant in
+    let ok = c.in_ok-take_next.ensures in
+    let given = (g.F.Files.past c.loop.files).given in
+    let given' = (g.F.Files.past c.take_next.new.files).given in
+    let G : Bool → Type 0 = λ more. Goes more (g.F.Files.past c.loop.files) (g.F.Files.past c.take_next.new.files) in
+    let goes = subst G c.if-not-branch.false ok.goes in
+    record {
+      can_next = tt;
+      is_finite = tt;
+      done = goes.1 ∙ i.done;
+      size = ok.size ∙ i.size;
+      same_list = ok.same_list ∙ i.same_list;
+      rests = λ aim start.
+          let r = i.rests aim start in
+          let b = r.0.0 in
+          let few = sym (c.enough.ensures aim b.steps _ b.holds) ∙ c.if-enough.false in
+          (ok.ok aim r.0, λ quiet. ends_at aim given' given goes.0 (between_more b few quiet));
+    }

@@ -1,0 +1,24 @@
+use Rattle.std.proofs.Common.{◌≡◌, true, false, [], length}
+use Rattle.pg_rows.specs.Output.{is_quiet}
+use Rattle.pg_run.specs.Given.{entries_given}
+use Rattle.pg_run.specs.Outcome.{EndsAtSelected}
+use Rattle.pg_run.specs.Holding.{Aim, stream, format_of}
+use Rattle.pg_run.specs.Reading.{Rests}
+use Rattle.pg_run.proofs.running.all_files.Given as goal
+
+abbrev pub invariant-loop : goal.invariant-loop
+invariant-loop g l =
+    let out = stream (g.W.Sink.taken l.out) (g.W.Sink.failures l.out) in
+    let told = stream (g.E.Sink.taken l.faults) (g.E.Sink.failures l.faults) in
+    let out' = stream (g.W.Sink.taken l.initial.out) (g.W.Sink.failures l.initial.out) in
+    let told' = stream (g.E.Sink.taken l.initial.faults) (g.E.Sink.failures l.initial.faults) in
+    let past = g.F.Files.past l.files in
+    record {
+      can_next : (goal.iterator-loop g).can_next l.iterator';
+      is_finite : (goal.iterator-loop g).is_finite l.iterator';
+      done : past.done ≡ false;
+      size : length l.buffer ≡ length l.initial.buffer;
+      same_list : g.F.Files.list l.files ≡ g.F.Files.list l.initial.files;
+      rests : (aim : Aim) → Rests l.initial.engine aim [] out' told' → Rests l.engine aim past.given out told
+          × (is_quiet (format_of aim).mode ≡ true → EndsAtSelected aim.query (entries_given past.given));
+    }

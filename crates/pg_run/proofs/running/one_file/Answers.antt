@@ -1,0 +1,143 @@
+use Rattle.std.proofs.Common.{◌≡◌, ◌∙◌, ◌-◌, ◌<◌, ◌^◌, ℕ, List, [], ◌∷◌, ◌++◌, Bool, ap, drop, refl, subst, sym, arith}
+use Rattle.pg_walk.specs.declared.item.Cause.TheVariants.{ReadFailed}
+use Rattle.pg_rows.specs.Output.{Left}
+use Rattle.pg_run.specs.Given.{Given, File}
+use Rattle.pg_run.specs.Told.{fault_line, faults_of}
+use Rattle.pg_seq.specs.Plan.{Opens}
+use Rattle.pg_run.specs.Holding.{IsReady, stream}
+use Rattle.pg_run.specs.Reading.{Stops}
+use Rattle.pg_run.specs.declared.fault.RunFault.TheVariants.{OutOfMemory, TooManyFiles}
+use Rattle.pg_run.proofs.HoldLemmas.{err_by}
+use Rattle.pg_run.proofs.RunLemmas.{told_by, told_same, told_failed, told_unfailed, stops_telling, stops_memory}
+use Rattle.pg_run.proofs.RunLemmas.{stops_reading, stops_many, unopened_safe, between_safe, file_started}
+use Rattle.pg_run.proofs.running.one_file.Goals as goal
+
+pub returns-then-engine-ge-MOST_FILES-clause-err : goal.returns-then-engine-ge-MOST_FILES-clause-err
+returns-then-engine-ge-MOST_FILES-clause-err g c = λ aim given name is rests.
+    let out = stream (g.W.Sink.taken c.args.out.now) (g.W.Sink.failures c.args.out.now) in
+    let told = stream (g.E.Sink.taken c.args.faults.now) (g.E.Sink.failures c.args.faults.now) in
+    let P : List Given → Type 0 = λ gs. Stops aim gs out told TooManyFiles in
+    subst P (sym is) (stops_many rests.0 told name c.if-engine-ge-MOST_FILES.true rests.1)
+
+pub open-requires-clause-ready : goal.open-requires-clause-ready
+open-requires-clause-ready g c =
+    let b = c.requires.rests.4.0 in
+    let few : c.args.engine.now.files < 2 ^ 32 - 1 = c.if-engine-ge-MOST_FILES.false in
+    (c.requires.rests.0, b.steps, _, (b.holds, (b.closed, omega (arith, b.holds.count, few))))
+
+pub returns-in_err-cutter-clause-err : goal.returns-in_err-cutter-clause-err
+returns-in_err-cutter-clause-err g c = λ aim given name is rests.
+    let out = stream (g.W.Sink.taken c.args.out.now) (g.W.Sink.failures c.args.out.now) in
+    let told = stream (g.E.Sink.taken c.args.faults.now) (g.E.Sink.failures c.args.faults.now) in
+    let P : List Given → Type 0 = λ gs. Stops aim gs out told OutOfMemory in
+    let more = File name [] Left ∷ given in
+    err_by c.from_residual.result (Stops aim (g.F.Files.past c.args.files.now).given out told) OutOfMemory
+    c.from_residual.ensures.1
+    (subst P (sym is)
+    (stops_memory aim more out told (unopened_safe rests.0 name) (told_same aim given more told rests.1 refl)))
+
+pub read_file-requires-clause-in_file : goal.read_file-requires-clause-in_file
+read_file-requires-clause-in_file g c =
+    let r = c.requires.rests in
+    let b = r.4.0 in
+    let few : c.args.engine.now.files < 2 ^ 32 - 1 = c.if-engine-ge-MOST_FILES.false in
+    let out = stream (g.W.Sink.taken c.args.out.now) (g.W.Sink.failures c.args.out.now) in
+    let ready : IsReady c.args.engine.now r.0 b.steps out (Opens c.name.result.now) =
+    (b.holds, (b.closed, omega (arith, b.holds.count, few))) in
+    let start = file_started b c.in_ok-cutter.cutter c.open.new.self (g.F.Files.past c.args.files.now).given r.2
+    c.name.result.now r.3 c.name.ensures (c.in_ok-cutter.ensures.cutter r.0 b.steps out ready)
+    (c.in_ok-cutter.ensures.ok r.0 b.steps out ready) in
+    (r.0, start)
+
+pub returns-in_err-failed-clause-err : goal.returns-in_err-failed-clause-err
+returns-in_err-failed-clause-err g c = λ aim given name is rests.
+    let b = rests.0 in
+    let few : c.args.engine.now.files < 2 ^ 32 - 1 = c.if-engine-ge-MOST_FILES.false in
+    let out = stream (g.W.Sink.taken c.args.out.now) (g.W.Sink.failures c.args.out.now) in
+    let ready : IsReady c.args.engine.now aim b.steps out (Opens c.name.result.now) =
+    (b.holds, (b.closed, omega (arith, b.holds.count, few))) in
+    let start = file_started b c.in_ok-cutter.cutter c.open.new.self (g.F.Files.past c.args.files.now).given name
+    c.name.result.now is c.name.ensures (c.in_ok-cutter.ensures.cutter aim b.steps out ready)
+    (c.in_ok-cutter.ensures.ok aim b.steps out ready) in
+    let told = stream (g.E.Sink.taken c.args.faults.now) (g.E.Sink.failures c.args.faults.now) in
+    let before = (g.F.Files.past c.args.files.now).given in
+    let given' = (g.F.Files.past c.read_file.new.files).given in
+    let out' = stream (g.W.Sink.taken c.read_file.new.out) (g.W.Sink.failures c.read_file.new.out) in
+    let fault = c.in_err-failed.field-0.0 in
+    err_by c.from_residual-in_err-failed.result (Stops aim given' out' told) fault
+    c.from_residual-in_err-failed.ensures.1
+    (stops_reading aim given given' out' told fault (c.in_err-failed.ensures.err aim start) rests.1
+    (c.in_err-failed.ensures.before ∙ ap (λ gs. drop 1 gs) is))
+
+pub returns-in_err-tell_fault-clause-err : goal.returns-in_err-tell_fault-clause-err
+returns-in_err-tell_fault-clause-err g c = λ aim given name is rests.
+    let b = rests.0 in
+    let few : c.args.engine.now.files < 2 ^ 32 - 1 = c.if-engine-ge-MOST_FILES.false in
+    let out = stream (g.W.Sink.taken c.args.out.now) (g.W.Sink.failures c.args.out.now) in
+    let ready : IsReady c.args.engine.now aim b.steps out (Opens c.name.result.now) =
+    (b.holds, (b.closed, omega (arith, b.holds.count, few))) in
+    let start = file_started b c.in_ok-cutter.cutter c.open.new.self (g.F.Files.past c.args.files.now).given name
+    c.name.result.now is c.name.ensures (c.in_ok-cutter.ensures.cutter aim b.steps out ready)
+    (c.in_ok-cutter.ensures.ok aim b.steps out ready) in
+    let told = stream (g.E.Sink.taken c.args.faults.now) (g.E.Sink.failures c.args.faults.now) in
+    let before = (g.F.Files.past c.args.files.now).given in
+    let given' = (g.F.Files.past c.read_file.new.files).given in
+    let out' = stream (g.W.Sink.taken c.read_file.new.out) (g.W.Sink.failures c.read_file.new.out) in
+    let told' = stream (g.E.Sink.taken c.tell_fault.new.faults) (g.E.Sink.failures c.tell_fault.new.faults) in
+    let after = c.in_ok-failed.ensures.ok aim start in
+    let line = fault_line c.name-then-failed.result.now ReadFailed in
+    let more : faults_of given' ≡ faults_of given ++ line =
+    told_failed given before given' name c.name-then-failed.result.now c.in_ok-failed.failed is
+    c.in_ok-failed.ensures.told c.if-failed.true c.name-then-failed.ensures in
+    let set = ap (λ s. s.silent) after.holds.set in
+    let err = c.in_err-tell_fault.ensures in
+    err_by c.from_residual-in_err-tell_fault.result (Stops aim given' out' told') c.in_err-tell_fault.field-0.0
+    c.from_residual-in_err-tell_fault.ensures.1
+    (subst (Stops aim given' out' told') (sym err.fault)
+    (stops_telling aim given given' out' told told' c.read_file.new.engine.setup.silent line set (between_safe after)
+    rests.1 more err.part err.failure))
+
+pub returns-in_ok-tell_fault-clause-ok : goal.returns-in_ok-tell_fault-clause-ok
+returns-in_ok-tell_fault-clause-ok g c = λ aim given name is rests.
+    let b = rests.0 in
+    let few : c.args.engine.now.files < 2 ^ 32 - 1 = c.if-engine-ge-MOST_FILES.false in
+    let out = stream (g.W.Sink.taken c.args.out.now) (g.W.Sink.failures c.args.out.now) in
+    let ready : IsReady c.args.engine.now aim b.steps out (Opens c.name.result.now) =
+    (b.holds, (b.closed, omega (arith, b.holds.count, few))) in
+    let start = file_started b c.in_ok-cutter.cutter c.open.new.self (g.F.Files.past c.args.files.now).given name
+    c.name.result.now is c.name.ensures (c.in_ok-cutter.ensures.cutter aim b.steps out ready)
+    (c.in_ok-cutter.ensures.ok aim b.steps out ready) in
+    let told = stream (g.E.Sink.taken c.args.faults.now) (g.E.Sink.failures c.args.faults.now) in
+    let before = (g.F.Files.past c.args.files.now).given in
+    let given' = (g.F.Files.past c.read_file.new.files).given in
+    let told' = stream (g.E.Sink.taken c.tell_fault.new.faults) (g.E.Sink.failures c.tell_fault.new.faults) in
+    let after = c.in_ok-failed.ensures.ok aim start in
+    let line = fault_line c.name-then-failed.result.now ReadFailed in
+    let more : faults_of given' ≡ faults_of given ++ line =
+    told_failed given before given' name c.name-then-failed.result.now c.in_ok-failed.failed is
+    c.in_ok-failed.ensures.told c.if-failed.true c.name-then-failed.ensures in
+    let set = ap (λ s. s.silent) after.holds.set in
+    let ok = c.in_ok-tell_fault.ensures in (
+      after,
+      told_by aim given given' told told' c.read_file.new.engine.setup.silent line set rests.1 more ok.ok ok.calm,
+    )
+
+pub returns-else-failed-clause-ok : goal.returns-else-failed-clause-ok
+returns-else-failed-clause-ok g c = λ aim given name is rests.
+    let b = rests.0 in
+    let few : c.args.engine.now.files < 2 ^ 32 - 1 = c.if-engine-ge-MOST_FILES.false in
+    let out = stream (g.W.Sink.taken c.args.out.now) (g.W.Sink.failures c.args.out.now) in
+    let ready : IsReady c.args.engine.now aim b.steps out (Opens c.name.result.now) =
+    (b.holds, (b.closed, omega (arith, b.holds.count, few))) in
+    let start = file_started b c.in_ok-cutter.cutter c.open.new.self (g.F.Files.past c.args.files.now).given name
+    c.name.result.now is c.name.ensures (c.in_ok-cutter.ensures.cutter aim b.steps out ready)
+    (c.in_ok-cutter.ensures.ok aim b.steps out ready) in
+    let told = stream (g.E.Sink.taken c.args.faults.now) (g.E.Sink.failures c.args.faults.now) in
+    let before = (g.F.Files.past c.args.files.now).given in
+    let given' = (g.F.Files.past c.read_file.new.files).given in
+    (
+      c.in_ok-failed.ensures.ok aim start,
+      told_same aim given given' told rests.1
+          (told_unfailed given before given' name c.in_ok-failed.failed is c.in_ok-failed.ensures.told
+          c.if-failed.false),
+    )

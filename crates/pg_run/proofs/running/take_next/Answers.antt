@@ -1,0 +1,58 @@
+use Rattle.std.proofs.Common.{◌≡◌, ◌∙◌, List, ◌∷◌, ap, subst, sym}
+use Rattle.pg_run.specs.Given.{Given, NoFile, FilesPast, newest_name}
+use Rattle.pg_run.specs.Asking.{NextGives}
+use Rattle.pg_run.specs.Holding.{stream}
+use Rattle.pg_run.specs.Reading.{Rests, Stops}
+use Rattle.pg_run.specs.declared.files.Step.{Step}
+use Rattle.pg_run.specs.declared.fault.RunFault.TheVariants.{OutOfMemory}
+use Rattle.pg_run.proofs.HoldLemmas.{err_by}
+use Rattle.pg_run.proofs.RunLemmas.{between_safe, stops_memory}
+use Rattle.pg_run.proofs.running.take_next.Goals as goal
+
+pub returns-in_err-next-clause-err : goal.returns-in_err-next-clause-err
+returns-in_err-next-clause-err g c = λ aim rests.
+    let out = stream (g.W.Sink.taken c.args.out.now) (g.W.Sink.failures c.args.out.now) in
+    let told = stream (g.E.Sink.taken c.args.faults.now) (g.E.Sink.failures c.args.faults.now) in
+    let given = (g.F.Files.past c.args.files.now).given in
+    let P : FilesPast → Type 0 = λ p. Stops aim p.given out told OutOfMemory in
+    err_by c.from_residual.result (Stops aim (g.F.Files.past c.next.new.self).given out told) OutOfMemory
+    c.from_residual.ensures.1
+    (subst P (sym c.in_err-next.ensures.err) (stops_memory aim given out told (between_safe rests.0) rests.1))
+
+pub returns-in_ok-miss-in-Miss-clause-ok : goal.returns-in_ok-miss-in-Miss-clause-ok
+returns-in_ok-miss-in-Miss-clause-ok g c = λ aim rests.
+    let out = stream (g.W.Sink.taken c.args.out.now) (g.W.Sink.failures c.args.out.now) in
+    let told' = stream (g.E.Sink.taken c.miss.new.faults) (g.E.Sink.failures c.miss.new.faults) in
+    let given = (g.F.Files.past c.args.files.now).given in
+    let S : Step → Type 0 = λ s. NextGives s (g.F.Files.past c.args.files.now) (g.F.Files.past c.next.new.self) in
+    let e = subst S c.in-Miss.is c.in_ok-next.ensures.ok in
+    let is : (g.F.Files.past c.next.new.self).given ≡ NoFile e.0 c.in-Miss.cause ∷ given = ap (λ p. p.given) e.1 in
+    let named : c.name.result.now ≡ e.0 = c.name.ensures ∙ ap newest_name is in
+    let P : List Given → Type 0 = λ gs. Rests c.miss.new.engine aim gs out told' in
+    subst P (sym (is ∙ ap (λ n. NoFile n c.in-Miss.cause ∷ given) (sym named)))
+    (c.in_ok-miss-in-Miss.ensures.ok aim given out rests)
+
+pub one_file-requires-clause-rests : goal.one_file-requires-clause-rests
+one_file-requires-clause-rests g c =
+    let r = c.requires.rests in
+    let S : Step → Type 0 = λ s. NextGives s (g.F.Files.past c.args.files.now) (g.F.Files.past c.next.new.self) in
+    let e = subst S c.in-File.is c.in_ok-next.ensures.ok in
+    (r.0, (g.F.Files.past c.args.files.now).given, e.0, ap (λ p. p.given) e.1, r.1)
+
+pub returns-in_err-one_file-in-File-clause-err : goal.returns-in_err-one_file-in-File-clause-err
+returns-in_err-one_file-in-File-clause-err g c = λ aim rests.
+    let out' = stream (g.W.Sink.taken c.one_file.new.out) (g.W.Sink.failures c.one_file.new.out) in
+    let told' = stream (g.E.Sink.taken c.one_file.new.faults) (g.E.Sink.failures c.one_file.new.faults) in
+    let S : Step → Type 0 = λ s. NextGives s (g.F.Files.past c.args.files.now) (g.F.Files.past c.next.new.self) in
+    let e = subst S c.in-File.is c.in_ok-next.ensures.ok in
+    err_by c.from_residual-in_err-one_file-in-File.result
+    (Stops aim (g.F.Files.past c.one_file.new.files).given out' told') c.in_err-one_file-in-File.field-0.0
+    c.from_residual-in_err-one_file-in-File.ensures.1
+    (c.in_err-one_file-in-File.ensures.err aim (g.F.Files.past c.args.files.now).given e.0 (ap (λ p. p.given) e.1)
+    rests)
+
+pub returns-in_ok-one_file-in-File-clause-ok : goal.returns-in_ok-one_file-in-File-clause-ok
+returns-in_ok-one_file-in-File-clause-ok g c = λ aim rests.
+    let S : Step → Type 0 = λ s. NextGives s (g.F.Files.past c.args.files.now) (g.F.Files.past c.next.new.self) in
+    let e = subst S c.in-File.is c.in_ok-next.ensures.ok in
+    c.in_ok-one_file-in-File.ensures.ok aim (g.F.Files.past c.args.files.now).given e.0 (ap (λ p. p.given) e.1) rests

@@ -1,0 +1,76 @@
+-- How an engine holds its sequencer between two calls.
+use Rattle.std.specs.Prelude.{◌≡◌, ℕ, ◌<◌, true, false, List, ◌++◌}
+use Rattle.std.specs.Arc.{arc_value}
+use Rattle.pg_lines.specs.Search.{Search, terminator}
+use Rattle.pg_rows.specs.declared.format.Format.{Format}
+use Rattle.pg_rows.specs.Output.{output}
+use Rattle.pg_rows.specs.Sink.{IsBeginning, TakesPart}
+use Rattle.pg_seq.specs.Plan.{Step, MayFollow, opened, entries_of}
+use Rattle.pg_seq.specs.History.{Past, Event, plan_of, taken_of, all_taken}
+use Rattle.pg_seq.specs.Standing.{Stands}
+use Rattle.pg_run.specs.Outcome.{Stream}
+use Rattle.pg_run.specs.declared.engine.Engine.{Engine}
+use Rattle.pg_run.specs.declared.setup.Setup.{Setup}
+use Rattle.pg_run.specs.declared.fault.RunFault.{RunFault}
+use Rattle.pg_run.specs.declared.fault.RunFault.TheVariants.{Query, OutOfMemory, Sink, TooManyFiles, TooLong}
+
+-- nothing failed so far
+abbrev pub past_of : Search → Format → List Event → List ℕ → Past
+past_of q format events written =
+    record { query = q; format = format; events = events; written = written; failed = false }
+
+abbrev pub stream : List ℕ → ℕ → Stream
+stream taken failures = record { taken = taken; failures = failures }
+
+-- what a run is for, and what its writers had taken before
+pub record Aim : Type 0 where
+  pub query : Search
+  pub setup : Setup
+  pub out : Stream
+  pub told : Stream
+
+abbrev pub format_of : Aim → Format
+format_of aim = aim.setup.format
+
+-- what a plan gives
+abbrev pub output_of : Aim → List Step → List ℕ
+output_of aim steps = output aim.query (format_of aim) (entries_of steps)
+
+abbrev pub May : Aim → List Step → Step → Type 0
+May aim steps step = MayFollow (terminator aim.query) steps step
+
+-- The engine's sequencer has this plan and took all blocks of it. The writer took a beginning of what the plan gives,
+-- and didn't fail.
+pub record Holds {A : Type 0} (engine : Engine A) (aim : Aim) (steps : List Step) (out : Stream) : Type 0 where
+  pub same : (arc_value engine.query).text ≡ aim.query.text
+  pub set : engine.setup ≡ aim.setup
+  pub count : engine.files ≡ opened steps
+  pub events : List Event
+  pub written : List ℕ
+  pub stands : Stands engine.sequencer (past_of aim.query (format_of aim) events written)
+  pub planned : plan_of events ≡ steps
+  pub all : all_taken (taken_of aim.query events) steps ≡ true
+  pub safe : IsBeginning written (output_of aim steps)
+  pub got : out.taken ≡ aim.out.taken ++ written
+  pub calm : out.failures ≡ aim.out.failures
+
+-- it is so, and the step may follow
+abbrev pub IsReady : {A : Type 0} → Engine A → Aim → List Step → Stream → Step → Type 0
+IsReady engine aim steps out step = Holds engine aim steps out × May aim steps step
+
+-- the writer took all of what the plan gives
+abbrev pub IsWritten : Aim → List Step → Stream → Type 0
+IsWritten aim steps out = out.taken ≡ aim.out.taken ++ output_of aim steps
+
+-- why a search broke off
+abbrev pub SearchCause : RunFault → Aim → Stream → Type 0
+SearchCause (Query why) aim out = ⊥
+SearchCause OutOfMemory aim out = Unit {0}
+SearchCause Sink aim out = aim.out.failures < out.failures
+SearchCause TooManyFiles aim out = ⊥
+SearchCause TooLong aim out = ⊥
+
+-- it broke off, and the writer took a beginning of what the plan gives
+pub record Broke (aim : Aim) (steps : List Step) (out : Stream) (fault : RunFault) : Type 0 where
+  pub cause : SearchCause fault aim out
+  pub part : TakesPart (output_of aim steps) aim.out.taken out.taken

@@ -1,0 +1,119 @@
+-- How an engine stands inside a file and between files.
+use Rattle.std.specs.Prelude.{◌≡◌, ◌⊎◌, ℕ, ◌+◌, ◌-◌, ◌<◌, ◌^◌, Bool, true, false, if◌then◌else◌, List, [], ◌∷◌, ◌++◌}
+use Rattle.std.specs.Prelude.{drop}
+use Rattle.std.specs.List.{list_any}
+use Rattle.pg_lines.specs.Search.{terminator}
+use Rattle.pg_lines.specs.Blocks.{joined}
+use Rattle.pg_lines.specs.Cutter.{Fed, Stands as CutterStands}
+use Rattle.pg_lines.specs.declared.cutter.Cutter.{Cutter}
+use Rattle.pg_rows.specs.Output.{Entry, Ending, Ended, Failed, Left, output, is_quiet, has_selected}
+use Rattle.pg_rows.specs.Sink.{TakesPart}
+use Rattle.pg_seq.specs.Plan.{Step, is_open, opened, last_blocks, entries_of}
+use Rattle.pg_run.specs.Given.{Given, FilesPast, entries_given, files_given, IsTooLong}
+use Rattle.pg_run.specs.Told.{told_of}
+use Rattle.pg_run.specs.Outcome.{Stream, GoesOn, EndsAtSelected, AsksToTheEnd}
+use Rattle.pg_run.specs.Cover.{Covers, IsReading}
+use Rattle.pg_run.specs.Holding.{Aim, Holds, format_of}
+use Rattle.pg_run.specs.declared.engine.Engine.{Engine}
+use Rattle.pg_run.specs.declared.fault.RunFault.{RunFault}
+use Rattle.pg_run.specs.declared.fault.RunFault.TheVariants.{Query, OutOfMemory, Sink, TooManyFiles, TooLong}
+use Rattle.pg_run.specs.declared.reading.Came.{Came}
+use Rattle.pg_run.specs.declared.reading.Came.TheVariants.{More, End, Failure}
+
+-- A file is open. The cutter was fed all that it gave, and the blocks that the cutter gave were searched.
+pub record InFile {A : Type 0} (cutter : Cutter A) (engine : Engine A) (aim : Aim) (ending : Ending)
+    (given : List Given) (out : Stream) : Type 0 where
+  pub fed : Fed
+  pub cut : CutterStands cutter fed
+  pub ends : fed.end ≡ terminator aim.query
+  pub longest : fed.longest ≡ aim.setup.line
+  pub steps : List Step
+  pub holds : Holds engine aim steps out
+  pub running : is_open steps ≡ true
+  pub file : fed.file + 1 ≡ opened steps
+  pub number : opened steps ≡ files_given given
+  pub last : last_blocks steps ≡ fed.taken
+  pub name : List ℕ
+  pub rest : List ℕ
+  pub whole : fed.bytes ≡ joined fed.taken ++ rest
+  pub reads : IsReading aim.query (format_of aim) name (joined fed.taken) rest ending (entries_of steps)
+      (entries_given given)
+
+-- The open file was announced and searched whole.
+pub record IsWhole {A : Type 0} (engine : Engine A) (aim : Aim) (ending : Ending) (given : List Given) (out : Stream)
+    : Type 0 where
+  pub steps : List Step
+  pub holds : Holds engine aim steps out
+  pub running : is_open steps ≡ true
+  pub number : opened steps ≡ files_given given
+  pub name : List ℕ
+  pub front : List ℕ
+  pub reads : IsReading aim.query (format_of aim) name front [] ending (entries_of steps) (entries_given given)
+
+-- No file is open, and the plan has all that is needed of what was given.
+pub record Between {A : Type 0} (engine : Engine A) (aim : Aim) (given : List Given) (out : Stream) : Type 0 where
+  pub steps : List Step
+  pub holds : Holds engine aim steps out
+  pub closed : is_open steps ≡ false
+  pub number : opened steps ≡ files_given given
+  pub covers : Covers aim.query (format_of aim) (entries_of steps) (entries_given given)
+
+-- all that was given was told, and nothing failed
+pub record IsTold (aim : Aim) (given : List Given) (told : Stream) : Type 0 where
+  pub all : told.taken ≡ aim.told.taken ++ told_of aim.setup.silent given
+  pub calm : told.failures ≡ aim.told.failures
+
+-- no file is open, and all was told
+abbrev pub Rests : {A : Type 0} → Engine A → Aim → List Given → (out told : Stream) → Type 0
+Rests engine aim given out told = Between engine aim given out × IsTold aim given told
+
+abbrev pub ending_of : Bool → Ending
+ending_of failed = if failed then Failed else Ended
+
+-- how a file stands after a read
+abbrev pub ending_after : Came → Ending
+ending_after More = Left
+ending_after End = Ended
+ending_after Failure = Failed
+
+-- what the writer took is a beginning of the output of all that goes on from what was given
+abbrev pub IsSafe : Aim → List Given → List ℕ → Type 0
+IsSafe aim given taken = (files : List Entry) → GoesOn (entries_given given) files →
+    TakesPart (output aim.query (format_of aim) files) aim.out.taken taken
+
+-- why the reading of a file broke off
+abbrev pub ReadCause : RunFault → Aim → List Given → Stream → Type 0
+ReadCause (Query why) aim given out = ⊥
+ReadCause OutOfMemory aim given out = Unit {0}
+ReadCause Sink aim given out = aim.out.failures < out.failures
+ReadCause TooManyFiles aim given out = 2 ^ 32 - 1 < files_given given
+ReadCause TooLong aim given out = IsTooLong (terminator aim.query) aim.setup.line given
+
+pub record Breaks (aim : Aim) (given : List Given) (out : Stream) (fault : RunFault) : Type 0 where
+  pub cause : ReadCause fault aim given out
+  pub written : IsSafe aim given out.taken
+
+-- why a run broke off
+abbrev pub StopCause : RunFault → Aim → List Given → (out told : Stream) → Type 0
+StopCause (Query why) aim given out told = ⊥
+StopCause OutOfMemory aim given out told = Unit {0}
+StopCause Sink aim given out told = (aim.out.failures < out.failures) ⊎ (aim.told.failures < told.failures)
+StopCause TooManyFiles aim given out told = 2 ^ 32 - 1 < files_given given
+StopCause TooLong aim given out told = IsTooLong (terminator aim.query) aim.setup.line given
+
+-- it broke off, and both writers took beginnings
+pub record Stops (aim : Aim) (given : List Given) (out told : Stream) (fault : RunFault) : Type 0 where
+  pub cause : StopCause fault aim given out told
+  pub written : IsSafe aim given out.taken
+  pub faults : TakesPart (told_of aim.setup.silent given) aim.told.taken told.taken
+
+-- one more name or file was given, or there is no more
+abbrev pub Goes : Bool → FilesPast → FilesPast → Type 0
+Goes true past past' = (drop 1 past'.given ≡ past.given) × (past'.done ≡ past.done)
+Goes false past past' = (past'.given ≡ past.given) × (past'.done ≡ true)
+
+-- all that is needed was given, searched and told
+pub record IsDone {A : Type 0} (engine : Engine A) (aim : Aim) (past : FilesPast) (out told : Stream) : Type 0 where
+  pub rests : Rests engine aim past.given out told
+  pub asked : AsksToTheEnd aim.query aim.setup past
+  pub quiet : is_quiet (format_of aim).mode ≡ true → EndsAtSelected aim.query (entries_given past.given)

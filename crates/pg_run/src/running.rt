@@ -1,0 +1,292 @@
+//! The run over all files.
+ghost use Rattle.std.specs.Prelude.{◌≡◌, ◌<◌, ◌∷◌, ◌++◌, ℕ, List, [], not, true, false, length, drop};
+ghost use Rattle.std.specs.Prelude.{IfOk, OnOk, IfErr, OnErr};
+ghost use Rattle.std.specs.List.{flat_map};
+ghost use Rattle.pg_lines.specs.Search.{Search, Pattern, AreTreesOf, HasItsTrees};
+ghost use Rattle.pg_rows.specs.Output.{Left, when};
+ghost use Rattle.pg_rows.specs.Sink.{TakesPart};
+ghost use Rattle.pg_run.specs.Given.{Given, NoFile, File, nothing_given};
+ghost use Rattle.pg_run.specs.Told.{fault_line};
+ghost use Rattle.pg_run.specs.Outcome.{Stream, IsSearchFor, Finishes, BreaksOff, HasCause};
+ghost use Rattle.pg_run.specs.Holding.{Aim, Holds, stream};
+ghost use Rattle.pg_run.specs.Reading.{Rests, Stops, Goes, IsDone};
+ghost use Rattle.pg_run.specs.declared.fault.RunFault.TheVariants.{Sink as SinkFailed};
+
+use crate::engine::Engine;
+use crate::fault::RunFault;
+use crate::files::{Files, Step};
+use crate::reading::read_file;
+use crate::setup::Setup;
+use crate::telling::tell;
+use pg_lines::{Query, QueryText};
+use pg_rows::{Sink, WriteError};
+use pg_walk::Cause;
+use std::alloc::{AllocError, Allocator};
+use std::sync::Wait;
+
+/// How many bytes are asked for in one read. They are cut into blocks and searched while they are
+/// near.
+const READ_SIZE: usize = 65_536;
+
+/// So many files get a number.
+const MOST_FILES: u32 = u32::MAX;
+
+/// A buffer of zeros.
+fn zeros<A: Allocator + Copy>(alloc: A, size: usize) -> Result<Vec<u8, A>, AllocError>
+    ensures { IfOk result (λ buffer. length buffer.items ≡ size) }
+{
+    vec![in alloc; 0u8; size]
+}
+
+/// An engine for a text, and the buffer that it reads by.
+fn begin<A: Allocator + Copy>(
+    alloc: A,
+    text: QueryText<A>,
+    setup: Setup,
+) -> Result<(Engine<A>, Vec<u8, A>), RunFault>
+    ensures holds { IfOk result (λ both. (aim : Aim) → HasItsTrees aim.query → aim.query.text ≡ text →
+        aim.setup ≡ setup → Holds both.0 aim [] aim.out) }
+    ensures trees { OnOk result ((trees : List Pattern) × AreTreesOf text trees) }
+    ensures room { IfOk result (λ both. 0 < length both.1.items) }
+    ensures err { IfErr result (λ fault. (out : Stream) → (told : Stream) →
+        HasCause fault text setup nothing_given out out told told) }
+{
+    let query = Query::compile(alloc, text)?;
+    let engine = Engine::new(alloc, query, setup)?;
+    let buffer = zeros(alloc, READ_SIZE)?;
+    Ok((engine, buffer))
+}
+
+/// The parts of a fault line, in their order.
+fn line_of<'a>(
+    program: &'a [u8],
+    name: &'a [u8],
+    mark: &'a [u8],
+    cause: &'a [u8],
+    end: &'a [u8],
+) -> [&'a [u8]; 5]
+    ensures { flat_map (λ part. part.now) result ≡ program.now ++ name.now ++ mark.now ++ cause.now ++ end.now }
+{
+    [program, name, mark, cause, end]
+}
+
+/// Tells why a name gives no file, or that its reading failed.
+fn tell_fault<A: Allocator, E: Sink>(
+    alloc: A,
+    silent: bool,
+    name: &[u8],
+    cause: Cause,
+    faults: &mut E,
+) -> Result<(), RunFault>
+    ensures ok { OnOk result (E.taken faults.new
+        ≡ E.taken faults.old ++ when (not silent) (fault_line name.now cause)) }
+    ensures calm { OnOk result (E.failures faults.new ≡ E.failures faults.old) }
+    ensures fault { IfErr result (λ fault. fault ≡ SinkFailed) }
+    ensures part { OnErr result (TakesPart (when (not silent) (fault_line name.now cause))
+        (E.taken faults.old) (E.taken faults.new)) }
+    ensures failure { OnErr result (E.failures faults.old < E.failures faults.new) }
+{
+    if silent {
+        return Ok(());
+    }
+    let parts = line_of(
+        "pargrep: ".as_bytes(),
+        name,
+        ": ".as_bytes(),
+        cause.text().as_bytes(),
+        "\n".as_bytes(),
+    );
+    match tell(alloc, &parts, faults) {
+        Ok(()) => Ok(()),
+        Err(WriteError) => Err(RunFault::Sink),
+    }
+}
+
+/// Tells and notes a name that gives no file.
+fn miss<A: Allocator + Copy, E: Sink>(
+    engine: &mut Engine<A>,
+    name: &[u8],
+    cause: Cause,
+    faults: &mut E,
+) -> Result<(), RunFault>
+    requires { (aim : Aim) × (given : List Given) × (out : Stream)
+        × Rests engine.old aim given out (stream (E.taken faults.old) (E.failures faults.old)) }
+    ensures ok { (aim : Aim) → (given : List Given) → (out : Stream) →
+        Rests engine.old aim given out (stream (E.taken faults.old) (E.failures faults.old)) →
+        OnOk result (Rests engine.new aim (NoFile name.now cause ∷ given) out
+        (stream (E.taken faults.new) (E.failures faults.new))) }
+    ensures err { (aim : Aim) → (given : List Given) → (out : Stream) →
+        Rests engine.old aim given out (stream (E.taken faults.old) (E.failures faults.old)) →
+        IfErr result (Stops aim (NoFile name.now cause ∷ given) out
+        (stream (E.taken faults.new) (E.failures faults.new))) }
+{
+    tell_fault(engine.alloc, engine.setup.silent, name, cause, faults)?;
+    engine.miss(name)?;
+    Ok(())
+}
+
+/// Reads and searches a file that was just given, and tells where its reading failed.
+fn one_file<R: Wait, A: Allocator + Copy, F: Files, W: Sink, E: Sink>(
+    rt: &R,
+    engine: &mut Engine<A>,
+    files: &mut F,
+    buffer: &mut [u8],
+    out: &mut W,
+    faults: &mut E,
+) -> Result<(), RunFault>
+    requires room { 0 < length buffer.old }
+    requires rests { (aim : Aim) × (given : List Given) × (name : List ℕ)
+        × ((F.past files.old).given ≡ File name [] Left ∷ given)
+        × Rests engine.old aim given (stream (W.taken out.old) (W.failures out.old))
+        (stream (E.taken faults.old) (E.failures faults.old)) }
+    ensures done { (F.past files.new).done ≡ (F.past files.old).done }
+    ensures before { drop 1 (F.past files.new).given ≡ drop 1 (F.past files.old).given }
+    ensures same_list { F.list files.new ≡ F.list files.old }
+    ensures size { length buffer.new ≡ length buffer.old }
+    ensures ok { (aim : Aim) → (given : List Given) → (name : List ℕ) →
+        (F.past files.old).given ≡ File name [] Left ∷ given →
+        Rests engine.old aim given (stream (W.taken out.old) (W.failures out.old))
+        (stream (E.taken faults.old) (E.failures faults.old)) →
+        OnOk result (Rests engine.new aim (F.past files.new).given (stream (W.taken out.new) (W.failures out.new))
+        (stream (E.taken faults.new) (E.failures faults.new))) }
+    ensures err { (aim : Aim) → (given : List Given) → (name : List ℕ) →
+        (F.past files.old).given ≡ File name [] Left ∷ given →
+        Rests engine.old aim given (stream (W.taken out.old) (W.failures out.old))
+        (stream (E.taken faults.old) (E.failures faults.old)) →
+        IfErr result (Stops aim (F.past files.new).given (stream (W.taken out.new) (W.failures out.new))
+        (stream (E.taken faults.new) (E.failures faults.new))) }
+{
+    if engine.files >= MOST_FILES {
+        return Err(RunFault::TooManyFiles);
+    }
+    let cutter = engine.open(files.name())?;
+    let failed = read_file(rt, cutter, engine, files, buffer, out)?;
+    if failed {
+        let silent = engine.setup.silent;
+        tell_fault(
+            engine.alloc,
+            silent,
+            files.name(),
+            Cause::ReadFailed,
+            faults,
+        )?;
+    }
+    Ok(())
+}
+
+/// Takes what comes next. `false` says that there is no more.
+fn take_next<R: Wait, A: Allocator + Copy, F: Files, W: Sink, E: Sink>(
+    rt: &R,
+    engine: &mut Engine<A>,
+    files: &mut F,
+    buffer: &mut [u8],
+    out: &mut W,
+    faults: &mut E,
+) -> Result<bool, RunFault>
+    requires room { 0 < length buffer.old }
+    requires done { (F.past files.old).done ≡ false }
+    requires rests { (aim : Aim) × Rests engine.old aim (F.past files.old).given
+        (stream (W.taken out.old) (W.failures out.old)) (stream (E.taken faults.old) (E.failures faults.old)) }
+    ensures goes { IfOk result (λ more. Goes more (F.past files.old) (F.past files.new)) }
+    ensures same_list { F.list files.new ≡ F.list files.old }
+    ensures size { length buffer.new ≡ length buffer.old }
+    ensures ok { (aim : Aim) → Rests engine.old aim (F.past files.old).given
+        (stream (W.taken out.old) (W.failures out.old)) (stream (E.taken faults.old) (E.failures faults.old)) →
+        OnOk result (Rests engine.new aim (F.past files.new).given (stream (W.taken out.new) (W.failures out.new))
+        (stream (E.taken faults.new) (E.failures faults.new))) }
+    ensures err { (aim : Aim) → Rests engine.old aim (F.past files.old).given
+        (stream (W.taken out.old) (W.failures out.old)) (stream (E.taken faults.old) (E.failures faults.old)) →
+        IfErr result (Stops aim (F.past files.new).given (stream (W.taken out.new) (W.failures out.new))
+        (stream (E.taken faults.new) (E.failures faults.new))) }
+{
+    match files.next()? {
+        Step::Done => Ok(false),
+        Step::Miss(cause) => {
+            miss(engine, files.name(), cause, faults)?;
+            Ok(true)
+        }
+        Step::File => {
+            one_file(rt, engine, files, buffer, out, faults)?;
+            Ok(true)
+        }
+    }
+}
+
+/// Takes all files, or with -q those up to the first one with a selected line.
+fn all_files<R: Wait, A: Allocator + Copy, F: Files, W: Sink, E: Sink>(
+    rt: &R,
+    engine: &mut Engine<A>,
+    files: &mut F,
+    buffer: &mut [u8],
+    out: &mut W,
+    faults: &mut E,
+) -> Result<(), RunFault>
+    requires room { 0 < length buffer.old }
+    requires new { F.past files.old ≡ nothing_given }
+    requires rests { (aim : Aim) × Rests engine.old aim [] (stream (W.taken out.old) (W.failures out.old))
+        (stream (E.taken faults.old) (E.failures faults.old)) }
+    ensures same_list { F.list files.new ≡ F.list files.old }
+    ensures ok { (aim : Aim) → Rests engine.old aim [] (stream (W.taken out.old) (W.failures out.old))
+        (stream (E.taken faults.old) (E.failures faults.old)) →
+        OnOk result (IsDone engine.new aim (F.past files.new) (stream (W.taken out.new) (W.failures out.new))
+        (stream (E.taken faults.new) (E.failures faults.new))) }
+    ensures err { (aim : Aim) → Rests engine.old aim [] (stream (W.taken out.old) (W.failures out.old))
+        (stream (E.taken faults.old) (E.failures faults.old)) →
+        IfErr result (Stops aim (F.past files.new).given (stream (W.taken out.new) (W.failures out.new))
+        (stream (E.taken faults.new) (E.failures faults.new))) }
+{
+    for _ in rt.forever() {
+        if engine.enough() {
+            return Ok(());
+        }
+        if !take_next(rt, engine, files, buffer, out, faults)? {
+            return Ok(());
+        }
+    }
+    unreachable!()
+}
+
+/// Searches files one after the other, as far as that is needed, and writes what the setup's format
+/// asks for to `out`. `faults` gets a line for each name that gives no file and each file whose reading
+/// failed, at once; the others go on. The answer is the exit status: 0 where a line was selected, 1
+/// where none was, and 2 where a name was missed or a reading failed; but with -q 0 where a line was
+/// selected. Nothing was asked of the files yet.
+///
+/// A file isn't read further, and with -q no further one is asked for, once nothing that stands behind
+/// changes what is written. Not more of a file is held than a block and what was read ahead of it.
+///
+/// # Errors
+///
+/// `Query` where a pattern is no expression or all ask for too many states; then nothing was asked for
+/// or written. `Sink` where a write failed or took no byte, `TooLong` where a line is longer than the
+/// setup allows or a file has more than 2^62 bytes, `TooManyFiles` at file number 2^32, and
+/// `OutOfMemory` where a request for memory was refused. `out` and `faults` got beginnings of what they
+/// would have got.
+pub fn run<R: Wait, A: Allocator + Copy, F: Files, W: Sink, E: Sink>(
+    rt: &R,
+    alloc: A,
+    text: QueryText<A>,
+    setup: Setup,
+    files: &mut F,
+    out: &mut W,
+    faults: &mut E,
+) -> Result<u8, RunFault>
+    requires { F.past files.old ≡ nothing_given }
+    ensures ok { IfOk result (λ status. (q : Search) × IsSearchFor text q
+        × Finishes q setup (F.past files.new)
+        (record { taken = W.taken out.old; failures = W.failures out.old })
+        (record { taken = W.taken out.new; failures = W.failures out.new })
+        (record { taken = E.taken faults.old; failures = E.failures faults.old })
+        (record { taken = E.taken faults.new; failures = E.failures faults.new }) status) }
+    ensures err { IfErr result (BreaksOff text setup (F.past files.new)
+        (record { taken = W.taken out.old; failures = W.failures out.old })
+        (record { taken = W.taken out.new; failures = W.failures out.new })
+        (record { taken = E.taken faults.old; failures = E.failures faults.old })
+        (record { taken = E.taken faults.new; failures = E.failures faults.new })) }
+    ensures same_list { F.list files.new ≡ F.list files.old }
+{
+    let (mut engine, mut buffer) = begin(alloc, text, setup)?;
+    all_files(rt, &mut engine, files, &mut buffer, out, faults)?;
+    let status = engine.finish(out)?;
+    Ok(status)
+}
