@@ -40,6 +40,7 @@ refuse: toolchain
 # Times the program beside GNU grep.
 bench: all
 	bench/search.sh $(program)
+	bench/tree.sh $(program)
 	bench/memory.sh $(program)
 
 # Times crates that the program doesn't use yet.

@@ -80,6 +80,7 @@ for text in zzqq water the e; do
 done
 compare "$file" -nF water
 compare "$file" -cF the
+compare "$file" -FC2 water
 compare "$file" -FC3 water
 compare "$file" -nFA1 zzqq
 rounds=3

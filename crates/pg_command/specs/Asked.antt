@@ -3,6 +3,8 @@ use Rattle.std.specs.Prelude.{ℕ, Bool, true, false, not, ◌&&◌, ◌||◌, L
 use Rattle.pg_syntax.specs.Slices.{bytes_of}
 use Rattle.pg_lines.specs.Search.{Kind, Patterns, Split, ByLine, SearchText}
 use Rattle.pg_rows.specs.declared.format.Format.{Format}
+use Rattle.pg_rows.specs.declared.format.Mode.{Mode}
+use Rattle.pg_rows.specs.declared.format.Mode.TheVariants.{Rows, Count, List as Names, Quiet}
 use Rattle.pg_words.specs.declared.options.Naming.{Naming}
 use Rattle.pg_words.specs.declared.options.Naming.TheVariants.{Always, Never, BySeveral}
 use Rattle.pg_words.specs.declared.request.Request.{Request}
@@ -61,6 +63,13 @@ text_with asked lists = record {
 -- then those of all -f files, which are their lines.
 abbrev pub text_of_query : Asked → List (List ℕ) → SearchText
 text_of_query asked contents = text_with asked (map ByLine contents)
+
+-- the file that rows go to isn't searched itself; a count, a name or nothing may go there
+abbrev pub spares_output : Mode → Bool
+spares_output Rows = true
+spares_output Count = false
+spares_output Names = false
+spares_output Quiet = false
 
 abbrev pub are_several : List (List ℕ) → Bool
 are_several [] = false

@@ -51,7 +51,7 @@ fn read_file<'a, S: Store>(
     ensures fault { IfErr result (StopsAt path.now (S.past store.old) (S.past store.new)) }
 {
     let name = shown_name(path);
-    match store.open(path) {
+    match store.open(path, false) {
         Ok(()) => {}
         Err(OpenFault::Refused(cause)) => return Err(Fault::Unreadable(name, cause)),
         Err(OpenFault::OutOfMemory) => return Err(Fault::OutOfMemory),

@@ -3,14 +3,14 @@ ghost use Rattle.std.specs.Prelude.{◌≡◌, ◌≤◌, ◌^◌, false, map, I
 ghost use Rattle.pg_syntax.specs.Slices.{bytes_of};
 ghost use Rattle.pg_walk.specs.Items.{found};
 ghost use Rattle.pg_walk.specs.Walks.{FilesOf};
-ghost use Rattle.pg_command.specs.Asked.{asked_of, has_names};
+ghost use Rattle.pg_command.specs.Asked.{asked_of, has_names, spares_output};
 ghost use Rattle.pg_command.specs.Answers.{Answers, Fails, IsSetup, Succeeds};
 
 use crate::fault::{Fault, report};
 use crate::names::{is_directory, operands_of};
 use crate::patterns::read_patterns;
 use crate::query::text_of;
-use pg_rows::{Format, Sink};
+use pg_rows::{Format, Mode, Sink};
 use pg_run::{Listed, Setup, Store, run};
 use pg_walk::{FileTree, walk};
 use pg_words::{Naming, Request};
@@ -106,13 +106,21 @@ fn list_files<T: FileTree, S: Store + Drop>(
     ensures store { files.new.store ≡ files.old.store }
     ensures walked { T.tells tree.now → OnOk result (FilesOf (T.answers tree.now) (asked_of request.now).files
         request.now.recursive (map found files.new.items.items)) }
+    ensures spares { OnOk result (files.new.spares_output ≡ spares_output request.now.format.mode) }
     ensures setup { IfOk result (IsSetup (T.tells tree.now) (T.answers tree.now) (asked_of request.now)) }
 {
     let directory = is_directory(tree, request.files.as_slice())?;
     let operands = operands_of(alloc, request.files.as_slice())?;
     let items = walk(alloc, tree, operands.as_slice(), request.recursive)?;
-    files.list(items);
+    files.list(items, spares_output(request.format.mode));
     Ok(setup_of(request, directory))
+}
+
+/// Whether the output grows with the lines that are read, so that it isn't searched itself.
+fn spares_output(mode: Mode) -> bool
+    ensures { result ≡ spares_output mode }
+{
+    mode == Mode::Rows
 }
 
 /// How files are searched, where it is known whether the one operand is a directory.

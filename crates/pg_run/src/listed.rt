@@ -17,6 +17,8 @@ pub struct Listed<S: Store + Drop> {
     pub asked: usize,
     /// It was told that there is no more.
     pub done: bool,
+    /// The file that the output goes to isn't opened.
+    pub spares_output: bool,
     /// Where files are opened. It opened those that were asked for, and none since.
     pub store: S,
     ghost within: { asked ≤ length items.items },
@@ -36,19 +38,23 @@ impl<S: Store + Drop> Listed<S> {
             items: Vec::new(alloc),
             asked: 0,
             done: false,
+            spares_output: false,
             store,
         }
     }
 
-    /// From now on these items are given.
-    pub fn list(&mut self, items: Vec<Item>)
+    /// From now on these items are given, where `spares_output` is true without the file that the
+    /// output goes to.
+    pub fn list(&mut self, items: Vec<Item>, spares_output: bool)
         ensures items { self.new.items ≡ items }
         ensures fresh { (self.new.asked ≡ 0) × (self.new.done ≡ false) }
         ensures store { self.new.store ≡ self.old.store }
+        ensures spares { self.new.spares_output ≡ spares_output }
     {
         self.items = items;
         self.asked = 0;
         self.done = false;
+        self.spares_output = spares_output;
     }
 }
 
@@ -66,7 +72,7 @@ impl<S: Store + Drop> Files for Listed<S> {
             self.done = true;
             return Ok(Step::Done);
         };
-        let step = reach(&mut self.store, item)?;
+        let step = reach(&mut self.store, item, self.spares_output)?;
         self.asked += 1;
         Ok(step)
     }
@@ -84,13 +90,13 @@ impl<S: Store + Drop> Files for Listed<S> {
 }
 
 /// Opens an item's file. A fault is there already.
-fn reach<S: Store>(store: &mut S, item: &Item) -> Result<Step, AllocError>
+fn reach<S: Store>(store: &mut S, item: &Item, spares_output: bool) -> Result<Step, AllocError>
     ensures ok { IfOk result (λ step. Reaches (found item.now) step (S.past store.old) (S.past store.new)) }
     ensures err { OnErr result (S.past store.new ≡ S.past store.old) }
 {
     match item {
         Item::Fault(_, cause) => Ok(Step::Miss(*cause)),
-        Item::File(path) => match store.open(path.as_str()) {
+        Item::File(path) => match store.open(path.as_str(), spares_output) {
             Ok(()) => Ok(Step::File),
             Err(OpenFault::Refused(cause)) => Ok(Step::Miss(cause)),
             Err(OpenFault::OutOfMemory) => Err(AllocError),

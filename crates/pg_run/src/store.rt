@@ -21,13 +21,15 @@ pub trait Store {
     /// What the files gave, by their paths.
     ghost past: { Self → List Given };
 
-    /// Makes the file at a path, or for `-` standard input, the one that `read` reads.
+    /// Makes the file at a path, or for `-` standard input, the one that `read` reads. Where
+    /// `spares_output` is true, the file that the output goes to is refused, for it would be read on as
+    /// it grows.
     ///
     /// # Errors
     ///
     /// `Refused` where the path gives no file, with its cause, and `OutOfMemory` where a request for
     /// memory was refused. Then nothing has changed.
-    fn open(&mut self, path: &str) -> Result<(), OpenFault>
+    fn open(&mut self, path: &str, spares_output: bool) -> Result<(), OpenFault>
         ensures { Opens path.now (past self.old) (past self.new) result };
 
     /// Reads the next bytes of the open file into the front of a buffer that isn't empty.

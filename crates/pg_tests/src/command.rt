@@ -5,7 +5,7 @@ use pg_command::{Fault, Told, command, report};
 use pg_rows::MemSink;
 use pg_run::{Ending, Listed, MemStore};
 use pg_walk::{FileKind, MemTree, Node};
-use pg_words::{Request, Task, Words, read_words};
+use pg_words::{Task, Words, read_words};
 use std::alloc::{AllocError, Global};
 use std::sync::Wait;
 use std::test::Fail;
@@ -127,16 +127,17 @@ const BLOCK_SIZES: &str = "\
 /// The size of blocks that words give in a search for one text in standard input.
 fn block_asked(alloc: Global, words: &Words<'_>) -> Option<u32> {
     match read_words(alloc, words) {
-        Ok(Task::Search(request)) if request.texts.len() == 1 && is_standard_input(&request) => {
-            Some(request.block)
+        Ok(Task::Search(request)) => {
+            let files = &request.files;
+            if request.texts.len() == 1 && files.len() == 1 && files[0] == "-" {
+                Some(request.block)
+            } else {
+                None
+            }
         }
-        _ => None,
+        Ok(_text) => None,
+        Err(_fault) => None,
     }
-}
-
-/// Whether standard input alone is searched.
-fn is_standard_input(request: &Request<'_>) -> bool {
-    request.files.len() == 1 && request.files[0] == "-"
 }
 
 /// The same for the words of a text.

@@ -13,7 +13,7 @@ fn reads<S: Store>(store: &mut S, wanted: &str) -> bool {
 fn is_right<S: Store>(store: &mut S, row: &str) -> bool {
     let (path, rest) = cut(row, " ");
     let (opened, wanted) = cut(rest, " ");
-    let is_open = store.open(path).is_ok();
+    let is_open = store.open(path, true).is_ok();
     is_open == (opened == "opens") && reads(store, wanted)
 }
 

@@ -83,7 +83,7 @@ fn list(alloc: Global, case: Case<'_>, is_alone: bool) -> Result<Listed<MemStore
         items.push(Item::Fault(String::from_str(alloc, "d")?, Cause::CannotList))?;
     }
     let mut files = Listed::new(alloc, store);
-    files.list(items);
+    files.list(items, true);
     Ok(files)
 }
 
