@@ -29,9 +29,7 @@ fn main(rt: HostRuntime) -> ExitCode {
     let mut files = Listed::new(alloc, DiskStore::new(&rt));
     let mut out = Out::new(buffered);
     let words = words.as_slice();
-    ExitCode::from(run(
-        &rt, alloc, words, &tree, &mut files, &mut out, &mut err,
-    ))
+    ExitCode::from(run(&rt, alloc, words, &tree, &mut files, &mut out, &mut err))
 }
 
 /// The words behind the program's name.

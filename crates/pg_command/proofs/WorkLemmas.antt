@@ -20,16 +20,16 @@ abbrev pub work_of : (tells : Type 0) (tree : Tree) (asked : Asked) (past betwee
     → Work tells tree asked past past'
 work_of tells tree asked past between past' contents read listed items walked setup is_setup first count done fresh opened
     same = record {
-  contents = contents;
-  between = between;
-  read = read;
-  items = items;
-  walked = λ t. subst (FilesOf tree asked.files asked.recursive) (sym (ap (λ s. s.items) same)) (walked t);
-  setup = setup;
-  is_setup = is_setup;
-  count = count;
-  done = done;
-  opened = opened;
-  earlier = ap (λ s. s.earlier) same
-      ∙ ap (λ n. drop (length (file_paths (asked_for n listed))) between) fresh;
-}
+      contents = contents;
+      between = between;
+      read = read;
+      items = items;
+      walked = λ t. subst (FilesOf tree asked.files asked.recursive) (sym (ap (λ s. s.items) same)) (walked t);
+      setup = setup;
+      is_setup = is_setup;
+      count = count;
+      done = done;
+      opened = opened;
+      earlier = ap (λ s. s.earlier) same
+          ∙ ap (λ n. drop (length (file_paths (asked_for n listed))) between) fresh;
+    }

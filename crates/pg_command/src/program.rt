@@ -69,12 +69,7 @@ fn refuse<E: Sink>(alloc: Global, fault: WordsFault, err: &mut E) -> Result<u8, 
 }
 
 /// Writes a text that was asked for.
-fn show<W: Sink, E: Sink>(
-    alloc: Global,
-    text: &str,
-    out: &mut W,
-    err: &mut E,
-) -> Result<u8, Told>
+fn show<W: Sink, E: Sink>(alloc: Global, text: &str, out: &mut W, err: &mut E) -> Result<u8, Told>
     ensures { IsShown text.now
         (record { taken = W.taken out.old; failures = W.failures out.old })
         (record { taken = W.taken out.new; failures = W.failures out.new })

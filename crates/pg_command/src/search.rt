@@ -126,7 +126,8 @@ fn spares_output(mode: Mode) -> bool
 /// How files are searched, where it is known whether the one operand is a directory.
 fn setup_of(request: &Request<'_>, directory: bool) -> Setup
     ensures format { result.format ≡ record request.now.format {
-        names = has_names request.now.names (bytes_of request.now.files.items) request.now.recursive directory } }
+      names = has_names request.now.names (bytes_of request.now.files.items) request.now.recursive directory;
+    } }
     ensures silent { result.silent ≡ request.now.silent }
     ensures line { result.line ≡ 2 ^ 30 }
 {

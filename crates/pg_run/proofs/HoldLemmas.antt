@@ -1,9 +1,9 @@
 -- An engine's sequencer, one call further.
-use Rattle.std.proofs.Common.{◌≡◌, ℕ, ◌+◌, ◌<◌, ◌≤◌, Bool, true, false, ◌&&◌, ◌||◌, ◌==◌, Option, Some, None, Result, Ok, Err}
+use Rattle.std.proofs.Common.{◌≡◌, ℕ, ◌<◌, Bool, true, false, ◌&&◌, ◌||◌, ◌==◌, Option, Some, None, Result, Ok, Err}
 use Rattle.std.proofs.Common.{List, [], ◌∷◌, ◌++◌, length, refl, sym, ap, ◌∙◌, subst, arith, append_assoc}
 use Rattle.std.specs.List.{Contains, list_all}
 use Rattle.std.specs.Option.{IsSome, MatchOption}
-use Rattle.std.specs.Result.{IsErrAnd, IsErrOf, IfErr, OnOk, OnErr, IfOk}
+use Rattle.std.specs.Result.{IsErrAnd, IsErrOf, IfErr}
 use Rattle.std.specs.Arc.{arc_value}
 use Rattle.std.proofs.lemmas.Bool.{eq-eqb, false≢true}
 use Rattle.std.proofs.lemmas.List.{append-nil, get_or_at, length_push}
@@ -18,7 +18,7 @@ use Rattle.pg_seq.specs.declared.answers.Arrival.TheVariants.{Taken}
 use Rattle.pg_seq.specs.declared.answers.SinkFault.{SinkFault}
 use Rattle.pg_seq.specs.declared.answers.SinkFault.TheVariants.{WriteFailed, Failed}
 use Rattle.pg_seq.specs.Plan.{Step, Announces, MayFollow, IsShaped, IsPlan, announced, opened, entries_of, is_open}
-use Rattle.pg_seq.specs.History.{Past, Planned, Arrived, start, planned, arrived, plan, plan_of, taken_of, taken_after}
+use Rattle.pg_seq.specs.History.{Past, Planned, Arrived, start, planned, arrived, plan, taken_of, taken_after}
 use Rattle.pg_seq.specs.History.{is_taken, all_taken, answer, answer_after, front_of, front_after, handed, handed_after}
 use Rattle.pg_seq.specs.History.{IsComplete, status_of}
 use Rattle.pg_seq.specs.Standing.{Stands, Drained, drained}
@@ -30,7 +30,6 @@ use Rattle.pg_seq.proofs.KeyLemmas.{next_not_taken}
 use Rattle.pg_run.specs.Outcome.{Stream}
 use Rattle.pg_run.specs.Holding.{Aim, Holds, May, Broke, IsWritten, past_of, format_of, output_of}
 use Rattle.pg_run.specs.declared.engine.Engine.{Engine}
-use Rattle.pg_run.specs.declared.fault.RunFault.{RunFault}
 use Rattle.pg_run.specs.declared.fault.RunFault.TheVariants.{OutOfMemory, Sink}
 
 -- Keys of blocks that were taken.

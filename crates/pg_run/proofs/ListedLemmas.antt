@@ -112,7 +112,7 @@ module _ {E : Type 0} (view : E → Found) (items : List E) (asked : ℕ) (item 
   more =
       asked_more (map view items) asked (view item) (subst (λ n. asked < n) (sym (length-map items view)) within)
       ∙ ap (λ x. x ∷ asked_for asked (map view items))
-        (get_or-map view items asked item (view item) within ∙ ap view (sym is))
+      (get_or-map view items asked item (view item) within ∙ ap view (sym is))
 
   abbrev so_far : List Found
   so_far = asked_for asked (map view items)

@@ -1,25 +1,24 @@
 -- An open file, one call further.
-use Rattle.std.proofs.Common.{◌≡◌, ◌⊎◌, inl, inr, ℕ, zero, suc, ◌+◌, ◌-◌, ◌<◌, ◌≤◌, ◌^◌, Bool, true, false, Some, None}
-use Rattle.std.proofs.Common.{Ok, Err, Result, List, [], ◌∷◌, ◌++◌, length, take, drop, refl, sym, ap, ◌∙◌, subst, arith}
+use Rattle.std.proofs.Common.{◌≡◌, ◌⊎◌, inl, inr, ℕ, zero, suc, ◌+◌, ◌<◌, ◌≤◌, ◌^◌, Bool, true, false, Some, None}
+use Rattle.std.proofs.Common.{List, [], ◌∷◌, ◌++◌, length, take, drop, refl, sym, ap, ◌∙◌, subst, arith}
 use Rattle.std.proofs.Common.{append_assoc, length-append}
 use Rattle.std.specs.List.{Any}
-use Rattle.std.specs.Result.{IsErrOf}
 use Rattle.std.proofs.lemmas.List.{append-nil}
 use Rattle.pg_lines.specs.Search.{terminator}
 use Rattle.pg_lines.specs.Lines.{lines, AreShort, AreWhole}
 use Rattle.pg_lines.specs.Blocks.{BlockData, joined}
-use Rattle.pg_lines.specs.Cutter.{Fed, fed as fed_after, handed as handed_out, Stands as CutterStands, IsNextBlock}
+use Rattle.pg_lines.specs.Cutter.{fed as fed_after, handed as handed_out, Stands as CutterStands, IsNextBlock}
 use Rattle.pg_lines.specs.Cutter.{AreAllBlocks, HasLongLine}
 use Rattle.pg_lines.specs.declared.cutter.Cutter.{Cutter}
 use Rattle.pg_lines.specs.declared.cutter.CutFault.{CutFault}
 use Rattle.pg_lines.specs.declared.cutter.CutFault.TheVariants.{OutOfMemory as NoMemory, LineTooLong, FileTooLong}
 use Rattle.pg_lines.proofs.CutLaws.{cut_is_cutting}
 use Rattle.pg_walk.specs.declared.item.Cause.TheVariants.{ReadFailed}
-use Rattle.pg_rows.specs.Output.{Entry, Missed, Read, Ending, Running, Ended, Failed, Left, output, is_failed, when}
+use Rattle.pg_rows.specs.Output.{Entry, Read, Ending, Running, Ended, Failed, Left, output, is_failed, when}
 use Rattle.pg_rows.specs.Enough.{is_enough}
 use Rattle.pg_rows.specs.Sink.{IsBeginning, TakesPart}
 use Rattle.pg_rows.proofs.SinkLemmas.{takes_longer}
-use Rattle.pg_seq.specs.Plan.{Step, Announces, Ends, entries_of, last_blocks}
+use Rattle.pg_seq.specs.Plan.{Step, Announces, Ends, entries_of}
 use Rattle.pg_seq.proofs.CursorLemmas.{joined_push}
 use Rattle.pg_run.specs.Given.{Given, NoFile, File, entries_given, files_given, gave_bytes, gave_end, is_reading}
 use Rattle.pg_run.specs.Given.{newest_name, IsTooLong}
@@ -34,7 +33,7 @@ use Rattle.pg_run.specs.declared.engine.Engine.{Engine}
 use Rattle.pg_run.specs.declared.fault.RunFault.{RunFault}
 use Rattle.pg_run.specs.declared.fault.RunFault.TheVariants.{Query, OutOfMemory, Sink, TooManyFiles, TooLong}
 use Rattle.pg_run.proofs.CoverLemmas.{follows_begins}
-use Rattle.pg_run.proofs.StepLemmas.{reads, read_ends, leaves, announces, ends, closed_left, bytes_given, end_given}
+use Rattle.pg_run.proofs.StepLemmas.{reads, read_ends, leaves, announces, ends, bytes_given, end_given}
 use Rattle.pg_run.proofs.HoldLemmas.{room_of}
 use Rattle.pg_run.proofs.BlockLemmas.{AllEnd, Gives, given_end, gives_next, gives_last, numbered_last, short_part}
 

@@ -1,5 +1,6 @@
 -- Between files, and a whole run.
-use Rattle.std.proofs.Common.{◌≡◌, ◌⊎◌, inl, inr, ℕ, ◌+◌, ◌-◌, ◌<◌, ◌≤◌, ◌^◌, Bool, true, false, not, cond, List, [], ◌∷◌, ◌++◌}
+use Rattle.std.proofs.Common.{◌≡◌, inl, inr, ℕ, ◌+◌, ◌-◌, ◌<◌, ◌≤◌, ◌^◌, Bool, true, false, not, cond, List, [], ◌∷◌}
+use Rattle.std.proofs.Common.{◌++◌}
 use Rattle.std.proofs.Common.{drop, refl, sym, ap, ◌∙◌, subst, arith, append_assoc}
 use Rattle.std.specs.List.{list_any}
 use Rattle.std.proofs.lemmas.Bool.{false≢true}
@@ -12,13 +13,12 @@ use Rattle.pg_walk.specs.declared.item.Cause.TheVariants.{ReadFailed}
 use Rattle.pg_rows.specs.Output.{Entry, Missed, Read, Running, Left, output, status, when, is_quiet, has_selected}
 use Rattle.pg_rows.specs.Enough.{is_enough, file_suffices}
 use Rattle.pg_rows.specs.Sink.{TakesPart}
-use Rattle.pg_rows.proofs.SinkLemmas.{takes_longer}
 use Rattle.pg_seq.specs.Plan.{Step, Opens, Announces, Ends, Misses, IsShaped, is_open, entries_of, with_end}
 use Rattle.pg_seq.proofs.BeginLemmas.{begins_trans}
-use Rattle.pg_run.specs.Given.{Given, NoFile, File, FilesPast, entries_given, files_given, newest_name, nothing_given}
+use Rattle.pg_run.specs.Given.{Given, NoFile, File, FilesPast, entries_given, newest_name, nothing_given}
 use Rattle.pg_run.specs.Told.{faults_of, fault_of, fault_line, told_of}
 use Rattle.pg_run.specs.Outcome.{Stream, EndsAtSelected, Finishes, BreaksOff, HasCause}
-use Rattle.pg_run.specs.Holding.{Aim, Holds, Broke, IsWritten, format_of, output_of}
+use Rattle.pg_run.specs.Holding.{Aim, Holds, Broke, IsWritten, format_of}
 use Rattle.pg_run.specs.Reading.{InFile, Between, IsTold, Breaks, IsSafe, ReadCause, StopCause, Stops, IsDone}
 use Rattle.pg_run.specs.declared.engine.Engine.{Engine}
 use Rattle.pg_run.specs.declared.setup.Setup.{Setup}
@@ -82,7 +82,7 @@ part_told aim given given' told told' silent line set t e part =
       (
         p.1.0,
         append_assoc front p.0 p.1.0
-        ∙ (ap (λ xs. front ++ xs) p.1.1 ∙ sym (more_told aim.setup.silent given given' line e)),
+            ∙ (ap (λ xs. front ++ xs) p.1.1 ∙ sym (more_told aim.setup.silent given given' line e)),
       ),
       p.2 ∙ (ap (λ xs. xs ++ p.0) t.all ∙ append_assoc aim.told.taken front p.0),
     )
@@ -211,7 +211,8 @@ module _ {A : Type 0} {engine : Engine A} {aim : Aim} {given : List Given} {out 
   unmissed_safe name cause =
       safe_by aim h.steps (NoFile name cause ∷ given) out.taken (h.holds.written, h.holds.safe, h.holds.got)
       (λ files on.
-      follows_begins aim.query (format_of aim) (Missed name ∷ entries_of h.steps) (entries_given (NoFile name cause ∷ given)) files
+      follows_begins aim.query (format_of aim) (Missed name ∷ entries_of h.steps)
+      (entries_given (NoFile name cause ∷ given)) files
       (room_of h.holds)
       (inl (misses aim.query (format_of aim) name (entries_of h.steps) (entries_given given) h.covers)) on)
 
@@ -263,7 +264,8 @@ module _ {A : Type 0} {engine : Engine A} {aim : Aim} {given : List Given} {out 
   stops_many told name e t = record {
     cause = omega (arith, e, h.holds.count, h.number);
     written = unopened_safe name;
-    faults = told_all aim (File name [] Left ∷ given) told (told_same aim given (File name [] Left ∷ given) told t refl);
+    faults =
+        told_all aim (File name [] Left ∷ given) told (told_same aim given (File name [] Left ∷ given) told t refl);
   }
 
   -- between files it is enough only with -q and a selected line
@@ -352,7 +354,8 @@ module _ {A : Type 0} {engine : Engine A} {aim : Aim} {past : FilesPast} {out to
 abbrev pub aim_for : SearchText → List Pattern → Setup → (out told : Stream) → Aim
 aim_for text trees setup out told = record { query = search_of text trees; setup = setup; out = out; told = told }
 
-pub breaks_off : (text : SearchText) (setup : Setup) (past : FilesPast) (out out' told told' : Stream) (fault : RunFault)
+pub breaks_off : (text : SearchText) (setup : Setup) (past : FilesPast) (out out' told told' : Stream)
+    (fault : RunFault)
     → (trees : List Pattern) × AreTreesOf text trees
     → ((trees : List Pattern) → AreTreesOf text trees
     → Stops (aim_for text trees setup out told) past.given out' told' fault)

@@ -1,5 +1,6 @@
 -- What follows what was given, step by step.
-use Rattle.std.proofs.Common.{◌≡◌, ◌⊎◌, inl, inr, ℕ, Bool, true, false, cond, List, [], ◌∷◌, ◌++◌, refl, sym, ap, ◌∙◌, subst, append_assoc}
+use Rattle.std.proofs.Common.{◌≡◌, ◌⊎◌, inl, inr, ℕ, Bool, true, false, cond, List, [], ◌∷◌, ◌++◌, refl, sym, ap, ◌∙◌}
+use Rattle.std.proofs.Common.{subst, append_assoc}
 use Rattle.std.proofs.lemmas.Bool.{false≢true}
 use Rattle.std.proofs.lemmas.List.{append-nil}
 use Rattle.pg_lines.specs.Search.{Search, terminator}
@@ -29,7 +30,8 @@ closed_left false = refl
 
 module _ (q : Search) (format : Format) where
   -- a file was given, and is opened
-  pub opens : (name : List ℕ) (planned given : List Entry) → Covers q format planned given → IsReading q format name [] [] Left (Read name [] Running ∷ planned) (Read name [] Left ∷ given)
+  pub opens : (name : List ℕ) (planned given : List Entry) → Covers q format planned given
+      → IsReading q format name [] [] Left (Read name [] Running ∷ planned) (Read name [] Left ∷ given)
   opens name planned given h = record {
     earlier = planned;
     before = given;
@@ -41,7 +43,8 @@ module _ (q : Search) (format : Format) where
   }
 
   -- a name that gives no file is missed
-  pub misses : (name : List ℕ) (planned given : List Entry) → Covers q format planned given → Covers q format (Missed name ∷ planned) (Missed name ∷ given)
+  pub misses : (name : List ℕ) (planned given : List Entry) → Covers q format planned given
+      → Covers q format (Missed name ∷ planned) (Missed name ∷ given)
   misses name planned given h = (refl, h)
 
   module _ (name front rest : List ℕ) (planned given : List Entry) where
@@ -53,19 +56,22 @@ module _ (q : Search) (format : Format) where
         go (inr n) = absurd (false≢true (sym n.1))
 
     -- a read gives more
-    pub reads : (more : List ℕ) → IsReading q format name front rest Left planned given → IsReading q format name front (rest ++ more) Left planned (with_bytes more given)
+    pub reads : (more : List ℕ) → IsReading q format name front rest Left planned given
+        → IsReading q format name front (rest ++ more) Left planned (with_bytes more given)
     reads more h = record {
       earlier = h.earlier;
       before = h.before;
       planned_is = h.planned_is;
-      given_is = ap (with_bytes more) h.given_is ∙ ap (λ xs. Read name xs Left ∷ h.before) (append_assoc front rest more);
+      given_is =
+          ap (with_bytes more) h.given_is ∙ ap (λ xs. Read name xs Left ∷ h.before) (append_assoc front rest more);
       stopped = h.stopped;
       seam = inl (left_whole h);
       covers = h.covers;
     }
 
     -- a read meets the end, or fails
-    pub read_ends : (failed : Bool) → IsReading q format name front rest Left planned given → IsReading q format name front rest (closed_by failed) planned (with_end failed given)
+    pub read_ends : (failed : Bool) → IsReading q format name front rest Left planned given
+        → IsReading q format name front rest (closed_by failed) planned (with_end failed given)
     read_ends failed h = record {
       earlier = h.earlier;
       before = h.before;
@@ -77,7 +83,8 @@ module _ (q : Search) (format : Format) where
     }
 
     -- the file isn't read again, where that is enough
-    pub leaves : IsReading q format name front rest Left planned given → is_enough q format planned ≡ true → Covers q format (with_end false planned) given
+    pub leaves : IsReading q format name front rest Left planned given → is_enough q format planned ≡ true
+        → Covers q format (with_end false planned) given
     leaves h e =
         let P : List Entry → Type 0 = λ ps. Covers q format (with_end false ps) given in
         let Q : List Entry → Type 0 = λ gs. Covers q format (Read name front Ended ∷ h.earlier) gs in
@@ -92,8 +99,10 @@ module _ (q : Search) (format : Format) where
         ))
 
   -- the next bytes are announced: whole lines, or what is left once the file can't go on
-  pub announces : (name front block rest : List ℕ) (ending : Ending) (planned given : List Entry) → AreWhole (terminator q) block ⊎ ((rest ≡ []) × (is_left ending ≡ false))
-      → IsReading q format name front (block ++ rest) ending planned given → IsReading q format name (front ++ block) rest ending (with_bytes block planned) given
+  pub announces : (name front block rest : List ℕ) (ending : Ending) (planned given : List Entry)
+      → AreWhole (terminator q) block ⊎ ((rest ≡ []) × (is_left ending ≡ false))
+      → IsReading q format name front (block ++ rest) ending planned given
+      → IsReading q format name (front ++ block) rest ending (with_bytes block planned) given
   announces name front block rest ending planned given s h = record {
     earlier = h.earlier;
     before = h.before;
@@ -104,30 +113,38 @@ module _ (q : Search) (format : Format) where
     covers = h.covers;
   }
     where
-      go : AreWhole (terminator q) front ⊎ ((block ++ rest ≡ []) × (is_left ending ≡ false)) → AreWhole (terminator q) block ⊎ ((rest ≡ []) × (is_left ending ≡ false)) → AreWhole (terminator q) (front ++ block) ⊎ ((rest ≡ []) × (is_left ending ≡ false))
+      go : AreWhole (terminator q) front ⊎ ((block ++ rest ≡ []) × (is_left ending ≡ false))
+          → AreWhole (terminator q) block ⊎ ((rest ≡ []) × (is_left ending ≡ false))
+          → AreWhole (terminator q) (front ++ block) ⊎ ((rest ≡ []) × (is_left ending ≡ false))
       go (inl f) (inl b) = inl (whole_append (terminator q) front block f b)
       go (inl f) (inr n) = inr n
       go (inr n) t = inr ((append_none block rest n.0).1, n.1)
 
   -- the file has ended, and all of it was announced
-  pub ends : (name front : List ℕ) (failed : Bool) (planned given : List Entry) → IsReading q format name front [] (closed_by failed) planned given → Covers q format (with_end failed planned) given
+  pub ends : (name front : List ℕ) (failed : Bool) (planned given : List Entry)
+      → IsReading q format name front [] (closed_by failed) planned given
+      → Covers q format (with_end failed planned) given
   ends name front failed planned given h =
       let P : List Entry → Type 0 = λ ps. Covers q format (with_end failed ps) given in
       let Q : List Entry → Type 0 = λ gs. Covers q format (Read name front (closed_by failed) ∷ h.earlier) gs in
-      let is : given ≡ Read name front (closed_by failed) ∷ h.before = h.given_is ∙ ap (λ xs. Read name xs (closed_by failed) ∷ h.before) (append-nil front) in
+      let is : given ≡ Read name front (closed_by failed) ∷ h.before =
+      h.given_is ∙ ap (λ xs. Read name xs (closed_by failed) ∷ h.before) (append-nil front) in
       subst P (sym h.planned_is) (subst Q (sym is) (entry failed, h.covers))
     where
-      entry : (failed : Bool) → IsEntryOf q format h.earlier (Read name front (closed_by failed)) (Read name front (closed_by failed))
+      entry : (failed : Bool) → IsEntryOf q format h.earlier (Read name front (closed_by failed))
+          (Read name front (closed_by failed))
       entry true = refl
       entry false = inl refl
 
 -- what was given, with causes and without
-pub bytes_given : (more : List ℕ) (given : List Given) → entries_given (gave_bytes more given) ≡ with_bytes more (entries_given given)
+pub bytes_given : (more : List ℕ) (given : List Given) → entries_given (gave_bytes more given) ≡ with_bytes more
+    (entries_given given)
 bytes_given more [] = refl
 bytes_given more (NoFile name cause ∷ given) = refl
 bytes_given more (File name bytes ending ∷ given) = refl
 
-pub end_given : (failed : Bool) (given : List Given) → entries_given (gave_end failed given) ≡ with_end failed (entries_given given)
+pub end_given : (failed : Bool) (given : List Given) → entries_given (gave_end failed given) ≡ with_end failed
+    (entries_given given)
 end_given failed [] = refl
 end_given failed (NoFile name cause ∷ given) = refl
 end_given failed (File name bytes ending ∷ given) = refl

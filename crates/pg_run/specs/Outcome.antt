@@ -1,5 +1,5 @@
 -- What a run did, by what its files gave.
-use Rattle.std.specs.Prelude.{◌≡◌, ◌⊎◌, ℕ, ◌<◌, ◌≤◌, ◌-◌, ◌^◌, true, false, List, [], ◌∷◌, ◌++◌}
+use Rattle.std.specs.Prelude.{◌≡◌, ◌⊎◌, ℕ, ◌<◌, ◌-◌, ◌^◌, true, false, List, [], ◌∷◌, ◌++◌}
 use Rattle.std.specs.List.{list_any}
 use Rattle.pg_lines.specs.Search.{Search, SearchText, Pattern, AreTreesOf, HasItsTrees, search_of, terminator_of}
 use Rattle.pg_lines.specs.Queries.{IsQueryFault}

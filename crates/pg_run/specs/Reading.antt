@@ -1,12 +1,11 @@
 -- How an engine stands inside a file and between files.
-use Rattle.std.specs.Prelude.{◌≡◌, ◌⊎◌, ℕ, ◌+◌, ◌-◌, ◌<◌, ◌^◌, Bool, true, false, if◌then◌else◌, List, [], ◌∷◌, ◌++◌}
+use Rattle.std.specs.Prelude.{◌≡◌, ◌⊎◌, ℕ, ◌+◌, ◌-◌, ◌<◌, ◌^◌, Bool, true, false, if◌then◌else◌, List, [], ◌++◌}
 use Rattle.std.specs.Prelude.{drop}
-use Rattle.std.specs.List.{list_any}
 use Rattle.pg_lines.specs.Search.{terminator}
 use Rattle.pg_lines.specs.Blocks.{joined}
 use Rattle.pg_lines.specs.Cutter.{Fed, Stands as CutterStands}
 use Rattle.pg_lines.specs.declared.cutter.Cutter.{Cutter}
-use Rattle.pg_rows.specs.Output.{Entry, Ending, Ended, Failed, Left, output, is_quiet, has_selected}
+use Rattle.pg_rows.specs.Output.{Entry, Ending, Ended, Failed, Left, output, is_quiet}
 use Rattle.pg_rows.specs.Sink.{TakesPart}
 use Rattle.pg_seq.specs.Plan.{Step, is_open, opened, last_blocks, entries_of}
 use Rattle.pg_run.specs.Given.{Given, FilesPast, entries_given, files_given, IsTooLong}

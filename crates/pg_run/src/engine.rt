@@ -53,8 +53,10 @@ impl<A: Allocator + Copy> Engine<A> {
 
     /// Searches the open file's next block, and gives the sequencer its result.
     fn take(&mut self, block: Block<A>) -> Result<(), AllocError>
-        requires { (aim : Aim) × (steps : List Step) × (out : Stream) × IsReady self.old aim steps out (Announces block) }
-        ensures { (aim : Aim) → (steps : List Step) → (out : Stream) → IsReady self.old aim steps out (Announces block) →
+        requires { (aim : Aim) × (steps : List Step) × (out : Stream)
+            × IsReady self.old aim steps out (Announces block) }
+        ensures { (aim : Aim) → (steps : List Step) → (out : Stream) →
+            IsReady self.old aim steps out (Announces block) →
             OnOk result (Holds self.new aim (Announces block ∷ steps) out) }
     {
         let block = Arc::new(self.alloc, block)?;
@@ -126,8 +128,10 @@ impl<A: Allocator + Copy> Engine<A> {
 
     /// Notes a name that gives no file.
     pub(crate) fn miss(&mut self, name: &[u8]) -> Result<(), AllocError>
-        requires { (aim : Aim) × (steps : List Step) × (out : Stream) × IsReady self.old aim steps out (Misses name.now) }
-        ensures { (aim : Aim) → (steps : List Step) → (out : Stream) → IsReady self.old aim steps out (Misses name.now) →
+        requires { (aim : Aim) × (steps : List Step) × (out : Stream)
+            × IsReady self.old aim steps out (Misses name.now) }
+        ensures { (aim : Aim) → (steps : List Step) → (out : Stream) →
+            IsReady self.old aim steps out (Misses name.now) →
             OnOk result (Holds self.new aim (Misses name.now ∷ steps) out) }
     {
         self.sequencer.miss(name)

@@ -22,8 +22,7 @@ pub struct Listed<S: Store + Drop> {
     /// Where files are opened. It opened those that were asked for, and none since.
     pub store: S,
     ghost within: { asked ≤ length items.items },
-    ghost are_opened: {
-        newest_paths (length (file_paths (asked_for asked (map found items.items)))) (S.past store)
+    ghost are_opened: { newest_paths (length (file_paths (asked_for asked (map found items.items)))) (S.past store)
         ≡ file_paths (asked_for asked (map found items.items)) },
 }
 

@@ -71,7 +71,7 @@ fn line_of<'a>(
 }
 
 /// Tells why a name gives no file, or that its reading failed.
-fn tell_fault<A: Allocator, E: Sink>(
+fn tell_fault<A: Allocator + Copy, E: Sink>(
     alloc: A,
     silent: bool,
     name: &[u8],

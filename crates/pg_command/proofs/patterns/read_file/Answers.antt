@@ -17,8 +17,13 @@ pub returns-clause-fault : goal.returns-clause-fault
 returns-clause-fault g c =
     let path = c.args.path.now in
     let past = g.S.Store.past c.args.store.now in
-    let bytes = c.read_to_end.new.bytes.items in
-    (c.shown_name-name.ensures,
-    inr (refl, bytes, subst (λ end. IsReadBy path past end bytes (g.S.Store.past c.read_to_end.new.store)) c.in-Err.is
-    (c.in_ok-read_to_end.ensures path past
-    (c.in-Ok.ensures ∙ ap (λ bytes. File path bytes Left ∷ past) (sym c.new-bytes.ensures.items)))))
+    let bytes = c.read_to_end.new.bytes.items in (
+      c.shown_name-name.ensures,
+      inr (
+        refl,
+        bytes,
+        subst (λ end. IsReadBy path past end bytes (g.S.Store.past c.read_to_end.new.store)) c.in-Err.is
+            (c.in_ok-read_to_end.ensures path past
+            (c.in-Ok.ensures ∙ ap (λ bytes. File path bytes Left ∷ past) (sym c.new-bytes.ensures.items))),
+      ),
+    )

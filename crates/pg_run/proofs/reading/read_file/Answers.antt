@@ -114,7 +114,8 @@ returns-in_err-finish_file-in-Failure-clause-err g c = λ aim start.
     let ok = c.in_ok-read_once.ensures in
     let given = (g.F.Files.past c.read_once.new.files).given in
     let out' = stream (g.W.Sink.taken c.read_once.new.out) (g.W.Sink.failures c.read_once.new.out) in
-    let last = stream (g.W.Sink.taken c.finish_file-in-Failure.new.out) (g.W.Sink.failures c.finish_file-in-Failure.new.out) in
+    let last =
+    stream (g.W.Sink.taken c.finish_file-in-Failure.new.out) (g.W.Sink.failures c.finish_file-in-Failure.new.out) in
     let P : Came → Type 0 =
     λ x. InFile c.read_once.new.cutter c.read_once.new.engine aim (ending_after x) given out' in
     err_by c.from_residual-in_err-finish_file-in-Failure.result (Breaks aim given last)

@@ -1,4 +1,4 @@
-use Rattle.std.proofs.Common.{◌≡◌, ◌∙◌, ◌-◌, ◌<◌, ◌^◌, ℕ, List, [], ◌∷◌, ◌++◌, Bool, ap, drop, refl, subst, sym, arith}
+use Rattle.std.proofs.Common.{◌≡◌, ◌∙◌, ◌-◌, ◌<◌, ◌^◌, List, [], ◌∷◌, ◌++◌, ap, drop, refl, subst, sym, arith}
 use Rattle.pg_walk.specs.declared.item.Cause.TheVariants.{ReadFailed}
 use Rattle.pg_rows.specs.Output.{Left}
 use Rattle.pg_run.specs.Given.{Given, File}
@@ -134,8 +134,7 @@ returns-else-failed-clause-ok g c = λ aim given name is rests.
     (c.in_ok-cutter.ensures.ok aim b.steps out ready) in
     let told = stream (g.E.Sink.taken c.args.faults.now) (g.E.Sink.failures c.args.faults.now) in
     let before = (g.F.Files.past c.args.files.now).given in
-    let given' = (g.F.Files.past c.read_file.new.files).given in
-    (
+    let given' = (g.F.Files.past c.read_file.new.files).given in (
       c.in_ok-failed.ensures.ok aim start,
       told_same aim given given' told rests.1
           (told_unfailed given before given' name c.in_ok-failed.failed is c.in_ok-failed.ensures.told

@@ -1,4 +1,3 @@
-use Rattle.std.proofs.Common.{refl}
 use Rattle.pg_run.specs.Holding.{Broke, stream, past_of, format_of}
 use Rattle.pg_run.specs.declared.fault.RunFault.TheVariants.{Sink}
 use Rattle.pg_run.proofs.HoldLemmas.{holds_drained, broke_drained, err_by}

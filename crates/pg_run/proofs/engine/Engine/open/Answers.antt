@@ -1,7 +1,7 @@
 use Rattle.std.proofs.Common.{◌+◌, ap}
 use Rattle.pg_seq.specs.Plan.{Opens}
 use Rattle.pg_run.specs.Holding.{past_of, format_of}
-use Rattle.pg_run.proofs.HoldLemmas.{holds_step, may_past}
+use Rattle.pg_run.proofs.HoldLemmas.{holds_step}
 use Rattle.pg_run.proofs.engine.Engine.open.Goals as goal
 
 pub returns-clause-ok : goal.returns-clause-ok

@@ -44,4 +44,5 @@ returns g c = λ aim steps out ready.
     ∙ (ap (λ x. record { query = (arc_value c.args.self.now.query).text; block = x }) same
     ∙ ap (λ x. record { query = x; block = c.args.block }) h.same) in
     holds_block h _ c.args.block c.in_ok-found.found m h.same h.set h.count found
-    (c.keep.ensures (planned past (Announces c.args.block)) middle (is_first h c.args.block m c.in_ok-found.found found))
+    (c.keep.ensures (planned past (Announces c.args.block)) middle
+    (is_first h c.args.block m c.in_ok-found.found found))

@@ -13,7 +13,7 @@ returns g c =
     let one_less : asked - 1 + 1 ≡ asked = omega (arith, c.if-self-eq0.false) in
     c.as_bytes.ensures.value ∙ c.shown_name.ensures ∙ ap shown_name c.path_in.ensures
     ∙ next_name found items (asked - 1) c.index.result.now
-      (omega (arith, c.if-self-eq0.false, c.args.self.now.within)) c.index.ensures past
-      (subst (λ n. newest_paths (length (file_paths (asked_for n (map found items)))) past
-      ≡ file_paths (asked_for n (map found items))) (sym one_less) c.args.self.now.are_opened)
+    (omega (arith, c.if-self-eq0.false, c.args.self.now.within)) c.index.ensures past
+    (subst (λ n. newest_paths (length (file_paths (asked_for n (map found items)))) past
+    ≡ file_paths (asked_for n (map found items))) (sym one_less) c.args.self.now.are_opened)
     ∙ ap (λ n. newest_name (given_by (asked_for n (map found items)) past)) one_less
