@@ -1,5 +1,5 @@
 -- What was searched.
-use Rattle.std.proofs.Common.{◌≡◌, ◌∙◌, ℕ, Bool, List, [], length, drop, ap, refl, subst, sym}
+use Rattle.std.proofs.Common.{◌≡◌, ◌∙◌, ℕ, Bool, List, length, drop, ap, subst, sym}
 use Rattle.pg_walk.specs.Answers.{Answers as Tree}
 use Rattle.pg_walk.specs.Items.{Found}
 use Rattle.pg_walk.specs.Walks.{FilesOf}

@@ -1,5 +1,5 @@
 -- What a command line asks for, as plain data.
-use Rattle.std.specs.Prelude.{ℕ, Bool, true, false, not, ◌&&◌, ◌||◌, List, [], ◌∷◌, map, ◌++◌, Option, Some, None}
+use Rattle.std.specs.Prelude.{ℕ, Bool, true, false, ◌&&◌, ◌||◌, List, [], ◌∷◌, map, ◌++◌}
 use Rattle.pg_syntax.specs.Slices.{bytes_of}
 use Rattle.pg_lines.specs.Search.{Kind, Patterns, Split, ByLine, SearchText}
 use Rattle.pg_rows.specs.declared.format.Format.{Format}

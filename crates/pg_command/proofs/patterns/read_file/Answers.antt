@@ -1,4 +1,4 @@
-use Rattle.std.proofs.Common.{◌≡◌, ◌∙◌, ◌∷◌, List, ap, inr, refl, subst, sym}
+use Rattle.std.proofs.Common.{◌∙◌, ◌∷◌, ap, inr, refl, subst, sym}
 use Rattle.pg_rows.specs.Output.{Left}
 use Rattle.pg_run.specs.Given.{File}
 use Rattle.pg_command.specs.Reading.{IsReadBy}

@@ -1,4 +1,4 @@
-use Rattle.std.proofs.Common.{◌≡◌, ◌∙◌, map, ap, inr, refl, subst, sym}
+use Rattle.std.proofs.Common.{◌∙◌, map, ap, inr, refl, subst, sym}
 use Rattle.pg_syntax.specs.Slices.{bytes_of}
 use Rattle.pg_walk.specs.Items.{found}
 use Rattle.pg_run.specs.Listed.{files_past, sources}
