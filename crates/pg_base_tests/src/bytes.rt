@@ -1,5 +1,5 @@
 //! Sets of bytes and the classes.
-use crate::rows::halves;
+use crate::rows::assert_rows;
 use crate::sets::show_set;
 use pg_bytes::{ByteSet, class};
 use std::alloc::{AllocError, Global};
@@ -31,17 +31,17 @@ fn shown(alloc: Global, set: &ByteSet) -> Result<String, AllocError> {
     Ok(out)
 }
 
+/// The class of a name.
+fn class_of(alloc: Global, name: &str, _rest: &str) -> Result<String, Fail> {
+    match class(name.as_bytes()) {
+        Some(set) => Ok(shown(alloc, &set)?),
+        None => Ok(String::from_str(alloc, "none")?),
+    }
+}
+
 #[test]
 fn classes(rt: HostRuntime) -> Result<(), Fail> {
-    for row in CLASSES.lines() {
-        let (name, want) = halves(row);
-        let got = match class(name.as_bytes()) {
-            Some(set) => shown(rt.alloc(), &set)?,
-            None => String::from_str(rt.alloc(), "none")?,
-        };
-        assert_eq!(rt; got.as_str(), want, "{name}");
-    }
-    Ok(())
+    assert_rows(&rt, rt.alloc(), CLASSES, class_of)
 }
 
 /// A set with `a`, 0, 63, 64, and 250 to 255.
@@ -55,16 +55,24 @@ fn some_set() -> ByteSet {
     set
 }
 
+/// What is made of the set, and the ranges of what that gives.
+const SETS: &str = "itself => {0,63-64,97,250-255,}
+complement => {1-62,65-96,98-249,}
+close_case => {0,63-65,97,250-255,}";
+
+fn changed(alloc: Global, change: &str, _rest: &str) -> Result<String, Fail> {
+    let set = some_set();
+    let set = match change {
+        "complement" => set.complement(),
+        "close_case" => set.close_case(),
+        _ => set,
+    };
+    Ok(shown(alloc, &set)?)
+}
+
 #[test]
 fn sets(rt: HostRuntime) -> Result<(), Fail> {
-    let set = some_set();
-    let got = shown(rt.alloc(), &set)?;
-    assert_eq!(rt; got.as_str(), "{0,63-64,97,250-255,}");
-    let got = shown(rt.alloc(), &set.complement())?;
-    assert_eq!(rt; got.as_str(), "{1-62,65-96,98-249,}");
-    let got = shown(rt.alloc(), &set.close_case())?;
-    assert_eq!(rt; got.as_str(), "{0,63-65,97,250-255,}");
-    Ok(())
+    assert_rows(&rt, rt.alloc(), SETS, changed)
 }
 
 #[test]

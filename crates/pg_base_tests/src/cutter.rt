@@ -2,7 +2,7 @@
 ghost use Rattle.std.specs.Prelude.{OnOk};
 ghost use Rattle.pg_lines.specs.Cutter.{IsDrained};
 
-use crate::rows::{bytes_of, cut, halves, show_bytes};
+use crate::rows::{assert_rows, bytes_of, show_bytes};
 use pg_lines::{Block, Cutter};
 use std::alloc::{AllocError, Global};
 use std::test::Fail;
@@ -65,18 +65,16 @@ fn show_cut(alloc: Global, end: u8, pieces: &str) -> Result<String, AllocError> 
     if let Some(block) = cutter.finish() {
         show_block(&block, &mut out)?;
     }
-    Ok(out)
+    String::from_str(alloc, out.as_str().trim_end())
+}
+
+fn blocks_of(alloc: Global, end: &str, pieces: &str) -> Result<String, Fail> {
+    let end = bytes_of(alloc, end)?;
+    let end = end.first().ok_or("a terminator")?;
+    Ok(show_cut(alloc, *end, pieces)?)
 }
 
 #[test]
 fn a_file_is_cut_at_its_terminator(rt: HostRuntime) -> Result<(), Fail> {
-    for row in CUT.lines() {
-        let (asked, want) = halves(row);
-        let (end, pieces) = cut(asked, " ");
-        let end = bytes_of(rt.alloc(), end)?;
-        let end = end.first().ok_or("a terminator")?;
-        let got = show_cut(rt.alloc(), *end, pieces)?;
-        assert_eq!(rt; got.as_str().trim_end(), want, "{row}");
-    }
-    Ok(())
+    assert_rows(&rt, rt.alloc(), CUT, blocks_of)
 }

@@ -1,11 +1,11 @@
 //! The search of a block.
-ghost use Rattle.std.specs.Prelude.{◌≤◌, length, IfOk};
+ghost use Rattle.std.specs.Prelude.{◌≤◌, ◌<◌, length, IfOk};
 ghost use Rattle.std.specs.Arc.{arc_value};
 ghost use Rattle.pg_match.specs.Machines.{Fits};
 ghost use Rattle.pg_lines.specs.Lines.{AreShort};
 ghost use Rattle.pg_lines.specs.Search.{terminator_of};
 
-use crate::rows::{bytes_of, cut, halves};
+use crate::rows::{assert_rows, cut, few_bytes, halves};
 use pg_lines::{
     Block, BlockResult, CutFault, Kind, PatternList, Query, QueryFault, QueryText, Scratch,
     search_block,
@@ -23,7 +23,8 @@ fn assert_block(rt: &impl Abort, block: &Block, number: u64, bytes: &[u8]) {
     assert_eq!(rt; block.bytes.as_slice(), bytes);
 }
 
-/// What a query is compiled from: the letters say the kind (`E`, `F`, or none of both) and the options.
+/// What a query is compiled from: the letters say the kind (`E`, `F`, or none of both), the options, and by `f` that
+/// the pattern is of a file.
 fn text_of<A: Allocator + Copy>(
     alloc: A,
     letters: &str,
@@ -31,7 +32,12 @@ fn text_of<A: Allocator + Copy>(
 ) -> Result<QueryText<A>, AllocError> {
     let has = |letter: u8| letters.as_bytes().contains(&letter);
     let mut lists = Vec::new(alloc);
-    lists.push(PatternList::Text(Vec::from_slice(alloc, pattern)?))?;
+    let pattern = Vec::from_slice(alloc, pattern)?;
+    lists.push(if has(b'f') {
+        PatternList::Lines(pattern)
+    } else {
+        PatternList::Text(pattern)
+    })?;
     let kind = if has(b'F') {
         Kind::Fixed
     } else if has(b'E') {
@@ -99,12 +105,8 @@ fn search_for(alloc: Global, query: Query, bytes: &[u8]) -> Result<BlockResult, 
     search_block(alloc, &query, &mut scratch, block)
 }
 
-/// Shows how many lines a result has, the runs of selected ones, each as its span, the lines before it and its own
-/// lines, and the matched parts, each as the lines before its own, and its span.
-fn shown<A: Allocator>(alloc: Global, found: &BlockResult<A>) -> Result<String, AllocError> {
-    let mut out = String::new(alloc);
-    let count = found.lines();
-    write!(out, "{count}:")?;
+/// Shows the runs of selected lines, each as its span, the lines before it and its own lines.
+fn show_runs<A: Allocator>(found: &BlockResult<A>, out: &mut String) -> Result<(), AllocError> {
     for run in found.runs() {
         let start = run.span.start;
         let end = run.span.end;
@@ -112,6 +114,14 @@ fn shown<A: Allocator>(alloc: Global, found: &BlockResult<A>) -> Result<String, 
         let count = run.count;
         write!(out, " {start}-{end}={first}+{count}")?;
     }
+    Ok(())
+}
+
+/// Shows how many lines a result has, its runs, and the matched parts, each as the lines before its own, and its span.
+fn shown<A: Allocator>(alloc: Global, found: &BlockResult<A>) -> Result<String, AllocError> {
+    let count = found.lines();
+    let mut out = format!(in alloc; "{count}:")?;
+    show_runs(found, &mut out)?;
     for part in found.parts() {
         let line = part.line;
         let start = part.span.start;
@@ -172,17 +182,11 @@ E (a{255}){255}a{255}a{255} on b => 1:
 E (a{255}){255}a{255}a{255}a on b => pattern too large";
 
 /// What is found, as `shown` shows it, or the fault of the query.
-fn find(
-    rt: &impl Abort,
-    alloc: Global,
-    letters: &str,
-    pattern: &str,
-    block: &str,
-) -> Result<String, Fail> {
-    let pattern = bytes_of(alloc, pattern)?;
-    let block = bytes_of(alloc, block)?;
-    assert!(rt; block.len() <= 100);
-    match Query::compile(alloc, text_of(alloc, letters, &pattern)?) {
+fn found(alloc: Global, letters: &str, asked: &str) -> Result<String, Fail> {
+    let (pattern, block) = cut(asked, " on ");
+    let block = few_bytes(alloc, block)?;
+    let text = text_of(alloc, letters, &few_bytes(alloc, pattern)?)?;
+    match Query::compile(alloc, text) {
         Ok(query) => Ok(shown(alloc, &search_for(alloc, query, &block)?)?),
         Err(fault) => Ok(format!(in alloc; "{fault}")?),
     }
@@ -190,14 +194,7 @@ fn find(
 
 #[test]
 fn lines_are_selected(rt: HostRuntime) -> Result<(), Fail> {
-    for row in FOUND.lines() {
-        let (asked, want) = halves(row);
-        let (query, block) = cut(asked, " on ");
-        let (letters, pattern) = cut(query, " ");
-        let got = find(&rt, rt.alloc(), letters, pattern, block)?;
-        assert_eq!(rt; got.as_str(), want, "{row}");
-    }
-    Ok(())
+    assert_rows(&rt, rt.alloc(), FOUND, found)
 }
 
 /// Lines of two bytes and a terminator, so that there are this many bytes, and a last line that holds `b`.
@@ -211,21 +208,32 @@ fn long_block(alloc: Global, size: usize) -> Result<Vec<u8>, AllocError> {
     Ok(bytes)
 }
 
+/// What a search for `b` finds in such a block, as `shown` shows it.
+fn found_in_long(alloc: Global, size: usize) -> Result<String, Fail> {
+    let bytes = long_block(alloc, size)?;
+    if bytes.len() > 100 {
+        return Err(Fail::new("more than 100 bytes"));
+    }
+    let query = query_of(alloc, "Fo", b"b")?;
+    Ok(shown(alloc, &search_for(alloc, query, &bytes)?)?)
+}
+
+/// What is wanted of such a search, for a size below 100.
+fn wanted_of_long(alloc: Global, size: u32) -> Result<String, AllocError>
+    requires { size < 100 }
+{
+    let before = size / 3 + 1;
+    let lines = before + 1;
+    let start = size + 1;
+    let end = size + 2;
+    format!(in alloc; "{lines}: {start}-{end}={before}+1 {before}:{start}-{end}")
+}
+
 #[test]
 fn long_blocks_are_counted(rt: HostRuntime) -> Result<(), Fail> {
-    for size in 0..98usize {
-        let bytes = long_block(rt.alloc(), size)?;
-        assert!(rt; bytes.len() <= 100);
-        let query = query_of(rt.alloc(), "Fo", b"b")?;
-        let found = search_for(rt.alloc(), query, &bytes)?;
-        let got = shown(rt.alloc(), &found)?;
-        let before = size / 3 + 1;
-        let lines = before + 1;
-        let start = size + 1;
-        let end = size + 2;
-        let want = format!(in rt.alloc();
-            "{lines}: {start}-{end}={before}+1 {before}:{start}-{end}"
-        )?;
+    for size in 0..98u32 {
+        let got = found_in_long(rt.alloc(), size as usize)?;
+        let want = wanted_of_long(rt.alloc(), size)?;
         assert_eq!(rt; got.as_str(), want.as_str(), "at {size}");
     }
     Ok(())
@@ -272,6 +280,15 @@ fn searched<A: Allocator + Copy>(
     }
 }
 
+/// How many requests for memory are made before a search.
+fn requests_before(alloc: Global, letters: &str, pattern: &[u8], bytes: &[u8]) -> Result<u64, Fail>
+    requires { length bytes.now ≤ 100 }
+{
+    let heap = Refusing::new(alloc, 1000);
+    let _prepared = prepare_row(&heap, letters, pattern, bytes)?;
+    Ok(heap.requests())
+}
+
 /// What a search finds where the requests for memory that it makes pass up to one, which is refused, and whether there
 /// was such a one.
 fn search_refused(
@@ -283,9 +300,7 @@ fn search_refused(
 ) -> Result<(Option<String>, bool), Fail>
     requires { length bytes.now ≤ 100 }
 {
-    let heap = Refusing::new(alloc, 1000);
-    let _prepared = prepare_row(&heap, letters, pattern, bytes)?;
-    let before = heap.requests();
+    let before = requests_before(alloc, letters, pattern, bytes)?;
     let heap = Refusing::new(alloc, before.wrapping_add(passes));
     let prepared = prepare_row(&heap, letters, pattern, bytes)?;
     let found = searched(&heap, prepared, alloc)?;
@@ -303,9 +318,8 @@ fn is_refused(
 ) -> Result<bool, Fail> {
     let (query, block) = cut(asked, " on ");
     let (letters, pattern) = cut(query, " ");
-    let pattern = bytes_of(alloc, pattern)?;
-    let bytes = bytes_of(alloc, block)?;
-    assert!(rt; bytes.len() <= 100);
+    let pattern = few_bytes(alloc, pattern)?;
+    let bytes = few_bytes(alloc, block)?;
     let (found, is_refused) = search_refused(alloc, letters, &pattern, &bytes, passes)?;
     match found {
         Some(found) => assert!(rt;
@@ -353,37 +367,40 @@ fn a_result_has_its_block_and_query(rt: HostRuntime) -> Result<(), Fail> {
     Ok(())
 }
 
-/// Options and a text, and others: each pair is of two queries that aren't the same.
-const OTHERS: &str = "F ab | F ac
-F ab | E ab
-F ab | b ab
-F ab | Fi ab
-F ab | Fx ab
-F ab | Fw ab
-F ab | Fv ab
-F ab | Fz ab";
+/// Two queries, each by its letters and a text, and whether they are the same, and so are the texts that they are of.
+const QUERIES: &str = "F:ab F:ab => true true
+F:ab F:ac => false false
+F:ab E:ab => false false
+F:ab b:ab => false false
+F:ab Fi:ab => false false
+F:ab Fx:ab => false false
+F:ab Fw:ab => false false
+F:ab Fv:ab => false false
+F:ab Fz:ab => false false
+F:ab Ff:ab => false false";
 
-#[test]
-fn queries_are_compared_by_content(rt: HostRuntime) -> Result<(), Fail> {
-    for row in OTHERS.lines() {
-        let (one, other) = cut(row, " | ");
-        let (letters, text) = cut(one, " ");
-        let (other_letters, other_text) = cut(other, " ");
-        let one = query_of(rt.alloc(), letters, text.as_bytes())?;
-        let again = query_of(rt.alloc(), letters, text.as_bytes())?;
-        let other = query_of(rt.alloc(), other_letters, other_text.as_bytes())?;
-        assert!(rt; one == again && *one.text() == *again.text(), "{row}");
-        assert!(rt; one != other && *one.text() != *other.text(), "{row}");
-    }
-    Ok(())
+/// The query of letters and a text behind a colon.
+fn query_by(alloc: Global, asked: &str) -> Result<Query, Fail> {
+    let (letters, text) = cut(asked, ":");
+    query_of(alloc, letters, text.as_bytes())
+}
+
+/// Whether queries are the same, and their texts.
+fn shown_equality(alloc: Global, one: &Query, other: &Query) -> Result<String, AllocError> {
+    let are_same = *one == *other;
+    let are_texts_same = *one.text() == *other.text();
+    format!(in alloc; "{are_same} {are_texts_same}")
+}
+
+fn compared(alloc: Global, one: &str, other: &str) -> Result<String, Fail> {
+    let one = query_by(alloc, one)?;
+    let other = query_by(alloc, other)?;
+    Ok(shown_equality(alloc, &one, &other)?)
 }
 
 #[test]
-fn a_text_is_no_file(rt: HostRuntime) -> Result<(), Fail> {
-    let file = [PatternList::Lines(Vec::from_slice(rt.alloc(), b"ab")?)];
-    let query = query_of(rt.alloc(), "F", b"ab")?;
-    assert!(rt; query.text().lists.as_slice() != file.as_slice());
-    Ok(())
+fn queries_are_compared_by_content(rt: HostRuntime) -> Result<(), Fail> {
+    assert_rows(&rt, rt.alloc(), QUERIES, compared)
 }
 
 #[test]

@@ -1,16 +1,15 @@
 //! Machines of patterns: which lines they select, the matched parts, and what a search visits.
-ghost use Rattle.std.specs.Prelude.{◌≤◌, ◌^◌, IfOk, All, map, length};
+ghost use Rattle.std.specs.Prelude.{◌≡◌, ◌≤◌, ◌^◌, IfOk, All, map, length};
 ghost use Rattle.pg_syntax.specs.Patterns.{IsProper};
 ghost use Rattle.pg_syntax.specs.Trees.{pattern};
 ghost use Rattle.pg_match.specs.Machines.{Fits};
 
-use crate::rows::{bytes_of, cut, halves, repeated};
+use crate::rows::{assert_rows, bytes_of, cut, few_bytes, halves, repeated};
 use pg_match::laws::next_piece_is_one;
 use pg_match::{Bounds, BuildFault, Machine, Scratch};
 use pg_syntax::{Tree, fixed, parse_bre, parse_ere};
 use refusing::Refusing;
 use std::alloc::{AllocError, Allocator, Global};
-use std::process::Abort;
 use std::test::Fail;
 
 /// A machine, and a scratch for it.
@@ -56,14 +55,10 @@ struct Found {
 }
 
 /// Whether a line is selected, its first matched part, and what each search visits.
-fn find_in(
-    rt: &impl Abort,
-    alloc: Global,
-    bounds: Bounds,
-    text: &[u8],
-    line: &[u8],
-) -> Result<Found, Fail> {
-    assert!(rt; line.len() <= 10_000);
+fn find_in(alloc: Global, bounds: Bounds, text: &[u8], line: &[u8]) -> Result<Found, Fail> {
+    if line.len() > 10_000 {
+        return Err(Fail::new("more than 10,000 bytes"));
+    }
     let mut search = machine(alloc, text, bounds)?;
     let selected = search.machine.selects(&mut search.scratch, line);
     let visits = search.scratch.visits();
@@ -118,20 +113,16 @@ word a|a-b on a-bc => true
 any (a{255}){255}a{255}a{255} on b => false
 any ((((a{0}){255}){255}){255}){255} on b => true";
 
+fn selected(alloc: Global, bounds: &str, asked: &str) -> Result<String, Fail> {
+    let (text, line) = cut(asked, " on ");
+    let text = bytes_of(alloc, text)?;
+    let selected = find_in(alloc, bounds_of(bounds), &text, &bytes_of(alloc, line)?)?.selected;
+    Ok(format!(in alloc; "{selected}")?)
+}
+
 #[test]
 fn lines_are_selected(rt: HostRuntime) -> Result<(), Fail> {
-    for row in LINES.lines() {
-        let (asked, want) = halves(row);
-        let (bounds, asked) = cut(asked, " ");
-        let (text, line) = cut(asked, " on ");
-        let text = bytes_of(rt.alloc(), text)?;
-        let line = bytes_of(rt.alloc(), line)?;
-        for bounds in bounds.split(',') {
-            let found = find_in(&rt, rt.alloc(), bounds_of(bounds), &text, &line)?;
-            assert_eq!(rt; found.selected, want == "true", "{bounds}: {row}");
-        }
-    }
-    Ok(())
+    assert_rows(&rt, rt.alloc(), LINES, selected)
 }
 
 /// The matched parts of a line, from left to right, as -o shows them. The scratch is the machine's, and the line has
@@ -139,6 +130,7 @@ fn lines_are_selected(rt: HostRuntime) -> Result<(), Fail> {
 fn parts(alloc: Global, search: &mut Search, line: &[u8]) -> Result<String, AllocError>
     requires fits { Fits search.old.scratch search.old.machine }
     requires short { length line.now ≤ 2 ^ 30 }
+    ensures { Fits search.new.scratch search.new.machine }
 {
     let mut out = String::new(alloc);
     let mut place = 0;
@@ -153,7 +145,7 @@ fn parts(alloc: Global, search: &mut Search, line: &[u8]) -> Result<String, Allo
         write!(out, " {start}-{end}")?;
         place = end;
     }
-    Ok(out)
+    String::from_str(alloc, out.as_str().trim_start())
 }
 
 /// Bounds, an extended expression, a line, and its matched parts.
@@ -172,97 +164,175 @@ any b on %00b%FF%FFb => 1-2 4-5
 any a? on  =>
 any [^x]{2} on abcde => 0-2 2-4";
 
-/// The matched parts of a line, where the expression and the line are fields.
-fn parts_of(
-    rt: &impl Abort,
-    alloc: Global,
-    bounds: Bounds,
-    text: &str,
-    line: &str,
-) -> Result<String, Fail> {
-    let text = bytes_of(alloc, text)?;
-    let mut search = machine(alloc, &text, bounds)?;
-    let line = bytes_of(alloc, line)?;
-    assert!(rt; line.len() <= 100);
-    Ok(parts(alloc, &mut search, &line)?)
+fn parts_of(alloc: Global, bounds: &str, asked: &str) -> Result<String, Fail> {
+    let (text, line) = cut(asked, " on ");
+    let mut search = machine(alloc, &bytes_of(alloc, text)?, bounds_of(bounds))?;
+    Ok(parts(alloc, &mut search, &few_bytes(alloc, line)?)?)
 }
 
 #[test]
 fn parts_of_lines(rt: HostRuntime) -> Result<(), Fail> {
-    for row in PARTS.lines() {
-        let (asked, want) = halves(row);
-        let (bounds, asked) = cut(asked, " ");
-        let (text, line) = cut(asked, " on ");
-        let got = parts_of(&rt, rt.alloc(), bounds_of(bounds), text, line)?;
-        assert_eq!(rt; got.as_str().trim_start(), want, "{row}");
-    }
-    Ok(())
+    assert_rows(&rt, rt.alloc(), PARTS, parts_of)
 }
 
-/// Bounds, an extended expression, and a line in parts; whether it is selected and after how many visits, the first
-/// matched part, and the visits of its search.
-///
-/// For each byte of the line and once more at most the size of the expression is visited: 50,005, 40,004, 623,193, 30,
-/// 24, 4, 4 and 2 states.
-const VISITS: &str = "any (a*)*b on a:10000 => (false, 40004, None, 40004)
-any a*b on a:10000 => (false, 30003, None, 30003)
-any ((a{0,100}){0,100})*b on a:30 => (false, 102362, None, 102362)
-word a|a-b on a-bc:1 => (true, 5, Some((0, 1)), 7)
-word a|a-b on -bc:1 => (false, 6, None, 6)
-word  on a:1 => (false, 2, None, 2)
-word  on -:1 => (true, 2, None, 4)
-word  on :1 => (true, 2, None, 2)";
+/// Bounds, an extended expression, and a line in parts; whether it is selected, its first matched part, and how many
+/// states a search may visit: for each byte of the line and once more the size of the expression.
+const VISITS: &str = "any (a*)*b on a:10000 within 50005 => (false, None)
+any a*b on a:10000 within 40004 => (false, None)
+any ((a{0,100}){0,100})*b on a:30 within 623193 => (false, None)
+word a|a-b on a-bc:1 within 30 => (true, Some((0, 1)))
+word a|a-b on -bc:1 within 24 => (false, None)
+word  on a:1 within 4 => (false, None)
+word  on -:1 within 4 => (true, None)
+word  on :1 within 2 => (true, None)";
+
+/// What searches of a line give, where they visit no more states than they may.
+fn visits_of(alloc: Global, bounds: &str, asked: &str) -> Result<String, Fail> {
+    let (asked, most) = cut(asked, " within ");
+    let (text, line) = cut(asked, " on ");
+    let most: u128 = most.parse()?;
+    let line = repeated(alloc, line)?;
+    let found = find_in(alloc, bounds_of(bounds), text.as_bytes(), &line)?;
+    let visits = found.visits.max(found.part_visits);
+    if visits > most {
+        return Ok(format!(in alloc; "{visits} visits")?);
+    }
+    let all = (found.selected, found.part);
+    Ok(format!(in alloc; "{all:?}")?)
+}
 
 #[test]
 fn visits(rt: HostRuntime) -> Result<(), Fail> {
-    for row in VISITS.lines() {
+    assert_rows(&rt, rt.alloc(), VISITS, visits_of)
+}
+
+/// Bounds, an extended expression, and lines that are searched one after the other with one scratch; for each line
+/// whether it is selected.
+const LINES_IN_A_ROW: &str = "any ^ab|c$ on ab/xab/abx/xc/cx//c/ab/xab => +-++--++-
+any x*$ on y/yx//x/yxy => +++++
+any ^$ on a//b/ab/ => -+--+
+whole a*b on b/ab/aab/abx/xab//b/ab => +++---++
+word foo on foo/xfoo/foo_/a foo b/foofoo/foo-/foo/xfoo => +--+-++-
+word x* on a/-//xx/ax/x => -+++-+";
+
+#[test]
+fn lines_in_a_row_are_selected(rt: HostRuntime) -> Result<(), Fail> {
+    for row in LINES_IN_A_ROW.lines() {
         let (asked, want) = halves(row);
         let (bounds, asked) = cut(asked, " ");
-        let (text, line) = cut(asked, " on ");
-        let line = repeated(rt.alloc(), line)?;
-        let bounds = bounds_of(bounds);
-        let found = find_in(&rt, rt.alloc(), bounds, text.as_bytes(), &line)?;
-        let all = (found.selected, found.visits, found.part, found.part_visits);
-        let got = format!(in rt.alloc(); "{all:?}")?;
+        let (text, lines) = cut(asked, " on ");
+        let mut search = machine(rt.alloc(), text.as_bytes(), bounds_of(bounds))?;
+        let mut got = String::new(rt.alloc());
+        for line in lines.split('/') {
+            assert!(rt; line.len() <= 100);
+            let selected = search.machine.selects(&mut search.scratch, line.as_bytes());
+            got.push(if selected { '+' } else { '-' })?;
+        }
         assert_eq!(rt; got.as_str(), want, "{row}");
     }
     Ok(())
 }
 
-/// An extended expression in parts, a line, and its first matched part.
-const DEEP: &str = "a:1 *:4095 on baab => Some((1, 3))
-b:1 |a:2047 on cca => Some((2, 3))
-b:1 ?:4095 on abb => Some((1, 2))
-b:1 {1}:1365 on abb => Some((1, 2))
-a:1 {0}:1365 on aa => None
-a{0}:1 {2}:1364 on aa => None
-a:1 +:15 on baab => Some((1, 3))
-(:100 b:1 |a)*:100 on cabc => Some((1, 3))
-(a|:100 b:1 )*:100 on cabc => Some((1, 3))
-(a|b:100 c:1 ){0,1}:100 on cabbc => Some((1, 2))";
+/// Bounds, an extended expression, and lines that are searched one after the other with one scratch; the matched parts
+/// of each line.
+const PARTS_IN_A_ROW: &str =
+    "any a+b|cd on xxaab ab cd/none/ab/cdcd/xab => 2-5 6-8 9-11//0-2/0-2 2-4/1-3
+any a*b on aaab/xb/aaa/ab => 0-4/1-2//0-2
+any ^a|b on aab/ba/aa => 0-1 2-3/0-1/0-1
+word fo+ on foo xfoo foo_ fo/foo/foo => 0-3 14-16/0-3/0-3
+whole a|ab on a/ab/abb/ab => 0-1/0-2//0-2";
+
+#[test]
+fn parts_of_lines_in_a_row(rt: HostRuntime) -> Result<(), Fail> {
+    for row in PARTS_IN_A_ROW.lines() {
+        let (asked, want) = halves(row);
+        let (bounds, asked) = cut(asked, " ");
+        let (text, lines) = cut(asked, " on ");
+        let mut search = machine(rt.alloc(), text.as_bytes(), bounds_of(bounds))?;
+        let mut got = String::new(rt.alloc());
+        for line in lines.split('/') {
+            assert!(rt; line.len() <= 100);
+            let found = parts(rt.alloc(), &mut search, line.as_bytes())?;
+            got.push_str(&found)?;
+            got.push('/')?;
+        }
+        let got = got.trim_end_matches('/');
+        assert_eq!(rt; got, want, "{row}");
+    }
+    Ok(())
+}
+
+/// A line of 60 letters, each `a` or `b`.
+fn letters(alloc: Global, seed: u64) -> Result<Vec<u8>, AllocError>
+    ensures { IfOk result (λ line. length line.items ≡ 60) }
+{
+    let mut line = vec![in alloc; b'a'; 60]?;
+    let mut number = seed;
+    for place in 0..60 {
+        number = number
+            .wrapping_mul(6_364_136_223_846_793_005)
+            .wrapping_add(1_442_695_040_888_963_407);
+        if (number >> 33) & 1 == 1 {
+            line[place] = b'b';
+        }
+    }
+    Ok(line)
+}
+
+/// The whole line is matched exactly where its tenth byte from the end is an `a`. The automaton of the expression
+/// stands in any of 1,024 sets of states, more than are remembered.
+#[test]
+fn more_sets_than_are_remembered(rt: HostRuntime) -> Result<(), Fail> {
+    let mut search = machine(rt.alloc(), b"(a|b)*a(a|b){9}", Bounds::Whole)?;
+    for seed in 0..100 {
+        let line = letters(rt.alloc(), seed)?;
+        let wanted = line[50] == b'a';
+        assert_eq!(rt; search.machine.selects(&mut search.scratch, &line), wanted);
+        let part = search.machine.next_piece(&mut search.scratch, &line, 0);
+        assert_eq!(rt; part.is_some(), wanted);
+    }
+    Ok(())
+}
+
+/// Bounds, an extended expression in parts, a line, and its first matched part.
+const DEEP: &str = "any a:1 *:4095 on baab => Some((1, 3))
+any b:1 |a:2047 on cca => Some((2, 3))
+any b:1 ?:4095 on abb => Some((1, 2))
+any b:1 {1}:1365 on abb => Some((1, 2))
+any a:1 {0}:1365 on aa => None
+any a{0}:1 {2}:1364 on aa => None
+any a:1 +:15 on baab => Some((1, 3))
+any (:100 b:1 |a)*:100 on cabc => Some((1, 3))
+any (a|:100 b:1 )*:100 on cabc => Some((1, 3))
+any (a|b:100 c:1 ){0,1}:100 on cabbc => Some((1, 2))";
+
+fn first_part(alloc: Global, bounds: &str, asked: &str) -> Result<String, Fail> {
+    let (text, line) = cut(asked, " on ");
+    let text = repeated(alloc, text)?;
+    let part = find_in(alloc, bounds_of(bounds), &text, line.as_bytes())?.part;
+    Ok(format!(in alloc; "{part:?}")?)
+}
 
 #[test]
 fn deep_trees(rt: HostRuntime) -> Result<(), Fail> {
-    for row in DEEP.lines() {
-        let (asked, want) = halves(row);
-        let (text, line) = cut(asked, " on ");
-        let text = repeated(rt.alloc(), text)?;
-        let found = find_in(&rt, rt.alloc(), Bounds::Any, &text, line.as_bytes())?;
-        let part = found.part;
-        let got = format!(in rt.alloc(); "{part:?}")?;
-        assert_eq!(rt; got.as_str(), want, "{row}");
-    }
-    Ok(())
+    assert_rows(&rt, rt.alloc(), DEEP, first_part)
+}
+
+/// Whether a machine of a fixed string, which is its line, selects it.
+fn selects_itself(alloc: Global, line: &[u8]) -> Result<bool, Fail>
+    requires { length line.now ≤ 2 ^ 30 }
+{
+    let tree = fixed(alloc, line, false)?;
+    let machine = Machine::build(alloc, &[tree], Bounds::Whole)?;
+    let mut scratch = Scratch::new(alloc, &machine)?;
+    Ok(machine.selects(&mut scratch, line))
 }
 
 #[test]
 fn the_longest_string(rt: HostRuntime) -> Result<(), Fail> {
     let line = repeated(rt.alloc(), "a:4096")?;
     assert!(rt; line.len() <= 10_000);
-    let trees = [fixed(rt.alloc(), &line, false)?];
-    let machine = Machine::build(rt.alloc(), &trees, Bounds::Whole)?;
-    let mut scratch = Scratch::new(rt.alloc(), &machine)?;
-    assert!(rt; machine.selects(&mut scratch, &line));
+    assert!(rt; selects_itself(rt.alloc(), &line)?);
     Ok(())
 }
 
@@ -285,7 +355,7 @@ fn large_patterns_are_refused(rt: HostRuntime) -> Result<(), Fail> {
 #[test]
 fn copies_of_no_state_are_none(rt: HostRuntime) -> Result<(), Fail> {
     let text = b"((((a{0}){255}){255}){255}){255}";
-    let found = find_in(&rt, rt.alloc(), Bounds::Any, text, b"b")?;
+    let found = find_in(rt.alloc(), Bounds::Any, text, b"b")?;
     assert!(rt; found.visits <= 2);
     Ok(())
 }
@@ -335,9 +405,12 @@ fn patterns_are_alternatives(rt: HostRuntime) -> Result<(), Fail> {
     let mut search = alternatives(rt.alloc())?;
     assert!(rt; search.machine.selects(&mut search.scratch, b""));
     let got = parts(rt.alloc(), &mut search, b"cabb")?;
-    assert_eq!(rt; got.as_str(), " 1-3 3-4");
+    assert_eq!(rt; got.as_str(), "1-3 3-4");
     Ok(())
 }
+
+/// How many requests a scratch makes for what it only remembers.
+const DISPENSABLE: u64 = 5;
 
 /// Builds a machine of proper trees and a scratch on one allocator, and searches a line.
 fn search_once<A: Allocator + Copy>(alloc: A, trees: &[Tree<A>]) -> Result<bool, BuildFault>
@@ -348,21 +421,33 @@ fn search_once<A: Allocator + Copy>(alloc: A, trees: &[Tree<A>]) -> Result<bool,
     Ok(machine.selects(&mut scratch, b"xaab"))
 }
 
+/// What such a search gives where the requests that the machine makes pass up to one, which is refused, and whether
+/// there was such a one.
+fn search_refused(alloc: Global, passes: u64) -> Result<(Result<bool, BuildFault>, bool), Fail> {
+    let heap = Refusing::new(alloc, 40);
+    let _tree = extended(&heap, b"(a|b*)c?b")?;
+    let heap = Refusing::new(alloc, heap.requests().wrapping_add(passes));
+    let tree = extended(&heap, b"(a|b*)c?b")?;
+    let found = search_once(&heap, &[tree]);
+    Ok((found, heap.has_refused()))
+}
+
 #[test]
 fn memory_may_be_refused(rt: HostRuntime) -> Result<(), Fail> {
+    let mut without = 0u64;
     for passes in 0..100u64 {
-        let heap = Refusing::new(rt.alloc(), 40);
-        let tree = extended(&heap, b"(a|b*)c?b")?;
-        let before = heap.requests();
-        let heap = Refusing::new(rt.alloc(), before.wrapping_add(passes));
-        let tree = extended(&heap, b"(a|b*)c?b")?;
-        let found = search_once(&heap, &[tree]);
-        if !heap.has_refused() {
+        let (found, is_refused) = search_refused(rt.alloc(), passes)?;
+        if !is_refused {
             assert_eq!(rt; found, Ok(true));
-            assert!(rt; passes > 0);
+            assert!(rt; without == DISPENSABLE && passes > DISPENSABLE);
             return Ok(());
         }
-        assert_eq!(rt; found, Err(BuildFault::OutOfMemory), "at {passes}");
+        without = if found == Ok(true) {
+            without.wrapping_add(1)
+        } else {
+            assert_eq!(rt; found, Err(BuildFault::OutOfMemory), "at {passes}");
+            0
+        };
     }
     panic!(rt; "more than 100 requests")
 }

@@ -1,5 +1,5 @@
 //! Expressions and lists of patterns.
-use crate::rows::{bytes_of, cut, halves, repeated};
+use crate::rows::{assert_rows, bytes_of, repeated};
 use crate::sets::show_set;
 use pg_syntax::{
     FaultKind, Kind, ListFault, PatternList, SyntaxFault, Tree, fixed, parse_bre, parse_ere,
@@ -121,12 +121,12 @@ basic,extended,fixed (a:4097 => TooLong at 4096
 basic,extended,fixed \:4097 => TooLong at 4096
 basic,extended,fixed %0A:4097 => TooLong at 4096";
 
-/// Parsers, and a text of which they make a tree as deep as a text can make it.
-const DEEP: &str = r"basic,fixed-folded a:4096
-basic,fixed-folded *:4096
-basic,fixed-folded %0A:4096
-basic,fixed-folded .:4096
-extended a:1 |a:2047";
+/// Parsers, a text of which they make a tree as deep as a text can make it, and whether the tree is proper.
+const DEEP: &str = r"basic,fixed-folded a:4096 => true
+basic,fixed-folded *:4096 => true
+basic,fixed-folded %0A:4096 => true
+basic,fixed-folded .:4096 => true
+extended a:1 |a:2047 => true";
 
 fn show<A: Allocator>(tree: &Tree<A>, out: &mut String) -> Result<(), AllocError> {
     match tree {
@@ -182,46 +182,36 @@ fn parsed(alloc: Global, parser: &str, text: &[u8]) -> Result<Tree, SyntaxFault>
     }
 }
 
+fn expression(alloc: Global, parser: &str, text: &str) -> Result<String, Fail> {
+    let text = bytes_of(alloc, text)?;
+    Ok(shown(alloc, parsed(alloc, parser, &text))?)
+}
+
 #[test]
 fn expressions(rt: HostRuntime) -> Result<(), Fail> {
-    for row in EXPRESSIONS.lines() {
-        let (asked, want) = halves(row);
-        let (parsers, text) = cut(asked, " ");
-        let text = bytes_of(rt.alloc(), text)?;
-        for parser in parsers.split(',') {
-            let got = shown(rt.alloc(), parsed(rt.alloc(), parser, &text))?;
-            assert_eq!(rt; got.as_str(), want, "{row}");
-        }
-    }
-    Ok(())
+    assert_rows(&rt, rt.alloc(), EXPRESSIONS, expression)
+}
+
+fn large_text(alloc: Global, parser: &str, parts: &str) -> Result<String, Fail> {
+    let text = repeated(alloc, parts)?;
+    Ok(shown(alloc, parsed(alloc, parser, &text))?)
 }
 
 #[test]
 fn large_texts(rt: HostRuntime) -> Result<(), Fail> {
-    for row in LARGE.lines() {
-        let (asked, want) = halves(row);
-        let (parsers, parts) = cut(asked, " ");
-        let text = repeated(rt.alloc(), parts)?;
-        for parser in parsers.split(',') {
-            let got = shown(rt.alloc(), parsed(rt.alloc(), parser, &text))?;
-            assert_eq!(rt; got.as_str(), want, "{row}");
-        }
-    }
-    Ok(())
+    assert_rows(&rt, rt.alloc(), LARGE, large_text)
+}
+
+fn deep_tree(alloc: Global, parser: &str, parts: &str) -> Result<String, Fail> {
+    let text = repeated(alloc, parts)?;
+    let is_proper = parsed(alloc, parser, &text)?.is_proper();
+    Ok(format!(in alloc; "{is_proper}")?)
 }
 
 /// Trees as deep as a text can make them are walked and dropped.
 #[test]
 fn deep_trees(rt: HostRuntime) -> Result<(), Fail> {
-    for row in DEEP.lines() {
-        let (parsers, parts) = cut(row, " ");
-        let text = repeated(rt.alloc(), parts)?;
-        for parser in parsers.split(',') {
-            let tree = parsed(rt.alloc(), parser, &text)?;
-            assert!(rt; tree.is_proper(), "{row}");
-        }
-    }
-    Ok(())
+    assert_rows(&rt, rt.alloc(), DEEP, deep_tree)
 }
 
 /// A repetition of at least two and at most one.
@@ -230,18 +220,30 @@ fn improper(alloc: Global) -> Result<Tree, AllocError> {
     Ok(Tree::Rep(inner, 2, Some(1)))
 }
 
+/// Where an improper repetition stands, and whether the whole tree is proper.
+const TREES: &str = "alone => false
+second-of-alternatives => false
+first-of-two => false
+nowhere => true";
+
+fn tree_around(alloc: Global, place: &str) -> Result<Tree, AllocError> {
+    let end = Box::new(alloc, Tree::End)?;
+    match place {
+        "alone" => improper(alloc),
+        "second-of-alternatives" => Ok(Tree::Alt(end, Box::new(alloc, improper(alloc)?)?)),
+        "first-of-two" => Ok(Tree::Cat(Box::new(alloc, improper(alloc)?)?, end)),
+        _ => Ok(Tree::Rep(Box::new(alloc, Tree::Empty)?, 2, Some(2))),
+    }
+}
+
+fn is_proper(alloc: Global, place: &str, _rest: &str) -> Result<String, Fail> {
+    let is_proper = tree_around(alloc, place)?.is_proper();
+    Ok(format!(in alloc; "{is_proper}")?)
+}
+
 #[test]
 fn improper_trees(rt: HostRuntime) -> Result<(), Fail> {
-    assert!(rt; !improper(rt.alloc())?.is_proper());
-    let first = Box::new(rt.alloc(), improper(rt.alloc())?)?;
-    let second = Box::new(rt.alloc(), Tree::End)?;
-    assert!(rt; !Tree::Cat(first, second).is_proper());
-    let first = Box::new(rt.alloc(), Tree::End)?;
-    let second = Box::new(rt.alloc(), improper(rt.alloc())?)?;
-    assert!(rt; !Tree::Alt(first, second).is_proper());
-    let inner = Box::new(rt.alloc(), Tree::Empty)?;
-    assert!(rt; Tree::Rep(inner, 2, Some(2)).is_proper());
-    Ok(())
+    assert_rows(&rt, rt.alloc(), TREES, is_proper)
 }
 
 /// Shows the trees of a list, each with a semicolon behind it, or the fault.
@@ -297,20 +299,22 @@ fn lists_of(alloc: Global, words: &str) -> Result<Vec<PatternList>, AllocError> 
     Ok(lists)
 }
 
+fn kind_of(name: &str) -> Kind {
+    match name {
+        "Basic" => Kind::Basic,
+        "Extended" => Kind::Extended,
+        _ => Kind::Fixed,
+    }
+}
+
+fn pattern_list(alloc: Global, kind: &str, words: &str) -> Result<String, Fail> {
+    let lists = lists_of(alloc, words)?;
+    Ok(shown_list(alloc, kind_of(kind), lists.as_slice(), false)?)
+}
+
 #[test]
 fn pattern_lists(rt: HostRuntime) -> Result<(), Fail> {
-    for row in LISTS.lines() {
-        let (asked, want) = halves(row);
-        let kind = match asked.split(' ').next() {
-            Some("Basic") => Kind::Basic,
-            Some("Extended") => Kind::Extended,
-            _ => Kind::Fixed,
-        };
-        let lists = lists_of(rt.alloc(), asked)?;
-        let got = shown_list(rt.alloc(), kind, lists.as_slice(), false)?;
-        assert_eq!(rt; got.as_str(), want, "{row}");
-    }
-    Ok(())
+    assert_rows(&rt, rt.alloc(), LISTS, pattern_list)
 }
 
 /// Two lists, and whether they are the same.
@@ -319,16 +323,17 @@ file: file: => true
 text:a text:b => false
 text:a file:a => false";
 
+fn compared(alloc: Global, one: &str, other: &str) -> Result<String, Fail> {
+    let one = lists_of(alloc, one)?;
+    let other = lists_of(alloc, other)?;
+    let are_same = one.len() == 1 && one.as_slice() == other.as_slice();
+    Ok(format!(in alloc; "{are_same}")?)
+}
+
 #[test]
 fn lists_compare_by_contents(rt: HostRuntime) -> Result<(), Fail> {
-    for row in PAIRS.lines() {
-        let (asked, want) = halves(row);
-        let lists = lists_of(rt.alloc(), asked)?;
-        assert_eq!(rt; lists.len(), 2);
-        assert_eq!(rt; lists[0] == lists[1], want == "true", "{row}");
-    }
     assert!(rt; Kind::Basic != Kind::Extended);
-    Ok(())
+    assert_rows(&rt, rt.alloc(), PAIRS, compared)
 }
 
 /// The faults of the third pattern at offset 7, each by its kind and by its text.

@@ -4,6 +4,10 @@ pub mod GapLemmas
 pub mod StateSetLemmas
 pub mod ClosureLemmas
 pub mod SearchLemmas
+pub mod StepLemmas
+pub mod StandsLemmas
+pub mod MemoryLemmas
+pub mod SkimLemmas
 pub mod BuildLemmas
 pub mod HitLaws
 pub mod TestLemmas

@@ -1,6 +1,6 @@
 -- From one position to the next.
-use Rattle.std.proofs.Common.{◌≡◌, ◌≢◌, ℕ, zero, suc, ◌+◌, ◌-◌, ◌<◌, ◌≤◌, ◌⊎◌, ◌↔◌, inl, inr, List, length, Option}
-use Rattle.std.proofs.Common.{Some, None, Bool, true, false, true≢false, cond, not, eqb, ne_eqb, ◌^◌, refl, sym, ap}
+use Rattle.std.proofs.Common.{◌≡◌, ℕ, zero, suc, ◌+◌, ◌<◌, ◌≤◌, ◌⊎◌, inl, inr, List, length, Option}
+use Rattle.std.proofs.Common.{Some, None, Bool, true, false, true≢false, cond, ◌^◌, refl, sym}
 use Rattle.std.proofs.Common.{◌∙◌, subst, arith}
 use Rattle.std.specs.Prelude.{slice_get, IsTrue, MatchOption, is_none, is_some, nat_lt, nat_le}
 use Rattle.std.proofs.lemmas.Bool.Decides.{not_from_Decides}
@@ -10,7 +10,7 @@ use Rattle.pg_match.specs.StateSets.{Members, mark, IsGood, IsEmpty, Buffers, Ha
 use Rattle.pg_match.specs.Closures.{IsClosed, AllBelow, Stepped}
 use Rattle.pg_match.specs.Bounds.{MayBegin, MayEnd, may_end}
 use Rattle.pg_match.proofs.TestLemmas.{end_decided}
-use Rattle.pg_match.specs.Hits.{Hit, HasHit, HasNoNext, IsNext}
+use Rattle.pg_match.specs.Hits.{Hit, HasNoNext, IsNext}
 use Rattle.pg_syntax.specs.Patterns.{Pattern}
 use Rattle.pg_match.specs.Machines.{Agrees}
 use Rattle.pg_match.specs.Searches.{Early, RunsFrom, IsBest, Alive, Seeded, winner, judged, limit_of, ending}
@@ -18,7 +18,7 @@ use Rattle.pg_match.specs.declared.state.State.{State}
 use Rattle.pg_match.specs.declared.state.State.TheVariants.{Fail, Accept, Jump, Read, AtBegin, AtEnd, Split}
 
 -- an edge stays or reads one byte
-edge_moves : (o : Option State) (l : List ℕ) (i r k : ℕ) → Edge o l i r k → (k ≡ i) ⊎ (k ≡ i + 1)
+pub edge_moves : (o : Option State) (l : List ℕ) (i r k : ℕ) → Edge o l i r k → (k ≡ i) ⊎ (k ≡ i + 1)
 edge_moves None l i r k e = absurd e
 edge_moves (Some Fail) l i r k e = absurd e
 edge_moves (Some Accept) l i r k e = absurd e
@@ -29,7 +29,7 @@ edge_moves (Some (AtEnd x)) l i r k e = inl e.2
 edge_moves (Some (Split x y)) l i r k e = inl e.1
 
 module _ (t : List State) (l : List ℕ) where
-  runs_forward : (n q i j : ℕ) → Runs t l n q i j → i ≤ j
+  pub runs_forward : (n q i j : ℕ) → Runs t l n q i j → i ≤ j
   runs_forward zero q i j run = omega (arith, run.1)
   runs_forward (suc n) q i j run =
       let f = runs_forward n run.0 run.1 j run.3 in
@@ -393,63 +393,3 @@ module _ (m : Nfa) (trees : List Pattern) (l : List ℕ) (a : Agrees m trees) wh
           | inr empty ↦ omega arith
         ];
   }
-
--- what a search for any span keeps
-pub record Looking (m : Nfa) (l : List ℕ) (p : ℕ) (s : Buffers) : Type 0 where
-  pub alive : Alive m.states l m.start (MayBegin m.bounds l) 0 p p s.current None
-  pub next : IsGood s.next
-  pub next_size : length s.next.marks ≡ length m.states
-  pub none : (i j : ℕ) → i ≤ j → j < p → RunsFrom m.states l m.start (MayBegin m.bounds l) (MayEnd m.bounds l) i j → ⊥
-
-module _ (m : Nfa) (l : List ℕ) (p : ℕ) (s u : Buffers) (is : IsRunnable m) (g : Looking m l p s)
-    (seeded : Seeded m.states l m.start (MayBegin m.bounds l) p true s.current u.current) where
-  filled : Alive m.states l m.start (MayBegin m.bounds l) 0 (p + 1) p u.current None
-  filled = alive_seeded m.states l m.start (MayBegin m.bounds l) (MayEnd m.bounds l) 0 p s.current u.current true None g.alive seeded (omega arith)
-      (λ e early. true≢false e)
-
-  pub look_found : ending m l p u.current ≢ 0 → p ≤ length l → IsTrue m.some → (trees : List Pattern) → Agrees m trees → HasHit trees m.bounds l
-  look_found some within any trees a =
-      let v : ℕ = ending m l p u.current in
-      let f = found_here m l 0 p u.current None is filled in
-      let e : v ≡ (v - 1) + 1 = omega arith in
-      let r = f.run (v - 1) e in
-      let b = runs_forward m.states l r.1.2.0 m.start (v - 1) p r.1.2.1 in
-      (v - 1, p, run_hits m trees l a (v - 1) p b within (inr any) r.1)
-
-  none_here : ending m l p u.current ≡ 0 → (i j : ℕ) → i ≤ j → j < p + 1
-      → RunsFrom m.states l m.start (MayBegin m.bounds l) (MayEnd m.bounds l) i j → ⊥
-  none_here zero_end i j le lt run = elim (cases_eq j p) [
-    | inl same ↦
-        let f = found_here m l 0 p u.current None is filled in
-        let w = f.least i (omega arith) (omega arith) tt (subst (RunsFrom m.states l m.start (MayBegin m.bounds l) (MayEnd m.bounds l) i) same run) in
-        omega (arith, w.0)
-    | inr other ↦ g.none i j le (omega arith) run
-  ]
-
-  pub look_missed : ending m l p u.current ≡ 0 → p ≡ length l → (trees : List Pattern) → Agrees m trees → HasHit trees m.bounds l → ⊥
-  look_missed zero_end end trees a h =
-      let le = h.2.ordered in
-      let w = h.2.within in
-      none_here zero_end h.0 h.1 le (omega arith) (hit_runs m trees l a h.0 h.1 h.2)
-
-  pub look_on : (v : Buffers) → ending m l p u.current ≡ 0 → p < 2 ^ 31 → Stepped m.states l p u.current v.current (limit_of None) → HaveRoom v (length m.states)
-      → Looking m l (p + 1) v
-  look_on v zero_end short step fits = record {
-    alive = alive_stepped m.states l m.start (MayBegin m.bounds l) (MayEnd m.bounds l) 0 p (limit_of None) u.current v.current None filled step
-        (wide m.states l m.start (MayBegin m.bounds l) (MayEnd m.bounds l) 0 p None short);
-    next = fits.next;
-    next_size = fits.next_size;
-    none = none_here zero_end;
-  }
-
-pub no_hit : (m : Nfa) (trees : List Pattern) (l : List ℕ) → Agrees m trees → m.some ≡ false → HasHit trees m.bounds l → ⊥
-no_hit m trees l a none h = true≢false (sym (a.complete l h.0 h.1 h.2.matched).0 ∙ none)
-
--- the answer mark the end of the line
-pub look_over : (m : Nfa) (l : List ℕ) (s u : Buffers) (r : ℕ) → IsRunnable m → Looking m l (length l) s
-    → Seeded m.states l m.start (MayBegin m.bounds l) (length l) true s.current u.current → r ≡ ending m l (length l) u.current → IsTrue m.some
-    → (trees : List Pattern) → Agrees m trees → (IsTrue (not (eqb r 0)) ↔ HasHit trees m.bounds l)
-look_over m l s u zero is g seeded e any trees a =
-    (λ t. absurd (true≢false (sym t)), λ h. absurd (look_missed m l (length l) s u is g seeded (sym e) refl trees a h))
-look_over m l s u (suc r) is g seeded e any trees a =
-    (λ t. look_found m l (length l) s u is g seeded (λ z. (let w : suc r ≡ 0 = e ∙ z in omega arith)) (omega arith) any trees a, λ h. ap not (ne_eqb (suc r) 0 (omega arith)))

@@ -13,4 +13,7 @@ pub mod Gaps
 pub mod StateSets
 pub mod Closures
 pub mod Searches
+pub mod Steps
+pub mod Stands
+pub mod Memories
 pub mod Views

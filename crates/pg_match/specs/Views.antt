@@ -5,6 +5,9 @@ use Rattle.pg_match.specs.Closures.{AreSeeds}
 use Rattle.pg_match.specs.declared.automaton.Automaton.{Automaton}
 use Rattle.pg_match.specs.declared.state_set.StateSet.{StateSet}
 use Rattle.pg_match.specs.declared.search.StateSets.{StateSets}
+use Rattle.pg_match.specs.Memories.{Remembered, IsMemoryOf}
+use Rattle.pg_match.specs.declared.memory.Memory.{Memory}
+use Rattle.std.specs.Prelude.{Option, Some, None}
 
 abbrev pub nfa : {A : Type 0} → Automaton A → Nfa
 nfa m = record { states = m.states.items; start = m.start; bounds = m.bounds; some = m.some }
@@ -18,3 +21,18 @@ buffers s = record { current = members s.current; next = members s.next }
 -- what the automaton keeps as its seeds are the seeds of its start
 abbrev pub HasSeeds : {A : Type 0} → Automaton A → Type 0
 HasSeeds m = AreSeeds m.states.items m.start m.seeds.items
+
+abbrev pub remembered : {A : Type 0} → Memory A → Remembered
+remembered t = record {
+  steps = t.steps.items;
+  ends = t.ends.items;
+  fresh = t.fresh.items;
+  pool = t.pool.items;
+  cuts = t.cuts.items;
+  count = t.count;
+}
+
+-- what is remembered, if anything is, is true of the automaton
+abbrev pub Remembers : {A : Type 0} → Option (Memory A) → Nfa → Type 0
+Remembers None m = Unit {0}
+Remembers (Some t) m = IsMemoryOf m (remembered t)

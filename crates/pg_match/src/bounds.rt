@@ -13,7 +13,7 @@ pub enum Bounds {
     Whole,
 }
 
-fn is_word_byte(byte: u8) -> bool
+pub(crate) fn is_word_byte(byte: u8) -> bool
     ensures { result ≡ is_word_byte byte }
 {
     byte == b'_'

@@ -11,6 +11,7 @@ ghost use Rattle.pg_match.specs.declared.bounds.Bounds.{Bounds};
 use crate::automaton::Automaton;
 use crate::bounds::Bounds;
 use crate::build::assemble;
+use crate::memory::Memory;
 use crate::search::StateSets;
 use crate::size::{MAX_STATES, list_size};
 use pg_syntax::Tree;
@@ -48,11 +49,14 @@ impl<A: Allocator> Model for Machine<A> {
     ghost invariant = { λ m. IsRunnable (nfa (arc_value m.automaton)) × HasSeeds (arc_value m.automaton) };
 }
 
-/// The room that searches with one machine need, so that they ask for no memory.
+/// The room that searches with one machine need, so that they ask for no memory, and what they remember from line to
+/// line.
 #[derive(Drop)]
 pub struct Scratch<A: Allocator = Global> {
     automaton: Arc<Automaton<A>, A>,
     sets: StateSets<A>,
+    /// None where the memory for it was refused. Searches are slower then.
+    memory: Option<Memory<A>>,
 }
 
 impl<A: Allocator> Model for Scratch<A> {
@@ -60,13 +64,14 @@ impl<A: Allocator> Model for Scratch<A> {
     ghost use Rattle.std.specs.Arc.{arc_value};
     ghost use Rattle.pg_match.specs.Machines.{Room};
     ghost use Rattle.pg_match.specs.StateSets.{HaveRoom};
-    ghost use Rattle.pg_match.specs.Views.{nfa, buffers};
+    ghost use Rattle.pg_match.specs.Views.{nfa, buffers, Remembers};
 
     ghost Value = { Room };
 
     ghost view = { λ s. record { machine = nfa (arc_value s.automaton); visits = s.sets.visits } };
 
-    ghost invariant = { λ s. HaveRoom (buffers s.sets) (length (nfa (arc_value s.automaton)).states) };
+    ghost invariant = { λ s. HaveRoom (buffers s.sets) (length (nfa (arc_value s.automaton)).states)
+        × Remembers s.memory (nfa (arc_value s.automaton)) };
 }
 
 impl From<AllocError> for BuildFault {
@@ -114,7 +119,7 @@ impl<A: Allocator> Machine<A> {
             → scratch.new.visits ≤ (length line.now + 1) * list_size patterns }
     {
         let automaton: &Automaton<A> = &self.automaton;
-        automaton.selects(&mut scratch.sets, line)
+        automaton.selects(&mut scratch.sets, &mut scratch.memory, line)
     }
 
     /// The matched part that -o shows next: of the spans from `from` on that are matched and not
@@ -137,7 +142,7 @@ impl<A: Allocator> Machine<A> {
             → scratch.new.visits ≤ (length line.now + 1) * list_size patterns }
     {
         let automaton: &Automaton<A> = &self.automaton;
-        automaton.next_piece(&mut scratch.sets, line, from)
+        automaton.next_piece(&mut scratch.sets, &mut scratch.memory, line, from)
     }
 }
 
@@ -157,7 +162,7 @@ fn share<A: Allocator + Copy>(
 }
 
 impl<A: Allocator> Scratch<A> {
-    /// Room for searches with a machine.
+    /// Room for searches with a machine. Where only the memory for what they remember is refused, they are slower.
     pub fn new(alloc: A, machine: &Machine<A>) -> Result<Scratch<A>, AllocError>
     where
         A: Copy,
@@ -166,7 +171,12 @@ impl<A: Allocator> Scratch<A> {
         let automaton = Arc::try_clone(&machine.automaton)?;
         let states: &Automaton<A> = &machine.automaton;
         let sets = StateSets::new(alloc, states.states.len())?;
-        Ok(Scratch { automaton, sets })
+        let memory = Memory::new(alloc, states.states.len()).ok();
+        Ok(Scratch {
+            automaton,
+            sets,
+            memory,
+        })
     }
 
     /// Whether the scratch was made for this machine, or for one with the same automaton. The time

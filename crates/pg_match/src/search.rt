@@ -217,33 +217,6 @@ impl<A: Allocator> Automaton<A> {
         mem::swap(&mut sets.current, &mut sets.next);
     }
 
-    /// Whether some span of the line is a hit.
-    pub(crate) fn selects(&self, sets: &mut StateSets<A>, line: &[u8]) -> bool
-        requires runs { IsRunnable (nfa self.now) }
-        requires seeds { HasSeeds self.now }
-        requires room { HaveRoom (buffers sets.old) (length self.now.states.items) }
-        requires short { length line.now ≤ 2 ^ 30 }
-        ensures room { HaveRoom (buffers sets.new) (length self.now.states.items) }
-        ensures exact { (patterns : List Pattern) → Agrees (nfa self.now) patterns
-            → (IsTrue result ↔ HasHit patterns self.now.bounds line.now) }
-        ensures visits { sets.new.visits ≤ (length line.now + 1) * length self.now.states.items }
-    {
-        sets.current.clear();
-        sets.visits = 0;
-        if !self.some {
-            return false;
-        }
-        for place in 0..line.len() {
-            self.fill(sets, line, place, true);
-            if self.ending(&sets.current, line, place) != 0 {
-                return true;
-            }
-            self.advance(sets, line, place, None);
-        }
-        self.fill(sets, line, line.len(), true);
-        self.ending(&sets.current, line, line.len()) != 0
-    }
-
     /// The best span from a place on, by runs of the automaton.
     pub(crate) fn find(
         &self,
@@ -272,26 +245,5 @@ impl<A: Allocator> Automaton<A> {
             }
         }
         self.settle(sets, line, line.len(), best)
-    }
-
-    /// The hit that comes next from a place on.
-    pub(crate) fn next_piece(
-        &self,
-        sets: &mut StateSets<A>,
-        line: &[u8],
-        from: usize,
-    ) -> Option<(usize, usize)>
-        requires runs { IsRunnable (nfa self.now) }
-        requires seeds { HasSeeds self.now }
-        requires room { HaveRoom (buffers sets.old) (length self.now.states.items) }
-        requires short { length line.now ≤ 2 ^ 30 }
-        requires from_in { from ≤ length line.now }
-        ensures room { HaveRoom (buffers sets.new) (length self.now.states.items) }
-        ensures next { (patterns : List Pattern) → Agrees (nfa self.now) patterns
-            → MatchOption result (HasNoNext patterns self.now.bounds line.now from)
-            (λ b. IsNext patterns self.now.bounds line.now from b.0 b.1) }
-        ensures visits { sets.new.visits ≤ (length line.now + 1) * length self.now.states.items }
-    {
-        self.find(sets, line, from)
     }
 }

@@ -1,0 +1,16 @@
+use Rattle.pg_match.specs.Views.{nfa}
+use Rattle.pg_match.proofs.SkimLemmas.{best_none, best_later}
+use Rattle.pg_match.proofs.automaton.Automaton.find_by.Goals as goal
+
+pub returns-in-NoHit-clause-best : goal.returns-in-NoHit-clause-best
+returns-in-NoHit-clause-best g c = best_none (nfa c.args.self.now) c.args.line.now c.args.from c.in-NoHit.ensures
+
+pub returns-in-Known-clause-best : goal.returns-in-Known-clause-best
+returns-in-Known-clause-best g c =
+    let s = c.in-Known.ensures in
+    best_later (nfa c.args.self.now) c.args.line.now c.args.from _ c.find.result s.0 s.2 c.find.ensures.best
+
+pub returns-in-Unknown-clause-best : goal.returns-in-Unknown-clause-best
+returns-in-Unknown-clause-best g c =
+    let s = c.in-Unknown.ensures in
+    best_later (nfa c.args.self.now) c.args.line.now c.args.from _ c.find-best.result s.0 s.2 c.find-best.ensures.best

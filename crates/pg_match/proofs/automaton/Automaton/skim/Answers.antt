@@ -1,0 +1,89 @@
+use Rattle.std.proofs.Common.{◌≡◌, ◌+◌, ◌/◌, ◌<◌, ◌≤◌, ◌∙◌, get_or, length, arith, sym, true≢false, false}
+use Rattle.std.proofs.lemmas.List.{get_or_read}
+use Rattle.std.proofs.lemmas.Option.{slice_get-get_or}
+use Rattle.pg_match.specs.Views.{nfa, remembered}
+use Rattle.pg_match.proofs.MemoryLemmas.{in_table, row_next}
+use Rattle.pg_match.proofs.SkimLemmas.{skim_first, skim_later, skim_on, skim_fresh}
+use Rattle.pg_match.proofs.automaton.Automaton.skim.Goals as goal
+use Rattle.pg_match.proofs.automaton.Automaton.skim.Goals.{then-from-eq0, else-from-eq0}
+
+pub loop-place-init : goal.loop-place-init
+loop-place-init g c =
+    let m = nfa c.args.self.now in
+    let mem = remembered c.args.memory.now in
+    let l = c.args.line.now in
+    let place = c.saturating_sub-place.ensures in
+    elim c.if-from-eq0.branch [
+      | then-from-eq0 w ↦
+          rw (w.state-is, w.if-from-eq0.true)
+          (skim_first m mem l c.saturating_sub-place.result c.requires.memory (omega (arith, c.if-memory-eq0.false)) c.requires.bytes
+          (omega (arith, w.if-from-eq0.true)))
+      | else-from-eq0 w ↦
+          rw w.state-is
+          (skim_later m mem l c.args.from c.saturating_sub-place.result c.requires.memory w.if-from-eq0.false c.requires.from_in (omega arith))
+    ]
+
+pub index-requires : goal.index-requires
+index-requires g c =
+    let m = nfa c.args.self.now in
+    let mem = remembered c.args.memory.now in
+    let l = c.args.line.now in
+    let s = c.loop-place.invariant in
+    let p = c.loop-place.place in
+    let at = c.loop-place.state in
+    let v = c.index-next.result.now in
+    let more : p + 1 < length l = omega (arith, c.loop-place-test.true) in
+    let b = get_or l p 0 in
+    let lt : b < 256 = omega (arith, c.type_inv.line p) in
+    let read = get_or_read mem.steps (at + b) v (in_table m mem at b c.requires.memory s.row lt) c.index-next.ensures 0 in
+    let big : 256 ≤ v = omega (arith, c.if-next-lt256.false) in
+    let row = row_next m mem at v b c.requires.memory s.row lt read big in
+    let size = c.args.memory.now.fresh.ok.0 in
+    omega (arith, row.0.known, c.requires.memory.shape.few, c.requires.memory.shape.fresh_size)
+
+pub loop-place-preserved-then-index : goal.loop-place-preserved-then-index
+loop-place-preserved-then-index g c =
+    let m = nfa c.args.self.now in
+    let mem = remembered c.args.memory.now in
+    let l = c.args.line.now in
+    let s = c.loop-place.invariant in
+    let p = c.loop-place.place in
+    let at = c.loop-place.state in
+    let v = c.index-next.result.now in
+    let more : p + 1 < length l = omega (arith, c.loop-place-test.true) in
+    let b = get_or l p 0 in
+    let lt : b < 256 = omega (arith, c.type_inv.line p) in
+    let read = get_or_read mem.steps (at + b) v (in_table m mem at b c.requires.memory s.row lt) c.index-next.ensures 0 in
+    let big : 256 ≤ v = omega (arith, c.if-next-lt256.false) in
+    let row = row_next m mem at v b c.requires.memory s.row lt read big in
+    let size = c.args.memory.now.fresh.ok.0 in
+    let inside : v / 256 < length mem.fresh = omega (arith, row.0.known, c.requires.memory.shape.few, c.requires.memory.shape.fresh_size) in
+    let fresh = get_or_read mem.fresh (v / 256) c.index.result.now inside c.index.ensures false in
+    skim_fresh m mem l c.args.from p at c.loop-place.start v b c.requires.runs c.requires.memory lt (slice_get-get_or l p 0 (omega arith)) more read big s
+    (sym fresh ∙ c.if-index.true)
+
+pub loop-place-preserved : goal.loop-place-preserved
+loop-place-preserved g c =
+    let m = nfa c.args.self.now in
+    let mem = remembered c.args.memory.now in
+    let l = c.args.line.now in
+    let s = c.loop-place.invariant in
+    let p = c.loop-place.place in
+    let at = c.loop-place.state in
+    let v = c.index-next.result.now in
+    let more : p + 1 < length l = omega (arith, c.loop-place-test.true) in
+    let b = get_or l p 0 in
+    let lt : b < 256 = omega (arith, c.type_inv.line p) in
+    let read = get_or_read mem.steps (at + b) v (in_table m mem at b c.requires.memory s.row lt) c.index-next.ensures 0 in
+    let big : 256 ≤ v = omega (arith, c.if-next-lt256.false) in
+    skim_on m mem l c.args.from p at c.loop-place.start v b c.requires.runs c.requires.memory lt (slice_get-get_or l p 0 (omega arith)) more read big s
+
+pub returns-in-Some-false : goal.returns-in-Some-false
+returns-in-Some-false g c = λ run.
+    let l = c.args.line.now in
+    let s = c.loop-place.invariant in
+    let p = c.loop-place.place in
+    let lt = s.within in
+    let end : p + 1 ≡ length l = omega (arith, c.loop-place-test.false) in
+    let so = c.in-Some-false.ensures l c.args.from p s.stands (slice_get-get_or l p 0 lt) end s.near in
+    true≢false (sym (so.1 run) ∙ c.in-Some-false.field-0-test)

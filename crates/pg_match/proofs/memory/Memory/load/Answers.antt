@@ -1,0 +1,49 @@
+use Rattle.std.proofs.Common.{◌<◌, ◌≤◌, ◌+◌, length, arith, sym, subst}
+use Rattle.std.proofs.lemmas.List.{get_or_read}
+use Rattle.std.specs.Prelude.{slice_index}
+use Rattle.pg_match.proofs.MemoryLemmas.{loading_next}
+use Rattle.pg_match.specs.Views.{members, remembered}
+use Rattle.pg_match.proofs.memory.Memory.load.Goals as goal
+
+pub insert-requires-clause-within : goal.insert-requires-clause-within
+insert-requires-clause-within g c =
+    let mem = remembered c.args.self.now in
+    let row = c.args.row in
+    let shape = c.requires.shape in
+    let start = get_or_read mem.cuts row c.index.result.now (omega (arith, shape.cuts_size, shape.few)) c.index.ensures 0 in
+    let end = get_or_read mem.cuts (row + 1) c.index-2.result.now (omega (arith, shape.cuts_size, shape.few)) c.index-2.ensures 0 in
+    let up = shape.upto (row + 1) (omega arith) in
+    let rm = shape.room in
+    let lt : c.loop-k.k < length mem.pool = omega (arith, shape.pool_size) in
+    let x = get_or_read mem.pool c.loop-k.k c.index-in-loop-k.result.now lt c.index-in-loop-k.ensures 0 in
+    let w = shape.within row c.index-in-loop-k.result.now c.requires.known (c.loop-k.k, omega arith, omega arith, sym x) in
+    omega (arith, w, c.loop-k.invariant.size)
+
+pub loop-k-preserved : goal.loop-k-preserved
+loop-k-preserved g c =
+    let mem = remembered c.args.self.now in
+    let row = c.args.row in
+    let shape = c.requires.shape in
+    let start = get_or_read mem.cuts row c.index.result.now (omega (arith, shape.cuts_size, shape.few)) c.index.ensures 0 in
+    let end = get_or_read mem.cuts (row + 1) c.index-2.result.now (omega (arith, shape.cuts_size, shape.few)) c.index-2.ensures 0 in
+    let up = shape.upto (row + 1) (omega arith) in
+    let rm = shape.room in
+    let lt : c.loop-k.k < length mem.pool = omega (arith, shape.pool_size) in
+    let x = get_or_read mem.pool c.loop-k.k c.index-in-loop-k.result.now lt c.index-in-loop-k.ensures 0 in
+    loading_next mem row (members c.args.set.now) (members c.loop-k.set) (members c.insert.new.self) c.loop-k.k c.index-in-loop-k.result.now c.loop-k.invariant (omega arith) x c.insert.ensures
+
+pub returns-clause-same : goal.returns-clause-same
+returns-clause-same g c =
+    let mem = remembered c.args.self.now in
+    let row = c.args.row in
+    let shape = c.requires.shape in
+    let start = get_or_read mem.cuts row c.index.result.now (omega (arith, shape.cuts_size, shape.few)) c.index.ensures 0 in
+    let end = get_or_read mem.cuts (row + 1) c.index-2.result.now (omega (arith, shape.cuts_size, shape.few)) c.index-2.ensures 0 in
+    let ord = shape.order row c.requires.known in
+    let upper : c.loop-k.k ≤ c.index-2.result.now = c.loop-k.auto.k-end (omega arith) in
+    let inv = c.loop-k.invariant in
+    λ q. (
+      λ h. subst (λ v. 0 < slice_index (members c.loop-k.set).marks v) h.3 (inv.all h.0 h.1 (omega (arith, h.1, h.2))),
+      λ h. let w = inv.from q h in
+          (w.0, w.1, omega (arith, w.2, end, upper), w.3),
+    )

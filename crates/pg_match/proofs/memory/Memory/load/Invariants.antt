@@ -1,0 +1,6 @@
+use Rattle.pg_match.proofs.MemoryLemmas.{Loading}
+use Rattle.pg_match.specs.Views.{members, remembered}
+use Rattle.pg_match.proofs.memory.Memory.load.Given as goal
+
+abbrev pub invariant-loop-k : goal.invariant-loop-k
+invariant-loop-k g l = Loading (remembered l.self) l.row (members l.fn.set) (members l.set) l.k

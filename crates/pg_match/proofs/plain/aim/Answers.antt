@@ -1,0 +1,40 @@
+use Rattle.std.proofs.Common.{◌≡◌, ◌<◌, length, get_or, arith, sym, refl, subst}
+use Rattle.std.specs.Prelude.{slice_get, Some}
+use Rattle.pg_match.specs.declared.state.State.TheVariants.{Fail}
+use Rattle.pg_match.specs.Views.{members}
+use Rattle.pg_match.specs.StateSets.{listed}
+use Rattle.pg_match.proofs.StateSetLemmas.{read_listed, listed_in}
+use Rattle.pg_match.proofs.ClosureLemmas.{stands}
+use Rattle.pg_match.proofs.StepLemmas.{aimed_over, aimed_next, aimed_none, aimed_refused}
+use Rattle.pg_match.proofs.plain.aim.Goals as goal
+use Rattle.pg_match.proofs.plain.aim.Goals.{in-Read+then-contains, in-Read+else-contains, in_default}
+
+pub bounds-states-state : goal.bounds-states-state
+bounds-states-state g c =
+    let lt : c.loop-k.k < c.args.current.now.len = omega arith in
+    let e = read_listed (members c.args.current.now) c.loop-k.k _ c.requires.good lt c.index-state.ensures in
+    let n = listed_in (members c.args.current.now) c.loop-k.k c.requires.good lt in
+    omega (arith, e, n)
+
+pub loop-k-preserved : goal.loop-k-preserved
+loop-k-preserved g c =
+    let now = (members c.args.current.now) in
+    let t = c.args.states.now in
+    let b = c.args.byte in
+    let k = c.loop-k.k in
+    let lt : c.loop-k.k < c.args.current.now.len = omega arith in
+    let e : c.index-state.result.now ≡ listed now k = read_listed (members c.args.current.now) c.loop-k.k _ c.requires.good lt c.index-state.ensures in
+    let n = listed_in now k c.requires.good lt in
+    let inside : c.index-state.result.now < length c.args.states.now = omega (arith, e, n) in
+    elim c.match-states-state.branch [
+      | in-Read+then-contains w ↦
+          let is = rw e at (stands _ _ _ inside w.in-Read.is) in
+          rw w.next-is (aimed_next t b now _ _ k w.in-Read.set w.in-Read.to c.loop-k.invariant lt c.requires.good is (sym w.if-contains.ensures) w.insert.ensures)
+      | in-Read+else-contains w ↦
+          let is = rw e at (stands _ _ _ inside w.in-Read.is) in
+          rw w.next-is (aimed_over t b now _ k c.loop-k.invariant (aimed_refused t b now k w.in-Read.set w.in-Read.to is (sym w.if-contains.ensures)))
+      | in_default w ↦
+          let st = get_or t c.index-state.result.now Fail in
+          let is = subst (λ q. slice_get t q ≡ Some st) e (stands _ _ _ inside refl) in
+          rw w.next-is (aimed_over t b now _ k c.loop-k.invariant (aimed_none t b now k st is w.in_default.not-Read))
+    ]

@@ -1,0 +1,6 @@
+use Rattle.pg_match.specs.Views.{members}
+use Rattle.pg_match.specs.Steps.{Aimed}
+use Rattle.pg_match.proofs.plain.aim.Given as goal
+
+abbrev pub invariant-loop-k : goal.invariant-loop-k
+invariant-loop-k g l = Aimed l.states l.byte (members l.current) (members l.next) l.k

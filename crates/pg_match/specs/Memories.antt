@@ -1,0 +1,144 @@
+-- Sets of states that are remembered, and where each byte leads from them.
+use Rattle.std.specs.Prelude.{◌≡◌, ℕ, ◌+◌, ◌*◌, ◌/◌, ◌<◌, ◌≤◌, ◌⊎◌, ◌↔◌, Bool, IsTrue, List, length, Option, Some, None}
+use Rattle.std.specs.Prelude.{slice_get, slice_index, slice_index_or, slice_set, true, false}
+use Rattle.pg_match.specs.Automata.{Nfa}
+use Rattle.pg_match.specs.StateSets.{Members}
+use Rattle.pg_match.specs.Steps.{Has, Starts, Goes, HitBefore, AnswersEnd, ReadsNone}
+use Rattle.pg_match.specs.Stands.{Stands, HasRun, NoneBefore}
+use Rattle.pg_match.specs.declared.recall.Next.{Next}
+use Rattle.pg_match.specs.declared.recall.Next.TheVariants.{Hit, Row, Lost}
+use Rattle.pg_match.specs.declared.skim.Skim.{Skim}
+use Rattle.pg_match.specs.declared.skim.Skim.TheVariants.{NoHit, Known, Unknown}
+
+-- Row r has the steps from 256 * r on, one for each byte, the r-th answer at a line's end, and whether it is fresh, and
+-- its states lie between two cuts of the pool. Row 0 has no state, and row 1 is that of a line's first place.
+pub record Remembered : Type 0 where
+  pub steps : List ℕ
+  pub ends : List (Option Bool)
+  pub fresh : List Bool
+  pub pool : List ℕ
+  pub cuts : List ℕ
+  pub count : ℕ
+
+-- where the states of row r begin in the pool, and those of the row before it end
+abbrev pub cut : Remembered → ℕ → ℕ
+cut t r = slice_index t.cuts r
+
+-- the answer of row r at a line's end, if it is known
+abbrev pub ended : Remembered → ℕ → Option Bool
+ended t r = slice_index_or t.ends r None
+
+-- row r is only for places where no run is left that began before them
+abbrev pub fresh_at : Remembered → ℕ → Bool
+fresh_at t r = slice_index_or t.fresh r false
+
+-- the state is in the set of row r
+abbrev pub In : Remembered → ℕ → ℕ → Type 0
+In t r q = (j : ℕ) × (cut t r ≤ j) × (j < cut t (r + 1)) × (slice_index t.pool j ≡ q)
+
+-- the same states
+abbrev pub Same : (ℕ → Type 0) → (ℕ → Type 0) → Type 0
+Same S U = (q : ℕ) → (S q → U q) × (U q → S q)
+
+-- the room for 256 sets of states below n
+pub record IsShape (n : ℕ) (t : Remembered) : Type 0 where
+  pub steps_size : length t.steps ≡ 65792
+  pub ends_size : length t.ends ≡ 257
+  pub pool_size : length t.pool ≤ 1048576
+  pub fresh_size : length t.fresh ≡ 257
+  pub cuts_size : length t.cuts ≡ 258
+  pub none : cut t 0 ≡ cut t 1
+  pub few : t.count ≤ 256
+  pub order : (r : ℕ) → r ≤ t.count → cut t r ≤ cut t (r + 1)
+  pub upto : (r : ℕ) → r ≤ t.count + 1 → cut t r ≤ cut t (t.count + 1)
+  pub room : cut t (t.count + 1) ≤ length t.pool
+  pub within : (r q : ℕ) → r ≤ t.count → In t r q → q < n
+
+-- what is known of a row and a byte: nothing, that a match ends before the byte, or that none does and which row is
+-- next, which is fresh only if no state of the row reads the byte
+abbrev pub Told : Nfa → Remembered → ℕ → ℕ → ℕ → Type 0
+Told m t r b v =
+    (v ≡ 0) ⊎ (((v ≡ 1) × HitBefore m b (In t r))
+    ⊎ ((k : ℕ) × (v ≡ 256 * k) × (1 ≤ k) × (k ≤ t.count) × (HitBefore m b (In t r) → ⊥) × Goes m b (In t r) (In t k)
+    × (fresh_at t k ≡ true → ReadsNone m b (In t r))))
+
+-- what is remembered is true of the automaton, for every line
+pub record IsMemoryOf (m : Nfa) (t : Remembered) : Type 0 where
+  pub shape : IsShape (length m.states) t
+  pub told : (r b : ℕ) → r ≤ t.count → b < 256 → Told m t r b (slice_index t.steps (256 * r + b))
+  pub blank : (i : ℕ) → 256 * (t.count + 1) ≤ i → slice_index t.steps i ≡ 0
+  pub told_end : (r : ℕ) (answer : Bool) → ended t r ≡ Some answer
+      → (r ≤ t.count) × AnswersEnd m false (In t r) answer
+  pub first : 1 ≤ t.count → Starts m (In t 1)
+
+-- room for sets, and none of them
+pub record IsBlank (n : ℕ) (t : Remembered) : Type 0 where
+  pub shape : IsShape n t
+  pub steps : (i : ℕ) → slice_index t.steps i ≡ 0
+  pub ends : (r : ℕ) → ended t r ≡ None
+  pub count : t.count ≡ 0
+
+-- the rows of the old table stand in the new one
+pub record Keeps (old new : Remembered) : Type 0 where
+  pub sets : (r : ℕ) → r ≤ old.count → Same (In old r) (In new r)
+  pub fresh : (r : ℕ) → r ≤ old.count → fresh_at new r ≡ fresh_at old r
+  pub more : old.count ≤ new.count
+
+-- the set was added as a row
+pub record Grown (n : ℕ) (old new : Remembered) (s : Members) (fresh : Bool) : Type 0 where
+  pub shape : IsShape n new
+  pub keeps : Keeps old new
+  pub steps : new.steps ≡ old.steps
+  pub ends : new.ends ≡ old.ends
+  pub count : new.count ≡ old.count + 1
+  pub here : Same (Has s) (In new new.count)
+  pub fresh_here : fresh_at new new.count ≡ fresh
+
+-- the sets are the old ones
+pub record SameSets (old new : Remembered) : Type 0 where
+  pub fresh : new.fresh ≡ old.fresh
+  pub pool : new.pool ≡ old.pool
+  pub cuts : new.cuts ≡ old.cuts
+  pub count : new.count ≡ old.count
+
+-- a step was written
+pub record Marked (old new : Remembered) (i v : ℕ) : Type 0 where
+  pub steps : new.steps ≡ slice_set old.steps i v
+  pub ends : new.ends ≡ old.ends
+  pub sets : SameSets old new
+
+-- the answer at a line's end was written
+pub record MarkedEnd (old new : Remembered) (r : ℕ) (answer : Bool) : Type 0 where
+  pub ends : new.ends ≡ slice_set old.ends r (Some answer)
+  pub steps : new.steps ≡ old.steps
+  pub sets : SameSets old new
+
+-- the state of a walk is 256 times a row
+pub record IsAtRow (t : Remembered) (state : ℕ) : Type 0 where
+  pub row : state ≡ 256 * (state / 256)
+  pub known : state / 256 ≤ t.count
+
+-- the row of a walk's state is the set of the place
+abbrev pub StandsAt : Nfa → Remembered → List ℕ → ℕ → ℕ → ℕ → Type 0
+StandsAt m t l from p state = Stands m l from p (In t (state / 256))
+
+-- what was learned of a row and a byte
+abbrev pub Learned : Nfa → Remembered → Remembered → ℕ → ℕ → Members → Next → Type 0
+Learned m old new r b s Hit = HitBefore m b (In old r)
+Learned m old new r b s (Row v) =
+    IsAtRow new v × (HitBefore m b (In old r) → ⊥) × Goes m b (In old r) (In new (v / 256))
+    × Same (Has s) (In new (v / 256))
+Learned m old new r b s Lost = (HitBefore m b (In old r) → ⊥) × Goes m b (In old r) (Has s)
+
+-- where the row's set stands before a line's last byte, the answer is whether the line has a match
+abbrev pub Finishes : Nfa → ℕ → (ℕ → Type 0) → Bool → Type 0
+Finishes m b S answer =
+    (l : List ℕ) (from p : ℕ) → Stands m l from p S → slice_get l p ≡ Some b → p + 1 ≡ length l → from ≤ p + 1
+    → IsTrue answer ↔ HasRun m l from
+
+-- What the remembered rows tell of the hits of a line from a place on: that there are none, or that none begins before
+-- another place.
+abbrev pub Skimmed : Nfa → List ℕ → ℕ → Skim → Type 0
+Skimmed m l from NoHit = HasRun m l from → ⊥
+Skimmed m l from (Known start) = (from ≤ start) × (start ≤ length l) × NoneBefore m l from start
+Skimmed m l from (Unknown start) = (from ≤ start) × (start ≤ length l) × NoneBefore m l from start

@@ -1,0 +1,209 @@
+//! The search for any match at all, which needs no marks.
+ghost use Rattle.std.specs.Prelude.{◌≡◌, ◌+◌, ◌*◌, ◌<◌, ◌≤◌, ◌^◌, ◌↔◌, length, IsTrue};
+ghost use Rattle.pg_match.specs.Automata.{IsTidy, IsRunnable};
+ghost use Rattle.pg_match.specs.StateSets.{IsGood, HaveRoom};
+ghost use Rattle.pg_match.specs.Steps.{Spread, Closed, Aimed, Has, Goes, Starts, HitBefore, AnswersEnd, ReadsNone};
+ghost use Rattle.pg_match.specs.Steps.{begins_after, ends_before};
+ghost use Rattle.pg_match.specs.Stands.{Stands, HasRun};
+ghost use Rattle.pg_match.specs.Views.{nfa, members, buffers};
+
+use crate::automaton::Automaton;
+use crate::bounds::{Bounds, is_word_byte};
+use crate::search::StateSets;
+use crate::state::State;
+use crate::state_set::StateSet;
+use std::alloc::Allocator;
+use std::mem;
+
+/// Adds the states that a state leads to without reading a byte.
+#[inline(always)]
+fn spread<A: Allocator>(
+    states: &[State],
+    set: &mut StateSet<A>,
+    state: u32,
+    first: bool,
+    last: bool,
+)
+    requires tidy { IsTidy states.now }
+    requires good { IsGood (members set.old) }
+    requires size { length set.old.marks.items ≡ length states.now }
+    requires within { state < length states.now }
+    ensures { Spread states.now first last (members set.old) (members set.new) state }
+{
+    match states[state as usize] {
+        State::Jump(next) => set.insert(next, 1),
+        State::AtBegin(next) => {
+            if first {
+                set.insert(next, 1);
+            }
+        }
+        State::AtEnd(next) => {
+            if last {
+                set.insert(next, 1);
+            }
+        }
+        State::Split(one, other) => {
+            set.insert(one, 1);
+            set.insert(other, 1);
+        }
+        State::Read(_, _) | State::Fail | State::Accept => {}
+    }
+}
+
+/// Adds all that the states of a set lead to without reading a byte.
+fn close<A: Allocator>(states: &[State], set: &mut StateSet<A>, first: bool, last: bool)
+    requires tidy { IsTidy states.now }
+    requires good { IsGood (members set.old) }
+    requires size { length set.old.marks.items ≡ length states.now }
+    ensures { Closed states.now first last (members set.old) (members set.new) }
+{
+    let mut next = 0;
+    while next < set.len {
+        let from = set.order[next];
+        spread(states, set, from, first, last);
+        next += 1;
+    }
+}
+
+/// Makes the set of the states that a byte leads to.
+fn aim<A: Allocator>(states: &[State], byte: u8, current: &StateSet<A>, next: &mut StateSet<A>)
+    requires tidy { IsTidy states.now }
+    requires good { IsGood (members current.now) }
+    requires size { length current.now.marks.items ≡ length states.now }
+    requires next_good { IsGood (members next.old) }
+    requires next_size { length next.old.marks.items ≡ length states.now }
+    ensures { Aimed states.now byte (members current.now) (members next.new) current.now.len }
+{
+    next.clear();
+    for k in 0..current.len {
+        let state = current.order[k];
+        if let State::Read(set, to) = &states[state as usize] {
+            if set.contains(byte) {
+                next.insert(*to, 1);
+            }
+        }
+    }
+}
+
+impl Bounds {
+    /// Whether a match may begin right behind a byte.
+    fn begins_after(self, byte: u8) -> bool
+        ensures { result ≡ begins_after self byte }
+    {
+        match self {
+            Bounds::Any => true,
+            Bounds::Word => !is_word_byte(byte),
+            Bounds::Whole => false,
+        }
+    }
+
+    /// Whether a match may end right before a byte.
+    fn ends_before(self, byte: u8) -> bool
+        ensures { result ≡ ends_before self byte }
+    {
+        match self {
+            Bounds::Any => true,
+            Bounds::Word => !is_word_byte(byte),
+            Bounds::Whole => false,
+        }
+    }
+}
+
+impl<A: Allocator> Automaton<A> {
+    /// Makes the set of a line's first place, but for what needs the line's end.
+    pub(crate) fn begin(&self, sets: &mut StateSets<A>)
+        requires runs { IsRunnable (nfa self.now) }
+        requires room { HaveRoom (buffers sets.old) (length self.now.states.items) }
+        requires visits { sets.old.visits < 2 ^ 100 }
+        ensures room { HaveRoom (buffers sets.new) (length self.now.states.items) }
+        ensures starts { Starts (nfa self.now) (Has (members sets.new.current)) }
+        ensures visits { sets.new.visits ≡ sets.old.visits + sets.new.current.len }
+    {
+        sets.current.clear();
+        sets.current.insert(self.start, 1);
+        close(&self.states, &mut sets.current, true, false);
+        sets.visits += sets.current.len as u128;
+    }
+
+    /// Goes on to the set behind a byte, but for what needs the line's end. Answers whether no state of the old set
+    /// reads the byte.
+    pub(crate) fn go(&self, sets: &mut StateSets<A>, byte: u8) -> bool
+        requires runs { IsRunnable (nfa self.now) }
+        requires room { HaveRoom (buffers sets.old) (length self.now.states.items) }
+        requires visits { sets.old.visits < 2 ^ 100 }
+        ensures room { HaveRoom (buffers sets.new) (length self.now.states.items) }
+        ensures goes { Goes (nfa self.now) byte (Has (members sets.old.current)) (Has (members sets.new.current)) }
+        ensures fresh { IsTrue result → ReadsNone (nfa self.now) byte (Has (members sets.old.current)) }
+        ensures visits { sets.new.visits ≡ sets.old.visits + sets.new.current.len }
+    {
+        aim(&self.states, byte, &sets.current, &mut sets.next);
+        let is_fresh = sets.next.len == 0;
+        mem::swap(&mut sets.current, &mut sets.next);
+        if self.bounds.begins_after(byte) {
+            sets.current.insert(self.start, 1);
+        }
+        close(&self.states, &mut sets.current, false, false);
+        sets.visits += sets.current.len as u128;
+        is_fresh
+    }
+
+    /// Whether a match ends right before a byte.
+    pub(crate) fn hits_before(&self, set: &StateSet<A>, byte: u8) -> bool
+        requires runs { IsRunnable (nfa self.now) }
+        requires size { length set.now.marks.items ≡ length self.now.states.items }
+        ensures { IsTrue result ↔ HitBefore (nfa self.now) byte (Has (members set.now)) }
+    {
+        self.bounds.ends_before(byte) && set.marks[0] != 0
+    }
+
+    /// Whether a match ends where the line does. The set gets what needs the line's end.
+    pub(crate) fn hits_at_end(&self, sets: &mut StateSets<A>, is_empty: bool) -> bool
+        requires runs { IsRunnable (nfa self.now) }
+        requires room { HaveRoom (buffers sets.old) (length self.now.states.items) }
+        requires visits { sets.old.visits < 2 ^ 100 }
+        ensures room { HaveRoom (buffers sets.new) (length self.now.states.items) }
+        ensures answer { AnswersEnd (nfa self.now) is_empty (Has (members sets.old.current)) result }
+        ensures visits { sets.new.visits + sets.old.current.len ≡ sets.old.visits + sets.new.current.len }
+    {
+        let before = sets.current.len;
+        close(&self.states, &mut sets.current, is_empty, true);
+        sets.visits += (sets.current.len - before) as u128;
+        sets.current.marks[0] != 0
+    }
+
+    /// Goes on from the set of a place without what is remembered.
+    pub(crate) fn search_on(&self, sets: &mut StateSets<A>, line: &[u8], from: usize) -> bool
+        requires runs { IsRunnable (nfa self.now) }
+        requires room { HaveRoom (buffers sets.old) (length self.now.states.items) }
+        requires short { length line.now ≤ 2 ^ 30 }
+        requires from_in { from ≤ length line.now }
+        requires stands { Stands (nfa self.now) line.now 0 from (Has (members sets.old.current)) }
+        requires visits { sets.old.visits ≤ from * length self.now.states.items + sets.old.current.len }
+        ensures room { HaveRoom (buffers sets.new) (length self.now.states.items) }
+        ensures exact { IsTrue result ↔ HasRun (nfa self.now) line.now 0 }
+        ensures visits { sets.new.visits ≤ (length line.now + 1) * length self.now.states.items }
+    {
+        for place in from..line.len() {
+            let byte = line[place];
+            if self.hits_before(&sets.current, byte) {
+                return true;
+            }
+            self.go(sets, byte);
+        }
+        self.hits_at_end(sets, line.is_empty())
+    }
+
+    /// Whether some span of the line is a hit, without what is remembered.
+    pub(crate) fn search(&self, sets: &mut StateSets<A>, line: &[u8]) -> bool
+        requires runs { IsRunnable (nfa self.now) }
+        requires room { HaveRoom (buffers sets.old) (length self.now.states.items) }
+        requires short { length line.now ≤ 2 ^ 30 }
+        requires visits { sets.old.visits ≡ 0 }
+        ensures room { HaveRoom (buffers sets.new) (length self.now.states.items) }
+        ensures exact { IsTrue result ↔ HasRun (nfa self.now) line.now 0 }
+        ensures visits { sets.new.visits ≤ (length line.now + 1) * length self.now.states.items }
+    {
+        self.begin(sets);
+        self.search_on(sets, line, 0)
+    }
+}

@@ -1,0 +1,272 @@
+//! The search for any match at all, by remembered sets.
+ghost use Rattle.std.specs.Prelude.{◌≡◌, ℕ, ◌+◌, ◌*◌, ◌/◌, ◌<◌, ◌≤◌, ◌^◌, ◌↔◌, length, IsTrue, IfSome, List, false};
+ghost use Rattle.pg_syntax.specs.Patterns.{Pattern};
+ghost use Rattle.pg_match.specs.Automata.{IsRunnable};
+ghost use Rattle.pg_match.specs.Hits.{HasHit};
+ghost use Rattle.pg_match.specs.Machines.{Agrees};
+ghost use Rattle.pg_match.specs.StateSets.{IsGood, HaveRoom};
+ghost use Rattle.pg_match.specs.Stands.{HasRun};
+ghost use Rattle.pg_match.specs.Steps.{Has, Starts};
+ghost use Rattle.pg_match.specs.Memories.{IsMemoryOf, In, fresh_at, Same, Keeps, IsAtRow, StandsAt, Learned, Finishes};
+ghost use Rattle.pg_match.specs.Views.{nfa, members, buffers, remembered, Remembers};
+
+use crate::automaton::Automaton;
+use crate::memory::{HIT, Memory};
+use crate::search::StateSets;
+use crate::state_set::StateSet;
+use std::alloc::Allocator;
+
+/// What a byte does to a remembered set.
+#[derive(Clone, Copy)]
+pub(crate) enum Next {
+    /// A match ends before it.
+    Hit,
+    /// It leads to a row. The number is 256 times the row.
+    Row(u32),
+    /// It leads to a set for which there is no room.
+    Lost,
+}
+
+impl<A: Allocator> Automaton<A> {
+    /// The row of a set, fresh or not, or 0 where there is no room.
+    fn keep(&self, memory: &mut Memory<A>, set: &StateSet<A>, is_fresh: bool) -> usize
+        requires memory { IsMemoryOf (nfa self.now) (remembered memory.old) }
+        requires good { IsGood (members set.now) }
+        requires size { length set.now.marks.items ≡ length self.now.states.items }
+        requires some { 1 ≤ memory.old.count }
+        ensures memory { IsMemoryOf (nfa self.now) (remembered memory.new) }
+        ensures keeps { Keeps (remembered memory.old) (remembered memory.new) }
+        ensures known { result ≤ memory.new.count }
+        ensures same { 1 ≤ result → Same (Has (members set.now)) (In (remembered memory.new) result) }
+        ensures fresh { 1 ≤ result → fresh_at (remembered memory.new) result ≡ is_fresh }
+    {
+        let known = memory.find(set, is_fresh);
+        if known != 0 {
+            return known;
+        }
+        if memory.add(set, is_fresh) {
+            memory.count
+        } else {
+            0
+        }
+    }
+
+    /// Finds out where a byte leads from a row, and remembers it if there is room.
+    pub(crate) fn learn(
+        &self,
+        sets: &mut StateSets<A>,
+        memory: &mut Memory<A>,
+        row: usize,
+        byte: u8,
+    ) -> Next
+        requires runs { IsRunnable (nfa self.now) }
+        requires room { HaveRoom (buffers sets.old) (length self.now.states.items) }
+        requires memory { IsMemoryOf (nfa self.now) (remembered memory.old) }
+        requires known { row ≤ memory.old.count }
+        requires some { 1 ≤ memory.old.count }
+        requires visits { sets.old.visits < 2 ^ 99 }
+        ensures room { HaveRoom (buffers sets.new) (length self.now.states.items) }
+        ensures memory { IsMemoryOf (nfa self.now) (remembered memory.new) }
+        ensures learned { Learned (nfa self.now) (remembered memory.old) (remembered memory.new) row byte
+            (members sets.new.current) result }
+        ensures some { 1 ≤ memory.new.count }
+        ensures visits { sets.new.visits ≤ sets.old.visits + sets.new.current.len }
+    {
+        memory.load(row, &mut sets.current);
+        if self.hits_before(&sets.current, byte) {
+            memory.mark(row, byte, HIT);
+            return Next::Hit;
+        }
+        let is_fresh = self.go(sets, byte);
+        let to = self.keep(memory, &sets.current, is_fresh);
+        if to == 0 {
+            return Next::Lost;
+        }
+        memory.mark(row, byte, 256 * to as u32);
+        Next::Row(256 * to as u32)
+    }
+
+    /// Walks by what is remembered, up to the line's last byte.
+    #[inline(always)]
+    pub(crate) fn walk(
+        &self,
+        memory: &Memory<A>,
+        line: &[u8],
+        from: usize,
+        state: u32,
+    ) -> (u32, usize)
+        requires runs { IsRunnable (nfa self.now) }
+        requires memory { IsMemoryOf (nfa self.now) (remembered memory.now) }
+        requires from_in { from < length line.now }
+        requires row { IsAtRow (remembered memory.now) state }
+        ensures within { result.1 < length line.now }
+        ensures onward { from ≤ result.1 }
+        ensures row { IsAtRow (remembered memory.now) result.0 }
+        ensures stands { (start : ℕ) → start ≤ from
+            → StandsAt (nfa self.now) (remembered memory.now) line.now start from state
+            → StandsAt (nfa self.now) (remembered memory.now) line.now start result.1 result.0 }
+    {
+        let mut at = state;
+        let mut place = from;
+        while place + 4 < line.len() {
+            let one = memory.steps[at as usize + line[place] as usize];
+            if one < 256 {
+                break;
+            }
+            let two = memory.steps[one as usize + line[place + 1] as usize];
+            if two < 256 {
+                break;
+            }
+            let three = memory.steps[two as usize + line[place + 2] as usize];
+            if three < 256 {
+                break;
+            }
+            let four = memory.steps[three as usize + line[place + 3] as usize];
+            if four < 256 {
+                break;
+            }
+            at = four;
+            place += 4;
+        }
+        while place + 1 < line.len() {
+            let next = memory.steps[at as usize + line[place] as usize];
+            if next < 256 {
+                break;
+            }
+            at = next;
+            place += 1;
+        }
+        (at, place)
+    }
+
+    /// Sees to the first row, if there is room.
+    pub(crate) fn first(&self, sets: &mut StateSets<A>, memory: &mut Memory<A>) -> bool
+        requires runs { IsRunnable (nfa self.now) }
+        requires room { HaveRoom (buffers sets.old) (length self.now.states.items) }
+        requires memory { IsMemoryOf (nfa self.now) (remembered memory.old) }
+        requires visits { sets.old.visits < 2 ^ 98 }
+        ensures room { HaveRoom (buffers sets.new) (length self.now.states.items) }
+        ensures memory { IsMemoryOf (nfa self.now) (remembered memory.new) }
+        ensures visits { sets.new.visits ≤ sets.old.visits + length self.now.states.items }
+        ensures some { IsTrue result → 1 ≤ memory.new.count }
+        ensures full { result ≡ false → (sets.new.visits ≡ sets.old.visits + sets.new.current.len)
+            × Starts (nfa self.now) (Has (members sets.new.current)) }
+    {
+        if memory.count > 0 {
+            return true;
+        }
+        self.begin(sets);
+        memory.add(&sets.current, true)
+    }
+
+    /// Whether a match ends right before or behind the last byte of a line, if that is remembered.
+    pub(crate) fn recall_end(&self, memory: &Memory<A>, state: u32, byte: u8) -> Option<bool>
+        requires runs { IsRunnable (nfa self.now) }
+        requires memory { IsMemoryOf (nfa self.now) (remembered memory.now) }
+        requires row { IsAtRow (remembered memory.now) state }
+        ensures { IfSome result (Finishes (nfa self.now) byte (In (remembered memory.now) (state / 256))) }
+    {
+        let next = memory.steps[state as usize + byte as usize];
+        if next == HIT {
+            return Some(true);
+        }
+        if next < 256 {
+            return None;
+        }
+        memory.ends[(next / 256) as usize]
+    }
+
+    /// Whether a match ends right before or behind the last byte of a line.
+    pub(crate) fn finish(
+        &self,
+        sets: &mut StateSets<A>,
+        memory: &mut Memory<A>,
+        state: u32,
+        byte: u8,
+    ) -> bool
+        requires runs { IsRunnable (nfa self.now) }
+        requires room { HaveRoom (buffers sets.old) (length self.now.states.items) }
+        requires memory { IsMemoryOf (nfa self.now) (remembered memory.old) }
+        requires row { IsAtRow (remembered memory.old) state }
+        requires some { 1 ≤ memory.old.count }
+        requires visits { sets.old.visits < 2 ^ 98 }
+        ensures room { HaveRoom (buffers sets.new) (length self.now.states.items) }
+        ensures memory { IsMemoryOf (nfa self.now) (remembered memory.new) }
+        ensures finishes { Finishes (nfa self.now) byte (In (remembered memory.old) (state / 256)) result }
+        ensures visits { sets.new.visits ≤ sets.old.visits + length self.now.states.items }
+    {
+        if let Some(answer) = self.recall_end(memory, state, byte) {
+            return answer;
+        }
+        match self.learn(sets, memory, (state / 256) as usize, byte) {
+            Next::Hit => true,
+            Next::Row(to) => {
+                let answer = self.hits_at_end(sets, false);
+                memory.mark_end((to / 256) as usize, answer);
+                answer
+            }
+            Next::Lost => self.hits_at_end(sets, false),
+        }
+    }
+
+    /// Whether some span of a line that isn't empty is a hit, by what is remembered.
+    fn recall(&self, sets: &mut StateSets<A>, memory: &mut Memory<A>, line: &[u8]) -> bool
+        requires runs { IsRunnable (nfa self.now) }
+        requires room { HaveRoom (buffers sets.old) (length self.now.states.items) }
+        requires memory { IsMemoryOf (nfa self.now) (remembered memory.old) }
+        requires bytes { 1 ≤ length line.now }
+        requires short { length line.now ≤ 2 ^ 30 }
+        requires visits { sets.old.visits ≡ 0 }
+        ensures room { HaveRoom (buffers sets.new) (length self.now.states.items) }
+        ensures memory { IsMemoryOf (nfa self.now) (remembered memory.new) }
+        ensures exact { IsTrue result ↔ HasRun (nfa self.now) line.now 0 }
+        ensures visits { sets.new.visits ≤ (length line.now + 1) * length self.now.states.items }
+    {
+        if !self.first(sets, memory) {
+            return self.search_on(sets, line, 0);
+        }
+        let mut state = 256;
+        let mut place = 0;
+        loop {
+            let (at, here) = self.walk(memory, line, place, state);
+            if here + 1 == line.len() {
+                return self.finish(sets, memory, at, line[here]);
+            }
+            match self.learn(sets, memory, (at / 256) as usize, line[here]) {
+                Next::Hit => return true,
+                Next::Row(next) => {
+                    state = next;
+                    place = here + 1;
+                }
+                Next::Lost => return self.search_on(sets, line, here + 1),
+            }
+        }
+    }
+
+    /// Whether some span of the line is a hit.
+    pub(crate) fn selects(
+        &self,
+        sets: &mut StateSets<A>,
+        memory: &mut Option<Memory<A>>,
+        line: &[u8],
+    ) -> bool
+        requires runs { IsRunnable (nfa self.now) }
+        requires room { HaveRoom (buffers sets.old) (length self.now.states.items) }
+        requires memory { Remembers memory.old (nfa self.now) }
+        requires short { length line.now ≤ 2 ^ 30 }
+        ensures room { HaveRoom (buffers sets.new) (length self.now.states.items) }
+        ensures memory { Remembers memory.new (nfa self.now) }
+        ensures exact { (patterns : List Pattern) → Agrees (nfa self.now) patterns
+            → (IsTrue result ↔ HasHit patterns self.now.bounds line.now) }
+        ensures visits { sets.new.visits ≤ (length line.now + 1) * length self.now.states.items }
+    {
+        sets.visits = 0;
+        if !self.some {
+            return false;
+        }
+        match memory {
+            Some(memory) if !line.is_empty() => self.recall(sets, memory, line),
+            _ => self.search(sets, line),
+        }
+    }
+}
