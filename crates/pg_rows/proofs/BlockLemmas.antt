@@ -4,8 +4,8 @@ use Rattle.std.proofs.Common.{None, List, [], ◌∷◌, ◌++◌, length, take,
 use Rattle.std.proofs.Common.{append_assoc, length-append, length-drop}
 use Rattle.std.specs.List.{AllByRecursion}
 use Rattle.std.proofs.lemmas.Bool.{lt-ltb, le-ltb, ltb-false, cases_lt}
-use Rattle.std.proofs.lemmas.List.{append-nil, take-append-drop, length-take-le, drop_all}
-use Rattle.pg_lines.specs.Lines.{lines, AreWhole}
+use Rattle.std.proofs.lemmas.List.{take-append-drop, length-take-le, drop_all}
+use Rattle.pg_lines.specs.Lines.{lines}
 use Rattle.pg_lines.specs.Search.{Search, terminator}
 use Rattle.pg_lines.specs.Selection.{selects}
 use Rattle.pg_lines.proofs.LineLemmas.{lines-append, some_line}
@@ -18,6 +18,7 @@ use Rattle.pg_rows.specs.Stretch.{AllSelected, AreUnkept}
 use Rattle.pg_lines.specs.Runs.{AreRuns}
 use Rattle.pg_rows.specs.Progress.{Tells, Passes, Keeps, kept_of}
 use Rattle.pg_rows.proofs.StretchLemmas.{run_append, unselected_unkept, full_unkept}
+use Rattle.pg_rows.proofs.PrintLemmas.{lines_apart}
 use Rattle.pg_rows.proofs.ProgressLemmas.{passes_tells, keeps_tells}
 
 -- How many of some selected lines are kept: those fit, and no other one where there are more.
@@ -65,14 +66,6 @@ abbrev pub AreStretches : Search → ℕ → List (List ℕ) → List Run → Ty
 AreStretches q seen ls [] = AllSelected q false ls
 AreStretches q seen ls (here ∷ runs) =
     (next : IsNextStretch q seen ls here) × AreStretches q (here.first + here.count) next.later runs
-
-lines_apart : (end : ℕ) (text later : List ℕ) → AreWhole end text ⊎ (later ≡ [])
-    → lines end (text ++ later) ≡ lines end text ++ lines end later
-lines_apart end text later (inl whole) = lines-append end text later whole
-lines_apart end text later (inr none) =
-    ap (λ xs. lines end (text ++ xs)) none
-    ∙ (ap (lines end) (append-nil text)
-    ∙ (sym (append-nil (lines end text)) ∙ ap (λ xs. lines end text ++ lines end xs) (sym none)))
 
 some_lines : (end : ℕ) (text : List ℕ) → text ≢ [] → 0 < length (lines end text)
 some_lines end [] some = absurd (some refl)

@@ -1,10 +1,10 @@
 -- The rows of many lines, and of each beginning of them.
-use Rattle.std.proofs.Common.{◌≡◌, ℕ, ◌+◌, ◌-◌, ◌<◌, ◌≤◌, inl, inr, Bool, true, false, cond, not, ◌||◌, nat_lt, Option, Some, None, List, [], ◌∷◌, ◌++◌, length, take, drop, get_or, refl, sym, ap, ◌∙◌, subst, arith, append_assoc}
+use Rattle.std.proofs.Common.{◌≡◌, ℕ, ◌+◌, ◌-◌, ◌<◌, ◌≤◌, inl, inr, Bool, true, false, cond, not, ◌||◌, nat_lt, Option, Some, None, List, [], ◌∷◌, ◌++◌, length, refl, sym, ap, ◌∙◌, subst, arith, append_assoc}
 use Rattle.std.specs.List.{list_any, count_by}
 use Rattle.std.specs.Fmt.{decimal}
 use Rattle.std.proofs.lemmas.Bool.{false≢true, lt-ltb, ltb-false, ltb-true, or_right}
-use Rattle.std.proofs.lemmas.List.{append-nil, take-append-drop, drop_more, take_more}
-use Rattle.std.proofs.lemmas.List.Sums.{sum_by-append, fold_push}
+use Rattle.std.proofs.lemmas.List.{append-nil}
+use Rattle.std.proofs.lemmas.List.Sums.{sum_by-append}
 use Rattle.pg_lines.specs.Search.{Search, terminator}
 use Rattle.pg_lines.specs.Selection.{selects}
 use Rattle.pg_rows.specs.declared.format.Format.{Format}
@@ -32,10 +32,6 @@ rows_more q format name earlier ls (m ∷ ms) t h =
     ∙ (rows_more q format name earlier (ls ++ m ∷ []) ms (step format t (selects q m) m) (trail_step q format ls m t h)
     ∙ (ap (λ xs. xs ++ rest) (rows_step q format ls m t h name earlier)
     ∙ append_assoc (line_rows q format name ls earlier) one rest))
-
--- the rows are the ones that the lines add, one after another
-pub rows_are_run : (q : Search) (format : Format) (name : List ℕ) (earlier : Bool) (ls : List (List ℕ)) → line_rows q format name ls earlier ≡ run_rows q format name earlier no_lines ls
-rows_are_run q format name earlier ls = rows_more q format name earlier [] ls no_lines (no_trail q format)
 
 -- what is written for some lines is a beginning of what is written for more
 pub rows_begin : (q : Search) (format : Format) (name : List ℕ) (earlier : Bool) (ls ms : List (List ℕ)) → IsBeginning (line_rows q format name ls earlier) (line_rows q format name (ls ++ ms) earlier)
@@ -125,22 +121,3 @@ rows_append q format name earlier t (l ∷ ls) ms =
     let next = step format t (selects q l) l in
     ap (λ xs. one ++ xs) (rows_append q format name earlier next ls ms)
     ∙ sym (append_assoc one (run_rows q format name earlier next ls) (run_rows q format name earlier (run q format next ls) ms))
-
-pub rows_split_at : (q : Search) (format : Format) (name : List ℕ) (earlier : Bool) (t : Trail) (ls : List (List ℕ)) (i : ℕ) → i < length ls →
-    let l = get_or ls i [] in
-    let u = run q format t (take i ls) in
-    run_rows q format name earlier t (take i ls) ++ (added format (terminator q) name earlier u (selects q l) l ++ run_rows q format name earlier (step format u (selects q l) l) (drop (i + 1) ls)) ≡ run_rows q format name earlier t ls
-rows_split_at q format name earlier t ls i below =
-    sym (ap (run_rows q format name earlier t) (sym (take-append-drop i ls) ∙ ap (λ xs. take i ls ++ xs) (drop_more ls i [] below)) ∙ rows_append q format name earlier t (take i ls) (get_or ls i [] ∷ drop (i + 1) ls))
-
-pub rows_take_more : (q : Search) (format : Format) (name : List ℕ) (earlier : Bool) (t : Trail) (ls : List (List ℕ)) (i : ℕ) → i < length ls →
-    let l = get_or ls i [] in
-    run_rows q format name earlier t (take (i + 1) ls) ≡ run_rows q format name earlier t (take i ls) ++ added format (terminator q) name earlier (run q format t (take i ls)) (selects q l) l
-rows_take_more q format name earlier t ls i below =
-    ap (run_rows q format name earlier t) (take_more ls i [] below)
-    ∙ (rows_append q format name earlier t (take i ls) (get_or ls i [] ∷ [])
-    ∙ ap (λ xs. run_rows q format name earlier t (take i ls) ++ xs) (append-nil (added format (terminator q) name earlier (run q format t (take i ls)) (selects q (get_or ls i [])) (get_or ls i []))))
-
-pub run_take_more : (q : Search) (format : Format) (t : Trail) (ls : List (List ℕ)) (i : ℕ) → i < length ls →
-    run q format t (take (i + 1) ls) ≡ step format (run q format t (take i ls)) (selects q (get_or ls i [])) (get_or ls i [])
-run_take_more q format t ls i below = ap (run q format t) (take_more ls i [] below) ∙ fold_push (λ u l. step format u (selects q l) l) t (take i ls) (get_or ls i [])

@@ -1,12 +1,10 @@
 -- What stands before a kept line.
-use Rattle.std.proofs.Common.{◌≡◌, ℕ, ◌+◌, ◌-◌, ◌≤◌, inl, inr, min, List, [], ◌∷◌, ◌++◌, length, drop, sym, ap}
+use Rattle.std.proofs.Common.{◌≡◌, ℕ, ◌+◌, ◌-◌, ◌≤◌, inl, inr, min, List, [], ◌++◌, length, drop, sym, ap}
 use Rattle.std.proofs.Common.{◌∙◌}
 use Rattle.std.proofs.Common.{arith, length-append}
 use Rattle.circular_buffer.specs.Buffer.{keep_last}
 use Rattle.std.proofs.lemmas.Bool.{cases_lt}
-use Rattle.std.proofs.lemmas.List.{drop-append-le, drop_all}
-use Rattle.std.proofs.Math.Seq.{drop-append-add, drop-nil}
-use Rattle.pg_lines.specs.Lines.{AreWhole}
+use Rattle.std.proofs.Math.Seq.{drop-append-add}
 use Rattle.pg_rows.specs.declared.format.Format.{Format}
 use Rattle.pg_rows.specs.declared.progress.Progress.{Progress}
 use Rattle.pg_rows.specs.Stretch.{marked_rows}
@@ -59,13 +57,3 @@ pub no_leading : (format : Format) (end : ℕ) (name : List ℕ) (p : Progress) 
 no_leading format end name p hidden n is none =
     ap (marked_rows format end name 45 ((p.number + 1) - leading format p))
     (ap (λ k. keep_last k hidden) (sym is ∙ none) ∙ keep_none hidden)
-
--- what is left of whole lines behind a place
-pub whole_drop : (end k : ℕ) (bytes : List ℕ) → AreWhole end bytes → AreWhole end (drop k bytes)
-whole_drop end k bytes (inl e) = inl (ap (drop k) e ∙ drop-nil k)
-whole_drop end k bytes (inr h) = elim (cases_lt (length h.0) k) [
-  | inl less ↦
-      let long : length bytes ≡ length h.0 + 1 = ap (λ xs. length xs) h.1 ∙ length-append h.0 (end ∷ []) in
-      inl (drop_all k bytes (omega arith))
-  | inr le ↦ inr (drop k h.0, ap (drop k) h.1 ∙ drop-append-le k h.0 (end ∷ []) le)
-]

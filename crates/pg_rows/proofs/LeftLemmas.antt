@@ -22,10 +22,6 @@ left_less whole rest rest' text before middle after e a h = record {
   taken = a ∙ (ap (λ xs. xs ++ text) h.taken ∙ append_assoc before h.part text);
 }
 
--- nothing is left
-pub left_none : (whole before after : List ℕ) → TakesBut whole [] before after → after ≡ before ++ whole
-left_none whole before after h = h.taken ∙ ap (λ xs. before ++ xs) (sym (append-nil h.part) ∙ h.joins)
-
 -- of what was left, a beginning was taken
 pub left_part : (whole rest rest' text before middle after : List ℕ) → rest ≡ text ++ rest'
     → TakesPart text middle after

@@ -5,7 +5,7 @@ use Rattle.std.proofs.lemmas.Bool.{and_from, and_right, or_left, or_right, or_fr
 use Rattle.std.proofs.lemmas.List.Folds.{list_any-append}
 use Rattle.pg_rows.specs.Output.{is_near}
 
-or_false : (b : Bool) → (b || false) ≡ b
+pub or_false : (b : Bool) → (b || false) ≡ b
 or_false true = refl
 or_false false = refl
 

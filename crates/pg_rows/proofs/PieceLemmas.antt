@@ -435,12 +435,6 @@ cut_last q limit kept ls left h =
     ∙ cut_gap q (Some limit) h.before h.rest [] h.ahead in
     omega arith
 
--- a limit's room
-pub room_of : (limit : Option ℕ) (kept room : ℕ) → Some room ≡ option_map (λ n. n - kept) limit
-    → (n : ℕ) × (limit ≡ Some n) × (room ≡ n - kept)
-room_of None kept room is = absurd (cc)
-room_of (Some n) kept room is = (n, refl, cc)
-
 pub no_limit : (limit : Option ℕ) (kept : ℕ) → None ≡ option_map (λ n. n - kept) limit → limit ≡ None
 no_limit None kept is = refl
 no_limit (Some n) kept is = absurd (cc)

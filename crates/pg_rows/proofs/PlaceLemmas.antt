@@ -1,5 +1,5 @@
 -- Where lines end in bytes.
-use Rattle.std.proofs.Common.{◌≡◌, ℕ, zero, suc, ◌+◌, ◌-◌, ◌<◌, ◌≤◌, inl, inr, List, [], ◌∷◌, ◌++◌, length, take, drop}
+use Rattle.std.proofs.Common.{◌≡◌, ℕ, zero, suc, ◌+◌, ◌-◌, ◌<◌, ◌≤◌, inr, List, [], ◌∷◌, ◌++◌, length, take, drop}
 use Rattle.std.proofs.Common.{get_or, slice_range, Some, None, refl, sym, ap, ◌∙◌, subst, arith, length-append}
 use Rattle.std.proofs.Common.{length-drop}
 use Rattle.std.proofs.lemmas.Bool.{eq-eqb, eqb-true}
@@ -79,9 +79,6 @@ pub record FirstLines (end : ℕ) (text : List ℕ) (place done : ℕ) : Type 0 
   pub rest : lines end (drop place text) ≡ drop done (lines end text)
   pub whole : place < length text → AreWhole end (take place text)
 
-pub first_none : (end : ℕ) (text : List ℕ) → FirstLines end text 0 0
-first_none end text = record { within = omega arith; first = refl; rest = refl; whole = λ h. inl refl }
-
 take_to : (text : List ℕ) (start next : ℕ) → start ≤ next
     → take next text ≡ take start text ++ slice_range text start next
 take_to text start next le =
@@ -116,20 +113,6 @@ first_more end text place done next h some low high one apart whole =
           (whole_append end (take place text) (slice_range text place next) (h.whole some) (whole less));
     }
 
--- the text has no more lines than those
-pub first_all : (end : ℕ) (text : List ℕ) (place done count : ℕ) → FirstLines end text place done → place ≡ length text
-    → done ≤ count → FirstLines end text place count
-first_all end text place done count h all le =
-    let ls = lines end text in
-    let none : [] ≡ drop done ls = ap (lines end) (sym (drop_all place text (omega arith))) ∙ h.rest in
-    let few : length ls ≤ done = omega (arith, length-drop done ls, ap length none) in
-    record {
-      within = h.within;
-      first = h.first ∙ (take_all done ls few ∙ sym (take_all count ls (omega arith)));
-      rest = h.rest ∙ (sym none ∙ sym (drop_all count ls (omega arith)));
-      whole = h.whole;
-    }
-
 -- Several lines at the end of a text.
 
 -- the bytes from a place on are the last `done` lines
@@ -137,15 +120,6 @@ pub record LastLines (end : ℕ) (text : List ℕ) (place done : ℕ) : Type 0 w
   pub within : place ≤ length text
   pub whole : AreWhole end (take place text)
   pub counted : length (lines end (drop place text)) ≡ done
-
-pub last_none : (end : ℕ) (text : List ℕ) → AreWhole end text → LastLines end text (length text) 0
-last_none end text whole =
-    let P : List ℕ → Type 0 = λ xs. AreWhole end xs in
-    record {
-      within = omega arith;
-      whole = subst P (sym (take_all (length text) text (omega arith))) whole;
-      counted = ap (λ xs. length (lines end xs)) (drop_all (length text) text (omega arith));
-    }
 
 last_parts : (end : ℕ) (text : List ℕ) (place : ℕ) → AreWhole end (take place text)
     → lines end text ≡ lines end (take place text) ++ lines end (drop place text)

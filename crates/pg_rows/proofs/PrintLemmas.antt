@@ -11,7 +11,6 @@ use Rattle.pg_lines.proofs.LineLemmas.{lines-append}
 use Rattle.pg_rows.specs.declared.format.Format.{Format}
 use Rattle.pg_rows.specs.declared.progress.Progress.{Progress}
 use Rattle.pg_rows.specs.Output.{context, has_context, when, is_below}
-use Rattle.pg_rows.specs.Sink.{TakesPart}
 use Rattle.pg_rows.specs.Trail.{Trail, run, run_rows, gap_row, context_rows}
 use Rattle.pg_rows.specs.Cursor.{Cursor}
 use Rattle.pg_rows.specs.Progress.{Tells, Passes, Keeps}
@@ -282,24 +281,4 @@ at_last q format c hidden bytes before after p at seen h last =
           ∙ (sym (ap (λ ls. h.part ++ run_rows q format c.name c.earlier h.trail ls) none) ∙ h.rows)),
       subst P same h.tells,
       sym (ap (λ (t : Trail). t.window) same) ∙ h.window,
-    )
-
--- a part of what comes next was written
-pub at_failure : (q : Search) (format : Format) (c : Cursor) (hidden : List (List ℕ)) (bytes before after : List ℕ)
-    (p : Progress) (at seen : ℕ) (h : IsAt q format c hidden bytes before after p at seen)
-    (more rest reached : List ℕ)
-    → more ++ rest ≡ run_rows q format c.name c.earlier h.trail (lines (terminator q) (drop at bytes))
-    → TakesPart more after reached
-    → TakesPart (run_rows q format c.name c.earlier c.trail (lines (terminator q) bytes)) before reached
-at_failure q format c hidden bytes before after p at seen h more rest reached joins took =
-    let all = run_rows q format c.name c.earlier c.trail (lines (terminator q) bytes) in
-    let p' = took.0 in let left = took.1.0 in (
-      h.part ++ p',
-      (
-        left ++ rest,
-        append_assoc h.part p' (left ++ rest)
-            ∙ (ap (λ xs. h.part ++ xs) (sym (append_assoc p' left rest) ∙ (ap (λ xs. xs ++ rest) took.1.1 ∙ joins))
-            ∙ h.rows),
-      ),
-      took.2 ∙ (ap (λ xs. xs ++ p') h.taken ∙ append_assoc before h.part p'),
     )

@@ -6,10 +6,10 @@ use Rattle.std.proofs.Common.{length-append, length-drop}
 use Rattle.circular_buffer.specs.Buffer.{keep_last}
 use Rattle.std.proofs.lemmas.Bool.{cases_lt, cases_eq, eq-eqb, ne_eqb}
 use Rattle.std.proofs.lemmas.List.{drop_more, append-nil, drop-drop, length-take-le}
-use Rattle.pg_lines.specs.Search.{SearchText, Search, HasItsTrees, terminator, terminator_of}
+use Rattle.pg_lines.specs.Search.{Search, terminator}
 use Rattle.pg_lines.specs.Lines.{lines}
-use Rattle.pg_lines.specs.Runs.{AreRuns, HasRuns}
-use Rattle.pg_lines.specs.BlockParts.{parts_of_lines, HasParts}
+use Rattle.pg_lines.specs.Runs.{AreRuns}
+use Rattle.pg_lines.specs.BlockParts.{parts_of_lines}
 use Rattle.pg_lines.specs.declared.run.Run.{Run}
 use Rattle.pg_lines.specs.declared.run.Part.{Part}
 use Rattle.pg_rows.specs.declared.format.Mode.{Mode}
@@ -365,18 +365,3 @@ pieces_same s q format c bytes runs parts total cut r pieces found is =
     ∙ (ap (λ k. part_rows format end c.name c.trail.number k bytes parts) cut_is
     ∙ (ap (part_rows format end c.name c.trail.number (cut_at q format.limit c.trail.kept ls) bytes) found_all
     ∙ sym (block_pieces q format c.name c.trail bytes))))))
-
--- what the runs and the parts of a result tell
-pub found_of : (q : Search) (text : SearchText) (bytes : List ℕ) (runs : List Run) (parts : List Part) (total : ℕ)
-    → HasItsTrees q → text ≡ q.text → HasRuns text bytes runs → HasParts text bytes parts
-    → total ≡ length (lines (terminator_of text) bytes) → HasFound q bytes runs parts total
-found_of q text bytes runs parts total trees same has_runs has_parts count =
-    let P : SearchText → Type 0 = λ t. HasRuns t bytes runs in
-    let Q : SearchText → Type 0 = λ t. HasParts t bytes parts in
-    record {
-      found_lines = record {
-        each = subst P same has_runs q.trees trees;
-        total = count ∙ ap (λ (t : SearchText). length (lines (terminator_of t) bytes)) same;
-      };
-      found_parts = subst Q same has_parts q.trees trees;
-    }

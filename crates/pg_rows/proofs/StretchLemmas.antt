@@ -7,14 +7,15 @@ use Rattle.circular_buffer.specs.Buffer.{keep_last}
 use Rattle.std.proofs.lemmas.Bool.{lt-ltb, le-ltb, lt-leb, le-leb, ltb-true, and_from, and_left, and_right, cases_lt}
 use Rattle.std.proofs.lemmas.List.{append-nil, drop-append-le, drop-drop}
 use Rattle.std.proofs.Math.Seq.{drop-nil}
-use Rattle.pg_lines.specs.Lines.{terminated}
 use Rattle.pg_lines.specs.Search.{Search, terminator}
 use Rattle.pg_lines.specs.Selection.{selects}
 use Rattle.pg_rows.specs.declared.format.Format.{Format}
 use Rattle.pg_rows.specs.Output.{is_below, context, when, row, has_context}
 use Rattle.pg_rows.specs.Trail.{Trail, keeps, after_kept, after_context, after_other, step, run, run_rows, pieces_in}
-use Rattle.pg_rows.specs.Trail.{added_pieces, run_pieces, gap_row, context_rows, kept_rows}
+use Rattle.pg_rows.specs.Trail.{run_pieces, gap_row, context_rows, kept_rows}
 use Rattle.pg_rows.specs.Stretch.{marked_rows, AllSelected, AreUnkept, IsPassed, IsKept}
+use Rattle.pg_rows.proofs.NearLemmas.{or_false}
+use Rattle.pg_rows.proofs.WindowLemmas.{kept_all}
 
 -- Lines behind lines.
 
@@ -23,16 +24,6 @@ pub run_append : (q : Search) (format : Format) (t : Trail) (ls ms : List (List 
 run_append q format t [] ms = refl
 run_append q format t (l ∷ ls) ms = run_append q format (step format t (selects q l) l) ls ms
 
-pub pieces_append : (q : Search) (format : Format) (name : List ℕ) (t : Trail) (ls ms : List (List ℕ)) →
-    run_pieces q format name t (ls ++ ms)
-    ≡ run_pieces q format name t ls ++ run_pieces q format name (run q format t ls) ms
-pieces_append q format name t [] ms = refl
-pieces_append q format name t (l ∷ ls) ms =
-    let one = added_pieces q format name t l in
-    let next = step format t (selects q l) l in
-    ap (λ xs. one ++ xs) (pieces_append q format name next ls ms)
-    ∙ sym (append_assoc one (run_pieces q format name next ls) (run_pieces q format name (run q format next ls) ms))
-
 -- Rows with one mark.
 
 pub context_is_marked : (format : Format) (end : ℕ) (name : List ℕ) (number : ℕ) (ls : List (List ℕ)) →
@@ -40,20 +31,6 @@ pub context_is_marked : (format : Format) (end : ℕ) (name : List ℕ) (number 
 context_is_marked format end name number [] = refl
 context_is_marked format end name number (l ∷ ls) =
     ap (λ xs. row format end name number 45 l ++ xs) (context_is_marked format end name (number + 1) ls)
-
-bare_row : (format : Format) (end : ℕ) (name : List ℕ) (number mark : ℕ) (text : List ℕ) → format.names ≡ false
-    → format.numbers ≡ false → row format end name number mark text ≡ text ++ end ∷ []
-bare_row format end name number mark text names numbers = rw (names, numbers)
-
--- without names and numbers the rows are the lines
-pub bare_rows : (format : Format) (end : ℕ) (name : List ℕ) (mark number : ℕ) (ls : List (List ℕ))
-    → format.names ≡ false → format.numbers ≡ false →
-    marked_rows format end name mark number ls ≡ terminated end ls
-bare_rows format end name mark number [] names numbers = refl
-bare_rows format end name mark number (l ∷ ls) names numbers =
-    ap (λ xs. xs ++ marked_rows format end name mark (number + 1) ls)
-    (bare_row format end name number mark l names numbers)
-    ∙ ap (λ xs. (l ++ end ∷ []) ++ xs) (bare_rows format end name mark (number + 1) ls names numbers)
 
 -- One line that isn't kept.
 
@@ -152,14 +129,6 @@ keep_last_twice limit xs ys =
     ∙ (drop-drop (length (drop off (xs ++ ys)) - limit) off (xs ++ ys)
     ∙ ap (λ k. drop k (xs ++ ys)) same)
 
-or_none : (b : Bool) → (b || false) ≡ b
-or_none true = refl
-or_none false = refl
-
--- a window that fits stays whole
-keep_last_all : {X : Type 0} (limit : ℕ) (xs : List X) → length xs ≤ limit → keep_last limit xs ≡ xs
-keep_last_all limit xs fits = let none : length xs - limit ≡ 0 = omega arith in ap (λ k. drop k xs) none
-
 pub length_keep_last : {X : Type 0} (limit : ℕ) (xs : List X) → length (keep_last limit xs) ≡ min limit (length xs)
 length_keep_last limit xs = let left = length-drop (length xs - limit) xs in omega arith
 
@@ -186,9 +155,9 @@ passed_counted q format t [] count same fits unkept =
       some = refl;
       skipped = sym (ap (λ b. t.skipped || b)
           (ap (λ xs. nat_lt before (length t.window + length xs)) none
-          ∙ le-ltb before (length t.window + 0) (omega arith)) ∙ or_none t.skipped);
+          ∙ le-ltb before (length t.window + 0) (omega arith)) ∙ or_false t.skipped);
       window = sym (ap (λ xs. keep_last before (t.window ++ xs)) none
-          ∙ (ap (keep_last before) (append-nil t.window) ∙ keep_last_all before t.window fits));
+          ∙ (ap (keep_last before) (append-nil t.window) ∙ kept_all before t.window fits));
     }
 passed_counted q format t (l ∷ ls) zero same fits unkept =
     let before = context format.before in

@@ -46,9 +46,6 @@ keep_behind size xs ys le =
 
 -- What is given up.
 
-pub gives_none : (size more : ℕ) (before : List (List ℕ)) → GivesUp size more before before
-gives_none size more before = record { gone = []; joins = refl; enough = inl refl }
-
 pub gives_first : (size more : ℕ) (before middle first later : List (List ℕ)) → GivesUp size more before middle
     → middle ≡ first ++ later → size ≤ length later + more → GivesUp size more before later
 gives_first size more before middle first later h e enough = record {
@@ -77,9 +74,6 @@ gives_enough size count before after more n h = elim h.enough [
 ]
 
 -- Tails.
-
-pub held_none : {A : Type 0} (end size : ℕ) → AreHeld {A = A} end [] 0 size
-held_none {A} end size = record { each = tt; counted = refl; short = omega arith }
 
 -- the first tail, and the others
 pub record FirstTail {A : Type 0} (end : ℕ) (tails : List (Tail A)) (count : ℕ) (tail : Tail A) : Type 0 where

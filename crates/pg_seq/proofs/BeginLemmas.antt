@@ -17,7 +17,7 @@ front_by : (q : Search) (format : Format) (room : HasRoom format) (t : Bool) (ta
 front_by q format room true taken s p h ih = ([], append-nil (output q format (entries_of (s ∷ p))))
 front_by q format room false taken s p h ih = begins_trans _ _ _ ih (plan_begins q format room p (s ∷ []) h)
 
-front_begins : (q : Search) (format : Format) (room : HasRoom format) (taken : List (ℕ × ℕ)) (p : List Step) → IsShaped (terminator q) p → IsBeginning (output q format (entries_of (front taken p))) (output q format (entries_of p))
+pub front_begins : (q : Search) (format : Format) (room : HasRoom format) (taken : List (ℕ × ℕ)) (p : List Step) → IsShaped (terminator q) p → IsBeginning (output q format (entries_of (front taken p))) (output q format (entries_of p))
 front_begins q format room taken [] h = ([], append-nil (output q format []))
 front_begins q format room taken (s ∷ p) h = front_by q format room (all_taken taken (s ∷ p)) taken s p h (front_begins q format room taken p h.1)
 

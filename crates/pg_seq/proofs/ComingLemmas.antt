@@ -19,14 +19,6 @@ pub behind_push : (done coming : List Step) (s : Step) → behind done (coming +
 behind_push done [] s = refl
 behind_push done (t ∷ coming) s = behind_push (t ∷ done) coming s
 
-pub blocks_push : (coming : List Step) (s : Step)
-    → blocks_of (coming ++ s ∷ []) ≡ blocks_of coming ++ blocks_of (s ∷ [])
-blocks_push [] s = refl
-blocks_push (Opens name ∷ coming) s = blocks_push coming s
-blocks_push (Announces b ∷ coming) s = ap (λ bs. b ∷ bs) (blocks_push coming s)
-blocks_push (Ends failed ∷ coming) s = blocks_push coming s
-blocks_push (Misses name ∷ coming) s = blocks_push coming s
-
 -- a step that comes last
 pub openings_push : (n total : ℕ) (coming : List Step) (s : Step) → total ≡ n + length (blocks_of coming)
     → openings n (coming ++ s ∷ []) ≡ openings n coming ++ openings total (s ∷ [])

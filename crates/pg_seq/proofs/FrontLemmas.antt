@@ -1,12 +1,12 @@
 -- The front of a plan: its longest beginning each of whose blocks was taken.
-use Rattle.std.proofs.Common.{◌≡◌, ℕ, ◌+◌, Bool, true, false, ◌&&◌, cond, List, [], ◌∷◌, ◌++◌, length, map, refl, sym}
-use Rattle.std.proofs.Common.{ap, ◌∙◌, arith}
+use Rattle.std.proofs.Common.{◌≡◌, ℕ, ◌+◌, Bool, true, false, ◌&&◌, cond, List, [], ◌∷◌, length, map, refl}
+use Rattle.std.proofs.Common.{ap, arith}
 use Rattle.std.specs.List.{list_all}
-use Rattle.std.proofs.lemmas.Bool.{false≢true, and_from, and_parts}
+use Rattle.std.proofs.lemmas.Bool.{and_from, and_parts}
 use Rattle.pg_lines.specs.Blocks.{BlockData}
 use Rattle.pg_seq.specs.declared.slot.Slot.{Slot}
-use Rattle.pg_seq.specs.Plan.{Step, Opens, Announces, Ends, Misses, IsShaped, announced}
-use Rattle.pg_seq.specs.History.{is_taken, all_taken, front}
+use Rattle.pg_seq.specs.Plan.{Step, IsShaped}
+use Rattle.pg_seq.specs.History.{all_taken, front}
 use Rattle.pg_seq.specs.Slots.{has_result, ready}
 use Rattle.pg_seq.proofs.SlotLemmas.{cond_pos}
 
@@ -21,51 +21,6 @@ front_keeps P tail taken (s ∷ p) h = either P (all_taken taken (s ∷ p)) (s �
 
 pub front_shaped : (end : ℕ) (taken : List (ℕ × ℕ)) (p : List Step) → IsShaped end p → IsShaped end (front taken p)
 front_shaped end taken p h = front_keeps (λ x. IsShaped end x) (λ s p h. h.1) taken p h
-
--- the longest front that passes
-abbrev pub while_all : (BlockData → Bool) → List BlockData → List BlockData
-while_all t [] = []
-while_all t (x ∷ xs) = cond (t x) (x ∷ while_all t xs) []
-
-while_true_by : (t : BlockData → Bool) (x : BlockData) (xs : List BlockData) (b : Bool) → (b && list_all t xs) ≡ true → (list_all t xs ≡ true → while_all t xs ≡ xs) → cond b (x ∷ while_all t xs) [] ≡ x ∷ xs
-while_true_by t x xs true h f = ap (λ ys. x ∷ ys) (f h)
-while_true_by t x xs false h f = absurd (false≢true h)
-
-while_true : (t : BlockData → Bool) (xs : List BlockData) → list_all t xs ≡ true → while_all t xs ≡ xs
-while_true t [] e = refl
-while_true t (x ∷ xs) e = while_true_by t x xs (t x) e (while_true t xs)
-
-while_last : (t : BlockData → Bool) (b : BlockData) (v : Bool) → (v && true) ≡ false → cond v (b ∷ []) [] ≡ []
-while_last t b true h = absurd (false≢true (sym h))
-while_last t b false h = refl
-
-while_push_by : (t : BlockData → Bool) (x b : BlockData) (xs : List BlockData) (v : Bool) → (v && list_all t (xs ++ b ∷ [])) ≡ false → (list_all t (xs ++ b ∷ []) ≡ false → while_all t (xs ++ b ∷ []) ≡ while_all t xs) → cond v (x ∷ while_all t (xs ++ b ∷ [])) [] ≡ cond v (x ∷ while_all t xs) []
-while_push_by t x b xs true h f = ap (λ ys. x ∷ ys) (f h)
-while_push_by t x b xs false h f = refl
-
-while_push : (t : BlockData → Bool) (xs : List BlockData) (b : BlockData) → list_all t (xs ++ b ∷ []) ≡ false → while_all t (xs ++ b ∷ []) ≡ while_all t xs
-while_push t [] b e = while_last t b (t b) e
-while_push t (x ∷ xs) b e = while_push_by t x b xs (t x) e (while_push t xs b)
-
-front_less : (taken : List (ℕ × ℕ)) (s : Step) (p : List Step) → all_taken taken (s ∷ p) ≡ false → while_all (is_taken taken) (announced p) ≡ while_all (is_taken taken) (announced (s ∷ p))
-front_less taken (Opens name) p e = refl
-front_less taken (Announces b) p e = sym (while_push (is_taken taken) (announced p) b e)
-front_less taken (Ends failed) p e = refl
-front_less taken (Misses name) p e = refl
-
-front_by : (taken : List (ℕ × ℕ)) (s : Step) (p : List Step) (t : Bool) → all_taken taken (s ∷ p) ≡ t → announced (front taken p) ≡ while_all (is_taken taken) (announced p) → announced (cond t (s ∷ p) (front taken p)) ≡ while_all (is_taken taken) (announced (s ∷ p))
-front_by taken s p true e h = sym (while_true (is_taken taken) (announced (s ∷ p)) e)
-front_by taken s p false e h = h ∙ front_less taken s p e
-
-pub front_blocks : (taken : List (ℕ × ℕ)) (p : List Step) → announced (front taken p) ≡ while_all (is_taken taken) (announced p)
-front_blocks taken [] = refl
-front_blocks taken (s ∷ p) = front_by taken s p (all_taken taken (s ∷ p)) refl (front_blocks taken p)
-
-cons_head : {x y : Bool} {xs ys : List Bool} → x ∷ xs ≡ y ∷ ys → x ≡ y
-cons_head e = cc
-
-cons_tail : {x y : Bool} {xs ys : List Bool} → x ∷ xs ≡ y ∷ ys → xs ≡ ys
-cons_tail e = cc
 
 -- the front is all of the plan where all slots are ready
 pub all_map : (t : BlockData → Bool) (bs : List BlockData) → list_all t bs ≡ list_all (λ b. b) (map t bs)

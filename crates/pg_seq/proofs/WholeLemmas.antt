@@ -6,7 +6,6 @@ use Rattle.pg_lines.specs.Search.{Search, terminator}
 use Rattle.pg_lines.specs.Lines.{AreWhole}
 use Rattle.pg_rows.specs.declared.format.Format.{Format}
 use Rattle.pg_rows.specs.Output.{HasRoom, Entry, Missed, Read, Ending, Running, has_selected}
-use Rattle.pg_rows.specs.Enough.{is_enough}
 use Rattle.pg_seq.specs.Plan.{Step, Opens, Announces, Ends, Misses, IsShaped, last_blocks, entries_of, with_bytes}
 use Rattle.pg_seq.specs.Plan.{with_end}
 use Rattle.pg_seq.specs.History.{Past, plan, taken_of, all_taken, front, front_of, front_after}
@@ -20,12 +19,6 @@ pub front_whole : (past : Past) → all_taken (taken_of past.query past.events) 
     → front_of past ≡ plan past
 unfolding front_after
 front_whole past e = front_all (taken_of past.query past.events) (plan past) e
-
--- and `enough`, which speaks of the front, speaks of the plan
-pub enough_whole : (past : Past) → front_of past ≡ plan past
-    → is_enough past.query past.format (entries_of (front_of past))
-    ≡ is_enough past.query past.format (entries_of (plan past))
-enough_whole past e = ap (λ (p : List Step). is_enough past.query past.format (entries_of p)) e
 
 either : (P : List Step → Type 0) (t : Bool) (a b : List Step) → P (cond t a b) → (P b → P a) → P a
 either P true a b h f = h

@@ -155,13 +155,6 @@ missed s s' f name r h = record {
   ends = r.ends;
 }
 
--- the same of values that are equal
-pub between_as : {A : Type 0} (s t : Assembler A) (f g : ℕ) → s ≡ t → f ≡ g → IsBetween t g → IsBetween s f
-between_as {A = A} s t f g same file r =
-    let S : Assembler A → Type 0 = λ x. IsBetween x f in
-    let F : ℕ → Type 0 = λ x. IsBetween t x in
-    subst S (sym same) (subst F (sym file) r)
-
 pub reading_as : {A : Type 0} (s t : Assembler A) (f g n m : ℕ) → s ≡ t → f ≡ g → n ≡ m → IsReading t g m
     → IsReading s f n
 reading_as {A = A} s t f g n m same file number r =

@@ -9,6 +9,8 @@ use pg_words::{Task, Words, read_words};
 use std::alloc::{AllocError, Global};
 use std::sync::Wait;
 use std::test::Fail;
+use std::thread::Threads;
+use std::time::Clock;
 
 /// The most bytes that a test writes to a stream.
 const ROOM: usize = 100;
@@ -65,7 +67,7 @@ fn store_of(alloc: Global, ending: Ending, read_limit: usize) -> Result<MemStore
 
 /// What a command line does.
 fn run(
-    rt: &impl Wait,
+    rt: &(impl Threads + Wait + Clock + Sync),
     alloc: Global,
     text: &str,
     ending: Ending,
@@ -188,19 +190,40 @@ fn reading_patterns_fails(rt: HostRuntime) -> Result<(), Fail> {
     Ok(())
 }
 
+/// Whether a search fails, and tells it, where so many bytes are written in all, and `write` of them at a time.
+fn fails_at(
+    rt: &(impl Threads + Wait + Clock + Sync),
+    alloc: Global,
+    room: usize,
+    write: usize,
+) -> Result<bool, AllocError> {
+    let limits = Limits {
+        write,
+        out: room,
+        ..UNLIMITED
+    };
+    let found = run(rt, alloc, "-F b -", Ending::Ends, limits)?;
+    let written = if write == 0 {
+        0
+    } else {
+        room.min(OUTPUT.len())
+    };
+    Ok(is_outcome(
+        &found,
+        Err(Told),
+        &OUTPUT[..written],
+        "pargrep: write failed\n",
+    ))
+}
+
 #[test]
 fn an_output_that_fails(rt: HostRuntime) -> Result<(), Fail> {
     for room in 0..OUTPUT.len() {
         for write in [ROOM, 1, 0] {
-            let limits = Limits {
-                write,
-                out: room,
-                ..UNLIMITED
-            };
-            let found = run(&rt, rt.alloc(), "-F b -", Ending::Ends, limits)?;
-            let written = if write == 0 { 0 } else { room };
-            let told = "pargrep: write failed\n";
-            assert!(rt; is_outcome(&found, Err(Told), &OUTPUT[..written], told));
+            assert!(rt;
+                fails_at(&rt, rt.alloc(), room, write)?,
+                "{room} and {write}"
+            );
         }
     }
     Ok(())

@@ -1,5 +1,5 @@
 //! Memory that is refused while a file is cut and searched.
-use crate::fixtures::{query_of, search, text_of};
+use crate::fixtures::{SPARED, query_of, search, text_of};
 use pg_lines::{Block, CutFault, Cutter, Kind, Query, QueryFault};
 use refusing::Refusing;
 use std::alloc::{AllocError, Allocator, Global};
@@ -132,16 +132,20 @@ fn requests_of_query(alloc: Global) -> Result<u64, AllocError> {
 #[test]
 fn refused_search(rt: HostRuntime) -> Result<(), Fail> {
     let before = requests_of_query(rt.alloc())?;
+    let mut spared: u64 = 0;
     for passes in 0..100u64 {
         let heap = Refusing::new(rt.alloc(), passes);
         let found = search_once(&heap);
         if !heap.has_refused() {
-            assert!(rt; found == Ok(6));
+            assert!(rt; found == Ok(6) && spared == SPARED);
             // Two requests for the block and more for the runs.
             assert!(rt; passes > before.wrapping_add(3));
             return Ok(());
         }
-        assert!(rt; found.is_err(), "at {passes}");
+        if found.is_ok() {
+            assert!(rt; found == Ok(6), "at {passes}");
+            spared = spared.wrapping_add(1);
+        }
     }
     panic!(rt; "more than 100 requests")
 }

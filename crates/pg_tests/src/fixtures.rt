@@ -65,6 +65,9 @@ pub(crate) fn query_of<A: Allocator + Copy>(
     compile(alloc, text_of(alloc, Kind::Fixed, pattern)?)
 }
 
+/// So many requests of a new scratch may be refused, and it only searches more slowly: those for its table.
+pub(crate) const SPARED: u64 = 5;
+
 /// What a search finds in a block of at most 100 bytes.
 pub(crate) fn search<A: Allocator + Copy>(
     alloc: A,

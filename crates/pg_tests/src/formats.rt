@@ -111,19 +111,25 @@ fn case_of(rt: &impl Abort, alloc: Global, row: &str) -> Result<Case, Fail>
     ensures room { IfOk result (λ case. HasRoom case.format) }
     ensures zero { IfOk result (λ case. (arc_value case.query).text.zero ≡ false) }
 {
-    let fields: Vec<&str> = row.split(' ').collect(alloc)?;
-    let [letters, asked, size, seed, files, answer] = fields.as_slice() else {
-        panic!(rt; "six fields: {row}");
-    };
+    let (letters, rest) = cut(row, " ");
+    let (asked, rest) = cut(rest, " ");
+    let (size, rest) = cut(rest, " ");
+    let (seed, rest) = cut(rest, " ");
+    let (files, answer) = cut(rest, " ");
     let (status, output) = cut(answer, ":");
+    let size = size.parse()?;
+    let seed = seed.parse()?;
+    let status = status.parse()?;
+    let files = with_newlines(alloc, files)?;
+    let output = with_newlines(alloc, output)?;
     Ok(Case {
         format: format_of(rt, letters),
         query: asked_query(alloc, asked)?,
-        size: size.parse()?,
-        seed: seed.parse()?,
-        files: with_newlines(alloc, files)?,
-        output: with_newlines(alloc, output)?,
-        status: status.parse()?,
+        size,
+        seed,
+        files,
+        output,
+        status,
     })
 }
 
@@ -292,6 +298,26 @@ impl Trial<'_> {
         Ok(answer == arrival && self.drains())
     }
 
+    /// Whether the results of blocks have their answers, and all drains succeed. Behind each third one come that of
+    /// another query and the same once more.
+    fn takes_all(
+        &mut self,
+        rt: &impl Abort,
+        other: &Arc<Query>,
+        blocks: &[Block],
+    ) -> Result<bool, AllocError> {
+        let query = &self.case.query;
+        let mut right = true;
+        for (turn, block) in blocks.iter().enumerate() {
+            right &= self.takes(rt, query, block, Arrival::Taken)?;
+            if turn % 3 == 2 {
+                right &= self.takes(rt, other, block, Arrival::Stranger)?;
+                right &= self.takes(rt, query, block, Arrival::Double)?;
+            }
+        }
+        Ok(right)
+    }
+
     /// Whether the whole output is written, and the status is there.
     fn ends(&mut self) -> bool {
         self.drains()
@@ -302,29 +328,21 @@ impl Trial<'_> {
 }
 
 /// Whether a case has its output and status where blocks have at least `size` bytes and results arrive in this order.
-/// Behind each third result come one of another query and the same once more.
 fn passes(rt: &impl Abort, alloc: Global, case: &Case, size: u8, order: Order) -> Result<bool, Fail>
     requires room { HasRoom case.now.format }
     requires zero { (arc_value case.now.query).text.zero ≡ false }
 {
-    let (sequencer, mut blocks) = plan_case(rt, alloc, case, size)?;
-    put_in_order(&mut blocks, order);
     let other = query_of(alloc, b"other")?;
     let sink = MemSink::new(alloc, 1000)?;
+    let (sequencer, mut blocks) = plan_case(rt, alloc, case, size)?;
+    put_in_order(&mut blocks, order);
     let mut trial = Trial {
         alloc,
         case,
         sequencer,
         sink,
     };
-    let mut right = true;
-    for (turn, block) in blocks.iter().enumerate() {
-        right &= trial.takes(rt, &case.query, block, Arrival::Taken)?;
-        if turn % 3 == 2 {
-            right &= trial.takes(rt, &other, block, Arrival::Stranger)?;
-            right &= trial.takes(rt, &case.query, block, Arrival::Double)?;
-        }
-    }
+    let right = trial.takes_all(rt, &other, &blocks)?;
     Ok(right && trial.ends())
 }
 
@@ -395,31 +413,62 @@ fn read_line(
     Ok(())
 }
 
-/// What was read is enough where the row says so.
-fn assert_enough(rt: &impl Abort, alloc: Global, row: &str) -> Result<(), Fail> {
-    let (letters, steps) = cut(row, " ");
-    let query = query_of(alloc, b"m")?;
-    let mut sequencer = new_sequencer(alloc, &query, format_of(rt, letters))?;
-    open_file(&mut sequencer, 0, b"f")?;
+/// Reads on by a letter: a line arrives, or the file ends and the next one is opened. Answers which file is open then,
+/// and how many of its blocks were announced.
+fn read_on(
+    rt: &impl Abort,
+    alloc: Global,
+    query: &Arc<Query>,
+    sequencer: &mut Sequencer,
+    file: u32,
+    number: u64,
+    letter: u8,
+) -> Result<(u32, u64), AllocError>
+    requires reading { IsReading sequencer.old file number }
+    requires few { (file < 100) × (number < 100) }
+    ensures { IfOk result (λ place. IsReading sequencer.new place.0 place.1) }
+{
+    if letter == b'|' {
+        open_next(sequencer, file)?;
+        Ok((file + 1, 0))
+    } else {
+        read_line(rt, alloc, query, sequencer, file, number, letter)?;
+        Ok((file, number + 1))
+    }
+}
+
+/// What was read is enough where the steps say so. The sequencer's first file is open without a block.
+fn assert_steps(
+    rt: &impl Abort,
+    alloc: Global,
+    query: &Arc<Query>,
+    sequencer: &mut Sequencer,
+    steps: &str,
+) -> Result<(), AllocError>
+    requires { IsReading sequencer.old 0 0 }
+{
     let mut file = 0;
     let mut number = 0;
     for step in steps.as_bytes().chunks(2) {
         let [letter, answer] = step else {
-            panic!(rt; "a letter and a sign: {row}");
+            panic!(rt; "a letter and a sign: {steps}");
         };
-        assert!(rt; file < 100);
-        assert!(rt; number < 100);
-        if *letter == b'|' {
-            open_next(&mut sequencer, file)?;
-            file += 1;
-            number = 0;
-        } else {
-            read_line(rt, alloc, &query, &mut sequencer, file, number, *letter)?;
-            number += 1;
-        }
-        assert_eq!(rt; sequencer.enough(), *answer == b'+', "{row}");
+        assert!(rt; file < 100 && number < 100);
+        let place = read_on(rt, alloc, query, sequencer, file, number, *letter)?;
+        file = place.0;
+        number = place.1;
+        assert_eq!(rt; sequencer.enough(), *answer == b'+', "{steps}");
     }
     Ok(())
+}
+
+/// What was read is enough where the row says so.
+fn assert_enough(rt: &impl Abort, alloc: Global, row: &str) -> Result<(), AllocError> {
+    let (letters, steps) = cut(row, " ");
+    let query = query_of(alloc, b"m")?;
+    let mut sequencer = new_sequencer(alloc, &query, format_of(rt, letters))?;
+    open_file(&mut sequencer, 0, b"f")?;
+    assert_steps(rt, alloc, &query, &mut sequencer, steps)
 }
 
 #[test]

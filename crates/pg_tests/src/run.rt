@@ -13,6 +13,8 @@ use std::alloc::{AllocError, Allocator, Global};
 use std::process::Abort;
 use std::sync::Wait;
 use std::test::Fail;
+use std::thread::Threads;
+use std::time::Clock;
 
 const FILE: &[u8] = b"abc\nxyz\nb";
 
@@ -25,9 +27,11 @@ struct Case<'a> {
     ending: Ending,
     read_limit: usize,
     block: u32,
+    workers: u32,
     ghost some_limit: { HasRoom format },
     ghost some_bytes: { 1 ≤ read_limit },
     ghost block_in_range: { (1 ≤ block) × (block ≤ 2 ^ 24) },
+    ghost workers_in_range: { workers ≤ 64 },
 }
 
 impl<'a> Case<'a> {
@@ -42,7 +46,16 @@ impl<'a> Case<'a> {
             ending: Ending::Ends,
             read_limit: 100,
             block: 1,
+            workers: 0,
         }
+    }
+
+    /// Rounds of two blocks, each searched by so many threads beside the calling one.
+    fn spread(mut self, workers: u32) -> Case<'a>
+        requires { workers ≤ 64 }
+    {
+        self.workers = workers;
+        self
     }
 
     /// The search for another pattern in another file.
@@ -69,26 +82,32 @@ impl<'a> Case<'a> {
     }
 }
 
-/// The file, listed in front of a name that gives none.
-fn list(alloc: Global, case: Case<'_>, is_alone: bool) -> Result<Listed<MemStore>, AllocError>
-    ensures { IfOk result (λ files. (files.asked ≡ 0) × (files.done ≡ false)) }
-{
-    let mut store = MemStore::new(alloc);
-    store.add("f", case.file, case.ending)?;
-    store.set_read_limit(case.read_limit);
+/// The file, and behind it, unless it is alone, names that give none.
+fn items_of(alloc: Global, is_alone: bool) -> Result<Vec<Item>, AllocError> {
     let mut items = Vec::new(alloc);
     items.push(Item::File(String::from_str(alloc, "f")?))?;
     if !is_alone {
         items.push(Item::File(String::from_str(alloc, "g")?))?;
         items.push(Item::Fault(String::from_str(alloc, "d")?, Cause::CannotList))?;
     }
+    Ok(items)
+}
+
+/// The file, listed in front of names that give none, unless it is alone.
+fn list(alloc: Global, case: Case<'_>, is_alone: bool) -> Result<Listed<MemStore>, AllocError>
+    ensures { IfOk result (λ files. (files.asked ≡ 0) × (files.done ≡ false)) }
+{
+    let items = items_of(alloc, is_alone)?;
+    let mut store = MemStore::new(alloc);
+    store.add("f", case.file, case.ending)?;
+    store.set_read_limit(case.read_limit);
     let mut files = Listed::new(alloc, store);
     files.list(items, true);
     Ok(files)
 }
 
 /// What a run answers, with the memory that `heap` gives. A refused text counts as a refused run.
-fn run_case<R: Wait, A: Allocator + Copy>(
+fn run_case<R: Threads + Wait + Clock + Sync, A: Allocator + Copy + Send + Sync>(
     rt: &R,
     heap: A,
     case: Case<'_>,
@@ -101,17 +120,18 @@ fn run_case<R: Wait, A: Allocator + Copy>(
     let text = text_of(heap, Kind::Fixed, case.pattern)?;
     let setup = Setup {
         format: case.format,
-        workers: 0,
+        workers: case.workers,
         block: case.block,
         line: 100,
-        round: 1,
+        round: 2,
+        always_spread: true,
         silent: false,
     };
     run(rt, heap, text, setup, files, out, faults)
 }
 
 /// Whether a run over the file alone writes and tells these, and has this status.
-fn runs<R: Wait>(
+fn runs<R: Threads + Wait + Clock + Sync>(
     rt: &R,
     alloc: Global,
     case: Case<'_>,
@@ -126,9 +146,10 @@ fn runs<R: Wait>(
     Ok(answer == Ok(status) && out.bytes() == output && faults.bytes() == told.as_bytes())
 }
 
-/// A run writes these bytes and has this status, whatever the size of its blocks and of the reads.
+/// A run writes these bytes and has this status, whatever the size of its blocks and of the reads, by one thread and
+/// by three.
 fn assert_run(
-    rt: &(impl Abort + Wait),
+    rt: &(impl Abort + Threads + Wait + Clock + Sync),
     alloc: Global,
     case: Case<'_>,
     output: &[u8],
@@ -140,6 +161,15 @@ fn assert_run(
             let right = runs(rt, alloc, case, output, "", status)?;
             assert!(rt; right, "in blocks of {block}");
         }
+        let right = runs(
+            rt,
+            alloc,
+            case.cut(block, 100).spread(2),
+            output,
+            "",
+            status,
+        )?;
+        assert!(rt; right, "in blocks of {block}, by threads");
     }
     Ok(())
 }
@@ -162,7 +192,11 @@ q H-c--- abc/xyz/b 1:f:0/
  H-c---  1:f:0/";
 
 /// A run is as a row says.
-fn assert_row(rt: &(impl Abort + Wait), alloc: Global, row: &str) -> Result<(), Fail> {
+fn assert_row(
+    rt: &(impl Abort + Threads + Wait + Clock + Sync),
+    alloc: Global,
+    row: &str,
+) -> Result<(), Fail> {
     let (pattern, rest) = cut(row, " ");
     let (letters, rest) = cut(rest, " ");
     let (file, answer) = cut(rest, " ");
@@ -201,7 +235,7 @@ H-c--- f:2/ 0";
 
 /// Whether a run over a sink that takes as many bytes as these, and `write_limit` in a write, has written these, and
 /// fails unless they are all.
-fn writes<R: Wait>(
+fn writes<R: Threads + Wait + Clock + Sync>(
     rt: &R,
     alloc: Global,
     case: Case<'_>,
@@ -221,7 +255,7 @@ fn writes<R: Wait>(
 /// A run whose sink takes less than the output fails once the sink is full, and one whose sink takes a byte at a time
 /// goes through.
 fn assert_sinks(
-    rt: &(impl Abort + Wait),
+    rt: &(impl Abort + Threads + Wait + Clock + Sync),
     alloc: Global,
     format: Format,
     output: &[u8],
@@ -234,7 +268,7 @@ fn assert_sinks(
             let right = writes(rt, alloc, case, &output[..limit], usize::MAX, false)?;
             assert!(rt; right);
         }
-        let right = writes(rt, alloc, case, output, 1, true)?;
+        let right = writes(rt, alloc, case.spread(2), output, 1, true)?;
         assert!(rt; right);
     }
     Ok(())
@@ -264,7 +298,11 @@ H-c--- 8 f:1/
 H-c--- 9 f:2/";
 
 /// A run whose reading fails writes what a row says, whatever the size of its blocks, and tells it.
-fn assert_broken(rt: &(impl Abort + Wait), alloc: Global, row: &str) -> Result<(), Fail> {
+fn assert_broken(
+    rt: &(impl Abort + Threads + Wait + Clock + Sync),
+    alloc: Global,
+    row: &str,
+) -> Result<(), Fail> {
     let (letters, rest) = cut(row, " ");
     let (count, output) = cut(rest, " ");
     let count: usize = count.parse()?;
@@ -274,8 +312,10 @@ fn assert_broken(rt: &(impl Abort + Wait), alloc: Global, row: &str) -> Result<(
     for block in 1..=10u32 {
         let case = Case::new(format).broken(&FILE[..count]).cut(block, 2);
         let told = "pargrep: f: read failed\n";
-        let right = runs(rt, alloc, case, output.as_bytes(), told, 2)?;
-        assert!(rt; right, "{row}");
+        for workers in [0, 2] {
+            let right = runs(rt, alloc, case.spread(workers), output.as_bytes(), told, 2)?;
+            assert!(rt; right, "{row}, by {workers}");
+        }
     }
     Ok(())
 }
@@ -293,16 +333,13 @@ const TOLD: &[u8] = b"pargrep: g: cannot open\npargrep: d: cannot list\n";
 
 /// A run whose memory refuses a request has written and told beginnings, and one whose memory refuses none all of it.
 /// The answer is whether that is so, and how much was written.
-fn run_refused<R: Wait>(
+fn run_refused<R: Threads + Wait + Clock + Sync>(
     rt: &R,
     alloc: Global,
     heap: &Refusing,
-    format: Format,
+    case: Case<'_>,
     output: &[u8],
-) -> Result<(bool, usize), AllocError>
-    requires { HasRoom format }
-{
-    let case = Case::new(format).cut(1, 3);
+) -> Result<(bool, usize), AllocError> {
     let mut files = list(alloc, case, false)?;
     let mut out = MemSink::new(alloc, 100)?;
     let mut faults = MemSink::new(alloc, 100)?;
@@ -319,19 +356,18 @@ fn run_refused<R: Wait>(
 }
 
 /// Each request for memory of a run is refused in turn. Where the last one is, at least so many bytes were written.
+/// A run by threads may make them in any order.
 fn assert_refusals(
-    rt: &(impl Abort + Wait),
+    rt: &(impl Abort + Threads + Wait + Clock + Sync),
     alloc: Global,
-    format: Format,
+    case: Case<'_>,
     output: &[u8],
     early: usize,
-) -> Result<(), AllocError>
-    requires { HasRoom format }
-{
+) -> Result<(), AllocError> {
     let mut longest = 0;
     for passes in 0..1000u64 {
         let heap = Refusing::new(alloc, passes);
-        let (right, written) = run_refused(rt, alloc, &heap, format, output)?;
+        let (right, written) = run_refused(rt, alloc, &heap, case, output)?;
         assert!(rt; right, "at {passes}");
         if !heap.has_refused() {
             assert!(rt; early <= longest);
@@ -349,8 +385,9 @@ fn each_request_may_be_refused(rt: HostRuntime) -> Result<(), Fail> {
         let (output, early) = cut(rest, " ");
         let early: usize = early.parse()?;
         let output = with_newlines(rt.alloc(), output)?;
-        let format = format_of(&rt, letters);
-        assert_refusals(&rt, rt.alloc(), format, output.as_bytes(), early)?;
+        let case = Case::new(format_of(&rt, letters)).cut(1, 3);
+        assert_refusals(&rt, rt.alloc(), case, output.as_bytes(), early)?;
+        assert_refusals(&rt, rt.alloc(), case.spread(2), output.as_bytes(), 0)?;
     }
     Ok(())
 }
@@ -366,5 +403,32 @@ fn long_lines_end_a_run(rt: HostRuntime) -> Result<(), Fail> {
         let answer = run_case(&rt, rt.alloc(), case, &mut files, &mut out, &mut faults);
         assert!(&rt; answer == wanted, "{length} bytes");
     }
+    Ok(())
+}
+
+/// Whether a run over a file writes the row of its first line, and breaks off at its second one, which is too long.
+fn writes_before_it_breaks<R: Threads + Wait + Clock + Sync>(
+    rt: &R,
+    alloc: Global,
+    file: &[u8],
+    workers: u32,
+) -> Result<bool, AllocError>
+    requires { workers ≤ 64 }
+{
+    let case = Case::new(PLAIN).with(b"b", file).spread(workers);
+    let mut files = list(alloc, case, true)?;
+    let mut out = MemSink::new(alloc, 100)?;
+    let mut faults = MemSink::new(alloc, 100)?;
+    let answer = run_case(rt, alloc, case, &mut files, &mut out, &mut faults);
+    Ok(answer == Err(RunFault::TooLong) && out.bytes() == b"b\n".as_slice())
+}
+
+#[test]
+fn rows_before_a_long_line_are_written(rt: HostRuntime) -> Result<(), Fail> {
+    let mut file = vec![in rt.alloc(); b'a'; 103]?;
+    file[0] = b'b';
+    file[1] = b'\n';
+    assert!(rt; writes_before_it_breaks(&rt, rt.alloc(), &file, 0)?);
+    assert!(rt; writes_before_it_breaks(&rt, rt.alloc(), &file, 2)?);
     Ok(())
 }

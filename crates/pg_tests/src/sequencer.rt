@@ -3,7 +3,7 @@ ghost use Rattle.std.specs.Prelude.{◌≡◌, ◌+◌, ◌<◌, ◌≤◌, leng
 ghost use Rattle.std.specs.Arc.{arc_value};
 ghost use Rattle.pg_tests.specs.Reading.{IsReading};
 
-use crate::fixtures::{PLAIN, query_of, search};
+use crate::fixtures::{PLAIN, SPARED, query_of, search};
 use crate::formats::cut;
 use crate::planning::{announce_block, end_file, new_sequencer, open_file, open_next};
 use pg_lines::{BlockResult, Query};
@@ -158,22 +158,35 @@ fn steps_on(
     Ok(arrives(sequencer, sink, found, arrival_of(*sign), lines))
 }
 
+/// Results arrive as steps say.
+fn assert_steps(
+    rt: &impl Abort,
+    alloc: Global,
+    sequencer: &mut Sequencer,
+    sink: &mut MemSink,
+    steps: &str,
+) -> Result<(), AllocError> {
+    for step in steps.split(' ') {
+        let right = steps_on(rt, alloc, sequencer, sink, step)?;
+        assert!(rt; right, "{step} of {steps}");
+    }
+    Ok(())
+}
+
+/// Whether all results have arrived, this is the status, and a sink has so many bytes of the output.
+fn has_ended(sequencer: &Sequencer, status: u8, sink: &MemSink, written: usize) -> bool {
+    sequencer.complete() && sequencer.status() == Some(status) && has_written(sink, written)
+}
+
 /// Results for files arrive as a row says. With the last one all is written.
 fn assert_arrivals(rt: &impl Abort, alloc: Global, row: &str) -> Result<(), AllocError> {
     let (letters, steps) = cut(row, " ");
     assert!(rt; letters.len() <= 100);
+    let mut sink = MemSink::new(alloc, 100)?;
     let query = query_of(alloc, b"x")?;
     let (mut sequencer, _) = plan_lines(alloc, &query, letters.as_bytes())?;
-    let mut sink = MemSink::new(alloc, 100)?;
-    for step in steps.split(' ') {
-        let right = steps_on(rt, alloc, &mut sequencer, &mut sink, step)?;
-        assert!(rt; right, "{step} of {row}");
-    }
-    assert!(rt;
-        sequencer.complete() && sequencer.status() == Some(0),
-        "{row}"
-    );
-    assert!(rt; has_written(&sink, OUTPUT.len()), "{row}");
+    assert_steps(rt, alloc, &mut sequencer, &mut sink, steps)?;
+    assert!(rt; has_ended(&sequencer, 0, &sink, OUTPUT.len()), "{row}");
     Ok(())
 }
 
@@ -185,27 +198,39 @@ fn results_arrive_in_any_order(rt: HostRuntime) -> Result<(), Fail> {
     Ok(())
 }
 
+/// Whether a run in which no line is selected writes nothing, and has status 1.
+fn writes_nothing(alloc: Global) -> Result<bool, AllocError> {
+    let mut sink = MemSink::new(alloc, 100)?;
+    let query = query_of(alloc, b"q")?;
+    let (mut sequencer, _) = plan_lines(alloc, &query, b"abc")?;
+    let all_taken = takes_all(alloc, &query, &mut sequencer)?;
+    let drained = sequencer.drain(&mut sink);
+    Ok(all_taken && drained.is_ok() && has_ended(&sequencer, 1, &sink, 0))
+}
+
 #[test]
 fn nothing_is_selected(rt: HostRuntime) -> Result<(), Fail> {
-    let query = query_of(rt.alloc(), b"q")?;
-    let (mut sequencer, _) = plan_lines(rt.alloc(), &query, b"abc")?;
-    let mut sink = MemSink::new(rt.alloc(), 100)?;
-    let all_taken = takes_all(rt.alloc(), &query, &mut sequencer)?;
-    assert!(rt; all_taken && sequencer.drain(&mut sink).is_ok());
-    assert!(rt; sink.bytes().is_empty());
-    assert!(rt; sequencer.complete() && sequencer.status() == Some(1));
+    assert!(rt; writes_nothing(rt.alloc())?);
     Ok(())
+}
+
+/// Whether a run is complete, and its status.
+type State = (bool, Option<u8>);
+
+/// The states of a run while its file is open without a block, and once its reading has failed.
+fn states_of_open(alloc: Global) -> Result<(State, State), AllocError> {
+    let query = query_of(alloc, b"x")?;
+    let mut sequencer = new_sequencer(alloc, &query, PLAIN)?;
+    open_file(&mut sequencer, 0, b"f")?;
+    let before = (sequencer.complete(), sequencer.status());
+    sequencer.end(true);
+    Ok((before, (sequencer.complete(), sequencer.status())))
 }
 
 #[test]
 fn open_file_is_not_complete(rt: HostRuntime) -> Result<(), Fail> {
-    let query = query_of(rt.alloc(), b"x")?;
-    let mut sequencer = new_sequencer(rt.alloc(), &query, PLAIN)?;
-    open_file(&mut sequencer, 0, b"f")?;
-    assert!(rt; !sequencer.complete() && sequencer.status().is_none());
-    sequencer.end(true);
-    assert!(rt; sequencer.complete());
-    assert!(rt; sequencer.status() == Some(2), "its reading has failed");
+    let states = states_of_open(rt.alloc())?;
+    assert_eq!(rt; states, ((false, None), (true, Some(2))));
     Ok(())
 }
 
@@ -291,15 +316,18 @@ fn write_anew(rt: &impl Abort, heap: &Refusing) -> Result<(bool, bool), AllocErr
 #[test]
 fn refused_announcement_is_made_again(rt: HostRuntime) {
     let mut refused: u64 = 0;
+    let mut spared: u64 = 0;
     for passes in 0..100u64 {
         let heap = Refusing::new(rt.alloc(), passes);
         if let Ok((whole, again)) = write_anew(&rt, &heap) {
-            assert!(rt; whole && heap.has_refused() == again, "at {passes}");
-            if !again {
-                assert!(rt; refused > 0);
+            assert!(rt; whole && (heap.has_refused() || !again), "at {passes}");
+            if !heap.has_refused() {
+                // The three blocks are searched with a scratch each.
+                assert!(rt; refused > 0 && spared == 3 * SPARED);
                 return;
             }
-            refused = refused.wrapping_add(1);
+            let count = if again { &mut refused } else { &mut spared };
+            *count = count.wrapping_add(1);
         }
     }
     panic!(rt; "more than 100 requests")

@@ -1,7 +1,6 @@
 //! Requests for memory that are refused.
 use refusing::Refusing;
 use std::alloc::{AllocError, Allocator, Global};
-use std::process::Abort;
 use std::test::Fail;
 use std::thread;
 use std::thread::Threads;
@@ -16,28 +15,62 @@ fn fill<A: Allocator>(bytes: &mut Vec<u8, A>) -> usize {
     bytes.len()
 }
 
-/// Pushes until the request behind so many others is refused, and then once more. It returns how many were pushed
-/// before.
-fn push_refused(rt: &impl Abort, alloc: Global, passes: u64) -> Result<usize, AllocError> {
+/// What is seen of a list and its allocator where pushes go on until a request is refused, and then once more.
+#[derive(Clone, Copy)]
+struct Pushed {
+    /// How many were pushed before the refusal, and how many there was room for.
+    pushed: usize,
+    capacity: usize,
+    has_refused: bool,
+    /// The requests that were made up to the refusal, and up to the push behind it.
+    requests: [u64; 2],
+    last: Option<u8>,
+    len: usize,
+}
+
+/// Pushes until the request behind so many others is refused, and then once more.
+fn push_refused(alloc: Global, passes: u64) -> Result<Pushed, AllocError> {
     let heap = Refusing::new(alloc, passes);
     let mut bytes = Vec::new(&heap);
     let pushed = fill(&mut bytes);
-    assert!(rt; heap.has_refused());
-    assert_eq!(rt; heap.requests(), passes.wrapping_add(1));
-    assert_eq!(rt; pushed, bytes.capacity());
+    let capacity = bytes.capacity();
+    let has_refused = heap.has_refused();
+    let requests = heap.requests();
     bytes.push(b'b')?;
-    assert_eq!(rt; heap.requests(), passes.wrapping_add(2));
-    assert_eq!(rt; bytes.last(), Some(&b'b'));
-    assert_eq!(rt; bytes.len(), pushed.wrapping_add(1));
-    Ok(pushed)
+    Ok(Pushed {
+        pushed,
+        capacity,
+        has_refused,
+        requests: [requests, heap.requests()],
+        last: bytes.last().copied(),
+        len: bytes.len(),
+    })
 }
 
 #[test]
 fn a_push_is_refused_once(rt: HostRuntime) -> Result<(), Fail> {
-    let none = push_refused(&rt, rt.alloc(), 0)?;
-    let some = push_refused(&rt, rt.alloc(), 1)?;
-    let more = push_refused(&rt, rt.alloc(), 2)?;
-    assert!(rt; none == 0 && some > 0 && some < more);
+    let mut least = 0;
+    for passes in 0..3u64 {
+        let seen = push_refused(rt.alloc(), passes)?;
+        assert!(rt;
+            seen.has_refused && seen.pushed == seen.capacity,
+            "at {passes}"
+        );
+        assert_eq!(rt; seen.requests, [passes + 1, passes + 2]);
+        assert!(rt;
+            seen.last == Some(b'b') && seen.len == seen.pushed.wrapping_add(1),
+            "at {passes}"
+        );
+        assert!(rt;
+            if passes == 0 {
+                seen.pushed == 0
+            } else {
+                seen.pushed > least
+            },
+            "at {passes}"
+        );
+        least = seen.pushed;
+    }
     Ok(())
 }
 
@@ -82,21 +115,24 @@ fn make_pair<A: Allocator + Copy>(alloc: A) -> Result<Pair<A>, AllocError> {
     Ok(pair)
 }
 
+/// Makes a pair where the request behind so many others is refused. Answers whether the pair is right, or `None` for
+/// want of memory, and whether a request was refused.
+fn pair_refused(alloc: Global, passes: u64) -> (Option<bool>, bool) {
+    let heap = Refusing::new(alloc, passes);
+    let is_right = match make_pair(&heap) {
+        Ok(pair) => Some(
+            pair.letters.as_slice() == b"a".as_slice() && pair.numbers.as_slice() == [1].as_slice(),
+        ),
+        Err(AllocError) => None,
+    };
+    (is_right, heap.has_refused())
+}
+
 #[test]
-fn each_request_may_be_refused(rt: HostRuntime) -> Result<(), Fail> {
-    for passes in 0..100u64 {
-        let heap = Refusing::new(rt.alloc(), passes);
-        let made = make_pair(&heap);
-        if !heap.has_refused() {
-            let made = made?;
-            assert_eq!(rt; made.letters.as_slice(), b"a".as_slice());
-            assert_eq!(rt; made.numbers.as_slice(), [1u64].as_slice());
-            assert_eq!(rt; passes, 2);
-            return Ok(());
-        }
-        assert!(rt; made.is_err(), "at {passes}");
-    }
-    panic!(rt; "more than 100 requests")
+fn each_request_may_be_refused(rt: HostRuntime) {
+    assert_eq!(rt; pair_refused(rt.alloc(), 0), (None, true));
+    assert_eq!(rt; pair_refused(rt.alloc(), 1), (None, true));
+    assert_eq!(rt; pair_refused(rt.alloc(), 2), (Some(true), false));
 }
 
 /// Makes two pairs at once.

@@ -12,31 +12,38 @@ use std::thread::Threads;
 #[test]
 fn what_is_put_is_taken(rt: HostRuntime) -> Result<(), Fail> {
     let (tray, mut passes, mut take) = Tray::open(rt.alloc(), 1)?;
-    assert_eq!(rt; tray.put(&rt, &mut passes[0], 7u32), Ok(()));
-    assert_eq!(rt; tray.take(&rt, &mut take), Some(7));
-    assert_eq!(rt; tray.take(&rt, &mut take), None);
-    let mut left = tray.close(passes, take);
-    assert_eq!(rt; left.next(&rt), None);
+    let put = tray.put(&rt, &mut passes[0], 7u32);
+    let taken = [tray.take(&rt, &mut take), tray.take(&rt, &mut take)];
+    let left = tray.close(passes, take).next(&rt);
+    assert_eq!(rt; (put, taken, left), (Ok(()), [Some(7), None], None));
     Ok(())
+}
+
+/// What is put under the passes of a tray, in order, where one value is taken in between.
+fn put_and_left<R: Wait>(rt: &R, alloc: Global) -> Result<(bool, [Option<u32>; 5]), AllocError> {
+    let (tray, mut passes, mut take) = Tray::open(alloc, 3)?;
+    let are_put = tray.put(rt, &mut passes[0], 10u32).is_ok()
+        && tray.put(rt, &mut passes[2], 30).is_ok()
+        && tray.put(rt, &mut passes[0], 11).is_ok()
+        && tray.put(rt, &mut passes[1], 20).is_ok();
+    let taken = tray.take(rt, &mut take);
+    passes.reverse();
+    let mut left = tray.close(passes, take);
+    let seen = [
+        taken,
+        left.next(rt),
+        left.next(rt),
+        left.next(rt),
+        left.next(rt),
+    ];
+    Ok((are_put, seen))
 }
 
 #[test]
 fn what_is_left_is_handed_out(rt: HostRuntime) -> Result<(), Fail> {
-    let (tray, mut passes, mut take) = Tray::open(rt.alloc(), 3)?;
-    assert_eq!(rt; tray.put(&rt, &mut passes[0], 10u32), Ok(()));
-    assert_eq!(rt; tray.put(&rt, &mut passes[2], 30), Ok(()));
-    assert_eq!(rt; tray.put(&rt, &mut passes[0], 11), Ok(()));
-    assert_eq!(rt; tray.put(&rt, &mut passes[1], 20), Ok(()));
-    assert_eq!(rt; tray.take(&rt, &mut take), Some(10));
-    passes.reverse();
-    let mut left = tray.close(passes, take);
-    let rest = [
-        left.next(&rt),
-        left.next(&rt),
-        left.next(&rt),
-        left.next(&rt),
-    ];
-    assert_eq!(rt; rest, [Some(30), Some(11), Some(20), None]);
+    let (are_put, seen) = put_and_left(&rt, rt.alloc())?;
+    assert!(rt; are_put);
+    assert_eq!(rt; seen, [Some(10), Some(30), Some(11), Some(20), None]);
     Ok(())
 }
 
@@ -201,42 +208,79 @@ fn is_rest<R: Wait, A: Allocator>(rt: &R, left: Delivered<u32, A>) -> bool {
     left.next(rt) == None
 }
 
+/// What is seen of a tray where a request for memory is refused.
+#[derive(Clone, Copy, Debug, PartialEq, Eq)]
+struct Seen {
+    /// How many values came back.
+    refused: u32,
+    taken: Option<u32>,
+    /// Whether the other values are left, in their order.
+    is_rest: bool,
+    /// How many requests the taking, the closing and the handing out made.
+    requests: u64,
+}
+
+/// Puts 100 numbers into a tray, takes one, and closes it.
+fn put_into_tray<R: Wait>(rt: &R, heap: &Refusing) -> Result<Seen, AllocError> {
+    let (tray, mut passes, mut take) = Tray::open(heap, 2)?;
+    let refused = put_numbers(rt, &tray, &mut passes[1]);
+    let made = heap.requests();
+    let taken = tray.take(rt, &mut take);
+    let is_rest = is_rest(rt, tray.close(passes, take));
+    Ok(Seen {
+        refused,
+        taken,
+        is_rest,
+        requests: heap.requests().wrapping_sub(made),
+    })
+}
+
 #[test]
 fn each_request_of_a_tray_may_be_refused(rt: HostRuntime) -> Result<(), Fail> {
     for requests in 0..100u64 {
         let heap = Refusing::new(rt.alloc(), requests);
-        let opened = Tray::open(&heap, 2);
-        assert!(rt; opened.is_err() == heap.has_refused(), "at {requests}");
-        let Ok((tray, mut passes, mut take)) = opened else {
+        let Ok(seen) = put_into_tray(&rt, &heap) else {
+            assert!(rt; heap.has_refused(), "at {requests}");
             continue;
         };
-        let refused = put_numbers(&rt, &tray, &mut passes[1]);
-        assert_eq!(rt; refused, u32::from(heap.has_refused()), "at {requests}");
-        let made = heap.requests();
-        assert_eq!(rt; tray.take(&rt, &mut take), Some(0));
-        let left = tray.close(passes, take);
-        assert!(rt; is_rest(&rt, left), "at {requests}");
-        assert_eq!(rt; heap.requests(), made);
-        if refused == 0 {
+        let want = Seen {
+            refused: u32::from(heap.has_refused()),
+            taken: Some(0),
+            is_rest: true,
+            requests: 0,
+        };
+        assert_eq!(rt; seen, want, "at {requests}");
+        if seen.refused == 0 {
             return Ok(());
         }
     }
     panic!(rt; "more than 100 requests")
 }
 
+/// Whether a value is shared while it lies in a tray, which is closed at last, or just dropped.
+fn is_shared_in_tray<R: Wait>(
+    rt: &R,
+    alloc: Global,
+    shared: &mut Arc<u32>,
+    closes: bool,
+) -> Result<bool, AllocError> {
+    let (tray, mut passes, take) = Tray::open(alloc, 1)?;
+    let is_put = tray
+        .put(rt, &mut passes[0], Arc::try_clone(shared)?)
+        .is_ok();
+    let is_shared = is_put && Arc::get_mut(shared).is_none();
+    if closes {
+        drop(tray.close(passes, take));
+    }
+    Ok(is_shared)
+}
+
 #[test]
 fn values_that_are_left_are_dropped(rt: HostRuntime) -> Result<(), Fail> {
     let mut shared = Arc::new(rt.alloc(), 5u32)?;
-    let (tray, mut passes, take) = Tray::open(rt.alloc(), 1)?;
-    let clone = Arc::try_clone(&shared)?;
-    assert!(rt; tray.put(&rt, &mut passes[0], clone).is_ok());
-    assert!(rt; Arc::get_mut(&mut shared).is_none());
-    drop(tray.close(passes, take));
-    assert!(rt; Arc::get_mut(&mut shared).is_some());
-    let (tray, mut passes, _take) = Tray::open(rt.alloc(), 1)?;
-    let clone = Arc::try_clone(&shared)?;
-    assert!(rt; tray.put(&rt, &mut passes[0], clone).is_ok());
-    drop(tray);
-    assert!(rt; Arc::get_mut(&mut shared).is_some());
+    for closes in [true, false] {
+        assert!(rt; is_shared_in_tray(&rt, rt.alloc(), &mut shared, closes)?);
+        assert!(rt; Arc::get_mut(&mut shared).is_some(), "{closes}");
+    }
     Ok(())
 }

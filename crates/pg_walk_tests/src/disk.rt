@@ -1,5 +1,5 @@
 //! The system's tree, over a directory that the test makes, and over a runtime that stands in for the system.
-use crate::memory::{halves, walked};
+use crate::memory::{assert_rows, halves, walked};
 use pg_walk::{DiskTree, FileKind, FileTree, LookFault};
 use refusing::Refusing;
 use std::alloc::{AllocError, Allocator, Global};
@@ -12,18 +12,34 @@ use std::rt::Files;
 use std::test::Fail;
 use std::{env, fs, io, process, thread};
 
+/// What stands below the root: directories, files with their texts, and links with what they lead to.
+const ENTRIES: &str = "directory a/empty
+file a/b x
+file a.txt x
+file .hidden
+link file-link a.txt
+link a/up .
+link dead missing
+link self self";
+
+/// Makes what a line tells of.
+fn make_entry(rt: &HostRuntime, root: &str, line: &str) -> io::Result<()> {
+    let (kind, entry) = line.split_once(' ').unwrap_or((line, ""));
+    let (path, text) = entry.split_once(' ').unwrap_or((entry, ""));
+    let path = format!(in rt.alloc(); "{root}/{path}")?;
+    match kind {
+        "directory" => fs::create_dir_all(rt, path),
+        "file" => fs::write(rt, path, text),
+        _ => symlink(rt, text, path),
+    }
+}
+
 /// Makes the directory that the test below walks. `pipe` is the path of a pipe.
 fn make_tree(rt: &HostRuntime, root: &str, pipe: &str) -> io::Result<()> {
-    let alloc = rt.alloc();
-    fs::create_dir_all(rt, format!(in alloc; "{root}/a/empty")?)?;
-    fs::write(rt, format!(in alloc; "{root}/a/b")?, "x")?;
-    fs::write(rt, format!(in alloc; "{root}/a.txt")?, "x")?;
-    fs::write(rt, format!(in alloc; "{root}/.hidden")?, "")?;
-    symlink(rt, "a.txt", format!(in alloc; "{root}/file-link")?)?;
-    symlink(rt, ".", format!(in alloc; "{root}/a/up")?)?;
-    symlink(rt, "missing", format!(in alloc; "{root}/dead")?)?;
-    symlink(rt, "self", format!(in alloc; "{root}/self")?)?;
-    symlink(rt, pipe, format!(in alloc; "{root}/pipe")?)
+    for line in ENTRIES.lines() {
+        make_entry(rt, root, line)?;
+    }
+    symlink(rt, pipe, format!(in rt.alloc(); "{root}/pipe")?)
 }
 
 /// Paths, `root` for the root, and the kinds of what stands there and behind its links.
@@ -46,39 +62,37 @@ root/dead => root/dead:CannotOpen
 root/a/empty =>
 root/a/up/up => root/a/up/up/b";
 
-/// Asks for kinds below the root.
-fn ask_kinds<R: Files + AllocGlobal + Abort + Clone + Drop>(
+/// The kinds of what stands at a path, where `root` stands for the root, and behind its links.
+fn kinds_at<R: Files + AllocGlobal + Clone + Drop>(
     rt: &R,
     root: &str,
-) -> Result<(), Fail> {
+    path: &str,
+) -> Result<String, AllocError> {
     let tree = DiskTree::new(rt);
-    for row in KINDS.lines() {
-        let (path, want) = halves(row);
-        let path = path.replace(rt.alloc(), "root", root)?;
-        let kind = tree.kind(path.as_str(), false);
-        let target = tree.kind(path.as_str(), true);
-        let got = format!(in rt.alloc(); "{kind:?} {target:?}")?;
-        assert_eq!(rt; got.as_str(), want, "{row}");
-    }
-    Ok(())
+    let path = path.replace(rt.alloc(), "root", root)?;
+    let kind = tree.kind(path.as_str(), false);
+    let target = tree.kind(path.as_str(), true);
+    format!(in rt.alloc(); "{kind:?} {target:?}")
 }
 
-/// Walks over operands below the root.
-fn walk_around<R: Files + AllocGlobal + Abort + Clone + Drop>(
+/// What a walk over operands gives, where `root` stands for the root.
+fn walked_below<R: Files + AllocGlobal + Clone + Drop>(
     rt: &R,
     root: &str,
-) -> Result<(), Fail> {
-    let tree = DiskTree::new(rt);
-    for row in WALKS.lines() {
-        let (operands, want) = halves(row);
-        let operands = operands.replace(rt.alloc(), "root", root)?;
-        let got = walked(rt.alloc(), &tree, operands.as_str(), true)?;
-        let got = got.replace(rt.alloc(), root, "root")?;
-        assert_eq!(rt; got.as_str(), want, "{row}");
-    }
+    operands: &str,
+) -> Result<String, AllocError> {
+    let operands = operands.replace(rt.alloc(), "root", root)?;
+    let got = walked(rt.alloc(), &DiskTree::new(rt), operands.as_str(), true)?;
+    got.replace(rt.alloc(), root, "root")
+}
+
+/// Whether the entries of a file can be asked for.
+fn has_entries<R: Files + AllocGlobal + Clone + Drop>(
+    rt: &R,
+    root: &str,
+) -> Result<bool, AllocError> {
     let file = format!(in rt.alloc(); "{root}/a.txt")?;
-    assert!(rt; tree.entries(rt.alloc(), file.as_str()).is_err());
-    Ok(())
+    Ok(DiskTree::new(rt).entries(rt.alloc(), file.as_str()).is_ok())
 }
 
 /// Asks for kinds below the root, and walks.
@@ -86,8 +100,14 @@ fn look_around<R: Files + AllocGlobal + Abort + Clone + Drop>(
     rt: &R,
     root: &str,
 ) -> Result<(), Fail> {
-    ask_kinds(rt, root)?;
-    walk_around(rt, root)
+    assert_rows(rt, KINDS, |path: &str| Ok(kinds_at(rt, root, path)?))?;
+    assert_rows(
+        rt,
+        WALKS,
+        |operands: &str| Ok(walked_below(rt, root, operands)?),
+    )?;
+    assert!(rt; !has_entries(rt, root)?);
+    Ok(())
 }
 
 /// The path of a new directory's place, which is the test's own.
@@ -260,18 +280,22 @@ b|?b| 195 false => d:BadName d/b
 b|?| 97 false => d/a d/b
 b|?| 255 true => d:CannotList";
 
+/// The stand-in of which a row tells.
+fn stand_in(asked: &'static str) -> Result<StandIn, Fail> {
+    let (names, faults) = asked.split_once(' ').unwrap_or((asked, ""));
+    let (unknown, fails) = faults.split_once(' ').unwrap_or((faults, ""));
+    Ok(StandIn {
+        names,
+        unknown: unknown.parse()?,
+        fails: fails == "true",
+    })
+}
+
 #[test]
 fn names_that_are_not_utf8(rt: HostRuntime) -> Result<(), Fail> {
     for row in NAMES.lines() {
         let (asked, want) = halves(row);
-        let (names, faults) = asked.split_once(' ').unwrap_or((asked, ""));
-        let (unknown, fails) = faults.split_once(' ').unwrap_or((faults, ""));
-        let system = StandIn {
-            names,
-            unknown: unknown.parse()?,
-            fails: fails == "true",
-        };
-        let got = walked_over(rt.alloc(), system, "d")?;
+        let got = walked_over(rt.alloc(), stand_in(asked)?, "d")?;
         assert_eq!(rt; got.as_str(), want, "{row}");
     }
     Ok(())
@@ -292,23 +316,27 @@ fn a_directory_that_cannot_be_opened(rt: HostRuntime) -> Result<(), Fail> {
     Ok(())
 }
 
+/// Lists that directory where the request behind so many others is refused. Answers whether it has a name that can't
+/// be told, and how many others, or the fault; and whether a request was refused.
+fn list_refused(alloc: Global, passes: u64) -> (Result<(bool, usize), LookFault>, bool) {
+    let heap = Refusing::new(alloc, passes);
+    let listed = match DiskTree::new(SOME).entries(&heap, "d") {
+        Ok(listing) => Ok((listing.nameless, listing.names.len())),
+        Err(fault) => Err(fault),
+    };
+    (listed, heap.has_refused())
+}
+
 #[test]
-fn each_request_of_a_listing_may_be_refused(rt: HostRuntime) -> Result<(), Fail> {
-    let tree = DiskTree::new(SOME);
+fn each_request_of_a_listing_may_be_refused(rt: HostRuntime) {
     for passes in 0..100u64 {
-        let heap = Refusing::new(rt.alloc(), passes);
-        match tree.entries(&heap, "d") {
-            Ok(listing) => {
-                assert!(rt; !heap.has_refused() && passes > 3);
-                assert!(rt; listing.nameless);
-                assert_eq!(rt; listing.names.len(), 2);
-                return Ok(());
-            }
-            Err(fault) => {
-                assert!(rt; heap.has_refused());
-                assert_eq!(rt; fault, LookFault::OutOfMemory, "at {passes}");
-            }
+        let (listed, is_refused) = list_refused(rt.alloc(), passes);
+        if !is_refused {
+            assert_eq!(rt; listed, Ok((true, 2)));
+            assert!(rt; passes > 3);
+            return;
         }
+        assert_eq!(rt; listed, Err(LookFault::OutOfMemory), "at {passes}");
     }
     panic!(rt; "more than 100 requests")
 }

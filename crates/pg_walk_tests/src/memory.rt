@@ -3,6 +3,7 @@ use pg_walk::{FileKind, FileTree, Item, Listing, LookFault, MemTree, Node, walk}
 use refusing::Refusing;
 use std::alloc::{AllocError, Allocator, Global};
 use std::cell::Cell;
+use std::process::Abort;
 use std::test::Fail;
 
 /// What stands at a path, by a word of the trees below, and the names that are listed there.
@@ -83,6 +84,22 @@ fn shown<A: Allocator>(alloc: Global, items: &[Item<A>]) -> Result<String, Alloc
 pub(crate) fn halves(row: &str) -> (&str, &str) {
     let (asked, want) = row.split_once(" =>").unwrap_or((row, ""));
     (asked, want.trim_start())
+}
+
+/// Compares what each row wants with the answer to what it asks.
+pub(crate) fn assert_rows<R: Abort, F: Fn(&str) -> Result<String, Fail>>(
+    rt: &R,
+    rows: &str,
+    answer: F,
+) -> Result<(), Fail>
+    requires { F.IsAlwaysCallable answer }
+{
+    for row in rows.lines() {
+        let (asked, want) = halves(row);
+        let got = answer(asked)?;
+        assert_eq!(rt; got.as_str(), want, "{row}");
+    }
+    Ok(())
 }
 
 /// Walks over operands, and shows the items.
@@ -219,23 +236,36 @@ fn walks(rt: HostRuntime) -> Result<(), Fail> {
     Ok(())
 }
 
-#[test]
-fn directories_down_to_256_levels(rt: HostRuntime) -> Result<(), Fail> {
-    let alloc = rt.alloc();
-    let mut tree = MemTree::new(alloc);
+/// Adds a directory with an entry `e`, and a file `f` in it.
+fn add_level(alloc: Global, tree: &mut MemTree, path: &str) -> Result<(), AllocError> {
+    tree.add(path, Node::directory(alloc, &["e", "f"])?)?;
+    let file = format!(in alloc; "{path}/f")?;
+    tree.add(file.as_str(), Node::new(FileKind::Regular))
+}
+
+/// The path of the directory that is so many levels below `d`.
+fn path_of_level(alloc: Global, level: u32) -> Result<String, AllocError> {
     let mut path = String::from_str(alloc, "d")?;
-    let mut want = String::new(alloc);
-    for level in 0..=257u32 {
-        tree.add(path.as_str(), Node::directory(alloc, &["e", "f"])?)?;
-        if level == 256 {
-            let deepest = path.as_str();
-            write!(want, "{deepest}/e:TooDeep {deepest}/f")?;
-        }
-        let file = format!(in alloc; "{path}/f")?;
-        tree.add(file.as_str(), Node::new(FileKind::Regular))?;
+    for _ in 0..level {
         path.push_str("/e")?;
     }
-    let got = walked(alloc, &tree, "d", true)?;
+    Ok(path)
+}
+
+/// Directories that are one level too deep.
+fn deep_tree(alloc: Global) -> Result<MemTree, AllocError> {
+    let mut tree = MemTree::new(alloc);
+    for level in 0..=257u32 {
+        add_level(alloc, &mut tree, path_of_level(alloc, level)?.as_str())?;
+    }
+    Ok(tree)
+}
+
+#[test]
+fn directories_down_to_256_levels(rt: HostRuntime) -> Result<(), Fail> {
+    let got = walked(rt.alloc(), &deep_tree(rt.alloc())?, "d", true)?;
+    let deepest = path_of_level(rt.alloc(), 256)?;
+    let want = format!(in rt.alloc(); "{deepest}/e:TooDeep {deepest}/f")?;
     assert!(rt; got.as_str().starts_with(want.as_str()));
     // Behind the deepest level each level's file follows, from the deepest to the operand's own.
     assert_eq!(rt; got.as_str().split(' ').count(), 258);
@@ -333,22 +363,38 @@ d/a nameless x
 d/a/x file
 d/b unlisted";
 
+/// What walks over `d`, `d`, `-` and `gone` in it give.
+const ALLOWED: &str =
+    "d/a:BadName d/a/x d/b:CannotList d/a:BadName d/a/x d/b:CannotList - gone:CannotOpen";
+
+/// Walks where the request behind so many others is refused. Answers the items, or `None` for want of memory, and
+/// whether a request was refused.
+fn walk_refused(
+    alloc: Global,
+    tree: &MemTree,
+    operands: &[String],
+    passes: u64,
+) -> Result<(Option<String>, bool), AllocError> {
+    let heap = Refusing::new(alloc, passes);
+    let got = match walk(&heap, tree, operands, true) {
+        Ok(items) => Some(shown(alloc, items.as_slice())?),
+        Err(AllocError) => None,
+    };
+    Ok((got, heap.has_refused()))
+}
+
 #[test]
 fn each_request_of_a_walk_may_be_refused(rt: HostRuntime) -> Result<(), Fail> {
     let tree = tree_of(rt.alloc(), REFUSED)?;
     let operands = texts(rt.alloc(), "d d - gone")?;
     for passes in 0..200u64 {
-        let heap = Refusing::new(rt.alloc(), passes);
-        let items = walk(&heap, &tree, operands.as_slice(), true);
-        if !heap.has_refused() {
-            let got = shown(rt.alloc(), items?.as_slice())?;
-            let want =
-                "d/a:BadName d/a/x d/b:CannotList d/a:BadName d/a/x d/b:CannotList - gone:CannotOpen";
-            assert_eq!(rt; got.as_str(), want);
+        let (got, is_refused) = walk_refused(rt.alloc(), &tree, operands.as_slice(), passes)?;
+        assert!(rt; got.is_none() == is_refused, "at {passes}");
+        if let Some(got) = got {
+            assert_eq!(rt; got.as_str(), ALLOWED);
             assert!(rt; passes > 20);
             return Ok(());
         }
-        assert!(rt; items.is_err(), "at {passes}");
     }
     panic!(rt; "more than 200 requests")
 }
@@ -359,20 +405,32 @@ fn add_directory<A: Allocator + Copy>(alloc: A, tree: &mut MemTree<A>) -> Result
     tree.add("d/a", Node::new(FileKind::Regular))
 }
 
+/// Adds that directory to a new tree where the request behind so many others is refused. Answers what a walk over it
+/// gives, or `None` for want of memory; then whether a request was refused, and what `d/a` is.
+fn add_refused(
+    alloc: Global,
+    passes: u64,
+) -> Result<(Option<String>, bool, Result<FileKind, LookFault>), AllocError> {
+    let heap = Refusing::new(alloc, passes);
+    let mut tree = MemTree::new(&heap);
+    let got = match add_directory(&heap, &mut tree) {
+        Ok(()) => Some(walked(alloc, &tree, "d", true)?),
+        Err(AllocError) => None,
+    };
+    Ok((got, heap.has_refused(), tree.kind("d/a", false)))
+}
+
 #[test]
 fn each_request_of_a_tree_in_memory_may_be_refused(rt: HostRuntime) -> Result<(), Fail> {
     for passes in 0..100u64 {
-        let heap = Refusing::new(rt.alloc(), passes);
-        let mut tree = MemTree::new(&heap);
-        let added = add_directory(&heap, &mut tree);
-        assert_eq!(rt; added.is_err(), heap.has_refused(), "at {passes}");
-        if added.is_ok() {
-            let got = walked(rt.alloc(), &tree, "d", true)?;
+        let (got, is_refused, kind) = add_refused(rt.alloc(), passes)?;
+        assert!(rt; got.is_none() == is_refused, "at {passes}");
+        if let Some(got) = got {
             assert_eq!(rt; got.as_str(), "d/a");
             assert!(rt; passes > 3);
             return Ok(());
         }
-        assert_eq!(rt; tree.kind("d/a", false), Err(LookFault::Failed));
+        assert_eq!(rt; kind, Err(LookFault::Failed));
     }
     panic!(rt; "more than 100 requests")
 }
