@@ -1,6 +1,9 @@
 //! Pargrep: prints the lines of files that patterns select.
 #![tactic(auto)]
 
+ghost use Rattle.std.specs.Prelude.{◌≡◌, ◌⊎◌, IfErr};
+ghost use Rattle.pg_command.specs.declared.fault.Fault.TheVariants.{NotText, OutOfMemory};
+
 use pg_command::{Fault, report, run};
 use pg_rows::Out;
 use pg_run::{DiskStore, Listed};
@@ -18,22 +21,20 @@ const OUT_BUFFER: usize = 65_536;
 fn main(rt: HostRuntime) -> ExitCode {
     let alloc = rt.alloc();
     let mut err = Out::new(rt.stderr());
-    let words = match words_of(&rt) {
-        Ok(words) => words,
-        Err(fault) => return ExitCode::from(report(alloc, fault, &mut err)),
-    };
     let Ok(buffered) = BufWriter::with_capacity(alloc, OUT_BUFFER, rt.stdout()) else {
         return ExitCode::from(report(alloc, Fault::OutOfMemory, &mut err));
     };
+    let words = words_of(&rt);
     let tree = DiskTree::new(&rt);
     let mut files = Listed::new(alloc, DiskStore::new(&rt));
     let mut out = Out::new(buffered);
-    let words = words.as_slice();
     ExitCode::from(run(&rt, alloc, words, &tree, &mut files, &mut out, &mut err))
 }
 
 /// The words behind the program's name.
-fn words_of<R: Env + AllocGlobal>(rt: &R) -> Result<Vec<String>, Fault<'static>> {
+fn words_of<R: Env + AllocGlobal>(rt: &R) -> Result<Vec<String>, Fault<'static>>
+    ensures { IfErr result (λ fault. (fault ≡ NotText) ⊎ (fault ≡ OutOfMemory)) }
+{
     let words = match env::args(rt) {
         Ok(words) => words,
         Err(error) if error.kind() == ErrorKind::OutOfMemory => return Err(Fault::OutOfMemory),

@@ -11,15 +11,16 @@ use Rattle.pg_command.specs.Asked.{Asked}
 use Rattle.pg_command.specs.Reading.{HasRead}
 
 -- the run has changed neither the list nor what was given before
-abbrev pub work_of : (tells : Type 0) (tree : Tree) (asked : Asked) (past between past' : List Given) (contents : List (List ℕ))
+abbrev pub work_of : (tells : Type 0) (tree : Tree) (asked : Asked)
+    → (past between past' : List Given) (contents : List (List ℕ))
     → HasRead past between asked.pattern_files contents
     → (listed items : List Found) → (tells → FilesOf tree asked.files asked.recursive listed)
     → (setup : Setup) → IsSetup tells tree asked setup → (first count : ℕ) → (done : Bool) → first ≡ 0
     → newest_paths (length (file_paths (asked_for count items))) past' ≡ file_paths (asked_for count items)
     → sources count items past' ≡ sources first listed between
     → Work tells tree asked past past'
-work_of tells tree asked past between past' contents read listed items walked setup is_setup first count done fresh opened
-    same = record {
+work_of tells tree asked past between past' contents read listed items walked setup is_setup first count done fresh
+    opened same = record {
       contents = contents;
       between = between;
       read = read;

@@ -1,6 +1,6 @@
 -- What a search answers, and what it writes.
-use Rattle.std.specs.Prelude.{◌≡◌, ℕ, ◌^◌, ◌⊎◌, Bool, not, ◌&&◌, List, [], ◌∷◌, length, drop, Option, Some, None, Result}
-use Rattle.std.specs.Prelude.{Ok, Err}
+use Rattle.std.specs.Prelude.{◌≡◌, ℕ, ◌^◌, ◌⊎◌, Bool, not, ◌&&◌, List, [], ◌∷◌, length, drop}
+use Rattle.std.specs.Prelude.{Option, Some, None, Result, Ok, Err}
 use Rattle.pg_lines.specs.Search.{Search}
 use Rattle.pg_walk.specs.Answers.{Answers as Tree}
 use Rattle.pg_walk.specs.Items.{Found}
@@ -60,8 +60,8 @@ pub record Work (tells : Type 0) (tree : Tree) (asked : Asked) (past past' : Lis
   pub earlier : drop (length (file_paths (asked_for count items))) past' ≡ between
 
 -- The run over all of it came to its end.
-pub record Succeeds (tells : Type 0) (tree : Tree) (asked : Asked) (past past' : List Given) (out out' err err' : Stream)
-    (status : ℕ) : Type 0 where
+pub record Succeeds (tells : Type 0) (tree : Tree) (asked : Asked) (past past' : List Given)
+    (out out' err err' : Stream) (status : ℕ) : Type 0 where
   pub work : Work tells tree asked past past'
   pub search : Search
   pub is_search : IsSearchFor (text_of_query asked work.contents) search

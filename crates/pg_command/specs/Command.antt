@@ -12,7 +12,8 @@ use Rattle.pg_command.specs.declared.fault.Fault.TheVariants.{WriteFailed}
 use Rattle.pg_command.specs.declared.search.Told.{Told}
 
 -- The words weren't taken: nothing was opened or written, and a text was told that says why, or that memory is lacking.
-pub record Refuses {T : Type 0} (past past' : List Given) (out out' err err' : Stream) (answer : Result ℕ T) : Type 0 where
+pub record Refuses {T : Type 0} (past past' : List Given) (out out' err err' : Stream) (answer : Result ℕ T)
+    : Type 0 where
   pub fault : IsErr answer
   pub unopened : past' ≡ past
   pub unwritten : out' ≡ out
@@ -27,7 +28,8 @@ IsShown text out out' err err' (Err _) =
     TakesPart text out.taken out'.taken × (out.failures < out'.failures) × Tells WriteFailed err err'
 
 -- The words asked for a text. Nothing was opened.
-pub record Shows {T : Type 0} (past past' : List Given) (out out' err err' : Stream) (answer : Result ℕ T) : Type 0 where
+pub record Shows {T : Type 0} (past past' : List Given) (out out' err err' : Stream) (answer : Result ℕ T)
+    : Type 0 where
   pub unopened : past' ≡ past
   pub text : List ℕ
   pub shown : IsShown text out out' err err' answer

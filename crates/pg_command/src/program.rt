@@ -1,7 +1,7 @@
 //! The command, over any files and streams.
-ghost use Rattle.std.specs.Prelude.{◌≡◌, ◌≤◌, ◌++◌, false, ℕ, List, codes, IfOk, IsErr};
+ghost use Rattle.std.specs.Prelude.{◌≡◌, ◌≤◌, ◌++◌, false, ℕ, List, codes, IfOk, OnOk, IfErr, OnErr, IsErr};
 ghost use Rattle.pg_command.specs.Command.{Commands, IsShown, Runs};
-ghost use Rattle.pg_command.specs.Told.{TellsText};
+ghost use Rattle.pg_command.specs.Told.{Tells, TellsText};
 
 use crate::fault::{FAULT_STATUS, Fault, report};
 use crate::search::{Told, answer};
@@ -12,14 +12,17 @@ use pg_words::{Task, Words, WordsFault, read_words};
 use std::alloc::Global;
 use std::io::Write;
 use std::sync::Wait;
+use std::thread::Threads;
+use std::time::Clock;
 
 /// Does what the words of a command line ask for, which leave out the program's name: a search, as
-/// [`answer`] has it, or a text about the program. The answer is the status.
+/// [`answer`] has it, or a text about the program. The answer is the status. Nothing was asked of
+/// `files` yet.
 ///
 /// # Errors
 ///
 /// `Told` where a fault ended it, whose line went to `err`; the words are looked at first.
-pub fn command<R: Wait, T: FileTree, S: Store + Drop, W: Sink, E: Sink>(
+pub fn command<R: Threads + Wait + Clock + Sync, T: FileTree, S: Store + Drop, W: Sink, E: Sink>(
     rt: &R,
     alloc: Global,
     words: &[String],
@@ -83,9 +86,40 @@ fn show<W: Sink, E: Sink>(alloc: Global, text: &str, out: &mut W, err: &mut E) -
     Ok(0)
 }
 
-/// Runs the command and sends on what standard output holds back, which is part of success. The answer
-/// is the exit status of the program.
-pub fn run<R: Wait, T: FileTree, S: Store + Drop, W: Write, E: Sink>(
+/// Runs the command over the words, or tells why they can't be had. Nothing was asked of `files` yet. The
+/// answer is the exit status of the program: that of the command, or 2 where there are no words or what
+/// standard output held back can't be sent on, which is part of success.
+pub fn run<R: Threads + Wait + Clock + Sync, T: FileTree, S: Store + Drop, W: Write, E: Sink>(
+    rt: &R,
+    alloc: Global,
+    words: Result<Vec<String>, Fault<'_>>,
+    tree: &T,
+    files: &mut Listed<S>,
+    out: &mut Out<W>,
+    err: &mut E,
+) -> u8
+    requires { (files.old.asked ≡ 0) × (files.old.done ≡ false) }
+    ensures runs { OnOk words.entry (Runs (T.tells tree.now) (T.answers tree.now)
+        (S.past files.old.store) (S.past files.new.store)
+        (record { taken = out.old.taken; failures = out.old.failures })
+        (record { taken = out.new.taken; failures = out.new.failures })
+        (record { taken = E.taken err.old; failures = E.failures err.old })
+        (record { taken = E.taken err.new; failures = E.failures err.new }) result) }
+    ensures told { IfErr words.entry (λ fault. (result ≡ 2) × Tells fault
+        (record { taken = E.taken err.old; failures = E.failures err.old })
+        (record { taken = E.taken err.new; failures = E.failures err.new })) }
+    ensures unused { OnErr words.entry ((files.new ≡ files.old) × (out.new ≡ out.old)) }
+    ensures small { result ≤ 2 }
+{
+    match words {
+        Ok(words) => run_words(rt, alloc, words.as_slice(), tree, files, out, err),
+        Err(fault) => report(alloc, fault, err),
+    }
+}
+
+/// Runs the command and sends on what standard output holds back. Nothing was asked of `files` yet. The
+/// answer is the exit status.
+fn run_words<R: Threads + Wait + Clock + Sync, T: FileTree, S: Store + Drop, W: Write, E: Sink>(
     rt: &R,
     alloc: Global,
     words: &[String],

@@ -16,6 +16,8 @@ use pg_walk::{FileTree, walk};
 use pg_words::{Naming, Request};
 use std::alloc::{AllocError, Global};
 use std::sync::Wait;
+use std::thread::Threads;
+use std::time::Clock;
 
 /// The longest line that is searched, in bytes.
 const LONGEST_LINE: u32 = 1_073_741_824;
@@ -29,14 +31,14 @@ pub struct Told;
 /// a file by its path, and standard input `(standard input)`. Each name that gives no file, and each
 /// file whose reading fails, has a line in `err` unless the request is silent. The answer is the
 /// status: 0 where a line was selected, 1 where none was, and 2 where a name gave no file or a reading
-/// failed; but with -q 0 where a line was selected. Nothing was listed in `files` yet.
+/// failed; but with -q 0 where a line was selected. Nothing was asked of `files` yet.
 ///
 /// # Errors
 ///
 /// `Told` where a fault ended the search, whose line went to `err`: that of the first -f file that
 /// can't be read, then that of the patterns, the first of them that has one, or of their size, and then
 /// those that end a run. `out` got a beginning of its output then.
-pub fn answer<R: Wait, T: FileTree, S: Store + Drop, W: Sink, E: Sink>(
+pub fn answer<R: Threads + Wait + Clock + Sync, T: FileTree, S: Store + Drop, W: Sink, E: Sink>(
     rt: &R,
     alloc: Global,
     request: &Request<'_>,
@@ -63,8 +65,9 @@ pub fn answer<R: Wait, T: FileTree, S: Store + Drop, W: Sink, E: Sink>(
     }
 }
 
-/// Reads the files of patterns, walks over the operands, and searches the files that this gives.
-fn search<'a, R: Wait, T: FileTree, S: Store + Drop, W: Sink, E: Sink>(
+/// Reads the files of patterns, walks over the operands, and searches the files that this gives. Nothing
+/// was asked of `files` yet.
+fn search<'a, R: Threads + Wait + Clock + Sync, T: FileTree, S: Store + Drop, W: Sink, E: Sink>(
     rt: &R,
     alloc: Global,
     request: &Request<'a>,
@@ -94,7 +97,8 @@ fn search<'a, R: Wait, T: FileTree, S: Store + Drop, W: Sink, E: Sink>(
     Ok(run(rt, alloc, text, setup, files, out, err)?)
 }
 
-/// Lists what a walk over the operands gives, and says how that is searched.
+/// Lists what a walk over the operands gives, and says how that is searched. Nothing was asked of
+/// `files` yet.
 fn list_files<T: FileTree, S: Store + Drop>(
     alloc: Global,
     request: &Request<'_>,
@@ -145,6 +149,7 @@ fn setup_of(request: &Request<'_>, directory: bool) -> Setup
         block: request.block,
         line: LONGEST_LINE,
         round: request.round,
+        always_spread: false,
         silent: request.silent,
     }
 }

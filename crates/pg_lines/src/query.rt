@@ -179,8 +179,9 @@ impl<A: Allocator> Query<A> {
         self.text.terminator()
     }
 
-    /// The text that a line is selected by, where it is one plain fixed string.
-    pub(crate) fn literal(&self) -> Option<&[u8]>
+    /// The text that selects the lines which hold it, where there is nothing else to look for: it is
+    /// searched for without the machine.
+    pub fn literal(&self) -> Option<&[u8]>
         ensures plain { IfSome result (λ literal. IsPlain self.now.text literal.now) }
         ensures compiled { IsCompiled self.now }
     {

@@ -29,12 +29,14 @@ use Rattle.pg_seq.proofs.FrontLemmas.{front_all}
 use Rattle.pg_seq.proofs.KeyLemmas.{next_not_taken}
 use Rattle.pg_run.specs.Outcome.{Stream}
 use Rattle.pg_run.specs.Holding.{Aim, Holds, May, Broke, IsWritten, past_of, format_of, output_of}
+use Rattle.pg_run.specs.Holding.{waiting}
 use Rattle.pg_run.specs.declared.engine.Engine.{Engine}
+use Rattle.pg_run.specs.declared.fault.RunFault.{RunFault}
 use Rattle.pg_run.specs.declared.fault.RunFault.TheVariants.{OutOfMemory, Sink}
 
 -- Keys of blocks that were taken.
 
-any_more : (key : ℕ × ℕ) (keys : List (ℕ × ℕ)) (b : BlockData) → is_taken keys b ≡ true
+pub any_more : (key : ℕ × ℕ) (keys : List (ℕ × ℕ)) (b : BlockData) → is_taken keys b ≡ true
     → is_taken (key ∷ keys) b ≡ true
 any_more key keys b e = ap (λ t. (b.file == key.0 && b.number == key.1) || t) e
     ∙ or_true (b.file == key.0 && b.number == key.1)
@@ -55,7 +57,7 @@ all_more key keys (b ∷ bs) e =
     all_by (is_taken keys b) (list_all (is_taken keys) bs) (list_all (is_taken (key ∷ keys)) bs) e
     (all_more key keys bs) (is_taken (key ∷ keys) b) (any_more key keys b)
 
-own_key : (keys : List (ℕ × ℕ)) (b : BlockData) → is_taken ((b.file, b.number) ∷ keys) b ≡ true
+pub own_key : (keys : List (ℕ × ℕ)) (b : BlockData) → is_taken ((b.file, b.number) ∷ keys) b ≡ true
 own_key keys b =
     ap (λ t. (t && b.number == b.number) || is_taken keys b) (eq-eqb b.file b.file refl)
     ∙ ap (λ t. t || is_taken keys b) (eq-eqb b.number b.number refl)
@@ -70,9 +72,9 @@ all_push keys bs b e =
 
 -- a new engine
 pub holds_new : {A : Type 0} (engine : Engine A) (aim : Aim) → (arc_value engine.query).text ≡ aim.query.text
-    → engine.setup ≡ aim.setup → engine.files ≡ 0 → Stands engine.sequencer (start aim.query (format_of aim))
-    → Holds engine aim [] aim.out
-holds_new engine aim same set count stands = record {
+    → engine.setup ≡ aim.setup → engine.files ≡ 0 → waiting engine ≡ []
+    → Stands engine.sequencer (start aim.query (format_of aim)) → Holds engine aim [] aim.out
+holds_new engine aim same set count none stands = record {
   same = same;
   set = set;
   count = count;
@@ -80,11 +82,18 @@ holds_new engine aim same set count stands = record {
   written = [];
   stands = stands;
   planned = refl;
+  taken = [];
+  blocks = sym none;
   all = refl;
   safe = (output aim.query (format_of aim) [], refl);
   got = sym (append-nil aim.out.taken);
   calm = refl;
 }
+
+-- All blocks were taken where none waits.
+all_blocks : {A : Type 0} {engine : Engine A} {aim : Aim} {steps : List Step} {out : Stream}
+    (h : Holds engine aim steps out) → waiting engine ≡ [] → announced steps ≡ h.taken
+all_blocks h none = h.blocks ∙ (ap (λ bs. h.taken ++ bs) none ∙ append-nil h.taken)
 
 -- What an engine holds.
 module _ {A : Type 0} {engine : Engine A} {aim : Aim} {steps : List Step} {out : Stream}
@@ -110,16 +119,32 @@ module _ {A : Type 0} {engine : Engine A} {aim : Aim} {steps : List Step} {out :
   safe_step s m =
       begins_trans _ _ _ h.safe (plan_begins aim.query (format_of aim) room_of steps (s ∷ []) (m.0, shaped_of))
 
-  -- where memory is lacking for one more step
+  -- where memory is lacking
+  pub broke_now : Broke aim steps out OutOfMemory
+  broke_now = record { cause = tt; part = (h.written, h.safe, h.got) }
+
+  -- or for one more step
   pub broke_step : (s : Step) → May aim steps s → Broke aim (s ∷ steps) out OutOfMemory
   broke_step s m = record { cause = tt; part = (h.written, safe_step s m, h.got) }
 
-  -- a step without a block
+  -- what breaks off a plan breaks off one with a step more
+  pub broke_before : (s : Step) → May aim steps s → (out' : Stream) (fault : RunFault) → Broke aim steps out' fault
+      → Broke aim (s ∷ steps) out' fault
+  broke_before s m out' fault k = record {
+    cause = k.cause;
+    part = (
+      k.part.0,
+      begins_trans _ _ _ k.part.1 (plan_begins aim.query (format_of aim) room_of steps (s ∷ []) (m.0, shaped_of)),
+      k.part.2,
+    );
+  }
+
+  -- a step that gives no result
   pub holds_step : (engine' : Engine A) (s : Step) → May aim steps s → (arc_value engine'.query).text ≡ aim.query.text
       → engine'.setup ≡ aim.setup → engine'.files ≡ opened (s ∷ steps)
-      → all_taken (taken_of aim.query h.events) (s ∷ steps) ≡ true → Stands engine'.sequencer (planned past s)
+      → announced (s ∷ steps) ≡ h.taken ++ waiting engine' → Stands engine'.sequencer (planned past s)
       → Holds engine' aim (s ∷ steps) out
-  holds_step engine' s m same set count all stands = record {
+  holds_step engine' s m same set count blocks stands = record {
     same = same;
     set = set;
     count = count;
@@ -127,11 +152,23 @@ module _ {A : Type 0} {engine : Engine A} {aim : Aim} {steps : List Step} {out :
     written = h.written;
     stands = stands;
     planned = ap (λ p. s ∷ p) h.planned;
-    all = all;
+    taken = h.taken;
+    blocks = blocks;
+    all = h.all;
     safe = safe_step s m;
     got = h.got;
     calm = h.calm;
   }
+
+  -- the next block was announced, and waits
+  pub holds_waiting : (engine' : Engine A) (b : BlockData) → May aim steps (Announces b)
+      → (arc_value engine'.query).text ≡ aim.query.text → engine'.setup ≡ aim.setup → engine'.files ≡ opened steps
+      → waiting engine' ≡ waiting engine ++ b ∷ [] → Stands engine'.sequencer (planned past (Announces b))
+      → Holds engine' aim (Announces b ∷ steps) out
+  holds_waiting engine' b m same set count more stands =
+      holds_step engine' (Announces b) m same set count
+      (ap (λ bs. bs ++ b ∷ []) h.blocks
+      ∙ (append_assoc h.taken (waiting engine) (b ∷ []) ∙ ap (λ bs. h.taken ++ bs) (sym more))) stands
 
   -- the result of the block that was announced is taken
   pub is_first : (b : BlockData) → May aim steps (Announces b) → (r : Searched)
@@ -154,15 +191,15 @@ module _ {A : Type 0} {engine : Engine A} {aim : Aim} {steps : List Step} {out :
   -- the next block was announced, and its result kept
   pub holds_block : (engine' : Engine A) (b : BlockData) (r : Searched) → May aim steps (Announces b)
       → (arc_value engine'.query).text ≡ aim.query.text → engine'.setup ≡ aim.setup → engine'.files ≡ opened steps
-      → r ≡ record { query = aim.query.text; block = b }
+      → waiting engine ≡ [] → waiting engine' ≡ [] → r ≡ record { query = aim.query.text; block = b }
       → Stands engine'.sequencer (arrived (planned past (Announces b)) r) → Holds engine' aim (Announces b ∷ steps) out
   unfolding answer_after
-  holds_block engine' b r m same set count is stands =
+  holds_block engine' b r m same set count none none' is stands =
       let next = planned past (Announces b) in
       let first : answer next r ≡ Taken = is_first b m r is in
       let block : r.block ≡ b = ap (λ x. x.block) is in
       let keys = taken_of aim.query h.events in
-      let K : List (ℕ × ℕ) → Type 0 = λ ks. list_all (is_taken ks) (announced steps ++ b ∷ []) ≡ true in
+      let K : List (ℕ × ℕ) → Type 0 = λ ks. list_all (is_taken ks) (h.taken ++ b ∷ []) ≡ true in
       let own : taken_after (answer next r) r.block keys ≡ (b.file, b.number) ∷ keys =
       ap (λ a. taken_after a r.block keys) first ∙ ap (λ x. (x.file, x.number) ∷ keys) block in
       record {
@@ -173,30 +210,39 @@ module _ {A : Type 0} {engine : Engine A} {aim : Aim} {steps : List Step} {out :
         written = h.written;
         stands = stands;
         planned = ap (λ p. Announces b ∷ p) h.planned;
-        all = subst K (sym own) (all_push keys (announced steps) b h.all);
+        taken = h.taken ++ b ∷ [];
+        blocks = ap (λ bs. bs ++ b ∷ []) (all_blocks h none)
+            ∙ (sym (append-nil (h.taken ++ b ∷ [])) ∙ ap (λ bs. (h.taken ++ b ∷ []) ++ bs) (sym none'));
+        all = subst K (sym own) (all_push keys h.taken b h.all);
         safe = safe_step (Announces b) m;
         got = h.got;
         calm = h.calm;
       }
 
-  -- What drains write.
+-- What drains write, and what is answered, where no block waits.
+module _ {A : Type 0} {engine : Engine A} {aim : Aim} {steps : List Step} {out : Stream}
+    (h : Holds engine aim steps out) (none : waiting engine ≡ []) where
+  abbrev calm_past : Past
+  calm_past = past_of aim.query (format_of aim) h.events h.written
 
-  front_is : front_of past ≡ steps
+  front_is : front_of calm_past ≡ steps
   unfolding front_after
   front_is =
-      let P : List Step → Type 0 = λ p. all_taken (taken_of aim.query h.events) p ≡ true in
-      front_all (taken_of aim.query h.events) (plan past) (subst P (sym h.planned) h.all) ∙ h.planned
+      let keys = taken_of aim.query h.events in
+      let B : List BlockData → Type 0 = λ bs. list_all (is_taken keys) bs ≡ true in
+      let P : List Step → Type 0 = λ p. all_taken keys p ≡ true in
+      front_all keys (plan calm_past) (subst P (sym h.planned) (subst B (sym (all_blocks h none)) h.all)) ∙ h.planned
 
-  handed_is : handed past ≡ output_of aim steps
+  pub handed_is : handed calm_past ≡ output_of aim steps
   unfolding handed_after
   handed_is = ap (λ (p : List Step). output aim.query (format_of aim) (entries_of p)) front_is
 
   -- a drain that writes all
   pub holds_drained : (engine' : Engine A) (text : List ℕ) (out' : Stream)
       → (arc_value engine'.query).text ≡ aim.query.text → engine'.setup ≡ aim.setup → engine'.files ≡ opened steps
-      → out'.taken ≡ out.taken ++ text → out'.failures ≡ out.failures → Drained (Ok tt) past text
-      → Stands engine'.sequencer (drained past text (Ok tt)) → Holds engine' aim steps out' × IsWritten aim steps out'
-  holds_drained engine' text out' same set count more calm d stands =
+      → waiting engine' ≡ [] → out'.taken ≡ out.taken ++ text → out'.failures ≡ out.failures → Drained (Ok tt) calm_past text
+      → Stands engine'.sequencer (drained calm_past text (Ok tt)) → Holds engine' aim steps out' × IsWritten aim steps out'
+  holds_drained engine' text out' same set count none' more calm d stands =
       let all : h.written ++ text ≡ output_of aim steps = d.1 ∙ handed_is in
       let got : out'.taken ≡ aim.out.taken ++ (h.written ++ text) =
       more ∙ (ap (λ xs. xs ++ text) h.got ∙ append_assoc aim.out.taken h.written text) in (
@@ -208,6 +254,8 @@ module _ {A : Type 0} {engine : Engine A} {aim : Aim} {steps : List Step} {out :
           written = h.written ++ text;
           stands = stands;
           planned = h.planned;
+          taken = h.taken;
+          blocks = h.blocks ∙ ap (λ bs. h.taken ++ bs) (none ∙ sym none');
           all = h.all;
           safe = ([], append-nil (h.written ++ text) ∙ all);
           got = got;
@@ -218,7 +266,7 @@ module _ {A : Type 0} {engine : Engine A} {aim : Aim} {steps : List Step} {out :
 
   -- a drain that fails
   pub broke_drained : (text : List ℕ) (out' : Stream) (fault : SinkFault) → out'.taken ≡ out.taken ++ text
-      → Drained (Err fault) past text
+      → Drained (Err fault) calm_past text
       → (IsErrOf {T = Unit {0}} (Err fault) WriteFailed → out.failures < out'.failures) → Broke aim steps out' Sink
   broke_drained text out' WriteFailed more d cause =
       let P : List ℕ → Type 0 = λ xs. IsBeginning (h.written ++ text) xs in
@@ -235,14 +283,14 @@ module _ {A : Type 0} {engine : Engine A} {aim : Aim} {steps : List Step} {out :
 
   -- What it answers.
 
-  pub enough_is : is_enough aim.query (format_of aim) (entries_of (front_of past))
+  pub enough_is : is_enough aim.query (format_of aim) (entries_of (front_of calm_past))
       ≡ is_enough aim.query (format_of aim) (entries_of steps)
   enough_is = ap (λ (p : List Step). is_enough aim.query (format_of aim) (entries_of p)) front_is
 
-  pub complete_is : is_open steps ≡ false → IsComplete past
+  pub complete_is : is_open steps ≡ false → IsComplete calm_past
   complete_is closed = (ap is_open h.planned ∙ closed, front_is ∙ sym h.planned)
 
-  pub status_is : status_of past ≡ status aim.query (format_of aim) (entries_of steps)
+  pub status_is : status_of calm_past ≡ status aim.query (format_of aim) (entries_of steps)
   status_is = ap (λ (p : List Step). status aim.query (format_of aim) (entries_of p)) h.planned
 
 pub some_status : (p : Past) (r : Option ℕ) → IsComplete p

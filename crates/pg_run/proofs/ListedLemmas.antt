@@ -8,8 +8,8 @@ use Rattle.pg_rows.specs.Output.{Left}
 use Rattle.pg_walk.specs.Items.{Found, File as AFile, Fault}
 use Rattle.pg_run.specs.Given.{Given, NoFile, File, FilesPast, is_reading, newest_name, gave_bytes, gave_end}
 use Rattle.pg_run.specs.Asking.{NextGives, ReadGives, read_given}
-use Rattle.pg_run.specs.Listed.{asked_for, file_paths, newest_paths, path_of, path_in, shown, shown_name, given_by, files_past}
-use Rattle.pg_run.specs.Listed.{Reaches, sources}
+use Rattle.pg_run.specs.Listed.{asked_for, file_paths, newest_paths, path_of, path_in, shown, shown_name}
+use Rattle.pg_run.specs.Listed.{given_by, files_past, Reaches, sources}
 use Rattle.pg_run.specs.declared.files.Step.{Step}
 
 -- one more item is asked for

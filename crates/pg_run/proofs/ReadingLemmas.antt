@@ -188,6 +188,35 @@ module _ {A : Type 0} {cutter : Cutter A} {engine : Engine A} {aim : Aim} {endin
         (room_of h.holds) (inr (h.name, joined h.fed.taken ++ b.bytes, more, ending, reads_block b more g s)) on);
   }
 
+  -- The blocks that wait were searched.
+
+  unfoldable pub flushed : (engine' : Engine A) (out' : Stream) → Holds engine' aim h.steps out'
+      → InFile cutter engine' aim ending given out'
+  flushed engine' out' k = record {
+    fed = h.fed;
+    cut = h.cut;
+    ends = h.ends;
+    longest = h.longest;
+    steps = h.steps;
+    holds = k;
+    running = h.running;
+    file = h.file;
+    number = h.number;
+    last = h.last;
+    name = h.name;
+    rest = h.rest;
+    whole = h.whole;
+    reads = h.reads;
+  }
+
+  pub flush_breaks : (out' : Stream) (fault : RunFault) → Broke aim h.steps out' fault → Breaks aim given out' fault
+  flush_breaks out' fault k = record {
+    cause = read_cause fault aim given out' k.cause;
+    written = safe_by aim h.steps given out'.taken k.part (λ files on.
+        follows_begins aim.query (format_of aim) (entries_of h.steps) (entries_given given) files
+        (room_of h.holds) (inr (h.name, joined h.fed.taken, h.rest, ending, h.reads)) on);
+  }
+
   -- A block that the cutter gives.
 
   next_whole : (b : BlockData) → IsNextBlock h.fed b → (more : List ℕ) × Gives h.fed b more × AreWhole end_of b.bytes
@@ -349,6 +378,16 @@ module _ {A : Type 0} {cutter : Cutter A} {engine : Engine A} {aim : Aim} {given
       → (cut ≡ FileTooLong → 2 ^ 62 < length h.fed.bytes + length piece)
       → Breaks aim (gave_bytes piece given) out (fault_of_cut cut)
   piece_breaks piece cut line file = record { cause = cut_cause piece cut line file; written = piece_safe piece }
+
+  -- what waits can't be searched first
+  pub piece_flush_breaks : (piece : List ℕ) (out' : Stream) (fault : RunFault) → Broke aim h.steps out' fault
+      → Breaks aim (gave_bytes piece given) out' fault
+  piece_flush_breaks piece out' fault k = record {
+    cause = read_cause fault aim (gave_bytes piece given) out' k.cause;
+    written = safe_by aim h.steps (gave_bytes piece given) out'.taken k.part (λ files on.
+        follows_begins aim.query (format_of aim) (entries_of h.steps) (entries_given (gave_bytes piece given)) files
+        (room_of h.holds) (inr (h.name, joined h.fed.taken, h.rest ++ piece, Left, reads_more piece)) on);
+  }
 
   -- or took
   pub piece_fed : (cutter' : Cutter A) (piece : List ℕ) → CutterStands cutter' (fed_after h.fed piece)

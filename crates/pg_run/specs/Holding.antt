@@ -1,18 +1,24 @@
 -- How an engine holds its sequencer between two calls.
-use Rattle.std.specs.Prelude.{◌≡◌, ℕ, ◌<◌, true, false, List, ◌++◌}
+use Rattle.std.specs.Prelude.{◌≡◌, ℕ, ◌<◌, true, false, List, ◌++◌, map}
+use Rattle.std.specs.List.{list_all}
 use Rattle.std.specs.Arc.{arc_value}
 use Rattle.pg_lines.specs.Search.{Search, terminator}
+use Rattle.pg_lines.specs.Blocks.{BlockData}
 use Rattle.pg_rows.specs.declared.format.Format.{Format}
 use Rattle.pg_rows.specs.Output.{output}
 use Rattle.pg_rows.specs.Sink.{IsBeginning, TakesPart}
-use Rattle.pg_seq.specs.Plan.{Step, MayFollow, opened, entries_of}
-use Rattle.pg_seq.specs.History.{Past, Event, plan_of, taken_of, all_taken}
+use Rattle.pg_seq.specs.Plan.{Step, MayFollow, opened, announced, entries_of}
+use Rattle.pg_seq.specs.History.{Past, Event, plan_of, taken_of, is_taken}
 use Rattle.pg_seq.specs.Standing.{Stands}
 use Rattle.pg_run.specs.Outcome.{Stream}
 use Rattle.pg_run.specs.declared.engine.Engine.{Engine}
 use Rattle.pg_run.specs.declared.setup.Setup.{Setup}
 use Rattle.pg_run.specs.declared.fault.RunFault.{RunFault}
 use Rattle.pg_run.specs.declared.fault.RunFault.TheVariants.{Query, OutOfMemory, Sink, TooManyFiles, TooLong}
+
+-- the blocks that wait to be searched
+abbrev pub waiting : {A : Type 0} → Engine A → List BlockData
+waiting engine = map arc_value engine.round.items
 
 -- nothing failed so far
 abbrev pub past_of : Search → Format → List Event → List ℕ → Past
@@ -39,8 +45,8 @@ output_of aim steps = output aim.query (format_of aim) (entries_of steps)
 abbrev pub May : Aim → List Step → Step → Type 0
 May aim steps step = MayFollow (terminator aim.query) steps step
 
--- The engine's sequencer has this plan and took all blocks of it. The writer took a beginning of what the plan gives,
--- and didn't fail.
+-- The engine's sequencer has this plan. Of its blocks it took the first ones, and the others wait in the engine's
+-- round. The writer took a beginning of what the plan gives, and didn't fail.
 pub record Holds {A : Type 0} (engine : Engine A) (aim : Aim) (steps : List Step) (out : Stream) : Type 0 where
   pub same : (arc_value engine.query).text ≡ aim.query.text
   pub set : engine.setup ≡ aim.setup
@@ -49,7 +55,9 @@ pub record Holds {A : Type 0} (engine : Engine A) (aim : Aim) (steps : List Step
   pub written : List ℕ
   pub stands : Stands engine.sequencer (past_of aim.query (format_of aim) events written)
   pub planned : plan_of events ≡ steps
-  pub all : all_taken (taken_of aim.query events) steps ≡ true
+  pub taken : List BlockData
+  pub blocks : announced steps ≡ taken ++ waiting engine
+  pub all : list_all (is_taken (taken_of aim.query events)) taken ≡ true
   pub safe : IsBeginning written (output_of aim steps)
   pub got : out.taken ≡ aim.out.taken ++ written
   pub calm : out.failures ≡ aim.out.failures

@@ -1,6 +1,7 @@
 pub mod Accesses
 pub mod Asking
 pub mod Cover
+pub mod Endless
 pub mod Faults
 pub mod Given
 pub mod Holding

@@ -4,7 +4,7 @@ use Rattle.std.specs.Prelude.{Ok, Err, slice_get, if◌then◌else◌, option_an
 use Rattle.std.specs.String.{string_bytes}
 use lib.Pointwise.{pointwise}
 use Rattle.pg_run.specs.declared.mem_store.Ending.{Ending}
-use Rattle.pg_run.specs.declared.mem_store.Ending.TheVariants.{Fails}
+use Rattle.pg_run.specs.declared.mem_store.Ending.TheVariants.{Ends, Fails}
 use Rattle.pg_run.specs.declared.mem_store.MemFile.{MemFile}
 use Rattle.pg_run.specs.declared.mem_store.MemStore.{MemStore}
 
@@ -37,12 +37,16 @@ left_of fs place at = option_map (λ f. behind at f.1) (option_and_then (slice_g
 abbrev pub left : MemStore → Option Content
 left store = left_of (files store) store.open store.at
 
+-- bytes are left, or the file ends
+abbrev pub MayRead : Content → Type 0
+MayRead content = content.bytes ≡ [] → content.ending ≡ Ends
+
 -- A read with room for so many bytes gives as many of those that are left as it may, and into a buffer. It fails where
--- no file is open, or nothing is left of one that fails.
+-- no file is open, and exactly where nothing is left of one that fails.
 abbrev pub Takes : {E : Type 0} → Option Content → Option Content → ℕ → List ℕ → Result ℕ E → Type 0
 Takes None after room into (Ok count) = ⊥
 Takes None after room into (Err _) = after ≡ None
 Takes (Some content) after room into (Ok count) =
-    (count ≡ min (length content.bytes) room) × (take count into ≡ take count content.bytes)
+    MayRead content × (count ≡ min (length content.bytes) room) × (take count into ≡ take count content.bytes)
     × (after ≡ Some (behind count content))
 Takes (Some content) after room into (Err _) = (content.bytes ≡ []) × (content.ending ≡ Fails) × (after ≡ Some content)

@@ -4,12 +4,13 @@ use crate::past::StorePast;
 use crate::store::{OpenFault, Store};
 use pg_walk::Cause;
 use std::fs;
+use std::fs::OpenFile;
 use std::io::{ErrorKind, Read};
 use std::os::unix::fs::MetadataExt;
 use std::rt::Files;
 
 #[derive(Drop)]
-enum Source<I: Read + Drop, F: Read + Drop> {
+enum Source<I: Read + Drop, F: Read + OpenFile + Drop> {
     Closed,
     Standard(I),
     Open(F),
@@ -91,6 +92,14 @@ impl<R: Files + Input + Drop> Store for DiskStore<R> {
                 self.past.refuse(path, Cause::CannotOpen);
                 Err(OpenFault::Refused(Cause::CannotOpen))
             }
+        }
+    }
+
+    fn may_wait(&self) -> bool {
+        match &self.source {
+            Source::Closed => false,
+            Source::Standard(_) => regular_file(&self.rt, "/dev/stdin").is_none(),
+            Source::Open(file) => !file.metadata().is_ok_and(|metadata| metadata.is_file()),
         }
     }
 

@@ -1,19 +1,30 @@
-//! Searches blocks one after another.
-ghost use Rattle.std.specs.Prelude.{◌≡◌, ◌-◌, ◌<◌, ◌∷◌, ◌^◌, List, [], false, IfOk, OnOk, IfErr};
+//! Searches blocks, one after another or in rounds.
+ghost use Rattle.std.specs.Prelude.{◌≡◌, ◌-◌, ◌<◌, ◌≤◌, ◌∷◌, ◌^◌, List, [], All, true, false, length};
+ghost use Rattle.std.specs.Prelude.{IfOk, OnOk, IfErr};
 ghost use Rattle.std.specs.Arc.{arc_value};
 ghost use Rattle.pg_match.specs.Machines.{Fits};
 ghost use Rattle.pg_lines.specs.Search.{HasItsTrees, terminator};
 ghost use Rattle.pg_rows.specs.Output.{status};
+ghost use Rattle.pg_run.specs.Endless.{is_endless};
 
 use crate::fault::RunFault;
 use crate::setup::Setup;
 use pg_lines::{Block, Cutter, Query, Scratch, search_block};
-use pg_rows::Sink;
+use pg_round::{FreeGate, search_round};
+use pg_rows::{Format, Mode, Sink};
 use pg_seq::Sequencer;
 use std::alloc::{AllocError, Allocator, Global};
-use std::sync::Arc;
+use std::mem;
+use std::sync::{Arc, Wait};
+use std::thread::Threads;
+use std::time::Clock;
 
-/// Searches the blocks of files, one after another, and has a sequencer put their rows in order.
+/// A round of fewer bytes isn't worth the starting of threads.
+const LEAST_SPREAD: usize = 1_048_576;
+
+/// Searches the blocks of files, and has a sequencer put their rows in order.
+///
+/// A block is searched at once, or waits until its round is searched by several threads.
 #[derive(Drop)]
 pub(crate) struct Engine<A: Allocator + Copy = Global> {
     pub(crate) alloc: A,
@@ -21,9 +32,56 @@ pub(crate) struct Engine<A: Allocator + Copy = Global> {
     /// How many files were opened.
     pub(crate) files: u32,
     query: Arc<Query<A>, A>,
+    /// For blocks that are searched at once.
     scratch: Scratch<A>,
+    /// For rounds: the calling thread's, and one for each worker, as many as were needed by now.
+    scratches: Vec<Scratch<A>, A>,
+    /// Whether blocks wait for a round.
+    spread: bool,
+    /// The blocks that wait.
+    round: Vec<Arc<Block<A>, A>, A>,
     sequencer: Sequencer<A>,
     ghost fits: { Fits scratch (arc_value query).machine },
+    ghost all_fit: { All (λ s. Fits s (arc_value query).machine) scratches.items },
+    ghost few_scratches: { length scratches.items ≤ 65 },
+    ghost endless: { spread ≡ true → is_endless setup.format ≡ true },
+    ghost at_once: { spread ≡ false → round.items ≡ [] },
+    ghost few: { length round.items ≤ setup.round },
+}
+
+/// Whether nothing that was read is ever enough.
+fn is_endless(format: Format) -> bool
+    ensures { result ≡ is_endless format }
+{
+    format.limit.is_none() && (format.mode == Mode::Rows || format.mode == Mode::Count)
+}
+
+/// Whether blocks are to wait for a round: where several threads may search, and that pays.
+fn is_spread<A: Allocator>(query: &Query<A>, setup: &Setup) -> bool
+    ensures { result ≡ true → is_endless setup.now.format ≡ true }
+{
+    let pays = setup.always_spread || query.literal().is_none();
+    pays && setup.workers > 0 && setup.round > 1 && is_endless(setup.format)
+}
+
+/// Makes scratches for a query until there are so many, at most 65.
+fn equip<A: Allocator + Copy>(
+    alloc: A,
+    query: &Query<A>,
+    scratches: &mut Vec<Scratch<A>, A>,
+    count: usize,
+) -> Result<(), AllocError>
+    requires few { (count ≤ 65) × (length scratches.old.items ≤ 65) }
+    requires fits { All (λ s. Fits s query.now.machine) scratches.old.items }
+    ensures enough { OnOk result (count ≤ length scratches.new.items) }
+    ensures few { length scratches.new.items ≤ 65 }
+    ensures fits { All (λ s. Fits s query.now.machine) scratches.new.items }
+{
+    while scratches.len() < count {
+        let scratch = Scratch::new(alloc, query.machine())?;
+        scratches.push(scratch)?;
+    }
+    Ok(())
 }
 
 impl<A: Allocator + Copy> Engine<A> {
@@ -40,6 +98,7 @@ impl<A: Allocator + Copy> Engine<A> {
     {
         let scratch = Scratch::new(alloc, query.machine())?;
         let query = Arc::new(alloc, query)?;
+        let spread = is_spread(&query, &setup);
         let sequencer = Sequencer::new(alloc, Arc::try_clone(&query)?, setup.format)?;
         Ok(Engine {
             alloc,
@@ -47,15 +106,20 @@ impl<A: Allocator + Copy> Engine<A> {
             files: 0,
             query,
             scratch,
+            scratches: Vec::new(alloc),
+            spread,
+            round: Vec::new(alloc),
             sequencer,
         })
     }
 
-    /// Searches the open file's next block, and gives the sequencer its result.
+    /// Searches the open file's next block, and gives the sequencer its result. No block waits.
     fn take(&mut self, block: Block<A>) -> Result<(), AllocError>
-        requires { (aim : Aim) × (steps : List Step) × (out : Stream)
+        requires at_once { self.old.spread ≡ false }
+        requires ready { (aim : Aim) × (steps : List Step) × (out : Stream)
             × IsReady self.old aim steps out (Announces block) }
-        ensures { (aim : Aim) → (steps : List Step) → (out : Stream) →
+        ensures none { self.new.round.items ≡ [] }
+        ensures ok { (aim : Aim) → (steps : List Step) → (out : Stream) →
             IsReady self.old aim steps out (Announces block) →
             OnOk result (Holds self.new aim (Announces block ∷ steps) out) }
     {
@@ -71,8 +135,27 @@ impl<A: Allocator + Copy> Engine<A> {
         Ok(())
     }
 
-    /// Writes all that may be written.
+    /// Has the open file's next block wait for its round, which has room for it.
+    fn add(&mut self, block: Block<A>) -> Result<(), AllocError>
+        requires spread { self.old.spread ≡ true }
+        requires room { length self.old.round.items < self.old.setup.round }
+        requires ready { (aim : Aim) × (steps : List Step) × (out : Stream)
+            × IsReady self.old aim steps out (Announces block) }
+        ensures { (aim : Aim) → (steps : List Step) → (out : Stream) →
+            IsReady self.old aim steps out (Announces block) →
+            OnOk result (Holds self.new aim (Announces block ∷ steps) out) }
+    {
+        let block = Arc::new(self.alloc, block)?;
+        self.sequencer.announce(Arc::try_clone(&block)?)?;
+        self.round.push(block)?;
+        Ok(())
+    }
+
+    /// Writes all that may be written. No block waits.
     fn drain<W: Sink>(&mut self, out: &mut W) -> Result<(), RunFault>
+        requires none { self.old.round.items ≡ [] }
+        ensures kept { (self.new.spread ≡ self.old.spread) × (self.new.setup ≡ self.old.setup) }
+        ensures none { self.new.round.items ≡ [] }
         ensures ok { (aim : Aim) → (steps : List Step) →
             Holds self.old aim steps (stream (W.taken out.old) (W.failures out.old)) →
             OnOk result (Holds self.new aim steps (stream (W.taken out.new) (W.failures out.new))
@@ -85,20 +168,19 @@ impl<A: Allocator + Copy> Engine<A> {
         Ok(())
     }
 
-    /// Searches the open file's next block, and writes what may be written.
-    pub(crate) fn search<W: Sink>(&mut self, block: Block<A>, out: &mut W) -> Result<(), RunFault>
-        requires { (aim : Aim) × (steps : List Step)
-            × IsReady self.old aim steps (stream (W.taken out.old) (W.failures out.old)) (Announces block) }
-        ensures ok { (aim : Aim) → (steps : List Step) →
-            IsReady self.old aim steps (stream (W.taken out.old) (W.failures out.old)) (Announces block) →
-            OnOk result (Holds self.new aim (Announces block ∷ steps) (stream (W.taken out.new) (W.failures out.new))) }
-        ensures err { (aim : Aim) → (steps : List Step) →
-            IsReady self.old aim steps (stream (W.taken out.old) (W.failures out.old)) (Announces block) →
-            IfErr result (Broke aim (Announces block ∷ steps) (stream (W.taken out.new) (W.failures out.new))) }
+    /// How many threads are to search the blocks that wait, beside the calling one.
+    fn workers(&self) -> u32
+        ensures { result ≤ 64 }
     {
-        self.take(block)?;
-        self.drain(out)?;
-        Ok(())
+        let mut bytes = 0usize;
+        for block in &self.round {
+            bytes = bytes.saturating_add(block.bytes.len());
+        }
+        if self.setup.always_spread || bytes >= LEAST_SPREAD {
+            self.setup.workers
+        } else {
+            0
+        }
     }
 
     /// Opens a file, and answers the cutter for it. At most 2^32 - 2 files were opened before.
@@ -146,17 +228,175 @@ impl<A: Allocator + Copy> Engine<A> {
         self.sequencer.end(failed);
     }
 
+    /// Whether blocks wait to be searched.
+    pub(crate) fn has_waiting(&self) -> bool {
+        !self.round.is_empty()
+    }
+
     /// Whether enough was read.
     pub(crate) fn enough(&self) -> bool
         ensures { (aim : Aim) → (steps : List Step) → (out : Stream) → Holds self.now aim steps out →
             result ≡ is_enough aim.query (format_of aim) (entries_of steps) }
     {
-        self.sequencer.enough()
+        !self.spread && self.sequencer.enough()
+    }
+}
+
+impl<A: Allocator + Copy + Send + Sync> Engine<A> {
+    ghost use Rattle.pg_lines.specs.Cutter.{Stands as CutterStands, IsDrained, unfed};
+    ghost use Rattle.pg_rows.specs.Enough.{is_enough};
+    ghost use Rattle.pg_seq.specs.Plan.{Step, Opens, Announces, Ends, Misses, entries_of, is_open};
+    ghost use Rattle.pg_run.specs.Outcome.{Stream};
+    ghost use Rattle.pg_run.specs.Holding.{Aim, Holds, IsReady, IsWritten, Broke, format_of, stream};
+
+    /// Searches the blocks that wait, by several threads where that pays, and writes all that may be written.
+    fn search_round<R: Threads + Wait + Clock + Sync, W: Sink>(
+        &mut self,
+        rt: &R,
+        out: &mut W,
+    ) -> Result<(), RunFault>
+        requires holds { (aim : Aim) × (steps : List Step)
+            × Holds self.old aim steps (stream (W.taken out.old) (W.failures out.old)) }
+        ensures kept { (self.new.spread ≡ self.old.spread) × (self.new.setup ≡ self.old.setup) }
+        ensures none { OnOk result (self.new.round.items ≡ []) }
+        ensures ok { (aim : Aim) → (steps : List Step) →
+            Holds self.old aim steps (stream (W.taken out.old) (W.failures out.old)) →
+            OnOk result (Holds self.new aim steps (stream (W.taken out.new) (W.failures out.new))
+            × IsWritten aim steps (stream (W.taken out.new) (W.failures out.new))) }
+        ensures err { (aim : Aim) → (steps : List Step) →
+            Holds self.old aim steps (stream (W.taken out.old) (W.failures out.old)) →
+            IfErr result (Broke aim steps (stream (W.taken out.new) (W.failures out.new))) }
+    {
+        let workers = self.workers();
+        let mut scratches = mem::replace(&mut self.scratches, Vec::new(self.alloc));
+        equip(
+            self.alloc,
+            &self.query,
+            &mut scratches,
+            workers as usize + 1,
+        )?;
+        search_round(
+            rt,
+            self.alloc,
+            &self.query,
+            &self.round,
+            workers,
+            &mut scratches,
+            &mut self.sequencer,
+            out,
+            &FreeGate,
+        )?;
+        self.scratches = scratches;
+        self.round.clear();
+        Ok(())
     }
 
-    /// Writes what is left, and answers the status. No file is open.
-    pub(crate) fn finish<W: Sink>(&mut self, out: &mut W) -> Result<u8, RunFault>
-        requires { (aim : Aim) × (steps : List Step)
+    /// Searches the blocks that wait, if there are any, and writes all that may be written.
+    pub(crate) fn flush<R: Threads + Wait + Clock + Sync, W: Sink>(
+        &mut self,
+        rt: &R,
+        out: &mut W,
+    ) -> Result<(), RunFault>
+        requires holds { (aim : Aim) × (steps : List Step)
+            × Holds self.old aim steps (stream (W.taken out.old) (W.failures out.old)) }
+        ensures kept { (self.new.spread ≡ self.old.spread) × (self.new.setup ≡ self.old.setup) }
+        ensures none { OnOk result (self.new.round.items ≡ []) }
+        ensures ok { (aim : Aim) → (steps : List Step) →
+            Holds self.old aim steps (stream (W.taken out.old) (W.failures out.old)) →
+            OnOk result (Holds self.new aim steps (stream (W.taken out.new) (W.failures out.new))
+            × IsWritten aim steps (stream (W.taken out.new) (W.failures out.new))) }
+        ensures err { (aim : Aim) → (steps : List Step) →
+            Holds self.old aim steps (stream (W.taken out.old) (W.failures out.old)) →
+            IfErr result (Broke aim steps (stream (W.taken out.new) (W.failures out.new))) }
+    {
+        if self.round.is_empty() {
+            return self.drain(out);
+        }
+        self.search_round(rt, out)
+    }
+
+    /// Searches a round that is full.
+    fn make_room<R: Threads + Wait + Clock + Sync, W: Sink>(
+        &mut self,
+        rt: &R,
+        out: &mut W,
+    ) -> Result<(), RunFault>
+        requires holds { (aim : Aim) × (steps : List Step)
+            × Holds self.old aim steps (stream (W.taken out.old) (W.failures out.old)) }
+        ensures spread { self.new.spread ≡ self.old.spread }
+        ensures room { OnOk result (length self.new.round.items < self.new.setup.round) }
+        ensures ok { (aim : Aim) → (steps : List Step) →
+            Holds self.old aim steps (stream (W.taken out.old) (W.failures out.old)) →
+            OnOk result (Holds self.new aim steps (stream (W.taken out.new) (W.failures out.new))) }
+        ensures err { (aim : Aim) → (steps : List Step) →
+            Holds self.old aim steps (stream (W.taken out.old) (W.failures out.old)) →
+            IfErr result (Broke aim steps (stream (W.taken out.new) (W.failures out.new))) }
+    {
+        if self.round.len() < self.setup.round as usize {
+            return Ok(());
+        }
+        self.flush(rt, out)?;
+        Ok(())
+    }
+
+    /// Has the open file's next block wait. A full round is searched before.
+    fn hold<R: Threads + Wait + Clock + Sync, W: Sink>(
+        &mut self,
+        rt: &R,
+        block: Block<A>,
+        out: &mut W,
+    ) -> Result<(), RunFault>
+        requires spread { self.old.spread ≡ true }
+        requires ready { (aim : Aim) × (steps : List Step)
+            × IsReady self.old aim steps (stream (W.taken out.old) (W.failures out.old)) (Announces block) }
+        ensures ok { (aim : Aim) → (steps : List Step) →
+            IsReady self.old aim steps (stream (W.taken out.old) (W.failures out.old)) (Announces block) →
+            OnOk result (Holds self.new aim (Announces block ∷ steps) (stream (W.taken out.new) (W.failures out.new))) }
+        ensures err { (aim : Aim) → (steps : List Step) →
+            IsReady self.old aim steps (stream (W.taken out.old) (W.failures out.old)) (Announces block) →
+            IfErr result (Broke aim (Announces block ∷ steps) (stream (W.taken out.new) (W.failures out.new))) }
+    {
+        self.make_room(rt, out)?;
+        self.add(block)?;
+        Ok(())
+    }
+
+    /// Searches the open file's next block and writes what may be written, or has the block wait where blocks
+    /// are searched in rounds. The block may follow on those before it.
+    pub(crate) fn search<R: Threads + Wait + Clock + Sync, W: Sink>(
+        &mut self,
+        rt: &R,
+        block: Block<A>,
+        out: &mut W,
+    ) -> Result<(), RunFault>
+        requires ready { (aim : Aim) × (steps : List Step)
+            × IsReady self.old aim steps (stream (W.taken out.old) (W.failures out.old)) (Announces block) }
+        ensures ok { (aim : Aim) → (steps : List Step) →
+            IsReady self.old aim steps (stream (W.taken out.old) (W.failures out.old)) (Announces block) →
+            OnOk result (Holds self.new aim (Announces block ∷ steps) (stream (W.taken out.new) (W.failures out.new))) }
+        ensures written { (aim : Aim) → (steps : List Step) →
+            IsReady self.old aim steps (stream (W.taken out.old) (W.failures out.old)) (Announces block) →
+            self.old.spread ≡ false →
+            OnOk result (IsWritten aim (Announces block ∷ steps) (stream (W.taken out.new) (W.failures out.new))) }
+        ensures err { (aim : Aim) → (steps : List Step) →
+            IsReady self.old aim steps (stream (W.taken out.old) (W.failures out.old)) (Announces block) →
+            IfErr result (Broke aim (Announces block ∷ steps) (stream (W.taken out.new) (W.failures out.new))) }
+    {
+        if self.spread {
+            return self.hold(rt, block, out);
+        }
+        self.take(block)?;
+        self.drain(out)?;
+        Ok(())
+    }
+
+    /// Searches what waits, writes what is left, and answers the status. No file is open.
+    pub(crate) fn finish<R: Threads + Wait + Clock + Sync, W: Sink>(
+        &mut self,
+        rt: &R,
+        out: &mut W,
+    ) -> Result<u8, RunFault>
+        requires holds { (aim : Aim) × (steps : List Step)
             × Holds self.old aim steps (stream (W.taken out.old) (W.failures out.old)) × (is_open steps ≡ false) }
         ensures written { (aim : Aim) → (steps : List Step) →
             Holds self.old aim steps (stream (W.taken out.old) (W.failures out.old)) →
@@ -171,7 +411,7 @@ impl<A: Allocator + Copy> Engine<A> {
             Holds self.old aim steps (stream (W.taken out.old) (W.failures out.old)) →
             IfErr result (Broke aim steps (stream (W.taken out.new) (W.failures out.new))) }
     {
-        self.drain(out)?;
+        self.flush(rt, out)?;
         Ok(self.sequencer.status().unwrap())
     }
 }

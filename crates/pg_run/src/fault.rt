@@ -1,9 +1,10 @@
 //! Why a run doesn't end with a status.
 ghost use Rattle.std.specs.Prelude.{◌≡◌};
-ghost use Rattle.pg_run.specs.Faults.{fault_of_cut, fault_of_query};
+ghost use Rattle.pg_run.specs.Faults.{fault_of_cut, fault_of_query, fault_of_round};
 ghost use Rattle.pg_run.specs.declared.fault.RunFault.TheVariants.{OutOfMemory, Sink};
 
 use pg_lines::{CutFault, QueryFault};
+use pg_round::RoundFault;
 use pg_seq::SinkFault;
 use std::alloc::AllocError;
 use thiserror::Error;
@@ -53,6 +54,17 @@ impl From<SinkFault> for RunFault {
 
     fn from(_fault: SinkFault) -> RunFault {
         RunFault::Sink
+    }
+}
+
+impl From<RoundFault> for RunFault {
+    ghost from_gives = { λ round fault. fault ≡ fault_of_round round };
+
+    fn from(fault: RoundFault) -> RunFault {
+        match fault {
+            RoundFault::OutOfMemory => RunFault::OutOfMemory,
+            RoundFault::Sink => RunFault::Sink,
+        }
     }
 }
 

@@ -47,6 +47,10 @@ pub trait Files {
     fn name(&self) -> &[u8]
         ensures { result.now ≡ newest_name (past self.now).given };
 
+    /// Whether a read of the newest file may wait for someone else, as that of a pipe or a terminal.
+    /// Nothing rests on the answer but when rows are written.
+    fn may_wait(&self) -> bool;
+
     /// Reads the next bytes of the newest file into the front of a buffer that isn't empty. The file's
     /// end wasn't met, and no read of it failed.
     ///

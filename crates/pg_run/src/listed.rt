@@ -83,6 +83,10 @@ impl<S: Store + Drop> Files for Listed<S> {
         shown_name(path_in(&self.items[self.asked - 1])).as_bytes()
     }
 
+    fn may_wait(&self) -> bool {
+        self.store.may_wait()
+    }
+
     fn read(&mut self, into: &mut [u8]) -> Result<usize, ReadFault> {
         self.store.read(into)
     }

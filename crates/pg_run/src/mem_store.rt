@@ -141,6 +141,10 @@ impl Store for MemStore {
         Ok(())
     }
 
+    fn may_wait(&self) -> bool {
+        false
+    }
+
     fn read(&mut self, into: &mut [u8]) -> Result<usize, ReadFault>
         ensures given { ReadGives into.new self.old.past self.new.past result }
         ensures size { length into.new ≡ length into.old }

@@ -15,6 +15,8 @@ use pg_lines::Cutter;
 use pg_rows::Sink;
 use std::alloc::Allocator;
 use std::sync::Wait;
+use std::thread::Threads;
+use std::time::Clock;
 
 /// What one read came to.
 #[derive(Clone, Copy, Debug, PartialEq, Eq)]
@@ -28,12 +30,13 @@ pub(crate) enum Came {
 }
 
 /// Searches the blocks that are finished.
-fn search_ready<A: Allocator + Copy, W: Sink>(
+fn search_ready<R: Threads + Wait + Clock + Sync, A: Allocator + Copy + Send + Sync, W: Sink>(
+    rt: &R,
     cutter: &mut Cutter<A>,
     engine: &mut Engine<A>,
     out: &mut W,
 ) -> Result<(), RunFault>
-    requires { (aim : Aim) × (given : List Given)
+    requires in_file { (aim : Aim) × (given : List Given)
         × InFile cutter.old engine.old aim Left given (stream (W.taken out.old) (W.failures out.old)) }
     ensures drained { OnOk result (IsDrained cutter.new) }
     ensures ok { (aim : Aim) → (given : List Given) →
@@ -44,19 +47,20 @@ fn search_ready<A: Allocator + Copy, W: Sink>(
         IfErr result (Breaks aim given (stream (W.taken out.new) (W.failures out.new))) }
 {
     while let Some(block) = cutter.take() {
-        engine.search(block, out)?;
+        engine.search(rt, block, out)?;
     }
     Ok(())
 }
 
 /// Searches what is left once the file can't go on.
-fn search_last<A: Allocator + Copy, W: Sink>(
+fn search_last<R: Threads + Wait + Clock + Sync, A: Allocator + Copy + Send + Sync, W: Sink>(
+    rt: &R,
     cutter: Cutter<A>,
     engine: &mut Engine<A>,
     failed: bool,
     out: &mut W,
 ) -> Result<(), RunFault>
-    requires { (aim : Aim) × (given : List Given) × IsDrained cutter
+    requires in_file { (aim : Aim) × (given : List Given) × IsDrained cutter
         × InFile cutter engine.old aim (ending_of failed) given (stream (W.taken out.old) (W.failures out.old)) }
     ensures ok { (aim : Aim) → (given : List Given) →
         InFile cutter engine.old aim (ending_of failed) given (stream (W.taken out.old) (W.failures out.old)) →
@@ -67,19 +71,20 @@ fn search_last<A: Allocator + Copy, W: Sink>(
         IfErr result (Breaks aim given (stream (W.taken out.new) (W.failures out.new))) }
 {
     match cutter.finish() {
-        Some(block) => engine.search(block, out),
+        Some(block) => engine.search(rt, block, out),
         None => Ok(()),
     }
 }
 
 /// Ends a file that can't go on.
-fn finish_file<A: Allocator + Copy, W: Sink>(
+fn finish_file<R: Threads + Wait + Clock + Sync, A: Allocator + Copy + Send + Sync, W: Sink>(
+    rt: &R,
     cutter: Cutter<A>,
     engine: &mut Engine<A>,
     failed: bool,
     out: &mut W,
 ) -> Result<(), RunFault>
-    requires { (aim : Aim) × (given : List Given) × IsDrained cutter
+    requires in_file { (aim : Aim) × (given : List Given) × IsDrained cutter
         × InFile cutter engine.old aim (ending_of failed) given (stream (W.taken out.old) (W.failures out.old)) }
     ensures ok { (aim : Aim) → (given : List Given) →
         InFile cutter engine.old aim (ending_of failed) given (stream (W.taken out.old) (W.failures out.old)) →
@@ -88,13 +93,43 @@ fn finish_file<A: Allocator + Copy, W: Sink>(
         InFile cutter engine.old aim (ending_of failed) given (stream (W.taken out.old) (W.failures out.old)) →
         IfErr result (Breaks aim given (stream (W.taken out.new) (W.failures out.new))) }
 {
-    search_last(cutter, engine, failed, out)?;
+    search_last(rt, cutter, engine, failed, out)?;
     engine.end(failed);
     Ok(())
 }
 
-/// Reads once, and searches the blocks that this finishes.
-fn read_once<A: Allocator + Copy, F: Files, W: Sink>(
+/// Searches the blocks that wait, where the next read of the open file may wait too.
+fn settle<R: Threads + Wait + Clock + Sync, A: Allocator + Copy + Send + Sync, F: Files, W: Sink>(
+    rt: &R,
+    cutter: &Cutter<A>,
+    engine: &mut Engine<A>,
+    files: &F,
+    out: &mut W,
+) -> Result<(), RunFault>
+    requires in_file { (aim : Aim) × (given : List Given)
+        × InFile cutter.now engine.old aim Left given (stream (W.taken out.old) (W.failures out.old)) }
+    ensures ok { (aim : Aim) → (given : List Given) →
+        InFile cutter.now engine.old aim Left given (stream (W.taken out.old) (W.failures out.old)) →
+        OnOk result (InFile cutter.now engine.new aim Left given (stream (W.taken out.new) (W.failures out.new))) }
+    ensures err { (aim : Aim) → (given : List Given) →
+        InFile cutter.now engine.old aim Left given (stream (W.taken out.old) (W.failures out.old)) →
+        IfErr result (Breaks aim given (stream (W.taken out.new) (W.failures out.new))) }
+{
+    if engine.has_waiting() && files.may_wait() {
+        return engine.flush(rt, out);
+    }
+    Ok(())
+}
+
+/// Reads once, and searches the blocks that this finishes. The buffer isn't empty, and the cutter has no
+/// finished block.
+fn read_piece<
+    R: Threads + Wait + Clock + Sync,
+    A: Allocator + Copy + Send + Sync,
+    F: Files,
+    W: Sink,
+>(
+    rt: &R,
     cutter: &mut Cutter<A>,
     engine: &mut Engine<A>,
     files: &mut F,
@@ -124,14 +159,58 @@ fn read_once<A: Allocator + Copy, F: Files, W: Sink>(
     if count == 0 {
         return Ok(Came::End);
     }
-    cutter.feed(&buffer[..count])?;
-    search_ready(cutter, engine, out)?;
+    if let Err(fault) = cutter.feed(&buffer[..count]) {
+        engine.flush(rt, out)?;
+        return Err(RunFault::from(fault));
+    }
+    search_ready(rt, cutter, engine, out)?;
     Ok(Came::More)
+}
+
+/// The same. What waits is searched before a read that may wait.
+fn read_once<
+    R: Threads + Wait + Clock + Sync,
+    A: Allocator + Copy + Send + Sync,
+    F: Files,
+    W: Sink,
+>(
+    rt: &R,
+    cutter: &mut Cutter<A>,
+    engine: &mut Engine<A>,
+    files: &mut F,
+    buffer: &mut [u8],
+    out: &mut W,
+) -> Result<Came, RunFault>
+    requires room { 0 < length buffer.old }
+    requires drained { IsDrained cutter.old }
+    requires in_file { (aim : Aim) × InFile cutter.old engine.old aim Left (F.past files.old).given
+        (stream (W.taken out.old) (W.failures out.old)) }
+    ensures done { (F.past files.new).done ≡ (F.past files.old).done }
+    ensures before { drop 1 (F.past files.new).given ≡ drop 1 (F.past files.old).given }
+    ensures same_list { F.list files.new ≡ F.list files.old }
+    ensures drained { OnOk result (IsDrained cutter.new) }
+    ensures size { length buffer.new ≡ length buffer.old }
+    ensures ok { (aim : Aim) → InFile cutter.old engine.old aim Left (F.past files.old).given
+        (stream (W.taken out.old) (W.failures out.old)) →
+        IfOk result (λ came. InFile cutter.new engine.new aim (ending_after came) (F.past files.new).given
+        (stream (W.taken out.new) (W.failures out.new))) }
+    ensures err { (aim : Aim) → InFile cutter.old engine.old aim Left (F.past files.old).given
+        (stream (W.taken out.old) (W.failures out.old)) →
+        IfErr result (Breaks aim (F.past files.new).given (stream (W.taken out.new) (W.failures out.new))) }
+{
+    settle(rt, cutter, engine, files, out)?;
+    let came = read_piece(rt, cutter, engine, files, buffer, out)?;
+    Ok(came)
 }
 
 /// Reads the open file until enough was read, its end is met or a read fails, and ends it. The answer
 /// says whether a read failed.
-pub(crate) fn read_file<R: Wait, A: Allocator + Copy, F: Files, W: Sink>(
+pub(crate) fn read_file<
+    R: Threads + Wait + Clock + Sync,
+    A: Allocator + Copy + Send + Sync,
+    F: Files,
+    W: Sink,
+>(
     rt: &R,
     mut cutter: Cutter<A>,
     engine: &mut Engine<A>,
@@ -161,14 +240,14 @@ pub(crate) fn read_file<R: Wait, A: Allocator + Copy, F: Files, W: Sink>(
             engine.end(false);
             return Ok(false);
         }
-        match read_once(&mut cutter, engine, files, buffer, out)? {
+        match read_once(rt, &mut cutter, engine, files, buffer, out)? {
             Came::More => {}
             Came::End => {
-                finish_file(cutter, engine, false, out)?;
+                finish_file(rt, cutter, engine, false, out)?;
                 return Ok(false);
             }
             Came::Failure => {
-                finish_file(cutter, engine, true, out)?;
+                finish_file(rt, cutter, engine, true, out)?;
                 return Ok(true);
             }
         }

@@ -23,6 +23,8 @@ use pg_rows::{Sink, WriteError};
 use pg_walk::Cause;
 use std::alloc::{AllocError, Allocator};
 use std::sync::Wait;
+use std::thread::Threads;
+use std::time::Clock;
 
 /// How many bytes are asked for in one read. They are cut into blocks and searched while they are
 /// near.
@@ -39,7 +41,7 @@ fn zeros<A: Allocator + Copy>(alloc: A, size: usize) -> Result<Vec<u8, A>, Alloc
 }
 
 /// An engine for a text, and the buffer that it reads by.
-fn begin<A: Allocator + Copy>(
+fn begin<A: Allocator + Copy + Send + Sync>(
     alloc: A,
     text: QueryText<A>,
     setup: Setup,
@@ -103,7 +105,7 @@ fn tell_fault<A: Allocator + Copy, E: Sink>(
 }
 
 /// Tells and notes a name that gives no file.
-fn miss<A: Allocator + Copy, E: Sink>(
+fn miss<A: Allocator + Copy + Send + Sync, E: Sink>(
     engine: &mut Engine<A>,
     name: &[u8],
     cause: Cause,
@@ -126,7 +128,13 @@ fn miss<A: Allocator + Copy, E: Sink>(
 }
 
 /// Reads and searches a file that was just given, and tells where its reading failed.
-fn one_file<R: Wait, A: Allocator + Copy, F: Files, W: Sink, E: Sink>(
+fn one_file<
+    R: Threads + Wait + Clock + Sync,
+    A: Allocator + Copy + Send + Sync,
+    F: Files,
+    W: Sink,
+    E: Sink,
+>(
     rt: &R,
     engine: &mut Engine<A>,
     files: &mut F,
@@ -175,7 +183,13 @@ fn one_file<R: Wait, A: Allocator + Copy, F: Files, W: Sink, E: Sink>(
 }
 
 /// Takes what comes next. `false` says that there is no more.
-fn take_next<R: Wait, A: Allocator + Copy, F: Files, W: Sink, E: Sink>(
+fn take_next<
+    R: Threads + Wait + Clock + Sync,
+    A: Allocator + Copy + Send + Sync,
+    F: Files,
+    W: Sink,
+    E: Sink,
+>(
     rt: &R,
     engine: &mut Engine<A>,
     files: &mut F,
@@ -213,7 +227,13 @@ fn take_next<R: Wait, A: Allocator + Copy, F: Files, W: Sink, E: Sink>(
 }
 
 /// Takes all files, or with -q those up to the first one with a selected line.
-fn all_files<R: Wait, A: Allocator + Copy, F: Files, W: Sink, E: Sink>(
+fn all_files<
+    R: Threads + Wait + Clock + Sync,
+    A: Allocator + Copy + Send + Sync,
+    F: Files,
+    W: Sink,
+    E: Sink,
+>(
     rt: &R,
     engine: &mut Engine<A>,
     files: &mut F,
@@ -262,7 +282,13 @@ fn all_files<R: Wait, A: Allocator + Copy, F: Files, W: Sink, E: Sink>(
 /// setup allows or a file has more than 2^62 bytes, `TooManyFiles` at file number 2^32, and
 /// `OutOfMemory` where a request for memory was refused. `out` and `faults` got beginnings of what they
 /// would have got.
-pub fn run<R: Wait, A: Allocator + Copy, F: Files, W: Sink, E: Sink>(
+pub fn run<
+    R: Threads + Wait + Clock + Sync,
+    A: Allocator + Copy + Send + Sync,
+    F: Files,
+    W: Sink,
+    E: Sink,
+>(
     rt: &R,
     alloc: A,
     text: QueryText<A>,
@@ -287,6 +313,6 @@ pub fn run<R: Wait, A: Allocator + Copy, F: Files, W: Sink, E: Sink>(
 {
     let (mut engine, mut buffer) = begin(alloc, text, setup)?;
     all_files(rt, &mut engine, files, &mut buffer, out, faults)?;
-    let status = engine.finish(out)?;
+    let status = engine.finish(rt, out)?;
     Ok(status)
 }

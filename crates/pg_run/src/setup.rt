@@ -4,20 +4,22 @@ ghost use Rattle.pg_rows.specs.Output.{HasRoom};
 
 use pg_rows::Format;
 
-/// How files are searched, and how their rows look. `workers`, `block` and `round` have no part in what
-/// is written.
+/// How files are searched, and how their rows look. `workers`, `block`, `round` and
+/// `always_spread` have no part in what is written.
 #[derive(Clone, Copy, Debug)]
 pub struct Setup {
     /// Which rows are written. A limit is at least 1.
     pub format: Format,
-    /// How many threads search beside the calling one, at most 64.
+    /// At most so many threads search beside the calling one, from 0 to 64.
     pub workers: u32,
     /// Files are cut into blocks of at least so many bytes, from 1 to 2^24.
     pub block: u32,
     /// The longest line in bytes, without its terminator, from 1 to 2^30.
     pub line: u32,
-    /// So many blocks are searched at a time, from 1 to 1,024.
+    /// At most so many blocks wait to be searched together, from 1 to 1,024.
     pub round: u32,
+    /// Threads search where they can, also where that doesn't pay.
+    pub always_spread: bool,
     /// Fault lines of files are left out.
     pub silent: bool,
     ghost some_limit: { HasRoom format },

@@ -32,6 +32,10 @@ pub trait Store {
     fn open(&mut self, path: &str, spares_output: bool) -> Result<(), OpenFault>
         ensures { Opens path.now (past self.old) (past self.new) result };
 
+    /// Whether a read of the open file may wait for someone else, as that of a pipe or a terminal.
+    /// Nothing rests on the answer but when rows are written.
+    fn may_wait(&self) -> bool;
+
     /// Reads the next bytes of the open file into the front of a buffer that isn't empty.
     ///
     /// `Ok(k)` says that these are the buffer's first k bytes. `Ok(0)` is the file's end.

@@ -38,7 +38,8 @@ returns-in_err-run-clause-fault g c =
           c.in_ok-setup.setup c.in_ok-setup.ensures.setup c.list_files.new.files.asked c.run.new.files.asked
           c.run.new.files.done c.in_ok-setup.ensures.fresh.0 c.run.new.files.are_opened
           (c.in_err-run.ensures.same_list
-          ∙ ap (λ store. sources c.list_files.new.files.asked listed (g.S.Store.past store)) c.in_ok-setup.ensures.store);
+          ∙ ap (λ store. sources c.list_files.new.files.asked listed (g.S.Store.past store))
+          c.in_ok-setup.ensures.store);
       run = c.in_err-run.field-0.0;
       is = refl;
       breaks = subst (λ t. BreaksOff t c.in_ok-setup.setup
@@ -66,7 +67,8 @@ returns-clause-success g c =
           c.in_ok-setup.setup c.in_ok-setup.ensures.setup c.list_files.new.files.asked c.run.new.files.asked
           c.run.new.files.done c.in_ok-setup.ensures.fresh.0 c.run.new.files.are_opened
           (c.in_ok-run.ensures.same_list
-          ∙ ap (λ store. sources c.list_files.new.files.asked listed (g.S.Store.past store)) c.in_ok-setup.ensures.store);
+          ∙ ap (λ store. sources c.list_files.new.files.asked listed (g.S.Store.past store))
+          c.in_ok-setup.ensures.store);
       search = done.0;
       is_search = subst (λ t. IsSearchFor t done.0) text done.1;
       finishes = done.2;

@@ -3,8 +3,8 @@ use Rattle.pg_run.proofs.reading.finish_file.Goals as goal
 
 pub end-requires : goal.end-requires
 end-requires g c =
-    let k = c.in_ok-search_last.ensures.ok c.requires.0 c.requires.1 c.requires.3 in
-    (c.requires.0, k.steps, _, (k.holds, (k.running, tt)))
+    let k = c.in_ok-search_last.ensures.ok c.requires.in_file.0 c.requires.in_file.1 c.requires.in_file.3 in
+    (c.requires.in_file.0, k.steps, _, (k.holds, (k.running, tt)))
 
 pub returns-clause-ok : goal.returns-clause-ok
 returns-clause-ok g c = λ aim given h.

@@ -24,7 +24,7 @@ returns-then-enough-clause-ok g c = λ aim start.
     (c.end.ensures aim h.steps _ (h.holds, (h.running, tt)))
 
 pub read_once-requires-clause-in_file : goal.read_once-requires-clause-in_file
-read_once-requires-clause-in_file g c =
+read_once-requires-clause-in_file g c κs within =
     let r = c.requires.in_file in
     (r.0, c.loop.invariant.reads r.0 r.1)
 
@@ -55,8 +55,8 @@ loop-preserved g c =
           subst P c.in-More.is (ok.ok aim (i.reads aim start));
     }
 
-pub finish_file-requires : goal.finish_file-requires
-finish_file-requires g c =
+pub finish_file-requires-clause-in_file : goal.finish_file-requires-clause-in_file
+finish_file-requires-clause-in_file g c κs within =
     let ok = c.in_ok-read_once.ensures in
     let r = c.requires.in_file in
     let given = (g.F.Files.past c.read_once.new.files).given in
@@ -99,8 +99,8 @@ returns-in-End-clause-ok g c = λ aim start.
     c.in_ok-finish_file-in-End.ensures.ok aim given
     (subst P c.in-End.is (ok.ok aim (c.loop.invariant.reads aim start)))
 
-pub finish_file-requires-in-Failure : goal.finish_file-requires-in-Failure
-finish_file-requires-in-Failure g c =
+pub finish_file-requires-in-Failure-clause-in_file : goal.finish_file-requires-in-Failure-clause-in_file
+finish_file-requires-in-Failure-clause-in_file g c κs within =
     let ok = c.in_ok-read_once.ensures in
     let r = c.requires.in_file in
     let given = (g.F.Files.past c.read_once.new.files).given in

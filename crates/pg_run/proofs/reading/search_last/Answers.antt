@@ -4,10 +4,10 @@ use Rattle.pg_run.proofs.HoldLemmas.{if_err_too}
 use Rattle.pg_run.proofs.ReadingLemmas.{last_may, last_breaks, last_searched, none_last}
 use Rattle.pg_run.proofs.reading.search_last.Goals as goal
 
-pub search-requires : goal.search-requires
-search-requires g c =
-    let h = c.requires.3 in
-    (c.requires.0, h.steps, (h.holds, last_may h c.in-Some.block (c.in-Some.ensures h.fed h.cut)))
+pub search-requires-clause-ready : goal.search-requires-clause-ready
+search-requires-clause-ready g c κs within =
+    let h = c.requires.in_file.3 in
+    (c.requires.in_file.0, h.steps, (h.holds, last_may h c.in-Some.block (c.in-Some.ensures h.fed h.cut)))
 
 pub returns-in-Some-clause-ok : goal.returns-in-Some-clause-ok
 returns-in-Some-clause-ok g c = λ aim given h.

@@ -4,10 +4,10 @@ use Rattle.pg_run.proofs.HoldLemmas.{err_by}
 use Rattle.pg_run.proofs.ReadingLemmas.{next_may, next_breaks, next_searched, none_given}
 use Rattle.pg_run.proofs.reading.search_ready.Goals as goal
 
-pub search-requires : goal.search-requires
-search-requires g c =
-    let h = c.loop-block.invariant c.requires.0 c.requires.1 c.requires.2 in
-    (c.requires.0, h.steps, (h.holds, next_may h c.in-Some.block (c.in-Some.ensures.next h.fed h.cut)))
+pub search-requires-clause-ready : goal.search-requires-clause-ready
+search-requires-clause-ready g c κs within =
+    let h = c.loop-block.invariant c.requires.in_file.0 c.requires.in_file.1 c.requires.in_file.2 in
+    (c.requires.in_file.0, h.steps, (h.holds, next_may h c.in-Some.block (c.in-Some.ensures.next h.fed h.cut)))
 
 pub loop-block-preserved : goal.loop-block-preserved
 loop-block-preserved g c = λ aim given start.

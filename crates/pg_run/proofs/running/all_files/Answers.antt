@@ -21,7 +21,7 @@ returns-then-enough-clause-ok g c = λ aim start.
     }
 
 pub take_next-requires-clause-rests : goal.take_next-requires-clause-rests
-take_next-requires-clause-rests g c =
+take_next-requires-clause-rests g c κs within =
     let r = c.requires.rests in
     (r.0, (c.loop.invariant.rests r.0 r.1).0)
 

@@ -37,7 +37,7 @@ returns-in_err-cutter-clause-err g c = λ aim given name is rests.
     (stops_memory aim more out told (unopened_safe rests.0 name) (told_same aim given more told rests.1 refl)))
 
 pub read_file-requires-clause-in_file : goal.read_file-requires-clause-in_file
-read_file-requires-clause-in_file g c =
+read_file-requires-clause-in_file g c κs within =
     let r = c.requires.rests in
     let b = r.4.0 in
     let few : c.args.engine.now.files < 2 ^ 32 - 1 = c.if-engine-ge-MOST_FILES.false in

@@ -18,7 +18,7 @@ returns-in_err-engine-clause-err g c =
     (breaks_first c.args.text c.args.setup past out told fault c.requires (c.in_err-engine.ensures.err out told))
 
 pub all_files-requires-clause-rests : goal.all_files-requires-clause-rests
-all_files-requires-clause-rests g c =
+all_files-requires-clause-rests g c κs within =
     let out = stream (g.W.Sink.taken c.args.out.now) (g.W.Sink.failures c.args.out.now) in
     let told = stream (g.E.Sink.taken c.args.faults.now) (g.E.Sink.failures c.args.faults.now) in
     let own = c.in_ok-engine.ensures.trees in
@@ -41,8 +41,8 @@ returns-in_err-all_files-clause-err g c =
     c.in_err-all_files.ensures.err aim
     (between_new c.in_ok-engine.engine aim (c.in_ok-engine.ensures.holds aim spelled refl refl), told_new aim)))
 
-pub finish-requires : goal.finish-requires
-finish-requires g c =
+pub finish-requires-clause-holds : goal.finish-requires-clause-holds
+finish-requires-clause-holds g c κs within =
     let out = stream (g.W.Sink.taken c.args.out.now) (g.W.Sink.failures c.args.out.now) in
     let told = stream (g.E.Sink.taken c.args.faults.now) (g.E.Sink.failures c.args.faults.now) in
     let own = c.in_ok-engine.ensures.trees in

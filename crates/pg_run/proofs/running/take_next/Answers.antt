@@ -33,7 +33,7 @@ returns-in_ok-miss-in-Miss-clause-ok g c = λ aim rests.
     (c.in_ok-miss-in-Miss.ensures.ok aim given out rests)
 
 pub one_file-requires-clause-rests : goal.one_file-requires-clause-rests
-one_file-requires-clause-rests g c =
+one_file-requires-clause-rests g c κs within =
     let r = c.requires.rests in
     let S : Step → Type 0 = λ s. NextGives s (g.F.Files.past c.args.files.now) (g.F.Files.past c.next.new.self) in
     let e = subst S c.in-File.is c.in_ok-next.ensures.ok in

@@ -6,5 +6,5 @@ use Rattle.pg_run.proofs.engine.Engine.end.Goals as goal
 pub returns : goal.returns
 returns g c = λ aim steps out ready.
     let h = ready.0 in
-    holds_step h _ (Ends c.args.failed) ready.1 h.same h.set h.count h.all
+    holds_step h _ (Ends c.args.failed) ready.1 h.same h.set h.count h.blocks
     (c.end.ensures (past_of aim.query (format_of aim) h.events h.written) h.stands)

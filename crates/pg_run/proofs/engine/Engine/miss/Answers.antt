@@ -7,5 +7,5 @@ use Rattle.pg_run.proofs.engine.Engine.miss.Goals as goal
 pub returns : goal.returns
 returns g c = λ aim steps out ready.
     let h = ready.0 in
-    on_ok c.miss.result _ _ (λ k. holds_step h _ (Misses c.args.name.now) ready.1 h.same h.set h.count h.all k)
+    on_ok c.miss.result _ _ (λ k. holds_step h _ (Misses c.args.name.now) ready.1 h.same h.set h.count h.blocks k)
     (c.miss.ensures.ok (past_of aim.query (format_of aim) h.events h.written) h.stands)

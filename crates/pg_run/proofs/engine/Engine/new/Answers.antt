@@ -1,4 +1,4 @@
-use Rattle.std.proofs.Common.{◌≡◌, ◌∙◌, ap, refl, subst, sym}
+use Rattle.std.proofs.Common.{◌≡◌, ◌∙◌, ap, arith, length, map, refl, subst, sym}
 use Rattle.std.specs.Arc.{arc_value}
 use Rattle.pg_lines.specs.Search.{SearchText, AreTreesOf, search_of}
 use Rattle.pg_rows.specs.declared.format.Format.{Format}
@@ -18,4 +18,8 @@ returns g c = λ aim trees text set.
     λ t. Stands c.in_ok-sequencer.sequencer (start (search_of t aim.query.trees) c.args.setup.format) in
     let F : Format → Type 0 = λ f. Stands c.in_ok-sequencer.sequencer (start aim.query f) in
     let stands = subst S same (c.in_ok-sequencer.ensures aim.query.trees (subst T (sym same) trees)) in
-    holds_new _ aim own (sym set) refl (subst F (ap (λ s. s.format) (sym set)) stands)
+    holds_new _ aim own (sym set) refl (ap (λ xs. map arc_value xs) c.new-5.ensures.items)
+    (subst F (ap (λ s. s.format) (sym set)) stands)
+
+pub invariant_of-result-clause-all_fit : goal.invariant_of-result-clause-all_fit
+invariant_of-result-clause-all_fit g c = λ k d below. absurd (omega (arith, ap length c.new-4.ensures.items, below))

@@ -10,3 +10,8 @@ returns-in_err-take-clause-err g c = λ aim steps ready.
     let out = stream (g.W.Sink.taken c.args.out.now) (g.W.Sink.failures c.args.out.now) in
     err_by c.from_residual.result (Broke aim (Announces c.args.block ∷ steps) out) OutOfMemory c.from_residual.ensures.1
     (broke_step ready.0 (Announces c.args.block) ready.1)
+
+pub returns-clause-written : goal.returns-clause-written
+returns-clause-written g c = λ aim steps ready at_once.
+    (c.in_ok-drain.ensures.ok aim (Announces c.args.block ∷ steps) (c.in_ok-take.ensures.ok aim steps
+    (stream (g.W.Sink.taken c.args.out.now) (g.W.Sink.failures c.args.out.now)) ready)).1

@@ -1,4 +1,4 @@
-use Rattle.std.proofs.Common.{◌≡◌, ◌∙◌, ap, subst, sym}
+use Rattle.std.proofs.Common.{◌≡◌, ◌∙◌, ap, map, subst, sym}
 use Rattle.std.specs.Arc.{arc_value}
 use Rattle.pg_lines.specs.Search.{terminator}
 use Rattle.pg_lines.specs.Blocks.{BlockData}
@@ -11,9 +11,9 @@ use Rattle.pg_run.proofs.engine.Engine.take.Goals as goal
 
 pub keep-requires : goal.keep-requires
 keep-requires g c =
-    let aim = c.requires.0 in
-    let h = c.requires.3.0 in
-    let m = c.requires.3.1 in
+    let aim = c.requires.ready.0 in
+    let h = c.requires.ready.3.0 in
+    let m = c.requires.ready.3.1 in
     let past = past_of aim.query (format_of aim) h.events h.written in
     let b : arc_value c.in_ok-block.block ≡ c.args.block = c.in_ok-block.ensures.ok in
     let same : arc_value c.in_ok-try_clone.field-0 ≡ c.args.block = c.in_ok-try_clone.ensures ∙ b in
@@ -28,8 +28,8 @@ keep-requires g c =
           ∙ ap (λ x. record { query = x; block = c.args.block }) h.same)),
     )
 
-pub returns : goal.returns
-returns g c = λ aim steps out ready.
+pub returns-clause-ok : goal.returns-clause-ok
+returns-clause-ok g c = λ aim steps out ready.
     let h = ready.0 in
     let m = ready.1 in
     let past = past_of aim.query (format_of aim) h.events h.written in
@@ -43,6 +43,7 @@ returns g c = λ aim steps out ready.
     c.in_ok-found.ensures.found
     ∙ (ap (λ x. record { query = (arc_value c.args.self.now.query).text; block = x }) same
     ∙ ap (λ x. record { query = x; block = c.args.block }) h.same) in
-    holds_block h _ c.args.block c.in_ok-found.found m h.same h.set h.count found
+    let none = ap (λ xs. map arc_value xs) (c.args.self.now.at_once c.requires.at_once) in
+    holds_block h _ c.args.block c.in_ok-found.found m h.same h.set h.count none none found
     (c.keep.ensures (planned past (Announces c.args.block)) middle
     (is_first h c.args.block m c.in_ok-found.found found))

@@ -1,0 +1,44 @@
+use Rattle.std.proofs.Common.{◌≡◌, inl, inr, ⊎_elim, true, List, All, Any, [], ◌∷◌, ◌++◌, sym, subst, arith}
+use Rattle.std.specs.Arc.{arc_value}
+use Rattle.pg_match.specs.Machines.{Fits, Room}
+use Rattle.pg_lines.specs.Searched.{Searched}
+use Rattle.pg_board.specs.Board.{SeatView}
+use Rattle.pg_board.specs.Tray.{PutView}
+use Rattle.pg_round.specs.declared.worker.Worker.{Worker}
+use Rattle.pg_round.specs.Workers.{task_of, HasWorked, AreWorks}
+use Rattle.pg_round.proofs.ListLemmas.{all_more, all_last, all_front, any_last, any_front, any_split, any_none}
+use Rattle.pg_round.proofs.GrowLemmas.{works_more}
+use Rattle.pg_round.proofs.closing.part.Goals as goal
+
+pub loop-worker-preserved : goal.loop-worker-preserved
+loop-worker-preserved g c =
+    let A : Type 0 = g.row.A.Denot in let i = c.loop-worker.invariant in let t = task_of c.args.round in
+    let s = c.push_reserved.ensures in let p = c.push_reserved-in-Some.ensures in let k = c.in_ok-push.ensures in
+    let w : Worker A = c.in-Some.worker in let rest : List (Worker A) = c.pop.new.self.items in
+    let P : Worker A → Type 0 = HasWorked t in
+    let IsFit : Room → Type 0 = λ s. Fits s (arc_value c.args.round.query.now).machine in
+    let WasSpent : Worker A → Type 0 = λ w. w.seat.spent ≡ true in
+    let IsSpent : SeatView → Type 0 = λ s. s.spent ≡ true in
+    let all : All P (rest ++ w ∷ []) = subst (λ (l : List (Worker A)). All P l) c.in-Some.ensures.items i.worked in
+    let worked : P w = all_last P rest w all in
+    let more = works_more t c.loop-worker.seats.items c.loop-worker.passes.items w.seat w.pass i.works worked.0 in
+    let seats_spent : Any IsSpent (c.loop-worker.seats.items ++ w.seat ∷ []) → Any IsSpent c.push_reserved.new.self.items = subst (λ (l : List SeatView). Any IsSpent l) (sym s.items) in
+    record {
+      worked = all_front P rest w all;
+      works = subst (λ (l : List SeatView). AreWorks t l c.push_reserved-in-Some.new.self.items) (sym s.items)
+          (subst (λ (l : List (PutView Searched A)). AreWorks t (c.loop-worker.seats.items ++ w.seat ∷ []) l) (sym p.items) more);
+      spent = ⊎_elim
+          (λ before. ⊎_elim (λ left. inl left) (λ last. inr (seats_spent (any_last IsSpent c.loop-worker.seats.items w.seat last))) (any_split WasSpent rest w (subst (λ (l : List (Worker A)). Any WasSpent l) c.in-Some.ensures.items before)))
+          (λ done. inr (seats_spent (any_front IsSpent c.loop-worker.seats.items w.seat done)))
+          i.spent;
+      fits = subst (λ (l : List Room). All IsFit l) (sym k.items) (all_more IsFit c.loop-worker.scratches.items w.scratch i.fits worked.1);
+      same = (let a = i.same in let l = s.len in let m = p.len in omega arith);
+      count = (let a = i.count in let b = c.in-Some.ensures.cases in let l = s.len in omega arith);
+      back = (let a = i.back in let b = c.in-Some.ensures.cases in let l = k.len in omega arith);
+      room = ((let a = i.room.0 in let l = s.capacity in omega arith), (let a = i.room.1 in let l = p.capacity in omega arith));
+    }
+
+pub returns-clause-spent : goal.returns-clause-spent
+returns-clause-spent g c =
+    let WasSpent : Worker g.row.A.Denot → Type 0 = λ w. w.seat.spent ≡ true in
+    ⊎_elim (λ some. any_none WasSpent c.loop-worker.workers.items some (let n = c.in_default.ensures.cases in omega (arith, c.loop-worker.workers.ok.0))) (λ done. done) c.loop-worker.invariant.spent

@@ -1,0 +1,8 @@
+use Rattle.pg_lines.specs.Search.{terminator}
+use Rattle.pg_seq.specs.History.{plan}
+use Rattle.pg_seq.proofs.BeginLemmas.{shape_of}
+use Rattle.pg_round.proofs.DrainLemmas.{handed_safe}
+use Rattle.pg_round.proofs.collector.SequencerCollectorBlockResult.drain.Goals as goal
+
+pub returns-clause-safe : goal.returns-clause-safe
+returns-clause-safe g c = λ past st. handed_safe past st.room (shape_of (terminator past.query) (plan past) st.lawful)

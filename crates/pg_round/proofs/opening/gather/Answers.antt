@@ -1,0 +1,37 @@
+use Rattle.std.proofs.Common.{◌≡◌, List, All, [], ◌∷◌, ◌++◌, false, sym, subst, arith}
+use Rattle.std.specs.Arc.{arc_value}
+use Rattle.pg_match.specs.Machines.{Fits, Room}
+use Rattle.pg_lines.specs.Searched.{Searched}
+use Rattle.pg_board.specs.Board.{SeatView, seat_view}
+use Rattle.pg_board.specs.Tray.{PutView, put_view}
+use Rattle.pg_round.specs.declared.worker.Worker.{Worker}
+use Rattle.pg_round.specs.Workers.{task_of, HasWorked}
+use Rattle.pg_round.proofs.ListLemmas.{all_more, all_last, all_front}
+use Rattle.pg_round.proofs.GrowLemmas.{fresh_work}
+use Rattle.pg_round.proofs.opening.gather.Goals as goal
+
+pub loop-seat-preserved : goal.loop-seat-preserved
+loop-seat-preserved g c =
+    let A : Type 0 = g.row.A.Denot in let i = c.loop-seat.invariant in let pushed = c.push_reserved.ensures in
+    let IsNewSeat : SeatView → Type 0 = λ s. s ≡ seat_view c.args.round.board.now [] false in
+    let IsNewPass : PutView Searched A → Type 0 = λ p. p ≡ put_view c.args.round.tray.now [] in
+    let IsFit : Room → Type 0 = λ s. Fits s (arc_value c.args.round.query.now).machine in
+    let P : Worker A → Type 0 = HasWorked (task_of c.args.round) in
+    let seats : All IsNewSeat (c.pop.new.self.items ++ c.in-Some.seat ∷ []) = subst (λ (l : List SeatView). All IsNewSeat l) c.in-Some.ensures.items i.seats in
+    let passes : All IsNewPass (c.pop-in-Some.new.self.items ++ c.in-Some-pop.pass ∷ []) = subst (λ (l : List (PutView Searched A)). All IsNewPass l) c.in-Some-pop.ensures.items i.passes in
+    let fits : All IsFit (c.pop-in-Some-2.new.self.items ++ c.in-Some-pop-2.scratch ∷ []) = subst (λ (l : List Room). All IsFit l) c.in-Some-pop-2.ensures.items i.fits in
+    let seat : IsNewSeat c.in-Some.seat = all_last IsNewSeat c.pop.new.self.items c.in-Some.seat seats in
+    let pass : IsNewPass c.in-Some-pop.pass = all_last IsNewPass c.pop-in-Some.new.self.items c.in-Some-pop.pass passes in
+    let fit : IsFit c.in-Some-pop-2.scratch = all_last IsFit c.pop-in-Some-2.new.self.items c.in-Some-pop-2.scratch fits in
+    let new : P record { seat = c.in-Some.seat; pass = c.in-Some-pop.pass; scratch = c.in-Some-pop-2.scratch } = (fresh_work (task_of c.args.round) c.in-Some.seat c.in-Some-pop.pass seat pass, fit) in
+    record {
+      seats = all_front IsNewSeat c.pop.new.self.items c.in-Some.seat seats;
+      passes = all_front IsNewPass c.pop-in-Some.new.self.items c.in-Some-pop.pass passes;
+      fits = all_front IsFit c.pop-in-Some-2.new.self.items c.in-Some-pop-2.scratch fits;
+      same = (let a = i.same in let b = c.in-Some.ensures.cases in let d = c.in-Some-pop.ensures.cases in omega arith);
+      count = (let a = i.count in let b = c.in-Some.ensures.cases in let l = pushed.len in omega arith);
+      left = (let a = i.left in let b = c.in-Some-pop-2.ensures.cases in let l = pushed.len in omega arith);
+      enough = i.enough;
+      room = (let a = i.room in let l = pushed.capacity in omega arith);
+      worked = subst (λ (l : List (Worker A)). All P l) (sym pushed.items) (all_more P c.loop-seat.workers.items record { seat = c.in-Some.seat; pass = c.in-Some-pop.pass; scratch = c.in-Some-pop-2.scratch } i.worked new);
+    }

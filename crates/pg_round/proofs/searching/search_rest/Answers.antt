@@ -1,0 +1,15 @@
+use Rattle.std.proofs.Common.{◌≡◌, true, List, All, Any, sym, subst}
+use Rattle.pg_round.specs.declared.worker.Worker.{Worker}
+use Rattle.pg_round.specs.Workers.{task_of, HasWorked}
+use Rattle.pg_round.proofs.ListLemmas.{all_more, any_last}
+use Rattle.pg_round.proofs.searching.search_rest.Goals as goal
+
+pub returns-clause-worked : goal.returns-clause-worked
+returns-clause-worked g c =
+    let P : Worker g.row.A.Denot → Type 0 = HasWorked (task_of c.args.round) in
+    (c.in_ok-push.ensures.len, subst (λ (l : List (Worker g.row.A.Denot)). All P l) (sym c.in_ok-push.ensures.items) (all_more P c.args.back.items c.in_ok-worker.worker c.requires.worked.0 c.in_ok-worker.ensures.worked))
+
+pub returns-clause-spent : goal.returns-clause-spent
+returns-clause-spent g c =
+    let P : Worker g.row.A.Denot → Type 0 = λ w. w.seat.spent ≡ true in
+    subst (λ (l : List (Worker g.row.A.Denot)). Any P l) (sym c.in_ok-push.ensures.items) (any_last P c.args.back.items c.in_ok-worker.worker c.in_ok-worker.ensures.spent)

@@ -1,0 +1,66 @@
+-- What those who search a round have drawn and put.
+use Rattle.std.specs.Prelude.{◌≡◌, ℕ, List, [], ◌∷◌, ◌++◌, length, All, IfOk}
+use Rattle.std.specs.Arc.{arc_value}
+use Rattle.std.specs.declared.sync.Arc.{Arc}
+use Rattle.crossbeam_queue.specs.SegTies.{SegId}
+use Rattle.pg_board.specs.Board.{BoardView, SeatView}
+use Rattle.pg_board.specs.Tray.{PutView}
+use Rattle.pg_match.specs.Machines.{Fits}
+use Rattle.pg_lines.specs.Blocks.{BlockData}
+use Rattle.pg_lines.specs.Queries.{Compiled}
+use Rattle.pg_lines.specs.Searched.{Searched}
+use Rattle.pg_round.specs.Results.{HasShortLines, AreResultsOf}
+use Rattle.pg_round.specs.declared.round.Round.{Round}
+use Rattle.pg_round.specs.declared.worker.Worker.{Worker}
+use Rattle.pg_round.specs.declared.starting.Started.{Started}
+use Rattle.pg_round.specs.declared.starting.Started.TheVariants.{Running, Ended}
+
+-- a round as plain data: what is searched for in which blocks, the board of their numbers, and the tray of the results
+pub record Task (A : Type 0) : Type 0 where
+  pub query : Compiled
+  pub blocks : List (Arc BlockData A)
+  pub board : BoardView
+  pub tray : SegId A
+
+module _ {A : Type 0} where
+  abbrev pub task : Compiled → List (Arc BlockData A) → BoardView → SegId A → Task A
+  task query blocks board tray = record { query = query; blocks = blocks; board = board; tray = tray }
+
+  abbrev pub task_of : Round A → Task A
+  task_of round = task (arc_value round.query.now) round.blocks.now round.board.now round.tray.now
+
+  -- the board has a number for each block, and each block can be searched
+  abbrev pub IsReady : Task A → Type 0
+  IsReady t = (length t.blocks ≡ t.board.limit) × All (HasShortLines t.query.text) t.blocks
+
+  -- what was put grew by one result for each number that was drawn, in order
+  abbrev pub GrowAlike : Task A → List ℕ → List ℕ → List Searched → List Searched → Type 0
+  GrowAlike t drawn drawn' put put' =
+      (ns : List ℕ) × (rs : List Searched) × (drawn' ≡ drawn ++ ns) × (put' ≡ put ++ rs)
+      × AreResultsOf t.query.text t.blocks ns rs
+
+  -- what was put grew so by the results of the first ones of the numbers that were drawn
+  abbrev pub GrowShort : Task A → List ℕ → List ℕ → List Searched → List Searched → Type 0
+  GrowShort t drawn drawn' put put' =
+      (ns more : List ℕ) × (rs : List Searched) × (drawn' ≡ (drawn ++ ns) ++ more) × (put' ≡ put ++ rs)
+      × AreResultsOf t.query.text t.blocks ns rs
+
+  -- a seat and a pass of the round: the pass put one result for each number of the seat, in order
+  abbrev pub IsWork : Task A → SeatView → PutView Searched A → Type 0
+  IsWork t seat pass =
+      (seat.board ≡ t.board) × (pass.tray ≡ t.tray) × AreResultsOf t.query.text t.blocks seat.drawn pass.put
+
+  -- the worker's seat and pass are so, and its scratch is for the query
+  abbrev pub HasWorked : Task A → Worker A → Type 0
+  HasWorked t w = IsWork t w.seat w.pass × Fits w.scratch t.query.machine
+
+  -- a worker that was started will have worked, or has
+  abbrev pub IsStarted : Round A → Started A → Type 0
+  IsStarted round (Running handle) = handle.promise ≡ round
+  IsStarted round (Ended outcome) = IfOk outcome (HasWorked (task_of round))
+
+  -- seats and passes side by side, each pair as it was worked with
+  abbrev pub AreWorks : Task A → List SeatView → List (PutView Searched A) → Type 0
+  AreWorks t [] [] = Unit {0}
+  AreWorks t (s ∷ ss) (p ∷ ps) = IsWork t s p × AreWorks t ss ps
+  AreWorks t _ _ = ⊥

@@ -1,0 +1,74 @@
+//! What takes the results of a round.
+ghost use Rattle.std.specs.Prelude.{◌≡◌, ℕ, ◌<◌, ◌≤◌, ◌++◌, List, OnOk, IsErrOf};
+
+use pg_lines::BlockResult;
+use pg_rows::Sink;
+use pg_seq::{Arrival, Sequencer, SinkFault};
+use std::alloc::Allocator;
+
+/// Takes results in any order and writes what may be handed out, as a [`Sequencer`] does.
+///
+/// Contracts see what it stands after, and nothing else of it. `F` is the type of the results.
+pub trait Collector<F> {
+    ghost use Rattle.pg_seq.specs.History.{Past, arrived, answer, handed};
+    ghost use Rattle.pg_seq.specs.Standing.{Drained, drained};
+    ghost use Rattle.pg_seq.specs.declared.answers.SinkFault.TheVariants.{WriteFailed};
+    ghost use Rattle.pg_round.specs.Receipts.{IsSafe};
+    ghost use Rattle.pg_lines.specs.Searched.{Searched};
+
+    /// It stands after this.
+    ghost stands: { Self → Past → Type 0 };
+
+    /// A result as plain data.
+    ghost searched: { F → Searched };
+
+    /// Takes a result, which may be of any query and block.
+    fn arrive(&mut self, found: F) -> Arrival
+        ensures answer { (past : Past) → stands self.old past → result ≡ answer past (searched found) }
+        ensures stands { (past : Past) → stands self.old past → stands self.new (arrived past (searched found)) };
+
+    /// Writes all that may be handed out and was not yet written.
+    ///
+    /// # Errors
+    ///
+    /// `WriteFailed` where a write failed in this call or took no byte of a text that isn't empty; a beginning of
+    /// what was due was written. `Failed` where an earlier call answered `WriteFailed`; nothing is written.
+    fn drain<W: Sink>(&mut self, out: &mut W) -> Result<(), SinkFault>
+        ensures drained { (past : Past) → stands self.old past → (text : List ℕ)
+            × (W.taken out.new ≡ W.taken out.old ++ text)
+            × Drained result past text × stands self.new (drained past text result) }
+        ensures safe { (past : Past) → stands self.old past → IsSafe past (handed past) }
+        ensures cause { IsErrOf result WriteFailed → W.failures out.old < W.failures out.new }
+        ensures no_failure { OnOk result (W.failures out.new ≡ W.failures out.old) }
+        ensures never_falls { W.failures out.old ≤ W.failures out.new };
+}
+
+impl<A: Allocator> Collector<BlockResult<A>> for Sequencer<A> {
+    ghost use Rattle.pg_seq.specs.History.{Past, arrived, answer, handed};
+    ghost use Rattle.pg_seq.specs.Standing.{Stands, Drained, drained};
+    ghost use Rattle.pg_seq.specs.declared.answers.SinkFault.TheVariants.{WriteFailed};
+    ghost use Rattle.pg_round.specs.Receipts.{IsSafe};
+
+    ghost stands = { λ s past. Stands s past };
+
+    ghost searched = { λ found. found };
+
+    fn arrive(&mut self, found: BlockResult<A>) -> Arrival
+        ensures answer { (past : Past) → Stands self.old past → result ≡ answer past found }
+        ensures stands { (past : Past) → Stands self.old past → Stands self.new (arrived past found) }
+    {
+        self.arrive(found)
+    }
+
+    fn drain<W: Sink>(&mut self, out: &mut W) -> Result<(), SinkFault>
+        ensures drained { (past : Past) → Stands self.old past → (text : List ℕ)
+            × (W.taken out.new ≡ W.taken out.old ++ text)
+            × Drained result past text × Stands self.new (drained past text result) }
+        ensures safe { (past : Past) → Stands self.old past → IsSafe past (handed past) }
+        ensures cause { IsErrOf result WriteFailed → W.failures out.old < W.failures out.new }
+        ensures no_failure { OnOk result (W.failures out.new ≡ W.failures out.old) }
+        ensures never_falls { W.failures out.old ≤ W.failures out.new }
+    {
+        self.drain(out)
+    }
+}

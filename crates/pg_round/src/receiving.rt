@@ -1,0 +1,136 @@
+//! What the calling thread does with the results of a round.
+ghost use Rattle.std.specs.Prelude.{◌≡◌, ℕ, ◌∷◌, [], false, OnOk, OnErr};
+ghost use Rattle.pg_lines.specs.Searched.{Searched};
+ghost use Rattle.pg_seq.specs.History.{Past};
+ghost use Rattle.pg_round.specs.Receipts.{IsSafe, HasReceived, HasBroken, HasDelivered};
+
+use crate::collector::Collector;
+use pg_board::{Delivered, TakePass, Tray};
+use pg_lines::BlockResult;
+use pg_rows::Sink;
+use pg_seq::SinkFault;
+use std::alloc::Allocator;
+use std::sync::Wait;
+use std::sync::atomic::{AtomicBool, Ordering};
+use std::time::{Clock, Duration};
+use std::{hint, thread};
+
+/// What the threads of a round tell one another.
+#[derive(Drop)]
+pub(crate) struct Signs {
+    /// The workers' thread runs.
+    pub(crate) begun: AtomicBool,
+    /// All workers have ended.
+    pub(crate) ended: AtomicBool,
+    /// A thread could not be made: a worker that hasn't begun doesn't.
+    pub(crate) refused: AtomicBool,
+}
+
+impl Signs {
+    pub(crate) fn new() -> Signs {
+        Signs {
+            begun: AtomicBool::new(false),
+            ended: AtomicBool::new(false),
+            refused: AtomicBool::new(false),
+        }
+    }
+}
+
+/// So many looks at an empty tray follow one another at once.
+const SPINS: u32 = 500;
+
+/// How long, in microseconds, the calling thread sleeps between two later looks.
+const NAP: u64 = 50;
+
+/// After so many looks at an empty tray it is given up that the workers' thread begins.
+const PATIENCE: u32 = 5_000;
+
+/// Waits a little before the next look at an empty tray, after so many looks.
+fn pause<R: Clock>(rt: &R, looks: u32) {
+    if looks < SPINS {
+        hint::spin_loop();
+    } else {
+        thread::sleep(rt, Duration::from_micros(NAP));
+    }
+}
+
+/// Takes one result in, and writes what may be handed out.
+fn receive<A: Allocator, S: Collector<BlockResult<A>>, W: Sink>(
+    collector: &mut S,
+    out: &mut W,
+    found: BlockResult<A>,
+) -> Result<(), SinkFault>
+    requires sees { (found : Searched) → S.searched found ≡ found }
+    ensures ok { (past : Past) → S.stands collector.old past → past.failed ≡ false →
+        OnOk result (HasReceived (S.stands collector.new) past (found ∷ []) (W.taken out.old) (W.taken out.new)) }
+    ensures err { (past : Past) → S.stands collector.old past → past.failed ≡ false → OnErr result
+        (HasBroken past (W.taken out.old) (W.taken out.new) (W.failures out.old) (W.failures out.new)) }
+    ensures calm { OnOk result (W.failures out.new ≡ W.failures out.old) }
+{
+    let _ = collector.arrive(found);
+    collector.drain(out)
+}
+
+/// Takes what lies on the tray, until all workers have ended and it is empty, or the workers' thread doesn't begin.
+pub(crate) fn take_all<R: Wait + Clock, A: Allocator, S: Collector<BlockResult<A>>, W: Sink>(
+    rt: &R,
+    tray: &Tray<BlockResult<A>, A>,
+    take: &mut TakePass<BlockResult<A>, A>,
+    collector: &mut S,
+    out: &mut W,
+    signs: &Signs,
+) -> Result<(), SinkFault>
+    requires take { (take.old.tray ≡ tray.now) × (take.old.taken ≡ []) }
+    requires sees { (found : Searched) → S.searched found ≡ found }
+    ensures same { (take.new.tray ≡ tray.now) × (take.new.workers ≡ take.old.workers) }
+    ensures ok { (past : Past) → S.stands collector.old past → past.failed ≡ false → IsSafe past past.written →
+        OnOk result (HasReceived (S.stands collector.new) past take.new.taken (W.taken out.old) (W.taken out.new)) }
+    ensures err { (past : Past) → S.stands collector.old past → past.failed ≡ false → IsSafe past past.written →
+        OnErr result
+        (HasBroken past (W.taken out.old) (W.taken out.new) (W.failures out.old) (W.failures out.new)) }
+    ensures calm { OnOk result (W.failures out.new ≡ W.failures out.old) }
+{
+    let mut looks = 0u32;
+    for _ in rt.forever() {
+        let ended = signs.ended.load(Ordering::SeqCst);
+        match tray.take(rt, take) {
+            Some(found) => {
+                receive(collector, out, found)?;
+                looks = 0;
+            }
+            None => {
+                if ended || (looks >= PATIENCE && !signs.begun.load(Ordering::SeqCst)) {
+                    return Ok(());
+                }
+                pause(rt, looks);
+                looks = looks.saturating_add(1);
+            }
+        }
+    }
+    unreachable!()
+}
+
+/// Takes in what was left on a tray, and writes all that may be handed out.
+pub(crate) fn deliver<R: Wait, A: Allocator, S: Collector<BlockResult<A>>, W: Sink>(
+    rt: &R,
+    mut delivered: Delivered<BlockResult<A>, A>,
+    collector: &mut S,
+    out: &mut W,
+) -> Result<(), SinkFault>
+    requires sees { (found : Searched) → S.searched found ≡ found }
+    ensures ok { (past : Past) → S.stands collector.old past → past.failed ≡ false → IsSafe past past.written →
+        OnOk result (HasDelivered (S.stands collector.new) past delivered.lists delivered.out
+        (W.taken out.old) (W.taken out.new)) }
+    ensures err { (past : Past) → S.stands collector.old past → past.failed ≡ false → IsSafe past past.written →
+        OnErr result
+        (HasBroken past (W.taken out.old) (W.taken out.new) (W.failures out.old) (W.failures out.new)) }
+    ensures calm { OnOk result (W.failures out.new ≡ W.failures out.old) }
+{
+    for _ in rt.forever() {
+        match delivered.next(rt) {
+            Some(found) => receive(collector, out, found)?,
+            None => return collector.drain(out),
+        }
+    }
+    unreachable!()
+}

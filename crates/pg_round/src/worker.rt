@@ -1,0 +1,86 @@
+//! What each one who searches does.
+ghost use Rattle.std.specs.Prelude.{◌≡◌, true, IfOk, OnOk, OnErr};
+ghost use Rattle.std.specs.Arc.{arc_value};
+ghost use Rattle.pg_match.specs.Machines.{Fits};
+ghost use Rattle.pg_lines.specs.Search.{SearchText};
+ghost use Rattle.pg_round.specs.Workers.{task_of, IsReady, GrowAlike, GrowShort, HasWorked};
+
+use crate::gate::Gate;
+use crate::round::Round;
+use pg_board::{PutPass, Seat};
+use pg_lines::{BlockResult, Scratch, search_block};
+use std::alloc::{AllocError, Allocator, Global};
+use std::sync::{Arc, Wait};
+
+/// Who searches: the right to draw numbers, the right to put results, and the room to search with.
+#[derive(Drop)]
+pub(crate) struct Worker<A: Allocator = Global> {
+    pub(crate) seat: Seat,
+    pub(crate) pass: PutPass<BlockResult<A>, A>,
+    pub(crate) scratch: Scratch<A>,
+}
+
+/// Draws numbers until none is left, searches the block of each, and puts its result.
+///
+/// # Errors
+///
+/// Only where a request for memory was refused. One number was drawn then whose result was not put.
+pub fn work<R: Wait, A: Allocator + Copy, G: Gate>(
+    rt: &R,
+    alloc: A,
+    round: Round<'_, A>,
+    scratch: &mut Scratch<A>,
+    seat: &mut Seat,
+    pass: &mut PutPass<BlockResult<A>, A>,
+    gate: &G,
+) -> Result<(), AllocError>
+    requires ready { IsReady (task_of round) }
+    requires same { (seat.old.board ≡ round.board.now) × (pass.old.tray ≡ round.tray.now) }
+    requires fits { Fits scratch.old (arc_value round.query.now).machine }
+    ensures same { (seat.new.board ≡ round.entry.board.now) × (pass.new.tray ≡ round.entry.tray.now) }
+    ensures fits { Fits scratch.new (arc_value round.entry.query.now).machine }
+    ensures ok { OnOk result ((seat.new.spent ≡ true)
+        × GrowAlike (task_of round.entry) seat.old.drawn seat.new.drawn pass.old.put pass.new.put) }
+    ensures err { OnErr result
+        (GrowShort (task_of round.entry) seat.old.drawn seat.new.drawn pass.old.put pass.new.put) }
+{
+    for _ in rt.forever() {
+        let Some(number) = round.board.draw(seat) else {
+            return Ok(());
+        };
+        let block = Arc::try_clone(&round.blocks[number as usize])?;
+        gate.before(number);
+        let found = search_block(alloc, round.query, scratch, block);
+        gate.after(number);
+        let Ok(()) = round.tray.put(rt, pass, found?) else {
+            return Err(AllocError);
+        };
+    }
+    unreachable!()
+}
+
+/// Searches until no number is left, and brings the worker back, whose seat is spent.
+pub(crate) fn search<R: Wait, A: Allocator + Copy, G: Gate>(
+    rt: &R,
+    alloc: A,
+    round: Round<'_, A>,
+    worker: Worker<A>,
+    gate: &G,
+) -> Result<Worker<A>, AllocError>
+    requires ready { IsReady (task_of round) }
+    requires worked { HasWorked (task_of round) worker }
+    ensures worked { IfOk result (HasWorked (task_of round.entry)) }
+    ensures spent { IfOk result (λ back. back.seat.spent ≡ true) }
+{
+    let Worker {
+        mut seat,
+        mut pass,
+        mut scratch,
+    } = worker;
+    work(rt, alloc, round, &mut scratch, &mut seat, &mut pass, gate)?;
+    Ok(Worker {
+        seat,
+        pass,
+        scratch,
+    })
+}

@@ -1,0 +1,196 @@
+//! Blocks, scratches, gates and a collector for tests.
+ghost use Rattle.std.specs.Prelude.{◌≡◌, ℕ, ◌<◌, ◌≤◌, ◌++◌, List, [], All, vec_len, length, IfOk, OnOk, IsErrOf};
+ghost use Rattle.std.specs.Arc.{arc_value};
+ghost use Rattle.pg_match.specs.Machines.{Fits};
+ghost use Rattle.pg_round.specs.Results.{HasShortLines};
+
+use pg_lines::{Block, BlockResult, Kind, PatternList, Query, QueryText, Scratch};
+use pg_round::{Collector, Gate};
+use pg_rows::Sink;
+use pg_seq::{Arrival, SinkFault};
+use std::alloc::{AllocError, Allocator};
+use std::sync::Arc;
+use std::sync::atomic::{AtomicU64, Ordering};
+use std::thread;
+
+/// A query for the letter x.
+pub(crate) fn query<A: Allocator + Copy>(alloc: A) -> Result<Arc<Query<A>, A>, AllocError> {
+    let mut lists = Vec::new(alloc);
+    lists.push(PatternList::Text(Vec::from_slice(alloc, b"x")?))?;
+    let text = QueryText {
+        kind: Kind::Fixed,
+        lists,
+        fold: false,
+        whole: false,
+        word: false,
+        invert: false,
+        pieces: false,
+        zero: false,
+    };
+    match Query::compile(alloc, text) {
+        Ok(query) => {
+            let query = Arc::new(alloc, query)?;
+            Ok(query)
+        }
+        Err(_) => Err(AllocError),
+    }
+}
+
+/// So many blocks without a byte, with the numbers from 0.
+pub(crate) fn blocks<A: Allocator + Copy>(
+    alloc: A,
+    query: &Arc<Query<A>, A>,
+    count: u32,
+) -> Result<Vec<Arc<Block<A>, A>, A>, AllocError>
+    ensures len { IfOk result (λ blocks. vec_len blocks ≡ count) }
+    ensures short { IfOk result (λ blocks. All (HasShortLines (arc_value query.now).text) blocks.items) }
+{
+    let _searched: &Query<A> = query;
+    let mut blocks = Vec::with_capacity(alloc, count as usize)?;
+    for number in 0..count {
+        let block = Block {
+            file: 0,
+            number: u64::from(number),
+            bytes: Vec::new(alloc),
+        };
+        let block = Arc::new(alloc, block)?;
+        blocks.push_reserved(block);
+    }
+    Ok(blocks)
+}
+
+/// So many scratches for a query.
+pub(crate) fn scratches<A: Allocator + Copy>(
+    alloc: A,
+    query: &Arc<Query<A>, A>,
+    count: u32,
+) -> Result<Vec<Scratch<A>, A>, AllocError>
+    ensures len { IfOk result (λ all. vec_len all ≡ count) }
+    ensures fits { IfOk result (λ all. All (λ s. Fits s (arc_value query.now).machine) all.items) }
+{
+    let searched: &Query<A> = query;
+    let mut all = Vec::with_capacity(alloc, count as usize)?;
+    for _ in 0..count {
+        let scratch = Scratch::new(alloc, searched.machine())?;
+        all.push_reserved(scratch);
+    }
+    Ok(all)
+}
+
+/// Counts the results of each block, by the block's number.
+#[derive(Drop)]
+pub(crate) struct Counts {
+    pub(crate) found: [u32; 8],
+}
+
+impl<A: Allocator> Collector<BlockResult<A>> for Counts {
+    ghost use Rattle.pg_seq.specs.History.{Past, arrived, answer, handed};
+    ghost use Rattle.pg_seq.specs.Standing.{Drained, drained};
+    ghost use Rattle.pg_seq.specs.declared.answers.SinkFault.TheVariants.{WriteFailed};
+    ghost use Rattle.pg_round.specs.Receipts.{IsSafe};
+
+    ghost stands = { λ s past. ⊥ };
+
+    ghost searched = { λ found. found };
+
+    fn arrive(&mut self, found: BlockResult<A>) -> Arrival
+        ensures answer { (past : Past) → ⊥ → result ≡ answer past found }
+        ensures stands { (past : Past) → ⊥ → ⊥ }
+    {
+        let number = found.block().number;
+        if number < 8 {
+            let at = number as usize;
+            self.found[at] = self.found[at].saturating_add(1);
+        }
+        Arrival::Taken
+    }
+
+    fn drain<W: Sink>(&mut self, _out: &mut W) -> Result<(), SinkFault>
+        ensures drained { (past : Past) → ⊥ → (text : List ℕ)
+            × (W.taken _out.new ≡ W.taken _out.old ++ text)
+            × Drained result past text × ⊥ }
+        ensures safe { (past : Past) → ⊥ → IsSafe past (handed past) }
+        ensures cause { IsErrOf result WriteFailed → W.failures _out.old < W.failures _out.new }
+        ensures no_failure { OnOk result (W.failures _out.new ≡ W.failures _out.old) }
+        ensures never_falls { W.failures _out.old ≤ W.failures _out.new }
+    {
+        Ok(())
+    }
+}
+
+/// Counts the calls around each search.
+#[derive(Drop)]
+pub(crate) struct Counting {
+    pub(crate) before: [AtomicU64; 8],
+    pub(crate) after: [AtomicU64; 8],
+}
+
+/// So many zeros.
+fn zeros() -> [AtomicU64; 8] {
+    [
+        AtomicU64::new(0),
+        AtomicU64::new(0),
+        AtomicU64::new(0),
+        AtomicU64::new(0),
+        AtomicU64::new(0),
+        AtomicU64::new(0),
+        AtomicU64::new(0),
+        AtomicU64::new(0),
+    ]
+}
+
+impl Counting {
+    pub(crate) fn new() -> Counting {
+        Counting {
+            before: zeros(),
+            after: zeros(),
+        }
+    }
+}
+
+impl Gate for Counting {
+    fn before(&self, number: u32) {
+        if number < 8 {
+            self.before[number as usize].fetch_add(1, Ordering::SeqCst);
+        }
+    }
+
+    fn after(&self, number: u32) {
+        if number < 8 {
+            self.after[number as usize].fetch_add(1, Ordering::SeqCst);
+        }
+    }
+}
+
+/// Who searches a block waits until a second one does.
+#[derive(Drop)]
+pub(crate) struct Meeting {
+    pub(crate) begun: AtomicU64,
+    pub(crate) ended: AtomicU64,
+    pub(crate) met: AtomicU64,
+}
+
+impl Gate for Meeting {
+    fn before(&self, _number: u32) {
+        self.begun.fetch_add(1, Ordering::SeqCst);
+        for _ in 0..u64::MAX {
+            if self.begun.load(Ordering::SeqCst) >= 2 {
+                break;
+            }
+            thread::yield_now();
+        }
+        if self.ended.load(Ordering::SeqCst) == 0 {
+            self.met.fetch_add(1, Ordering::SeqCst);
+        }
+    }
+
+    fn after(&self, _number: u32) {
+        for _ in 0..u64::MAX {
+            if self.met.load(Ordering::SeqCst) >= 2 {
+                break;
+            }
+            thread::yield_now();
+        }
+        self.ended.fetch_add(1, Ordering::SeqCst);
+    }
+}

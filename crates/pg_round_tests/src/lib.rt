@@ -1,0 +1,7 @@
+//! Tests of rounds of blocks that threads search.
+#![tactic(auto)]
+
+#[cfg(test)]
+mod fixtures;
+#[cfg(test)]
+mod rounds;

@@ -1,0 +1,27 @@
+use Rattle.std.proofs.Common.{◌≡◌, ◌∙◌, ◌∷◌, ◌++◌, [], ap, map, subst, sym}
+use Rattle.std.specs.Arc.{arc_value}
+use Rattle.std.proofs.lemmas.List.{map-append}
+use Rattle.pg_lines.specs.Search.{terminator}
+use Rattle.pg_lines.specs.Blocks.{BlockData}
+use Rattle.pg_seq.specs.Plan.{Announces, MayFollow}
+use Rattle.pg_seq.specs.History.{plan, planned}
+use Rattle.pg_seq.specs.Standing.{Stands}
+use Rattle.pg_run.specs.Holding.{past_of, format_of}
+use Rattle.pg_run.proofs.HoldLemmas.{may_past, holds_waiting}
+use Rattle.pg_run.proofs.engine.Engine.add.Goals as goal
+
+pub returns : goal.returns
+returns g c = λ aim steps out ready.
+    let h = ready.0 in
+    let m = ready.1 in
+    let past = past_of aim.query (format_of aim) h.events h.written in
+    let b : arc_value c.in_ok-block.block ≡ c.args.block = c.in_ok-block.ensures.ok in
+    let same : arc_value c.in_ok-try_clone.field-0 ≡ c.args.block = c.in_ok-try_clone.ensures ∙ b in
+    let F : BlockData → Type 0 = λ x. MayFollow (terminator aim.query) (plan past) (Announces x) in
+    let M : BlockData → Type 0 = λ x. Stands c.announce.new.self (planned past (Announces x)) in
+    let may = subst F (sym same) (may_past h (Announces c.args.block) m) in
+    let middle = subst M same (c.in_ok-announce.ensures.ok past h.stands may) in
+    let old = c.args.self.now.round.items in
+    let more = ap (λ xs. map arc_value xs) c.in_ok-push.ensures.items
+    ∙ (map-append arc_value old (c.in_ok-block.block ∷ []) ∙ ap (λ x. map arc_value old ++ x ∷ []) b) in
+    holds_waiting h _ c.args.block m h.same h.set h.count more middle

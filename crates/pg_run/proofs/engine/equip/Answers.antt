@@ -1,0 +1,18 @@
+use Rattle.std.proofs.Common.{◌∙◌, List, length, ap, arith, subst, sym}
+use Rattle.std.specs.List.{All}
+use Rattle.std.proofs.lemmas.List.{length_push}
+use Rattle.std.proofs.lemmas.List.Elements.{All-push}
+use Rattle.pg_match.specs.Machines.{Room, Fits}
+use Rattle.pg_run.proofs.engine.equip.Goals as goal
+
+pub loop-alloc-preserved : goal.loop-alloc-preserved
+loop-alloc-preserved g c =
+    let old = c.loop-alloc.scratches.items in
+    let machine = c.args.query.now.machine in
+    let scratch = c.in_ok-scratch.scratch in
+    let grown = c.in_ok-push.ensures.items in
+    let fits : Fits scratch machine = c.in_ok-scratch.ensures ∙ c.machine.ensures.machine in
+    let P : List Room → Type 0 = λ xs. All (λ s. Fits s machine) xs in (
+      omega (arith, ap length grown, length_push old scratch, c.len.ensures, c.loop-alloc-test.true, c.requires.few.0),
+      subst P (sym grown) (All-push (λ s. Fits s machine) old scratch c.loop-alloc.invariant.1 fits),
+    )
