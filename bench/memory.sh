@@ -3,14 +3,11 @@
 # Usage: bench/memory.sh PARGREP [MEGABYTES]
 # The file is lines of 60 bytes, of which one in 100 is selected. It is kept in a folder of its own that is removed at
 # the end. The memory is the largest resident set that the system tells of the process, which GNU time prints.
-set -eu
-export LC_ALL=C
+. "$(dirname "$0")/lib.sh"
 
 pargrep=${1:?usage: bench/memory.sh PARGREP [MEGABYTES]}
 megabytes=${2:-1024}
 
-folder=$(mktemp -d)
-trap 'rm -rf "$folder"' EXIT
 awk 'BEGIN {
   for (size = 0; size < 1048576; size += 60) {
     printf "%010d %48s\n", size, (size / 60 % 100 == 99 ? "needle" : "hay")

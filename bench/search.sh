@@ -3,15 +3,12 @@
 # Usage: bench/search.sh PARGREP [MEGABYTES]
 # The file is text of short words, made once and kept in a folder of its own that is removed at the end. Plain fixed
 # strings are searched for in all of it, and what needs the automaton in an eighth of it.
-set -eu
-export LC_ALL=C
+. "$(dirname "$0")/lib.sh"
 
 pargrep=${1:?usage: bench/search.sh PARGREP [MEGABYTES]}
 megabytes=${2:-256}
 rounds=7
 
-folder=$(mktemp -d)
-trap 'rm -rf "$folder"' EXIT
 file=$folder/text
 
 # One megabyte of lines of three to twelve words, by a fixed sequence of pseudo-random numbers.
@@ -41,40 +38,33 @@ repeated() {
 repeated "$megabytes" > "$file"
 repeated $(((megabytes + 7) / 8)) > "$folder/eighth"
 
-# best COMMAND..: the least wall time of some runs, in microseconds. Its output goes to $folder/out.
-best() {
-  least=
-  round=0
-  while [ "$round" -lt "$rounds" ]; do
-    from=$(date +%s%N)
-    "$@" > "$folder/out" || [ $? -eq 1 ]
-    to=$(date +%s%N)
-    time=$(((to - from) / 1000))
-    if [ -z "$least" ] || [ "$time" -lt "$least" ]; then
-      least=$time
-    fi
-    round=$((round + 1))
-  done
-  echo "$least"
-}
-
 # compare FILE OPTION PATTERN: the best times of both programs, whose outputs have to be the same.
 compare() {
-  theirs=$(best grep "$2" -e "$3" "$1")
+  theirs=$(best "$rounds" grep "$2" -e "$3" "$1")
   mv "$folder/out" "$folder/expected"
-  ours=$(best "$pargrep" "$2" -e "$3" "$1")
+  ours=$(best "$rounds" "$pargrep" "$2" -e "$3" "$1")
   if ! cmp -s "$folder/out" "$folder/expected"; then
     echo "the outputs for $2 '$3' differ" >&2
     exit 1
   fi
-  awk -v text="$2 $3" -v ours="$ours" -v theirs="$theirs" -v lines="$(wc -l < "$folder/expected")" 'BEGIN {
-    ratio = ours / theirs
-    printf "%-22s %9d lines  pargrep %7.3f s  grep %7.3f s  ratio %.2f\n", text, lines, ours / 1e6, theirs / 1e6, ratio
-  }'
+  report "$2 $3" "$(wc -l < "$folder/expected")" "$ours" "$theirs"
 }
 
-load=$(cut -d ' ' -f 1 /proc/loadavg)
-echo "$(grep --version | head -n 1); $(wc -c < "$file") bytes; best of $rounds runs; load $load"
+# spread FILE OPTION PATTERN: the same for at most 1, 2 and 4 workers.
+spread() {
+  theirs=$(best "$rounds" grep "$2" -e "$3" "$1")
+  mv "$folder/out" "$folder/expected"
+  for workers in 1 2 4; do
+    ours=$(best "$rounds" "$pargrep" --workers "$workers" "$2" -e "$3" "$1")
+    if ! cmp -s "$folder/out" "$folder/expected"; then
+      echo "the outputs for $2 '$3' by $workers workers differ" >&2
+      exit 1
+    fi
+    report "$2 $3, $workers" "$(wc -l < "$folder/expected")" "$ours" "$theirs"
+  done
+}
+
+echo "$(grep --version | head -n 1); $(wc -c < "$file") bytes; best of $rounds runs; load $(load)"
 for text in zzqq water the e; do
   compare "$file" -F "$text"
 done
@@ -84,12 +74,15 @@ compare "$file" -FC2 water
 compare "$file" -FC3 water
 compare "$file" -nFA1 zzqq
 rounds=3
-echo "An eighth of it, best of $rounds runs:"
-compare "$folder/eighth" -E 'wat.r'
-compare "$folder/eighth" -E 'water|people'
-compare "$folder/eighth" -E '(oil|call)ed? now'
-compare "$folder/eighth" -Fi WATER
-compare "$folder/eighth" -Fw the
-compare "$folder/eighth" -Fv the
-compare "$folder/eighth" -Fx 'of the people'
-compare "$folder/eighth" -oF the
+echo "An eighth of it, best of $rounds runs, and by how many workers:"
+spread "$folder/eighth" -E 'wat.r'
+spread "$folder/eighth" -E 'water|people'
+spread "$folder/eighth" -E '(oil|call)ed? now'
+spread "$folder/eighth" -E '[a-z]+ing of'
+spread "$folder/eighth" -Fi WATER
+spread "$folder/eighth" -Fw the
+spread "$folder/eighth" -Fv the
+spread "$folder/eighth" -Fx 'of the people'
+spread "$folder/eighth" -nE 'wat.r'
+spread "$folder/eighth" -cE 'wat.r'
+spread "$folder/eighth" -oE 'wat.r'

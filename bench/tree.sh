@@ -4,15 +4,10 @@
 # Usage: bench/tree.sh PARGREP
 # The trees are made in a folder that is removed at the end. GNU grep takes names as the system lists them, so outputs
 # are compared in order of their lines.
-set -eu
-export LC_ALL=C
+. "$(dirname "$0")/lib.sh"
 
-pargrep=${1:?usage: bench/tree.sh PARGREP}
-pargrep=$(cd "$(dirname "$pargrep")" && pwd)/$(basename "$pargrep")
+pargrep=$(absolute "${1:?usage: bench/tree.sh PARGREP}")
 rounds=7
-
-folder=$(mktemp -d)
-trap 'rm -rf "$folder"' EXIT
 cd "$folder"
 
 # 10,000 files of 100 short lines, ten of which hold `needle`; the same lines in 20 files.
@@ -40,41 +35,20 @@ while [ "$i" -lt 20 ]; do
 done
 rm large/part
 
-# best COMMAND..: the least wall time of some runs, in microseconds. Its output goes to the file `out`.
-best() {
-  least=
-  round=0
-  while [ "$round" -lt "$rounds" ]; do
-    from=$(date +%s%N)
-    "$@" > out || [ $? -eq 1 ]
-    to=$(date +%s%N)
-    time=$(((to - from) / 1000))
-    if [ -z "$least" ] || [ "$time" -lt "$least" ]; then
-      least=$time
-    fi
-    round=$((round + 1))
-  done
-  echo "$least"
-}
-
 # compare TREE OPTIONS PATTERN
 compare() {
-  theirs=$(best grep "$2" -e "$3" "$1")
+  theirs=$(best "$rounds" grep "$2" -e "$3" "$1")
   sort out > expected
-  ours=$(best "$pargrep" "$2" -e "$3" "$1")
+  ours=$(best "$rounds" "$pargrep" "$2" -e "$3" "$1")
   sort out > found
   if ! cmp -s found expected; then
     echo "the outputs for $2 '$3' differ" >&2
     exit 1
   fi
-  awk -v text="$2 $3 $1" -v ours="$ours" -v theirs="$theirs" -v lines="$(wc -l < expected)" 'BEGIN {
-    ratio = ours / theirs
-    printf "%-22s %9d lines  pargrep %7.3f s  grep %7.3f s  ratio %.2f\n", text, lines, ours / 1e6, theirs / 1e6, ratio
-  }'
+  report "$2 $3 $1" "$(wc -l < expected)" "$ours" "$theirs"
 }
 
-load=$(cut -d ' ' -f 1 /proc/loadavg)
-echo "$(grep --version | head -n 1); best of $rounds runs; load $load"
+echo "$(grep --version | head -n 1); best of $rounds runs; load $(load)"
 compare small -rF needle
 compare small -rcF needle
 compare small -rlF needle

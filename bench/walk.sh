@@ -3,15 +3,10 @@
 # Usage: bench/walk.sh PG_BENCH
 # PG_BENCH is the built program of the crate of that name. 20,000 files in 2,000 directories are made in a folder that
 # is removed at the end.
-set -eu
-export LC_ALL=C
+. "$(dirname "$0")/lib.sh"
 
-walk=${1:?usage: bench/walk.sh PG_BENCH}
-walk=$(cd "$(dirname "$walk")" && pwd)/$(basename "$walk")
+walk=$(absolute "${1:?usage: bench/walk.sh PG_BENCH}")
 rounds=15
-
-folder=$(mktemp -d)
-trap 'rm -rf "$folder"' EXIT
 
 # 40 directories of 50 directories of 10 files.
 mkdir "$folder/tree"
@@ -24,20 +19,6 @@ while [ "$i" -lt 2000 ]; do
   i=$((i + 1))
 done
 cd "$folder"
-
-# least SO_FAR COMMAND..: the smaller one of a time and the command's wall time, in microseconds. Its output goes to
-# $folder/out.
-least() {
-  so_far=$1
-  shift
-  from=$(date +%s%N)
-  "$@" > "$folder/out"
-  to=$(date +%s%N)
-  time=$(((to - from) / 1000))
-  if [ -z "$so_far" ] || [ "$time" -lt "$so_far" ]; then
-    so_far=$time
-  fi
-}
 
 # The two take turns, so that both meet the same load.
 theirs=
@@ -56,6 +37,6 @@ while [ "$round" -lt "$rounds" ]; do
   round=$((round + 1))
 done
 
-echo "$(find --version | head -n 1); best of $rounds runs each; load $(cut -d ' ' -f 1 /proc/loadavg)"
+echo "$(find --version | head -n 1); best of $rounds runs each; load $(load)"
 awk -v ours="$ours" -v theirs="$theirs" -v files="$(wc -l < "$folder/expected")" \
   'BEGIN { printf "%d files  walk %.3f s  find %.3f s  ratio %.2f\n", files, ours / 1e6, theirs / 1e6, ours / theirs }'
