@@ -1,0 +1,244 @@
+-- What is known of some patterns in a row, with one more in front.
+use Rattle.std.proofs.Common.{ℕ, zero, suc, ◌≡◌, ◌<◌, ◌≤◌, ◌+◌, ◌==◌, List, [], ◌∷◌, ◌++◌, length, get_or, reverse}
+use Rattle.std.proofs.Common.{Option, Some, false, inl, inr, refl, sym, ap, ◌∙◌, subst, arith, append_assoc}
+use Rattle.std.specs.Prelude.{slice_get}
+use Rattle.std.proofs.lemmas.Bool.{false≢true, eq-eqb, eqb-true}
+use Rattle.std.proofs.lemmas.List.{reverse-append, length_push}
+use Rattle.std.proofs.lemmas.Option.{slice_get-get_or, get_or_from_slice_get}
+use Rattle.memchr.specs.Find.{OccursAt}
+use Rattle.pg_bytes.specs.Sets.{Bytes, one}
+use Rattle.pg_syntax.specs.Patterns.{Pattern, Empty, Set, Begin, End, Cat, Alt, Rep}
+use Rattle.pg_syntax.specs.Grammar as G
+use Rattle.pg_syntax.specs.Grammar.{Literal, Spells}
+use Rattle.pg_syntax.specs.declared.pattern_list.Kind.TheVariants.{Fixed}
+use Rattle.pg_match.specs.Matches.{Match, Chain}
+use Rattle.pg_literal.specs.Literals.{Holds}
+use Rattle.pg_literal.specs.Known.{IsAlone, head_of, HasTexts, Extends, Hides, HidesOthers}
+use Rattle.pg_literal.specs.declared.known.Known.{Known}
+
+-- spans that go forward do so one behind the other too
+chain_forward : (Span : ℕ → ℕ → Type 0) → ((i j : ℕ) → Span i j → i ≤ j) → (count i j : ℕ) → Chain Span count i j
+    → i ≤ j
+chain_forward Span forward zero i j e = omega arith
+chain_forward Span forward (suc count) i j c =
+    let first = forward i c.0 c.1 in
+    let others = chain_forward Span forward count c.0 j c.2 in
+    omega arith
+
+-- no match ends before it begins
+pub match_forward : (p : Pattern) (line : List ℕ) (i j : ℕ) → Match p line i j → i ≤ j
+match_forward Empty line i j m = omega arith
+match_forward (Set s) line i j m = omega (arith, m.3)
+match_forward Begin line i j m = omega (arith, m.1)
+match_forward End line i j m = omega (arith, m.1)
+match_forward (Cat p q) line i j m =
+    let first = match_forward p line i m.0 m.1 in
+    let second = match_forward q line m.0 j m.2 in
+    omega arith
+match_forward (Alt p q) line i j (inl m) = match_forward p line i j m
+match_forward (Alt p q) line i j (inr m) = match_forward q line i j m
+match_forward (Rep p least most) line i j m = chain_forward (Match p line) (match_forward p line) m.0 i j m.3
+
+-- the empty text stands everywhere
+pub occurs_nothing : (line : List ℕ) (i : ℕ) → i ≤ length line → OccursAt line [] i
+occurs_nothing line i within = record { fits = omega arith; reads = λ j less. absurd (omega arith) }
+
+-- a byte in front of a text
+occurs_more : (line text : List ℕ) (b i : ℕ) → slice_get line i ≡ Some b → OccursAt line text (i + 1)
+    → OccursAt line (b ∷ text) i
+occurs_more line text b i is behind = record { fits = let fits = behind.fits in omega arith; reads = each }
+  where
+    each : (k : ℕ) → k < length (b ∷ text) → get_or line (i + k) 0 ≡ get_or (b ∷ text) k 0
+    each zero less =
+        let at : i + 0 ≡ i = omega arith in
+        ap (λ n. get_or line n 0) at ∙ get_or_from_slice_get line i b 0 is
+    each (suc k) less =
+        let at : i + suc k ≡ i + 1 + k = omega arith in
+        ap (λ n. get_or line n 0) at ∙ behind.reads k (omega (arith, less))
+
+-- the first byte of a text
+occurs_first : (line text : List ℕ) (b i : ℕ) → OccursAt line (b ∷ text) i → slice_get line i ≡ Some b
+occurs_first line text b i o =
+    let fits = o.fits in
+    let at : i ≡ i + 0 = omega arith in
+    slice_get-get_or line i 0 (omega arith) ∙ ap Some (ap (λ n. get_or line n 0) at ∙ o.reads 0 (omega arith))
+
+-- the text behind its first byte
+occurs_behind : (line text : List ℕ) (b i : ℕ) → OccursAt line (b ∷ text) i → OccursAt line text (i + 1)
+occurs_behind line text b i o = record {
+  fits = let fits = o.fits in omega arith;
+  reads = λ k less.
+      let at : i + 1 + k ≡ i + suc k = omega arith in
+      ap (λ n. get_or line n 0) at ∙ o.reads (suc k) (omega arith);
+}
+
+-- the parts of a fixed string's pattern, and the texts that spell them
+Shape : List ℕ → Pattern → Type 0
+Shape text Empty = text ≡ []
+Shape text (Set s) = (b : ℕ) × (text ≡ b ∷ []) × (s ≡ one b)
+Shape text (Cat p q) =
+    (t : List ℕ) × (b : ℕ) × Spells Fixed false t p × Spells Fixed false (b ∷ []) q × (text ≡ t ++ b ∷ [])
+Shape text _ = ⊥
+
+-- the pattern of some bytes
+literal_shape : {text : List ℕ} {p : Pattern} → Literal false text p → length text ≤ 4096 → Shape text p
+unfolding Shape
+literal_shape (G.first b) small = (b, refl, refl)
+literal_shape (G.more {text = t} l b) small =
+    (t, b, G.some (omega (arith, length_push t b)) l, G.some (omega arith) (G.first b), refl)
+
+-- the pattern of a fixed string
+shape : {text : List ℕ} {p : Pattern} → Spells Fixed false text p → Shape text p
+unfolding Shape
+shape G.nothing = refl
+shape (G.some small l) = literal_shape l small
+
+module _ {A : Type 0} where
+  -- the empty pattern
+  pub extends_empty : (rest : Known A) → Extends Empty rest rest
+  unfolding Shape
+  extends_empty rest = record {
+    texts = λ line i j m has. subst (HasTexts rest line) (sym m) has;
+    sure = λ is. (is, λ line i o. (i, refl, o));
+    fixed = λ text s. (ap (λ t. t ++ head_of rest) (sym (shape s)), refl);
+  }
+
+  -- one byte
+  pub extends_byte : (set : Bytes) (b : ℕ) (rest whole : Known A) → IsAlone set b
+      → whole.head.items ≡ rest.head.items ++ b ∷ [] → whole.best.items ≡ rest.best.items
+      → whole.is_sure ≡ rest.is_sure → Extends (Set set) rest whole
+  unfolding Shape
+  extends_byte set b rest whole alone head best sure =
+      let longer : head_of whole ≡ b ∷ head_of rest = ap reverse head ∙ reverse-append rest.head.items (b ∷ []) in
+      record {
+        texts = λ line i j m has. record {
+          head =
+              let is = m.1 ∙ ap Some (alone.1 m.0 m.2) in
+              let behind = subst (OccursAt line (head_of rest)) m.3 has.head in
+              subst (λ t. OccursAt line t i) (sym longer) (occurs_more line (head_of rest) b i is behind);
+          best = subst (λ t. Holds line (reverse t)) (sym best) has.best;
+        };
+        sure = λ is. (
+          sym sure ∙ is,
+          λ line i o.
+              let at = subst (λ t. OccursAt line t i) longer o in (
+                i + 1,
+                (b, occurs_first line (head_of rest) b i at, alone.0, refl),
+                occurs_behind line (head_of rest) b i at,
+              ),
+        );
+        fixed = λ text s.
+            let is = shape s in
+            let same : b ≡ is.0 = eqb-true b is.0 (ap (λ t. t b) (sym is.2) ∙ alone.0) in
+            (longer ∙ ap (λ c. c ∷ head_of rest) same ∙ ap (λ t. t ++ head_of rest) (sym is.1), sure);
+      }
+
+  -- where the texts stand further right, what hides them stands
+  hidden_texts : (rest whole : Known A) → Hides rest whole → (line : List ℕ) (i j : ℕ) → i ≤ j → HasTexts rest line j
+      → HasTexts whole line i
+  hidden_texts rest whole hides line i j forward has = record {
+    head =
+        let fits = has.head.fits in
+        subst (λ t. OccursAt line (reverse t) i) (sym hides.head) (occurs_nothing line i (omega arith));
+    best = elim hides.best [
+      | inl head ↦ subst (λ t. Holds line (reverse t.items)) (sym head) (j, has.head)
+      | inr best ↦ subst (λ t. Holds line (reverse t.items)) (sym best) has.best
+    ];
+  }
+
+  -- a pattern that no fixed string spells
+  extends_hidden : (p : Pattern) (rest whole : Known A) → Hides rest whole
+      → ((text : List ℕ) → Spells Fixed false text p → ⊥) → Extends p rest whole
+  extends_hidden p rest whole hides none = record {
+    texts = λ line i j m has. hidden_texts rest whole hides line i j (match_forward p line i j m) has;
+    sure = λ is. absurd (false≢true (sym hides.sure ∙ is));
+    fixed = λ text s. absurd (none text s);
+  }
+
+  -- a set that isn't of one byte
+  pub extends_set : (set : Bytes) (rest whole : Known A) → Hides rest whole → ((b : ℕ) → IsAlone set b → ⊥)
+      → Extends (Set set) rest whole
+  unfolding Shape
+  extends_set set rest whole hides none = extends_hidden (Set set) rest whole hides (λ text s.
+      let is = shape s in
+      let test : (c : ℕ) → set c ≡ (c == is.0) = λ c. ap (λ t. t c) is.2 in
+      none is.0 (test is.0 ∙ eq-eqb is.0 is.0 refl, λ c e. eqb-true c is.0 (sym (test c) ∙ e)))
+
+  -- one of two patterns
+  pub extends_alt : (p q : Pattern) (rest whole : Known A) → Hides rest whole → Extends (Alt p q) rest whole
+  unfolding Shape
+  extends_alt p q rest whole hides = extends_hidden (Alt p q) rest whole hides (λ text s. shape s)
+
+  -- rounds of which there may be none
+  pub extends_rep : (p : Pattern) (least : ℕ) (most : Option ℕ) (rest whole : Known A) → Hides rest whole
+      → Extends (Rep p least most) rest whole
+  unfolding Shape
+  extends_rep p least most rest whole hides =
+      extends_hidden (Rep p least most) rest whole hides (λ text s. shape s)
+
+  -- two patterns
+  pub extends_cat : (p q : Pattern) (rest more whole : Known A) → Extends q rest more → Extends p more whole
+      → Extends (Cat p q) rest whole
+  unfolding Shape
+  extends_cat p q rest more whole second first = record {
+    texts = λ line i j m has. first.texts line i m.0 m.1 (second.texts line m.0 j m.2 has);
+    sure = λ is.
+        let one = first.sure is in
+        let two = second.sure one.0 in (
+          two.0,
+          λ line i o.
+              let at = one.1 line i o in
+              let next = two.1 line at.0 at.2 in
+              (next.0, (at.0, at.1, next.1), next.2),
+        );
+    fixed = λ text s.
+        let is = shape s in
+        let one = first.fixed is.0 is.2 in
+        let two = second.fixed (is.1 ∷ []) is.3 in
+        let joined = append_assoc is.0 (is.1 ∷ []) (head_of rest) in
+        let head = one.0 ∙ ap (λ t. is.0 ++ t) two.0 ∙ sym joined ∙ ap (λ t. t ++ head_of rest) (sym is.4) in
+        (head, one.1 ∙ two.1);
+  }
+
+  -- one round alone
+  extends_once : (p : Pattern) (rest whole : Known A) → Extends p rest whole
+      → Extends (Rep p 1 (Some 1)) rest whole
+  unfolding Shape
+  extends_once p rest whole known = record {
+    texts = λ line i j m has. known.texts line i j (single line i j m.0 m.1 m.2 m.3) has;
+    sure = λ is.
+        let one = known.sure is in
+        (one.0, λ line i o. let at = one.1 line i o in (at.0, (1, omega arith, omega arith, (at.0, at.1, refl)), at.2));
+    fixed = λ text s. absurd (shape s);
+  }
+    where
+      single : (line : List ℕ) (i j count : ℕ) → 1 ≤ count → count ≤ 1 → Chain (Match p line) count i j
+          → Match p line i j
+      single line i j zero low high c = absurd (omega arith)
+      single line i j (suc zero) low high c = subst (Match p line i) c.2 c.1
+      single line i j (suc (suc n)) low high c = absurd (omega arith)
+
+  -- one round or more, of which the others hide what stands behind the first
+  extends_rounds : (p : Pattern) (least : ℕ) (most : Option ℕ) (rest hidden whole : Known A) → 1 ≤ least
+      → Hides rest hidden → Extends p hidden whole → Extends (Rep p least most) rest whole
+  unfolding Shape
+  extends_rounds p least most rest hidden whole some hides known = record {
+    texts = λ line i j m has. rounds line i j m.0 (omega (arith, m.1)) m.3 has;
+    sure = λ is. absurd (false≢true (sym hides.sure ∙ (known.sure is).0));
+    fixed = λ text s. absurd (shape s);
+  }
+    where
+      rounds : (line : List ℕ) (i j count : ℕ) → 1 ≤ count → Chain (Match p line) count i j → HasTexts rest line j
+          → HasTexts whole line i
+      rounds line i j zero low c has = absurd (omega arith)
+      rounds line i j (suc n) low c has =
+          let forward = chain_forward (Match p line) (match_forward p line) n c.0 j c.2 in
+          known.texts line i c.0 c.1 (hidden_texts rest hidden hides line c.0 j forward has)
+
+  -- a repetition with a first round
+  pub extends_first : (p : Pattern) (least : ℕ) (most : Option ℕ) (rest behind whole : Known A) → 1 ≤ least
+      → HidesOthers least most rest behind → Extends p behind whole → Extends (Rep p least most) rest whole
+  extends_first p least most rest behind whole some (inl single) first =
+      rw (single.0, single.1) (extends_once p rest whole (rw single.2 at first))
+  extends_first p least most rest behind whole some (inr hides) first =
+      extends_rounds p least most rest behind whole some hides first

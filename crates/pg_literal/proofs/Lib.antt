@@ -1,0 +1,2 @@
+pub mod KnownLemmas
+pub mod LiteralLemmas

@@ -1,0 +1,50 @@
+use Rattle.std.proofs.Common.{inl, inr, arith, rules}
+use Rattle.pg_syntax.specs.declared.tree.Tree.{the_lemmas}
+use Rattle.pg_match.proofs.PatternLemmas.{pattern-empty, pattern-set, pattern-begin, pattern-end}
+use Rattle.pg_match.proofs.PatternLemmas.{pattern-cat, pattern-alt, pattern-rep}
+use Rattle.pg_literal.proofs.KnownLemmas.{extends_empty, extends_cat, extends_alt, extends_rep, extends_first}
+use Rattle.pg_literal.proofs.known.+with_tree.Goals as goal
+
+pub returns-in-Empty : goal.returns-in-Empty
+returns-in-Empty g t c =
+    c.loop-tree.invariant.whole _ (rw (pattern-empty _ c.in-Empty.is) (extends_empty c.loop-tree.known))
+
+pub returns-in-Set : goal.returns-in-Set
+returns-in-Set g t c = c.loop-tree.invariant.whole _ (rw (pattern-set _ _ c.in-Set.is) c.in_ok-known-in-Set.ensures)
+
+pub returns-in-Begin : goal.returns-in-Begin
+returns-in-Begin g t c = elim c.in-Begin.is [
+  | inl begin ↦ c.loop-tree.invariant.whole _ (rw (pattern-begin _ begin) c.with_anchor.ensures.begin)
+  | inr end ↦ c.loop-tree.invariant.whole _ (rw (pattern-end _ end) c.with_anchor.ensures.end)
+]
+
+pub loop-tree-preserved-in-Cat-1 : goal.loop-tree-preserved-in-Cat-1
+loop-tree-preserved-in-Cat-1 g t c =
+    let second = rw c.deref.ensures at c.in_ok-known-in-Cat.ensures in
+    record {
+      below = search (rules, the_lemmas);
+      whole = λ whole outer.
+          let first = rw c.deref-tree.ensures at outer in
+          c.loop-tree.invariant.whole whole
+          (rw (pattern-cat _ _ _ c.in-Cat.is) (extends_cat _ _ _ _ whole second first));
+    }
+
+pub returns-in-Alt : goal.returns-in-Alt
+returns-in-Alt g t c =
+    c.loop-tree.invariant.whole _ (rw (pattern-alt _ _ _ c.in-Alt.is) (extends_alt _ _ _ _ c.hidden.ensures))
+
+pub returns-then-least-eq0 : goal.returns-then-least-eq0
+returns-then-least-eq0 g t c =
+    c.loop-tree.invariant.whole _
+    (rw (pattern-rep _ _ _ _ c.in-Rep.is) (extends_rep _ _ _ _ _ c.hidden-then-least-eq0.ensures))
+
+pub loop-tree-preserved : goal.loop-tree-preserved
+loop-tree-preserved g t c =
+    let others = c.with_other_rounds-known.ensures in
+    record {
+      below = search (rules, the_lemmas);
+      whole = λ whole inner.
+          let first = rw c.deref-tree-in-Rep.ensures at inner in
+          c.loop-tree.invariant.whole whole
+          (rw (pattern-rep _ _ _ _ c.in-Rep.is) (extends_first _ _ _ _ _ whole (omega arith) others first));
+    }

@@ -1,0 +1,11 @@
+//! Texts that tell which lines may have a hit.
+//!
+//! Many expressions can only match where some fixed text stands: `err(or|no)?: [0-9]+` only where `err` does. Such a
+//! text is searched for at memory speed, and the automaton is asked only about lines that hold it. Where the expression
+//! is nothing but that text, it isn't asked at all.
+#![tactic(auto)]
+
+mod known;
+mod literal;
+
+pub use literal::Literal;
