@@ -51,6 +51,6 @@ best() {
 report() {
   awk -v text="$1" -v lines="$2" -v ours="$3" -v theirs="$4" 'BEGIN {
     ratio = ours / theirs
-    printf "%-22s %9d lines  pargrep %7.3f s  grep %7.3f s  ratio %.2f\n", text, lines, ours / 1e6, theirs / 1e6, ratio
+    printf "%-38s %8d lines  pargrep %7.3f s  grep %7.3f s  ratio %.2f\n", text, lines, ours / 1e6, theirs / 1e6, ratio
   }'
 }

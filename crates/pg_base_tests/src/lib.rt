@@ -8,6 +8,8 @@ mod cutter;
 #[cfg(test)]
 mod lines;
 #[cfg(test)]
+mod literal;
+#[cfg(test)]
 mod machine;
 #[cfg(test)]
 mod rows;

@@ -19,7 +19,7 @@ struct Search {
     scratch: Scratch,
 }
 
-fn bounds_of(word: &str) -> Bounds {
+pub(crate) fn bounds_of(word: &str) -> Bounds {
     match word {
         "any" => Bounds::Any,
         "word" => Bounds::Word,
@@ -28,7 +28,7 @@ fn bounds_of(word: &str) -> Bounds {
 }
 
 /// The tree of an extended expression.
-fn extended<A: Allocator + Copy>(alloc: A, text: &[u8]) -> Result<Tree<A>, Fail>
+pub(crate) fn extended<A: Allocator + Copy>(alloc: A, text: &[u8]) -> Result<Tree<A>, Fail>
     ensures { IfOk result (λ tree. IsProper (pattern tree)) }
 {
     let tree = parse_ere(alloc, text, false)?;

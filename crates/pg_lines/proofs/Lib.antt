@@ -2,11 +2,12 @@ pub mod CountLemmas
 pub mod CutLaws
 pub mod CutLemmas
 pub mod CutterLemmas
+pub mod CandidateLemmas
 pub mod Examples
-pub mod FixedLemmas
 pub mod GatherLemmas
 pub mod HitLemmas
 pub mod LaneLemmas
+pub mod LiteralLemmas
 pub mod LineLaws
 pub mod LineLemmas
 pub mod LongLemmas

@@ -1,5 +1,5 @@
 -- Runs of selected lines.
-use Rattle.std.proofs.Common.{◌≡◌, ◌≢◌, ℕ, zero, suc, ◌+◌, ◌-◌, ◌<◌, ◌≤◌, ◌^◌, ◌⊎◌, inl, inr, Bool, true, false}
+use Rattle.std.proofs.Common.{◌≡◌, ℕ, zero, suc, ◌+◌, ◌-◌, ◌<◌, ◌≤◌, ◌^◌, ◌⊎◌, inl, inr, Bool, true, false}
 use Rattle.std.proofs.Common.{List, [], ◌∷◌, ◌++◌, length, take, drop, get_or, refl, sym, ap, ◌∙◌, subst, arith}
 use Rattle.std.proofs.Common.{append_assoc, length-append, length-drop}
 use Rattle.std.specs.List.{AllByRecursion}
@@ -8,24 +8,20 @@ use Rattle.std.proofs.lemmas.List.{take-append-drop, drop_at, length-take-le, ge
 use Rattle.std.proofs.lemmas.List.{append-nil, take_at, drop_more, drop-drop, drop_all}
 use Rattle.std.proofs.lemmas.List.Prefix.{at_reads}
 use Rattle.memchr.specs.Find.{OccursAt, Nowhere}
+use Rattle.pg_literal.specs.Literals.{Holds}
 use Rattle.pg_lines.specs.Lines.{lines, IsLine, AreWhole, AreShort, IsClear, Stops, terminated}
-use Rattle.pg_lines.specs.Search.{Search, HasItsTrees, IsPlain, terminator}
+use Rattle.pg_lines.specs.Search.{Search, terminator}
 use Rattle.pg_lines.specs.Selection.{selects}
 use Rattle.pg_lines.specs.Runs.{AllLines, IsNextRun}
 use Rattle.pg_lines.specs.Gathered.{IsNextLine}
+use Rattle.pg_lines.specs.Candidates.{IsLineAt, AreWithout, IsFirstWith}
 use Rattle.pg_lines.specs.declared.run.Run.{Run}
 use Rattle.pg_lines.specs.declared.span.Span.{Span}
-use Rattle.pg_lines.proofs.HitLemmas.{occurs_selected, nowhere_unselected}
 use Rattle.pg_lines.proofs.LineLemmas.{made, around, lines-line, lines-alone, lines-append, whole_append}
 
 all_by_index : (P : List ℕ → Type 0) (ls : List (List ℕ)) → ((k : ℕ) → k < length ls → P (get_or ls k [])) → AllByRecursion P ls
 all_by_index P [] h = tt
 all_by_index P (l ∷ ls) h = (h zero (omega arith), all_by_index P ls (λ k below. h (suc k) (omega arith)))
-
-all_at : (P : List ℕ → Type 0) (ls : List (List ℕ)) (k : ℕ) → AllByRecursion P ls → k < length ls → P (get_or ls k [])
-all_at P [] k h below = absurd (omega arith)
-all_at P (l ∷ ls) zero h below = h.0
-all_at P (l ∷ ls) (suc k) h below = all_at P ls k h.1 (omega arith)
 
 all_append : (P : List ℕ → Type 0) (xs ys : List (List ℕ)) → AllByRecursion P xs → AllByRecursion P ys → AllByRecursion P (xs ++ ys)
 all_append P [] ys a b = b
@@ -51,28 +47,30 @@ occurs_inside xs front l tail p i e o =
           ap (λ n. get_or xs n 0) at ∙ (at_reads 0 xs l (length front) tail d (i + j) (omega (arith, o.fits)) ∙ o.reads j below);
     }
 
--- bytes in which the pattern occurs nowhere have no selected line
-pub nowhere_lines : (q : Search) (p bytes : List ℕ) → HasItsTrees q → IsPlain q.text p
-    → ((k : ℕ) → OccursAt bytes p k → ⊥) → AllLines q false bytes
-nowhere_lines q p bytes t c none =
-    all_by_index (λ l. selects q l ≡ false) (lines (terminator q) bytes) (λ k below.
-    let r = around (terminator q) bytes (lines (terminator q) bytes) (made (terminator q) bytes) k below in
-    nowhere_unselected q p t c (get_or (lines (terminator q) bytes) k []) (λ i o.
-    none (length (terminated (terminator q) (take k (lines (terminator q) bytes))) + i)
-    (occurs_inside bytes (terminated (terminator q) (take k (lines (terminator q) bytes)))
-    (get_or (lines (terminator q) bytes) k []) r.0 p i r.1 o)))
+-- of bytes in which the literal occurs nowhere no line holds it
+pub nowhere_lines : (end : ℕ) (p bytes : List ℕ) → ((k : ℕ) → OccursAt bytes p k → ⊥) → AreWithout end p bytes
+nowhere_lines end p bytes none =
+    all_by_index (λ l. Holds l p → ⊥) (lines end bytes) (λ k below.
+    let r = around end bytes (lines end bytes) (made end bytes) k below in
+    λ h. none (length (terminated end (take k (lines end bytes))) + h.0)
+    (occurs_inside bytes (terminated end (take k (lines end bytes))) (get_or (lines end bytes) k []) r.0 p h.0 r.1 h.1))
 
--- nor have lines that end before the first place at which it occurs
-pub lines_before : (q : Search) (p bytes : List ℕ) (s k : ℕ) → HasItsTrees q → IsPlain q.text p
-    → Nowhere (OccursAt bytes p) 0 k → s ≤ k → k ≤ length bytes → AllLines q false (take s bytes)
-lines_before q p bytes zero k t c none low high = tt
-lines_before q p bytes (suc s) k t c none low high =
-    nowhere_lines q p (take (suc s) bytes) t c (λ j o.
+-- nor does one that ends before the first place at which it occurs
+pub lines_before : (end : ℕ) (p bytes : List ℕ) (s k : ℕ) → Nowhere (OccursAt bytes p) 0 k → s ≤ k
+    → k ≤ length bytes → AreWithout end p (take s bytes)
+lines_before end p bytes zero k none low high = tt
+lines_before end p bytes (suc s) k none low high =
+    nowhere_lines end p (take (suc s) bytes) (λ j o.
     let len = length-take-le (suc s) bytes (omega arith) in
     let P : ℕ → Type 0 = λ n. OccursAt bytes p n in
     let zero-j : 0 + j ≡ j = omega arith in
-    let here : OccursAt bytes p j = subst P zero-j (occurs_inside bytes [] (take (suc s) bytes) (drop (suc s) bytes) p j (sym (take-append-drop (suc s) bytes)) o) in
-    let some : 0 < length p = empty_needle p (λ e. none 0 (omega arith) (omega arith) (record { fits = omega (arith, ap length e); reads = λ i below. absurd (omega (arith, ap length e)) })) in
+    let joins = sym (take-append-drop (suc s) bytes) in
+    let here : OccursAt bytes p j =
+    subst P zero-j (occurs_inside bytes [] (take (suc s) bytes) (drop (suc s) bytes) p j joins o) in
+    let some : 0 < length p = empty_needle p (λ e. none 0 (omega arith) (omega arith) (record {
+      fits = omega (arith, ap length e);
+      reads = λ i below. absurd (omega (arith, ap length e));
+    })) in
     none j (omega arith) (omega (arith, o.fits)) here)
   where
     empty_needle : (p : List ℕ) → (p ≡ [] → ⊥) → 0 < length p
@@ -115,17 +113,6 @@ pub line_some : (end : ℕ) (bytes : List ℕ) (s k e stop : ℕ) → s ≤ k �
     → (s < stop) × (stop ≤ length bytes)
 line_some end bytes s k e stop low high below (inl h) = (omega (arith, h.0), omega (arith, h.0, h.1))
 line_some end bytes s k e stop low high below (inr h) = (omega (arith, h.0, h.1), omega (arith, h.0, h.1))
-
--- A line of the bytes: its text from s up to e, and the next line at `stop`.
-pub record IsLineAt (end : ℕ) (bytes : List ℕ) (s e stop : ℕ) : Type 0 where
-  pub text : List ℕ
-  pub later : List ℕ
-  pub joins : bytes ≡ (take s bytes ++ text) ++ later
-  pub one : lines end text ≡ take (e - s) (drop s bytes) ∷ []
-  pub front : length (take s bytes) ≡ s
-  pub len : s + length text ≡ stop
-  pub some : text ≢ []
-  pub whole : (AreWhole end text × (later ≡ drop stop bytes)) ⊎ ((later ≡ []) × (stop ≡ length bytes))
 
 pub line_at : (end : ℕ) (bytes : List ℕ) (s e stop : ℕ) → s ≤ e → e ≤ length bytes → s < stop → IsClear end bytes s e
     → Stops end bytes e stop → IsLineAt end bytes s e stop
@@ -233,45 +220,49 @@ line_unselected q bytes s e stop is front none not_chosen =
 
 -- the first line in which the literal occurs: the literal at k, the line's text from s up to e, and the next line
 -- at `stop`
-pub literal_found : (q : Search) (p bytes : List ℕ) (at s k e stop : ℕ) (line : Span) → HasItsTrees q → IsPlain q.text p
-    → OccursAt bytes p k → Nowhere (OccursAt bytes p) 0 k → s ≤ k → k ≤ e → AreWhole (terminator q) (take s bytes)
-    → IsClear (terminator q) bytes s e → Stops (terminator q) bytes e stop → 0 < length bytes → s < stop
-    → line.start ≡ at + s → line.end ≡ at + stop → IsNextLine q at bytes line
-literal_found q p bytes at s k e stop line t c o none low high front clear stops some longer start ends =
+first_found : (end : ℕ) (p bytes : List ℕ) (at s k e stop : ℕ) (line : Span) → IsLine end p → OccursAt bytes p k
+    → Nowhere (OccursAt bytes p) 0 k → s ≤ k → k ≤ e → AreWhole end (take s bytes) → IsClear end bytes s e
+    → Stops end bytes e stop → s < stop → line.start ≡ at + s → line.end ≡ at + stop
+    → IsFirstWith end p at bytes line
+first_found end p bytes at s k e stop line alone o none low high front clear stops longer starts ends =
     let within : e ≤ length bytes = elim stops [ inl h ↦ omega (arith, h.1) | inr h ↦ omega (arith, h.1) ] in
     let fits : k + length p ≤ e = elim (cases_lt e (k + length p)) [
       | inr fits ↦ fits
       | inl beyond ↦ elim stops [
         | inl h ↦
             let at_e : k + (e - k) ≡ e = omega arith in
-            absurd (c.line (
+            absurd (alone (
               e - k,
               omega arith,
-              get_or_default p (e - k) (terminator q) 0 (omega arith)
+              get_or_default p (e - k) end 0 (omega arith)
                   ∙ (sym (o.reads (e - k) (omega arith)) ∙ (ap (λ n. get_or bytes n 0) at_e ∙ h.2)),
             ))
         | inr h ↦ absurd (omega (arith, o.fits, h.1))
       ]
     ] in
-    let text = take (e - s) (drop s bytes) in
-    let chosen = occurs_selected q p t c text (k - s) (occurs_within bytes p s e k within low fits o) in
-    let is = line_at (terminator q) bytes s e stop (omega arith) within longer clear stops in
-    line_found q bytes at s e stop line is front
-    (lines_before q p bytes s k t c none low (omega (arith, o.fits))) chosen
-    start ends
+    record {
+      s = s;
+      e = e;
+      stop = stop;
+      is = line_at end bytes s e stop (omega arith) within longer clear stops;
+      front = front;
+      without = lines_before end p bytes s k none low (omega (arith, o.fits));
+      holds = (k - s, occurs_within bytes p s e k within low fits o);
+      starts = starts;
+      ends = ends;
+    }
 
--- the same, where the line's two ends were looked for from the pattern's place
-pub line_around : (q : Search) (p bytes : List ℕ) (at s k stop : ℕ) (line : Span) → HasItsTrees q → IsPlain q.text p
-    → OccursAt bytes p k → Nowhere (OccursAt bytes p) 0 k
-    → s ≤ k → IsClear (terminator q) bytes s k → AreWhole (terminator q) (take s bytes)
-    → (e : ℕ) × (k ≤ e) × IsClear (terminator q) bytes k e × Stops (terminator q) bytes e stop → 0 < length bytes
-    → line.start ≡ at + s → line.end ≡ at + stop → IsNextLine q at bytes line
-line_around q p bytes at s k stop line t c o none low before front h some start ends =
-    let clear : IsClear (terminator q) bytes s h.0 =
+-- the same, where the line's two ends were looked for from the literal's place
+pub line_around : (end : ℕ) (p bytes : List ℕ) (at s k stop : ℕ) (line : Span) → IsLine end p → OccursAt bytes p k
+    → Nowhere (OccursAt bytes p) 0 k → s ≤ k → IsClear end bytes s k → AreWhole end (take s bytes)
+    → (e : ℕ) × (k ≤ e) × IsClear end bytes k e × Stops end bytes e stop → 0 < length bytes
+    → line.start ≡ at + s → line.end ≡ at + stop → IsFirstWith end p at bytes line
+line_around end p bytes at s k stop line alone o none low before front h some starts ends =
+    let clear : IsClear end bytes s h.0 =
     λ i from to. elim (cases_lt i k) [ inl below ↦ before i from below | inr above ↦ h.2 i above to ] in
     let below = place_below bytes p k o none some in
-    literal_found q p bytes at s k h.0 stop line t c o none low h.1 front clear h.3 some
-    (line_some (terminator q) bytes s k h.0 stop low h.1 below h.3).0 start ends
+    first_found end p bytes at s k h.0 stop line alone o none low h.1 front clear h.3
+    (line_some end bytes s k h.0 stop low h.1 below h.3).0 starts ends
 
 -- the lines of what stands before a run, of the run, and of what stands behind it
 pub lines_apart : (q : Search) (at seen : ℕ) (bytes : List ℕ) (run : Run) (n : IsNextRun q at seen bytes run)

@@ -4,7 +4,8 @@ use Rattle.std.proofs.Common.{slice_range, sym, ap, subst, arith}
 use Rattle.std.specs.List.{AllByRecursion}
 use Rattle.std.proofs.lemmas.List.{drop_all}
 use Rattle.pg_lines.specs.Lines.{lines, AreWhole, AreShort, IsClear}
-use Rattle.pg_lines.proofs.RunLemmas.{IsLineAt, IsPassed, line_at}
+use Rattle.pg_lines.specs.Candidates.{IsLineAt}
+use Rattle.pg_lines.proofs.RunLemmas.{IsPassed, line_at}
 
 -- the next line starts behind the terminator, or there is none
 abbrev pub GoesOn : List ℕ → ℕ → ℕ → Type 0

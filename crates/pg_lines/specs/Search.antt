@@ -1,5 +1,5 @@
 -- What is searched for, as plain data (XCU grep, OPTIONS).
-use Rattle.std.specs.Prelude.{◌≡◌, ℕ, Bool, false, if◌then◌else◌, List, ◌∷◌, []}
+use Rattle.std.specs.Prelude.{ℕ, Bool, if◌then◌else◌, List}
 pub use Rattle.pg_syntax.specs.declared.pattern_list.Kind.{Kind}
 pub use Rattle.pg_syntax.specs.declared.pattern_list.Kind.TheVariants.{Basic, Extended, Fixed}
 pub use Rattle.pg_syntax.specs.PatternLists.{Patterns, Split, ByLine, patterns}
@@ -7,7 +7,6 @@ pub use Rattle.pg_syntax.specs.Patterns.{Pattern}
 use Rattle.pg_syntax.specs.ListResults.{AreSpelled}
 pub use Rattle.pg_match.specs.declared.bounds.Bounds.{Bounds}
 pub use Rattle.pg_match.specs.declared.bounds.Bounds.TheVariants.{Any, Word, Whole}
-use Rattle.pg_lines.specs.Lines.{IsLine}
 
 -- the kind of the patterns, the lists, and the options -i, -x, -w, -v, -o and -z
 pub record SearchText : Type 0 where
@@ -46,13 +45,3 @@ terminator_of text = if text.zero then 0 else 10
 
 abbrev pub terminator : Search → ℕ
 terminator q = terminator_of q.text
-
--- one fixed string, which lines may hold anywhere, and the lines that do are selected
-pub record IsPlain (text : SearchText) (literal : List ℕ) : Type 0 where
-  pub fixed : text.kind ≡ Fixed
-  pub alone : patterns text.lists ≡ literal ∷ []
-  pub line : IsLine (terminator_of text) literal
-  pub fold : text.fold ≡ false
-  pub whole : text.whole ≡ false
-  pub word : text.word ≡ false
-  pub invert : text.invert ≡ false

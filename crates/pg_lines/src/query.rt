@@ -1,13 +1,14 @@
 //! What is searched for.
-ghost use Rattle.std.specs.Prelude.{◌≡◌, false, [], ◌∷◌, map, All, IsTrue, IfOk, IfErr, IfSome};
-ghost use Rattle.pg_syntax.specs.Memory.{patterns_of};
+ghost use Rattle.std.specs.Prelude.{◌≡◌, map, All, IfOk, IfErr, IfSome};
 ghost use Rattle.pg_syntax.specs.Patterns.{IsProper};
 ghost use Rattle.pg_syntax.specs.Trees.{pattern};
-ghost use Rattle.pg_lines.specs.Search.{Fixed, Split, AreTreesOf, IsPlain, bounds_of, terminator_of};
+ghost use Rattle.pg_lines.specs.Search.{AreTreesOf, bounds_of, terminator_of};
+ghost use Rattle.pg_lines.specs.Literals.{IsLiteral};
 ghost use Rattle.pg_lines.specs.Queries.{IsCompiled, IsQueryFault};
 ghost use Rattle.pg_lines.specs.declared.query.QueryFault.TheVariants.{OutOfMemory};
 
 use crate::lines::NEWLINE;
+use pg_literal::Literal;
 use pg_match::{Bounds, BuildFault, Machine};
 use pg_syntax::{FaultKind, Kind, ListFault, PatternList, Tree, parse_list};
 use std::alloc::{AllocError, Allocator, Global};
@@ -68,17 +69,6 @@ impl<A: Allocator> QueryText<A> {
         }
     }
 
-    /// Whether lines are selected that hold fixed strings anywhere.
-    fn finds_fixed_strings(&self) -> bool
-        ensures { IsTrue result → (self.now.kind ≡ Fixed) × (self.now.fold ≡ false) × (self.now.whole ≡ false)
-            × (self.now.word ≡ false) × (self.now.invert ≡ false) }
-    {
-        match self.kind {
-            Kind::Fixed => !self.fold && !self.whole && !self.word && !self.invert,
-            Kind::Basic | Kind::Extended => false,
-        }
-    }
-
     /// The byte that ends a line.
     fn terminator(&self) -> u8
         ensures { result ≡ terminator_of self.now }
@@ -110,18 +100,18 @@ impl From<AllocError> for QueryFault {
 }
 
 /// A query that can be searched for. It has what searches would else prepare anew: the automaton of its
-/// patterns, and their literal where they are one plain fixed string. Contracts see its text and the
-/// automaton.
+/// patterns, and a literal that the selected lines hold, where one was found. Contracts see its text and
+/// the automaton.
 #[derive(Drop)]
 pub struct Query<A: Allocator = Global> {
     text: QueryText<A>,
     machine: Machine<A>,
-    literal: Option<Vec<u8, A>>,
+    literal: Option<Literal<A>>,
 }
 
 impl<A: Allocator> Model for Query<A> {
     ghost use Rattle.std.specs.Prelude.{IfSome};
-    ghost use Rattle.pg_lines.specs.Search.{IsPlain};
+    ghost use Rattle.pg_lines.specs.Literals.{IsLiteral};
     ghost use Rattle.pg_lines.specs.Queries.{Compiled, IsCompiled};
 
     ghost Value = { Compiled };
@@ -129,7 +119,7 @@ impl<A: Allocator> Model for Query<A> {
     ghost view = { λ q. record { text = q.text; machine = q.machine } };
 
     ghost invariant = { λ q. IsCompiled (record { text = q.text; machine = q.machine })
-        × IfSome q.literal (λ literal. IsPlain q.text literal.items) };
+        × IfSome q.literal (λ literal. IsLiteral q.text literal.text.items literal.is_enough) };
 }
 
 impl<A: Allocator> Query<A> {
@@ -147,8 +137,9 @@ impl<A: Allocator> Query<A> {
         ensures compiled { IfOk result IsCompiled }
         ensures fault { IfErr result (IsQueryFault text) }
     {
-        let machine = machine_of(alloc, &text)?;
-        let literal = literal_of(alloc, &text)?;
+        let trees = trees_of(alloc, &text)?;
+        let machine = machine_of(alloc, &text, trees.as_slice())?;
+        let literal = literal_of(alloc, &text, trees.as_slice())?;
         Ok(Query {
             text,
             machine,
@@ -179,26 +170,32 @@ impl<A: Allocator> Query<A> {
         self.text.terminator()
     }
 
-    /// The text that selects the lines which hold it, where there is nothing else to look for: it is
-    /// searched for without the machine.
-    pub fn literal(&self) -> Option<&[u8]>
-        ensures plain { IfSome result (λ literal. IsPlain self.now.text literal.now) }
+    /// A text that each selected line holds, where one was found, so that only lines with it are looked
+    /// at. Where it is enough, each line that holds it is selected, and the machine isn't asked.
+    pub fn literal(&self) -> Option<&Literal<A>>
+        ensures literal { IfSome result
+            (λ literal. IsLiteral self.now.text literal.now.text.items literal.now.is_enough) }
         ensures compiled { IsCompiled self.now }
     {
         match &self.literal {
-            Some(literal) => Some(literal.as_slice()),
+            Some(literal) => Some(literal),
             None => None,
         }
     }
 }
 
-/// The automaton of a text's patterns.
-fn machine_of<A: Allocator + Copy>(alloc: A, text: &QueryText<A>) -> Result<Machine<A>, QueryFault>
+/// The automaton of a text's patterns, whose trees these are.
+fn machine_of<A: Allocator + Copy>(
+    alloc: A,
+    text: &QueryText<A>,
+    trees: &[Tree<A>],
+) -> Result<Machine<A>, QueryFault>
+    requires trees { AreTreesOf text.now (map pattern trees.now) }
+    requires proper { All IsProper (map pattern trees.now) }
     ensures machine { IfOk result (λ machine. IsCompiled (record { text = text.now; machine = machine })) }
     ensures fault { IfErr result (IsQueryFault text.now) }
 {
-    let trees = trees_of(alloc, text)?;
-    match Machine::build(alloc, trees.as_slice(), text.bounds()) {
+    match Machine::build(alloc, trees, text.bounds()) {
         Ok(machine) => Ok(machine),
         Err(BuildFault::TooManyStates) => Err(QueryFault::TooLarge),
         Err(BuildFault::OutOfMemory) => Err(QueryFault::OutOfMemory),
@@ -223,34 +220,27 @@ fn trees_of<A: Allocator + Copy>(
     }
 }
 
-/// The text of a plain fixed string that stands in one line, and `None` for other patterns and options.
+/// A text that each selected line holds, where one is found. With -v lines are selected for what they lack.
 fn literal_of<A: Allocator + Copy>(
     alloc: A,
     text: &QueryText<A>,
-) -> Result<Option<Vec<u8, A>>, AllocError>
-    ensures { IfOk result (λ found. IfSome found (λ literal. IsPlain text.now literal.items)) }
+    trees: &[Tree<A>],
+) -> Result<Option<Literal<A>>, AllocError>
+    requires trees { AreTreesOf text.now (map pattern trees.now) }
+    ensures { IfOk result (λ found. IfSome found
+        (λ literal. IsLiteral text.now literal.text.items literal.is_enough)) }
 {
-    if !text.finds_fixed_strings() {
+    if text.invert {
         return Ok(None);
     }
-    match only_text(text.lists.as_slice()) {
-        Some(only) => {
-            if only.contains(&NEWLINE) || only.contains(&text.terminator()) {
+    let found = Literal::of(alloc, trees, text.bounds())?;
+    match found {
+        Some(literal) => {
+            if literal.text.contains(&text.terminator()) {
                 return Ok(None);
             }
-            let literal = Vec::from_slice(alloc, only)?;
             Ok(Some(literal))
         }
         None => Ok(None),
-    }
-}
-
-/// The text of the one pattern list, if there is one, and it is a text.
-fn only_text<A: Allocator>(lists: &[PatternList<A>]) -> Option<&[u8]>
-    ensures { IfSome result (λ text. map patterns_of lists.now ≡ Split text.now ∷ []) }
-{
-    match lists {
-        [PatternList::Text(text)] => Some(text.as_slice()),
-        _ => None,
     }
 }

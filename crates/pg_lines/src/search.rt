@@ -3,17 +3,19 @@ ghost use Rattle.std.specs.Prelude.{◌≡◌, ◌+◌, ◌<◌, ◌≤◌, ◌^
 ghost use Rattle.std.specs.Prelude.{length, drop, slice_range, false, nat_lt, if◌then◌else◌};
 ghost use Rattle.std.specs.Arc.{arc_value};
 ghost use Rattle.pg_match.specs.Machines.{Fits};
-ghost use Rattle.pg_lines.specs.Lines.{lines, AreShort};
-ghost use Rattle.pg_lines.specs.Search.{Search, Pattern, HasItsTrees, AreTreesOf, search_of, IsPlain};
+ghost use Rattle.pg_lines.specs.Lines.{lines, IsLine, AreShort};
+ghost use Rattle.pg_lines.specs.Search.{Search, Pattern, AreTreesOf, search_of};
 ghost use Rattle.pg_lines.specs.Search.{terminator, terminator_of};
 ghost use Rattle.pg_lines.specs.Queries.{IsCompiled};
 ghost use Rattle.pg_lines.specs.Selection.{selects};
+ghost use Rattle.pg_lines.specs.Literals.{IsNeeded, IsLiteral};
+ghost use Rattle.pg_lines.specs.Candidates.{AreWithout, IsFirstWith};
 ghost use Rattle.pg_lines.specs.Runs.{AllLines, HasRuns};
 ghost use Rattle.pg_lines.specs.BlockParts.{HasParts};
 ghost use Rattle.pg_lines.specs.Gathered.{IsNextLine, IsGathered};
 
 use crate::block::Block;
-use crate::lines::{begin_of_line, count_lines, end_of_line, line_end};
+use crate::lines::{begin_of_line, count_lines, end_of_line, line_end, text_of};
 use crate::parts::push_line_parts;
 use crate::query::Query;
 use crate::result::BlockResult;
@@ -24,15 +26,29 @@ use pg_match::Scratch;
 use std::alloc::{AllocError, Allocator};
 use std::sync::Arc;
 
+/// The needle of a literal, prepared for the search of a block.
+#[derive(Drop)]
+struct Needle<'n> {
+    finder: Finder<'n>,
+    /// Each line that holds the needle is selected.
+    is_enough: bool,
+}
+
+/// How many lines with the needle that aren't selected may stand near the one before, until lines are searched one by
+/// one.
+const PATIENCE: usize = 8;
+
+/// Lines that begin so many bytes apart are searched as fast one by one.
+const NEAR: usize = 512;
+
 /// The first line at or behind a place that holds the needle, with its terminator.
 fn next_holding(needle: &Finder<'_>, end: u8, bytes: &[u8], at: usize) -> Option<Span>
-    requires { at ≤ length bytes.now }
+    requires at { at ≤ length bytes.now }
+    requires line { IsLine end needle.now }
     ensures within { IfSome result (λ line. (at ≤ line.start) × (line.start < line.end)
         × (line.end ≤ length bytes.now)) }
-    ensures some { (q : Search) → HasItsTrees q → IsPlain q.text needle.now → end ≡ terminator q →
-        IfSome result (IsNextLine q at (drop at bytes.now)) }
-    ensures none { (q : Search) → HasItsTrees q → IsPlain q.text needle.now → end ≡ terminator q →
-        IfNone result (AllLines q false (drop at bytes.now)) }
+    ensures some { IfSome result (IsFirstWith end needle.now at (drop at bytes.now)) }
+    ensures none { IfNone result (AreWithout end needle.now (drop at bytes.now)) }
 {
     let rest = &bytes[at..];
     if rest.is_empty() {
@@ -94,17 +110,56 @@ fn next_selected<A: Allocator>(
     None
 }
 
-/// The first selected line at or behind a place where a line starts, with its terminator: by the needle
-/// where there is one, else line by line.
-fn next_line<A: Allocator>(
+/// The first selected line at or behind a place where a line starts, with its terminator, where selected lines hold the
+/// needle: only those that do are looked at, unless too many of them aren't selected.
+fn next_confirmed<A: Allocator>(
     query: &Query<A>,
-    needle: Option<&Finder<'_>>,
+    needle: &Finder<'_>,
     scratch: &mut Scratch<A>,
     bytes: &[u8],
     at: usize,
 ) -> Option<Span>
     requires at { at ≤ length bytes.now }
-    requires needle { IfSome needle (λ needle. IsPlain query.now.text needle.now) }
+    requires needle { IsNeeded query.now.text needle.now }
+    requires fits { Fits scratch.old query.now.machine }
+    requires short { AreShort (terminator_of query.now.text) (drop at bytes.now) }
+    ensures fits { Fits scratch.new query.now.machine }
+    ensures within { IfSome result (λ line. (at ≤ line.start) × (line.start < line.end)
+        × (line.end ≤ length bytes.now)) }
+    ensures some { (trees : List Pattern) → AreTreesOf query.now.text trees →
+        IfSome result (IsNextLine (search_of query.now.text trees) at (drop at bytes.now)) }
+    ensures none { (trees : List Pattern) → AreTreesOf query.now.text trees →
+        IfNone result (AllLines (search_of query.now.text trees) false (drop at bytes.now)) }
+{
+    let end = query.terminator();
+    let mut from = at;
+    let mut near = 0;
+    while near < PATIENCE {
+        let Some(line) = next_holding(needle, end, bytes, from) else {
+            return None;
+        };
+        if selects(query, scratch, text_of(end, &bytes[line.start..line.end])) {
+            return Some(line);
+        }
+        if line.start - from < NEAR {
+            near += 1;
+        }
+        from = line.end;
+    }
+    next_selected(query, scratch, bytes, from)
+}
+
+/// The first selected line at or behind a place where a line starts, with its terminator: by the needle
+/// where there is one, else line by line.
+fn next_line<A: Allocator>(
+    query: &Query<A>,
+    needle: Option<&Needle<'_>>,
+    scratch: &mut Scratch<A>,
+    bytes: &[u8],
+    at: usize,
+) -> Option<Span>
+    requires at { at ≤ length bytes.now }
+    requires needle { IfSome needle (λ needle. IsLiteral query.now.text needle.now.finder needle.now.is_enough) }
     requires fits { Fits scratch.old query.now.machine }
     requires short { AreShort (terminator_of query.now.text) (drop at bytes.now) }
     ensures fits { Fits scratch.new query.now.machine }
@@ -116,7 +171,13 @@ fn next_line<A: Allocator>(
         IfNone result (AllLines (search_of query.now.text trees) false (drop at bytes.now)) }
 {
     match needle {
-        Some(needle) => next_holding(needle, query.terminator(), bytes, at),
+        Some(needle) => {
+            if needle.is_enough {
+                next_holding(&needle.finder, query.terminator(), bytes, at)
+            } else {
+                next_confirmed(query, &needle.finder, scratch, bytes, at)
+            }
+        }
         None => next_selected(query, scratch, bytes, at),
     }
 }
@@ -186,12 +247,12 @@ fn with_line<A: Allocator>(
 fn selected_runs<A: Allocator + Copy>(
     alloc: A,
     query: &Query<A>,
-    needle: Option<&Finder<'_>>,
+    needle: Option<&Needle<'_>>,
     scratch: &mut Scratch<A>,
     bytes: &[u8],
 ) -> Result<Found<A>, AllocError>
     requires compiled { IsCompiled query.now }
-    requires needle { IfSome needle (λ needle. IsPlain query.now.text needle.now) }
+    requires needle { IfSome needle (λ needle. IsLiteral query.now.text needle.now.finder needle.now.is_enough) }
     requires fits { Fits scratch.old query.now.machine }
     requires short { AreShort (terminator_of query.now.text) bytes.now }
     ensures fits { Fits scratch.new query.now.machine }
@@ -233,7 +294,10 @@ fn search_bytes<A: Allocator + Copy>(
 {
     match query.literal() {
         Some(literal) => {
-            let needle = Finder::new(literal);
+            let needle = Needle {
+                finder: Finder::new(&literal.text),
+                is_enough: literal.is_enough,
+            };
             selected_runs(alloc, query, Some(&needle), scratch, bytes)
         }
         None => selected_runs(alloc, query, None, scratch, bytes),

@@ -22,6 +22,9 @@ use std::time::Clock;
 /// A round of fewer bytes isn't worth the starting of threads.
 const LEAST_SPREAD: usize = 1_048_576;
 
+/// Shorter texts stand in many lines.
+const RARE: usize = 2;
+
 /// Searches the blocks of files, and has a sequencer put their rows in order.
 ///
 /// A block is searched at once, or waits until its round is searched by several threads.
@@ -56,11 +59,20 @@ fn is_endless(format: Format) -> bool
     format.limit.is_none() && (format.mode == Mode::Rows || format.mode == Mode::Count)
 }
 
+/// Whether the machine is likely to be asked about most lines. Of other queries one thread finds the lines as fast as they
+/// are read.
+fn is_slow<A: Allocator>(query: &Query<A>) -> bool {
+    match query.literal() {
+        None => true,
+        Some(literal) => !literal.is_enough && literal.text.len() < RARE,
+    }
+}
+
 /// Whether blocks are to wait for a round: where several threads may search, and that pays.
 fn is_spread<A: Allocator>(query: &Query<A>, setup: &Setup) -> bool
     ensures { result ≡ true → is_endless setup.now.format ≡ true }
 {
-    let pays = setup.always_spread || query.literal().is_none();
+    let pays = setup.always_spread || is_slow(query);
     pays && setup.workers > 0 && setup.round > 1 && is_endless(setup.format)
 }
 

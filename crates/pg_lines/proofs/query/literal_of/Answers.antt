@@ -1,20 +1,33 @@
 use Rattle.std.specs.List.{list_any}
-use Rattle.std.proofs.Common.{◌≡◌, ◌==◌, ◌∷◌, [], ℕ, List, map, sym, ap, ◌∙◌, subst}
-use Rattle.pg_syntax.specs.Memory.{patterns_of}
-use Rattle.pg_lines.specs.Search.{SearchText, Split, IsPlain, terminator_of}
-use Rattle.pg_lines.proofs.PatternLemmas.{plain_of, not_found}
+use Rattle.std.proofs.Common.{◌≡◌, ◌==◌, IsTrue, Option, Some, List, ℕ, map, sym, ap, ◌∙◌, subst, false}
+use Rattle.std.specs.Option.{IfSome}
+use Rattle.pg_syntax.specs.Trees.{pattern}
+use Rattle.pg_literal.specs.Literals as P
+use Rattle.pg_lines.specs.Lines.{IsLine}
+use Rattle.pg_lines.specs.Search.{SearchText, Bounds, terminator_of}
+use Rattle.pg_lines.proofs.PatternLemmas.{not_found}
+use Rattle.pg_lines.proofs.LiteralLemmas.{literal_is}
 use Rattle.pg_lines.proofs.query.literal_of.Goals as goal
 
-pub returns-in_ok-literal-in-Some : goal.returns-in_ok-literal-in-Some
-returns-in_ok-literal-in-Some g c =
+of_some : {X : Type 0} (P : X → Type 0) (o : Option X) (x : X) → o ≡ Some x → IfSome o P → P x
+of_some P o x e h = subst (λ y. IfSome y P) e h
+
+pub returns-else-contains : goal.returns-else-contains
+returns-else-contains g c =
     let text = c.args.text.now in
-    let only = c.in-Some.only.now in
-    let P : List ℕ → Type 0 = λ xs. IsPlain text xs in
-    let is = c.finds_fixed_strings.ensures c.if-not-finds_fixed_strings.false in
-    let alone : text.lists ≡ Split only ∷ [] =
-    sym (ap (λ (t : SearchText). t.lists) c.text.view_is)
-    ∙ (ap (map patterns_of) (sym c.as_slice.ensures.value) ∙ c.in-Some.ensures) in
-    subst P (sym c.in_ok-literal-in-Some.ensures.items)
-    (plain_of text only is.0 alone (not_found only 10 (sym c.contains.ensures.value ∙ c.if-contains.false))
-    (not_found only (terminator_of text) (ap (λ b. list_any (λ y. y == b) only) (sym c.terminator.ensures)
-    ∙ (sym c.contains-else-contains.ensures.value ∙ c.if-contains-2.false))) is.1 is.2 is.3 is.4)
+    let trees = map (pattern {A = g.row.A.Denot}) c.args.trees.now in
+    let literal = c.in-Some.literal in
+    let plain : text.invert ≡ false = ap (λ (t : SearchText). t.invert) (sym c.text.view_is) ∙ c.if-text.false in
+    let Says : Bounds → Type 0 = λ b. P.IsNeeded trees b literal.text.items
+    × (IsTrue literal.is_enough → P.IsEnough trees b literal.text.items) in
+    let found = c.in_ok-found.found in
+    let says = subst Says c.bounds.ensures (
+      of_some _ found literal c.in-Some.is c.in_ok-found.ensures.needed,
+      of_some _ found literal c.in-Some.is c.in_ok-found.ensures.enough,
+    ) in
+    let bytes = c.deref.result.now in
+    let Alone : List ℕ → Type 0 = λ xs. IsLine (terminator_of text) xs in
+    let alone = subst Alone c.deref.ensures.value (not_found bytes (terminator_of text)
+    (ap (λ b. list_any (λ y. y == b) bytes) (sym c.terminator.ensures)
+    ∙ (sym c.contains.ensures.value ∙ c.if-contains.false))) in
+    literal_is text trees c.requires.trees plain literal.text.items literal.is_enough alone says.0 says.1

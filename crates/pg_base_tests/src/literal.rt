@@ -1,0 +1,73 @@
+//! Literals of expressions.
+use crate::machine::{bounds_of, extended};
+use crate::rows::{assert_rows, bytes_of, show_bytes};
+use pg_literal::Literal;
+use std::alloc::{AllocError, Global};
+use std::test::Fail;
+
+/// Bounds, an extended expression, and its literal, with `only:` before it where each line that holds it has a hit.
+const LITERALS: &str = r"any foo => only:foo
+whole,word foo => foo
+any  => only:
+whole,word  => none
+any ^foo => foo
+any foo$ => foo
+any ^ => none
+any,word,whole [fo]o*r => r
+any [f][o][o] => only:foo
+any [a-c]bar[0-9]+foobarz? => foobar
+any fo*bar => bar
+any foo*b => fo
+any foo+b => foo
+any (foo)+ => foo
+any (foo)+bar => foo
+any (foo)+barbar => barbar
+any x(foo){2,5} => xfoo
+any (foo){0,2} => none
+any (foo)?bar => bar
+any a{1}b{1,1}c => only:abc
+any foo|bar => none
+any (foo|bar)baz => baz
+any (foo|bar)-baz(x|y) => -baz
+any ab.*cd => ab
+any ab.*cde => cde
+any a.b => a
+any . => none
+any %00%FF => only:%00%FF
+any (a(b(c)d)e) => only:abcde
+any (ab)(cd*) => abc
+any ((a|b)cd)+ => cd
+any (x*ab)cd => abcd
+any a++++b => a
+any a{0}b => b
+any ab.cd.ef => ab
+any a.cd.ef => cd
+any .*needle.* => needle
+any err(or|no)?: [0-9]+ => err
+any a$b => ab";
+
+/// The literal of an expression.
+fn literal_of(alloc: Global, bounds: &str, text: &str) -> Result<String, Fail> {
+    let trees = [extended(alloc, &bytes_of(alloc, text)?)?];
+    let found = Literal::of(alloc, &trees, bounds_of(bounds))?;
+    Ok(shown(alloc, found)?)
+}
+
+fn shown(alloc: Global, found: Option<Literal>) -> Result<String, AllocError> {
+    let mut shown = String::new(alloc);
+    match found {
+        Some(literal) => {
+            if literal.is_enough {
+                shown.push_str("only:")?;
+            }
+            show_bytes(&literal.text, &mut shown)?;
+        }
+        None => shown.push_str("none")?,
+    }
+    Ok(shown)
+}
+
+#[test]
+fn literals(rt: HostRuntime) -> Result<(), Fail> {
+    assert_rows(&rt, rt.alloc(), LITERALS, literal_of)
+}

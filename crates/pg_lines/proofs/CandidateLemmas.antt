@@ -1,0 +1,254 @@
+-- Lines that hold a literal, and which of them are selected.
+use Rattle.std.proofs.Common.{◌≡◌, ◌≢◌, ℕ, zero, suc, ◌+◌, ◌-◌, ◌≤◌, ◌^◌, ◌⊎◌, inl, inr, true, false, List, [], ◌∷◌}
+use Rattle.std.proofs.Common.{◌++◌, length, take, drop, slice_range, refl, sym, ap, ◌∙◌, subst, arith, append_assoc, length-append}
+use Rattle.std.specs.List.{AllByRecursion}
+use Rattle.std.proofs.lemmas.List.{take-append-drop, drop-drop, drop_at, take_at, append-nil, length-take-le}
+use Rattle.pg_literal.specs.Literals.{Holds}
+use Rattle.pg_lines.specs.Lines.{lines, AreWhole, AreShort}
+use Rattle.pg_lines.specs.Search.{SearchText, Search, Pattern, AreTreesOf, search_of, terminator_of, terminator}
+use Rattle.pg_lines.specs.Selection.{selects}
+use Rattle.pg_lines.specs.Runs.{AllLines, IsNextRun}
+use Rattle.pg_lines.specs.Gathered.{IsNextLine}
+use Rattle.pg_lines.specs.Literals.{IsNeeded, IsLiteral}
+use Rattle.pg_lines.specs.Candidates.{AreWithout, IsFirstWith}
+use Rattle.pg_lines.specs.declared.span.Span.{Span}
+use Rattle.pg_lines.proofs.HitLemmas.{without_unselected, held_selected}
+use Rattle.pg_lines.proofs.LineLemmas.{lines-append, whole_append}
+use Rattle.pg_lines.proofs.RunLemmas.{line_found, line_unselected, line_passed, all_lines-append, all_back}
+
+all_more : (P Q : List ℕ → Type 0) (ls : List (List ℕ)) → ((l : List ℕ) → P l → Q l) → AllByRecursion P ls
+    → AllByRecursion Q ls
+all_more P Q [] more h = tt
+all_more P Q (l ∷ ls) more h = (more l h.0, all_more P Q ls more h.1)
+
+nothing_behind : (xs : List ℕ) (n : ℕ) → length xs ≤ n → drop n xs ≡ []
+nothing_behind [] zero h = refl
+nothing_behind [] (suc n) h = refl
+nothing_behind (x ∷ xs) zero h = absurd (omega arith)
+nothing_behind (x ∷ xs) (suc n) h = nothing_behind xs n (omega arith)
+
+-- the text of the line that was found
+abbrev pub text_found : (end : ℕ) (literal : List ℕ) (at : ℕ) (bytes : List ℕ) (line : Span)
+    → IsFirstWith end literal at bytes line → List ℕ
+text_found end literal at bytes line first = take (first.e - first.s) (drop first.s bytes)
+
+-- whole lines behind a place, up to another one, of which none is selected
+pub record IsSkipped (q : Search) (at from : ℕ) (bytes : List ℕ) : Type 0 where
+  pub skipped : List ℕ
+  pub joins : drop at bytes ≡ skipped ++ drop from bytes
+  pub len : at + length skipped ≡ from
+  pub whole : AreWhole (terminator q) skipped ⊎ (drop from bytes ≡ [])
+  pub unselected : AllLines q false skipped
+
+pub skipped_none : (q : Search) (at : ℕ) (bytes : List ℕ) → IsSkipped q at at bytes
+skipped_none q at bytes = record {
+  skipped = [];
+  joins = refl;
+  len = omega arith;
+  whole = inl (inl refl);
+  unselected = tt;
+}
+
+module _ (q : Search) (at from : ℕ) (bytes : List ℕ) (is : IsSkipped q at from bytes) where
+  -- what stands before lines that are left is whole
+  skipped_whole : drop from bytes ≢ [] → AreWhole (terminator q) is.skipped
+  skipped_whole some = elim is.whole [ inl w ↦ w | inr none ↦ absurd (some none) ]
+
+  -- no line is left
+  pub skipped_all : AllLines q false (drop from bytes) → AllLines q false (drop at bytes)
+  skipped_all none =
+      let P : List ℕ → Type 0 = λ xs. AllLines q false xs in
+      subst P (sym is.joins) (elim is.whole [
+        | inl w ↦ all_lines-append q false is.skipped (drop from bytes) w is.unselected none
+        | inr e ↦ subst P (sym (ap (λ xs. is.skipped ++ xs) e ∙ append-nil is.skipped)) is.unselected
+      ])
+
+  -- the first selected line behind is the first one
+  pub skipped_some : (line : Span) → IsNextLine q from (drop from bytes) line → IsNextLine q at (drop at bytes) line
+  skipped_some line found =
+      let n = found.1 in
+      let E = terminator q in
+      let some : drop from bytes ≢ [] = λ e. n.text_some (empty_text n.gap n.text n.later (sym n.joins ∙ e)) in
+      let whole = skipped_whole some in
+      let front = is.skipped ++ n.gap in
+      let len = length-append is.skipped n.gap in
+      let next : IsNextRun q at 0 (drop at bytes)
+      (record { span = line; first = length (lines E front); count = 1 }) = record {
+        gap = front;
+        text = n.text;
+        later = n.later;
+        joins = is.joins
+            ∙ (ap (λ xs. is.skipped ++ xs) (n.joins ∙ append_assoc n.gap n.text n.later)
+            ∙ (sym (append_assoc is.skipped n.gap (n.text ++ n.later))
+            ∙ sym (append_assoc front n.text n.later)));
+        gap_whole = whole_append E is.skipped n.gap whole n.gap_whole;
+        gap_unselected = all_lines-append q false is.skipped n.gap whole is.unselected n.gap_unselected;
+        text_some = n.text_some;
+        text_whole = n.text_whole;
+        text_selected = n.text_selected;
+        start = omega (arith, n.start, is.len, len);
+        stop = omega (arith, n.stop, is.len, len);
+        first = omega arith;
+        count = n.count;
+      } in
+      (length (lines E front), next)
+    where
+      empty_text : (xs ys zs : List ℕ) → (xs ++ ys) ++ zs ≡ [] → ys ≡ []
+      empty_text [] [] zs e = refl
+      empty_text [] (y ∷ ys) zs e = absurd (omega (arith, ap length e))
+      empty_text (x ∷ xs) ys zs e = absurd (omega (arith, ap length e))
+
+module _ (text : SearchText) (trees : List Pattern) (spelled : AreTreesOf text trees) (literal : List ℕ)
+    (needed : IsNeeded text literal) where
+  -- lines without the literal aren't selected
+  pub unselected_without : (bytes : List ℕ) → AreWithout (terminator_of text) literal bytes
+      → AllLines (search_of text trees) false bytes
+  unselected_without bytes none =
+      all_more (λ l. Holds l literal → ⊥) (λ l. selects (search_of text trees) l ≡ false)
+      (lines (terminator_of text) bytes) (λ l h. without_unselected text trees spelled literal l needed h) none
+
+  module _ (at : ℕ) (bytes : List ℕ) (line : Span) (first : IsFirstWith (terminator_of text) literal at bytes line) where
+    -- the first line that holds it is the first selected one, where it is selected
+    pub first_selected : selects (search_of text trees) (text_found (terminator_of text) literal at bytes line first) ≡ true
+        → IsNextLine (search_of text trees) at bytes line
+    first_selected chosen =
+        line_found (search_of text trees) bytes at first.s first.e first.stop line first.is first.front
+        (unselected_without (take first.s bytes) first.without) chosen first.starts first.ends
+
+    -- else no line up to its end is
+    first_unselected : selects (search_of text trees) (text_found (terminator_of text) literal at bytes line first) ≡ false
+        → AllLines (search_of text trees) false (take first.stop bytes)
+    first_unselected not_chosen =
+        line_unselected (search_of text trees) bytes first.s first.e first.stop first.is first.front
+        (unselected_without (take first.s bytes) first.without) not_chosen
+
+  -- one more line with the literal isn't selected
+  pub skipped_more : (at from : ℕ) (bytes : List ℕ) (line : Span) → IsSkipped (search_of text trees) at from bytes
+      → (first : IsFirstWith (terminator_of text) literal from (drop from bytes) line)
+      → selects (search_of text trees) (text_found (terminator_of text) literal from (drop from bytes) line first) ≡ false
+      → IsSkipped (search_of text trees) at line.end bytes
+  skipped_more at from bytes line is first not_chosen =
+      let q = search_of text trees in
+      let E = terminator_of text in
+      let rest = drop from bytes in
+      let more = take first.stop rest in
+      let some : rest ≢ [] = λ e. first.is.some (none_left first e) in
+      let whole = skipped_whole q at from bytes is some in
+      let none = first_unselected from rest line first not_chosen in
+      let back : drop first.stop rest ≡ drop line.end bytes =
+      drop-drop first.stop from bytes ∙ ap (λ n. drop n bytes) (sym first.ends) in
+      let high : first.stop ≤ length rest = stop_within first in
+      let long = length-take-le first.stop rest high in
+      let len = length-append is.skipped more in
+      record {
+        skipped = is.skipped ++ more;
+        joins = is.joins
+            ∙ (ap (λ xs. is.skipped ++ xs) (sym (take-append-drop first.stop rest))
+            ∙ (sym (append_assoc is.skipped more (drop first.stop rest)) ∙ ap (λ xs. (is.skipped ++ more) ++ xs) back));
+        len = omega (arith, is.len, len, long, first.ends);
+        whole = elim (line_passed E rest first.s first.e first.stop first.is first.front) [
+          | inl w ↦ inl (whole_append E is.skipped more whole w)
+          | inr all ↦ inr (sym back ∙ nothing_behind rest first.stop (omega (arith, all)))
+        ];
+        unselected = all_lines-append q false is.skipped more whole is.unselected none;
+      }
+    where
+      stop_within : {from' : ℕ} {xs : List ℕ} {line' : Span} (f : IsFirstWith (terminator_of text) literal from' xs line')
+          → f.stop ≤ length xs
+      stop_within {from'} {xs} {line'} f =
+          let all = ap length f.is.joins in
+          omega (
+            arith,
+            all,
+            length-append (take f.s xs ++ f.is.text) f.is.later,
+            length-append (take f.s xs) f.is.text,
+            f.is.front,
+            f.is.len,
+          )
+
+      none_left : {from' : ℕ} {xs : List ℕ} {line' : Span} (f : IsFirstWith (terminator_of text) literal from' xs line')
+          → xs ≡ [] → f.is.text ≡ []
+      none_left {from'} {xs} {line'} f e =
+          let all = ap length f.is.joins in
+          no_bytes f.is.text (omega (
+            arith,
+            all,
+            ap length e,
+            length-append (take f.s xs ++ f.is.text) f.is.later,
+            length-append (take f.s xs) f.is.text,
+          ))
+        where
+          no_bytes : (ys : List ℕ) → length ys ≤ 0 → ys ≡ []
+          no_bytes [] h = refl
+          no_bytes (y ∷ ys) h = absurd (omega arith)
+
+-- a literal that is enough decides
+pub first_enough : (text : SearchText) (trees : List Pattern) → AreTreesOf text trees → (literal : List ℕ)
+    → IsLiteral text literal true → (at : ℕ) (bytes : List ℕ) (line : Span)
+    → IsFirstWith (terminator_of text) literal at bytes line → IsNextLine (search_of text trees) at bytes line
+first_enough text trees spelled literal is at bytes line first =
+    first_selected text trees spelled literal is.needed at bytes line first
+    (held_selected text trees spelled literal (text_found (terminator_of text) literal at bytes line first) is first.holds)
+
+module _ (E : ℕ) (literal : List ℕ) (at : ℕ) (bytes : List ℕ) (line : Span)
+    (first : IsFirstWith E literal at (drop at bytes) line) where
+  abbrev rest : List ℕ
+  rest = drop at bytes
+
+  apart : lines E rest ≡ lines E (take first.s rest)
+      ++ (take (first.e - first.s) (drop first.s rest) ∷ lines E first.is.later)
+  apart =
+      let is = first.is in
+      let behind : lines E (is.text ++ is.later) ≡ lines E is.text ++ lines E is.later = elim is.whole [
+        | inl w ↦ lines-append E is.text is.later w.0
+        | inr h ↦ ap (λ xs. lines E (is.text ++ xs)) h.0
+            ∙ (ap (lines E) (append-nil is.text)
+            ∙ sym (ap (λ xs. lines E is.text ++ lines E xs) h.0 ∙ append-nil (lines E is.text)))
+      ] in
+      ap (lines E) (is.joins ∙ append_assoc (take first.s rest) is.text is.later)
+      ∙ (lines-append E (take first.s rest) (is.text ++ is.later) first.front
+      ∙ ap (λ ls. lines E (take first.s rest) ++ ls) (behind ∙ ap (λ ls. ls ++ lines E is.later) is.one))
+
+  -- the line isn't too long where no line is, nor are those behind it
+  pub first_short : AreShort E rest
+      → (length (text_found E literal at rest line first) ≤ 2 ^ 30) × AreShort E (drop line.end bytes)
+  first_short short =
+      let is = first.is in
+      let Short : List ℕ → Type 0 = λ l. length l ≤ 2 ^ 30 in
+      let P : List (List ℕ) → Type 0 = λ ls. AllByRecursion Short ls in
+      let Q : List ℕ → Type 0 = λ xs. AreShort E xs in
+      let all = all_back Short (lines E (take first.s rest)) _ (subst P apart short) in
+      let back : drop first.stop rest ≡ drop line.end bytes =
+      drop-drop first.stop at bytes ∙ ap (λ n. drop n bytes) (sym first.ends) in (
+        all.0,
+        subst Q back (elim is.whole [
+          | inl w ↦ subst Q w.1 all.1
+          | inr h ↦ subst Q (sym (nothing_behind rest first.stop (omega (arith, h.1)))) tt
+        ]),
+      )
+
+  -- the line among the bytes
+  pub first_line : lines E (slice_range bytes line.start line.end) ≡ text_found E literal at rest line first ∷ []
+  first_line =
+      let is = first.is in
+      let len : line.end - line.start ≡ length is.text = omega (arith, first.starts, first.ends, is.len) in
+      let from : drop line.start bytes ≡ is.text ++ is.later =
+      ap (λ n. drop n bytes) first.starts
+      ∙ (sym (drop-drop first.s at bytes)
+      ∙ (ap (drop first.s) (is.joins ∙ append_assoc (take first.s rest) is.text is.later)
+      ∙ drop_at (take first.s rest) (is.text ++ is.later) first.s is.front)) in
+      let slice : slice_range bytes line.start line.end ≡ is.text =
+      ap (λ n. take n (drop line.start bytes)) len
+      ∙ (ap (take (length is.text)) from ∙ take_at is.text is.later (length is.text) refl) in
+      ap (lines E) slice ∙ is.one
+
+-- the line that was found, and what was cut out as its text
+pub found_text : (E end : ℕ) (literal : List ℕ) (at : ℕ) (bytes : List ℕ) (line : Span) (cut : List ℕ) → end ≡ E
+    → IsFirstWith end literal at (drop at bytes) line
+    → ((text : List ℕ) → lines end (slice_range bytes line.start line.end) ≡ text ∷ [] → cut ≡ text)
+    → (first : IsFirstWith E literal at (drop at bytes) line) × (cut ≡ text_found E literal at (drop at bytes) line first)
+found_text E end literal at bytes line cut same first text =
+    let P : ℕ → Type 0 = λ t. IsFirstWith t literal at (drop at bytes) line
+    × ((text : List ℕ) → lines t (slice_range bytes line.start line.end) ≡ text ∷ [] → cut ≡ text) in
+    let h = subst P same (first, text) in
+    (h.0, h.1 (text_found E literal at (drop at bytes) line h.0) (first_line E literal at bytes line h.0))
