@@ -399,40 +399,66 @@ visits_on p h n v w le later add = let more : p + 1 ≤ h + 1 = omega arith in o
 pub visits_after : (l n size v w k : ℕ) → size ≡ n → v ≤ l * size → w ≤ v + k → k ≤ n → w ≤ (l + 1) * n
 visits_after l n size v w k same le more few = let le' = subst (λ u. v ≤ l * u) same le in omega arith
 
-pub zeros : (n i : ℕ) → slice_index (replicate n 0) i ≡ 0
-zeros zero i = refl
-zeros (suc n) zero = refl
-zeros (suc n) (suc i) = zeros n i
+pub zeros : (xs : List ℕ) (n : ℕ) → xs ≡ replicate n 0 → (i : ℕ) → slice_index xs i ≡ 0
+zeros xs n e i = ap (λ v. slice_index v i) e ∙ at n i
+  where
+    at : (n i : ℕ) → slice_index (replicate n 0) i ≡ 0
+    at zero i = refl
+    at (suc n) zero = refl
+    at (suc n) (suc i) = at n i
 
 abbrev pub none : Option Bool
 none = None
 
-pub nones : (n i : ℕ) → get_or (replicate n none) i None ≡ None
-nones zero i = refl
-nones (suc n) zero = refl
-nones (suc n) (suc i) = nones n i
+pub nones : (xs : List (Option Bool)) (n : ℕ) → xs ≡ replicate n none → (i : ℕ) → get_or xs i None ≡ None
+nones xs n e i = ap (λ v. get_or v i None) e ∙ at n i
+  where
+    at : (n i : ℕ) → get_or (replicate n none) i None ≡ None
+    at zero i = refl
+    at (suc n) zero = refl
+    at (suc n) (suc i) = at n i
 
-pub blank_table : (n : ℕ) (mem : Remembered) → length mem.steps ≡ 65792 → length mem.ends ≡ 257 → length mem.pool ≤ 1048576 → length mem.cuts ≡ 258 → length mem.fresh ≡ 257
-    → mem.count ≡ 0 → ((i : ℕ) → slice_index mem.steps i ≡ 0) → ((r : ℕ) → ended mem r ≡ None) → ((i : ℕ) → slice_index mem.cuts i ≡ 0)
-    → IsBlank n mem
-blank_table n mem a b c d f none s l z = record {
-  shape = record {
-    steps_size = a;
-    ends_size = b;
-    pool_size = c;
-    fresh_size = f;
-    cuts_size = d;
-    none = z 0 ∙ sym (z 1);
-    few = omega arith;
-    upto = λ r le. let u = z r in let v = z (mem.count + 1) in omega arith;
-    order = λ r le. let u = z r in let v = z (r + 1) in omega arith;
-    room = let v = z (mem.count + 1) in omega arith;
-    within = λ r q le h. let u = z r in let v = z (r + 1) in absurd (omega (arith, h.1, h.2));
-  };
-  steps = s;
-  ends = l;
-  count = none;
-}
+pub blank_table : (n : ℕ) (mem : Remembered) → length mem.steps ≡ 65792 → length mem.ends ≡ 257 → length mem.pool ≤ 1048576
+    → length mem.cuts ≡ 258 → length mem.fresh ≡ 257 → mem.count ≡ 0 → ((i : ℕ) → slice_index mem.steps i ≡ 0)
+    → ((r : ℕ) → ended mem r ≡ None) → cut mem 0 ≡ cut mem 1 → cut mem 1 ≤ length mem.pool → IsBlank n mem
+blank_table n mem a b c d f none s l same fits =
+    let flat : (r : ℕ) → r ≤ 1 → cut mem r ≡ cut mem 1 = λ r le. elim (cases_eq r 1) [
+      | inl one ↦ ap (cut mem) one
+      | inr other ↦ let z : r ≡ 0 = omega arith in ap (cut mem) z ∙ same
+    ] in
+    let last : cut mem (mem.count + 1) ≡ cut mem 1 = ap (λ v. cut mem (v + 1)) none in
+    record {
+      shape = record {
+        steps_size = a;
+        ends_size = b;
+        pool_size = c;
+        fresh_size = f;
+        cuts_size = d;
+        none = same;
+        few = omega arith;
+        upto = λ r le. let u = flat r (omega arith) in omega arith;
+        order = λ r le. let u = flat r (omega arith) in let v = flat (r + 1) (omega arith) in omega arith;
+        room = omega arith;
+        within = λ r q le h. let u = flat r (omega arith) in let v = flat (r + 1) (omega arith) in
+            absurd (omega (arith, h.1, h.2));
+      };
+      steps = s;
+      ends = l;
+      count = none;
+    }
+
+-- the steps and the answers of a table were cleared, and its sets taken out
+pub blank_again : (n i j : ℕ) (old new : Remembered) → IsShape n old → new.steps ≡ replicate i 0 → new.ends ≡ replicate j none
+    → length new.steps ≡ 65792 → length new.ends ≡ 257 → new.fresh ≡ old.fresh → new.pool ≡ old.pool → new.cuts ≡ old.cuts
+    → new.count ≡ 0 → IsBlank n new
+blank_again n i j old new s steps ends a b fresh pool cuts count =
+    let upto = s.upto 1 (omega arith) in
+    let room = s.room in
+    let size = ap length pool in
+    let zeroth : cut new 0 ≡ cut old 0 = ap (λ v. slice_index v 0) cuts in
+    let first : cut new 1 ≡ cut old 1 = ap (λ v. slice_index v 1) cuts in
+    blank_table n new a b (omega (arith, s.pool_size)) (ap length cuts ∙ s.cuts_size) (ap length fresh ∙ s.fresh_size) count
+    (zeros new.steps i steps) (nones new.ends j ends) (zeroth ∙ s.none ∙ sym first) (omega arith)
 
 pub blank_memory : (m : Nfa) (mem : Remembered) → IsBlank (length m.states) mem → IsMemoryOf m mem
 blank_memory m mem b =

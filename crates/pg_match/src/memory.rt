@@ -1,8 +1,9 @@
 //! Remembered sets of states.
-ghost use Rattle.std.specs.Prelude.{◌≡◌, ◌+◌, ◌*◌, ◌<◌, ◌≤◌, length, IsTrue, false, IfOk};
+ghost use Rattle.std.specs.Prelude.{◌≡◌, ℕ, ◌+◌, ◌*◌, ◌<◌, ◌≤◌, length, IsTrue, false, IfOk};
+ghost use Rattle.pg_match.specs.Automata.{Nfa};
 ghost use Rattle.pg_match.specs.StateSets.{IsGood};
 ghost use Rattle.pg_match.specs.Steps.{Has};
-ghost use Rattle.pg_match.specs.Memories.{IsShape, In, fresh_at, Same, Grown, Marked, MarkedEnd, IsBlank};
+ghost use Rattle.pg_match.specs.Memories.{IsShape, IsMemoryOf, In, fresh_at, Same, Grown, Marked, MarkedEnd, IsBlank};
 ghost use Rattle.pg_match.specs.Views.{members, remembered};
 
 use crate::state_set::StateSet;
@@ -17,10 +18,15 @@ const ROWS: usize = SETS + 1;
 /// The most state numbers of all sets together.
 const POOL: usize = 1_048_576;
 
+/// How many bytes are searched without the table before the sets are forgotten. That takes thirty times as long as to
+/// find out so many sets.
+const PATIENCE: usize = 262_144;
+
 /// A match ends before the byte. Greater steps are 256 times the next row.
 pub(crate) const HIT: u32 = 1;
 
-/// Sets of states, and where each byte leads from them.
+/// Sets of states, and where each byte leads from them. A text may lead to more sets than there is room for. Then the
+/// table is begun anew, so that it has those that are met now.
 #[derive(Drop)]
 pub struct Memory<A: Allocator = Global> {
     /// For 256 times a row, plus a byte: 0 where nothing is known yet, `HIT`, or 256 times the next row.
@@ -35,6 +41,8 @@ pub struct Memory<A: Allocator = Global> {
     pub cuts: Vec<u32, A>,
     /// How many sets there are.
     pub count: usize,
+    /// How many bytes stood behind the sets for which there was no room, since the table was begun.
+    lost: usize,
 }
 
 impl<A: Allocator> Memory<A> {
@@ -56,7 +64,34 @@ impl<A: Allocator> Memory<A> {
             pool,
             cuts,
             count: 0,
+            lost: 0,
         })
+    }
+
+    /// Takes all sets out.
+    fn forget(&mut self)
+        ensures { (states : ℕ) → IsShape states (remembered self.old) → IsBlank states (remembered self.new) }
+    {
+        self.steps.fill(0);
+        self.ends.fill(None);
+        self.count = 0;
+        self.lost = 0;
+    }
+
+    /// Counts the bytes behind a set for which there is no room.
+    pub fn lose(&mut self, bytes: usize)
+        ensures { remembered self.new ≡ remembered self.old }
+    {
+        self.lost = self.lost.saturating_add(bytes);
+    }
+
+    /// Takes all sets out if too many bytes stood behind sets for which there was no room.
+    pub fn refresh(&mut self)
+        ensures { (m : Nfa) → IsMemoryOf m (remembered self.old) → IsMemoryOf m (remembered self.new) }
+    {
+        if self.lost >= PATIENCE {
+            self.forget();
+        }
     }
 
     /// Fetches the set of a row.

@@ -139,7 +139,7 @@ impl<A: Allocator> Automaton<A> {
         (at, place)
     }
 
-    /// Sees to the first row, if there is room.
+    /// Sees to the first row, if there is room, at the begin of a search.
     pub(crate) fn first(&self, sets: &mut StateSets<A>, memory: &mut Memory<A>) -> bool
         requires runs { IsRunnable (nfa self.now) }
         requires room { HaveRoom (buffers sets.old) (length self.now.states.items) }
@@ -152,6 +152,7 @@ impl<A: Allocator> Automaton<A> {
         ensures full { result ≡ false → (sets.new.visits ≡ sets.old.visits + sets.new.current.len)
             × Starts (nfa self.now) (Has (members sets.new.current)) }
     {
+        memory.refresh();
         if memory.count > 0 {
             return true;
         }
@@ -238,7 +239,10 @@ impl<A: Allocator> Automaton<A> {
                     state = next;
                     place = here + 1;
                 }
-                Next::Lost => return self.search_on(sets, line, here + 1),
+                Next::Lost => {
+                    memory.lose(line.len() - here);
+                    return self.search_on(sets, line, here + 1);
+                }
             }
         }
     }

@@ -97,7 +97,11 @@ impl<A: Allocator> Automaton<A> {
                     state = next;
                     place = here + 1;
                 }
-                Next::Hit | Next::Lost => return,
+                Next::Hit => return,
+                Next::Lost => {
+                    memory.lose(line.len() - here);
+                    return;
+                }
             }
         }
     }

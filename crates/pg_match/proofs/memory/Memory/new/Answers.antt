@@ -1,5 +1,4 @@
-use Rattle.std.proofs.Common.{◌∙◌, length, arith, refl, ap, rules, get_or}
-use Rattle.std.specs.Prelude.{slice_index, None}
+use Rattle.std.proofs.Common.{◌∙◌, length, arith, refl, sym, ap, rules}
 use Rattle.pg_match.proofs.MemoryLemmas.{blank_table, zeros, nones}
 use Rattle.pg_match.proofs.memory.Memory.new.Goals as goal
 
@@ -13,5 +12,7 @@ returns g c =
     let p_ok = c.in_ok-pool.pool.ok.0 in
     let f_ok = c.in_ok-fresh.fresh.ok.0 in
     let u_ok = c.in_ok-cuts.cuts.ok.0 in
-    blank_table c.args.states _ (omega (arith, c.in_ok-steps.ensures.len)) (ap length l) (omega (arith, c.in_ok-pool.ensures.len)) (omega (arith, c.in_ok-cuts.ensures.len)) (omega (arith, c.in_ok-fresh.ensures.len)) refl
-    (λ i. ap (λ v. slice_index v i) s ∙ zeros 65792 i) (λ i. ap (λ v. get_or v i None) l ∙ nones 257 i) (λ i. ap (λ v. slice_index v i) u ∙ zeros 258 i)
+    let zero = zeros _ 258 u in
+    blank_table c.args.states _ (omega (arith, c.in_ok-steps.ensures.len)) (ap length l) (omega (arith, c.in_ok-pool.ensures.len))
+    (omega (arith, c.in_ok-cuts.ensures.len)) (omega (arith, c.in_ok-fresh.ensures.len)) refl (zeros _ 65792 s) (nones _ 257 l)
+    (zero 0 ∙ sym (zero 1)) (omega (arith, zero 1))
