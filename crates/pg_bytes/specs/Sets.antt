@@ -49,6 +49,10 @@ lower = between 97 122
 abbrev pub other_case : ℕ → ℕ
 other_case n = if upper n then n + 32 else if lower n then n - 32 else n
 
+-- the letter in lower case, and any other number as it is (XBD 7.3.1, tolower)
+abbrev pub lower_case : ℕ → ℕ
+lower_case n = if upper n then n + 32 else n
+
 -- the set with the other case of each letter in it
 abbrev pub closed : Bytes → Bytes
 closed s n = s n || s (other_case n)

@@ -11,7 +11,7 @@ use crate::names::{is_directory, operands_of};
 use crate::patterns::read_patterns;
 use crate::query::text_of;
 use pg_rows::{Format, Mode, Sink};
-use pg_run::{Listed, Setup, Store, run};
+use pg_run::{FreeGate, Listed, Setup, Store, run};
 use pg_walk::{FileTree, walk};
 use pg_words::{Naming, Request};
 use std::alloc::{AllocError, Global};
@@ -94,7 +94,7 @@ fn search<'a, R: Threads + Wait + Clock + Sync, T: FileTree, S: Store + Drop, W:
     let lists = read_patterns(alloc, request.pattern_files.as_slice(), &mut files.store)?;
     let text = text_of(alloc, request, lists)?;
     let setup = list_files(alloc, request, tree, files)?;
-    Ok(run(rt, alloc, text, setup, files, out, err)?)
+    Ok(run(rt, alloc, text, setup, files, out, err, &FreeGate)?)
 }
 
 /// Lists what a walk over the operands gives, and says how that is searched. Nothing was asked of

@@ -1,18 +1,19 @@
 -- Lines that hold a literal, and which of them are selected.
-use Rattle.std.proofs.Common.{◌≡◌, ◌≢◌, ℕ, zero, suc, ◌+◌, ◌-◌, ◌≤◌, ◌^◌, ◌⊎◌, inl, inr, true, false, List, [], ◌∷◌}
+use Rattle.std.proofs.Common.{◌≡◌, ◌≢◌, ℕ, zero, suc, ◌+◌, ◌-◌, ◌≤◌, ◌^◌, ◌⊎◌, inl, inr, Bool, true, false, List, [], ◌∷◌}
 use Rattle.std.proofs.Common.{◌++◌, length, take, drop, slice_range, refl, sym, ap, ◌∙◌, subst, arith, append_assoc, length-append}
 use Rattle.std.specs.List.{AllByRecursion}
 use Rattle.std.proofs.lemmas.List.{take-append-drop, drop-drop, drop_at, take_at, append-nil, length-take-le}
 use Rattle.pg_literal.specs.Literals.{Holds}
 use Rattle.pg_lines.specs.Lines.{lines, AreWhole, AreShort}
-use Rattle.pg_lines.specs.Search.{SearchText, Search, Pattern, AreTreesOf, search_of, terminator_of, terminator}
+use Rattle.pg_lines.specs.Search.{SearchText, Search, Pattern, AreTreesOf, search_of, uninverted}
+use Rattle.pg_lines.specs.Search.{terminator_of, terminator}
 use Rattle.pg_lines.specs.Selection.{selects}
 use Rattle.pg_lines.specs.Runs.{AllLines, IsNextRun}
 use Rattle.pg_lines.specs.Gathered.{IsNextLine}
 use Rattle.pg_lines.specs.Literals.{IsNeeded, IsLiteral}
 use Rattle.pg_lines.specs.Candidates.{AreWithout, IsFirstWith}
 use Rattle.pg_lines.specs.declared.span.Span.{Span}
-use Rattle.pg_lines.proofs.HitLemmas.{without_unselected, held_selected}
+use Rattle.pg_lines.proofs.HitLemmas.{without_missed, held_hit}
 use Rattle.pg_lines.proofs.LineLemmas.{lines-append, whole_append}
 use Rattle.pg_lines.proofs.RunLemmas.{line_found, line_unselected, line_passed, all_lines-append, all_back}
 
@@ -28,9 +29,9 @@ nothing_behind (x ∷ xs) zero h = absurd (omega arith)
 nothing_behind (x ∷ xs) (suc n) h = nothing_behind xs n (omega arith)
 
 -- the text of the line that was found
-abbrev pub text_found : (end : ℕ) (literal : List ℕ) (at : ℕ) (bytes : List ℕ) (line : Span)
-    → IsFirstWith end literal at bytes line → List ℕ
-text_found end literal at bytes line first = take (first.e - first.s) (drop first.s bytes)
+abbrev pub text_found : (fold : Bool) (end : ℕ) (literal : List ℕ) (at : ℕ) (bytes : List ℕ) (line : Span)
+    → IsFirstWith fold end literal at bytes line → List ℕ
+text_found fold end literal at bytes line first = take (first.e - first.s) (drop first.s bytes)
 
 -- whole lines behind a place, up to another one, of which none is selected
 pub record IsSkipped (q : Search) (at from : ℕ) (bytes : List ℕ) : Type 0 where
@@ -100,35 +101,35 @@ module _ (q : Search) (at from : ℕ) (bytes : List ℕ) (is : IsSkipped q at fr
 
 module _ (text : SearchText) (trees : List Pattern) (spelled : AreTreesOf text trees) (literal : List ℕ)
     (needed : IsNeeded text literal) where
-  -- lines without the literal aren't selected
-  pub unselected_without : (bytes : List ℕ) → AreWithout (terminator_of text) literal bytes
-      → AllLines (search_of text trees) false bytes
-  unselected_without bytes none =
-      all_more (λ l. Holds l literal → ⊥) (λ l. selects (search_of text trees) l ≡ false)
-      (lines (terminator_of text) bytes) (λ l h. without_unselected text trees spelled literal l needed h) none
+  -- lines without the literal have no hit
+  pub missed_without : (bytes : List ℕ) → AreWithout text.fold (terminator_of text) literal bytes
+      → AllLines (search_of (uninverted text) trees) false bytes
+  missed_without bytes none =
+      all_more (λ l. Holds text.fold l literal → ⊥) (λ l. selects (search_of (uninverted text) trees) l ≡ false)
+      (lines (terminator_of text) bytes) (λ l h. without_missed text trees spelled literal l needed h) none
 
-  module _ (at : ℕ) (bytes : List ℕ) (line : Span) (first : IsFirstWith (terminator_of text) literal at bytes line) where
-    -- the first line that holds it is the first selected one, where it is selected
-    pub first_selected : selects (search_of text trees) (text_found (terminator_of text) literal at bytes line first) ≡ true
-        → IsNextLine (search_of text trees) at bytes line
+  module _ (at : ℕ) (bytes : List ℕ) (line : Span) (first : IsFirstWith text.fold (terminator_of text) literal at bytes line) where
+    -- the first line that holds it is the first one with a hit, where it has one
+    pub first_selected : selects (search_of (uninverted text) trees) (text_found text.fold (terminator_of text) literal at bytes line first) ≡ true
+        → IsNextLine (search_of (uninverted text) trees) at bytes line
     first_selected chosen =
-        line_found (search_of text trees) bytes at first.s first.e first.stop line first.is first.front
-        (unselected_without (take first.s bytes) first.without) chosen first.starts first.ends
+        line_found (search_of (uninverted text) trees) bytes at first.s first.e first.stop line first.is first.front
+        (missed_without (take first.s bytes) first.without) chosen first.starts first.ends
 
-    -- else no line up to its end is
-    first_unselected : selects (search_of text trees) (text_found (terminator_of text) literal at bytes line first) ≡ false
-        → AllLines (search_of text trees) false (take first.stop bytes)
+    -- else no line up to its end has one
+    first_unselected : selects (search_of (uninverted text) trees) (text_found text.fold (terminator_of text) literal at bytes line first) ≡ false
+        → AllLines (search_of (uninverted text) trees) false (take first.stop bytes)
     first_unselected not_chosen =
-        line_unselected (search_of text trees) bytes first.s first.e first.stop first.is first.front
-        (unselected_without (take first.s bytes) first.without) not_chosen
+        line_unselected (search_of (uninverted text) trees) bytes first.s first.e first.stop first.is first.front
+        (missed_without (take first.s bytes) first.without) not_chosen
 
-  -- one more line with the literal isn't selected
-  pub skipped_more : (at from : ℕ) (bytes : List ℕ) (line : Span) → IsSkipped (search_of text trees) at from bytes
-      → (first : IsFirstWith (terminator_of text) literal from (drop from bytes) line)
-      → selects (search_of text trees) (text_found (terminator_of text) literal from (drop from bytes) line first) ≡ false
-      → IsSkipped (search_of text trees) at line.end bytes
+  -- one more line with the literal has no hit
+  pub skipped_more : (at from : ℕ) (bytes : List ℕ) (line : Span) → IsSkipped (search_of (uninverted text) trees) at from bytes
+      → (first : IsFirstWith text.fold (terminator_of text) literal from (drop from bytes) line)
+      → selects (search_of (uninverted text) trees) (text_found text.fold (terminator_of text) literal from (drop from bytes) line first) ≡ false
+      → IsSkipped (search_of (uninverted text) trees) at line.end bytes
   skipped_more at from bytes line is first not_chosen =
-      let q = search_of text trees in
+      let q = search_of (uninverted text) trees in
       let E = terminator_of text in
       let rest = drop from bytes in
       let more = take first.stop rest in
@@ -153,7 +154,7 @@ module _ (text : SearchText) (trees : List Pattern) (spelled : AreTreesOf text t
         unselected = all_lines-append q false is.skipped more whole is.unselected none;
       }
     where
-      stop_within : {from' : ℕ} {xs : List ℕ} {line' : Span} (f : IsFirstWith (terminator_of text) literal from' xs line')
+      stop_within : {from' : ℕ} {xs : List ℕ} {line' : Span} (f : IsFirstWith text.fold (terminator_of text) literal from' xs line')
           → f.stop ≤ length xs
       stop_within {from'} {xs} {line'} f =
           let all = ap length f.is.joins in
@@ -166,7 +167,7 @@ module _ (text : SearchText) (trees : List Pattern) (spelled : AreTreesOf text t
             f.is.len,
           )
 
-      none_left : {from' : ℕ} {xs : List ℕ} {line' : Span} (f : IsFirstWith (terminator_of text) literal from' xs line')
+      none_left : {from' : ℕ} {xs : List ℕ} {line' : Span} (f : IsFirstWith text.fold (terminator_of text) literal from' xs line')
           → xs ≡ [] → f.is.text ≡ []
       none_left {from'} {xs} {line'} f e =
           let all = ap length f.is.joins in
@@ -185,13 +186,13 @@ module _ (text : SearchText) (trees : List Pattern) (spelled : AreTreesOf text t
 -- a literal that is enough decides
 pub first_enough : (text : SearchText) (trees : List Pattern) → AreTreesOf text trees → (literal : List ℕ)
     → IsLiteral text literal true → (at : ℕ) (bytes : List ℕ) (line : Span)
-    → IsFirstWith (terminator_of text) literal at bytes line → IsNextLine (search_of text trees) at bytes line
+    → IsFirstWith text.fold (terminator_of text) literal at bytes line → IsNextLine (search_of (uninverted text) trees) at bytes line
 first_enough text trees spelled literal is at bytes line first =
     first_selected text trees spelled literal is.needed at bytes line first
-    (held_selected text trees spelled literal (text_found (terminator_of text) literal at bytes line first) is first.holds)
+    (held_hit text trees spelled literal (text_found text.fold (terminator_of text) literal at bytes line first) is first.holds)
 
-module _ (E : ℕ) (literal : List ℕ) (at : ℕ) (bytes : List ℕ) (line : Span)
-    (first : IsFirstWith E literal at (drop at bytes) line) where
+module _ (fold : Bool) (E : ℕ) (literal : List ℕ) (at : ℕ) (bytes : List ℕ) (line : Span)
+    (first : IsFirstWith fold E literal at (drop at bytes) line) where
   abbrev rest : List ℕ
   rest = drop at bytes
 
@@ -211,7 +212,7 @@ module _ (E : ℕ) (literal : List ℕ) (at : ℕ) (bytes : List ℕ) (line : Sp
 
   -- the line isn't too long where no line is, nor are those behind it
   pub first_short : AreShort E rest
-      → (length (text_found E literal at rest line first) ≤ 2 ^ 30) × AreShort E (drop line.end bytes)
+      → (length (text_found fold E literal at rest line first) ≤ 2 ^ 30) × AreShort E (drop line.end bytes)
   first_short short =
       let is = first.is in
       let Short : List ℕ → Type 0 = λ l. length l ≤ 2 ^ 30 in
@@ -228,7 +229,7 @@ module _ (E : ℕ) (literal : List ℕ) (at : ℕ) (bytes : List ℕ) (line : Sp
       )
 
   -- the line among the bytes
-  pub first_line : lines E (slice_range bytes line.start line.end) ≡ text_found E literal at rest line first ∷ []
+  pub first_line : lines E (slice_range bytes line.start line.end) ≡ text_found fold E literal at rest line first ∷ []
   first_line =
       let is = first.is in
       let len : line.end - line.start ≡ length is.text = omega (arith, first.starts, first.ends, is.len) in
@@ -243,12 +244,12 @@ module _ (E : ℕ) (literal : List ℕ) (at : ℕ) (bytes : List ℕ) (line : Sp
       ap (lines E) slice ∙ is.one
 
 -- the line that was found, and what was cut out as its text
-pub found_text : (E end : ℕ) (literal : List ℕ) (at : ℕ) (bytes : List ℕ) (line : Span) (cut : List ℕ) → end ≡ E
-    → IsFirstWith end literal at (drop at bytes) line
+pub found_text : (fold : Bool) (E end : ℕ) (literal : List ℕ) (at : ℕ) (bytes : List ℕ) (line : Span) (cut : List ℕ) → end ≡ E
+    → IsFirstWith fold end literal at (drop at bytes) line
     → ((text : List ℕ) → lines end (slice_range bytes line.start line.end) ≡ text ∷ [] → cut ≡ text)
-    → (first : IsFirstWith E literal at (drop at bytes) line) × (cut ≡ text_found E literal at (drop at bytes) line first)
-found_text E end literal at bytes line cut same first text =
-    let P : ℕ → Type 0 = λ t. IsFirstWith t literal at (drop at bytes) line
+    → (first : IsFirstWith fold E literal at (drop at bytes) line) × (cut ≡ text_found fold E literal at (drop at bytes) line first)
+found_text fold E end literal at bytes line cut same first text =
+    let P : ℕ → Type 0 = λ t. IsFirstWith fold t literal at (drop at bytes) line
     × ((text : List ℕ) → lines t (slice_range bytes line.start line.end) ≡ text ∷ [] → cut ≡ text) in
     let h = subst P same (first, text) in
-    (h.0, h.1 (text_found E literal at (drop at bytes) line h.0) (first_line E literal at bytes line h.0))
+    (h.0, h.1 (text_found fold E literal at (drop at bytes) line h.0) (first_line fold E literal at bytes line h.0))

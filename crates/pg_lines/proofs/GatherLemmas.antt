@@ -35,7 +35,7 @@ gathered_none q bytes run start stop first count =
     }
 
 -- whole lines of which none is selected, in front of runs
-gap_front : (q : Search) (at seen : ℕ) (gap rest : List ℕ) (runs : List Run) → AreWhole (terminator q) gap
+pub gap_front : (q : Search) (at seen : ℕ) (gap rest : List ℕ) (runs : List Run) → AreWhole (terminator q) gap
     → AllLines q false gap → AreRuns q (at + length gap) (seen + length (lines (terminator q) gap)) rest runs
     → AreRuns q at seen (gap ++ rest) runs
 gap_front q at seen gap rest [] w none h = all_lines-append q false gap rest w none h

@@ -5,7 +5,7 @@ use Rattle.std.specs.Bool.{MatchBool, Decides}
 use Rattle.std.specs.List.{list_any, range_with_len}
 use Rattle.std.proofs.lemmas.Bool.{false≢true, cases_Bool, cases_eq}
 use Rattle.pg_match.proofs.TestLemmas.{hits_decided}
-use Rattle.pg_lines.specs.Search.{SearchText, Search, Pattern, AreTreesOf, search_of, bounds_of}
+use Rattle.pg_lines.specs.Search.{SearchText, Search, Pattern, AreTreesOf, search_of, uninverted, bounds_of}
 use Rattle.pg_literal.specs.Literals.{Holds}
 use Rattle.pg_lines.specs.Literals.{IsNeeded, IsLiteral}
 use Rattle.pg_lines.specs.Selection.{HasHit, has_hit, selects, SelectsIsSelected}
@@ -47,13 +47,16 @@ selects_decides q line =
     )
 
 module _ (text : SearchText) (trees : List Pattern) (spelled : AreTreesOf text trees) (literal line : List ℕ) where
-  -- a line without a literal that is needed isn't selected
-  pub without_unselected : IsNeeded text literal → (Holds line literal → ⊥) → selects (search_of text trees) line ≡ false
-  without_unselected needed none = elim (cases_Bool (selects (search_of text trees) line)) [
-    | inl some ↦ absurd (none (needed.held trees spelled line ((selects_decides (search_of text trees) line).0 some)))
+  abbrev q : Search
+  q = search_of (uninverted text) trees
+
+  -- a line without a literal that is needed has no hit
+  pub without_missed : IsNeeded text literal → (Holds text.fold line literal → ⊥) → selects q line ≡ false
+  without_missed needed none = elim (cases_Bool (selects q line)) [
+    | inl some ↦ absurd (none (needed.held trees spelled line ((selects_decides q line).0 some)))
     | inr none' ↦ none'
   ]
 
-  -- a line with a literal that is enough is
-  pub held_selected : IsLiteral text literal true → Holds line literal → selects (search_of text trees) line ≡ true
-  held_selected is held = (selects_decides (search_of text trees) line).1 (is.enough refl trees spelled line held)
+  -- a line with a literal that is enough has one
+  pub held_hit : IsLiteral text literal true → Holds text.fold line literal → selects q line ≡ true
+  held_hit is held = (selects_decides q line).1 (is.enough refl trees spelled line held)

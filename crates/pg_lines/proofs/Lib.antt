@@ -2,6 +2,7 @@ pub mod CountLemmas
 pub mod CutLaws
 pub mod CutLemmas
 pub mod CutterLemmas
+pub mod BetweenLemmas
 pub mod CandidateLemmas
 pub mod Examples
 pub mod GatherLemmas

@@ -8,7 +8,9 @@ use Rattle.std.proofs.lemmas.List.{take-append-drop, drop_at, length-take-le, ge
 use Rattle.std.proofs.lemmas.List.{append-nil, take_at, drop_more, drop-drop, drop_all}
 use Rattle.std.proofs.lemmas.List.Prefix.{at_reads}
 use Rattle.memchr.specs.Find.{OccursAt, Nowhere}
-use Rattle.pg_literal.specs.Literals.{Holds}
+use Rattle.pg_literal.specs.Literals.{as_searched, Holds}
+use Rattle.pg_literal.specs.Known.{byte_as_searched}
+use Rattle.pg_literal.proofs.FoldLemmas.{length_searched, searched_append}
 use Rattle.pg_lines.specs.Lines.{lines, IsLine, AreWhole, AreShort, IsClear, Stops, terminated}
 use Rattle.pg_lines.specs.Search.{Search, terminator}
 use Rattle.pg_lines.specs.Selection.{selects}
@@ -47,31 +49,50 @@ occurs_inside xs front l tail p i e o =
           ap (λ n. get_or xs n 0) at ∙ (at_reads 0 xs l (length front) tail d (i + j) (omega (arith, o.fits)) ∙ o.reads j below);
     }
 
+-- the three parts of bytes as they are searched
+searched_parts : (fold : Bool) (xs front l tail : List ℕ) → xs ≡ front ++ (l ++ tail)
+    → as_searched fold xs ≡ as_searched fold front ++ (as_searched fold l ++ as_searched fold tail)
+searched_parts fold xs front l tail e =
+    ap (as_searched fold) e
+    ∙ (searched_append fold front (l ++ tail) ∙ ap (λ ys. as_searched fold front ++ ys) (searched_append fold l tail))
+
+-- the same where both are searched
+searched_inside : (fold : Bool) (xs front l tail p : List ℕ) (i : ℕ) → xs ≡ front ++ (l ++ tail)
+    → OccursAt (as_searched fold l) p i → OccursAt (as_searched fold xs) p (length front + i)
+searched_inside fold xs front l tail p i e o =
+    let P : ℕ → Type 0 = λ n. OccursAt (as_searched fold xs) p (n + i) in
+    subst P (length_searched fold front) (occurs_inside (as_searched fold xs) (as_searched fold front)
+    (as_searched fold l) (as_searched fold tail) p i (searched_parts fold xs front l tail e) o)
+
 -- of bytes in which the literal occurs nowhere no line holds it
-pub nowhere_lines : (end : ℕ) (p bytes : List ℕ) → ((k : ℕ) → OccursAt bytes p k → ⊥) → AreWithout end p bytes
-nowhere_lines end p bytes none =
-    all_by_index (λ l. Holds l p → ⊥) (lines end bytes) (λ k below.
+pub nowhere_lines : (fold : Bool) (end : ℕ) (p bytes : List ℕ) → ((k : ℕ) → OccursAt (as_searched fold bytes) p k → ⊥)
+    → AreWithout fold end p bytes
+nowhere_lines fold end p bytes none =
+    all_by_index (λ l. Holds fold l p → ⊥) (lines end bytes) (λ k below.
     let r = around end bytes (lines end bytes) (made end bytes) k below in
-    λ h. none (length (terminated end (take k (lines end bytes))) + h.0)
-    (occurs_inside bytes (terminated end (take k (lines end bytes))) (get_or (lines end bytes) k []) r.0 p h.0 r.1 h.1))
+    let front = terminated end (take k (lines end bytes)) in
+    λ h. none (length front + h.0)
+    (searched_inside fold bytes front (get_or (lines end bytes) k []) r.0 p h.0 r.1 h.1))
 
 -- nor does one that ends before the first place at which it occurs
-pub lines_before : (end : ℕ) (p bytes : List ℕ) (s k : ℕ) → Nowhere (OccursAt bytes p) 0 k → s ≤ k
-    → k ≤ length bytes → AreWithout end p (take s bytes)
-lines_before end p bytes zero k none low high = tt
-lines_before end p bytes (suc s) k none low high =
-    nowhere_lines end p (take (suc s) bytes) (λ j o.
+pub lines_before : (fold : Bool) (end : ℕ) (p bytes : List ℕ) (s k : ℕ)
+    → Nowhere (OccursAt (as_searched fold bytes) p) 0 k → s ≤ k → k ≤ length bytes
+    → AreWithout fold end p (take s bytes)
+lines_before fold end p bytes zero k none low high = tt
+lines_before fold end p bytes (suc s) k none low high =
+    nowhere_lines fold end p (take (suc s) bytes) (λ j o.
     let len = length-take-le (suc s) bytes (omega arith) in
-    let P : ℕ → Type 0 = λ n. OccursAt bytes p n in
+    let same = length_searched fold (take (suc s) bytes) in
+    let P : ℕ → Type 0 = λ n. OccursAt (as_searched fold bytes) p n in
     let zero-j : 0 + j ≡ j = omega arith in
     let joins = sym (take-append-drop (suc s) bytes) in
-    let here : OccursAt bytes p j =
-    subst P zero-j (occurs_inside bytes [] (take (suc s) bytes) (drop (suc s) bytes) p j joins o) in
+    let here : OccursAt (as_searched fold bytes) p j =
+    subst P zero-j (searched_inside fold bytes [] (take (suc s) bytes) (drop (suc s) bytes) p j joins o) in
     let some : 0 < length p = empty_needle p (λ e. none 0 (omega arith) (omega arith) (record {
       fits = omega (arith, ap length e);
       reads = λ i below. absurd (omega (arith, ap length e));
     })) in
-    none j (omega arith) (omega (arith, o.fits)) here)
+    none j (omega arith) (omega (arith, o.fits, same)) here)
   where
     empty_needle : (p : List ℕ) → (p ≡ [] → ⊥) → 0 < length p
     empty_needle [] ne = absurd (ne refl)
@@ -101,6 +122,34 @@ occurs_within bytes p s e k high low fits o =
           let at : s + ((k - s) + j) ≡ k + j = omega arith in
           get_or-take (e - s) (drop s bytes) ((k - s) + j) 0 (omega arith) ∙ (get_or-drop s bytes ((k - s) + j) 0 ∙ (ap (λ n. get_or bytes n 0) at ∙ o.reads j below));
     }
+
+-- the same where both are searched
+searched_within : (fold : Bool) (bytes p : List ℕ) (s e k : ℕ) → e ≤ length bytes → s ≤ k → k + length p ≤ e
+    → OccursAt (as_searched fold bytes) p k → OccursAt (as_searched fold (take (e - s) (drop s bytes))) p (k - s)
+searched_within fold bytes p s e k high low fits o =
+    let S : List ℕ → List ℕ = as_searched fold in
+    let front = take s bytes in
+    let l = take (e - s) (drop s bytes) in
+    let tail = drop (e - s) (drop s bytes) in
+    let whole : bytes ≡ front ++ (l ++ tail) =
+    sym (take-append-drop s bytes) ∙ ap (λ xs. front ++ xs) (sym (take-append-drop (e - s) (drop s bytes))) in
+    let parts = searched_parts fold bytes front l tail whole in
+    let front_len : length (S front) ≡ s = length_searched fold front ∙ length-take-le s bytes (omega arith) in
+    let l_len : length (S l) ≡ e - s =
+    length_searched fold l ∙ length-take-le (e - s) (drop s bytes) (omega (arith, length-drop s bytes)) in
+    let here : take (e - s) (drop s (S bytes)) ≡ S l =
+    ap (λ xs. take (e - s) (drop s xs)) parts
+    ∙ (ap (take (e - s)) (drop_at (S front) (S l ++ S tail) s front_len) ∙ take_at (S l) (S tail) (e - s) l_len) in
+    let P : List ℕ → Type 0 = λ xs. OccursAt xs p (k - s) in
+    subst P here (occurs_within (S bytes) p s e k (omega (arith, length_searched fold bytes)) low fits o)
+
+-- a byte as it is searched
+searched_at : (fold : Bool) (bytes : List ℕ) (i : ℕ) → i < length bytes
+    → get_or (as_searched fold bytes) i 0 ≡ byte_as_searched fold (get_or bytes i 0)
+searched_at false bytes i below = refl
+searched_at true [] i below = absurd (omega arith)
+searched_at true (b ∷ bytes) zero below = refl
+searched_at true (b ∷ bytes) (suc i) below = searched_at true bytes i (omega arith)
 
 -- the first place of a pattern is no end of bytes
 pub place_below : (bytes p : List ℕ) (k : ℕ) → OccursAt bytes p k → Nowhere (OccursAt bytes p) 0 k → 0 < length bytes → k < length bytes
@@ -220,11 +269,13 @@ line_unselected q bytes s e stop is front none not_chosen =
 
 -- the first line in which the literal occurs: the literal at k, the line's text from s up to e, and the next line
 -- at `stop`
-first_found : (end : ℕ) (p bytes : List ℕ) (at s k e stop : ℕ) (line : Span) → IsLine end p → OccursAt bytes p k
-    → Nowhere (OccursAt bytes p) 0 k → s ≤ k → k ≤ e → AreWhole end (take s bytes) → IsClear end bytes s e
-    → Stops end bytes e stop → s < stop → line.start ≡ at + s → line.end ≡ at + stop
-    → IsFirstWith end p at bytes line
-first_found end p bytes at s k e stop line alone o none low high front clear stops longer starts ends =
+first_found : (fold : Bool) (end : ℕ) (p bytes : List ℕ) (at s k e stop : ℕ) (line : Span)
+    → byte_as_searched fold end ≡ end → IsLine end p → OccursAt (as_searched fold bytes) p k
+    → Nowhere (OccursAt (as_searched fold bytes) p) 0 k → s ≤ k → k ≤ e → AreWhole end (take s bytes)
+    → IsClear end bytes s e → Stops end bytes e stop → s < stop → line.start ≡ at + s → line.end ≡ at + stop
+    → IsFirstWith fold end p at bytes line
+first_found fold end p bytes at s k e stop line plain alone o none low high front clear stops longer starts ends =
+    let size = length_searched fold bytes in
     let within : e ≤ length bytes = elim stops [ inl h ↦ omega (arith, h.1) | inr h ↦ omega (arith, h.1) ] in
     let fits : k + length p ≤ e = elim (cases_lt e (k + length p)) [
       | inr fits ↦ fits
@@ -235,9 +286,11 @@ first_found end p bytes at s k e stop line alone o none low high front clear sto
               e - k,
               omega arith,
               get_or_default p (e - k) end 0 (omega arith)
-                  ∙ (sym (o.reads (e - k) (omega arith)) ∙ (ap (λ n. get_or bytes n 0) at_e ∙ h.2)),
+                  ∙ (sym (o.reads (e - k) (omega arith))
+                  ∙ (ap (λ n. get_or (as_searched fold bytes) n 0) at_e
+                  ∙ (searched_at fold bytes e h.1 ∙ (ap (byte_as_searched fold) h.2 ∙ plain)))),
             ))
-        | inr h ↦ absurd (omega (arith, o.fits, h.1))
+        | inr h ↦ absurd (omega (arith, o.fits, h.1, size))
       ]
     ] in
     record {
@@ -246,22 +299,25 @@ first_found end p bytes at s k e stop line alone o none low high front clear sto
       stop = stop;
       is = line_at end bytes s e stop (omega arith) within longer clear stops;
       front = front;
-      without = lines_before end p bytes s k none low (omega (arith, o.fits));
-      holds = (k - s, occurs_within bytes p s e k within low fits o);
+      without = lines_before fold end p bytes s k none low (omega (arith, o.fits, size));
+      holds = (k - s, searched_within fold bytes p s e k within low fits o);
       starts = starts;
       ends = ends;
     }
 
 -- the same, where the line's two ends were looked for from the literal's place
-pub line_around : (end : ℕ) (p bytes : List ℕ) (at s k stop : ℕ) (line : Span) → IsLine end p → OccursAt bytes p k
-    → Nowhere (OccursAt bytes p) 0 k → s ≤ k → IsClear end bytes s k → AreWhole end (take s bytes)
+pub line_around : (fold : Bool) (end : ℕ) (p bytes : List ℕ) (at s k stop : ℕ) (line : Span)
+    → byte_as_searched fold end ≡ end → IsLine end p → OccursAt (as_searched fold bytes) p k
+    → Nowhere (OccursAt (as_searched fold bytes) p) 0 k → s ≤ k → IsClear end bytes s k → AreWhole end (take s bytes)
     → (e : ℕ) × (k ≤ e) × IsClear end bytes k e × Stops end bytes e stop → 0 < length bytes
-    → line.start ≡ at + s → line.end ≡ at + stop → IsFirstWith end p at bytes line
-line_around end p bytes at s k stop line alone o none low before front h some starts ends =
+    → line.start ≡ at + s → line.end ≡ at + stop → IsFirstWith fold end p at bytes line
+line_around fold end p bytes at s k stop line plain alone o none low before front h some starts ends =
+    let size = length_searched fold bytes in
     let clear : IsClear end bytes s h.0 =
     λ i from to. elim (cases_lt i k) [ inl below ↦ before i from below | inr above ↦ h.2 i above to ] in
-    let below = place_below bytes p k o none some in
-    first_found end p bytes at s k h.0 stop line alone o none low h.1 front clear h.3
+    let searched_below = place_below (as_searched fold bytes) p k o none (omega (arith, size, some)) in
+    let below : k < length bytes = omega (arith, size, searched_below) in
+    first_found fold end p bytes at s k h.0 stop line plain alone o none low h.1 front clear h.3
     (line_some end bytes s k h.0 stop low h.1 below h.3).0 starts ends
 
 -- the lines of what stands before a run, of the run, and of what stands behind it

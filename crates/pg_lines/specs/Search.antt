@@ -1,5 +1,5 @@
 -- What is searched for, as plain data (XCU grep, OPTIONS).
-use Rattle.std.specs.Prelude.{ℕ, Bool, if◌then◌else◌, List}
+use Rattle.std.specs.Prelude.{ℕ, Bool, false, if◌then◌else◌, List}
 pub use Rattle.pg_syntax.specs.declared.pattern_list.Kind.{Kind}
 pub use Rattle.pg_syntax.specs.declared.pattern_list.Kind.TheVariants.{Basic, Extended, Fixed}
 pub use Rattle.pg_syntax.specs.PatternLists.{Patterns, Split, ByLine, patterns}
@@ -30,6 +30,19 @@ pub record Search : Type 0 where
 
 abbrev pub HasItsTrees : Search → Type 0
 HasItsTrees q = AreTreesOf q.text q.trees
+
+-- the same text without -v: it selects the lines with a hit
+abbrev pub uninverted : SearchText → SearchText
+uninverted text = record {
+  kind = text.kind;
+  lists = text.lists;
+  fold = text.fold;
+  whole = text.whole;
+  word = text.word;
+  invert = false;
+  pieces = text.pieces;
+  zero = text.zero;
+}
 
 -- the search for a text whose patterns have these trees
 abbrev pub search_of : SearchText → List Pattern → Search

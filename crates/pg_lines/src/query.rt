@@ -100,7 +100,7 @@ impl From<AllocError> for QueryFault {
 }
 
 /// A query that can be searched for. It has what searches would else prepare anew: the automaton of its
-/// patterns, and a literal that the selected lines hold, where one was found. Contracts see its text and
+/// patterns, and a literal that the lines with a hit hold, where one was found. Contracts see its text and
 /// the automaton.
 #[derive(Drop)]
 pub struct Query<A: Allocator = Global> {
@@ -170,8 +170,9 @@ impl<A: Allocator> Query<A> {
         self.text.terminator()
     }
 
-    /// A text that each selected line holds, where one was found, so that only lines with it are looked
-    /// at. Where it is enough, each line that holds it is selected, and the machine isn't asked.
+    /// A text that each line with a hit holds, where one was found, so that only lines with it are looked at. With -i
+    /// it is in lower case, as those lines are where it is searched for.
+    /// Where it is enough, each line that holds it has a hit, and the machine isn't asked.
     pub fn literal(&self) -> Option<&Literal<A>>
         ensures literal { IfSome result
             (λ literal. IsLiteral self.now.text literal.now.text.items literal.now.is_enough) }
@@ -220,7 +221,7 @@ fn trees_of<A: Allocator + Copy>(
     }
 }
 
-/// A text that each selected line holds, where one is found. With -v lines are selected for what they lack.
+/// A text that each line with a hit holds, where one is found.
 fn literal_of<A: Allocator + Copy>(
     alloc: A,
     text: &QueryText<A>,
@@ -230,10 +231,7 @@ fn literal_of<A: Allocator + Copy>(
     ensures { IfOk result (λ found. IfSome found
         (λ literal. IsLiteral text.now literal.text.items literal.is_enough)) }
 {
-    if text.invert {
-        return Ok(None);
-    }
-    let found = Literal::of(alloc, trees, text.bounds())?;
+    let found = Literal::of(alloc, trees, text.bounds(), text.fold)?;
     match found {
         Some(literal) => {
             if literal.text.contains(&text.terminator()) {

@@ -1,15 +1,17 @@
 //! The search of one block.
 ghost use Rattle.std.specs.Prelude.{◌≡◌, ◌+◌, ◌<◌, ◌≤◌, ◌^◌, ◌++◌, ◌∷◌, [], IfOk, IfSome, IfNone, OnOk, List};
-ghost use Rattle.std.specs.Prelude.{length, drop, slice_range, false, nat_lt, if◌then◌else◌};
+ghost use Rattle.std.specs.Prelude.{length, drop, slice_range, Bool, true, false, nat_lt, if◌then◌else◌};
 ghost use Rattle.std.specs.Arc.{arc_value};
+ghost use Rattle.pg_literal.specs.Known.{byte_as_searched};
+ghost use Rattle.pg_literal.specs.Literals.{as_searched};
 ghost use Rattle.pg_match.specs.Machines.{Fits};
 ghost use Rattle.pg_lines.specs.Lines.{lines, IsLine, AreShort};
 ghost use Rattle.pg_lines.specs.Search.{Search, Pattern, AreTreesOf, search_of};
-ghost use Rattle.pg_lines.specs.Search.{terminator, terminator_of};
+ghost use Rattle.pg_lines.specs.Search.{terminator, terminator_of, uninverted};
 ghost use Rattle.pg_lines.specs.Queries.{IsCompiled};
-ghost use Rattle.pg_lines.specs.Selection.{selects};
-ghost use Rattle.pg_lines.specs.Literals.{IsNeeded, IsLiteral};
-ghost use Rattle.pg_lines.specs.Candidates.{AreWithout, IsFirstWith};
+ghost use Rattle.pg_lines.specs.Selection.{has_hit};
+ghost use Rattle.pg_lines.specs.Literals.{IsLiteral};
+ghost use Rattle.pg_lines.specs.Candidates.{AreWithout, IsFirstWith, IsNeedle};
 ghost use Rattle.pg_lines.specs.Runs.{AllLines, HasRuns};
 ghost use Rattle.pg_lines.specs.BlockParts.{HasParts};
 ghost use Rattle.pg_lines.specs.Gathered.{IsNextLine, IsGathered};
@@ -22,6 +24,7 @@ use crate::result::BlockResult;
 use crate::run::{Found, Run};
 use crate::span::Span;
 use memchr::memmem::Finder;
+use pg_literal::Literal;
 use pg_match::Scratch;
 use std::alloc::{AllocError, Allocator};
 use std::sync::Arc;
@@ -30,31 +33,36 @@ use std::sync::Arc;
 #[derive(Drop)]
 struct Needle<'n> {
     finder: Finder<'n>,
-    /// Each line that holds the needle is selected.
+    /// The block's bytes, where case is folded in lower case: the needle is searched for in them.
+    searched: &'n [u8],
+    /// Each line that holds the needle has a hit.
     is_enough: bool,
 }
 
-/// How many lines with the needle that aren't selected may stand near the one before, until lines are searched one by
-/// one.
+/// How many lines with the needle that have no hit may stand near the one before, until lines are searched one by one.
 const PATIENCE: usize = 8;
 
 /// Lines that begin so many bytes apart are searched as fast one by one.
 const NEAR: usize = 512;
 
-/// The first line at or behind a place that holds the needle, with its terminator.
-fn next_holding(needle: &Finder<'_>, end: u8, bytes: &[u8], at: usize) -> Option<Span>
+/// The first line at or behind a place that holds the needle, with its terminator, which isn't a letter.
+fn next_holding(needle: &Needle<'_>, end: u8, bytes: &[u8], at: usize) -> Option<Span>
     requires at { at ≤ length bytes.now }
-    requires line { IsLine end needle.now }
+    requires line { IsLine end needle.now.finder }
+    requires searched { (fold : Bool) × (needle.now.searched.now ≡ as_searched fold bytes.now) }
+    requires end { byte_as_searched true end ≡ end }
     ensures within { IfSome result (λ line. (at ≤ line.start) × (line.start < line.end)
         × (line.end ≤ length bytes.now)) }
-    ensures some { IfSome result (IsFirstWith end needle.now at (drop at bytes.now)) }
-    ensures none { IfNone result (AreWithout end needle.now (drop at bytes.now)) }
+    ensures some { (fold : Bool) → needle.now.searched.now ≡ as_searched fold bytes.now
+        → IfSome result (IsFirstWith fold end needle.now.finder at (drop at bytes.now)) }
+    ensures none { (fold : Bool) → needle.now.searched.now ≡ as_searched fold bytes.now
+        → IfNone result (AreWithout fold end needle.now.finder (drop at bytes.now)) }
 {
     let rest = &bytes[at..];
     if rest.is_empty() {
         return None;
     }
-    let Some(found) = needle.find(rest) else {
+    let Some(found) = needle.finder.find(&needle.searched[at..]) else {
         return None;
     };
     Some(Span {
@@ -63,20 +71,19 @@ fn next_holding(needle: &Finder<'_>, end: u8, bytes: &[u8], at: usize) -> Option
     })
 }
 
-/// Whether a line is selected.
-fn selects<A: Allocator>(query: &Query<A>, scratch: &mut Scratch<A>, line: &[u8]) -> bool
+/// Whether some span of a line is a hit.
+fn has_hit<A: Allocator>(query: &Query<A>, scratch: &mut Scratch<A>, line: &[u8]) -> bool
     requires fits { Fits scratch.old query.now.machine }
     requires short { length line.now ≤ 2 ^ 30 }
     ensures fits { Fits scratch.new query.now.machine }
-    ensures selected { (trees : List Pattern) → AreTreesOf query.now.text trees →
-        result ≡ selects (search_of query.now.text trees) line.now }
+    ensures hit { (trees : List Pattern) → AreTreesOf query.now.text trees →
+        result ≡ has_hit (search_of query.now.text trees) line.now }
 {
-    let is_hit = query.machine().selects(scratch, line);
-    is_hit != query.text().invert
+    query.machine().selects(scratch, line)
 }
 
-/// The first selected line at or behind a place where a line starts, with its terminator.
-fn next_selected<A: Allocator>(
+/// The first line with a hit at or behind a place where a line starts, with its terminator.
+fn next_matched<A: Allocator>(
     query: &Query<A>,
     scratch: &mut Scratch<A>,
     bytes: &[u8],
@@ -89,9 +96,9 @@ fn next_selected<A: Allocator>(
     ensures within { IfSome result (λ line. (at ≤ line.start) × (line.start < line.end)
         × (line.end ≤ length bytes.now)) }
     ensures some { (trees : List Pattern) → AreTreesOf query.now.text trees →
-        IfSome result (IsNextLine (search_of query.now.text trees) at (drop at bytes.now)) }
+        IfSome result (IsNextLine (search_of (uninverted query.now.text) trees) at (drop at bytes.now)) }
     ensures none { (trees : List Pattern) → AreTreesOf query.now.text trees →
-        IfNone result (AllLines (search_of query.now.text trees) false (drop at bytes.now)) }
+        IfNone result (AllLines (search_of (uninverted query.now.text) trees) false (drop at bytes.now)) }
 {
     let end = query.terminator();
     let rest = &bytes[at..];
@@ -99,7 +106,7 @@ fn next_selected<A: Allocator>(
     while start < rest.len() {
         let stop = line_end(end, rest, start);
         let next = if stop < rest.len() { stop + 1 } else { stop };
-        if selects(query, scratch, &rest[start..stop]) {
+        if has_hit(query, scratch, &rest[start..stop]) {
             return Some(Span {
                 start: at + start,
                 end: at + next,
@@ -110,26 +117,26 @@ fn next_selected<A: Allocator>(
     None
 }
 
-/// The first selected line at or behind a place where a line starts, with its terminator, where selected lines hold the
-/// needle: only those that do are looked at, unless too many of them aren't selected.
+/// The first line with a hit at or behind a place where a line starts, with its terminator, where such lines hold the
+/// needle: only those that do are looked at, unless too many of them have none.
 fn next_confirmed<A: Allocator>(
     query: &Query<A>,
-    needle: &Finder<'_>,
+    needle: &Needle<'_>,
     scratch: &mut Scratch<A>,
     bytes: &[u8],
     at: usize,
 ) -> Option<Span>
     requires at { at ≤ length bytes.now }
-    requires needle { IsNeeded query.now.text needle.now }
+    requires needle { IsNeedle query.now.text bytes.now needle.now }
     requires fits { Fits scratch.old query.now.machine }
     requires short { AreShort (terminator_of query.now.text) (drop at bytes.now) }
     ensures fits { Fits scratch.new query.now.machine }
     ensures within { IfSome result (λ line. (at ≤ line.start) × (line.start < line.end)
         × (line.end ≤ length bytes.now)) }
     ensures some { (trees : List Pattern) → AreTreesOf query.now.text trees →
-        IfSome result (IsNextLine (search_of query.now.text trees) at (drop at bytes.now)) }
+        IfSome result (IsNextLine (search_of (uninverted query.now.text) trees) at (drop at bytes.now)) }
     ensures none { (trees : List Pattern) → AreTreesOf query.now.text trees →
-        IfNone result (AllLines (search_of query.now.text trees) false (drop at bytes.now)) }
+        IfNone result (AllLines (search_of (uninverted query.now.text) trees) false (drop at bytes.now)) }
 {
     let end = query.terminator();
     let mut from = at;
@@ -138,7 +145,7 @@ fn next_confirmed<A: Allocator>(
         let Some(line) = next_holding(needle, end, bytes, from) else {
             return None;
         };
-        if selects(query, scratch, text_of(end, &bytes[line.start..line.end])) {
+        if has_hit(query, scratch, text_of(end, &bytes[line.start..line.end])) {
             return Some(line);
         }
         if line.start - from < NEAR {
@@ -146,12 +153,12 @@ fn next_confirmed<A: Allocator>(
         }
         from = line.end;
     }
-    next_selected(query, scratch, bytes, from)
+    next_matched(query, scratch, bytes, from)
 }
 
-/// The first selected line at or behind a place where a line starts, with its terminator: by the needle
-/// where there is one, else line by line.
-fn next_line<A: Allocator>(
+/// The first line with a hit at or behind a place where a line starts, with its terminator: by the needle where there
+/// is one, else line by line.
+fn next_hit<A: Allocator>(
     query: &Query<A>,
     needle: Option<&Needle<'_>>,
     scratch: &mut Scratch<A>,
@@ -159,26 +166,26 @@ fn next_line<A: Allocator>(
     at: usize,
 ) -> Option<Span>
     requires at { at ≤ length bytes.now }
-    requires needle { IfSome needle (λ needle. IsLiteral query.now.text needle.now.finder needle.now.is_enough) }
+    requires needle { IfSome needle (λ needle. IsNeedle query.now.text bytes.now needle.now) }
     requires fits { Fits scratch.old query.now.machine }
     requires short { AreShort (terminator_of query.now.text) (drop at bytes.now) }
     ensures fits { Fits scratch.new query.now.machine }
     ensures within { IfSome result (λ line. (at ≤ line.start) × (line.start < line.end)
         × (line.end ≤ length bytes.now)) }
     ensures some { (trees : List Pattern) → AreTreesOf query.now.text trees →
-        IfSome result (IsNextLine (search_of query.now.text trees) at (drop at bytes.now)) }
+        IfSome result (IsNextLine (search_of (uninverted query.now.text) trees) at (drop at bytes.now)) }
     ensures none { (trees : List Pattern) → AreTreesOf query.now.text trees →
-        IfNone result (AllLines (search_of query.now.text trees) false (drop at bytes.now)) }
+        IfNone result (AllLines (search_of (uninverted query.now.text) trees) false (drop at bytes.now)) }
 {
     match needle {
         Some(needle) => {
             if needle.is_enough {
-                next_holding(&needle.finder, query.terminator(), bytes, at)
+                next_holding(needle, query.terminator(), bytes, at)
             } else {
-                next_confirmed(query, &needle.finder, scratch, bytes, at)
+                next_confirmed(query, needle, scratch, bytes, at)
             }
         }
-        None => next_selected(query, scratch, bytes, at),
+        None => next_matched(query, scratch, bytes, at),
     }
 }
 
@@ -243,8 +250,8 @@ fn with_line<A: Allocator>(
     }
 }
 
-/// The runs of selected lines, their parts, and the number of all lines.
-fn selected_runs<A: Allocator + Copy>(
+/// The runs of lines with a hit, their parts, and the number of all lines.
+fn runs_of_hits<A: Allocator + Copy>(
     alloc: A,
     query: &Query<A>,
     needle: Option<&Needle<'_>>,
@@ -252,7 +259,8 @@ fn selected_runs<A: Allocator + Copy>(
     bytes: &[u8],
 ) -> Result<Found<A>, AllocError>
     requires compiled { IsCompiled query.now }
-    requires needle { IfSome needle (λ needle. IsLiteral query.now.text needle.now.finder needle.now.is_enough) }
+    requires upright { query.now.text.invert ≡ false }
+    requires needle { IfSome needle (λ needle. IsNeedle query.now.text bytes.now needle.now) }
     requires fits { Fits scratch.old query.now.machine }
     requires short { AreShort (terminator_of query.now.text) bytes.now }
     ensures fits { Fits scratch.new query.now.machine }
@@ -268,7 +276,7 @@ fn selected_runs<A: Allocator + Copy>(
         first: 0,
         count: 0,
     };
-    while let Some(line) = next_line(query, needle, scratch, bytes, run.span.end) {
+    while let Some(line) = next_hit(query, needle, scratch, bytes, run.span.end) {
         run = with_line(&mut runs, run, end, bytes, line)?;
         let number = run.first + run.count - 1;
         push_line_parts(query, scratch, bytes, line, number, &mut parts)?;
@@ -276,6 +284,114 @@ fn selected_runs<A: Allocator + Copy>(
     push_run(&mut runs, run)?;
     let lines = run.first + run.count + count_lines(end, &bytes[run.span.end..]);
     Ok(Found { runs, parts, lines })
+}
+
+/// The run of all lines from one place up to another, behind so many lines.
+fn run_between(end: u8, bytes: &[u8], at: usize, stop: usize, first: usize) -> Run
+    requires few { first ≤ at }
+    requires within { (at ≤ stop) × (stop ≤ length bytes.now) }
+    ensures span { (result.span.start ≡ at) × (result.span.end ≡ stop) }
+    ensures first { result.first ≡ first }
+    ensures count { result.count ≡ length (lines end (slice_range bytes.now at stop)) }
+    ensures few { first + result.count ≤ stop }
+{
+    Run {
+        span: Span {
+            start: at,
+            end: stop,
+        },
+        first,
+        count: count_lines(end, &bytes[at..stop]),
+    }
+}
+
+/// The runs of lines between those with a hit, and the number of all lines.
+fn runs_between_hits<A: Allocator + Copy>(
+    alloc: A,
+    query: &Query<A>,
+    needle: Option<&Needle<'_>>,
+    scratch: &mut Scratch<A>,
+    bytes: &[u8],
+) -> Result<Found<A>, AllocError>
+    requires compiled { IsCompiled query.now }
+    requires inverted { query.now.text.invert ≡ true }
+    requires needle { IfSome needle (λ needle. IsNeedle query.now.text bytes.now needle.now) }
+    requires fits { Fits scratch.old query.now.machine }
+    requires short { AreShort (terminator_of query.now.text) bytes.now }
+    ensures fits { Fits scratch.new query.now.machine }
+    ensures runs { IfOk result (λ found. HasRuns query.now.text bytes.now found.runs.items) }
+    ensures parts { IfOk result (λ found. HasParts query.now.text bytes.now found.parts.items) }
+    ensures lines { IfOk result (λ found. found.lines ≡ length (lines (terminator_of query.now.text) bytes.now)) }
+{
+    let end = query.terminator();
+    let mut runs = Vec::new(alloc);
+    let mut at = 0;
+    let mut seen = 0;
+    while let Some(line) = next_hit(query, needle, scratch, bytes, at) {
+        let run = run_between(end, bytes, at, line.start, seen);
+        push_run(&mut runs, run)?;
+        at = line.end;
+        seen += run.count + 1;
+    }
+    let last = run_between(end, bytes, at, bytes.len(), seen);
+    push_run(&mut runs, last)?;
+    Ok(Found {
+        runs,
+        parts: Vec::new(alloc),
+        lines: seen + last.count,
+    })
+}
+
+/// The runs of selected lines, their parts, and the number of all lines.
+fn selected_runs<A: Allocator + Copy>(
+    alloc: A,
+    query: &Query<A>,
+    needle: Option<&Needle<'_>>,
+    scratch: &mut Scratch<A>,
+    bytes: &[u8],
+) -> Result<Found<A>, AllocError>
+    requires compiled { IsCompiled query.now }
+    requires needle { IfSome needle (λ needle. IsNeedle query.now.text bytes.now needle.now) }
+    requires fits { Fits scratch.old query.now.machine }
+    requires short { AreShort (terminator_of query.now.text) bytes.now }
+    ensures fits { Fits scratch.new query.now.machine }
+    ensures runs { IfOk result (λ found. HasRuns query.now.text bytes.now found.runs.items) }
+    ensures parts { IfOk result (λ found. HasParts query.now.text bytes.now found.parts.items) }
+    ensures lines { IfOk result (λ found. found.lines ≡ length (lines (terminator_of query.now.text) bytes.now)) }
+{
+    if query.text().invert {
+        runs_between_hits(alloc, query, needle, scratch, bytes)
+    } else {
+        runs_of_hits(alloc, query, needle, scratch, bytes)
+    }
+}
+
+/// The same, by the lines that hold a literal. In the bytes that are searched letters are in lower case where case is
+/// folded.
+fn search_by<A: Allocator + Copy>(
+    alloc: A,
+    query: &Query<A>,
+    literal: &Literal<A>,
+    scratch: &mut Scratch<A>,
+    bytes: &[u8],
+    searched: &[u8],
+) -> Result<Found<A>, AllocError>
+    requires compiled { IsCompiled query.now }
+    requires literal { IsLiteral query.now.text literal.now.text.items literal.now.is_enough }
+    requires searched { searched.now ≡ as_searched query.now.text.fold bytes.now }
+    requires fits { Fits scratch.old query.now.machine }
+    requires short { AreShort (terminator_of query.now.text) bytes.now }
+    ensures fits { Fits scratch.new query.now.machine }
+    ensures runs { IfOk result (λ found. HasRuns query.now.text bytes.now found.runs.items) }
+    ensures parts { IfOk result (λ found. HasParts query.now.text bytes.now found.parts.items) }
+    ensures lines { IfOk result (λ found. found.lines ≡ length (lines (terminator_of query.now.text) bytes.now)) }
+{
+    let needle = Needle {
+        finder: Finder::new(&literal.text),
+        searched,
+        is_enough: literal.is_enough,
+    };
+    selected_runs(alloc, query, Some(&needle), scratch, bytes)
 }
 
 /// The runs of selected lines, their parts, and the number of all lines.
@@ -292,15 +408,14 @@ fn search_bytes<A: Allocator + Copy>(
     ensures parts { IfOk result (λ found. HasParts query.now.text bytes.now found.parts.items) }
     ensures lines { IfOk result (λ found. found.lines ≡ length (lines (terminator_of query.now.text) bytes.now)) }
 {
-    match query.literal() {
-        Some(literal) => {
-            let needle = Needle {
-                finder: Finder::new(&literal.text),
-                is_enough: literal.is_enough,
-            };
-            selected_runs(alloc, query, Some(&needle), scratch, bytes)
-        }
-        None => selected_runs(alloc, query, None, scratch, bytes),
+    let Some(literal) = query.literal() else {
+        return selected_runs(alloc, query, None, scratch, bytes);
+    };
+    if query.text().fold {
+        let lowered = bytes.to_ascii_lowercase(alloc)?;
+        search_by(alloc, query, literal, scratch, bytes, &lowered)
+    } else {
+        search_by(alloc, query, literal, scratch, bytes, bytes)
     }
 }
 

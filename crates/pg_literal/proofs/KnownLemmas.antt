@@ -1,19 +1,21 @@
 -- What is known of some patterns in a row, with one more in front.
-use Rattle.std.proofs.Common.{ℕ, zero, suc, ◌≡◌, ◌<◌, ◌≤◌, ◌+◌, ◌==◌, List, [], ◌∷◌, ◌++◌, length, get_or, reverse}
-use Rattle.std.proofs.Common.{Option, Some, false, inl, inr, refl, sym, ap, ◌∙◌, subst, arith, append_assoc}
+use Rattle.std.proofs.Common.{ℕ, zero, suc, ◌≡◌, ◌<◌, ◌≤◌, ◌+◌, Bool, List, [], ◌∷◌, ◌++◌, length, get_or, reverse}
+use Rattle.std.proofs.Common.{Option, Some, inl, inr, refl, sym, ap, ◌∙◌, subst, arith, append_assoc}
 use Rattle.std.specs.Prelude.{slice_get}
-use Rattle.std.proofs.lemmas.Bool.{false≢true, eq-eqb, eqb-true}
+use Rattle.std.proofs.lemmas.Bool.{false≢true}
 use Rattle.std.proofs.lemmas.List.{reverse-append, length_push}
 use Rattle.std.proofs.lemmas.Option.{slice_get-get_or, get_or_from_slice_get}
 use Rattle.memchr.specs.Find.{OccursAt}
 use Rattle.pg_bytes.specs.Sets.{Bytes, one}
-use Rattle.pg_syntax.specs.Patterns.{Pattern, Empty, Set, Begin, End, Cat, Alt, Rep}
+use Rattle.pg_syntax.specs.Patterns.{Pattern, Empty, Set, Begin, End, Cat, Alt, Rep, folded}
 use Rattle.pg_syntax.specs.Grammar as G
 use Rattle.pg_syntax.specs.Grammar.{Literal, Spells}
 use Rattle.pg_syntax.specs.declared.pattern_list.Kind.TheVariants.{Fixed}
 use Rattle.pg_match.specs.Matches.{Match, Chain}
-use Rattle.pg_literal.specs.Literals.{Holds}
-use Rattle.pg_literal.specs.Known.{IsAlone, head_of, HasTexts, Extends, Hides, HidesOthers}
+use Rattle.pg_literal.proofs.FoldLemmas.{searched_nothing, searched_one, searched_append}
+use Rattle.pg_literal.proofs.FoldLemmas.{searched_byte, byte_of_searched, folded_alone, alone_once}
+use Rattle.pg_literal.specs.Literals.{as_searched, Holds}
+use Rattle.pg_literal.specs.Known.{byte_as_searched, IsAlone, head_of, HasTexts, Extends, Hides, HidesOthers}
 use Rattle.pg_literal.specs.declared.known.Known.{Known}
 
 -- spans that go forward do so one behind the other too
@@ -73,82 +75,90 @@ occurs_behind line text b i o = record {
 }
 
 -- the parts of a fixed string's pattern, and the texts that spell them
-Shape : List ℕ → Pattern → Type 0
-Shape text Empty = text ≡ []
-Shape text (Set s) = (b : ℕ) × (text ≡ b ∷ []) × (s ≡ one b)
-Shape text (Cat p q) =
-    (t : List ℕ) × (b : ℕ) × Spells Fixed false t p × Spells Fixed false (b ∷ []) q × (text ≡ t ++ b ∷ [])
-Shape text _ = ⊥
+Shape : Bool → List ℕ → Pattern → Type 0
+Shape fold text Empty = text ≡ []
+Shape fold text (Set s) = (b : ℕ) × (text ≡ b ∷ []) × (s ≡ folded fold (one b))
+Shape fold text (Cat p q) =
+    (t : List ℕ) × (b : ℕ) × Spells Fixed fold t p × Spells Fixed fold (b ∷ []) q × (text ≡ t ++ b ∷ [])
+Shape fold text _ = ⊥
 
 -- the pattern of some bytes
-literal_shape : {text : List ℕ} {p : Pattern} → Literal false text p → length text ≤ 4096 → Shape text p
+literal_shape : {fold : Bool} {text : List ℕ} {p : Pattern} → Literal fold text p → length text ≤ 4096
+    → Shape fold text p
 unfolding Shape
 literal_shape (G.first b) small = (b, refl, refl)
 literal_shape (G.more {text = t} l b) small =
     (t, b, G.some (omega (arith, length_push t b)) l, G.some (omega arith) (G.first b), refl)
 
 -- the pattern of a fixed string
-shape : {text : List ℕ} {p : Pattern} → Spells Fixed false text p → Shape text p
+shape : {fold : Bool} {text : List ℕ} {p : Pattern} → Spells Fixed fold text p → Shape fold text p
 unfolding Shape
 shape G.nothing = refl
 shape (G.some small l) = literal_shape l small
 
-module _ {A : Type 0} where
+module _ {A : Type 0} (fold : Bool) where
   -- the empty pattern
-  pub extends_empty : (rest : Known A) → Extends Empty rest rest
+  pub extends_empty : (rest : Known A) → Extends fold Empty rest rest
   unfolding Shape
   extends_empty rest = record {
-    texts = λ line i j m has. subst (HasTexts rest line) (sym m) has;
+    texts = λ line i j m has. subst (HasTexts fold rest line) (sym m) has;
     sure = λ is. (is, λ line i o. (i, refl, o));
-    fixed = λ text s. (ap (λ t. t ++ head_of rest) (sym (shape s)), refl);
+    fixed = λ text s.
+        let none = ap (as_searched fold) (shape s) ∙ searched_nothing fold in
+        (ap (λ t. t ++ head_of rest) (sym none), refl);
   }
 
   -- one byte
-  pub extends_byte : (set : Bytes) (b : ℕ) (rest whole : Known A) → IsAlone set b
+  pub extends_byte : (set : Bytes) (b : ℕ) (rest whole : Known A) → IsAlone fold set b
       → whole.head.items ≡ rest.head.items ++ b ∷ [] → whole.best.items ≡ rest.best.items
-      → whole.is_sure ≡ rest.is_sure → Extends (Set set) rest whole
+      → whole.is_sure ≡ rest.is_sure → Extends fold (Set set) rest whole
   unfolding Shape
   extends_byte set b rest whole alone head best sure =
       let longer : head_of whole ≡ b ∷ head_of rest = ap reverse head ∙ reverse-append rest.head.items (b ∷ []) in
       record {
         texts = λ line i j m has. record {
           head =
-              let is = m.1 ∙ ap Some (alone.1 m.0 m.2) in
-              let behind = subst (OccursAt line (head_of rest)) m.3 has.head in
-              subst (λ t. OccursAt line t i) (sym longer) (occurs_more line (head_of rest) b i is behind);
-          best = subst (λ t. Holds line (reverse t)) (sym best) has.best;
+              let searched = as_searched fold line in
+              let is = searched_byte fold line i m.0 m.1 ∙ ap Some ((alone.1 m.0).0 m.2) in
+              let behind = subst (OccursAt searched (head_of rest)) m.3 has.head in
+              subst (λ t. OccursAt searched t i) (sym longer) (occurs_more searched (head_of rest) b i is behind);
+          best = subst (λ t. Holds fold line (reverse t)) (sym best) has.best;
         };
         sure = λ is. (
           sym sure ∙ is,
           λ line i o.
-              let at = subst (λ t. OccursAt line t i) longer o in (
+              let searched = as_searched fold line in
+              let at = subst (λ t. OccursAt searched t i) longer o in
+              let byte = byte_of_searched fold line i b (occurs_first searched (head_of rest) b i at) in (
                 i + 1,
-                (b, occurs_first line (head_of rest) b i at, alone.0, refl),
-                occurs_behind line (head_of rest) b i at,
+                (byte.0, byte.1, (alone.1 byte.0).1 byte.2, refl),
+                occurs_behind searched (head_of rest) b i at,
               ),
         );
         fixed = λ text s.
             let is = shape s in
-            let same : b ≡ is.0 = eqb-true b is.0 (ap (λ t. t b) (sym is.2) ∙ alone.0) in
-            (longer ∙ ap (λ c. c ∷ head_of rest) same ∙ ap (λ t. t ++ head_of rest) (sym is.1), sure);
+            let same = alone_once fold is.0 b (subst (λ t. IsAlone fold t b) is.2 alone) in
+            let joined = ap (as_searched fold) is.1 ∙ searched_one fold is.0 in
+            (longer ∙ ap (λ c. c ∷ head_of rest) same ∙ ap (λ t. t ++ head_of rest) (sym joined), sure);
       }
 
   -- where the texts stand further right, what hides them stands
-  hidden_texts : (rest whole : Known A) → Hides rest whole → (line : List ℕ) (i j : ℕ) → i ≤ j → HasTexts rest line j
-      → HasTexts whole line i
+  hidden_texts : (rest whole : Known A) → Hides rest whole → (line : List ℕ) (i j : ℕ) → i ≤ j
+      → HasTexts fold rest line j → HasTexts fold whole line i
   hidden_texts rest whole hides line i j forward has = record {
     head =
         let fits = has.head.fits in
-        subst (λ t. OccursAt line (reverse t) i) (sym hides.head) (occurs_nothing line i (omega arith));
+        let none = occurs_nothing (as_searched fold line) i (omega arith) in
+        subst (λ t. OccursAt (as_searched fold line) (reverse t) i) (sym hides.head) none;
     best = elim hides.best [
-      | inl head ↦ subst (λ t. Holds line (reverse t.items)) (sym head) (j, has.head)
-      | inr best ↦ subst (λ t. Holds line (reverse t.items)) (sym best) has.best
+      | inl head ↦ subst (λ t. Holds fold line (reverse t.items)) (sym head) (j, has.head)
+      | inr best ↦ subst (λ t. Holds fold line (reverse t.items)) (sym best) has.best
     ];
   }
 
   -- a pattern that no fixed string spells
   extends_hidden : (p : Pattern) (rest whole : Known A) → Hides rest whole
-      → ((text : List ℕ) → Spells Fixed false text p → ⊥) → Extends p rest whole
+      → ((text : List ℕ) → Spells Fixed fold text p → ⊥) → Extends fold p rest whole
   extends_hidden p rest whole hides none = record {
     texts = λ line i j m has. hidden_texts rest whole hides line i j (match_forward p line i j m) has;
     sure = λ is. absurd (false≢true (sym hides.sure ∙ is));
@@ -156,29 +166,29 @@ module _ {A : Type 0} where
   }
 
   -- a set that isn't of one byte
-  pub extends_set : (set : Bytes) (rest whole : Known A) → Hides rest whole → ((b : ℕ) → IsAlone set b → ⊥)
-      → Extends (Set set) rest whole
+  pub extends_set : (set : Bytes) (rest whole : Known A) → Hides rest whole → ((b : ℕ) → IsAlone fold set b → ⊥)
+      → Extends fold (Set set) rest whole
   unfolding Shape
   extends_set set rest whole hides none = extends_hidden (Set set) rest whole hides (λ text s.
       let is = shape s in
-      let test : (c : ℕ) → set c ≡ (c == is.0) = λ c. ap (λ t. t c) is.2 in
-      none is.0 (test is.0 ∙ eq-eqb is.0 is.0 refl, λ c e. eqb-true c is.0 (sym (test c) ∙ e)))
+      let b = byte_as_searched fold is.0 in
+      none b (subst (λ t. IsAlone fold t b) (sym is.2) (folded_alone fold is.0)))
 
   -- one of two patterns
-  pub extends_alt : (p q : Pattern) (rest whole : Known A) → Hides rest whole → Extends (Alt p q) rest whole
+  pub extends_alt : (p q : Pattern) (rest whole : Known A) → Hides rest whole → Extends fold (Alt p q) rest whole
   unfolding Shape
   extends_alt p q rest whole hides = extends_hidden (Alt p q) rest whole hides (λ text s. shape s)
 
   -- rounds of which there may be none
   pub extends_rep : (p : Pattern) (least : ℕ) (most : Option ℕ) (rest whole : Known A) → Hides rest whole
-      → Extends (Rep p least most) rest whole
+      → Extends fold (Rep p least most) rest whole
   unfolding Shape
   extends_rep p least most rest whole hides =
       extends_hidden (Rep p least most) rest whole hides (λ text s. shape s)
 
   -- two patterns
-  pub extends_cat : (p q : Pattern) (rest more whole : Known A) → Extends q rest more → Extends p more whole
-      → Extends (Cat p q) rest whole
+  pub extends_cat : (p q : Pattern) (rest more whole : Known A) → Extends fold q rest more
+      → Extends fold p more whole → Extends fold (Cat p q) rest whole
   unfolding Shape
   extends_cat p q rest more whole second first = record {
     texts = λ line i j m has. first.texts line i m.0 m.1 (second.texts line m.0 j m.2 has);
@@ -195,14 +205,17 @@ module _ {A : Type 0} where
         let is = shape s in
         let one = first.fixed is.0 is.2 in
         let two = second.fixed (is.1 ∷ []) is.3 in
-        let joined = append_assoc is.0 (is.1 ∷ []) (head_of rest) in
-        let head = one.0 ∙ ap (λ t. is.0 ++ t) two.0 ∙ sym joined ∙ ap (λ t. t ++ head_of rest) (sym is.4) in
+        let front = as_searched fold is.0 in
+        let last = as_searched fold (is.1 ∷ []) in
+        let whole = ap (as_searched fold) is.4 ∙ searched_append fold is.0 (is.1 ∷ []) in
+        let head = one.0 ∙ ap (λ t. front ++ t) two.0 ∙ sym (append_assoc front last (head_of rest))
+        ∙ ap (λ t. t ++ head_of rest) (sym whole) in
         (head, one.1 ∙ two.1);
   }
 
   -- one round alone
-  extends_once : (p : Pattern) (rest whole : Known A) → Extends p rest whole
-      → Extends (Rep p 1 (Some 1)) rest whole
+  extends_once : (p : Pattern) (rest whole : Known A) → Extends fold p rest whole
+      → Extends fold (Rep p 1 (Some 1)) rest whole
   unfolding Shape
   extends_once p rest whole known = record {
     texts = λ line i j m has. known.texts line i j (single line i j m.0 m.1 m.2 m.3) has;
@@ -220,7 +233,7 @@ module _ {A : Type 0} where
 
   -- one round or more, of which the others hide what stands behind the first
   extends_rounds : (p : Pattern) (least : ℕ) (most : Option ℕ) (rest hidden whole : Known A) → 1 ≤ least
-      → Hides rest hidden → Extends p hidden whole → Extends (Rep p least most) rest whole
+      → Hides rest hidden → Extends fold p hidden whole → Extends fold (Rep p least most) rest whole
   unfolding Shape
   extends_rounds p least most rest hidden whole some hides known = record {
     texts = λ line i j m has. rounds line i j m.0 (omega (arith, m.1)) m.3 has;
@@ -228,8 +241,8 @@ module _ {A : Type 0} where
     fixed = λ text s. absurd (shape s);
   }
     where
-      rounds : (line : List ℕ) (i j count : ℕ) → 1 ≤ count → Chain (Match p line) count i j → HasTexts rest line j
-          → HasTexts whole line i
+      rounds : (line : List ℕ) (i j count : ℕ) → 1 ≤ count → Chain (Match p line) count i j
+          → HasTexts fold rest line j → HasTexts fold whole line i
       rounds line i j zero low c has = absurd (omega arith)
       rounds line i j (suc n) low c has =
           let forward = chain_forward (Match p line) (match_forward p line) n c.0 j c.2 in
@@ -237,7 +250,8 @@ module _ {A : Type 0} where
 
   -- a repetition with a first round
   pub extends_first : (p : Pattern) (least : ℕ) (most : Option ℕ) (rest behind whole : Known A) → 1 ≤ least
-      → HidesOthers least most rest behind → Extends p behind whole → Extends (Rep p least most) rest whole
+      → HidesOthers least most rest behind → Extends fold p behind whole
+      → Extends fold (Rep p least most) rest whole
   extends_first p least most rest behind whole some (inl single) first =
       rw (single.0, single.1) (extends_once p rest whole (rw single.2 at first))
   extends_first p least most rest behind whole some (inr hides) first =

@@ -1,2 +1,3 @@
+pub mod FoldLemmas
 pub mod KnownLemmas
 pub mod LiteralLemmas

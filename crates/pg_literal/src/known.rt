@@ -1,9 +1,9 @@
 //! What is known of the matches of trees in a row.
-ghost use Rattle.std.specs.Prelude.{◌≡◌, ◌⊎◌, ◌++◌, ℕ, [], ◌∷◌, IfOk, MatchOption};
+ghost use Rattle.std.specs.Prelude.{◌≡◌, ◌⊎◌, ◌++◌, ℕ, Bool, [], ◌∷◌, true, IfOk, MatchOption};
 ghost use Rattle.pg_bytes.specs.ByteSets.{bytes};
 ghost use Rattle.pg_syntax.specs.Patterns.{Pattern, Begin, End, Set};
 ghost use Rattle.pg_syntax.specs.Trees.{pattern};
-ghost use Rattle.pg_literal.specs.Known.{IsAlone, IsNothing, Extends, Hides, HidesOthers};
+ghost use Rattle.pg_literal.specs.Known.{byte_as_searched, IsAlone, IsNothing, Extends, Hides, HidesOthers};
 
 use pg_bytes::ByteSet;
 use pg_syntax::Tree;
@@ -46,8 +46,8 @@ impl<A: Allocator + Copy> Known<A> {
 
     /// With an anchor in front. The head also stands where none holds.
     fn with_anchor(mut self) -> Known<A>
-        ensures begin { Extends Begin self result }
-        ensures end { Extends End self result }
+        ensures begin { (fold : Bool) → Extends fold Begin self result }
+        ensures end { (fold : Bool) → Extends fold End self result }
     {
         self.is_sure = false;
         self
@@ -76,10 +76,10 @@ impl<A: Allocator + Copy> Known<A> {
     }
 
     /// With a byte of the set in front.
-    fn with_set(self, alloc: A, set: &ByteSet) -> Result<Known<A>, AllocError>
-        ensures { IfOk result (Extends (Set (bytes set.now)) self) }
+    fn with_set(self, alloc: A, set: &ByteSet, fold: bool) -> Result<Known<A>, AllocError>
+        ensures { IfOk result (Extends fold (Set (bytes set.now)) self) }
     {
-        match only_byte(set) {
+        match only_byte(set, fold) {
             Some(byte) => {
                 let known = self.with_byte(byte)?;
                 Ok(known)
@@ -100,20 +100,40 @@ pub(crate) fn longer<A: Allocator>(first: Vec<u8, A>, second: Vec<u8, A>) -> Vec
     }
 }
 
-/// The byte of a set that has no other.
-fn only_byte(set: &ByteSet) -> Option<u8>
-    ensures { MatchOption result ((b : ℕ) → IsAlone (bytes set.now) b → ⊥) (IsAlone (bytes set.now)) }
+/// A byte as it is searched for: with `fold` letters are searched for in lower case.
+fn as_searched(byte: u8, fold: bool) -> u8
+    ensures { result ≡ byte_as_searched fold byte }
 {
-    let mut found = None;
+    if fold {
+        byte.to_ascii_lowercase()
+    } else {
+        byte
+    }
+}
+
+/// The least byte of a set.
+fn first_byte(set: &ByteSet) -> Option<u8>
+    ensures { MatchOption result ((b : ℕ) → bytes set.now b ≡ true → ⊥) (λ b. bytes set.now b ≡ true) }
+{
     for byte in 0..=u8::MAX {
         if set.contains(byte) {
-            if found.is_some() {
-                return None;
-            }
-            found = Some(byte);
+            return Some(byte);
         }
     }
-    found
+    None
+}
+
+/// The byte that those of a set are searched for as, where the set has all that are searched for as that byte.
+fn only_byte(set: &ByteSet, fold: bool) -> Option<u8>
+    ensures { MatchOption result ((b : ℕ) → IsAlone fold (bytes set.now) b → ⊥) (IsAlone fold (bytes set.now)) }
+{
+    let byte = as_searched(first_byte(set)?, fold);
+    for other in 0..=u8::MAX {
+        if set.contains(other) != (as_searched(other, fold) == byte) {
+            return None;
+        }
+    }
+    Some(byte)
 }
 
 /// What is known of a tree, followed by what was known so far.
@@ -122,21 +142,22 @@ fn only_byte(set: &ByteSet) -> Option<u8>
 pub(crate) fn with_tree<A: Allocator + Copy>(
     alloc: A,
     tree: &Tree<A>,
+    fold: bool,
     mut known: Known<A>,
 ) -> Result<Known<A>, AllocError>
-    ensures { IfOk result (Extends (pattern tree.now) known) }
+    ensures { IfOk result (Extends fold (pattern tree.now) known) }
 {
     let mut tree = tree;
     loop {
         match tree {
             Tree::Empty => return Ok(known),
             Tree::Set(set) => {
-                let known = known.with_set(alloc, set)?;
+                let known = known.with_set(alloc, set, fold)?;
                 return Ok(known);
             }
             Tree::Begin | Tree::End => return Ok(known.with_anchor()),
             Tree::Cat(first, second) => {
-                known = with_tree(alloc, second, known)?;
+                known = with_tree(alloc, second, fold, known)?;
                 tree = first;
             }
             Tree::Alt(_, _) => return Ok(known.hidden(alloc)),

@@ -1,11 +1,11 @@
 //! The text that each match holds.
-ghost use Rattle.std.specs.Prelude.{◌≡◌, ◌⊎◌, ℕ, List, [], ◌∷◌, map, reverse, false, IsTrue, IfOk, IfSome, IsSomeAnd};
+ghost use Rattle.std.specs.Prelude.{◌≡◌, ◌⊎◌, ℕ, List, [], ◌∷◌, map, reverse, IsTrue, IfOk, IfSome, IsSomeAnd};
 ghost use Rattle.pg_syntax.specs.Grammar.{Spells};
 ghost use Rattle.pg_syntax.specs.Patterns.{Pattern};
 ghost use Rattle.pg_syntax.specs.Trees.{pattern};
 ghost use Rattle.pg_syntax.specs.declared.pattern_list.Kind.TheVariants.{Fixed};
 ghost use Rattle.pg_match.specs.declared.bounds.Bounds.TheVariants.{Any};
-ghost use Rattle.pg_literal.specs.Literals.{IsNeeded, IsEnough};
+ghost use Rattle.pg_literal.specs.Literals.{as_searched, IsNeeded, IsEnough};
 
 use crate::known::{Known, longer, with_tree};
 use pg_match::Bounds;
@@ -15,7 +15,7 @@ use std::alloc::{AllocError, Allocator, Global};
 /// A text that each line with a hit holds.
 #[derive(Drop)]
 pub struct Literal<A: Allocator = Global> {
-    /// The bytes, as they stand in the line.
+    /// The bytes, as they stand in the line; where case is folded, as they stand in the line in lower case.
     pub text: Vec<u8, A>,
     /// Each line that holds the text has a hit.
     pub is_enough: bool,
@@ -24,20 +24,25 @@ pub struct Literal<A: Allocator = Global> {
 impl<A: Allocator + Copy> Literal<A> {
     /// A text that each line holds in which some tree matches a span within the bounds; `None` where none was found.
     ///
-    /// The tree of a plain fixed string gives that string. Of several trees no text is searched for. A refused request
-    /// for memory is the only error.
-    pub fn of(alloc: A, trees: &[Tree<A>], bounds: Bounds) -> Result<Option<Literal<A>>, AllocError>
+    /// With `fold` the case of letters is folded, as it was for the trees. The tree of a plain fixed string gives that
+    /// string. Of several trees no text is searched for. A refused request for memory is the only error.
+    pub fn of(
+        alloc: A,
+        trees: &[Tree<A>],
+        bounds: Bounds,
+        fold: bool,
+    ) -> Result<Option<Literal<A>>, AllocError>
         ensures needed { IfOk result (λ found. IfSome found
-            (λ literal. IsNeeded (map pattern trees.now) bounds literal.text.items)) }
+            (λ literal. IsNeeded fold (map pattern trees.now) bounds literal.text.items)) }
         ensures enough { IfOk result (λ found. IfSome found
-            (λ literal. IsTrue literal.is_enough → IsEnough (map pattern trees.now) bounds literal.text.items)) }
-        ensures fixed { IfOk result (λ found. (text : List ℕ) (tree : Pattern) → Spells Fixed false text tree
+            (λ literal. IsTrue literal.is_enough → IsEnough fold (map pattern trees.now) bounds literal.text.items)) }
+        ensures fixed { IfOk result (λ found. (text : List ℕ) (tree : Pattern) → Spells Fixed fold text tree
             → map pattern trees.now ≡ tree ∷ [] → bounds ≡ Any
-            → IsSomeAnd found (λ literal. (literal.text.items ≡ text) × IsTrue literal.is_enough)) }
+            → IsSomeAnd found (λ literal. (literal.text.items ≡ as_searched fold text) × IsTrue literal.is_enough)) }
     {
         match trees {
             [tree] => {
-                let known = with_tree(alloc, tree, Known::nothing(alloc))?;
+                let known = with_tree(alloc, tree, fold, Known::nothing(alloc))?;
                 Ok(best_text(known, bounds))
             }
             _ => Ok(None),

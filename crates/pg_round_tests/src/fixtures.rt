@@ -13,11 +13,11 @@ use std::sync::Arc;
 use std::sync::atomic::{AtomicU64, Ordering};
 use std::thread;
 
-/// A query for the letter x.
-pub(crate) fn query<A: Allocator + Copy>(alloc: A) -> Result<Arc<Query<A>, A>, AllocError> {
+/// What a query for the letter x is compiled from.
+pub(crate) fn text<A: Allocator + Copy>(alloc: A) -> Result<QueryText<A>, AllocError> {
     let mut lists = Vec::new(alloc);
     lists.push(PatternList::Text(Vec::from_slice(alloc, b"x")?))?;
-    let text = QueryText {
+    Ok(QueryText {
         kind: Kind::Fixed,
         lists,
         fold: false,
@@ -26,8 +26,12 @@ pub(crate) fn query<A: Allocator + Copy>(alloc: A) -> Result<Arc<Query<A>, A>, A
         invert: false,
         pieces: false,
         zero: false,
-    };
-    match Query::compile(alloc, text) {
+    })
+}
+
+/// A query for the letter x.
+pub(crate) fn query<A: Allocator + Copy>(alloc: A) -> Result<Arc<Query<A>, A>, AllocError> {
+    match Query::compile(alloc, text(alloc)?) {
         Ok(query) => {
             let query = Arc::new(alloc, query)?;
             Ok(query)
@@ -168,6 +172,16 @@ pub(crate) struct Meeting {
     pub(crate) begun: AtomicU64,
     pub(crate) ended: AtomicU64,
     pub(crate) met: AtomicU64,
+}
+
+impl Meeting {
+    pub(crate) fn new() -> Meeting {
+        Meeting {
+            begun: AtomicU64::new(0),
+            ended: AtomicU64::new(0),
+            met: AtomicU64::new(0),
+        }
+    }
 }
 
 impl Gate for Meeting {

@@ -5,3 +5,5 @@
 mod fixtures;
 #[cfg(test)]
 mod rounds;
+#[cfg(test)]
+mod runs;

@@ -7,7 +7,7 @@ use pg_seq::MemSink;
 use refusing::Refusing;
 use std::alloc::Allocator;
 use std::sync::Wait;
-use std::sync::atomic::{AtomicU64, Ordering};
+use std::sync::atomic::Ordering;
 use std::test::Fail;
 use std::thread::Threads;
 use std::time::Clock;
@@ -74,11 +74,7 @@ fn a_round_may_be_short(rt: HostRuntime) -> Result<(), Fail> {
 
 #[test]
 fn two_search_at_once(rt: HostRuntime) -> Result<(), Fail> {
-    let gate = Meeting {
-        begun: AtomicU64::new(0),
-        ended: AtomicU64::new(0),
-        met: AtomicU64::new(0),
-    };
+    let gate = Meeting::new();
     let found = search_some(&rt, rt.alloc(), 2, 3, &gate);
     assert_eq!(rt; found, Ok(([1, 1, 0, 0, 0, 0, 0, 0], 3)));
     assert_eq!(rt; gate.met.load(Ordering::SeqCst), 2);

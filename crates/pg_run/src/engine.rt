@@ -10,7 +10,7 @@ ghost use Rattle.pg_run.specs.Endless.{is_endless};
 use crate::fault::RunFault;
 use crate::setup::Setup;
 use pg_lines::{Block, Cutter, Query, Scratch, search_block};
-use pg_round::{FreeGate, search_round};
+use pg_round::{Gate, search_round};
 use pg_rows::{Format, Mode, Sink};
 use pg_seq::Sequencer;
 use std::alloc::{AllocError, Allocator, Global};
@@ -126,7 +126,7 @@ impl<A: Allocator + Copy> Engine<A> {
     }
 
     /// Searches the open file's next block, and gives the sequencer its result. No block waits.
-    fn take(&mut self, block: Block<A>) -> Result<(), AllocError>
+    fn take<G: Gate>(&mut self, gate: &G, block: Block<A>) -> Result<(), AllocError>
         requires at_once { self.old.spread ≡ false }
         requires ready { (aim : Aim) × (steps : List Step) × (out : Stream)
             × IsReady self.old aim steps out (Announces block) }
@@ -136,12 +136,11 @@ impl<A: Allocator + Copy> Engine<A> {
             OnOk result (Holds self.new aim (Announces block ∷ steps) out) }
     {
         let block = Arc::new(self.alloc, block)?;
-        let found = search_block(
-            self.alloc,
-            &self.query,
-            &mut self.scratch,
-            Arc::try_clone(&block)?,
-        )?;
+        let searched = Arc::try_clone(&block)?;
+        gate.before(0);
+        let answer = search_block(self.alloc, &self.query, &mut self.scratch, searched);
+        gate.after(0);
+        let found = answer?;
         self.sequencer.announce(block)?;
         self.sequencer.keep(found);
         Ok(())
@@ -262,9 +261,10 @@ impl<A: Allocator + Copy + Send + Sync> Engine<A> {
     ghost use Rattle.pg_run.specs.Holding.{Aim, Holds, IsReady, IsWritten, Broke, format_of, stream};
 
     /// Searches the blocks that wait, by several threads where that pays, and writes all that may be written.
-    fn search_round<R: Threads + Wait + Clock + Sync, W: Sink>(
+    fn search_round<R: Threads + Wait + Clock + Sync, W: Sink, G: Gate + Sync>(
         &mut self,
         rt: &R,
+        gate: &G,
         out: &mut W,
     ) -> Result<(), RunFault>
         requires holds { (aim : Aim) × (steps : List Step)
@@ -296,7 +296,7 @@ impl<A: Allocator + Copy + Send + Sync> Engine<A> {
             &mut scratches,
             &mut self.sequencer,
             out,
-            &FreeGate,
+            gate,
         )?;
         self.scratches = scratches;
         self.round.clear();
@@ -304,9 +304,10 @@ impl<A: Allocator + Copy + Send + Sync> Engine<A> {
     }
 
     /// Searches the blocks that wait, if there are any, and writes all that may be written.
-    pub(crate) fn flush<R: Threads + Wait + Clock + Sync, W: Sink>(
+    pub(crate) fn flush<R: Threads + Wait + Clock + Sync, W: Sink, G: Gate + Sync>(
         &mut self,
         rt: &R,
+        gate: &G,
         out: &mut W,
     ) -> Result<(), RunFault>
         requires holds { (aim : Aim) × (steps : List Step)
@@ -324,13 +325,14 @@ impl<A: Allocator + Copy + Send + Sync> Engine<A> {
         if self.round.is_empty() {
             return self.drain(out);
         }
-        self.search_round(rt, out)
+        self.search_round(rt, gate, out)
     }
 
     /// Searches a round that is full.
-    fn make_room<R: Threads + Wait + Clock + Sync, W: Sink>(
+    fn make_room<R: Threads + Wait + Clock + Sync, W: Sink, G: Gate + Sync>(
         &mut self,
         rt: &R,
+        gate: &G,
         out: &mut W,
     ) -> Result<(), RunFault>
         requires holds { (aim : Aim) × (steps : List Step)
@@ -347,14 +349,15 @@ impl<A: Allocator + Copy + Send + Sync> Engine<A> {
         if self.round.len() < self.setup.round as usize {
             return Ok(());
         }
-        self.flush(rt, out)?;
+        self.flush(rt, gate, out)?;
         Ok(())
     }
 
     /// Has the open file's next block wait. A full round is searched before.
-    fn hold<R: Threads + Wait + Clock + Sync, W: Sink>(
+    fn hold<R: Threads + Wait + Clock + Sync, W: Sink, G: Gate + Sync>(
         &mut self,
         rt: &R,
+        gate: &G,
         block: Block<A>,
         out: &mut W,
     ) -> Result<(), RunFault>
@@ -368,16 +371,17 @@ impl<A: Allocator + Copy + Send + Sync> Engine<A> {
             IsReady self.old aim steps (stream (W.taken out.old) (W.failures out.old)) (Announces block) →
             IfErr result (Broke aim (Announces block ∷ steps) (stream (W.taken out.new) (W.failures out.new))) }
     {
-        self.make_room(rt, out)?;
+        self.make_room(rt, gate, out)?;
         self.add(block)?;
         Ok(())
     }
 
     /// Searches the open file's next block and writes what may be written, or has the block wait where blocks
     /// are searched in rounds. The block may follow on those before it.
-    pub(crate) fn search<R: Threads + Wait + Clock + Sync, W: Sink>(
+    pub(crate) fn search<R: Threads + Wait + Clock + Sync, W: Sink, G: Gate + Sync>(
         &mut self,
         rt: &R,
+        gate: &G,
         block: Block<A>,
         out: &mut W,
     ) -> Result<(), RunFault>
@@ -395,17 +399,18 @@ impl<A: Allocator + Copy + Send + Sync> Engine<A> {
             IfErr result (Broke aim (Announces block ∷ steps) (stream (W.taken out.new) (W.failures out.new))) }
     {
         if self.spread {
-            return self.hold(rt, block, out);
+            return self.hold(rt, gate, block, out);
         }
-        self.take(block)?;
+        self.take(gate, block)?;
         self.drain(out)?;
         Ok(())
     }
 
     /// Searches what waits, writes what is left, and answers the status. No file is open.
-    pub(crate) fn finish<R: Threads + Wait + Clock + Sync, W: Sink>(
+    pub(crate) fn finish<R: Threads + Wait + Clock + Sync, W: Sink, G: Gate + Sync>(
         &mut self,
         rt: &R,
+        gate: &G,
         out: &mut W,
     ) -> Result<u8, RunFault>
         requires holds { (aim : Aim) × (steps : List Step)
@@ -423,7 +428,7 @@ impl<A: Allocator + Copy + Send + Sync> Engine<A> {
             Holds self.old aim steps (stream (W.taken out.old) (W.failures out.old)) →
             IfErr result (Broke aim steps (stream (W.taken out.new) (W.failures out.new))) }
     {
-        self.flush(rt, out)?;
+        self.flush(rt, gate, out)?;
         Ok(self.sequencer.status().unwrap())
     }
 }

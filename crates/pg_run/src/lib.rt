@@ -20,6 +20,7 @@ pub use files::{Files, ReadFault, Step};
 pub use listed::{Listed, shown_name};
 pub use mem_store::{Ending, MemStore};
 pub use past::StorePast;
+pub use pg_round::{FreeGate, Gate};
 pub use running::run;
 pub use setup::Setup;
 pub use store::{OpenFault, Store};

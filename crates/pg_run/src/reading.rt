@@ -12,6 +12,7 @@ use crate::engine::Engine;
 use crate::fault::RunFault;
 use crate::files::Files;
 use pg_lines::Cutter;
+use pg_round::Gate;
 use pg_rows::Sink;
 use std::alloc::Allocator;
 use std::sync::Wait;
@@ -30,8 +31,14 @@ pub(crate) enum Came {
 }
 
 /// Searches the blocks that are finished.
-fn search_ready<R: Threads + Wait + Clock + Sync, A: Allocator + Copy + Send + Sync, W: Sink>(
+fn search_ready<
+    R: Threads + Wait + Clock + Sync,
+    A: Allocator + Copy + Send + Sync,
+    W: Sink,
+    G: Gate + Sync,
+>(
     rt: &R,
+    gate: &G,
     cutter: &mut Cutter<A>,
     engine: &mut Engine<A>,
     out: &mut W,
@@ -47,14 +54,20 @@ fn search_ready<R: Threads + Wait + Clock + Sync, A: Allocator + Copy + Send + S
         IfErr result (Breaks aim given (stream (W.taken out.new) (W.failures out.new))) }
 {
     while let Some(block) = cutter.take() {
-        engine.search(rt, block, out)?;
+        engine.search(rt, gate, block, out)?;
     }
     Ok(())
 }
 
 /// Searches what is left once the file can't go on.
-fn search_last<R: Threads + Wait + Clock + Sync, A: Allocator + Copy + Send + Sync, W: Sink>(
+fn search_last<
+    R: Threads + Wait + Clock + Sync,
+    A: Allocator + Copy + Send + Sync,
+    W: Sink,
+    G: Gate + Sync,
+>(
     rt: &R,
+    gate: &G,
     cutter: Cutter<A>,
     engine: &mut Engine<A>,
     failed: bool,
@@ -71,14 +84,20 @@ fn search_last<R: Threads + Wait + Clock + Sync, A: Allocator + Copy + Send + Sy
         IfErr result (Breaks aim given (stream (W.taken out.new) (W.failures out.new))) }
 {
     match cutter.finish() {
-        Some(block) => engine.search(rt, block, out),
+        Some(block) => engine.search(rt, gate, block, out),
         None => Ok(()),
     }
 }
 
 /// Ends a file that can't go on.
-fn finish_file<R: Threads + Wait + Clock + Sync, A: Allocator + Copy + Send + Sync, W: Sink>(
+fn finish_file<
+    R: Threads + Wait + Clock + Sync,
+    A: Allocator + Copy + Send + Sync,
+    W: Sink,
+    G: Gate + Sync,
+>(
     rt: &R,
+    gate: &G,
     cutter: Cutter<A>,
     engine: &mut Engine<A>,
     failed: bool,
@@ -93,14 +112,21 @@ fn finish_file<R: Threads + Wait + Clock + Sync, A: Allocator + Copy + Send + Sy
         InFile cutter engine.old aim (ending_of failed) given (stream (W.taken out.old) (W.failures out.old)) →
         IfErr result (Breaks aim given (stream (W.taken out.new) (W.failures out.new))) }
 {
-    search_last(rt, cutter, engine, failed, out)?;
+    search_last(rt, gate, cutter, engine, failed, out)?;
     engine.end(failed);
     Ok(())
 }
 
 /// Searches the blocks that wait, where the next read of the open file may wait too.
-fn settle<R: Threads + Wait + Clock + Sync, A: Allocator + Copy + Send + Sync, F: Files, W: Sink>(
+fn settle<
+    R: Threads + Wait + Clock + Sync,
+    A: Allocator + Copy + Send + Sync,
+    F: Files,
+    W: Sink,
+    G: Gate + Sync,
+>(
     rt: &R,
+    gate: &G,
     cutter: &Cutter<A>,
     engine: &mut Engine<A>,
     files: &F,
@@ -116,7 +142,7 @@ fn settle<R: Threads + Wait + Clock + Sync, A: Allocator + Copy + Send + Sync, F
         IfErr result (Breaks aim given (stream (W.taken out.new) (W.failures out.new))) }
 {
     if engine.has_waiting() && files.may_wait() {
-        return engine.flush(rt, out);
+        return engine.flush(rt, gate, out);
     }
     Ok(())
 }
@@ -128,8 +154,10 @@ fn read_piece<
     A: Allocator + Copy + Send + Sync,
     F: Files,
     W: Sink,
+    G: Gate + Sync,
 >(
     rt: &R,
+    gate: &G,
     cutter: &mut Cutter<A>,
     engine: &mut Engine<A>,
     files: &mut F,
@@ -160,10 +188,10 @@ fn read_piece<
         return Ok(Came::End);
     }
     if let Err(fault) = cutter.feed(&buffer[..count]) {
-        engine.flush(rt, out)?;
+        engine.flush(rt, gate, out)?;
         return Err(RunFault::from(fault));
     }
-    search_ready(rt, cutter, engine, out)?;
+    search_ready(rt, gate, cutter, engine, out)?;
     Ok(Came::More)
 }
 
@@ -173,8 +201,10 @@ fn read_once<
     A: Allocator + Copy + Send + Sync,
     F: Files,
     W: Sink,
+    G: Gate + Sync,
 >(
     rt: &R,
+    gate: &G,
     cutter: &mut Cutter<A>,
     engine: &mut Engine<A>,
     files: &mut F,
@@ -198,8 +228,8 @@ fn read_once<
         (stream (W.taken out.old) (W.failures out.old)) →
         IfErr result (Breaks aim (F.past files.new).given (stream (W.taken out.new) (W.failures out.new))) }
 {
-    settle(rt, cutter, engine, files, out)?;
-    let came = read_piece(rt, cutter, engine, files, buffer, out)?;
+    settle(rt, gate, cutter, engine, files, out)?;
+    let came = read_piece(rt, gate, cutter, engine, files, buffer, out)?;
     Ok(came)
 }
 
@@ -210,8 +240,10 @@ pub(crate) fn read_file<
     A: Allocator + Copy + Send + Sync,
     F: Files,
     W: Sink,
+    G: Gate + Sync,
 >(
     rt: &R,
+    gate: &G,
     mut cutter: Cutter<A>,
     engine: &mut Engine<A>,
     files: &mut F,
@@ -240,14 +272,14 @@ pub(crate) fn read_file<
             engine.end(false);
             return Ok(false);
         }
-        match read_once(rt, &mut cutter, engine, files, buffer, out)? {
+        match read_once(rt, gate, &mut cutter, engine, files, buffer, out)? {
             Came::More => {}
             Came::End => {
-                finish_file(rt, cutter, engine, false, out)?;
+                finish_file(rt, gate, cutter, engine, false, out)?;
                 return Ok(false);
             }
             Came::Failure => {
-                finish_file(rt, cutter, engine, true, out)?;
+                finish_file(rt, gate, cutter, engine, true, out)?;
                 return Ok(true);
             }
         }

@@ -19,6 +19,7 @@ use crate::reading::read_file;
 use crate::setup::Setup;
 use crate::telling::tell;
 use pg_lines::{Query, QueryText};
+use pg_round::Gate;
 use pg_rows::{Sink, WriteError};
 use pg_walk::Cause;
 use std::alloc::{AllocError, Allocator};
@@ -134,8 +135,10 @@ fn one_file<
     F: Files,
     W: Sink,
     E: Sink,
+    G: Gate + Sync,
 >(
     rt: &R,
+    gate: &G,
     engine: &mut Engine<A>,
     files: &mut F,
     buffer: &mut [u8],
@@ -168,7 +171,7 @@ fn one_file<
         return Err(RunFault::TooManyFiles);
     }
     let cutter = engine.open(files.name())?;
-    let failed = read_file(rt, cutter, engine, files, buffer, out)?;
+    let failed = read_file(rt, gate, cutter, engine, files, buffer, out)?;
     if failed {
         let silent = engine.setup.silent;
         tell_fault(
@@ -189,8 +192,10 @@ fn take_next<
     F: Files,
     W: Sink,
     E: Sink,
+    G: Gate + Sync,
 >(
     rt: &R,
+    gate: &G,
     engine: &mut Engine<A>,
     files: &mut F,
     buffer: &mut [u8],
@@ -220,7 +225,7 @@ fn take_next<
             Ok(true)
         }
         Step::File => {
-            one_file(rt, engine, files, buffer, out, faults)?;
+            one_file(rt, gate, engine, files, buffer, out, faults)?;
             Ok(true)
         }
     }
@@ -233,8 +238,10 @@ fn all_files<
     F: Files,
     W: Sink,
     E: Sink,
+    G: Gate + Sync,
 >(
     rt: &R,
+    gate: &G,
     engine: &mut Engine<A>,
     files: &mut F,
     buffer: &mut [u8],
@@ -259,7 +266,7 @@ fn all_files<
         if engine.enough() {
             return Ok(());
         }
-        if !take_next(rt, engine, files, buffer, out, faults)? {
+        if !take_next(rt, gate, engine, files, buffer, out, faults)? {
             return Ok(());
         }
     }
@@ -275,6 +282,9 @@ fn all_files<
 /// A file isn't read further, and with -q no further one is asked for, once nothing that stands behind
 /// changes what is written. Not more of a file is held than a block and what was read ahead of it.
 ///
+/// The gate is told of each search of a block, before and after it, by whoever searches. A block that isn't searched in a
+/// round is the first of its own.
+///
 /// # Errors
 ///
 /// `Query` where a pattern is no expression or all ask for too many states; then nothing was asked for
@@ -288,6 +298,7 @@ pub fn run<
     F: Files,
     W: Sink,
     E: Sink,
+    G: Gate + Sync,
 >(
     rt: &R,
     alloc: A,
@@ -296,6 +307,7 @@ pub fn run<
     files: &mut F,
     out: &mut W,
     faults: &mut E,
+    gate: &G,
 ) -> Result<u8, RunFault>
     requires { F.past files.old ≡ nothing_given }
     ensures ok { IfOk result (λ status. (q : Search) × IsSearchFor text q
@@ -312,7 +324,7 @@ pub fn run<
     ensures same_list { F.list files.new ≡ F.list files.old }
 {
     let (mut engine, mut buffer) = begin(alloc, text, setup)?;
-    all_files(rt, &mut engine, files, &mut buffer, out, faults)?;
-    let status = engine.finish(rt, out)?;
+    all_files(rt, gate, &mut engine, files, &mut buffer, out, faults)?;
+    let status = engine.finish(rt, gate, out)?;
     Ok(status)
 }

@@ -1,7 +1,7 @@
 use Rattle.std.proofs.Common.{List, ◌-◌, ◌≤◌, length, drop}
 use Rattle.pg_match.specs.Machines.{Fits}
 use Rattle.pg_lines.specs.Lines.{AreShort}
-use Rattle.pg_lines.specs.Search.{Pattern, AreTreesOf, search_of, terminator_of}
+use Rattle.pg_lines.specs.Search.{Pattern, AreTreesOf, search_of, uninverted, terminator_of}
 use Rattle.pg_lines.proofs.CandidateLemmas.{IsSkipped}
 use Rattle.pg_lines.proofs.search.next_confirmed.Given as goal
 
@@ -14,7 +14,7 @@ invariant-loop-near g l = record {
   few : l.near ≤ 8;
   short : AreShort (terminator_of l.query.text) (drop l.from l.bytes);
   skipped : (trees : List Pattern) → AreTreesOf l.query.text trees
-      → IsSkipped (search_of l.query.text trees) l.at l.from l.bytes;
+      → IsSkipped (search_of (uninverted l.query.text) trees) l.at l.from l.bytes;
 }
 
 abbrev pub decreases-loop-near : goal.decreases-loop-near

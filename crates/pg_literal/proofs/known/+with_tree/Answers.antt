@@ -7,15 +7,15 @@ use Rattle.pg_literal.proofs.known.+with_tree.Goals as goal
 
 pub returns-in-Empty : goal.returns-in-Empty
 returns-in-Empty g t c =
-    c.loop-tree.invariant.whole _ (rw (pattern-empty _ c.in-Empty.is) (extends_empty c.loop-tree.known))
+    c.loop-tree.invariant.whole _ (rw (pattern-empty _ c.in-Empty.is) (extends_empty c.args.fold c.loop-tree.known))
 
 pub returns-in-Set : goal.returns-in-Set
 returns-in-Set g t c = c.loop-tree.invariant.whole _ (rw (pattern-set _ _ c.in-Set.is) c.in_ok-known-in-Set.ensures)
 
 pub returns-in-Begin : goal.returns-in-Begin
 returns-in-Begin g t c = elim c.in-Begin.is [
-  | inl begin ↦ c.loop-tree.invariant.whole _ (rw (pattern-begin _ begin) c.with_anchor.ensures.begin)
-  | inr end ↦ c.loop-tree.invariant.whole _ (rw (pattern-end _ end) c.with_anchor.ensures.end)
+  | inl begin ↦ c.loop-tree.invariant.whole _ (rw (pattern-begin _ begin) (c.with_anchor.ensures.begin c.args.fold))
+  | inr end ↦ c.loop-tree.invariant.whole _ (rw (pattern-end _ end) (c.with_anchor.ensures.end c.args.fold))
 ]
 
 pub loop-tree-preserved-in-Cat-1 : goal.loop-tree-preserved-in-Cat-1
@@ -26,17 +26,18 @@ loop-tree-preserved-in-Cat-1 g t c =
       whole = λ whole outer.
           let first = rw c.deref-tree.ensures at outer in
           c.loop-tree.invariant.whole whole
-          (rw (pattern-cat _ _ _ c.in-Cat.is) (extends_cat _ _ _ _ whole second first));
+          (rw (pattern-cat _ _ _ c.in-Cat.is) (extends_cat c.args.fold _ _ _ _ whole second first));
     }
 
 pub returns-in-Alt : goal.returns-in-Alt
 returns-in-Alt g t c =
-    c.loop-tree.invariant.whole _ (rw (pattern-alt _ _ _ c.in-Alt.is) (extends_alt _ _ _ _ c.hidden.ensures))
+    let hidden = extends_alt c.args.fold _ _ _ _ c.hidden.ensures in
+    c.loop-tree.invariant.whole _ (rw (pattern-alt _ _ _ c.in-Alt.is) hidden)
 
 pub returns-then-least-eq0 : goal.returns-then-least-eq0
 returns-then-least-eq0 g t c =
     c.loop-tree.invariant.whole _
-    (rw (pattern-rep _ _ _ _ c.in-Rep.is) (extends_rep _ _ _ _ _ c.hidden-then-least-eq0.ensures))
+    (rw (pattern-rep _ _ _ _ c.in-Rep.is) (extends_rep c.args.fold _ _ _ _ _ c.hidden-then-least-eq0.ensures))
 
 pub loop-tree-preserved : goal.loop-tree-preserved
 loop-tree-preserved g t c =
@@ -46,5 +47,5 @@ loop-tree-preserved g t c =
       whole = λ whole inner.
           let first = rw c.deref-tree-in-Rep.ensures at inner in
           c.loop-tree.invariant.whole whole
-          (rw (pattern-rep _ _ _ _ c.in-Rep.is) (extends_first _ _ _ _ _ whole (omega arith) others first));
+          (rw (pattern-rep _ _ _ _ c.in-Rep.is) (extends_first c.args.fold _ _ _ _ _ whole (omega arith) others first));
     }

@@ -11,5 +11,6 @@ decreases-with_tree g l = goal.size-with_tree g l
 abbrev pub invariant-loop-tree : goal.invariant-loop-tree
 invariant-loop-tree g l = record {
   below : size-Tree _ l.tree ≤ size-Tree _ l.fn.tree;
-  whole : (whole : Known _) → Extends (pattern l.tree) l.known whole → Extends (pattern l.fn.tree) l.fn.known whole;
+  whole : (whole : Known _) → Extends l.fold (pattern l.tree) l.known whole
+      → Extends l.fold (pattern l.fn.tree) l.fn.known whole;
 }

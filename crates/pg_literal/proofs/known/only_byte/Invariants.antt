@@ -1,9 +1,8 @@
-use Rattle.std.proofs.Common.{◌≡◌, ◌<◌, ℕ, true, MatchOption}
+use Rattle.std.proofs.Common.{◌≡◌, ◌<◌, ◌↔◌, ℕ, true}
 use Rattle.pg_bytes.specs.ByteSets.{bytes}
+use Rattle.pg_literal.specs.Known.{byte_as_searched}
 use Rattle.pg_literal.proofs.known.only_byte.Given as goal
 
-abbrev pub invariant-loop-byte : goal.invariant-loop-byte
-invariant-loop-byte l =
-    let set = bytes l.set in
-    MatchOption l.found ((c : ℕ) → c < l.byte → set c ≡ true → ⊥)
-    (λ b. (b < l.byte) × (set b ≡ true) × ((c : ℕ) → c < l.byte → set c ≡ true → c ≡ b))
+abbrev pub invariant-loop-other : goal.invariant-loop-other
+invariant-loop-other l =
+    (c : ℕ) → c < l.other → (bytes l.set c ≡ true) ↔ (byte_as_searched l.fold c ≡ l.byte)

@@ -1,10 +1,10 @@
 use Rattle.std.proofs.Common.{List, ◌-◌, ◌≤◌, false, length, drop, take}
 use Rattle.pg_match.specs.Machines.{Fits}
 use Rattle.pg_lines.specs.Lines.{AreShort}
-use Rattle.pg_lines.specs.Search.{Pattern, AreTreesOf, search_of, terminator_of}
+use Rattle.pg_lines.specs.Search.{Pattern, AreTreesOf, search_of, uninverted, terminator_of}
 use Rattle.pg_lines.specs.Runs.{AllLines}
 use Rattle.pg_lines.proofs.RunLemmas.{IsPassed}
-use Rattle.pg_lines.proofs.search.next_selected.Given as goal
+use Rattle.pg_lines.proofs.search.next_matched.Given as goal
 
 -- the lines before `start` aren't selected
 abbrev pub invariant-loop-start : goal.invariant-loop-start
@@ -13,7 +13,7 @@ invariant-loop-start g l = record {
   within : l.start ≤ length l.rest;
   passed : IsPassed (terminator_of l.query.text) l.rest l.start;
   unselected : (trees : List Pattern) → AreTreesOf l.query.text trees
-      → AllLines (search_of l.query.text trees) false (take l.start l.rest);
+      → AllLines (search_of (uninverted l.query.text) trees) false (take l.start l.rest);
   short : AreShort (terminator_of l.query.text) (drop l.start l.rest);
 }
 

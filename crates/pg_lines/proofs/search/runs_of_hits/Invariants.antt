@@ -3,7 +3,7 @@ use Rattle.pg_match.specs.Machines.{Fits}
 use Rattle.pg_lines.specs.Lines.{AreShort}
 use Rattle.pg_lines.specs.Search.{Pattern, AreTreesOf, search_of, terminator_of}
 use Rattle.pg_lines.specs.Gathered.{IsGathered, parts_before}
-use Rattle.pg_lines.proofs.search.selected_runs.Given as goal
+use Rattle.pg_lines.proofs.search.runs_of_hits.Given as goal
 
 abbrev pub invariant-loop-line : goal.invariant-loop-line
 invariant-loop-line g l = record {

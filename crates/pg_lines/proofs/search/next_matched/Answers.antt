@@ -1,14 +1,14 @@
 use Rattle.std.proofs.Common.{ℕ, ◌+◌, ◌-◌, List, length, take, drop, sym, ◌∙◌, subst, arith, refl, inl, inr}
 use Rattle.std.proofs.lemmas.List.{take_rest}
-use Rattle.pg_lines.specs.Search.{search_of, terminator_of}
+use Rattle.pg_lines.specs.Search.{search_of, uninverted, terminator_of}
 use Rattle.pg_lines.specs.Gathered.{IsNextLine}
 use Rattle.pg_lines.proofs.RunLemmas.{line_found, line_passed, line_unselected}
 use Rattle.pg_lines.proofs.ScanLemmas.{GoesOn, scanned, not_passed, scanned_short}
-use Rattle.pg_lines.proofs.search.next_selected.Goals as goal
-use Rattle.pg_lines.proofs.search.next_selected.Goals.{then-stop-rest, else-stop-rest}
+use Rattle.pg_lines.proofs.search.next_matched.Goals as goal
+use Rattle.pg_lines.proofs.search.next_matched.Goals.{then-stop-rest, else-stop-rest}
 
-pub returns-then-selects-clause-some : goal.returns-then-selects-clause-some
-returns-then-selects-clause-some g c = λ trees spelled.
+pub returns-then-has_hit-clause-some : goal.returns-then-has_hit-clause-some
+returns-then-has_hit-clause-some g c = λ trees spelled.
     let bytes = c.args.bytes.now in
     let at = c.args.at in
     let text = c.args.query.now.text in
@@ -26,9 +26,9 @@ returns-then-selects-clause-some g c = λ trees spelled.
     e.high e.clear e.ended goes in
     let front = not_passed (terminator_of text) rest s c.loop-start-test.true i.passed in
     let P : List ℕ → Type 0 =
-    λ xs. IsNextLine (search_of text trees) at xs (record { start = at + s; end = at + next }) in
-    subst P (take_rest bytes at) (line_found (search_of text trees) rest at s stop next _ line front
-    (i.unselected trees spelled) (sym (c.selects.ensures.selected trees spelled) ∙ c.if-selects.true) refl refl)
+    λ xs. IsNextLine (search_of (uninverted text) trees) at xs (record { start = at + s; end = at + next }) in
+    subst P (take_rest bytes at) (line_found (search_of (uninverted text) trees) rest at s stop next _ line front
+    (i.unselected trees spelled) (sym (c.has_hit.ensures.hit trees spelled) ∙ c.if-has_hit.true) refl refl)
 
 pub loop-start-preserved : goal.loop-start-preserved
 loop-start-preserved g c =
@@ -49,10 +49,10 @@ loop-start-preserved g c =
     e.high e.clear e.ended goes in
     let front = not_passed (terminator_of text) rest s c.loop-start-test.true i.passed in
     record {
-      fits = c.selects.ensures.fits;
+      fits = c.has_hit.ensures.fits;
       within = elim goes [ inl h ↦ omega (arith, h.0, h.1) | inr h ↦ omega (arith, h.1, e.high) ];
       passed = line_passed (terminator_of text) rest s stop next line front;
-      unselected = λ trees spelled. line_unselected (search_of text trees) rest s stop next line front
-          (i.unselected trees spelled) (sym (c.selects.ensures.selected trees spelled) ∙ c.if-selects.false);
+      unselected = λ trees spelled. line_unselected (search_of (uninverted text) trees) rest s stop next line front
+          (i.unselected trees spelled) (sym (c.has_hit.ensures.hit trees spelled) ∙ c.if-has_hit.false);
       short = (scanned_short (terminator_of text) _ rest s stop next c.terminator-end.ensures e.line i.short goes).1;
     }

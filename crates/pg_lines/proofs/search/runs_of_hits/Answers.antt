@@ -1,18 +1,44 @@
-use Rattle.std.proofs.Common.{◌≡◌, ◌+◌, ◌-◌, ℕ, List, ◌++◌, [], cond, length, drop, map, sym, ap, ◌∙◌, subst, arith}
+use Rattle.std.proofs.Common.{◌≡◌, ◌+◌, ◌-◌, ℕ, Bool, false, List, ◌++◌, [], cond, length, drop, map, sym, ap, ◌∙◌, subst, arith}
 use Rattle.std.proofs.Common.{refl}
 use Rattle.std.proofs.lemmas.List.{take_rest}
 use Rattle.pg_lines.specs.Lines.{lines, AreShort}
-use Rattle.pg_lines.specs.Search.{search_of, terminator_of}
+use Rattle.pg_lines.specs.Search.{SearchText, Pattern, search_of, uninverted, terminator_of}
 use Rattle.pg_lines.specs.Selection.{parts}
-use Rattle.pg_lines.specs.Runs.{AreRuns}
+use Rattle.pg_lines.specs.Runs.{AllLines, AreRuns}
 use Rattle.pg_lines.specs.BlockParts.{part_at}
-use Rattle.pg_lines.specs.Gathered.{IsGathered}
+use Rattle.pg_lines.specs.Gathered.{IsNextLine, IsGathered}
 use Rattle.pg_lines.specs.declared.run.Run.{Run}
 use Rattle.pg_lines.specs.declared.run.Part.{Part}
+use Rattle.pg_lines.specs.declared.span.Span.{Span}
 use Rattle.pg_lines.proofs.GatherLemmas.{gathered_none, gathered_all, all_counted}
 use Rattle.pg_lines.proofs.PartLemmas.{line_one, line_short, parts_with_line, parts_of_all, parts_before_none}
 use Rattle.pg_lines.proofs.RunLemmas.{short_behind}
-use Rattle.pg_lines.proofs.search.selected_runs.Goals as goal
+use Rattle.pg_lines.proofs.search.runs_of_hits.Goals as goal
+
+-- where nothing is inverted, the lines with a hit are those that are selected
+upright : (text : SearchText) → text.invert ≡ false → uninverted text ≡ text
+upright text plain = ap turned (sym plain)
+  where
+    turned : Bool → SearchText
+    turned invert = record {
+      kind = text.kind;
+      lists = text.lists;
+      fold = text.fold;
+      whole = text.whole;
+      word = text.word;
+      invert = invert;
+      pieces = text.pieces;
+      zero = text.zero;
+    }
+
+next_of : (text : SearchText) (trees : List Pattern) (at : ℕ) (bytes : List ℕ) (line : Span) → text.invert ≡ false
+    → IsNextLine (search_of (uninverted text) trees) at bytes line → IsNextLine (search_of text trees) at bytes line
+next_of text trees at bytes line plain found =
+    subst (λ t. IsNextLine (search_of t trees) at bytes line) (upright text plain) found
+
+none_of : (text : SearchText) (trees : List Pattern) (bytes : List ℕ) → text.invert ≡ false
+    → AllLines (search_of (uninverted text) trees) false bytes → AllLines (search_of text trees) false bytes
+none_of text trees bytes plain none = subst (λ t. AllLines (search_of t trees) false bytes) (upright text plain) none
 
 pub loop-line-init : goal.loop-line-init
 loop-line-init g c =
@@ -40,7 +66,8 @@ push_line_parts-requires-clause-one g c =
     let run = c.loop-line.run in
     let line = c.in-Some.line in
     let gathered = i.gathered own.0 own.1 in
-    let found = c.in-Some.ensures.some own.0 own.1 in
+    let found = next_of c.args.query.now.text own.0 c.loop-line.run.span.end
+    (drop c.loop-line.run.span.end c.args.bytes.now) c.in-Some.line c.requires.upright (c.in-Some.ensures.some own.0 own.1) in
     let one = line_one q bytes runs run gathered line found in
     (one.0, line_short q bytes runs run gathered line found i.short, one.2)
 
@@ -63,13 +90,16 @@ loop-line-preserved g c =
       within = omega (arith, longer.stop, c.in-Some.ensures.within.2);
       few = longer.few.1;
       short = subst Short (sym longer.stop)
-          (short_behind (search_of text own.0) bytes run.span.end 0 _ (c.in-Some.ensures.some own.0 own.1).1 i.short);
+          (short_behind (search_of text own.0) bytes run.span.end 0 _ (next_of c.args.query.now.text own.0 c.loop-line.run.span.end
+          (drop c.loop-line.run.span.end c.args.bytes.now) c.in-Some.line c.requires.upright (c.in-Some.ensures.some own.0 own.1)).1 i.short);
       gathered = λ trees spelled. longer.gathered (search_of text trees) c.terminator-end.ensures
-          (i.gathered trees spelled) (c.in-Some.ensures.some trees spelled);
+          (i.gathered trees spelled) (next_of c.args.query.now.text trees c.loop-line.run.span.end
+          (drop c.loop-line.run.span.end c.args.bytes.now) c.in-Some.line c.requires.upright (c.in-Some.ensures.some trees spelled));
       parts = λ trees spelled.
           let q = search_of text trees in
           let gathered = i.gathered trees spelled in
-          let found = c.in-Some.ensures.some trees spelled in
+          let found = next_of c.args.query.now.text trees c.loop-line.run.span.end
+          (drop c.loop-line.run.span.end c.args.bytes.now) c.in-Some.line c.requires.upright (c.in-Some.ensures.some trees spelled) in
           let gathered' = longer.gathered q c.terminator-end.ensures gathered found in
           let one = line_one q bytes runs run gathered line found in
           let put : List Part = cond text.pieces (map (part_at line.start number) (parts q one.0)) [] in
@@ -84,14 +114,16 @@ returns-clause-runs g c = λ trees spelled.
     let q = search_of c.args.query.now.text trees in
     let P : List Run → Type 0 = λ runs. AreRuns q 0 0 c.args.bytes.now runs in
     subst P (sym c.in_ok-push_run.ensures) (gathered_all q c.args.bytes.now c.loop-line.runs.items c.loop-line.run
-    (c.loop-line.invariant.gathered trees spelled) (c.in_default.ensures.none trees spelled))
+    (c.loop-line.invariant.gathered trees spelled) (none_of c.args.query.now.text trees (drop c.loop-line.run.span.end c.args.bytes.now) c.requires.upright
+    (c.in_default.ensures.none trees spelled)))
 
 pub returns-clause-parts : goal.returns-clause-parts
 returns-clause-parts g c = λ trees spelled.
     let q = search_of c.args.query.now.text trees in
     c.loop-line.invariant.parts trees spelled
     ∙ parts_of_all q c.args.bytes.now c.loop-line.runs.items c.loop-line.run
-    (c.loop-line.invariant.gathered trees spelled) (c.in_default.ensures.none trees spelled)
+    (c.loop-line.invariant.gathered trees spelled) (none_of c.args.query.now.text trees (drop c.loop-line.run.span.end c.args.bytes.now) c.requires.upright
+    (c.in_default.ensures.none trees spelled))
 
 pub returns-clause-lines : goal.returns-clause-lines
 returns-clause-lines g c =

@@ -1,0 +1,21 @@
+use Rattle.std.proofs.Common.{List, sym, subst}
+use Rattle.std.specs.Bool.{one_answer}
+use Rattle.pg_match.specs.Automata.{Nfa}
+use Rattle.pg_match.specs.Machines.{IsMachineOf}
+use Rattle.pg_match.specs.Tests.{has_hit}
+use Rattle.pg_match.proofs.TestLemmas.{hits_decided}
+use Rattle.pg_lines.specs.Search.{Pattern, bounds_of}
+use Rattle.pg_lines.specs.Same.{same_trees}
+use Rattle.pg_lines.proofs.search.has_hit.Goals as goal
+
+pub returns-clause-hit : goal.returns-clause-hit
+returns-clause-hit g c = λ trees spelled.
+    let text = c.args.query.now.text in
+    let line = c.args.line.now in
+    let own = c.machine.ensures.compiled in
+    let P : List Pattern → Type 0 = λ ts. IsMachineOf c.args.query.now.machine ts (bounds_of text) in
+    let machine = subst P (same_trees text own.0 trees own.1 spelled) own.2 in
+    let M : Nfa → Type 0 = λ m. IsMachineOf m trees (bounds_of text) in
+    one_answer c.selects.result (has_hit trees (bounds_of text) line)
+    (c.selects.ensures.exact trees (bounds_of text) (subst M (sym c.machine.ensures.machine) machine))
+    (hits_decided trees (bounds_of text) line).whole_line

@@ -1,0 +1,83 @@
+use Rattle.std.proofs.Common.{◌≡◌, ℕ, ◌+◌, Bool, true, false, List, length, slice_range, cond, ap, sym, ◌∙◌, subst, arith, refl}
+use Rattle.pg_lines.specs.Lines.{lines}
+use Rattle.pg_lines.specs.Search.{search_of, uninverted, terminator_of}
+use Rattle.pg_lines.specs.Runs.{AreRuns}
+use Rattle.pg_lines.specs.declared.run.Run.{Run}
+use Rattle.pg_lines.proofs.BetweenLemmas.{passed_none, passed_more, last_run, all_lines, no_part}
+use Rattle.pg_lines.proofs.RunLemmas.{short_behind}
+use Rattle.pg_lines.proofs.search.runs_between_hits.Goals as goal
+
+-- the number of lines from one place up to another, by the terminator that was asked for
+counted : (bytes : List ℕ) (at stop n given end : ℕ) → given ≡ end
+    → n ≡ length (lines given (slice_range bytes at stop)) → n ≡ length (lines end (slice_range bytes at stop))
+counted bytes at stop n given end same count = count ∙ ap (λ t. length (lines t (slice_range bytes at stop))) same
+
+pub loop-line-init : goal.loop-line-init
+loop-line-init g c = record {
+  fits = c.requires.fits;
+  within = omega arith;
+  few = omega arith;
+  short = c.requires.short;
+  passed = λ trees spelled.
+      passed_none (search_of c.args.query.now.text trees) c.args.bytes.now c.new-runs.result.items c.new-runs.ensures.items;
+}
+
+pub loop-line-preserved : goal.loop-line-preserved
+loop-line-preserved g c =
+    let text = c.args.query.now.text in
+    let own = c.requires.compiled in
+    let bytes = c.args.bytes.now in
+    let i = c.loop-line.invariant in
+    let at = c.loop-line.at in
+    let seen = c.loop-line.seen in
+    let line = c.in-Some.line in
+    let run = c.run_between-run.result in
+    let between = c.run_between-run.ensures in
+    let within = c.in-Some.ensures.within in
+    record {
+      fits = c.in-Some.ensures.fits;
+      within = within.2;
+      few = omega (arith, between.few, within.1);
+      short = short_behind (search_of (uninverted text) own.0) bytes at 0 _ (c.in-Some.ensures.some own.0 own.1).1 i.short;
+      passed = λ trees spelled.
+          passed_more text trees c.requires.inverted bytes c.loop-line.runs.items at seen (i.passed trees spelled) line
+          (c.in-Some.ensures.some trees spelled) run between.span.0 between.span.1 between.first
+          (counted bytes at line.start run.count c.terminator-end.result (terminator_of text) c.terminator-end.ensures
+          between.count) c.push_run.new.runs.items c.in_ok-push_run.ensures (seen + (run.count + 1)) refl;
+    }
+
+pub returns-clause-runs : goal.returns-clause-runs
+returns-clause-runs g c = λ trees spelled.
+    let text = c.args.query.now.text in
+    let bytes = c.args.bytes.now in
+    let at = c.loop-line.at in
+    let last = c.run_between-last.result in
+    let between = c.run_between-last.ensures in
+    let P : List Run → Type 0 = λ runs. AreRuns (search_of text trees) 0 0 bytes runs in
+    subst P (sym c.in_ok-push_run-2.ensures) (last_run text trees c.requires.inverted bytes c.loop-line.runs.items at
+    c.loop-line.seen (c.loop-line.invariant.passed trees spelled) last between.span.0 between.span.1 between.first
+    (counted bytes at (length bytes) last.count c.terminator-end.result (terminator_of text) c.terminator-end.ensures
+    between.count) (c.in_default.ensures.none trees spelled))
+
+pub returns-clause-parts : goal.returns-clause-parts
+returns-clause-parts g c = λ trees spelled.
+    let text = c.args.query.now.text in
+    let all = lines (terminator_of text) c.args.bytes.now in
+    c.new.ensures.items ∙ sym (none text.pieces (no_part (search_of text trees) 0 0 all c.requires.inverted))
+  where
+    none : {X : Type 0} {xs ys : List X} (b : Bool) → xs ≡ ys → cond b xs ys ≡ ys
+    none true e = e
+    none false e = refl
+
+pub returns-clause-lines : goal.returns-clause-lines
+returns-clause-lines g c =
+    let text = c.args.query.now.text in
+    let own = c.requires.compiled in
+    let bytes = c.args.bytes.now in
+    let at = c.loop-line.at in
+    let last = c.run_between-last.result in
+    let between = c.run_between-last.ensures in
+    sym (all_lines text own.0 c.requires.inverted bytes c.loop-line.runs.items at c.loop-line.seen
+    (c.loop-line.invariant.passed own.0 own.1) last between.span.0 between.span.1 between.first
+    (counted bytes at (length bytes) last.count c.terminator-end.result (terminator_of text) c.terminator-end.ensures
+    between.count))
