@@ -59,8 +59,8 @@ fn is_endless(format: Format) -> bool
     format.limit.is_none() && (format.mode == Mode::Rows || format.mode == Mode::Count)
 }
 
-/// Whether the machine is likely to be asked about most lines. Of other queries one thread finds the lines as fast as they
-/// are read.
+/// Whether the machine is likely to be asked about most lines. Of other queries one thread finds the lines as fast as
+/// they are read.
 fn is_slow<A: Allocator>(query: &Query<A>) -> bool {
     match query.literal() {
         None => true,

@@ -282,8 +282,8 @@ fn all_files<
 /// A file isn't read further, and with -q no further one is asked for, once nothing that stands behind
 /// changes what is written. Not more of a file is held than a block and what was read ahead of it.
 ///
-/// The gate is told of each search of a block, before and after it, by whoever searches. A block that isn't searched in a
-/// round is the first of its own.
+/// The gate is told of each search of a block, before and after it, by whoever searches. A block that isn't searched
+/// in a round is the first of its own.
 ///
 /// # Errors
 ///
