@@ -1,9 +1,9 @@
 //! Sets of bytes and the classes.
-use crate::rows::assert_rows;
+use crate::rows::{Question, assert_rows};
 use crate::sets::show_set;
 use pg_bytes::{ByteSet, class};
-use std::alloc::{AllocError, Global};
-use std::test::Fail;
+use std::alloc::Global;
+use std::process::Abort;
 
 /// Names, and the ranges of the bytes in the class of that name (XBD 7.3.1), if there is one.
 const CLASSES: &str = "upper => {65-90,}
@@ -25,23 +25,23 @@ alph => none
 alphas => none
 alpha: => none";
 
-fn shown(alloc: Global, set: &ByteSet) -> Result<String, AllocError> {
+fn shown(rt: &impl Abort, alloc: Global, set: &ByteSet) -> String {
     let mut out = String::new(alloc);
-    show_set(set, &mut out)?;
-    Ok(out)
+    show_set(set, &mut out).expect(rt, "memory");
+    out
 }
 
 /// The class of a name.
-fn class_of(alloc: Global, name: &str, _rest: &str) -> Result<String, Fail> {
+pub(crate) fn class_of(rt: &impl Abort, alloc: Global, name: &str) -> String {
     match class(name.as_bytes()) {
-        Some(set) => Ok(shown(alloc, &set)?),
-        None => Ok(String::from_str(alloc, "none")?),
+        Some(set) => shown(rt, alloc, &set),
+        None => String::from_str(alloc, "none").expect(rt, "memory"),
     }
 }
 
 #[test]
-fn classes(rt: HostRuntime) -> Result<(), Fail> {
-    assert_rows(&rt, rt.alloc(), CLASSES, class_of)
+fn classes(rt: HostRuntime) {
+    assert_rows(&rt, rt.alloc(), Question::Class, CLASSES);
 }
 
 /// A set with `a`, 0, 63, 64, and 250 to 255.
@@ -60,27 +60,27 @@ const SETS: &str = "itself => {0,63-64,97,250-255,}
 complement => {1-62,65-96,98-249,}
 close_case => {0,63-65,97,250-255,}";
 
-fn changed(alloc: Global, change: &str, _rest: &str) -> Result<String, Fail> {
+pub(crate) fn changed(rt: &impl Abort, alloc: Global, change: &str) -> String {
     let set = some_set();
     let set = match change {
         "complement" => set.complement(),
         "close_case" => set.close_case(),
         _ => set,
     };
-    Ok(shown(alloc, &set)?)
+    shown(rt, alloc, &set)
 }
 
 #[test]
-fn sets(rt: HostRuntime) -> Result<(), Fail> {
-    assert_rows(&rt, rt.alloc(), SETS, changed)
+fn sets(rt: HostRuntime) {
+    assert_rows(&rt, rt.alloc(), Question::Set, SETS);
 }
 
 #[test]
 fn sets_are_compared_by_their_bytes(rt: HostRuntime) {
     let set = some_set();
     let other = set.complement();
-    assert_eq!(rt; set.union(other), ByteSet::empty().complement());
-    assert_eq!(rt; other.complement(), set);
+    assert!(rt; set.union(other) == ByteSet::empty().complement());
+    assert!(rt; other.complement() == set);
     assert!(rt; set.close_case() != set);
 }
 
@@ -89,17 +89,12 @@ fn closes_by_case(byte: u8) -> bool {
     let mut set = ByteSet::empty();
     set.insert(byte);
     let closed = set.close_case();
-    for other in 0..=255_u8 {
-        if closed.contains(other) != byte.eq_ignore_ascii_case(&other) {
-            return false;
-        }
-    }
-    true
+    (0..=255u8).all(|other| closed.contains(other) == byte.eq_ignore_ascii_case(&other))
 }
 
 #[test]
 fn each_letter_has_another_case(rt: HostRuntime) {
-    for byte in 0..=255_u8 {
+    for byte in 0..=255u8 {
         assert!(rt; closes_by_case(byte), "{byte}");
     }
 }

@@ -1,11 +1,10 @@
 //! Blocks of a file.
-ghost use Rattle.std.specs.Prelude.{OnOk};
 ghost use Rattle.pg_lines.specs.Cutter.{IsDrained};
 
-use crate::rows::{assert_rows, bytes_of, show_bytes};
+use crate::rows::{Question, assert_rows, bytes_of, show_bytes};
 use pg_lines::{Block, Cutter};
-use std::alloc::{AllocError, Global};
-use std::test::Fail;
+use std::alloc::Global;
+use std::process::Abort;
 
 /// A terminator and the pieces of a file, and what a cutter gives: behind each piece the blocks that are finished then,
 /// each as its file, number and bytes, or why the piece isn't taken; and then the last block. Blocks have at least 3
@@ -33,48 +32,55 @@ const CUT: &str = "%0A a%0Abc%0A%0Ad => 7.0:a%0Abc%0A 7.1:%0Ad
 %FF a%FF%00b%FF%0A => 7.0:a%FF%00b%FF 7.1:%0A";
 
 /// Shows a block.
-fn show_block(block: &Block, out: &mut String) -> Result<(), AllocError> {
+fn show_block(rt: &impl Abort, block: &Block, out: &mut String) {
     let file = block.file;
     let number = block.number;
-    write!(out, "{file}.{number}:")?;
-    show_bytes(block.bytes.as_slice(), out)?;
-    out.push(' ')
+    write!(out, "{file}.{number}:").expect(rt, "memory");
+    show_bytes(block.bytes.as_slice(), out).expect(rt, "memory");
+    out.push(' ').expect(rt, "memory");
 }
 
 /// Feeds a piece, and shows the blocks that are finished then, or why the piece isn't taken.
-fn show_fed(cutter: &mut Cutter, piece: &[u8], out: &mut String) -> Result<(), AllocError>
-    ensures { OnOk result (IsDrained cutter.new) }
+fn show_fed(rt: &impl Abort, cutter: &mut Cutter, piece: &[u8], out: &mut String)
+    ensures { IsDrained cutter.new }
 {
     if let Err(fault) = cutter.feed(piece) {
-        write!(out, "({fault}) ")?;
+        write!(out, "({fault}) ").expect(rt, "memory");
     }
     while let Some(block) = cutter.take() {
-        show_block(&block, out)?;
+        show_block(rt, &block, out);
     }
-    Ok(())
 }
 
-/// What a cutter gives of a file in pieces, where spaces part them.
-fn show_cut(alloc: Global, end: u8, pieces: &str) -> Result<String, AllocError> {
-    let mut out = String::new(alloc);
-    let mut cutter = Cutter::new(alloc, 7, 3, 4, end);
+/// Shows what a cutter gives of a file in pieces, where spaces part them.
+fn show_cut(rt: &impl Abort, alloc: Global, cutter: Cutter, pieces: &str, out: &mut String)
+    requires { IsDrained cutter }
+{
+    let mut cutter = cutter;
     for piece in pieces.split(' ') {
-        let piece = bytes_of(alloc, piece)?;
-        show_fed(&mut cutter, &piece, &mut out)?;
+        let piece = bytes_of(rt, alloc, piece);
+        show_fed(rt, &mut cutter, &piece, out);
     }
     if let Some(block) = cutter.finish() {
-        show_block(&block, &mut out)?;
+        show_block(rt, &block, out);
     }
-    String::from_str(alloc, out.as_str().trim_end())
 }
 
-fn blocks_of(alloc: Global, end: &str, pieces: &str) -> Result<String, Fail> {
-    let end = bytes_of(alloc, end)?;
-    let end = end.first().ok_or("a terminator")?;
-    Ok(show_cut(alloc, *end, pieces)?)
+pub(crate) fn blocks_of(rt: &impl Abort, alloc: Global, end: &str, pieces: &str) -> String {
+    let mut out = String::new(alloc);
+    let end = bytes_of(rt, alloc, end);
+    let end = end.first().expect(rt, "a terminator");
+    show_cut(
+        rt,
+        alloc,
+        Cutter::new(alloc, 7, 3, 4, *end),
+        pieces,
+        &mut out,
+    );
+    String::from_str(alloc, out.as_str().trim_end()).expect(rt, "memory")
 }
 
 #[test]
-fn a_file_is_cut_at_its_terminator(rt: HostRuntime) -> Result<(), Fail> {
-    assert_rows(&rt, rt.alloc(), CUT, blocks_of)
+fn a_file_is_cut_at_its_terminator(rt: HostRuntime) {
+    assert_rows(&rt, rt.alloc(), Question::Blocks, CUT);
 }

@@ -5,7 +5,7 @@ ghost use Rattle.pg_match.specs.Machines.{Fits};
 ghost use Rattle.pg_lines.specs.Lines.{AreShort};
 ghost use Rattle.pg_lines.specs.Search.{terminator_of};
 
-use crate::rows::{assert_rows, cut, few_bytes, halves};
+use crate::rows::{Question, assert_rows, bytes_of, cut, few_bytes, halves};
 use pg_lines::{
     Block, BlockResult, CutFault, Kind, PatternList, Query, QueryFault, QueryText, Scratch,
     search_block,
@@ -15,13 +15,6 @@ use std::alloc::{AllocError, Allocator, Global};
 use std::process::Abort;
 use std::sync::Arc;
 use std::test::Fail;
-
-/// A block has a number and bytes, and is of file 7.
-fn assert_block(rt: &impl Abort, block: &Block, number: u64, bytes: &[u8]) {
-    assert_eq!(rt; block.file, 7);
-    assert_eq!(rt; block.number, number);
-    assert_eq!(rt; block.bytes.as_slice(), bytes);
-}
 
 /// What a query is compiled from: the letters say the kind (`E`, `F`, or none of both), the options, and by `f` that
 /// the pattern is of a file.
@@ -92,15 +85,19 @@ fn prepare<A: Allocator + Copy>(
     })
 }
 
-/// What a search finds in a block with these bytes, at most 100.
-fn search_for(alloc: Global, query: Query, bytes: &[u8]) -> Result<BlockResult, AllocError>
-    requires { length bytes.now ≤ 100 }
+/// What a search finds.
+fn search_for<A: Allocator + Copy>(
+    alloc: A,
+    prepared: Prepared<A>,
+) -> Result<BlockResult<A>, AllocError>
+    requires fits { Fits prepared.scratch (arc_value prepared.query).machine }
+    requires short { AreShort (terminator_of (arc_value prepared.query).text) (arc_value prepared.block).bytes }
 {
     let Prepared {
         query,
         scratch,
         block,
-    } = prepare(alloc, query, bytes)?;
+    } = prepared;
     let mut scratch = scratch;
     search_block(alloc, &query, &mut scratch, block)
 }
@@ -117,18 +114,24 @@ fn show_runs<A: Allocator>(found: &BlockResult<A>, out: &mut String) -> Result<(
     Ok(())
 }
 
-/// Shows how many lines a result has, its runs, and the matched parts, each as the lines before its own, and its span.
-fn shown<A: Allocator>(alloc: Global, found: &BlockResult<A>) -> Result<String, AllocError> {
-    let count = found.lines();
-    let mut out = format!(in alloc; "{count}:")?;
-    show_runs(found, &mut out)?;
+/// Shows the matched parts, each as the lines before its own, and its span.
+fn show_parts<A: Allocator>(found: &BlockResult<A>, out: &mut String) -> Result<(), AllocError> {
     for part in found.parts() {
         let line = part.line;
         let start = part.span.start;
         let end = part.span.end;
         write!(out, " {line}:{start}-{end}")?;
     }
-    Ok(out)
+    Ok(())
+}
+
+/// Shows how many lines a result has, its runs, and the matched parts.
+fn shown<A: Allocator>(rt: &impl Abort, alloc: Global, found: &BlockResult<A>) -> String {
+    let count = found.lines();
+    let mut out = format!(in alloc; "{count}:").expect(rt, "memory");
+    show_runs(found, &mut out).expect(rt, "memory");
+    show_parts(found, &mut out).expect(rt, "memory");
+    out
 }
 
 /// The letters of the options and a pattern, a block, and what `shown` shows of it; or the fault of the pattern.
@@ -182,19 +185,28 @@ E (a{255}){255}a{255}a{255} on b => 1:
 E (a{255}){255}a{255}a{255}a on b => pattern too large";
 
 /// What is found, as `shown` shows it, or the fault of the query.
-fn found(alloc: Global, letters: &str, asked: &str) -> Result<String, Fail> {
+pub(crate) fn found(rt: &impl Abort, alloc: Global, letters: &str, asked: &str) -> String {
     let (pattern, block) = cut(asked, " on ");
-    let block = few_bytes(alloc, block)?;
-    let text = text_of(alloc, letters, &few_bytes(alloc, pattern)?)?;
+    let block = few_bytes(rt, alloc, block);
+    let text = text_of(alloc, letters, &bytes_of(rt, alloc, pattern)).expect(rt, "memory");
     match Query::compile(alloc, text) {
-        Ok(query) => Ok(shown(alloc, &search_for(alloc, query, &block)?)?),
-        Err(fault) => Ok(format!(in alloc; "{fault}")?),
+        Ok(query) => shown_search(rt, alloc, query, &block),
+        Err(fault) => format!(in alloc; "{fault}").expect(rt, "memory"),
     }
 }
 
+/// What a search finds in a block with these bytes, at most 100, as `shown` shows it.
+fn shown_search(rt: &impl Abort, alloc: Global, query: Query, bytes: &[u8]) -> String
+    requires { length bytes.now ≤ 100 }
+{
+    let prepared = prepare(alloc, query, bytes).expect(rt, "memory");
+    let found = search_for(alloc, prepared).expect(rt, "memory");
+    shown(rt, alloc, &found)
+}
+
 #[test]
-fn lines_are_selected(rt: HostRuntime) -> Result<(), Fail> {
-    assert_rows(&rt, rt.alloc(), FOUND, found)
+fn lines_are_selected(rt: HostRuntime) {
+    assert_rows(&rt, rt.alloc(), Question::Found, FOUND);
 }
 
 /// Lines of two bytes and a terminator, so that there are this many bytes, and a last line that holds `b`.
@@ -209,13 +221,10 @@ fn long_block(alloc: Global, size: usize) -> Result<Vec<u8>, AllocError> {
 }
 
 /// What a search for `b` finds in such a block, as `shown` shows it.
-fn found_in_long(alloc: Global, size: usize) -> Result<String, Fail> {
-    let bytes = long_block(alloc, size)?;
-    if bytes.len() > 100 {
-        return Err(Fail::new("more than 100 bytes"));
-    }
-    let query = query_of(alloc, "Fo", b"b")?;
-    Ok(shown(alloc, &search_for(alloc, query, &bytes)?)?)
+fn found_in_long(rt: &impl Abort, alloc: Global, size: usize) -> String {
+    let bytes = long_block(alloc, size).expect(rt, "memory");
+    assert!(rt; bytes.len() <= 100);
+    shown_search(rt, alloc, query_of(rt, alloc, "Fo", b"b"), &bytes)
 }
 
 /// What is wanted of such a search, for a size below 100.
@@ -232,103 +241,65 @@ fn wanted_of_long(alloc: Global, size: u32) -> Result<String, AllocError>
 #[test]
 fn long_blocks_are_counted(rt: HostRuntime) -> Result<(), Fail> {
     for size in 0..98u32 {
-        let got = found_in_long(rt.alloc(), size as usize)?;
         let want = wanted_of_long(rt.alloc(), size)?;
-        assert_eq!(rt; got.as_str(), want.as_str(), "at {size}");
+        let got = found_in_long(&rt, rt.alloc(), size as usize);
+        assert!(rt; got == want, "at {size}");
     }
     Ok(())
 }
 
-/// A search of a block, of which a row tells.
-fn prepare_row<A: Allocator + Copy>(
-    alloc: A,
-    letters: &str,
-    pattern: &[u8],
-    bytes: &[u8],
-) -> Result<Prepared<A>, Fail>
-    requires { length bytes.now ≤ 100 }
-    ensures fits { IfOk result (λ p. Fits p.scratch (arc_value p.query).machine) }
-    ensures short { IfOk result
-        (λ p. AreShort (terminator_of (arc_value p.query).text) (arc_value p.block).bytes) }
-{
-    let query = Query::compile(alloc, text_of(alloc, letters, pattern)?)?;
-    let prepared = prepare(alloc, query, bytes)?;
-    Ok(prepared)
+/// A search of which a row tells.
+#[derive(Drop)]
+struct Asked<'a> {
+    letters: &'a str,
+    pattern: Vec<u8>,
+    bytes: Vec<u8>,
+    ghost few: { length bytes.items ≤ 100 },
 }
 
-/// What a search finds, as `shown` shows it on another allocator, or `None` for want of memory.
-fn searched<A: Allocator + Copy>(
-    heap: A,
-    prepared: Prepared<A>,
-    alloc: Global,
-) -> Result<Option<String>, AllocError>
-    requires fits { Fits prepared.scratch (arc_value prepared.query).machine }
-    requires short { AreShort (terminator_of (arc_value prepared.query).text) (arc_value prepared.block).bytes }
-{
-    let Prepared {
-        query,
-        scratch,
-        block,
-    } = prepared;
-    let mut scratch = scratch;
-    match search_block(heap, &query, &mut scratch, block) {
-        Ok(found) => {
-            let shown = shown(alloc, &found)?;
-            Ok(Some(shown))
-        }
-        Err(AllocError) => Ok(None),
+fn asked_by<'a>(rt: &impl Abort, alloc: Global, asked: &'a str) -> Asked<'a> {
+    let (query, block) = cut(asked, " on ");
+    let (letters, pattern) = cut(query, " ");
+    let pattern = bytes_of(rt, alloc, pattern);
+    let bytes = few_bytes(rt, alloc, block);
+    Asked {
+        letters,
+        pattern,
+        bytes,
     }
+}
+
+fn prepare_row<A: Allocator + Copy>(rt: &impl Abort, alloc: A, asked: &Asked<'_>) -> Prepared<A>
+    ensures fits { Fits result.scratch (arc_value result.query).machine }
+    ensures short { AreShort (terminator_of (arc_value result.query).text) (arc_value result.block).bytes }
+{
+    let query = query_of(rt, alloc, asked.letters, &asked.pattern);
+    prepare(alloc, query, &asked.bytes).expect(rt, "memory")
 }
 
 /// How many requests for memory are made before a search.
-fn requests_before(alloc: Global, letters: &str, pattern: &[u8], bytes: &[u8]) -> Result<u64, Fail>
-    requires { length bytes.now ≤ 100 }
-{
+fn requests_before(rt: &impl Abort, alloc: Global, asked: &Asked<'_>) -> u64 {
     let heap = Refusing::new(alloc, 1000);
-    let _prepared = prepare_row(&heap, letters, pattern, bytes)?;
-    Ok(heap.requests())
+    let _prepared = prepare_row(rt, &heap, asked);
+    heap.requests()
 }
 
-/// What a search finds where the requests for memory that it makes pass up to one, which is refused, and whether there
-/// was such a one.
-fn search_refused(
-    alloc: Global,
-    letters: &str,
-    pattern: &[u8],
-    bytes: &[u8],
-    passes: u64,
-) -> Result<(Option<String>, bool), Fail>
-    requires { length bytes.now ≤ 100 }
-{
-    let before = requests_before(alloc, letters, pattern, bytes)?;
+/// Searches where the requests for memory that the search makes pass up to one, which is refused, and sees that the
+/// answer is the want of memory, and without a refusal what is wanted. Answers whether a request was refused.
+fn is_refused(rt: &impl Abort, alloc: Global, asked: &Asked<'_>, want: &str, passes: u64) -> bool {
+    let before = requests_before(rt, alloc, asked);
     let heap = Refusing::new(alloc, before.wrapping_add(passes));
-    let prepared = prepare_row(&heap, letters, pattern, bytes)?;
-    let found = searched(&heap, prepared, alloc)?;
-    Ok((found, heap.has_refused()))
-}
-
-/// Searches with a request refused, and sees that the answer is the want of memory, and without a refusal what is
-/// wanted. Answers whether a request was refused.
-fn is_refused(
-    rt: &impl Abort,
-    alloc: Global,
-    asked: &str,
-    want: &str,
-    passes: u64,
-) -> Result<bool, Fail> {
-    let (query, block) = cut(asked, " on ");
-    let (letters, pattern) = cut(query, " ");
-    let pattern = few_bytes(alloc, pattern)?;
-    let bytes = few_bytes(alloc, block)?;
-    let (found, is_refused) = search_refused(alloc, letters, &pattern, &bytes, passes)?;
-    match found {
-        Some(found) => assert!(rt;
-            !is_refused && found.as_str() == want,
-            "{asked} at {passes}"
-        ),
-        None => assert!(rt; is_refused, "{asked} at {passes}"),
+    let prepared = prepare_row(rt, &heap, asked);
+    match search_for(&heap, prepared) {
+        Ok(found) => {
+            assert!(rt; !heap.has_refused() && shown(rt, alloc, &found).as_str() == want);
+            false
+        }
+        Err(AllocError) => {
+            assert!(rt; heap.has_refused());
+            true
+        }
     }
-    Ok(is_refused)
 }
 
 /// Searches as those of `FOUND`, each with several runs, and how many requests for memory it makes at least.
@@ -338,69 +309,87 @@ const LARGE: &str =
 3 Fo b on bbbbb%0Ax%0Ab => 3: 0-6=0+1 8-9=2+1 0:0-1 0:1-2 0:2-3 0:3-4 0:4-5 2:8-9
 3 Eo b|c on bcbcb%0Ax%0Ab => 3: 0-6=0+1 8-9=2+1 0:0-1 0:1-2 0:2-3 0:3-4 0:4-5 2:8-9";
 
+/// How many requests for memory of a search are refused in turn, at most 20.
+fn count_refused(rt: &impl Abort, alloc: Global, asked: &str, want: &str) -> u64 {
+    let asked = asked_by(rt, alloc, asked);
+    for passes in 0..20u64 {
+        if !is_refused(rt, alloc, &asked, want, passes) {
+            return passes;
+        }
+    }
+    20
+}
+
 #[test]
-fn memory_may_be_refused(rt: HostRuntime) -> Result<(), Fail> {
+fn memory_may_be_refused(rt: HostRuntime) {
     for row in LARGE.lines() {
         let (asked, want) = halves(row);
         let (least, asked) = cut(asked, " ");
-        let least: u64 = least.parse()?;
-        let mut passes = 0;
-        while passes < 20 && is_refused(&rt, rt.alloc(), asked, want, passes)? {
-            passes += 1;
-        }
-        assert!(rt; passes >= least && passes < 20, "{row}");
+        let least: u64 = least.parse().expect(&rt, "a number");
+        let count = count_refused(&rt, rt.alloc(), asked, want);
+        assert!(rt; count >= least && count < 20, "{row}");
     }
-    Ok(())
 }
 
-/// A query for one fixed string, with the options of these letters.
-fn query_of(alloc: Global, letters: &str, pattern: &[u8]) -> Result<Query, Fail> {
-    Ok(Query::compile(alloc, text_of(alloc, letters, pattern)?)?)
+/// A query with the options of these letters.
+fn query_of<A: Allocator + Copy>(
+    rt: &impl Abort,
+    alloc: A,
+    letters: &str,
+    pattern: &[u8],
+) -> Query<A> {
+    let text = text_of(alloc, letters, pattern).expect(rt, "memory");
+    Query::compile(alloc, text).expect(rt, "a query")
+}
+
+/// Whether a block is of file 7 and has a number and bytes.
+fn is_block(block: &Block, number: u64, bytes: &[u8]) -> bool {
+    block.file == 7 && block.number == number && block.bytes.as_slice() == bytes
 }
 
 #[test]
 fn a_result_has_its_block_and_query(rt: HostRuntime) -> Result<(), Fail> {
-    let found = search_for(rt.alloc(), query_of(rt.alloc(), "F", b"b")?, b"abc\nxyz\nb")?;
-    assert_block(&rt, found.block(), 5, b"abc\nxyz\nb");
+    let query = query_of(&rt, rt.alloc(), "F", b"b");
+    let prepared = prepare(rt.alloc(), query, b"abc\nxyz\nb")?;
+    let found = search_for(rt.alloc(), prepared)?;
+    assert!(rt; is_block(found.block(), 5, b"abc\nxyz\nb"));
     let query: &Query = found.query();
-    assert!(rt; *query == query_of(rt.alloc(), "F", b"b")?);
+    assert!(rt; *query == query_of(&rt, rt.alloc(), "F", b"b"));
     Ok(())
 }
 
-/// Two queries, each by its letters and a text, and whether they are the same, and so are the texts that they are of.
-const QUERIES: &str = "F:ab F:ab => true true
-F:ab F:ac => false false
-F:ab E:ab => false false
-F:ab b:ab => false false
-F:ab Fi:ab => false false
-F:ab Fx:ab => false false
-F:ab Fw:ab => false false
-F:ab Fv:ab => false false
-F:ab Fz:ab => false false
-F:ab Ff:ab => false false";
+/// Two queries, each by its letters and a text, and whether they are the same, as are the texts that they are of.
+const QUERIES: &str = "F:ab F:ab => true
+F:ab F:ac => false
+F:ab E:ab => false
+F:ab b:ab => false
+F:ab Fi:ab => false
+F:ab Fx:ab => false
+F:ab Fw:ab => false
+F:ab Fv:ab => false
+F:ab Fz:ab => false
+F:ab Ff:ab => false";
 
 /// The query of letters and a text behind a colon.
-fn query_by(alloc: Global, asked: &str) -> Result<Query, Fail> {
+fn query_by(rt: &impl Abort, alloc: Global, asked: &str) -> Query {
     let (letters, text) = cut(asked, ":");
-    query_of(alloc, letters, text.as_bytes())
+    query_of(rt, alloc, letters, text.as_bytes())
 }
 
-/// Whether queries are the same, and their texts.
-fn shown_equality(alloc: Global, one: &Query, other: &Query) -> Result<String, AllocError> {
-    let are_same = *one == *other;
-    let are_texts_same = *one.text() == *other.text();
-    format!(in alloc; "{are_same} {are_texts_same}")
-}
-
-fn compared(alloc: Global, one: &str, other: &str) -> Result<String, Fail> {
-    let one = query_by(alloc, one)?;
-    let other = query_by(alloc, other)?;
-    Ok(shown_equality(alloc, &one, &other)?)
+/// Whether queries are the same, and so are their texts, or neither of both are.
+fn are_same(one: &Query, other: &Query, want: bool) -> bool {
+    (*one == *other) == want && (*one.text() == *other.text()) == want
 }
 
 #[test]
-fn queries_are_compared_by_content(rt: HostRuntime) -> Result<(), Fail> {
-    assert_rows(&rt, rt.alloc(), QUERIES, compared)
+fn queries_are_compared_by_content(rt: HostRuntime) {
+    for row in QUERIES.lines() {
+        let (pair, want) = halves(row);
+        let (one, other) = cut(pair, " ");
+        let one = query_by(&rt, rt.alloc(), one);
+        let other = query_by(&rt, rt.alloc(), other);
+        assert!(rt; are_same(&one, &other, want == "true"), "{row}");
+    }
 }
 
 #[test]
@@ -409,9 +398,6 @@ fn faults_are_shown(rt: HostRuntime) -> Result<(), Fail> {
     let file = CutFault::FileTooLong;
     let memory = QueryFault::OutOfMemory;
     let texts = format!(in rt.alloc(); "{long}, {file}, {memory}")?;
-    assert_eq!(rt;
-        texts.as_str(),
-        "line too long, file too long, out of memory"
-    );
+    assert!(rt; texts.as_str() == "line too long, file too long, out of memory");
     Ok(())
 }

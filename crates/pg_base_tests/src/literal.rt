@@ -1,9 +1,9 @@
 //! Literals of expressions.
 use crate::machine::{bounds_of, extended};
-use crate::rows::{assert_rows, bytes_of, show_bytes};
+use crate::rows::{Question, assert_rows, bytes_of, show_bytes};
 use pg_literal::Literal;
-use std::alloc::{AllocError, Global};
-use std::test::Fail;
+use std::alloc::Global;
+use std::process::Abort;
 
 /// Bounds, an extended expression, and its literal, with `only:` before it where each line that holds it has a hit.
 const LITERALS: &str = r"any foo => only:foo
@@ -47,27 +47,24 @@ any err(or|no)?: [0-9]+ => err
 any a$b => ab";
 
 /// The literal of an expression.
-fn literal_of(alloc: Global, bounds: &str, text: &str) -> Result<String, Fail> {
-    let trees = [extended(alloc, &bytes_of(alloc, text)?)?];
-    let found = Literal::of(alloc, &trees, bounds_of(bounds))?;
-    Ok(shown(alloc, found)?)
+pub(crate) fn literal_of(rt: &impl Abort, alloc: Global, bounds: &str, text: &str) -> String {
+    let tree = extended(rt, alloc, &bytes_of(rt, alloc, text));
+    let mut shown = String::new(alloc);
+    match Literal::of(alloc, &[tree], bounds_of(bounds)).expect(rt, "memory") {
+        Some(literal) => show(rt, &literal, &mut shown),
+        None => shown.push_str("none").expect(rt, "memory"),
+    }
+    shown
 }
 
-fn shown(alloc: Global, found: Option<Literal>) -> Result<String, AllocError> {
-    let mut shown = String::new(alloc);
-    match found {
-        Some(literal) => {
-            if literal.is_enough {
-                shown.push_str("only:")?;
-            }
-            show_bytes(&literal.text, &mut shown)?;
-        }
-        None => shown.push_str("none")?,
+fn show(rt: &impl Abort, literal: &Literal, out: &mut String) {
+    if literal.is_enough {
+        out.push_str("only:").expect(rt, "memory");
     }
-    Ok(shown)
+    show_bytes(&literal.text, out).expect(rt, "memory");
 }
 
 #[test]
-fn literals(rt: HostRuntime) -> Result<(), Fail> {
-    assert_rows(&rt, rt.alloc(), LITERALS, literal_of)
+fn literals(rt: HostRuntime) {
+    assert_rows(&rt, rt.alloc(), Question::Literal, LITERALS);
 }

@@ -1,27 +1,27 @@
 //! Rows of tests. A row is a line of a text, so that a further row costs no proof.
-ghost use Rattle.std.specs.Prelude.{◌≤◌, IfOk, length};
+ghost use Rattle.std.specs.Prelude.{◌≤◌, length};
 
+use crate::{bytes, cutter, lines, literal, machine, syntax};
 use percent_encoding::{CONTROLS, percent_decode, percent_encode};
 use std::alloc::{AllocError, Global};
 use std::process::Abort;
-use std::test::Fail;
 
 /// The bytes of a field, in which `%` and two hexadecimal digits stand for one byte (RFC 3986, 2.1).
-pub(crate) fn bytes_of(alloc: Global, field: &str) -> Result<Vec<u8>, AllocError> {
+pub(crate) fn bytes_of(rt: &impl Abort, alloc: Global, field: &str) -> Vec<u8> {
     let mut bytes = Vec::new(alloc);
-    percent_decode(field.as_bytes()).append_to(&mut bytes)?;
-    Ok(bytes)
+    percent_decode(field.as_bytes())
+        .append_to(&mut bytes)
+        .expect(rt, "memory");
+    bytes
 }
 
 /// The bytes of a field that has at most 100.
-pub(crate) fn few_bytes(alloc: Global, field: &str) -> Result<Vec<u8>, Fail>
-    ensures { IfOk result (λ bytes. length bytes.items ≤ 100) }
+pub(crate) fn few_bytes(rt: &impl Abort, alloc: Global, field: &str) -> Vec<u8>
+    ensures { length result.items ≤ 100 }
 {
-    let bytes = bytes_of(alloc, field)?;
-    if bytes.len() > 100 {
-        return Err(Fail::new("more than 100 bytes"));
-    }
-    Ok(bytes)
+    let bytes = bytes_of(rt, alloc, field);
+    assert!(rt; bytes.len() <= 100);
+    bytes
 }
 
 /// Shows bytes as a field, in which controls and bytes above 127 are escaped.
@@ -29,18 +29,23 @@ pub(crate) fn show_bytes(bytes: &[u8], out: &mut String) -> Result<(), AllocErro
     percent_encode(bytes, CONTROLS).append_to(out)
 }
 
+/// Appends a field so often as the number behind its colon says.
+fn repeat(rt: &impl Abort, text: &mut Vec<u8>, alloc: Global, part: &str) {
+    let (field, count) = part.rsplit_once(':').expect(rt, "a count");
+    let bytes = bytes_of(rt, alloc, field);
+    let count: u32 = count.parse().expect(rt, "a count");
+    for _ in 0..count {
+        text.extend_from_slice(&bytes).expect(rt, "memory");
+    }
+}
+
 /// A text in parts, which a space parts from one another: each a field, a colon, and how often it stands there.
-pub(crate) fn repeated(alloc: Global, parts: &str) -> Result<Vec<u8>, Fail> {
+pub(crate) fn repeated(rt: &impl Abort, alloc: Global, parts: &str) -> Vec<u8> {
     let mut text = Vec::new(alloc);
     for part in parts.split(' ') {
-        let (field, count) = part.rsplit_once(':').ok_or("a count")?;
-        let bytes = bytes_of(alloc, field)?;
-        let count: u32 = count.parse()?;
-        for _ in 0..count {
-            text.extend_from_slice(&bytes)?;
-        }
+        repeat(rt, &mut text, alloc, part);
     }
-    Ok(text)
+    text
 }
 
 /// What stands before a mark and what stands behind it. Without the mark nothing stands behind.
@@ -54,23 +59,56 @@ pub(crate) fn halves(row: &str) -> (&str, &str) {
     (asked, want.trim_start())
 }
 
-/// Compares what each row wants with the answer to it. What it asks of begins with a word in which commas part kinds:
-/// the rest is asked of each of them.
-pub(crate) fn assert_rows<R: Abort, F: Fn(Global, &str, &str) -> Result<String, Fail>>(
-    rt: &R,
-    alloc: Global,
-    rows: &str,
-    answer: F,
-) -> Result<(), Fail>
-    requires { F.IsAlwaysCallable answer }
-{
-    for row in rows.lines() {
-        let (asked, want) = halves(row);
-        let (kinds, asked) = cut(asked, " ");
-        for kind in kinds.split(',') {
-            let got = answer(alloc, kind, asked)?;
-            assert_eq!(rt; got.as_str(), want, "{kind}: {row}");
-        }
+/// What the rows of a test ask.
+#[derive(Clone, Copy)]
+pub(crate) enum Question {
+    Class,
+    Set,
+    Blocks,
+    Found,
+    Literal,
+    Selected,
+    Parts,
+    Visits,
+    Expression,
+    LargeText,
+    DeepTree,
+    TreeAround,
+    PatternList,
+}
+
+fn answer(rt: &impl Abort, alloc: Global, question: Question, kind: &str, asked: &str) -> String {
+    match question {
+        Question::Class => bytes::class_of(rt, alloc, kind),
+        Question::Set => bytes::changed(rt, alloc, kind),
+        Question::Blocks => cutter::blocks_of(rt, alloc, kind, asked),
+        Question::Found => lines::found(rt, alloc, kind, asked),
+        Question::Literal => literal::literal_of(rt, alloc, kind, asked),
+        Question::Selected => machine::selected(rt, alloc, kind, asked),
+        Question::Parts => machine::parts(rt, alloc, kind, asked),
+        Question::Visits => machine::visits_of(rt, alloc, kind, asked),
+        Question::Expression => syntax::expression(rt, alloc, kind, asked),
+        Question::LargeText => syntax::large_text(rt, alloc, kind, asked),
+        Question::DeepTree => syntax::deep_tree(rt, alloc, kind, asked),
+        Question::TreeAround => syntax::is_proper(rt, alloc, kind),
+        Question::PatternList => syntax::pattern_list(rt, alloc, kind, asked),
     }
-    Ok(())
+}
+
+/// Compares what a row wants with the answer to it. What it asks of begins with a word in which commas part kinds: the
+/// rest is asked of each of them.
+fn assert_row(rt: &impl Abort, alloc: Global, question: Question, row: &str) {
+    let (asked, want) = halves(row);
+    let (kinds, asked) = cut(asked, " ");
+    for kind in kinds.split(',') {
+        let got = answer(rt, alloc, question, kind, asked);
+        assert_eq!(rt; got.as_str(), want, "{kind}: {row}");
+    }
+}
+
+/// Compares what each row wants with the answer to it, as `assert_row` does.
+pub(crate) fn assert_rows(rt: &impl Abort, alloc: Global, question: Question, rows: &str) {
+    for row in rows.lines() {
+        assert_row(rt, alloc, question, row);
+    }
 }

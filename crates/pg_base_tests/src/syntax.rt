@@ -1,11 +1,12 @@
 //! Expressions and lists of patterns.
-use crate::rows::{assert_rows, bytes_of, repeated};
+use crate::rows::{Question, assert_rows, bytes_of, cut, halves, repeated};
 use crate::sets::show_set;
 use pg_syntax::{
     FaultKind, Kind, ListFault, PatternList, SyntaxFault, Tree, fixed, parse_bre, parse_ere,
     parse_list,
 };
 use std::alloc::{AllocError, Allocator, Global};
+use std::process::Abort;
 use std::test::Fail;
 
 /// Parsers, a text, and the tree that they read as `show` shows it, or the kind of the fault and its offset.
@@ -157,17 +158,13 @@ fn show<A: Allocator>(tree: &Tree<A>, out: &mut String) -> Result<(), AllocError
 }
 
 /// Shows what a parser answered.
-fn shown(alloc: Global, parsed: Result<Tree, SyntaxFault>) -> Result<String, AllocError> {
+fn shown(rt: &impl Abort, alloc: Global, parsed: Result<Tree, SyntaxFault>) -> String {
     let mut out = String::new(alloc);
     match parsed {
-        Ok(tree) => show(&tree, &mut out)?,
-        Err(fault) => {
-            let kind = fault.kind;
-            let at = fault.at;
-            write!(out, "{kind:?} at {at}")?;
-        }
+        Ok(tree) => show(&tree, &mut out).expect(rt, "memory"),
+        Err(SyntaxFault { kind, at }) => write!(out, "{kind:?} at {at}").expect(rt, "memory"),
     }
-    Ok(out)
+    out
 }
 
 /// What a parser answers: `basic`, `extended` or `fixed`, or one of these with `-folded` behind it.
@@ -182,36 +179,41 @@ fn parsed(alloc: Global, parser: &str, text: &[u8]) -> Result<Tree, SyntaxFault>
     }
 }
 
-fn expression(alloc: Global, parser: &str, text: &str) -> Result<String, Fail> {
-    let text = bytes_of(alloc, text)?;
-    Ok(shown(alloc, parsed(alloc, parser, &text))?)
+pub(crate) fn expression(rt: &impl Abort, alloc: Global, parser: &str, text: &str) -> String {
+    let text = bytes_of(rt, alloc, text);
+    shown(rt, alloc, parsed(alloc, parser, &text))
 }
 
 #[test]
-fn expressions(rt: HostRuntime) -> Result<(), Fail> {
-    assert_rows(&rt, rt.alloc(), EXPRESSIONS, expression)
+fn expressions(rt: HostRuntime) {
+    assert_rows(&rt, rt.alloc(), Question::Expression, EXPRESSIONS);
 }
 
-fn large_text(alloc: Global, parser: &str, parts: &str) -> Result<String, Fail> {
-    let text = repeated(alloc, parts)?;
-    Ok(shown(alloc, parsed(alloc, parser, &text))?)
+pub(crate) fn large_text(rt: &impl Abort, alloc: Global, parser: &str, parts: &str) -> String {
+    let text = repeated(rt, alloc, parts);
+    shown(rt, alloc, parsed(alloc, parser, &text))
 }
 
 #[test]
-fn large_texts(rt: HostRuntime) -> Result<(), Fail> {
-    assert_rows(&rt, rt.alloc(), LARGE, large_text)
+fn large_texts(rt: HostRuntime) {
+    assert_rows(&rt, rt.alloc(), Question::LargeText, LARGE);
 }
 
-fn deep_tree(alloc: Global, parser: &str, parts: &str) -> Result<String, Fail> {
-    let text = repeated(alloc, parts)?;
-    let is_proper = parsed(alloc, parser, &text)?.is_proper();
-    Ok(format!(in alloc; "{is_proper}")?)
+fn show_proper(rt: &impl Abort, alloc: Global, tree: &Tree) -> String {
+    let is_proper = tree.is_proper();
+    format!(in alloc; "{is_proper}").expect(rt, "memory")
+}
+
+pub(crate) fn deep_tree(rt: &impl Abort, alloc: Global, parser: &str, parts: &str) -> String {
+    let text = repeated(rt, alloc, parts);
+    let tree = parsed(alloc, parser, &text).expect(rt, "a tree");
+    show_proper(rt, alloc, &tree)
 }
 
 /// Trees as deep as a text can make them are walked and dropped.
 #[test]
-fn deep_trees(rt: HostRuntime) -> Result<(), Fail> {
-    assert_rows(&rt, rt.alloc(), DEEP, deep_tree)
+fn deep_trees(rt: HostRuntime) {
+    assert_rows(&rt, rt.alloc(), Question::DeepTree, DEEP);
 }
 
 /// A repetition of at least two and at most one.
@@ -236,39 +238,35 @@ fn tree_around(alloc: Global, place: &str) -> Result<Tree, AllocError> {
     }
 }
 
-fn is_proper(alloc: Global, place: &str, _rest: &str) -> Result<String, Fail> {
-    let is_proper = tree_around(alloc, place)?.is_proper();
-    Ok(format!(in alloc; "{is_proper}")?)
+pub(crate) fn is_proper(rt: &impl Abort, alloc: Global, place: &str) -> String {
+    let tree = tree_around(alloc, place).expect(rt, "memory");
+    show_proper(rt, alloc, &tree)
 }
 
 #[test]
-fn improper_trees(rt: HostRuntime) -> Result<(), Fail> {
-    assert_rows(&rt, rt.alloc(), TREES, is_proper)
+fn improper_trees(rt: HostRuntime) {
+    assert_rows(&rt, rt.alloc(), Question::TreeAround, TREES);
 }
 
 /// Shows the trees of a list, each with a semicolon behind it, or the fault.
-fn shown_list(
-    alloc: Global,
-    kind: Kind,
-    lists: &[PatternList],
-    fold: bool,
-) -> Result<String, AllocError> {
+fn shown_list(rt: &impl Abort, alloc: Global, kind: Kind, lists: &[PatternList]) -> String {
     let mut out = String::new(alloc);
-    match parse_list(alloc, kind, lists, fold) {
-        Ok(trees) => {
-            for tree in &trees {
-                show(tree, &mut out)?;
-                out.push(';')?;
-            }
-        }
-        Err(fault) => {
-            let pattern = fault.pattern;
-            let kind = fault.fault.kind;
-            let at = fault.fault.at;
-            write!(out, "pattern {pattern}: {kind:?} at {at}")?;
+    match parse_list(alloc, kind, lists, false) {
+        Ok(trees) => show_all(&trees, &mut out).expect(rt, "memory"),
+        Err(ListFault { pattern, fault }) => {
+            let SyntaxFault { kind, at } = fault;
+            write!(out, "pattern {pattern}: {kind:?} at {at}").expect(rt, "memory");
         }
     }
-    Ok(out)
+    out
+}
+
+fn show_all(trees: &[Tree], out: &mut String) -> Result<(), AllocError> {
+    for tree in trees {
+        show(tree, out)?;
+        out.push(';')?;
+    }
+    Ok(())
 }
 
 /// A kind, lists of patterns, each of them `text:` or `file:` with its bytes, and the trees that are wanted, as
@@ -284,19 +282,25 @@ Extended file:+ => pattern 1: NothingToRepeat at 0
 Basic text:(%0A+ file:a%0A%0Ab text:\( => pattern 6: UnmatchedGroup at 2
 Fixed text:(%0A[ file:*%0A%0Aa => (;[;*;Empty;a;";
 
+/// A list of patterns by a word.
+fn list_of(rt: &impl Abort, alloc: Global, word: &str) -> PatternList {
+    let (name, field) = cut(word, ":");
+    let bytes = bytes_of(rt, alloc, field);
+    match name {
+        "file" => PatternList::Lines(bytes),
+        _ => PatternList::Text(bytes),
+    }
+}
+
 /// The lists of a row.
-fn lists_of(alloc: Global, words: &str) -> Result<Vec<PatternList>, AllocError> {
+fn lists_of(rt: &impl Abort, alloc: Global, words: &str) -> Vec<PatternList> {
     let mut lists = Vec::new(alloc);
     for word in words.split(' ') {
-        if let Some((name, field)) = word.split_once(':') {
-            let bytes = bytes_of(alloc, field)?;
-            lists.push(match name {
-                "file" => PatternList::Lines(bytes),
-                _ => PatternList::Text(bytes),
-            })?;
+        if !word.is_empty() {
+            lists.push(list_of(rt, alloc, word)).expect(rt, "memory");
         }
     }
-    Ok(lists)
+    lists
 }
 
 fn kind_of(name: &str) -> Kind {
@@ -307,14 +311,14 @@ fn kind_of(name: &str) -> Kind {
     }
 }
 
-fn pattern_list(alloc: Global, kind: &str, words: &str) -> Result<String, Fail> {
-    let lists = lists_of(alloc, words)?;
-    Ok(shown_list(alloc, kind_of(kind), lists.as_slice(), false)?)
+pub(crate) fn pattern_list(rt: &impl Abort, alloc: Global, kind: &str, words: &str) -> String {
+    let lists = lists_of(rt, alloc, words);
+    shown_list(rt, alloc, kind_of(kind), &lists)
 }
 
 #[test]
-fn pattern_lists(rt: HostRuntime) -> Result<(), Fail> {
-    assert_rows(&rt, rt.alloc(), LISTS, pattern_list)
+fn pattern_lists(rt: HostRuntime) {
+    assert_rows(&rt, rt.alloc(), Question::PatternList, LISTS);
 }
 
 /// Two lists, and whether they are the same.
@@ -323,17 +327,15 @@ file: file: => true
 text:a text:b => false
 text:a file:a => false";
 
-fn compared(alloc: Global, one: &str, other: &str) -> Result<String, Fail> {
-    let one = lists_of(alloc, one)?;
-    let other = lists_of(alloc, other)?;
-    let are_same = one.len() == 1 && one.as_slice() == other.as_slice();
-    Ok(format!(in alloc; "{are_same}")?)
-}
-
 #[test]
-fn lists_compare_by_contents(rt: HostRuntime) -> Result<(), Fail> {
+fn lists_compare_by_contents(rt: HostRuntime) {
     assert!(rt; Kind::Basic != Kind::Extended);
-    assert_rows(&rt, rt.alloc(), PAIRS, compared)
+    for row in PAIRS.lines() {
+        let (pair, want) = halves(row);
+        let (one, other) = cut(pair, " ");
+        let are_same = list_of(&rt, rt.alloc(), one) == list_of(&rt, rt.alloc(), other);
+        assert!(rt; are_same == (want == "true"), "{row}");
+    }
 }
 
 /// The faults of the third pattern at offset 7, each by its kind and by its text.
@@ -380,6 +382,6 @@ fn texts_of_faults(rt: HostRuntime) -> Result<(), Fail> {
         };
         writeln!(out, "{kind:?}: {fault}")?;
     }
-    assert_eq!(rt; out.as_str(), FAULTS);
+    assert!(rt; out.as_str() == FAULTS);
     Ok(())
 }

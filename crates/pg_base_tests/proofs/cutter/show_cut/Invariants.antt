@@ -2,4 +2,4 @@ use Rattle.pg_lines.specs.Cutter.{IsDrained}
 use Rattle.pg_base_tests.proofs.cutter.show_cut.Given as goal
 
 abbrev pub invariant-loop-piece : goal.invariant-loop-piece
-invariant-loop-piece l = record { drained : IsDrained l.cutter }
+invariant-loop-piece g l = record { drained : IsDrained l.cutter }

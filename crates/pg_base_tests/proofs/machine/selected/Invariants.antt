@@ -1,5 +1,5 @@
 use Rattle.pg_match.specs.Machines.{Fits}
-use Rattle.pg_base_tests.proofs.machine.lines_in_a_row_are_selected.Given as goal
+use Rattle.pg_base_tests.proofs.machine.selected.Given as goal
 
 abbrev pub invariant-loop-line : goal.invariant-loop-line
 invariant-loop-line g l =

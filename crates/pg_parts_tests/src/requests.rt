@@ -1,7 +1,6 @@
 //! Requests for memory that are refused.
 use refusing::Refusing;
 use std::alloc::{AllocError, Allocator, Global};
-use std::test::Fail;
 use std::thread;
 use std::thread::Threads;
 
@@ -47,55 +46,47 @@ fn push_refused(alloc: Global, passes: u64) -> Result<Pushed, AllocError> {
     })
 }
 
-#[test]
-fn a_push_is_refused_once(rt: HostRuntime) -> Result<(), Fail> {
-    let mut least = 0;
-    for passes in 0..3u64 {
-        let seen = push_refused(rt.alloc(), passes)?;
-        assert!(rt;
-            seen.has_refused && seen.pushed == seen.capacity,
-            "at {passes}"
-        );
-        assert_eq!(rt; seen.requests, [passes + 1, passes + 2]);
-        assert!(rt;
-            seen.last == Some(b'b') && seen.len == seen.pushed.wrapping_add(1),
-            "at {passes}"
-        );
-        assert!(rt;
-            if passes == 0 {
-                seen.pushed == 0
-            } else {
-                seen.pushed > least
-            },
-            "at {passes}"
-        );
-        least = seen.pushed;
-    }
-    Ok(())
+/// Whether a list had to grow at each refusal, to more than `least`, and the push behind it went through.
+fn is_refused_once(seen: Pushed, passes: u64, least: usize) -> bool {
+    let is_grown = if passes == 0 {
+        seen.pushed == 0
+    } else {
+        seen.pushed > least
+    };
+    seen.has_refused
+        && seen.pushed == seen.capacity
+        && seen.requests == [passes.wrapping_add(1), passes.wrapping_add(2)]
+        && seen.last == Some(b'b')
+        && seen.len == seen.pushed.wrapping_add(1)
+        && is_grown
 }
 
 #[test]
-fn pushes_are_refused_for_good(rt: HostRuntime) -> Result<(), Fail> {
+fn a_push_is_refused_once(rt: HostRuntime) {
+    let mut least = 0;
+    for passes in 0..3u64 {
+        let seen = push_refused(rt.alloc(), passes).expect(&rt, "memory");
+        assert!(rt; is_refused_once(seen, passes, least), "at {passes}");
+        least = seen.pushed;
+    }
+}
+
+#[test]
+fn pushes_are_refused_for_good(rt: HostRuntime) {
     let heap = Refusing::lasting(rt.alloc(), 1);
     let mut bytes = Vec::new(&heap);
     let pushed = fill(&mut bytes);
-    assert!(rt; pushed > 0);
-    assert_eq!(rt; fill(&mut bytes), pushed);
-    assert_eq!(rt; heap.requests(), 3);
-    assert!(rt; heap.has_refused());
-    Ok(())
+    assert!(rt; pushed > 0 && fill(&mut bytes) == pushed);
+    assert!(rt; heap.requests() == 3 && heap.has_refused());
 }
 
 #[test]
-fn a_box_is_refused_once(rt: HostRuntime) -> Result<(), Fail> {
+fn a_box_is_refused_once(rt: HostRuntime) {
     let heap = Refusing::new(rt.alloc(), 0);
     assert!(rt; !heap.has_refused());
-    assert!(rt; Box::new(&heap, 7u64).is_err());
-    assert!(rt; heap.has_refused());
-    let seven = Box::new(&heap, 7u64)?;
-    assert_eq!(rt; Box::into_inner(seven), 7);
-    assert_eq!(rt; heap.requests(), 2);
-    Ok(())
+    assert!(rt; Box::new(&heap, 7u64).is_err() && heap.has_refused());
+    let seven = Box::new(&heap, 7u64).expect(&rt, "memory");
+    assert!(rt; Box::into_inner(seven) == 7 && heap.requests() == 2);
 }
 
 /// Two lists on one allocator.
@@ -130,9 +121,9 @@ fn pair_refused(alloc: Global, passes: u64) -> (Option<bool>, bool) {
 
 #[test]
 fn each_request_may_be_refused(rt: HostRuntime) {
-    assert_eq!(rt; pair_refused(rt.alloc(), 0), (None, true));
-    assert_eq!(rt; pair_refused(rt.alloc(), 1), (None, true));
-    assert_eq!(rt; pair_refused(rt.alloc(), 2), (Some(true), false));
+    assert!(rt; pair_refused(rt.alloc(), 0) == (None, true));
+    assert!(rt; pair_refused(rt.alloc(), 1) == (None, true));
+    assert!(rt; pair_refused(rt.alloc(), 2) == (Some(true), false));
 }
 
 /// Makes two pairs at once.
@@ -145,15 +136,14 @@ fn make_pairs<R: Threads, A: Allocator + Copy + Send + Sync>(
 }
 
 #[test]
-fn each_request_of_two_threads_may_be_refused(rt: HostRuntime) -> Result<(), Fail> {
+fn each_request_of_two_threads_may_be_refused(rt: HostRuntime) {
     for passes in 0..100u64 {
         let heap = Refusing::new(rt.alloc(), passes);
         let made = make_pairs(&rt, &heap);
         if !heap.has_refused() {
-            assert_eq!(rt; made?, 2);
-            assert_eq!(rt; heap.requests(), 4);
-            assert_eq!(rt; passes, 4);
-            return Ok(());
+            assert!(rt; matches!(made, Ok(2)));
+            assert!(rt; heap.requests() == 4 && passes == 4);
+            return;
         }
         assert!(rt; made.is_err(), "at {passes}");
     }
@@ -164,6 +154,5 @@ fn each_request_of_two_threads_may_be_refused(rt: HostRuntime) -> Result<(), Fai
 fn two_threads_are_refused_for_good(rt: HostRuntime) {
     let heap = Refusing::lasting(rt.alloc(), 0);
     assert!(rt; make_pairs(&rt, &heap).is_err());
-    assert!(rt; heap.has_refused());
-    assert_eq!(rt; heap.requests(), 2);
+    assert!(rt; heap.has_refused() && heap.requests() == 2);
 }

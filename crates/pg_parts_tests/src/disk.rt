@@ -96,18 +96,10 @@ fn has_entries<R: Files + AllocGlobal + Clone + Drop>(
 }
 
 /// Asks for kinds below the root, and walks.
-fn look_around<R: Files + AllocGlobal + Abort + Clone + Drop>(
-    rt: &R,
-    root: &str,
-) -> Result<(), Fail> {
-    assert_rows(rt, KINDS, |path: &str| Ok(kinds_at(rt, root, path)?))?;
-    assert_rows(
-        rt,
-        WALKS,
-        |operands: &str| Ok(walked_below(rt, root, operands)?),
-    )?;
-    assert!(rt; !has_entries(rt, root)?);
-    Ok(())
+fn look_around<R: Files + AllocGlobal + Abort + Clone + Drop>(rt: &R, root: &str) {
+    assert_rows(rt, KINDS, |path: &str| kinds_at(rt, root, path));
+    assert_rows(rt, WALKS, |operands: &str| walked_below(rt, root, operands));
+    assert!(rt; !has_entries(rt, root).expect(rt, "memory"));
 }
 
 /// The path of a new directory's place, which is the test's own.
@@ -125,10 +117,8 @@ fn a_directory_of_the_system(rt: HostRuntime) -> Result<(), Fail> {
     let descriptor = reader.as_raw_fd();
     let pipe = format!(in rt.alloc(); "/proc/self/fd/{descriptor}")?;
     make_tree(&rt, root.as_str(), pipe.as_str())?;
-    let looked = look_around(&rt, root.as_str());
-    let removed = fs::remove_dir_all(&rt, root.as_str());
-    looked?;
-    removed?;
+    look_around(&rt, root.as_str());
+    fs::remove_dir_all(&rt, root.as_str())?;
     Ok(())
 }
 
@@ -146,23 +136,22 @@ fn make_deep(rt: &HostRuntime, root: &str) -> io::Result<String> {
 }
 
 #[test]
-fn a_small_stack_holds_all_levels(rt: HostRuntime) -> Result<(), Fail> {
+fn a_small_stack_holds_all_levels(rt: HostRuntime) {
     let alloc = rt.alloc();
-    let root = new_root(&rt, "deep")?;
-    let deepest = make_deep(&rt, root.as_str())?;
-    let operand = String::from_str(alloc, root.as_str())?;
+    let root = new_root(&rt, "deep").expect(&rt, "a path");
+    let deepest = make_deep(&rt, root.as_str()).expect(&rt, "directories");
+    let operand = root.clone().expect(&rt, "memory");
     let thread = thread::Builder::new()
         .stack_size(SMALL_STACK)
         .spawn(&rt, move || {
             walked(alloc, &DiskTree::new(rt), operand.as_str(), true)
         });
-    let got = thread?.join(&rt);
-    fs::remove_dir_all(&rt, root.as_str())?;
-    assert_eq!(rt;
-        got?.as_str().strip_suffix(":TooDeep"),
-        Some(deepest.as_str())
-    );
-    Ok(())
+    let got = thread
+        .expect(&rt, "a thread")
+        .join(&rt)
+        .expect(&rt, "memory");
+    fs::remove_dir_all(&rt, root.as_str()).expect(&rt, "a directory");
+    assert!(rt; got.as_str().strip_suffix(":TooDeep") == Some(deepest.as_str()));
 }
 
 /// A runtime that stands in for the system, with a directory `d/`.
@@ -281,24 +270,23 @@ b|?| 97 false => d/a d/b
 b|?| 255 true => d:CannotList";
 
 /// The stand-in of which a row tells.
-fn stand_in(asked: &'static str) -> Result<StandIn, Fail> {
+fn stand_in(rt: &impl Abort, asked: &'static str) -> StandIn {
     let (names, faults) = asked.split_once(' ').unwrap_or((asked, ""));
     let (unknown, fails) = faults.split_once(' ').unwrap_or((faults, ""));
-    Ok(StandIn {
+    StandIn {
         names,
-        unknown: unknown.parse()?,
+        unknown: unknown.parse().expect(rt, "a byte"),
         fails: fails == "true",
-    })
+    }
 }
 
 #[test]
-fn names_that_are_not_utf8(rt: HostRuntime) -> Result<(), Fail> {
+fn names_that_are_not_utf8(rt: HostRuntime) {
     for row in NAMES.lines() {
         let (asked, want) = halves(row);
-        let got = walked_over(rt.alloc(), stand_in(asked)?, "d")?;
-        assert_eq!(rt; got.as_str(), want, "{row}");
+        let got = walked_over(rt.alloc(), stand_in(&rt, asked), "d").expect(&rt, "memory");
+        assert!(rt; got.as_str() == want, "{row}");
     }
-    Ok(())
 }
 
 /// A directory with the names `a`, `b` and one that isn't UTF-8.
@@ -309,11 +297,10 @@ const SOME: StandIn = StandIn {
 };
 
 #[test]
-fn a_directory_that_cannot_be_opened(rt: HostRuntime) -> Result<(), Fail> {
-    let got = walked_over(rt.alloc(), SOME, "locked")?;
-    assert_eq!(rt; got.as_str(), "locked:CannotList");
+fn a_directory_that_cannot_be_opened(rt: HostRuntime) {
+    let got = walked_over(rt.alloc(), SOME, "locked").expect(&rt, "memory");
+    assert!(rt; got.as_str() == "locked:CannotList");
     assert!(rt; walked_over(rt.alloc(), SOME, "full").is_err());
-    Ok(())
 }
 
 /// Lists that directory where the request behind so many others is refused. Answers whether it has a name that can't
@@ -332,11 +319,10 @@ fn each_request_of_a_listing_may_be_refused(rt: HostRuntime) {
     for passes in 0..100u64 {
         let (listed, is_refused) = list_refused(rt.alloc(), passes);
         if !is_refused {
-            assert_eq!(rt; listed, Ok((true, 2)));
-            assert!(rt; passes > 3);
+            assert!(rt; listed == Ok((true, 2)) && passes > 3);
             return;
         }
-        assert_eq!(rt; listed, Err(LookFault::OutOfMemory), "at {passes}");
+        assert!(rt; listed == Err(LookFault::OutOfMemory), "at {passes}");
     }
     panic!(rt; "more than 100 requests")
 }

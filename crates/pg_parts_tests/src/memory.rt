@@ -87,19 +87,18 @@ pub(crate) fn halves(row: &str) -> (&str, &str) {
 }
 
 /// Compares what each row wants with the answer to what it asks.
-pub(crate) fn assert_rows<R: Abort, F: Fn(&str) -> Result<String, Fail>>(
+pub(crate) fn assert_rows<R: Abort, F: Fn(&str) -> Result<String, AllocError>>(
     rt: &R,
     rows: &str,
     answer: F,
-) -> Result<(), Fail>
+)
     requires { F.IsAlwaysCallable answer }
 {
     for row in rows.lines() {
         let (asked, want) = halves(row);
-        let got = answer(asked)?;
+        let got = answer(asked).expect(rt, "memory");
         assert_eq!(rt; got.as_str(), want, "{row}");
     }
-    Ok(())
 }
 
 /// Walks over operands, and shows the items.
@@ -218,22 +217,26 @@ d/z nameless
 walk d => d:BadName d/i:CannotOpen d/u:CannotList d/z:BadName
 walk d/u d/k d/z/ => d/u:CannotList d/k/y d/z/:CannotOpen";
 
+/// Walks as a row says.
+fn assert_walk(rt: &impl Abort, alloc: Global, tree: &MemTree, row: &str) {
+    let (asked, want) = halves(row);
+    let operands = asked.get(4..).unwrap_or("");
+    let got = walked(alloc, tree, operands, asked.starts_with("walk")).expect(rt, "memory");
+    assert_eq!(rt; got.as_str(), want, "{row}");
+}
+
 #[test]
-fn walks(rt: HostRuntime) -> Result<(), Fail> {
+fn walks(rt: HostRuntime) {
     let mut tree = MemTree::new(rt.alloc());
     for line in WALKS.lines() {
         if line.contains("=>") {
-            let (asked, want) = halves(line);
-            let operands = asked.get(4..).unwrap_or("");
-            let got = walked(rt.alloc(), &tree, operands, asked.starts_with("walk"))?;
-            assert_eq!(rt; got.as_str(), want, "{line}");
+            assert_walk(&rt, rt.alloc(), &tree, line);
         } else if line.is_empty() {
             tree = MemTree::new(rt.alloc());
         } else {
-            add_node(rt.alloc(), &mut tree, line)?;
+            add_node(rt.alloc(), &mut tree, line).expect(&rt, "memory");
         }
     }
-    Ok(())
 }
 
 /// Adds a directory with an entry `e`, and a file `f` in it.
@@ -268,7 +271,7 @@ fn directories_down_to_256_levels(rt: HostRuntime) -> Result<(), Fail> {
     let want = format!(in rt.alloc(); "{deepest}/e:TooDeep {deepest}/f")?;
     assert!(rt; got.as_str().starts_with(want.as_str()));
     // Behind the deepest level each level's file follows, from the deepest to the operand's own.
-    assert_eq!(rt; got.as_str().split(' ').count(), 258);
+    assert!(rt; got.as_str().split(' ').count() == 258);
     assert!(rt; got.as_str().ends_with(" d/e/f d/f"));
     Ok(())
 }
@@ -346,15 +349,14 @@ fn walked_failing(
 }
 
 #[test]
-fn each_answer_may_fail(rt: HostRuntime) -> Result<(), Fail> {
-    let tree = tree_of(rt.alloc(), FAILING)?;
+fn each_answer_may_fail(rt: HostRuntime) {
+    let tree = tree_of(rt.alloc(), FAILING).expect(&rt, "memory");
     for (passes, want) in (0u32..).zip(FAILED.lines()) {
-        let got = walked_failing(rt.alloc(), &tree, passes, LookFault::Failed)?;
-        assert_eq!(rt; got.as_str(), want, "at {passes}");
+        let got = walked_failing(rt.alloc(), &tree, passes, LookFault::Failed);
+        assert!(rt; got.expect(&rt, "memory").as_str() == want, "at {passes}");
         let got = walked_failing(rt.alloc(), &tree, passes, LookFault::OutOfMemory);
-        assert_eq!(rt; got.is_err(), passes < 8, "out of memory at {passes}");
+        assert!(rt; got.is_err() == (passes < 8), "out of memory at {passes}");
     }
-    Ok(())
 }
 
 /// A tree that is walked while requests for memory are refused.
@@ -384,16 +386,16 @@ fn walk_refused(
 }
 
 #[test]
-fn each_request_of_a_walk_may_be_refused(rt: HostRuntime) -> Result<(), Fail> {
-    let tree = tree_of(rt.alloc(), REFUSED)?;
-    let operands = texts(rt.alloc(), "d d - gone")?;
+fn each_request_of_a_walk_may_be_refused(rt: HostRuntime) {
+    let tree = tree_of(rt.alloc(), REFUSED).expect(&rt, "memory");
+    let operands = texts(rt.alloc(), "d d - gone").expect(&rt, "memory");
     for passes in 0..200u64 {
-        let (got, is_refused) = walk_refused(rt.alloc(), &tree, operands.as_slice(), passes)?;
+        let walked = walk_refused(rt.alloc(), &tree, operands.as_slice(), passes);
+        let (got, is_refused) = walked.expect(&rt, "memory");
         assert!(rt; got.is_none() == is_refused, "at {passes}");
         if let Some(got) = got {
-            assert_eq!(rt; got.as_str(), ALLOWED);
-            assert!(rt; passes > 20);
-            return Ok(());
+            assert!(rt; got.as_str() == ALLOWED && passes > 20);
+            return;
         }
     }
     panic!(rt; "more than 200 requests")
@@ -421,16 +423,15 @@ fn add_refused(
 }
 
 #[test]
-fn each_request_of_a_tree_in_memory_may_be_refused(rt: HostRuntime) -> Result<(), Fail> {
+fn each_request_of_a_tree_in_memory_may_be_refused(rt: HostRuntime) {
     for passes in 0..100u64 {
-        let (got, is_refused, kind) = add_refused(rt.alloc(), passes)?;
+        let (got, is_refused, kind) = add_refused(rt.alloc(), passes).expect(&rt, "memory");
         assert!(rt; got.is_none() == is_refused, "at {passes}");
         if let Some(got) = got {
-            assert_eq!(rt; got.as_str(), "d/a");
-            assert!(rt; passes > 3);
-            return Ok(());
+            assert!(rt; got.as_str() == "d/a" && passes > 3);
+            return;
         }
-        assert_eq!(rt; kind, Err(LookFault::Failed));
+        assert!(rt; kind == Err(LookFault::Failed));
     }
     panic!(rt; "more than 100 requests")
 }

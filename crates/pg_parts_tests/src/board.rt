@@ -5,13 +5,12 @@ use pg_board::{Board, Drawn, Seat};
 use refusing::Refusing;
 use std::alloc::{AllocError, Global};
 use std::sync::atomic::{AtomicU64, Ordering};
-use std::test::Fail;
 use std::thread;
 use std::thread::Threads;
 
 #[test]
-fn a_spent_seat_stays_spent(rt: HostRuntime) -> Result<(), Fail> {
-    let (board, mut seats) = Board::open(rt.alloc(), 2, 1)?;
+fn a_spent_seat_stays_spent(rt: HostRuntime) {
+    let (board, mut seats) = Board::open(rt.alloc(), 2, 1).expect(&rt, "memory");
     let seat = &mut seats[0];
     let answers = [
         board.draw(seat),
@@ -19,9 +18,8 @@ fn a_spent_seat_stays_spent(rt: HostRuntime) -> Result<(), Fail> {
         board.draw(seat),
         board.draw(seat),
     ];
-    assert_eq!(rt; answers, [Some(0), Some(1), None, None]);
-    assert_eq!(rt; board.close(seats), Drawn { upto: 2 });
-    Ok(())
+    assert!(rt; answers == [Some(0), Some(1), None, None]);
+    assert!(rt; board.close(seats) == Drawn { upto: 2 });
 }
 
 /// So many counters, each 0.
@@ -81,13 +79,15 @@ fn are_ones(counters: &[AtomicU64], count: u32) -> bool {
 }
 
 #[test]
-fn four_threads_draw_each_number_once(rt: HostRuntime) -> Result<(), Fail> {
+fn four_threads_draw_each_number_once(rt: HostRuntime) {
     for (limit, seats, most) in [(1000u32, 4, u64::MAX), (65, 65, 1), (0, 3, 1), (3, 65, 2)] {
-        let (drawn, times) = four_draw(&rt, rt.alloc(), limit, seats, most)?;
-        assert_eq!(rt; drawn, Drawn { upto: limit });
-        assert!(rt; are_ones(&times, limit), "of {limit}");
+        let drawn = four_draw(&rt, rt.alloc(), limit, seats, most);
+        let (drawn, times) = drawn.expect(&rt, "memory");
+        assert!(rt;
+            drawn == Drawn { upto: limit } && are_ones(&times, limit),
+            "of {limit}"
+        );
     }
-    Ok(())
 }
 
 /// Opens a board of two numbers, draws one, and closes it. Answers what was drawn, up to where, and how many requests
@@ -101,14 +101,14 @@ fn draw_one(heap: &Refusing) -> Result<(Option<u32>, Drawn, u64), AllocError> {
 }
 
 #[test]
-fn each_request_of_a_board_may_be_refused(rt: HostRuntime) -> Result<(), Fail> {
+fn each_request_of_a_board_may_be_refused(rt: HostRuntime) {
     for passes in 0..100u64 {
         let heap = Refusing::new(rt.alloc(), passes);
         let drawn = draw_one(&heap);
         assert!(rt; drawn.is_err() == heap.has_refused(), "at {passes}");
         if let Ok(drawn) = drawn {
-            assert_eq!(rt; drawn, (Some(0), Drawn { upto: 1 }, 0));
-            return Ok(());
+            assert!(rt; drawn == (Some(0), Drawn { upto: 1 }, 0));
+            return;
         }
     }
     panic!(rt; "more than 100 requests")

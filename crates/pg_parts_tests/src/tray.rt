@@ -4,28 +4,32 @@ ghost use Rattle.std.specs.Prelude.{◌≡◌};
 use pg_board::{Delivered, PutPass, TakePass, Tray};
 use refusing::Refusing;
 use std::alloc::{AllocError, Allocator, Global};
+use std::process::Abort;
 use std::sync::{Arc, Wait};
-use std::test::Fail;
 use std::thread;
 use std::thread::Threads;
 
 #[test]
-fn what_is_put_is_taken(rt: HostRuntime) -> Result<(), Fail> {
-    let (tray, mut passes, mut take) = Tray::open(rt.alloc(), 1)?;
+fn what_is_put_is_taken(rt: HostRuntime) {
+    let (tray, mut passes, mut take) = Tray::open(rt.alloc(), 1).expect(&rt, "memory");
     let put = tray.put(&rt, &mut passes[0], 7u32);
     let taken = [tray.take(&rt, &mut take), tray.take(&rt, &mut take)];
     let left = tray.close(passes, take).next(&rt);
-    assert_eq!(rt; (put, taken, left), (Ok(()), [Some(7), None], None));
-    Ok(())
+    assert!(rt; put.is_ok() && taken == [Some(7), None] && left.is_none());
 }
 
 /// What is put under the passes of a tray, in order, where one value is taken in between.
-fn put_and_left<R: Wait>(rt: &R, alloc: Global) -> Result<(bool, [Option<u32>; 5]), AllocError> {
+fn put_and_left<R: Wait>(
+    rt: &R,
+    alloc: Global,
+) -> Result<([Result<(), u32>; 4], [Option<u32>; 5]), AllocError> {
     let (tray, mut passes, mut take) = Tray::open(alloc, 3)?;
-    let are_put = tray.put(rt, &mut passes[0], 10u32).is_ok()
-        && tray.put(rt, &mut passes[2], 30).is_ok()
-        && tray.put(rt, &mut passes[0], 11).is_ok()
-        && tray.put(rt, &mut passes[1], 20).is_ok();
+    let put = [
+        tray.put(rt, &mut passes[0], 10u32),
+        tray.put(rt, &mut passes[2], 30),
+        tray.put(rt, &mut passes[0], 11),
+        tray.put(rt, &mut passes[1], 20),
+    ];
     let taken = tray.take(rt, &mut take);
     passes.reverse();
     let mut left = tray.close(passes, take);
@@ -36,19 +40,18 @@ fn put_and_left<R: Wait>(rt: &R, alloc: Global) -> Result<(bool, [Option<u32>; 5
         left.next(rt),
         left.next(rt),
     ];
-    Ok((are_put, seen))
+    Ok((put, seen))
 }
 
 #[test]
-fn what_is_left_is_handed_out(rt: HostRuntime) -> Result<(), Fail> {
-    let (are_put, seen) = put_and_left(&rt, rt.alloc())?;
-    assert!(rt; are_put);
-    assert_eq!(rt; seen, [Some(10), Some(30), Some(11), Some(20), None]);
-    Ok(())
+fn what_is_left_is_handed_out(rt: HostRuntime) {
+    let (put, seen) = put_and_left(&rt, rt.alloc()).expect(&rt, "memory");
+    assert!(rt; put == [Ok(()), Ok(()), Ok(()), Ok(())]);
+    assert!(rt; seen == [Some(10), Some(30), Some(11), Some(20), None]);
 }
 
 /// What a worker found, as its first, second and so on.
-#[derive(Clone, Copy, Debug, PartialEq, Eq)]
+#[derive(Clone, Copy)]
 struct Found {
     worker: u32,
     number: u32,
@@ -111,19 +114,34 @@ fn take_fifty<A: Allocator>(
     (take, taken)
 }
 
-/// Two threads put and one takes. Answers what was taken, and then what was left.
+/// Adds what is left of a tray.
+fn add_left<A: Allocator>(
+    rt: &impl Wait,
+    left: Delivered<Found, A>,
+    mut all: Vec<Found>,
+) -> Result<Vec<Found>, AllocError> {
+    let mut left = left;
+    for _ in 0..200u32 {
+        let Some(found) = left.next(rt) else {
+            break;
+        };
+        all.push(found)?;
+    }
+    Ok(all)
+}
+
+/// Two threads put and one takes, where `taken` has room. Answers what was taken, and then what was left.
 fn deliver<R: Threads + Wait + Sync, A: Allocator + Copy + Send + Sync>(
     rt: &R,
-    heap: Global,
+    taken: Vec<Found>,
     alloc: A,
 ) -> Result<Vec<Found>, AllocError> {
-    let taken = Vec::with_capacity(heap, 50)?;
     let (tray, mut passes, take) = Tray::open(alloc, 2)?;
     let (Some(one), Some(other)) = (passes.pop(), passes.pop()) else {
         unreachable!()
     };
     let shared = &tray;
-    let ((one, other), (take, mut all)) = thread::join(
+    let ((one, other), (take, all)) = thread::join(
         rt,
         || -> (PutPass<Found, A>, PutPass<Found, A>)
             requires { (one.tray ≡ shared.now) × (other.tray ≡ shared.now) }
@@ -133,14 +151,7 @@ fn deliver<R: Threads + Wait + Sync, A: Allocator + Copy + Send + Sync>(
     );
     passes.push_reserved(one);
     passes.push_reserved(other);
-    let mut left = tray.close(passes, take);
-    for _ in 0..200u32 {
-        let Some(found) = left.next(rt) else {
-            break;
-        };
-        all.push(found)?;
-    }
-    Ok(all)
+    add_left(rt, tray.close(passes, take), all)
 }
 
 /// Whether these are the 200 values, each once, and each worker's in its order.
@@ -155,24 +166,28 @@ fn is_all(found: &[Found]) -> bool {
     next == [100, 100]
 }
 
-#[test]
-fn two_threads_put_and_one_takes(rt: HostRuntime) -> Result<(), Fail> {
-    let all = deliver(&rt, rt.alloc(), rt.alloc())?;
-    assert!(rt; is_all(all.as_slice()));
-    Ok(())
+/// Room for 50 values.
+fn room(rt: &impl Abort, alloc: Global) -> Vec<Found> {
+    Vec::with_capacity(alloc, 50).expect(rt, "memory")
 }
 
 #[test]
-fn each_request_of_the_threads_may_be_refused(rt: HostRuntime) -> Result<(), Fail> {
+fn two_threads_put_and_one_takes(rt: HostRuntime) {
+    let all = deliver(&rt, room(&rt, rt.alloc()), rt.alloc()).expect(&rt, "memory");
+    assert!(rt; is_all(all.as_slice()));
+}
+
+#[test]
+fn each_request_of_the_threads_may_be_refused(rt: HostRuntime) {
     for passes in 0..100u64 {
         let heap = Refusing::new(rt.alloc(), passes);
-        let all = deliver(&rt, rt.alloc(), &heap);
-        assert!(rt; heap.has_refused() || all.is_ok(), "at {passes}");
-        if let Ok(all) = all {
-            assert!(rt; is_all(all.as_slice()), "at {passes}");
-        }
+        let is_right = match deliver(&rt, room(&rt, rt.alloc()), &heap) {
+            Ok(all) => is_all(all.as_slice()),
+            Err(AllocError) => heap.has_refused(),
+        };
+        assert!(rt; is_right, "at {passes}");
         if !heap.has_refused() {
-            return Ok(());
+            return;
         }
     }
     panic!(rt; "more than 100 requests")
@@ -209,7 +224,7 @@ fn is_rest<R: Wait, A: Allocator>(rt: &R, left: Delivered<u32, A>) -> bool {
 }
 
 /// What is seen of a tray where a request for memory is refused.
-#[derive(Clone, Copy, Debug, PartialEq, Eq)]
+#[derive(Clone, Copy)]
 struct Seen {
     /// How many values came back.
     refused: u32,
@@ -235,23 +250,26 @@ fn put_into_tray<R: Wait>(rt: &R, heap: &Refusing) -> Result<Seen, AllocError> {
     })
 }
 
+/// Whether a value came back where a request was refused, the first one was taken, and the others are left.
+fn is_right(seen: Seen, has_refused: bool) -> bool {
+    seen.refused == u32::from(has_refused)
+        && seen.taken == Some(0)
+        && seen.is_rest
+        && seen.requests == 0
+}
+
 #[test]
-fn each_request_of_a_tray_may_be_refused(rt: HostRuntime) -> Result<(), Fail> {
+fn each_request_of_a_tray_may_be_refused(rt: HostRuntime) {
     for requests in 0..100u64 {
         let heap = Refusing::new(rt.alloc(), requests);
-        let Ok(seen) = put_into_tray(&rt, &heap) else {
-            assert!(rt; heap.has_refused(), "at {requests}");
-            continue;
-        };
-        let want = Seen {
-            refused: u32::from(heap.has_refused()),
-            taken: Some(0),
-            is_rest: true,
-            requests: 0,
-        };
-        assert_eq!(rt; seen, want, "at {requests}");
-        if seen.refused == 0 {
-            return Ok(());
+        match put_into_tray(&rt, &heap) {
+            Ok(seen) => {
+                assert!(rt; is_right(seen, heap.has_refused()), "at {requests}");
+                if seen.refused == 0 {
+                    return;
+                }
+            }
+            Err(AllocError) => assert!(rt; heap.has_refused(), "at {requests}"),
         }
     }
     panic!(rt; "more than 100 requests")
@@ -276,11 +294,11 @@ fn is_shared_in_tray<R: Wait>(
 }
 
 #[test]
-fn values_that_are_left_are_dropped(rt: HostRuntime) -> Result<(), Fail> {
-    let mut shared = Arc::new(rt.alloc(), 5u32)?;
+fn values_that_are_left_are_dropped(rt: HostRuntime) {
+    let mut shared = Arc::new(rt.alloc(), 5u32).expect(&rt, "memory");
     for closes in [true, false] {
-        assert!(rt; is_shared_in_tray(&rt, rt.alloc(), &mut shared, closes)?);
+        let is_shared = is_shared_in_tray(&rt, rt.alloc(), &mut shared, closes);
+        assert!(rt; is_shared.expect(&rt, "memory"));
         assert!(rt; Arc::get_mut(&mut shared).is_some(), "{closes}");
     }
-    Ok(())
 }
