@@ -339,7 +339,10 @@ fn query_of<A: Allocator + Copy>(
     pattern: &[u8],
 ) -> Query<A> {
     let text = text_of(alloc, letters, pattern).expect(rt, "memory");
-    Query::compile(alloc, text).expect(rt, "a query")
+    match Query::compile(alloc, text) {
+        Ok(query) => query,
+        Err(_) => panic!(rt; "no query"),
+    }
 }
 
 /// Whether a block is of file 7 and has a number and bytes.

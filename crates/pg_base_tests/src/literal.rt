@@ -1,11 +1,13 @@
 //! Literals of expressions.
-use crate::machine::{bounds_of, extended};
+use crate::machine::bounds_of;
 use crate::rows::{Question, assert_rows, bytes_of, show_bytes};
 use pg_literal::Literal;
+use pg_syntax::parse_ere;
 use std::alloc::Global;
 use std::process::Abort;
 
-/// Bounds, an extended expression, and its literal, with `only:` before it where each line that holds it has a hit.
+/// Bounds, with `fold-` before them where case is folded, an extended expression, and its literal, with `only:` before
+/// it where each line that holds it has a hit.
 const LITERALS: &str = r"any foo => only:foo
 whole,word foo => foo
 any  => only:
@@ -44,13 +46,27 @@ any ab.cd.ef => ab
 any a.cd.ef => cd
 any .*needle.* => needle
 any err(or|no)?: [0-9]+ => err
-any a$b => ab";
+any a$b => ab
+fold-any FooBar => only:foobar
+fold-word FOO => foo
+fold-any ^Foo => foo
+fold-any @AZ`az1 => only:@az`az1
+fold-any %C3%84K => only:%C3%84k
+fold-any [k]ey|[kK] => none
+fold-any [kK]ey[a-b] => key
+fold-any x.*NEEDLE => needle
+fold-any (Ab)+[^c]D => ab
+any [kK]ey => ey";
 
 /// The literal of an expression.
-pub(crate) fn literal_of(rt: &impl Abort, alloc: Global, bounds: &str, text: &str) -> String {
-    let tree = extended(rt, alloc, &bytes_of(rt, alloc, text));
+pub(crate) fn literal_of(rt: &impl Abort, alloc: Global, kind: &str, text: &str) -> String {
+    let (fold, bounds) = match kind.strip_prefix("fold-") {
+        Some(bounds) => (true, bounds),
+        None => (false, kind),
+    };
+    let tree = parse_ere(alloc, &bytes_of(rt, alloc, text), fold).expect(rt, "no expression");
     let mut shown = String::new(alloc);
-    match Literal::of(alloc, &[tree], bounds_of(bounds)).expect(rt, "memory") {
+    match Literal::of(alloc, &[tree], bounds_of(bounds), fold).expect(rt, "memory") {
         Some(literal) => show(rt, &literal, &mut shown),
         None => shown.push_str("none").expect(rt, "memory"),
     }

@@ -293,14 +293,14 @@ fn list_of(rt: &impl Abort, alloc: Global, word: &str) -> PatternList {
 }
 
 /// The lists of a row.
-fn lists_of(rt: &impl Abort, alloc: Global, words: &str) -> Vec<PatternList> {
+fn lists_of(rt: &impl Abort, alloc: Global, words: &str) -> Result<Vec<PatternList>, AllocError> {
     let mut lists = Vec::new(alloc);
     for word in words.split(' ') {
         if !word.is_empty() {
-            lists.push(list_of(rt, alloc, word)).expect(rt, "memory");
+            lists.push(list_of(rt, alloc, word))?;
         }
     }
-    lists
+    Ok(lists)
 }
 
 fn kind_of(name: &str) -> Kind {
@@ -312,7 +312,7 @@ fn kind_of(name: &str) -> Kind {
 }
 
 pub(crate) fn pattern_list(rt: &impl Abort, alloc: Global, kind: &str, words: &str) -> String {
-    let lists = lists_of(rt, alloc, words);
+    let lists = lists_of(rt, alloc, words).expect(rt, "memory");
     shown_list(rt, alloc, kind_of(kind), &lists)
 }
 

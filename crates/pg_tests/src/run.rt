@@ -6,7 +6,7 @@ use crate::fixtures::{PLAIN, text_of};
 use crate::formats::{cut, format_of, with_newlines};
 use pg_lines::Kind;
 use pg_rows::{Format, MemSink};
-use pg_run::{Ending, Listed, MemStore, RunFault, Setup, run};
+use pg_run::{Ending, FreeGate, Listed, MemStore, RunFault, Setup, run};
 use pg_walk::{Cause, Item};
 use refusing::Refusing;
 use std::alloc::{AllocError, Allocator, Global};
@@ -127,7 +127,7 @@ fn run_case<R: Threads + Wait + Clock + Sync, A: Allocator + Copy + Send + Sync>
         always_spread: true,
         silent: false,
     };
-    run(rt, heap, text, setup, files, out, faults)
+    run(rt, heap, text, setup, files, out, faults, &FreeGate)
 }
 
 /// Whether a run over the file alone writes and tells these, and has this status.
