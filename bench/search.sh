@@ -1,8 +1,8 @@
 #!/bin/sh
 # Times pargrep and GNU grep side by side on the same file, and prints the ratio of their best times.
 # Usage: bench/search.sh PARGREP [MEGABYTES]
-# The file is text of short words, made once and kept in a folder of its own that is removed at the end. Plain fixed
-# strings are searched for in all of it, and what needs the automaton in an eighth of it.
+# The file is text of short words, made once and kept in a folder of its own that is removed at the end. Lists of
+# strings are searched for in an eighth of it.
 . "$(dirname "$0")/lib.sh"
 
 pargrep=$(absolute "${1:?usage: bench/search.sh PARGREP [MEGABYTES]}")
@@ -106,16 +106,20 @@ compare "$file" -Fw water
 compare "$file" -Fx 'of the people'
 
 rounds=3
-echo "An eighth of it, best of $rounds runs, and by how many workers:"
+echo "Best of $rounds runs, and by how many workers:"
 strings 100 > hundred
 strings 2000 > thousands
 head -c $((megabytes * 131072)) /dev/zero | tr '\0' a | fold -w 100 > hostile
 echo >> hostile
-for words in "-E wat.r" "-E water|people" "-E water|people|number|other|which" "-E [a-z]{9,}" "-E [^aeiou]{6}" \
-  "-Fi WATER" "-Fw the" "-Fv the" "-nE wat.r" "-cE wat.r" "-oE wat.r" "-C2 wat.r" "-oE [a-z]{7}" "-F -f hundred" \
-  "-F -f thousands"; do
-  # The words hold no blank and no pattern of names.
-  set -f
+# The words hold no blank and no pattern of names.
+set -f
+for words in "-F zzqq" "-E zz.*qq" "-E wat.r" "-nE wat.r" "-cE wat.r" "-oE wat.r" "-C2 wat.r" "-Fi WATER" "-Fi zzqq" \
+  "-iE wat[er]+" "-Fv the" "-Fv zzqq" "-vE wat.r" "-Fw the" "-E water|people" "-E water|people|number|other|which" \
+  "-E [a-z]{9,}" "-E [^aeiou]{6}" "-oE [a-z]{7}"; do
+  # shellcheck disable=SC2086
+  spread "$file" $words
+done
+for words in "-F -f hundred" "-F -f thousands"; do
   # shellcheck disable=SC2086
   spread eighth $words
 done
