@@ -1,3 +1,4 @@
 pub mod Results
 pub mod Workers
 pub mod Receipts
+pub mod Reading

@@ -5,6 +5,7 @@ ghost use Rattle.pg_seq.specs.History.{Past};
 ghost use Rattle.pg_round.specs.Receipts.{IsSafe, HasReceived, HasBroken, HasDelivered};
 
 use crate::collector::Collector;
+use crate::reader::Reader;
 use pg_board::{Delivered, TakePass, Tray};
 use pg_lines::BlockResult;
 use pg_rows::Sink;
@@ -72,16 +73,27 @@ fn receive<A: Allocator, S: Collector<BlockResult<A>>, W: Sink>(
 }
 
 /// Takes what lies on the tray, until all workers have ended and it is empty, or the workers' thread doesn't begin.
-pub(crate) fn take_all<R: Wait + Clock, A: Allocator, S: Collector<BlockResult<A>>, W: Sink>(
+/// Where nothing lies there, the reader makes a step, and where it has nothing to do this pauses.
+pub(crate) fn take_all<
+    R: Wait + Clock,
+    A: Allocator,
+    S: Collector<BlockResult<A>>,
+    W: Sink,
+    D: Reader<F>,
+    F,
+>(
     rt: &R,
     tray: &Tray<BlockResult<A>, A>,
     take: &mut TakePass<BlockResult<A>, A>,
     collector: &mut S,
     out: &mut W,
+    reader: &mut D,
+    from: &mut F,
     signs: &Signs,
 ) -> Result<(), SinkFault>
     requires take { (take.old.tray ≡ tray.now) × (take.old.taken ≡ []) }
     requires sees { (found : Searched) → S.searched found ≡ found }
+    requires reader { D.ready reader.old from.old }
     ensures same { (take.new.tray ≡ tray.now) × (take.new.workers ≡ take.old.workers) }
     ensures ok { (past : Past) → S.stands collector.old past → past.failed ≡ false → IsSafe past past.written →
         OnOk result (HasReceived (S.stands collector.new) past take.new.taken (W.taken out.old) (W.taken out.new)) }
@@ -89,6 +101,8 @@ pub(crate) fn take_all<R: Wait + Clock, A: Allocator, S: Collector<BlockResult<A
         OnErr result
         (HasBroken past (W.taken out.old) (W.taken out.new) (W.failures out.old) (W.failures out.new)) }
     ensures calm { OnOk result (W.failures out.new ≡ W.failures out.old) }
+    ensures ready { D.ready reader.new from.new }
+    ensures read { (r : D) → (f : F) → D.reaches r f reader.old from.old → D.reaches r f reader.new from.new }
 {
     let mut looks = 0u32;
     for _ in rt.forever() {
@@ -102,8 +116,10 @@ pub(crate) fn take_all<R: Wait + Clock, A: Allocator, S: Collector<BlockResult<A
                 if ended || (looks >= PATIENCE && !signs.begun.load(Ordering::SeqCst)) {
                     return Ok(());
                 }
-                pause(rt, looks);
-                looks = looks.saturating_add(1);
+                if !reader.step(from) {
+                    pause(rt, looks);
+                    looks = looks.saturating_add(1);
+                }
             }
         }
     }

@@ -14,6 +14,7 @@ use crate::closing::close_round;
 use crate::collector::Collector;
 use crate::gate::Gate;
 use crate::opening::{Opened, open_round};
+use crate::reader::Reader;
 use crate::receiving::deliver;
 use crate::round::Round;
 use crate::streaming::stream;
@@ -67,12 +68,14 @@ fn count_workers(blocks: usize, scratches: usize, threads: u32) -> u32
     scratches.min(blocks + 1).min(threads as usize + 1) as u32
 }
 
-/// Has the workers search, if there are any, and meanwhile takes what they put.
+/// Has the workers search, if there are any, and meanwhile takes what they put and has the reader go on.
 fn search_beside<
     R: Threads + Wait + Clock + Sync,
     A: Allocator + Copy + Send + Sync,
     S: Collector<BlockResult<A>>,
     W: Sink,
+    D: Reader<F>,
+    F,
     G: Gate + Sync,
 >(
     rt: &R,
@@ -82,12 +85,15 @@ fn search_beside<
     take: &mut TakePass<BlockResult<A>, A>,
     collector: &mut S,
     out: &mut W,
+    reader: &mut D,
+    from: &mut F,
     gate: &G,
 ) -> Result<Vec<Worker<A>, A>, RoundFault>
     requires ready { IsReady (task_of round) }
     requires worked { All (HasWorked (task_of round)) workers.items }
     requires sees { (found : Searched) → S.searched found ≡ found }
     requires take { (take.old.tray ≡ round.tray.now) × (take.old.taken ≡ []) }
+    requires reader { D.ready reader.old from.old }
     ensures worked { IfOk result (λ back. (vec_len back ≡ vec_len workers)
         × All (HasWorked (task_of round.entry)) back.items) }
     ensures same { (take.new.tray ≡ round.entry.tray.now) × (take.new.workers ≡ take.old.workers) }
@@ -98,6 +104,8 @@ fn search_beside<
     ensures cause { (past : Past) → S.stands collector.old past → past.failed ≡ false → IsSafe past past.written →
         IsErrOf result SinkFails → W.failures out.old < W.failures out.new }
     ensures calm { OnOk result (W.failures out.new ≡ W.failures out.old) }
+    ensures ready { D.ready reader.new from.new }
+    ensures read { (r : D) → (f : F) → D.reaches r f reader.old from.old → D.reaches r f reader.new from.new }
 {
     if workers.is_empty() {
         return Ok(workers);
@@ -109,7 +117,7 @@ fn search_beside<
         tray,
     } = round;
     let (back, taken) = stream(
-        rt, alloc, query, blocks, board, tray, workers, take, collector, out, gate,
+        rt, alloc, query, blocks, board, tray, workers, take, collector, out, reader, from, gate,
     );
     taken?;
     let back = back?;
@@ -136,12 +144,14 @@ fn search_rest<R: Wait, A: Allocator + Copy, G: Gate>(
     Ok(back)
 }
 
-/// Searches all blocks, and takes some of the results.
+/// Searches all blocks, and takes some of the results. Meanwhile the reader goes on.
 fn search_all<
     R: Threads + Wait + Clock + Sync,
     A: Allocator + Copy + Send + Sync,
     S: Collector<BlockResult<A>>,
     W: Sink,
+    D: Reader<F>,
+    F,
     G: Gate + Sync,
 >(
     rt: &R,
@@ -151,12 +161,15 @@ fn search_all<
     take: &mut TakePass<BlockResult<A>, A>,
     collector: &mut S,
     out: &mut W,
+    reader: &mut D,
+    from: &mut F,
     gate: &G,
 ) -> Result<Vec<Worker<A>, A>, RoundFault>
     requires ready { IsReady (task_of round) }
     requires worked { All (HasWorked (task_of round)) workers.items × (0 < vec_len workers) }
     requires sees { (found : Searched) → S.searched found ≡ found }
     requires take { (take.old.tray ≡ round.tray.now) × (take.old.taken ≡ []) }
+    requires reader { D.ready reader.old from.old }
     ensures worked { IfOk result (λ back. (vec_len back ≡ vec_len workers)
         × All (HasWorked (task_of round.entry)) back.items) }
     ensures spent { IfOk result (λ back. Any (λ w. w.seat.spent ≡ true) back.items) }
@@ -168,11 +181,15 @@ fn search_all<
     ensures cause { (past : Past) → S.stands collector.old past → past.failed ≡ false → IsSafe past past.written →
         IsErrOf result SinkFails → W.failures out.old < W.failures out.new }
     ensures calm { OnOk result (W.failures out.new ≡ W.failures out.old) }
+    ensures ready { D.ready reader.new from.new }
+    ensures read { (r : D) → (f : F) → D.reaches r f reader.old from.old → D.reaches r f reader.new from.new }
 {
     let Some(worker) = workers.pop() else {
         unreachable!()
     };
-    let back = search_beside(rt, alloc, round, workers, take, collector, out, gate)?;
+    let back = search_beside(
+        rt, alloc, round, workers, take, collector, out, reader, from, gate,
+    )?;
     let all = search_rest(rt, alloc, round, worker, back, gate)?;
     Ok(all)
 }
@@ -185,18 +202,24 @@ fn search_all<
 /// left. A thread that can't be made is no fault: others search its blocks. The collector's results are those that
 /// [`search_block`](pg_lines::search_block) makes.
 ///
+/// Whenever no result is there to be taken, the reader makes a step in the calling thread, until all workers are seen
+/// to have ended. In a round without workers it makes none.
+///
 /// The round has at most 1,024 blocks, whose lines have at most 2^30 bytes each. The scratches fit the query's machine.
 /// At `Ok` they are there again, in any order.
 ///
 /// # Errors
 ///
 /// `OutOfMemory` where a request for memory was refused. `Sink` where a write failed, or took no byte of a text that
-/// isn't empty. What was written until then is a beginning of what the plan gives. Scratches may be lost.
+/// isn't empty. What was written until then is a beginning of what the plan gives. Scratches may be lost. The reader
+/// and what it works on are as the steps left them that it made until then.
 pub fn search_round<
     R: Threads + Wait + Clock + Sync,
     A: Allocator + Copy + Send + Sync,
     S: Collector<BlockResult<A>>,
     W: Sink,
+    D: Reader<F>,
+    F,
     G: Gate + Sync,
 >(
     rt: &R,
@@ -207,6 +230,8 @@ pub fn search_round<
     scratches: &mut Vec<Scratch<A>, A>,
     collector: &mut S,
     out: &mut W,
+    reader: &mut D,
+    from: &mut F,
     gate: &G,
 ) -> Result<(), RoundFault>
     requires few { (0 < vec_len scratches.old) × (vec_len scratches.old ≤ 65) × (length blocks.now ≤ 1024)
@@ -214,6 +239,7 @@ pub fn search_round<
     requires fits { All (λ s. Fits s (arc_value query.now).machine) scratches.old.items }
     requires sees { (found : Searched) → S.searched found ≡ found }
     requires short { All (HasShortLines (arc_value query.now).text) blocks.now }
+    requires reader { D.ready reader.old from.old }
     ensures ok { (past : Past) → S.stands collector.old past → past.failed ≡ false → IsSafe past past.written →
         OnOk result (HasRound (S.stands collector.new) past (arc_value query.now).text blocks.now
         (W.taken out.old) (W.taken out.new)) }
@@ -222,6 +248,8 @@ pub fn search_round<
     ensures cause { (past : Past) → S.stands collector.old past → past.failed ≡ false → IsSafe past past.written →
         IsErrOf result SinkFails → W.failures out.old < W.failures out.new }
     ensures calm { OnOk result (W.failures out.new ≡ W.failures out.old) }
+    ensures ready { D.ready reader.new from.new }
+    ensures read { (r : D) → (f : F) → D.reaches r f reader.old from.old → D.reaches r f reader.new from.new }
     ensures scratches { OnOk result ((vec_len scratches.new ≡ vec_len scratches.old)
         × All (λ s. Fits s (arc_value query.now).machine) scratches.new.items) }
 {
@@ -238,7 +266,9 @@ pub fn search_round<
         board: &board,
         tray: &tray,
     };
-    let workers = search_all(rt, alloc, round, workers, &mut take, collector, out, gate)?;
+    let workers = search_all(
+        rt, alloc, round, workers, &mut take, collector, out, reader, from, gate,
+    )?;
     let delivered = close_round(alloc, query, blocks, board, tray, workers, take, scratches)?;
     deliver(rt, delivered, collector, out)?;
     Ok(())

@@ -4,9 +4,11 @@ ghost use Rattle.std.specs.Arc.{arc_value};
 ghost use Rattle.pg_lines.specs.Searched.{Searched};
 ghost use Rattle.pg_round.specs.Workers.{task, task_of, IsReady, HasWorked};
 ghost use Rattle.pg_round.specs.Receipts.{TookIn};
+ghost use Rattle.pg_round.specs.Reading.{HasGoneOn};
 
 use crate::collector::Collector;
 use crate::gate::Gate;
+use crate::reader::Reader;
 use crate::receiving::{Signs, take_all};
 use crate::round::Round;
 use crate::starting::{join_all, start_all};
@@ -98,12 +100,14 @@ fn run_workers<R: Threads + Wait + Sync, A: Allocator + Copy + Send + Sync, G: G
     back
 }
 
-/// Has the workers search, and meanwhile takes what they put.
+/// Has the workers search, and meanwhile takes what they put and has the reader go on.
 pub(crate) fn stream<
     R: Threads + Wait + Clock + Sync,
     A: Allocator + Copy + Send + Sync,
     S: Collector<BlockResult<A>>,
     W: Sink,
+    D: Reader<F>,
+    F,
     G: Gate + Sync,
 >(
     rt: &R,
@@ -116,31 +120,39 @@ pub(crate) fn stream<
     take: &mut TakePass<BlockResult<A>, A>,
     collector: &mut S,
     out: &mut W,
+    reader: &mut D,
+    from: &mut F,
     gate: &G,
 ) -> (Back<A>, Result<(), SinkFault>)
     requires ready { IsReady (task (arc_value query.now) blocks.now board.now tray.now) }
     requires worked { All (HasWorked (task (arc_value query.now) blocks.now board.now tray.now)) workers.items }
     requires sees { (found : Searched) → S.searched found ≡ found }
     requires take { (take.old.tray ≡ tray.now) × (take.old.taken ≡ []) }
+    requires reader { D.ready reader.old from.old }
     ensures worked { IfOk result.0 (λ back. (vec_len back ≡ vec_len workers)
         × All (HasWorked (task (arc_value query.now) blocks.now board.now tray.now)) back.items) }
     ensures same { (take.new.tray ≡ tray.now) × (take.new.workers ≡ take.old.workers) }
     ensures took { TookIn result.1 (S.stands collector.old) (S.stands collector.new) take.new.taken
         (W.taken out.old) (W.taken out.new) (W.failures out.old) (W.failures out.new) }
     ensures calm { OnOk result.1 (W.failures out.new ≡ W.failures out.old) }
+    ensures ready { D.ready reader.new from.new }
+    ensures read { HasGoneOn D.reaches reader.old from.old reader.new from.new }
 {
     let signs = Signs::new();
     let mut jobs = Some(workers);
     let mut taking = || -> Result<(), SinkFault>
-        requires { (take.now.tray ≡ tray.now) × (take.now.taken ≡ [])
+        requires take { (take.now.tray ≡ tray.now) × (take.now.taken ≡ [])
             × ((found : Searched) → S.searched found ≡ found) }
+        requires reader { D.ready reader.now from.now }
         ensures same { (take.exit.now.tray ≡ tray.entry.now)
             × (take.exit.now.workers ≡ take.entry.now.workers) }
         ensures took { TookIn result (S.stands collector.entry.now) (S.stands collector.exit.now)
             take.exit.now.taken (W.taken out.entry.now) (W.taken out.exit.now)
             (W.failures out.entry.now) (W.failures out.exit.now) }
         ensures calm { OnOk result (W.failures out.exit.now ≡ W.failures out.entry.now) }
-    { take_all(rt, tray, take, collector, out, &signs) };
+        ensures ready { D.ready reader.exit.now from.exit.now }
+        ensures read { HasGoneOn D.reaches reader.entry.now from.entry.now reader.exit.now from.exit.now }
+    { take_all(rt, tray, take, collector, out, reader, from, &signs) };
     let mut working = || -> Back<A>
         requires jobs { IsSome jobs × IfSome jobs (λ workers.
             All (HasWorked (task (arc_value query.now) blocks.now board.now tray.now)) workers.items) }

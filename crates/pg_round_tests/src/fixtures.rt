@@ -1,16 +1,17 @@
-//! Blocks, scratches, gates and a collector for tests.
-ghost use Rattle.std.specs.Prelude.{◌≡◌, ℕ, ◌<◌, ◌≤◌, ◌++◌, List, [], All, vec_len, length, IfOk, OnOk, IsErrOf};
+//! Blocks, scratches, gates, a collector and a reader for tests.
+ghost use Rattle.std.specs.Prelude.{◌≡◌, ℕ, ◌+◌, ◌^◌, ◌<◌, ◌≤◌, ◌++◌, List, [], All};
+ghost use Rattle.std.specs.Prelude.{vec_len, length, IfOk, OnOk, IsErrOf};
 ghost use Rattle.std.specs.Arc.{arc_value};
 ghost use Rattle.pg_match.specs.Machines.{Fits};
 ghost use Rattle.pg_round.specs.Results.{HasShortLines};
 
 use pg_lines::{Block, BlockResult, Kind, PatternList, Query, QueryText, Scratch};
-use pg_round::{Collector, Gate};
+use pg_round::{Collector, Gate, Reader};
 use pg_rows::Sink;
 use pg_seq::{Arrival, SinkFault};
 use std::alloc::{AllocError, Allocator};
 use std::sync::Arc;
-use std::sync::atomic::{AtomicU64, Ordering};
+use std::sync::atomic::{AtomicBool, AtomicU64, Ordering};
 use std::thread;
 
 /// What a query for the letter x is compiled from.
@@ -206,5 +207,66 @@ impl Gate for Meeting {
             thread::yield_now();
         }
         self.ended.fetch_add(1, Ordering::SeqCst);
+    }
+}
+
+/// Who searches the first block waits until so many steps were made, or gives up.
+#[derive(Drop)]
+pub(crate) struct Holding {
+    wanted: u64,
+    begun: AtomicBool,
+    made: AtomicU64,
+    pub(crate) given_up: AtomicU64,
+}
+
+impl Holding {
+    pub(crate) fn new(wanted: u64) -> Holding {
+        Holding {
+            wanted,
+            begun: AtomicBool::new(false),
+            made: AtomicU64::new(0),
+            given_up: AtomicU64::new(0),
+        }
+    }
+}
+
+impl Gate for Holding {
+    fn before(&self, number: u32) {
+        if number != 0 {
+            return;
+        }
+        self.begun.store(true, Ordering::SeqCst);
+        for _ in 0..10_000_000u32 {
+            if self.made.load(Ordering::SeqCst) >= self.wanted {
+                return;
+            }
+            thread::yield_now();
+        }
+        self.given_up.fetch_add(1, Ordering::SeqCst);
+    }
+
+    fn after(&self, _number: u32) {}
+}
+
+/// Counts its steps, while there are some left. There is nothing to do until the first block's search has begun.
+#[derive(Drop)]
+pub(crate) struct Stepping<'g> {
+    pub(crate) gate: &'g Holding,
+    pub(crate) left: u32,
+}
+
+impl<'g> Reader<u32> for Stepping<'g> {
+    ghost ready = { λ reader steps. reader.left + steps < 2 ^ 32 };
+
+    ghost reaches = { λ reader steps reader' steps'. reader'.left + steps' ≡ reader.left + steps };
+
+    fn step(&mut self, steps: &mut u32) -> bool {
+        if self.left == 0 || !self.gate.begun.load(Ordering::SeqCst) {
+            return false;
+        }
+        self.left -= 1;
+        *steps += 1;
+        self.gate.made.fetch_add(1, Ordering::SeqCst);
+        true
     }
 }

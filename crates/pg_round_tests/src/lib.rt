@@ -4,6 +4,8 @@
 #[cfg(test)]
 mod fixtures;
 #[cfg(test)]
+mod reading;
+#[cfg(test)]
 mod rounds;
 #[cfg(test)]
 mod runs;

@@ -1,8 +1,8 @@
 //! Rounds of blocks.
 ghost use Rattle.std.specs.Prelude.{◌≡◌, ◌<◌, ◌≤◌, vec_len, IfOk};
 
-use crate::fixtures::{Counting, Counts, Meeting, blocks, query, scratches};
-use pg_round::{FreeGate, Gate, RoundFault, search_round};
+use crate::fixtures::{Counting, Counts, Holding, Meeting, Stepping, blocks, query, scratches};
+use pg_round::{FreeGate, Gate, NothingToRead, Reader, RoundFault, search_round};
 use pg_seq::MemSink;
 use refusing::Refusing;
 use std::alloc::Allocator;
@@ -13,14 +13,23 @@ use std::thread::Threads;
 use std::time::Clock;
 
 /// How often the result of each block came, and how many scratches are there after the round.
-fn search_some<R: Threads + Wait + Clock + Sync, A: Allocator + Copy + Send + Sync, G: Gate + Sync>(
+fn search_beside<
+    R: Threads + Wait + Clock + Sync,
+    A: Allocator + Copy + Send + Sync,
+    D: Reader<F>,
+    F,
+    G: Gate + Sync,
+>(
     rt: &R,
     alloc: A,
     blocks_count: u32,
     scratches_count: u32,
+    reader: &mut D,
+    from: &mut F,
     gate: &G,
 ) -> Result<([u32; 8], usize), RoundFault>
-    requires { (0 < scratches_count) × (scratches_count ≤ 65) × (blocks_count ≤ 8) }
+    requires few { (0 < scratches_count) × (scratches_count ≤ 65) × (blocks_count ≤ 8) }
+    requires reader { D.ready reader.old from.old }
 {
     let query = query(alloc)?;
     let blocks = blocks(alloc, &query, blocks_count)?;
@@ -36,9 +45,32 @@ fn search_some<R: Threads + Wait + Clock + Sync, A: Allocator + Copy + Send + Sy
         &mut scratches,
         &mut counts,
         &mut sink,
+        reader,
+        from,
         gate,
     )?;
     Ok((counts.found, scratches.len()))
+}
+
+/// The same, where there is nothing to read.
+fn search_some<R: Threads + Wait + Clock + Sync, A: Allocator + Copy + Send + Sync, G: Gate + Sync>(
+    rt: &R,
+    alloc: A,
+    blocks_count: u32,
+    scratches_count: u32,
+    gate: &G,
+) -> Result<([u32; 8], usize), RoundFault>
+    requires { (0 < scratches_count) × (scratches_count ≤ 65) × (blocks_count ≤ 8) }
+{
+    search_beside(
+        rt,
+        alloc,
+        blocks_count,
+        scratches_count,
+        &mut NothingToRead,
+        &mut (),
+        gate,
+    )
 }
 
 #[test]
@@ -78,6 +110,35 @@ fn two_search_at_once(rt: HostRuntime) -> Result<(), Fail> {
     let found = search_some(&rt, rt.alloc(), 2, 3, &gate);
     assert_eq!(rt; found, Ok(([1, 1, 0, 0, 0, 0, 0, 0], 3)));
     assert_eq!(rt; gate.met.load(Ordering::SeqCst), 2);
+    Ok(())
+}
+
+#[test]
+fn steps_are_made_while_a_block_is_searched(rt: HostRuntime) -> Result<(), Fail> {
+    let gate = Holding::new(100);
+    let mut reader = Stepping {
+        gate: &gate,
+        left: 100,
+    };
+    let mut steps = 0u32;
+    let found = search_beside(&rt, rt.alloc(), 4, 3, &mut reader, &mut steps, &gate);
+    assert_eq!(rt; found, Ok(([1, 1, 1, 1, 0, 0, 0, 0], 3)));
+    assert_eq!(rt; (reader.left, steps), (0, 100));
+    assert_eq!(rt; gate.given_up.load(Ordering::SeqCst), 0);
+    Ok(())
+}
+
+#[test]
+fn a_round_without_workers_makes_no_step(rt: HostRuntime) -> Result<(), Fail> {
+    let gate = Holding::new(0);
+    let mut reader = Stepping {
+        gate: &gate,
+        left: 100,
+    };
+    let mut steps = 0u32;
+    let found = search_beside(&rt, rt.alloc(), 4, 1, &mut reader, &mut steps, &gate);
+    assert_eq!(rt; found, Ok(([1, 1, 1, 1, 0, 0, 0, 0], 1)));
+    assert_eq!(rt; (reader.left, steps), (100, 0));
     Ok(())
 }
 

@@ -14,7 +14,7 @@ use std::thread::Threads;
 use std::time::Clock;
 
 /// A row for each selected line, searched by so many threads in rounds of so many blocks, each of one line.
-fn setup(workers: u32, round: u32) -> Setup
+pub(crate) fn setup(workers: u32, round: u32) -> Setup
     requires { (workers ≤ 64) × (1 ≤ round) × (round ≤ 1024) }
 {
     Setup {

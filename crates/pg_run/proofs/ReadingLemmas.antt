@@ -8,7 +8,7 @@ use Rattle.pg_lines.specs.Search.{terminator}
 use Rattle.pg_lines.specs.Lines.{lines, AreShort, AreWhole}
 use Rattle.pg_lines.specs.Blocks.{BlockData, joined}
 use Rattle.pg_lines.specs.Cutter.{fed as fed_after, handed as handed_out, Stands as CutterStands, IsNextBlock}
-use Rattle.pg_lines.specs.Cutter.{AreAllBlocks, HasLongLine}
+use Rattle.pg_lines.specs.Cutter.{Fed, AreAllBlocks, HasLongLine}
 use Rattle.pg_lines.specs.declared.cutter.Cutter.{Cutter}
 use Rattle.pg_lines.specs.declared.cutter.CutFault.{CutFault}
 use Rattle.pg_lines.specs.declared.cutter.CutFault.TheVariants.{OutOfMemory as NoMemory, LineTooLong, FileTooLong}
@@ -20,7 +20,8 @@ use Rattle.pg_rows.specs.Sink.{IsBeginning, TakesPart}
 use Rattle.pg_rows.proofs.SinkLemmas.{takes_longer}
 use Rattle.pg_seq.specs.Plan.{Step, Announces, Ends, entries_of}
 use Rattle.pg_seq.proofs.CursorLemmas.{joined_push}
-use Rattle.pg_run.specs.Given.{Given, NoFile, File, entries_given, files_given, gave_bytes, gave_end, is_reading}
+use Rattle.pg_run.specs.Given.{Given, NoFile, File, FilesPast, Sources, entries_given, files_given}
+use Rattle.pg_run.specs.Given.{gave_bytes, gave_end, is_reading}
 use Rattle.pg_run.specs.Given.{newest_name, IsTooLong}
 use Rattle.pg_run.specs.Told.{faults_of, fault_line}
 use Rattle.pg_run.specs.Asking.{read_given}
@@ -28,12 +29,16 @@ use Rattle.pg_run.specs.Faults.{fault_of_cut}
 use Rattle.pg_run.specs.Outcome.{Stream, GoesOn}
 use Rattle.pg_run.specs.Cover.{is_left, IsReading}
 use Rattle.pg_run.specs.Holding.{Aim, Holds, May, Broke, SearchCause, format_of, output_of}
-use Rattle.pg_run.specs.Reading.{InFile, IsWhole, Between, Breaks, IsSafe, ReadCause, ending_of}
+use Rattle.pg_run.specs.Reading.{InFile, HasCut, IsLost, CutCause, IsWhole, Between, Breaks, IsSafe, ReadCause}
+use Rattle.pg_run.specs.Reading.{ReadsOn, ending_of, ending_after}
 use Rattle.pg_run.specs.declared.engine.Engine.{Engine}
+use Rattle.pg_run.specs.declared.reader.FileReader.{FileReader}
+use Rattle.pg_run.specs.declared.reader.Came.{Came}
+use Rattle.pg_run.specs.declared.reader.Came.TheVariants.{More, End, Failure, Refused}
 use Rattle.pg_run.specs.declared.fault.RunFault.{RunFault}
 use Rattle.pg_run.specs.declared.fault.RunFault.TheVariants.{Query, OutOfMemory, Sink, TooManyFiles, TooLong}
 use Rattle.pg_run.proofs.CoverLemmas.{follows_begins}
-use Rattle.pg_run.proofs.StepLemmas.{reads, read_ends, leaves, announces, ends, bytes_given, end_given}
+use Rattle.pg_run.proofs.StepLemmas.{reads, read_ends, leaves, announces, ends, bytes_given, end_given, closed_left}
 use Rattle.pg_run.proofs.HoldLemmas.{room_of}
 use Rattle.pg_run.proofs.BlockLemmas.{AllEnd, Gives, given_end, gives_next, gives_last, numbered_last, short_part}
 
@@ -128,16 +133,49 @@ read_cause Sink aim given out c = c
 read_cause TooManyFiles aim given out c = absurd c
 read_cause TooLong aim given out c = absurd c
 
+-- What was read and not cut.
+
+-- a file that can't go on was cut whole
+none_lost : (came : Came) (failed : Bool) (aim : Aim) (given : List Given) (lost : List ℕ)
+    → ending_after came ≡ ending_of failed → IsLost came aim given lost → lost ≡ []
+none_lost More failed aim given lost e h = h
+none_lost End failed aim given lost e h = h
+none_lost Failure failed aim given lost e h = h
+none_lost (Refused fault) true aim given lost e h = absurd (cc)
+none_lost (Refused fault) false aim given lost e h = absurd (cc)
+
+cut_cause : (cut : CutFault) (aim : Aim) (given : List Given) (out : Stream) → CutCause cut aim given
+    → ReadCause (fault_of_cut cut) aim given out
+cut_cause NoMemory aim given out c = tt
+cut_cause LineTooLong aim given out c = c
+cut_cause FileTooLong aim given out c = c
+
+pub stands_by : {A : Type 0} {cutter cutter' : Cutter A} (past : Fed) → cutter' ≡ cutter → CutterStands cutter past
+    → CutterStands cutter' past
+stands_by {A = A} past e h = let S : Cutter A → Type 0 = λ c. CutterStands c past in subst S (sym e) h
+
 -- An open file.
-module _ {A : Type 0} {cutter : Cutter A} {engine : Engine A} {aim : Aim} {ending : Ending} {given : List Given}
-    {out : Stream} (h : InFile cutter engine aim ending given out) where
+module _ {A : Type 0} {reader : FileReader A} {aim : Aim} {given : List Given} {steps : List Step}
+    (h : HasCut reader aim given steps) where
   abbrev end_of : ℕ
   end_of = terminator aim.query
 
-  follows_block : (b : BlockData) (more : List ℕ) → Gives h.fed b more → h.rest ≡ b.bytes ++ more
-  follows_block b more g = same_behind (joined h.fed.taken) h.rest (b.bytes ++ more) (sym h.whole ∙ g.whole)
+  abbrev ending : Ending
+  ending = ending_after reader.came
 
-  may_block : (b : BlockData) (more : List ℕ) → Gives h.fed b more → May aim h.steps (Announces b)
+  -- what stands behind the next block, in what was read
+  abbrev behind : List ℕ → List ℕ
+  behind more = more ++ h.lost
+
+  follows_block : (b : BlockData) (more : List ℕ) → Gives h.fed b more → h.rest ≡ b.bytes ++ behind more
+  follows_block b more g =
+      same_behind (joined h.fed.taken) h.rest (b.bytes ++ behind more)
+      (sym h.whole
+      ∙ (ap (λ xs. xs ++ h.lost) g.whole
+      ∙ (append_assoc (joined h.fed.taken) (b.bytes ++ more) h.lost
+      ∙ ap (λ xs. joined h.fed.taken ++ xs) (append_assoc b.bytes more h.lost))))
+
+  may_block : (b : BlockData) (more : List ℕ) → Gives h.fed b more → May aim steps (Announces b)
   may_block b more g =
       let n = numbered_last h.fed.file 0 h.fed.taken b g.numbered in
       let S : List BlockData → Type 0 = λ bs. AllEnd end_of bs in
@@ -150,14 +188,14 @@ module _ {A : Type 0} {cutter : Cutter A} {engine : Engine A} {aim : Aim} {endin
           file = omega (arith, n.0, h.file);
           number = omega (arith, n.1, ap length h.last);
           some = g.some;
-          seam = subst S (sym h.last) (given_end cutter h.fed end_of h.cut h.ends);
+          seam = subst S (sym h.last) (given_end reader.cutter h.fed end_of h.cut h.ends);
         },
         record {
-          short = subst E h.ends (short_part cutter h.fed b more h.cut few g);
+          short = subst E h.ends (short_part reader.cutter h.fed b more h.cut few g);
           small = subst W (sym h.last) (omega (
             arith,
             h.cut.total,
-            cutter.few,
+            reader.cutter.few,
             total,
             length-append (joined h.fed.taken) (b.bytes ++ more),
             length-append b.bytes more,
@@ -169,53 +207,15 @@ module _ {A : Type 0} {cutter : Cutter A} {engine : Engine A} {aim : Aim} {endin
   abbrev Seam : List ℕ → List ℕ → Type 0
   Seam bytes more = AreWhole end_of bytes ⊎ ((more ≡ []) × (is_left ending ≡ false))
 
-  reads_block : (b : BlockData) (more : List ℕ) → Gives h.fed b more → Seam b.bytes more
-      → IsReading aim.query (format_of aim) h.name (joined h.fed.taken ++ b.bytes) more ending
-      (entries_of (Announces b ∷ h.steps)) (entries_given given)
+  reads_block : (b : BlockData) (more : List ℕ) → Gives h.fed b more → Seam b.bytes (behind more)
+      → IsReading aim.query (format_of aim) h.name (joined h.fed.taken ++ b.bytes) (behind more) ending
+      (entries_of (Announces b ∷ steps)) (entries_given given)
   reads_block b more g s =
       let R : List ℕ → Type 0 =
-      λ rest. IsReading aim.query (format_of aim) h.name (joined h.fed.taken) rest ending (entries_of h.steps)
+      λ rest. IsReading aim.query (format_of aim) h.name (joined h.fed.taken) rest ending (entries_of steps)
       (entries_given given) in
-      announces aim.query (format_of aim) h.name (joined h.fed.taken) b.bytes more ending (entries_of h.steps)
+      announces aim.query (format_of aim) h.name (joined h.fed.taken) b.bytes (behind more) ending (entries_of steps)
       (entries_given given) s (subst R (follows_block b more g) h.reads)
-
-  breaks_block : (b : BlockData) (more : List ℕ) (out' : Stream) (fault : RunFault) → Gives h.fed b more
-      → Seam b.bytes more → Broke aim (Announces b ∷ h.steps) out' fault → Breaks aim given out' fault
-  breaks_block b more out' fault g s k = record {
-    cause = read_cause fault aim given out' k.cause;
-    written = safe_by aim (Announces b ∷ h.steps) given out'.taken k.part (λ files on.
-        follows_begins aim.query (format_of aim) (entries_of (Announces b ∷ h.steps)) (entries_given given) files
-        (room_of h.holds) (inr (h.name, joined h.fed.taken ++ b.bytes, more, ending, reads_block b more g s)) on);
-  }
-
-  -- The blocks that wait were searched.
-
-  unfoldable pub flushed : (engine' : Engine A) (out' : Stream) → Holds engine' aim h.steps out'
-      → InFile cutter engine' aim ending given out'
-  flushed engine' out' k = record {
-    fed = h.fed;
-    cut = h.cut;
-    ends = h.ends;
-    longest = h.longest;
-    steps = h.steps;
-    holds = k;
-    running = h.running;
-    file = h.file;
-    number = h.number;
-    last = h.last;
-    name = h.name;
-    rest = h.rest;
-    whole = h.whole;
-    reads = h.reads;
-  }
-
-  pub flush_breaks : (out' : Stream) (fault : RunFault) → Broke aim h.steps out' fault → Breaks aim given out' fault
-  flush_breaks out' fault k = record {
-    cause = read_cause fault aim given out' k.cause;
-    written = safe_by aim h.steps given out'.taken k.part (λ files on.
-        follows_begins aim.query (format_of aim) (entries_of h.steps) (entries_given given) files
-        (room_of h.holds) (inr (h.name, joined h.fed.taken, h.rest, ending, h.reads)) on);
-  }
 
   -- A block that the cutter gives.
 
@@ -225,240 +225,427 @@ module _ {A : Type 0} {cutter : Cutter A} {engine : Engine A} {aim : Aim} {endin
       let W : ℕ → Type 0 = λ e. AreWhole e b.bytes in
       (g.0, g.1, subst W h.ends g.2)
 
-  pub next_may : (b : BlockData) → IsNextBlock h.fed b → May aim h.steps (Announces b)
+  pub next_may : (b : BlockData) → IsNextBlock h.fed b → May aim steps (Announces b)
   next_may b n = let g = next_whole b n in may_block b g.0 g.1
 
-  pub next_breaks : (b : BlockData) (out' : Stream) (fault : RunFault) → IsNextBlock h.fed b
-      → Broke aim (Announces b ∷ h.steps) out' fault → Breaks aim given out' fault
-  next_breaks b out' fault n k = let g = next_whole b n in breaks_block b g.0 out' fault g.1 (inl g.2) k
-
-  pub next_searched : (cutter' : Cutter A) (engine' : Engine A) (b : BlockData) (out' : Stream) → IsNextBlock h.fed b
-      → CutterStands cutter' (handed_out h.fed (Some b)) → Holds engine' aim (Announces b ∷ h.steps) out'
-      → InFile cutter' engine' aim ending given out'
-  next_searched cutter' engine' b out' n cut k =
+  -- the plan has it
+  pub next_taken : (reader' : FileReader A) (b : BlockData) → reader'.came ≡ reader.came → IsNextBlock h.fed b
+      → CutterStands reader'.cutter (handed_out h.fed (Some b)) → HasCut reader' aim given (Announces b ∷ steps)
+  next_taken reader' b same n cut =
       let g = next_whole b n in
-      let R : List ℕ → Type 0 =
-      λ front. IsReading aim.query (format_of aim) h.name front g.0 ending (entries_of (Announces b ∷ h.steps))
-      (entries_given given) in
+      let R : List ℕ → Came → Type 0 =
+      λ front came. IsReading aim.query (format_of aim) h.name front (behind g.0) (ending_after came)
+      (entries_of (Announces b ∷ steps)) (entries_given given) in
+      let L : Came → Type 0 = λ came. IsLost came aim given h.lost in
       record {
         fed = handed_out h.fed (Some b);
         cut = cut;
         ends = h.ends;
         longest = h.longest;
-        steps = Announces b ∷ h.steps;
-        holds = k;
         running = h.running;
         file = h.file;
         number = h.number;
         last = ap (λ bs. bs ++ b ∷ []) h.last;
         name = h.name;
-        rest = g.0;
+        rest = behind g.0;
+        lost = h.lost;
         whole =
-            g.1.whole
-            ∙ (sym (append_assoc (joined h.fed.taken) b.bytes g.0)
-            ∙ ap (λ xs. xs ++ g.0) (sym (joined_push h.fed.taken b)));
-        reads = subst R (sym (joined_push h.fed.taken b)) (reads_block b g.0 g.1 (inl g.2));
+            h.whole
+            ∙ (ap (λ xs. joined h.fed.taken ++ xs) (follows_block b g.0 g.1)
+            ∙ (sym (append_assoc (joined h.fed.taken) b.bytes (behind g.0))
+            ∙ ap (λ xs. xs ++ behind g.0) (sym (joined_push h.fed.taken b))));
+        cause = subst L (sym same) h.cause;
+        reads =
+            subst (λ front. R front reader'.came) (sym (joined_push h.fed.taken b))
+            (subst (R (joined h.fed.taken ++ b.bytes)) (sym same) (reads_block b g.0 g.1 (inl g.2)));
       }
 
-  pub none_given : (cutter' : Cutter A) → CutterStands cutter' (handed_out h.fed None)
-      → InFile cutter' engine aim ending given out
-  none_given cutter' cut =
-      let F : List BlockData → Type 0 = λ bs. CutterStands cutter' (record h.fed { taken = bs }) in
+  pub none_taken : (reader' : FileReader A) → reader'.came ≡ reader.came
+      → CutterStands reader'.cutter (handed_out h.fed None) → HasCut reader' aim given steps
+  none_taken reader' same cut =
+      let F : List BlockData → Type 0 = λ bs. CutterStands reader'.cutter (record h.fed { taken = bs }) in
+      let R : Came → Type 0 =
+      λ came. IsReading aim.query (format_of aim) h.name (joined h.fed.taken) h.rest (ending_after came)
+      (entries_of steps) (entries_given given) in
+      let L : Came → Type 0 = λ came. IsLost came aim given h.lost in
       record {
         fed = h.fed;
         cut = subst F (append-nil h.fed.taken) cut;
         ends = h.ends;
         longest = h.longest;
-        steps = h.steps;
-        holds = h.holds;
         running = h.running;
         file = h.file;
         number = h.number;
         last = h.last;
         name = h.name;
         rest = h.rest;
+        lost = h.lost;
         whole = h.whole;
-        reads = h.reads;
+        cause = subst L (sym same) h.cause;
+        reads = subst R (sym same) h.reads;
       }
+
+  pub recut : (reader' : FileReader A) → reader'.cutter ≡ reader.cutter → reader'.came ≡ reader.came
+      → HasCut reader' aim given steps
+  recut reader' cutter came =
+      let F : List BlockData → Type 0 = λ bs. CutterStands reader'.cutter (record h.fed { taken = bs }) in
+      none_taken reader' came (subst F (sym (append-nil h.fed.taken)) (stands_by h.fed cutter h.cut))
 
   -- The last block.
 
-  pub last_may : (b : BlockData) → AreAllBlocks (handed_out h.fed (Some b)) → May aim h.steps (Announces b)
+  pub last_may : (b : BlockData) → AreAllBlocks (handed_out h.fed (Some b)) → May aim steps (Announces b)
   last_may b all = may_block b [] (gives_last h.fed b all)
-
-  pub last_breaks : (b : BlockData) (out' : Stream) (fault : RunFault) → is_left ending ≡ false
-      → AreAllBlocks (handed_out h.fed (Some b)) → Broke aim (Announces b ∷ h.steps) out' fault
-      → Breaks aim given out' fault
-  last_breaks b out' fault e all k = breaks_block b [] out' fault (gives_last h.fed b all) (inr (refl, e)) k
-
-  pub last_searched : (engine' : Engine A) (b : BlockData) (out' : Stream) → is_left ending ≡ false
-      → AreAllBlocks (handed_out h.fed (Some b)) → Holds engine' aim (Announces b ∷ h.steps) out'
-      → IsWhole engine' aim ending given out'
-  last_searched engine' b out' e all k = record {
-    steps = Announces b ∷ h.steps;
-    holds = k;
-    running = h.running;
-    number = h.number;
-    name = h.name;
-    front = joined h.fed.taken ++ b.bytes;
-    reads = reads_block b [] (gives_last h.fed b all) (inr (refl, e));
-  }
-
-  pub none_last : AreAllBlocks (handed_out h.fed None) → IsWhole engine aim ending given out
-  none_last all =
-      let f = h.fed in
-      let cutting = cut_is_cutting f.end f.size f.bytes (f.taken ++ []) all.cut in
-      let same : f.bytes ≡ joined f.taken ++ [] =
-      sym cutting.whole ∙ (ap joined (append-nil f.taken) ∙ sym (append-nil (joined f.taken))) in
-      let none : h.rest ≡ [] = same_behind (joined f.taken) h.rest [] (sym h.whole ∙ same) in
-      let R : List ℕ → Type 0 =
-      λ rest. IsReading aim.query (format_of aim) h.name (joined f.taken) rest ending (entries_of h.steps)
-      (entries_given given) in
-      record {
-        steps = h.steps;
-        holds = h.holds;
-        running = h.running;
-        number = h.number;
-        name = h.name;
-        front = joined f.taken;
-        reads = subst R none h.reads;
-      }
 
   -- what was told of the file, by how it stands
   pub told_of_file : faults_of given
       ≡ faults_of (drop 1 given) ++ when (is_failed ending) (fault_line (newest_name given) ReadFailed)
   told_of_file = newest_told given h.name (joined h.fed.taken ++ h.rest) ending h.reads.before h.reads.given_is
 
+-- The same, and the engine has the blocks that were taken.
+module _ {A : Type 0} {reader : FileReader A} {engine : Engine A} {aim : Aim} {given : List Given} {out : Stream}
+    (h : InFile reader engine aim given out) where
+  breaks_block : (b : BlockData) (more : List ℕ) (out' : Stream) (fault : RunFault) → Gives h.cuts.fed b more
+      → Seam h.cuts b.bytes (behind h.cuts more) → Broke aim (Announces b ∷ h.steps) out' fault
+      → Breaks aim given out' fault
+  breaks_block b more out' fault g s k = record {
+    cause = read_cause fault aim given out' k.cause;
+    written = safe_by aim (Announces b ∷ h.steps) given out'.taken k.part (λ files on.
+        follows_begins aim.query (format_of aim) (entries_of (Announces b ∷ h.steps)) (entries_given given) files
+        (room_of h.holds)
+        (inr (
+          h.cuts.name,
+          joined h.cuts.fed.taken ++ b.bytes,
+          behind h.cuts more,
+          ending h.cuts,
+          reads_block h.cuts b more g s,
+        )) on);
+  }
+
+  -- what was written is a beginning, whatever the reader reads on
+  begins_still : (reader' : FileReader A) (given' : List Given) (out' : Stream) → HasCut reader' aim given' h.steps
+      → TakesPart (output_of aim h.steps) aim.out.taken out'.taken → IsSafe aim given' out'.taken
+  begins_still reader' given' out' c part = safe_by aim h.steps given' out'.taken part (λ files on.
+      follows_begins aim.query (format_of aim) (entries_of h.steps) (entries_given given') files (room_of h.holds)
+      (inr (c.name, joined c.fed.taken, c.rest, ending c, c.reads)) on)
+
+  -- A round was searched, beside which the file may have been read on.
+
+  pub rest_breaks : (reader' : FileReader A) (given' : List Given) (out' : Stream) (fault : RunFault)
+      → HasCut reader' aim given' h.steps → Broke aim h.steps out' fault → Breaks aim given' out' fault
+  rest_breaks reader' given' out' fault c k = record {
+    cause = read_cause fault aim given' out' k.cause;
+    written = begins_still reader' given' out' c k.part;
+  }
+
+  -- The next block.
+
+  pub next_breaks : (b : BlockData) (out' : Stream) (fault : RunFault) → IsNextBlock h.cuts.fed b
+      → Broke aim (Announces b ∷ h.steps) out' fault → Breaks aim given out' fault
+  next_breaks b out' fault n k = let g = next_whole h.cuts b n in breaks_block b g.0 out' fault g.1 (inl g.2) k
+
+  -- The last block.
+
+  abbrev IsAtEnd : Bool → Type 0
+  IsAtEnd failed = ending h.cuts ≡ ending_of failed
+
+  none_behind : (failed : Bool) → IsAtEnd failed → behind h.cuts [] ≡ []
+  none_behind failed e = none_lost reader.came failed aim given h.cuts.lost e h.cuts.cause
+
+  last_seam : (b : BlockData) (failed : Bool) → IsAtEnd failed → Seam h.cuts b.bytes (behind h.cuts [])
+  last_seam b failed e = inr (none_behind failed e, ap is_left e ∙ closed_left failed)
+
+  pub last_breaks : (b : BlockData) (out' : Stream) (fault : RunFault) (failed : Bool) → IsAtEnd failed
+      → AreAllBlocks (handed_out h.cuts.fed (Some b)) → Broke aim (Announces b ∷ h.steps) out' fault
+      → Breaks aim given out' fault
+  last_breaks b out' fault failed e all k =
+      breaks_block b [] out' fault (gives_last h.cuts.fed b all) (last_seam b failed e) k
+
+  pub last_searched : (engine' : Engine A) (b : BlockData) (out' : Stream) (failed : Bool) → IsAtEnd failed
+      → AreAllBlocks (handed_out h.cuts.fed (Some b)) → Holds engine' aim (Announces b ∷ h.steps) out'
+      → IsWhole engine' aim (ending_of failed) given out'
+  last_searched engine' b out' failed e all k =
+      let front = joined h.cuts.fed.taken ++ b.bytes in
+      let R : List ℕ → Ending → Type 0 =
+      λ rest stands. IsReading aim.query (format_of aim) h.cuts.name front rest stands
+      (entries_of (Announces b ∷ h.steps)) (entries_given given) in
+      record {
+        steps = Announces b ∷ h.steps;
+        holds = k;
+        running = h.cuts.running;
+        number = h.cuts.number;
+        name = h.cuts.name;
+        front = front;
+        reads =
+            subst (R []) e
+            (subst (λ rest. R rest (ending h.cuts)) (none_behind failed e)
+            (reads_block h.cuts b [] (gives_last h.cuts.fed b all) (last_seam b failed e)));
+      }
+
+  pub none_last : (failed : Bool) → IsAtEnd failed → AreAllBlocks (handed_out h.cuts.fed None)
+      → IsWhole engine aim (ending_of failed) given out
+  none_last failed e all =
+      let c = h.cuts in
+      let f = c.fed in
+      let cutting = cut_is_cutting f.end f.size f.bytes (f.taken ++ []) all.cut in
+      let same : f.bytes ≡ joined f.taken ++ [] =
+      sym cutting.whole ∙ (ap joined (append-nil f.taken) ∙ sym (append-nil (joined f.taken))) in
+      let cut_whole : f.bytes ≡ joined f.taken ++ c.rest =
+      sym (append-nil f.bytes) ∙ (ap (λ xs. f.bytes ++ xs) (sym (none_behind failed e)) ∙ c.whole) in
+      let none : c.rest ≡ [] = same_behind (joined f.taken) c.rest [] (sym cut_whole ∙ same) in
+      let R : List ℕ → Ending → Type 0 =
+      λ rest stands. IsReading aim.query (format_of aim) c.name (joined f.taken) rest stands (entries_of h.steps)
+      (entries_given given) in
+      record {
+        steps = h.steps;
+        holds = h.holds;
+        running = c.running;
+        number = c.number;
+        name = c.name;
+        front = joined f.taken;
+        reads = subst (R []) e (subst (λ rest. R rest (ending c)) none c.reads);
+      }
+
+  -- the cutter took no more
+  pub refused_breaks : (out' : Stream) (engine' : Engine A) (cut : CutFault) → reader.came ≡ Refused cut
+      → Holds engine' aim h.steps out' → Breaks aim given out' (fault_of_cut cut)
+  refused_breaks out' engine' cut e k =
+      let L : Came → Type 0 = λ came. IsLost came aim given h.cuts.lost in
+      record {
+        cause = cut_cause cut aim given out' (subst L e h.cuts.cause);
+        written = begins_still reader given out' h.cuts (k.written, k.safe, k.got);
+      }
+
 -- A file that may be read further.
-module _ {A : Type 0} {cutter : Cutter A} {engine : Engine A} {aim : Aim} {given : List Given} {out : Stream}
-    (h : InFile cutter engine aim Left given out) where
+module _ {A : Type 0} {reader : FileReader A} {aim : Aim} {given : List Given} {steps : List Step}
+    (h : HasCut reader aim given steps) (more : reader.came ≡ More) where
+  open_yet : IsReading aim.query (format_of aim) h.name (joined h.fed.taken) h.rest Left (entries_of steps)
+      (entries_given given)
+  open_yet =
+      let R : Came → Type 0 =
+      λ came. IsReading aim.query (format_of aim) h.name (joined h.fed.taken) h.rest (ending_after came)
+      (entries_of steps) (entries_given given) in
+      subst R more h.reads
+
+  cut_whole : h.fed.bytes ≡ joined h.fed.taken ++ h.rest
+  cut_whole =
+      let L : Came → Type 0 = λ came. IsLost came aim given h.lost in
+      let none : h.lost ≡ [] = subst L more h.cause in
+      sym (append-nil h.fed.bytes) ∙ (ap (λ xs. h.fed.bytes ++ xs) (sym none) ∙ h.whole)
+
   -- a read may follow
   pub may_read : is_reading given ≡ true
-  may_read = still_reading given h.name (joined h.fed.taken ++ h.rest) h.reads.before h.reads.given_is
+  may_read = still_reading given h.name (joined h.fed.taken ++ h.rest) open_yet.before open_yet.given_is
 
   reads_more : (piece : List ℕ) → IsReading aim.query (format_of aim) h.name (joined h.fed.taken) (h.rest ++ piece) Left
-      (entries_of h.steps) (entries_given (gave_bytes piece given))
+      (entries_of steps) (entries_given (gave_bytes piece given))
   reads_more piece =
       let R : List Entry → Type 0 =
       λ es. IsReading aim.query (format_of aim) h.name (joined h.fed.taken) (h.rest ++ piece) Left
-      (entries_of h.steps) es in
+      (entries_of steps) es in
       subst R (sym (bytes_given piece given))
-      (reads aim.query (format_of aim) h.name (joined h.fed.taken) h.rest (entries_of h.steps) (entries_given given)
-      piece h.reads)
-
-  -- it gave more, which the cutter didn't take
-  piece_safe : (piece : List ℕ) → IsSafe aim (gave_bytes piece given) out.taken
-  piece_safe piece =
-      safe_by aim h.steps (gave_bytes piece given) out.taken (h.holds.written, h.holds.safe, h.holds.got)
-      (λ files on.
-      follows_begins aim.query (format_of aim) (entries_of h.steps) (entries_given (gave_bytes piece given)) files
-      (room_of h.holds) (inr (h.name, joined h.fed.taken, h.rest ++ piece, Left, reads_more piece)) on)
+      (reads aim.query (format_of aim) h.name (joined h.fed.taken) h.rest (entries_of steps) (entries_given given)
+      piece open_yet)
 
   is_long : (piece : List ℕ)
       → Any (λ l. aim.setup.line < length l) (lines (terminator aim.query) (h.fed.bytes ++ piece))
       ⊎ (2 ^ 62 < length (h.fed.bytes ++ piece))
       → IsTooLong (terminator aim.query) aim.setup.line (gave_bytes piece given)
   is_long piece long =
-      let given_is : entries_given given ≡ Read h.name h.fed.bytes Left ∷ h.reads.before =
-      h.reads.given_is ∙ ap (λ xs. Read h.name xs Left ∷ h.reads.before) (sym h.whole) in
-      too_long_given (terminator aim.query) aim.setup.line given h.name h.fed.bytes piece h.reads.before given_is long
+      let given_is : entries_given given ≡ Read h.name h.fed.bytes Left ∷ open_yet.before =
+      open_yet.given_is ∙ ap (λ xs. Read h.name xs Left ∷ open_yet.before) (sym cut_whole) in
+      too_long_given (terminator aim.query) aim.setup.line given h.name h.fed.bytes piece open_yet.before given_is long
 
-  cut_cause : (piece : List ℕ) (cut : CutFault) → (cut ≡ LineTooLong → HasLongLine (fed_after h.fed piece))
-      → (cut ≡ FileTooLong → 2 ^ 62 < length h.fed.bytes + length piece)
-      → ReadCause (fault_of_cut cut) aim (gave_bytes piece given) out
-  cut_cause piece NoMemory line file = tt
-  cut_cause piece LineTooLong line file =
+  long_cause : (piece : List ℕ) (cut : CutFault) → (cut ≡ LineTooLong → HasLongLine (fed_after h.fed piece))
+      → (cut ≡ FileTooLong → 2 ^ 62 < length h.fed.bytes + length piece) → CutCause cut aim (gave_bytes piece given)
+  long_cause piece NoMemory line file = tt
+  long_cause piece LineTooLong line file =
       let L : ℕ → Type 0 = λ n. Any (λ l. n < length l) (lines h.fed.end (h.fed.bytes ++ piece)) in
       let E : ℕ → Type 0 = λ e. Any (λ l. aim.setup.line < length l) (lines e (h.fed.bytes ++ piece)) in
       is_long piece (inl (subst E h.ends (subst L h.longest (line refl))))
-  cut_cause piece FileTooLong line file =
+  long_cause piece FileTooLong line file =
       is_long piece (inr (omega (arith, file refl, length-append h.fed.bytes piece)))
 
-  pub piece_breaks : (piece : List ℕ) (cut : CutFault) → (cut ≡ LineTooLong → HasLongLine (fed_after h.fed piece))
-      → (cut ≡ FileTooLong → 2 ^ 62 < length h.fed.bytes + length piece)
-      → Breaks aim (gave_bytes piece given) out (fault_of_cut cut)
-  piece_breaks piece cut line file = record { cause = cut_cause piece cut line file; written = piece_safe piece }
-
-  -- what waits can't be searched first
-  pub piece_flush_breaks : (piece : List ℕ) (out' : Stream) (fault : RunFault) → Broke aim h.steps out' fault
-      → Breaks aim (gave_bytes piece given) out' fault
-  piece_flush_breaks piece out' fault k = record {
-    cause = read_cause fault aim (gave_bytes piece given) out' k.cause;
-    written = safe_by aim h.steps (gave_bytes piece given) out'.taken k.part (λ files on.
-        follows_begins aim.query (format_of aim) (entries_of h.steps) (entries_given (gave_bytes piece given)) files
-        (room_of h.holds) (inr (h.name, joined h.fed.taken, h.rest ++ piece, Left, reads_more piece)) on);
-  }
-
-  -- or took
-  pub piece_fed : (cutter' : Cutter A) (piece : List ℕ) → CutterStands cutter' (fed_after h.fed piece)
-      → InFile cutter' engine aim Left (gave_bytes piece given) out
-  piece_fed cutter' piece cut = record {
-    fed = fed_after h.fed piece;
-    cut = cut;
-    ends = h.ends;
-    longest = h.longest;
-    steps = h.steps;
-    holds = h.holds;
-    running = h.running;
-    file = h.file;
-    number = h.number ∙ sym (files_more piece given);
-    last = h.last;
-    name = h.name;
-    rest = h.rest ++ piece;
-    whole = ap (λ xs. xs ++ piece) h.whole ∙ append_assoc (joined h.fed.taken) h.rest piece;
-    reads = reads_more piece;
-  }
-
-  -- it met the end, or failed
-  pub file_stopped : (failed : Bool) → InFile cutter engine aim (ending_of failed) (gave_end failed given) out
-  file_stopped failed =
-      let R : List Entry → Type 0 =
-      λ es. IsReading aim.query (format_of aim) h.name (joined h.fed.taken) h.rest (ending_of failed)
-      (entries_of h.steps) es in
+  -- it gave more, which was cut
+  pub piece_cut : (reader' : FileReader A) (piece : List ℕ) → reader'.came ≡ More
+      → CutterStands reader'.cutter (fed_after h.fed piece) → HasCut reader' aim (gave_bytes piece given) steps
+  piece_cut reader' piece came cut =
+      let R : Came → Type 0 =
+      λ came. IsReading aim.query (format_of aim) h.name (joined h.fed.taken) (h.rest ++ piece) (ending_after came)
+      (entries_of steps) (entries_given (gave_bytes piece given)) in
+      let L : Came → Type 0 = λ came. IsLost came aim (gave_bytes piece given) [] in
       record {
-        fed = h.fed;
-        cut = h.cut;
+        fed = fed_after h.fed piece;
+        cut = cut;
         ends = h.ends;
         longest = h.longest;
-        steps = h.steps;
-        holds = h.holds;
+        running = h.running;
+        file = h.file;
+        number = h.number ∙ sym (files_more piece given);
+        last = h.last;
+        name = h.name;
+        rest = h.rest ++ piece;
+        lost = [];
+        whole =
+            append-nil (h.fed.bytes ++ piece)
+            ∙ (ap (λ xs. xs ++ piece) cut_whole ∙ append_assoc (joined h.fed.taken) h.rest piece);
+        cause = subst L (sym came) refl;
+        reads = subst R (sym came) (reads_more piece);
+      }
+
+  -- or wasn't
+  pub piece_refused : (reader' : FileReader A) (piece : List ℕ) (cut : CutFault) → reader'.came ≡ Refused cut
+      → CutterStands reader'.cutter h.fed → (cut ≡ LineTooLong → HasLongLine (fed_after h.fed piece))
+      → (cut ≡ FileTooLong → 2 ^ 62 < length h.fed.bytes + length piece)
+      → HasCut reader' aim (gave_bytes piece given) steps
+  piece_refused reader' piece cut came stands line file =
+      let R : Came → Type 0 =
+      λ came. IsReading aim.query (format_of aim) h.name (joined h.fed.taken) (h.rest ++ piece) (ending_after came)
+      (entries_of steps) (entries_given (gave_bytes piece given)) in
+      let L : Came → Type 0 = λ came. IsLost came aim (gave_bytes piece given) piece in
+      record {
+        fed = h.fed;
+        cut = stands;
+        ends = h.ends;
+        longest = h.longest;
+        running = h.running;
+        file = h.file;
+        number = h.number ∙ sym (files_more piece given);
+        last = h.last;
+        name = h.name;
+        rest = h.rest ++ piece;
+        lost = piece;
+        whole = ap (λ xs. xs ++ piece) cut_whole ∙ append_assoc (joined h.fed.taken) h.rest piece;
+        cause = subst L (sym came) (long_cause piece cut line file);
+        reads = subst R (sym came) (reads_more piece);
+      }
+
+  -- it met the end, or failed
+  pub file_stopped : (reader' : FileReader A) (failed : Bool) → ending_after reader'.came ≡ ending_of failed
+      → ((lost : List ℕ) → lost ≡ [] → IsLost reader'.came aim (gave_end failed given) lost)
+      → CutterStands reader'.cutter h.fed → HasCut reader' aim (gave_end failed given) steps
+  file_stopped reader' failed stops none stands =
+      let R : List Entry → Ending → Type 0 =
+      λ es ending. IsReading aim.query (format_of aim) h.name (joined h.fed.taken) h.rest ending (entries_of steps) es in
+      record {
+        fed = h.fed;
+        cut = stands;
+        ends = h.ends;
+        longest = h.longest;
         running = h.running;
         file = h.file;
         number = h.number ∙ sym (files_end failed given);
         last = h.last;
         name = h.name;
         rest = h.rest;
-        whole = h.whole;
+        lost = [];
+        whole = append-nil h.fed.bytes ∙ cut_whole;
+        cause = none [] refl;
         reads =
-            subst R (sym (end_given failed given))
-            (read_ends aim.query (format_of aim) h.name (joined h.fed.taken) h.rest (entries_of h.steps)
-            (entries_given given) failed h.reads);
+            subst (R (entries_given (gave_end failed given))) (sym stops)
+            (subst (λ es. R es (ending_of failed)) (sym (end_given failed given))
+            (read_ends aim.query (format_of aim) h.name (joined h.fed.taken) h.rest (entries_of steps)
+            (entries_given given) failed open_yet));
       }
 
-  -- or it is left
-  pub file_left : (engine' : Engine A) → is_enough aim.query (format_of aim) (entries_of h.steps) ≡ true
-      → Holds engine' aim (Ends false ∷ h.steps) out → Between engine' aim given out
-  file_left engine' e k = record {
-    steps = Ends false ∷ h.steps;
-    holds = k;
-    closed = refl;
-    number = h.number;
-    covers =
-        leaves aim.query (format_of aim) h.name (joined h.fed.taken) h.rest (entries_of h.steps) (entries_given given)
-        h.reads e;
+-- What one read came to.
+
+pub nothing_read : {A F : Type 0} {past : F → FilesPast} {list : F → Sources} {reader : FileReader A} {files : F}
+    → ReadsOn past list reader files reader files
+nothing_read = record { done = refl; before = refl; same_list = refl; cuts = λ aim steps h. h }
+
+module _ {A F : Type 0} {past : F → FilesPast} {list : F → Sources} {reader reader' : FileReader A} {files files' : F}
+    (more : reader.came ≡ More) (done : (past files').done ≡ (past files).done) (same : list files' ≡ list files) where
+  -- its end, or a failure
+  pub read_stopped : (failed : Bool) → (past files').given ≡ gave_end failed (past files).given
+      → ending_after reader'.came ≡ ending_of failed
+      → ((aim : Aim) → IsLost reader'.came aim (gave_end failed (past files).given) []) → reader'.cutter ≡ reader.cutter
+      → ReadsOn past list reader files reader' files'
+  read_stopped failed is stops none cutter = record {
+    done = done;
+    before = ap (λ gs. drop 1 gs) is ∙ end_before failed (past files).given;
+    same_list = same;
+    cuts = λ aim steps h.
+        let P : List Given → Type 0 = λ gs. HasCut reader' aim gs steps in
+        let L : List ℕ → Type 0 = λ lost. IsLost reader'.came aim (gave_end failed (past files).given) lost in
+        subst P (sym is)
+        (file_stopped h more reader' failed stops (λ lost e. subst L (sym e) (none aim))
+        (stands_by h.fed cutter h.cut));
   }
 
+  -- bytes that are cut
+  pub read_cut : (piece : List ℕ) → (past files').given ≡ gave_bytes piece (past files).given → reader'.came ≡ More
+      → ((fed : Fed) → CutterStands reader.cutter fed → CutterStands reader'.cutter (fed_after fed piece))
+      → ReadsOn past list reader files reader' files'
+  read_cut piece is came cut = record {
+    done = done;
+    before = ap (λ gs. drop 1 gs) is ∙ bytes_before piece (past files).given;
+    same_list = same;
+    cuts = λ aim steps h.
+        let P : List Given → Type 0 = λ gs. HasCut reader' aim gs steps in
+        subst P (sym is) (piece_cut h more reader' piece came (cut h.fed h.cut));
+  }
+
+  -- bytes that the cutter doesn't take
+  pub read_refused : (piece : List ℕ) (cut : CutFault) → (past files').given ≡ gave_bytes piece (past files).given
+      → reader'.came ≡ Refused cut
+      → ((fed : Fed) → CutterStands reader.cutter fed → CutterStands reader'.cutter fed)
+      → ((fed : Fed) → CutterStands reader.cutter fed → cut ≡ LineTooLong → HasLongLine (fed_after fed piece))
+      → ((fed : Fed) → CutterStands reader.cutter fed → cut ≡ FileTooLong
+      → 2 ^ 62 < length fed.bytes + length piece)
+      → ReadsOn past list reader files reader' files'
+  read_refused piece cut is came stands line file = record {
+    done = done;
+    before = ap (λ gs. drop 1 gs) is ∙ bytes_before piece (past files).given;
+    same_list = same;
+    cuts = λ aim steps h.
+        let P : List Given → Type 0 = λ gs. HasCut reader' aim gs steps in
+        subst P (sym is) (piece_refused h more reader' piece cut came (stands h.fed h.cut) (line h.fed h.cut)
+        (file h.fed h.cut));
+  }
+
+-- it is left
+pub file_left : {A : Type 0} {reader : FileReader A} {engine : Engine A} {aim : Aim} {given : List Given} {out : Stream}
+    (h : InFile reader engine aim given out) → reader.came ≡ More → (engine' : Engine A)
+    → is_enough aim.query (format_of aim) (entries_of h.steps) ≡ true → Holds engine' aim (Ends false ∷ h.steps) out
+    → Between engine' aim given out
+file_left {aim = aim} {given = given} h more engine' e k = record {
+  steps = Ends false ∷ h.steps;
+  holds = k;
+  closed = refl;
+  number = h.cuts.number;
+  covers =
+      leaves aim.query (format_of aim) h.cuts.name (joined h.cuts.fed.taken) h.cuts.rest (entries_of h.steps)
+      (entries_given given) (open_yet h.cuts more) e;
+}
+
+-- the file was read on
+pub read_on : {A F : Type 0} {past : F → FilesPast} {list : F → Sources} {reader reader' : FileReader A} {files files' : F}
+    {engine : Engine A} {aim : Aim} {out : Stream} → InFile reader engine aim (past files).given out
+    → ReadsOn past list reader files reader' files' → InFile reader' engine aim (past files').given out
+read_on {aim = aim} h on = record { steps = h.steps; holds = h.holds; cuts = on.cuts aim h.steps h.cuts }
+
+-- the blocks that wait were searched
+pub flushed : {A : Type 0} {reader : FileReader A} {engine : Engine A} {aim : Aim} {given : List Given} {out : Stream}
+    (h : InFile reader engine aim given out) (engine' : Engine A) (out' : Stream) → Holds engine' aim h.steps out'
+    → InFile reader engine' aim given out'
+flushed h engine' out' k = record { steps = h.steps; holds = k; cuts = h.cuts }
+
 -- what is told of a file once it was read further
-pub told_more : {A : Type 0} {cutter cutter' : Cutter A} {engine engine' : Engine A} {aim aim' : Aim} {ending : Ending}
-    {given given' : List Given} {out out' : Stream} (h : InFile cutter engine aim Left given out)
-    (h' : InFile cutter' engine' aim' ending given' out') → drop 1 given' ≡ drop 1 given
-    → faults_of given'
-    ≡ faults_of given ++ when (is_failed ending) (fault_line (newest_name given') ReadFailed)
-told_more {ending = ending} {given = given} {given' = given'} h h' before =
-    let line = when (is_failed ending) (fault_line (newest_name given') ReadFailed) in
+pub told_more : {A : Type 0} {reader reader' : FileReader A} {aim aim' : Aim} {given given' : List Given}
+    {steps steps' : List Step} (h : HasCut reader aim given steps) (h' : HasCut reader' aim' given' steps') (failed : Bool)
+    → reader.came ≡ More → is_failed (ending_after reader'.came) ≡ failed → drop 1 given' ≡ drop 1 given
+    → faults_of given' ≡ faults_of given ++ when failed (fault_line (newest_name given') ReadFailed)
+told_more {reader = reader} {reader' = reader'} {given = given} {given' = given'} h h' failed more e before =
+    let line : Bool → List ℕ = λ f. when f (fault_line (newest_name given') ReadFailed) in
+    let none : faults_of given ≡ faults_of (drop 1 given) =
+    told_of_file h
+    ∙ (ap (λ came. faults_of (drop 1 given) ++ when (is_failed (ending_after came))
+    (fault_line (newest_name given) ReadFailed)) more
+    ∙ append-nil (faults_of (drop 1 given))) in
     told_of_file h'
-    ∙ (ap (λ gs. faults_of gs ++ line) before
-    ∙ ap (λ xs. xs ++ line) (sym (append-nil (faults_of (drop 1 given))) ∙ sym (told_of_file h)))
+    ∙ (ap (λ gs. faults_of gs ++ line (is_failed (ending_after reader'.came))) before
+    ∙ (ap (λ xs. xs ++ line (is_failed (ending_after reader'.came))) (sym none)
+    ∙ ap (λ f. faults_of given ++ line f) e))
 
 -- the file is ended
 pub file_ended : {A : Type 0} {engine : Engine A} {aim : Aim} {failed : Bool} {given : List Given} {out : Stream}

@@ -7,7 +7,6 @@ use Rattle.std.proofs.lemmas.Bool.{false≢true}
 use Rattle.std.proofs.lemmas.List.{append-nil}
 use Rattle.pg_lines.specs.Search.{SearchText, Pattern, AreTreesOf, search_of, terminator}
 use Rattle.pg_lines.specs.Cutter.{unfed, Stands as CutterStands}
-use Rattle.pg_lines.specs.declared.cutter.Cutter.{Cutter}
 use Rattle.pg_walk.specs.declared.item.Cause.{Cause}
 use Rattle.pg_walk.specs.declared.item.Cause.TheVariants.{ReadFailed}
 use Rattle.pg_rows.specs.Output.{Entry, Missed, Read, Running, Left, output, status, when, is_quiet, has_selected}
@@ -19,8 +18,13 @@ use Rattle.pg_run.specs.Given.{Given, NoFile, File, FilesPast, entries_given, ne
 use Rattle.pg_run.specs.Told.{faults_of, fault_of, fault_line, told_of}
 use Rattle.pg_run.specs.Outcome.{Stream, EndsAtSelected, Finishes, BreaksOff, HasCause}
 use Rattle.pg_run.specs.Holding.{Aim, Holds, Broke, IsWritten, format_of}
-use Rattle.pg_run.specs.Reading.{InFile, Between, IsTold, Breaks, IsSafe, ReadCause, StopCause, Stops, IsDone}
+use Rattle.pg_run.specs.Cover.{IsReading}
+use Rattle.pg_run.specs.Reading.{InFile, IsLost, Between, IsTold, Breaks, IsSafe, ReadCause, StopCause, Stops, IsDone}
+use Rattle.pg_run.specs.Reading.{ending_after}
 use Rattle.pg_run.specs.declared.engine.Engine.{Engine}
+use Rattle.pg_run.specs.declared.reader.FileReader.{FileReader}
+use Rattle.pg_run.specs.declared.reader.Came.{Came}
+use Rattle.pg_run.specs.declared.reader.Came.TheVariants.{More}
 use Rattle.pg_run.specs.declared.setup.Setup.{Setup}
 use Rattle.pg_run.specs.declared.fault.RunFault.{RunFault}
 use Rattle.pg_run.specs.declared.fault.RunFault.TheVariants.{Query, OutOfMemory, Sink, TooManyFiles, TooLong}
@@ -227,36 +231,37 @@ module _ {A : Type 0} {engine : Engine A} {aim : Aim} {given : List Given} {out 
     covers = misses aim.query (format_of aim) name (entries_of h.steps) (entries_given given) h.covers;
   }
 
-  -- a file is opened, and a cutter was made for it
-  pub file_opened : (cutter : Cutter A) (engine' : Engine A) (name : List ℕ)
-      → CutterStands cutter (unfed (terminator aim.query) engine.files aim.setup.block aim.setup.line)
-      → Holds engine' aim (Opens name ∷ h.steps) out → InFile cutter engine' aim Left (File name [] Left ∷ given) out
-  file_opened cutter engine' name cut k = record {
-    fed = unfed (terminator aim.query) engine.files aim.setup.block aim.setup.line;
-    cut = cut;
-    ends = refl;
-    longest = refl;
-    steps = Opens name ∷ h.steps;
-    holds = k;
-    running = refl;
-    file = ap (λ n. n + 1) h.holds.count;
-    number = ap (λ n. n + 1) h.number;
-    last = refl;
-    name = name;
-    rest = [];
-    whole = refl;
-    reads = opens aim.query (format_of aim) name (entries_of h.steps) (entries_given given) h.covers;
-  }
-
-  -- the same, where the name is told by what was given
-  pub file_started : (cutter : Cutter A) (engine' : Engine A) (now : List Given) (name name' : List ℕ)
-      → now ≡ File name [] Left ∷ given → name' ≡ newest_name now
-      → CutterStands cutter (unfed (terminator aim.query) engine.files aim.setup.block aim.setup.line)
-      → Holds engine' aim (Opens name' ∷ h.steps) out → InFile cutter engine' aim Left now out
-  file_started cutter engine' now name name' is named cut k =
-      let P : List Given → Type 0 = λ gs. InFile cutter engine' aim Left gs out in
-      let same : name' ≡ name = named ∙ ap newest_name is in
-      subst P (sym (is ∙ ap (λ n. File n [] Left ∷ given) (sym same))) (file_opened cutter engine' name' cut k)
+  -- a file is opened, and the reader begins with a cutter that was made for it
+  pub file_opened : (reader : FileReader A) (engine' : Engine A) (name : List ℕ) → reader.came ≡ More
+      → CutterStands reader.cutter (unfed (terminator aim.query) engine.files aim.setup.block aim.setup.line)
+      → Holds engine' aim (Opens name ∷ h.steps) out → InFile reader engine' aim (File name [] Left ∷ given) out
+  file_opened reader engine' name more cut k =
+      let fed = unfed (terminator aim.query) engine.files aim.setup.block aim.setup.line in
+      let R : Came → Type 0 =
+      λ came. IsReading aim.query (format_of aim) name [] [] (ending_after came) (entries_of (Opens name ∷ h.steps))
+      (entries_given (File name [] Left ∷ given)) in
+      let L : Came → Type 0 = λ came. IsLost came aim (File name [] Left ∷ given) [] in
+      record {
+        steps = Opens name ∷ h.steps;
+        holds = k;
+        cuts = record {
+          fed = fed;
+          cut = cut;
+          ends = refl;
+          longest = refl;
+          running = refl;
+          file = ap (λ n. n + 1) h.holds.count;
+          number = ap (λ n. n + 1) h.number;
+          last = refl;
+          name = name;
+          rest = [];
+          lost = [];
+          whole = refl;
+          cause = subst L (sym more) refl;
+          reads =
+              subst R (sym more) (opens aim.query (format_of aim) name (entries_of h.steps) (entries_given given) h.covers);
+        };
+      }
 
   -- there is no number for it
   pub stops_many : (told : Stream) (name : List ℕ) → 2 ^ 32 - 1 ≤ engine.files → IsTold aim given told
@@ -295,6 +300,15 @@ module _ {A : Type 0} {engine : Engine A} {aim : Aim} {given : List Given} {out 
       ∙ (ap (λ t. cond t (list_any (has_selected aim.query) (entries_of h.steps))
       (file_suffices aim.query (format_of aim) (entries_of h.steps))) (sym quiet)
       ∙ n)
+
+-- a file was opened, by the name that is told of what was given
+pub file_started : {A : Type 0} {reader : FileReader A} {engine : Engine A} {aim : Aim} {given : List Given} {out : Stream}
+    (now : List Given) (name name' : List ℕ) → now ≡ File name [] Left ∷ given → name' ≡ newest_name now
+    → InFile reader engine aim (File name' [] Left ∷ given) out → InFile reader engine aim now out
+file_started {reader = reader} {engine = engine} {aim = aim} {given = given} {out = out} now name name' is named h =
+    let P : List Given → Type 0 = λ gs. InFile reader engine aim gs out in
+    let same : name' ≡ name = named ∙ ap newest_name is in
+    subst P (sym (is ∙ ap (λ n. File n [] Left ∷ given) (sym same))) h
 
 -- no name was asked for behind a selected line
 pub ends_at : (aim : Aim) (given before : List Given) → drop 1 given ≡ before

@@ -4,11 +4,12 @@ use Rattle.std.specs.Prelude.{drop}
 use Rattle.pg_lines.specs.Search.{terminator}
 use Rattle.pg_lines.specs.Blocks.{joined}
 use Rattle.pg_lines.specs.Cutter.{Fed, Stands as CutterStands}
-use Rattle.pg_lines.specs.declared.cutter.Cutter.{Cutter}
+use Rattle.pg_lines.specs.declared.cutter.CutFault.{CutFault}
+use Rattle.pg_lines.specs.declared.cutter.CutFault.TheVariants.{OutOfMemory as NoMemory, LineTooLong, FileTooLong}
 use Rattle.pg_rows.specs.Output.{Entry, Ending, Ended, Failed, Left, output, is_quiet}
 use Rattle.pg_rows.specs.Sink.{TakesPart}
 use Rattle.pg_seq.specs.Plan.{Step, is_open, opened, last_blocks, entries_of}
-use Rattle.pg_run.specs.Given.{Given, FilesPast, entries_given, files_given, IsTooLong}
+use Rattle.pg_run.specs.Given.{Given, FilesPast, Sources, entries_given, files_given, IsTooLong}
 use Rattle.pg_run.specs.Told.{told_of}
 use Rattle.pg_run.specs.Outcome.{Stream, GoesOn, EndsAtSelected, AsksToTheEnd}
 use Rattle.pg_run.specs.Cover.{Covers, IsReading}
@@ -16,27 +17,64 @@ use Rattle.pg_run.specs.Holding.{Aim, Holds, format_of}
 use Rattle.pg_run.specs.declared.engine.Engine.{Engine}
 use Rattle.pg_run.specs.declared.fault.RunFault.{RunFault}
 use Rattle.pg_run.specs.declared.fault.RunFault.TheVariants.{Query, OutOfMemory, Sink, TooManyFiles, TooLong}
-use Rattle.pg_run.specs.declared.reading.Came.{Came}
-use Rattle.pg_run.specs.declared.reading.Came.TheVariants.{More, End, Failure}
+use Rattle.pg_run.specs.declared.reader.FileReader.{FileReader}
+use Rattle.pg_run.specs.declared.reader.Came.{Came}
+use Rattle.pg_run.specs.declared.reader.Came.TheVariants.{More, End, Failure, Refused}
 
--- A file is open. The cutter was fed all that it gave, and the blocks that the cutter gave were searched.
-pub record InFile {A : Type 0} (cutter : Cutter A) (engine : Engine A) (aim : Aim) (ending : Ending)
-    (given : List Given) (out : Stream) : Type 0 where
+-- how a file stands after a read
+abbrev pub ending_after : Came → Ending
+ending_after More = Left
+ending_after End = Ended
+ending_after Failure = Failed
+ending_after (Refused fault) = Left
+
+-- why the cutter takes no more of the newest file
+abbrev pub CutCause : CutFault → Aim → List Given → Type 0
+CutCause NoMemory aim given = Unit {0}
+CutCause LineTooLong aim given = IsTooLong (terminator aim.query) aim.setup.line given
+CutCause FileTooLong aim given = IsTooLong (terminator aim.query) aim.setup.line given
+
+-- these bytes were read and not cut: there are some only where the cutter took no more
+abbrev pub IsLost : Came → Aim → List Given → List ℕ → Type 0
+IsLost More aim given lost = lost ≡ []
+IsLost End aim given lost = lost ≡ []
+IsLost Failure aim given lost = lost ≡ []
+IsLost (Refused fault) aim given lost = CutCause fault aim given
+
+-- A file is open, the newest that was given. All that it gave was cut, but where the cutter took no more; and the plan
+-- has the blocks that were taken of those that are cut.
+pub record HasCut {A : Type 0} (reader : FileReader A) (aim : Aim) (given : List Given) (steps : List Step) : Type 0 where
   pub fed : Fed
-  pub cut : CutterStands cutter fed
+  pub cut : CutterStands reader.cutter fed
   pub ends : fed.end ≡ terminator aim.query
   pub longest : fed.longest ≡ aim.setup.line
-  pub steps : List Step
-  pub holds : Holds engine aim steps out
   pub running : is_open steps ≡ true
   pub file : fed.file + 1 ≡ opened steps
   pub number : opened steps ≡ files_given given
   pub last : last_blocks steps ≡ fed.taken
   pub name : List ℕ
   pub rest : List ℕ
-  pub whole : fed.bytes ≡ joined fed.taken ++ rest
-  pub reads : IsReading aim.query (format_of aim) name (joined fed.taken) rest ending (entries_of steps)
-      (entries_given given)
+  pub lost : List ℕ
+  pub whole : fed.bytes ++ lost ≡ joined fed.taken ++ rest
+  pub cause : IsLost reader.came aim given lost
+  pub reads : IsReading aim.query (format_of aim) name (joined fed.taken) rest (ending_after reader.came)
+      (entries_of steps) (entries_given given)
+
+-- A file is open, and the engine has the blocks that were taken of it.
+pub record InFile {A : Type 0} (reader : FileReader A) (engine : Engine A) (aim : Aim) (given : List Given)
+    (out : Stream) : Type 0 where
+  pub steps : List Step
+  pub holds : Holds engine aim steps out
+  pub cuts : HasCut reader aim given steps
+
+-- The reader read on: what was given before stands, and what was cut is cut.
+pub record ReadsOn {A F : Type 0} (past : F → FilesPast) (list : F → Sources) (reader : FileReader A) (files : F)
+    (reader' : FileReader A) (files' : F) : Type 0 where
+  pub done : (past files').done ≡ (past files).done
+  pub before : drop 1 (past files').given ≡ drop 1 (past files).given
+  pub same_list : list files' ≡ list files
+  pub cuts : (aim : Aim) (steps : List Step) → HasCut reader aim (past files).given steps
+      → HasCut reader' aim (past files').given steps
 
 -- The open file was announced and searched whole.
 pub record IsWhole {A : Type 0} (engine : Engine A) (aim : Aim) (ending : Ending) (given : List Given) (out : Stream)
@@ -68,12 +106,6 @@ Rests engine aim given out told = Between engine aim given out × IsTold aim giv
 
 abbrev pub ending_of : Bool → Ending
 ending_of failed = if failed then Failed else Ended
-
--- how a file stands after a read
-abbrev pub ending_after : Came → Ending
-ending_after More = Left
-ending_after End = Ended
-ending_after Failure = Failed
 
 -- what the writer took is a beginning of the output of all that goes on from what was given
 abbrev pub IsSafe : Aim → List Given → List ℕ → Type 0

@@ -8,9 +8,10 @@ ghost use Rattle.pg_rows.specs.Output.{status};
 ghost use Rattle.pg_run.specs.Endless.{is_endless};
 
 use crate::fault::RunFault;
+use crate::reader::READ_SIZE;
 use crate::setup::Setup;
 use pg_lines::{Block, Cutter, Query, Scratch, search_block};
-use pg_round::{Gate, search_round};
+use pg_round::{Gate, NothingToRead, Reader, search_round};
 use pg_rows::{Format, Mode, Sink};
 use pg_seq::Sequencer;
 use std::alloc::{AllocError, Allocator, Global};
@@ -179,6 +180,50 @@ impl<A: Allocator + Copy> Engine<A> {
         Ok(())
     }
 
+    /// Searches the open file's next block and writes what may be written, or has the block wait where blocks
+    /// are searched in rounds. There is room for it, and it may follow on those before it.
+    pub(crate) fn search<W: Sink, G: Gate>(
+        &mut self,
+        gate: &G,
+        block: Block<A>,
+        out: &mut W,
+    ) -> Result<(), RunFault>
+        requires room { self.old.spread ≡ true → length self.old.round.items < self.old.setup.round }
+        requires ready { (aim : Aim) × (steps : List Step)
+            × IsReady self.old aim steps (stream (W.taken out.old) (W.failures out.old)) (Announces block) }
+        ensures ok { (aim : Aim) → (steps : List Step) →
+            IsReady self.old aim steps (stream (W.taken out.old) (W.failures out.old)) (Announces block) →
+            OnOk result (Holds self.new aim (Announces block ∷ steps) (stream (W.taken out.new) (W.failures out.new))) }
+        ensures written { (aim : Aim) → (steps : List Step) →
+            IsReady self.old aim steps (stream (W.taken out.old) (W.failures out.old)) (Announces block) →
+            self.old.spread ≡ false →
+            OnOk result (IsWritten aim (Announces block ∷ steps) (stream (W.taken out.new) (W.failures out.new))) }
+        ensures err { (aim : Aim) → (steps : List Step) →
+            IsReady self.old aim steps (stream (W.taken out.old) (W.failures out.old)) (Announces block) →
+            IfErr result (Broke aim (Announces block ∷ steps) (stream (W.taken out.new) (W.failures out.new))) }
+    {
+        if self.spread {
+            self.add(block)?;
+            return Ok(());
+        }
+        self.take(gate, block)?;
+        self.drain(out)?;
+        Ok(())
+    }
+
+    /// Whether the blocks that wait are as many as a round has.
+    pub(crate) fn is_full(&self) -> bool
+        ensures { result ≡ false → self.now.spread ≡ true → length self.now.round.items < self.now.setup.round }
+    {
+        self.spread && self.round.len() >= self.setup.round as usize
+    }
+
+    /// How many reads give about as many bytes as a round has.
+    pub(crate) fn reads_ahead(&self) -> u32 {
+        let bytes = self.setup.round as u64 * self.setup.block as u64;
+        (bytes / READ_SIZE as u64) as u32 + 1
+    }
+
     /// How many threads are to search the blocks that wait, beside the calling one.
     fn workers(&self) -> u32
         ensures { result ≤ 64 }
@@ -260,15 +305,27 @@ impl<A: Allocator + Copy + Send + Sync> Engine<A> {
     ghost use Rattle.pg_run.specs.Outcome.{Stream};
     ghost use Rattle.pg_run.specs.Holding.{Aim, Holds, IsReady, IsWritten, Broke, format_of, stream};
 
-    /// Searches the blocks that wait, by several threads where that pays, and writes all that may be written.
-    fn search_round<R: Threads + Wait + Clock + Sync, W: Sink, G: Gate + Sync>(
+    /// Searches the blocks that wait, by several threads where that pays, and writes all that may be written. Meanwhile
+    /// the reader reads on.
+    pub(crate) fn search_round<
+        R: Threads + Wait + Clock + Sync,
+        D: Reader<X>,
+        X,
+        W: Sink,
+        G: Gate + Sync,
+    >(
         &mut self,
         rt: &R,
         gate: &G,
+        reader: &mut D,
+        from: &mut X,
         out: &mut W,
     ) -> Result<(), RunFault>
+        requires ready { D.ready reader.old from.old }
         requires holds { (aim : Aim) × (steps : List Step)
             × Holds self.old aim steps (stream (W.taken out.old) (W.failures out.old)) }
+        ensures ready { D.ready reader.new from.new }
+        ensures read { (r : D) → (f : X) → D.reaches r f reader.old from.old → D.reaches r f reader.new from.new }
         ensures kept { (self.new.spread ≡ self.old.spread) × (self.new.setup ≡ self.old.setup) }
         ensures none { OnOk result (self.new.round.items ≡ []) }
         ensures ok { (aim : Aim) → (steps : List Step) →
@@ -296,6 +353,8 @@ impl<A: Allocator + Copy + Send + Sync> Engine<A> {
             &mut scratches,
             &mut self.sequencer,
             out,
+            reader,
+            from,
             gate,
         )?;
         self.scratches = scratches;
@@ -325,85 +384,7 @@ impl<A: Allocator + Copy + Send + Sync> Engine<A> {
         if self.round.is_empty() {
             return self.drain(out);
         }
-        self.search_round(rt, gate, out)
-    }
-
-    /// Searches a round that is full.
-    fn make_room<R: Threads + Wait + Clock + Sync, W: Sink, G: Gate + Sync>(
-        &mut self,
-        rt: &R,
-        gate: &G,
-        out: &mut W,
-    ) -> Result<(), RunFault>
-        requires holds { (aim : Aim) × (steps : List Step)
-            × Holds self.old aim steps (stream (W.taken out.old) (W.failures out.old)) }
-        ensures spread { self.new.spread ≡ self.old.spread }
-        ensures room { OnOk result (length self.new.round.items < self.new.setup.round) }
-        ensures ok { (aim : Aim) → (steps : List Step) →
-            Holds self.old aim steps (stream (W.taken out.old) (W.failures out.old)) →
-            OnOk result (Holds self.new aim steps (stream (W.taken out.new) (W.failures out.new))) }
-        ensures err { (aim : Aim) → (steps : List Step) →
-            Holds self.old aim steps (stream (W.taken out.old) (W.failures out.old)) →
-            IfErr result (Broke aim steps (stream (W.taken out.new) (W.failures out.new))) }
-    {
-        if self.round.len() < self.setup.round as usize {
-            return Ok(());
-        }
-        self.flush(rt, gate, out)?;
-        Ok(())
-    }
-
-    /// Has the open file's next block wait. A full round is searched before.
-    fn hold<R: Threads + Wait + Clock + Sync, W: Sink, G: Gate + Sync>(
-        &mut self,
-        rt: &R,
-        gate: &G,
-        block: Block<A>,
-        out: &mut W,
-    ) -> Result<(), RunFault>
-        requires spread { self.old.spread ≡ true }
-        requires ready { (aim : Aim) × (steps : List Step)
-            × IsReady self.old aim steps (stream (W.taken out.old) (W.failures out.old)) (Announces block) }
-        ensures ok { (aim : Aim) → (steps : List Step) →
-            IsReady self.old aim steps (stream (W.taken out.old) (W.failures out.old)) (Announces block) →
-            OnOk result (Holds self.new aim (Announces block ∷ steps) (stream (W.taken out.new) (W.failures out.new))) }
-        ensures err { (aim : Aim) → (steps : List Step) →
-            IsReady self.old aim steps (stream (W.taken out.old) (W.failures out.old)) (Announces block) →
-            IfErr result (Broke aim (Announces block ∷ steps) (stream (W.taken out.new) (W.failures out.new))) }
-    {
-        self.make_room(rt, gate, out)?;
-        self.add(block)?;
-        Ok(())
-    }
-
-    /// Searches the open file's next block and writes what may be written, or has the block wait where blocks
-    /// are searched in rounds. The block may follow on those before it.
-    pub(crate) fn search<R: Threads + Wait + Clock + Sync, W: Sink, G: Gate + Sync>(
-        &mut self,
-        rt: &R,
-        gate: &G,
-        block: Block<A>,
-        out: &mut W,
-    ) -> Result<(), RunFault>
-        requires ready { (aim : Aim) × (steps : List Step)
-            × IsReady self.old aim steps (stream (W.taken out.old) (W.failures out.old)) (Announces block) }
-        ensures ok { (aim : Aim) → (steps : List Step) →
-            IsReady self.old aim steps (stream (W.taken out.old) (W.failures out.old)) (Announces block) →
-            OnOk result (Holds self.new aim (Announces block ∷ steps) (stream (W.taken out.new) (W.failures out.new))) }
-        ensures written { (aim : Aim) → (steps : List Step) →
-            IsReady self.old aim steps (stream (W.taken out.old) (W.failures out.old)) (Announces block) →
-            self.old.spread ≡ false →
-            OnOk result (IsWritten aim (Announces block ∷ steps) (stream (W.taken out.new) (W.failures out.new))) }
-        ensures err { (aim : Aim) → (steps : List Step) →
-            IsReady self.old aim steps (stream (W.taken out.old) (W.failures out.old)) (Announces block) →
-            IfErr result (Broke aim (Announces block ∷ steps) (stream (W.taken out.new) (W.failures out.new))) }
-    {
-        if self.spread {
-            return self.hold(rt, gate, block, out);
-        }
-        self.take(gate, block)?;
-        self.drain(out)?;
-        Ok(())
+        self.search_round(rt, gate, &mut NothingToRead, &mut (), out)
     }
 
     /// Searches what waits, writes what is left, and answers the status. No file is open.

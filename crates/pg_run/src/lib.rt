@@ -8,6 +8,7 @@ mod files;
 mod listed;
 mod mem_store;
 mod past;
+mod reader;
 mod reading;
 mod running;
 mod setup;

@@ -1,5 +1,5 @@
 //! The run over all files.
-ghost use Rattle.std.specs.Prelude.{◌≡◌, ◌<◌, ◌∷◌, ◌++◌, ℕ, List, [], not, true, false, length, drop};
+ghost use Rattle.std.specs.Prelude.{◌≡◌, ◌-◌, ◌^◌, ◌<◌, ◌∷◌, ◌++◌, ℕ, List, [], not, true, false, drop};
 ghost use Rattle.std.specs.Prelude.{IfOk, OnOk, IfErr, OnErr};
 ghost use Rattle.std.specs.List.{flat_map};
 ghost use Rattle.pg_lines.specs.Search.{Search, Pattern, AreTreesOf, HasItsTrees};
@@ -9,12 +9,14 @@ ghost use Rattle.pg_run.specs.Given.{Given, NoFile, File, nothing_given};
 ghost use Rattle.pg_run.specs.Told.{fault_line};
 ghost use Rattle.pg_run.specs.Outcome.{Stream, IsSearchFor, Finishes, BreaksOff, HasCause};
 ghost use Rattle.pg_run.specs.Holding.{Aim, Holds, stream};
-ghost use Rattle.pg_run.specs.Reading.{Rests, Stops, Goes, IsDone};
+ghost use Rattle.pg_run.specs.Reading.{InFile, Between, Rests, Stops, Goes, IsDone};
+ghost use Rattle.pg_run.specs.declared.reader.Came.TheVariants.{More};
 ghost use Rattle.pg_run.specs.declared.fault.RunFault.TheVariants.{Sink as SinkFailed};
 
 use crate::engine::Engine;
 use crate::fault::RunFault;
 use crate::files::{Files, Step};
+use crate::reader::FileReader;
 use crate::reading::read_file;
 use crate::setup::Setup;
 use crate::telling::tell;
@@ -27,37 +29,25 @@ use std::sync::Wait;
 use std::thread::Threads;
 use std::time::Clock;
 
-/// How many bytes are asked for in one read. They are cut into blocks and searched while they are
-/// near.
-const READ_SIZE: usize = 65_536;
-
 /// So many files get a number.
 const MOST_FILES: u32 = u32::MAX;
 
-/// A buffer of zeros.
-fn zeros<A: Allocator + Copy>(alloc: A, size: usize) -> Result<Vec<u8, A>, AllocError>
-    ensures { IfOk result (λ buffer. length buffer.items ≡ size) }
-{
-    vec![in alloc; 0u8; size]
-}
-
-/// An engine for a text, and the buffer that it reads by.
+/// An engine for a text, and a reader of no file.
 fn begin<A: Allocator + Copy + Send + Sync>(
     alloc: A,
     text: QueryText<A>,
     setup: Setup,
-) -> Result<(Engine<A>, Vec<u8, A>), RunFault>
+) -> Result<(Engine<A>, FileReader<A>), RunFault>
     ensures holds { IfOk result (λ both. (aim : Aim) → HasItsTrees aim.query → aim.query.text ≡ text →
         aim.setup ≡ setup → Holds both.0 aim [] aim.out) }
     ensures trees { OnOk result ((trees : List Pattern) × AreTreesOf text trees) }
-    ensures room { IfOk result (λ both. 0 < length both.1.items) }
     ensures err { IfErr result (λ fault. (out : Stream) → (told : Stream) →
         HasCause fault text setup nothing_given out out told told) }
 {
     let query = Query::compile(alloc, text)?;
     let engine = Engine::new(alloc, query, setup)?;
-    let buffer = zeros(alloc, READ_SIZE)?;
-    Ok((engine, buffer))
+    let reader = FileReader::new(alloc)?;
+    Ok((engine, reader))
 }
 
 /// The parts of a fault line, in their order.
@@ -128,6 +118,23 @@ fn miss<A: Allocator + Copy + Send + Sync, E: Sink>(
     Ok(())
 }
 
+/// Begins with a file that was just given. At most 2^32 - 2 files were opened before.
+fn open_file<A: Allocator + Copy>(
+    engine: &mut Engine<A>,
+    reader: &mut FileReader<A>,
+    name: &[u8],
+) -> Result<(), AllocError>
+    requires few { engine.old.files < 2 ^ 32 - 1 }
+    requires between { (aim : Aim) × (given : List Given) × (out : Stream) × Between engine.old aim given out }
+    ensures more { OnOk result (reader.new.came ≡ More) }
+    ensures ok { (aim : Aim) → (given : List Given) → (out : Stream) → Between engine.old aim given out →
+        OnOk result (InFile reader.new engine.new aim (File name.now [] Left ∷ given) out) }
+{
+    let cutter = engine.open(name)?;
+    reader.open(cutter);
+    Ok(())
+}
+
 /// Reads and searches a file that was just given, and tells where its reading failed.
 fn one_file<
     R: Threads + Wait + Clock + Sync,
@@ -141,11 +148,10 @@ fn one_file<
     gate: &G,
     engine: &mut Engine<A>,
     files: &mut F,
-    buffer: &mut [u8],
+    reader: &mut FileReader<A>,
     out: &mut W,
     faults: &mut E,
 ) -> Result<(), RunFault>
-    requires room { 0 < length buffer.old }
     requires rests { (aim : Aim) × (given : List Given) × (name : List ℕ)
         × ((F.past files.old).given ≡ File name [] Left ∷ given)
         × Rests engine.old aim given (stream (W.taken out.old) (W.failures out.old))
@@ -153,7 +159,6 @@ fn one_file<
     ensures done { (F.past files.new).done ≡ (F.past files.old).done }
     ensures before { drop 1 (F.past files.new).given ≡ drop 1 (F.past files.old).given }
     ensures same_list { F.list files.new ≡ F.list files.old }
-    ensures size { length buffer.new ≡ length buffer.old }
     ensures ok { (aim : Aim) → (given : List Given) → (name : List ℕ) →
         (F.past files.old).given ≡ File name [] Left ∷ given →
         Rests engine.old aim given (stream (W.taken out.old) (W.failures out.old))
@@ -170,8 +175,8 @@ fn one_file<
     if engine.files >= MOST_FILES {
         return Err(RunFault::TooManyFiles);
     }
-    let cutter = engine.open(files.name())?;
-    let failed = read_file(rt, gate, cutter, engine, files, buffer, out)?;
+    open_file(engine, reader, files.name())?;
+    let failed = read_file(rt, gate, reader, engine, files, out)?;
     if failed {
         let silent = engine.setup.silent;
         tell_fault(
@@ -198,17 +203,15 @@ fn take_next<
     gate: &G,
     engine: &mut Engine<A>,
     files: &mut F,
-    buffer: &mut [u8],
+    reader: &mut FileReader<A>,
     out: &mut W,
     faults: &mut E,
 ) -> Result<bool, RunFault>
-    requires room { 0 < length buffer.old }
     requires done { (F.past files.old).done ≡ false }
     requires rests { (aim : Aim) × Rests engine.old aim (F.past files.old).given
         (stream (W.taken out.old) (W.failures out.old)) (stream (E.taken faults.old) (E.failures faults.old)) }
     ensures goes { IfOk result (λ more. Goes more (F.past files.old) (F.past files.new)) }
     ensures same_list { F.list files.new ≡ F.list files.old }
-    ensures size { length buffer.new ≡ length buffer.old }
     ensures ok { (aim : Aim) → Rests engine.old aim (F.past files.old).given
         (stream (W.taken out.old) (W.failures out.old)) (stream (E.taken faults.old) (E.failures faults.old)) →
         OnOk result (Rests engine.new aim (F.past files.new).given (stream (W.taken out.new) (W.failures out.new))
@@ -225,7 +228,7 @@ fn take_next<
             Ok(true)
         }
         Step::File => {
-            one_file(rt, gate, engine, files, buffer, out, faults)?;
+            one_file(rt, gate, engine, files, reader, out, faults)?;
             Ok(true)
         }
     }
@@ -244,11 +247,10 @@ fn all_files<
     gate: &G,
     engine: &mut Engine<A>,
     files: &mut F,
-    buffer: &mut [u8],
+    reader: &mut FileReader<A>,
     out: &mut W,
     faults: &mut E,
 ) -> Result<(), RunFault>
-    requires room { 0 < length buffer.old }
     requires new { F.past files.old ≡ nothing_given }
     requires rests { (aim : Aim) × Rests engine.old aim [] (stream (W.taken out.old) (W.failures out.old))
         (stream (E.taken faults.old) (E.failures faults.old)) }
@@ -266,7 +268,7 @@ fn all_files<
         if engine.enough() {
             return Ok(());
         }
-        if !take_next(rt, gate, engine, files, buffer, out, faults)? {
+        if !take_next(rt, gate, engine, files, reader, out, faults)? {
             return Ok(());
         }
     }
@@ -323,8 +325,8 @@ pub fn run<
         (record { taken = E.taken faults.new; failures = E.failures faults.new })) }
     ensures same_list { F.list files.new ≡ F.list files.old }
 {
-    let (mut engine, mut buffer) = begin(alloc, text, setup)?;
-    all_files(rt, gate, &mut engine, files, &mut buffer, out, faults)?;
+    let (mut engine, mut reader) = begin(alloc, text, setup)?;
+    all_files(rt, gate, &mut engine, files, &mut reader, out, faults)?;
     let status = engine.finish(rt, gate, out)?;
     Ok(status)
 }

@@ -1,8 +1,7 @@
-use Rattle.std.proofs.Common.{◌≡◌, length, drop}
-use Rattle.pg_lines.specs.Cutter.{IsDrained}
-use Rattle.pg_rows.specs.Output.{Left}
+use Rattle.std.proofs.Common.{◌≡◌, drop}
 use Rattle.pg_run.specs.Holding.{Aim, stream}
 use Rattle.pg_run.specs.Reading.{InFile}
+use Rattle.pg_run.specs.declared.reader.Came.TheVariants.{More}
 use Rattle.pg_run.proofs.reading.read_file.Given as goal
 
 abbrev pub invariant-loop : goal.invariant-loop
@@ -14,11 +13,10 @@ invariant-loop g l =
     record {
       can_next : (goal.iterator-loop g).can_next l.iterator';
       is_finite : (goal.iterator-loop g).is_finite l.iterator';
+      more : l.reader.came ≡ More;
       done : past.done ≡ past'.done;
-      drained : IsDrained l.cutter;
-      size : length l.buffer ≡ length l.initial.buffer;
       before : drop 1 past.given ≡ drop 1 past'.given;
       same_list : g.F.Files.list l.files ≡ g.F.Files.list l.initial.files;
-      reads : (aim : Aim) → InFile l.initial.cutter l.initial.engine aim Left past'.given start
-          → InFile l.cutter l.engine aim Left past.given now;
+      reads : (aim : Aim) → InFile l.initial.reader l.initial.engine aim past'.given start
+          → InFile l.reader l.engine aim past.given now;
     }

@@ -1,26 +1,26 @@
 use Rattle.pg_rows.proofs.SinkLemmas.{on_ok}
-use Rattle.pg_run.proofs.StepLemmas.{closed_left}
 use Rattle.pg_run.proofs.HoldLemmas.{if_err_too}
 use Rattle.pg_run.proofs.ReadingLemmas.{last_may, last_breaks, last_searched, none_last}
 use Rattle.pg_run.proofs.reading.search_last.Goals as goal
 
 pub search-requires-clause-ready : goal.search-requires-clause-ready
-search-requires-clause-ready g c κs within =
+search-requires-clause-ready g c =
     let h = c.requires.in_file.3 in
-    (c.requires.in_file.0, h.steps, (h.holds, last_may h c.in-Some.block (c.in-Some.ensures h.fed h.cut)))
+    (c.requires.in_file.0, h.steps, (h.holds, last_may h.cuts c.in-Some.block (c.in-Some.ensures h.cuts.fed h.cuts.cut)))
 
 pub returns-in-Some-clause-ok : goal.returns-in-Some-clause-ok
 returns-in-Some-clause-ok g c = λ aim given h.
-    let all = c.in-Some.ensures h.fed h.cut in
-    on_ok c.search.result _ _ (λ k. last_searched h _ c.in-Some.block _ (closed_left c.args.failed) all k)
-    (c.search.ensures.ok aim h.steps (h.holds, last_may h c.in-Some.block all))
+    let all = c.in-Some.ensures h.cuts.fed h.cuts.cut in
+    on_ok c.search.result _ _ (λ k. last_searched h _ c.in-Some.block _ c.args.failed c.requires.ended all k)
+    (c.search.ensures.ok aim h.steps (h.holds, last_may h.cuts c.in-Some.block all))
 
 pub returns-in-Some-clause-err : goal.returns-in-Some-clause-err
 returns-in-Some-clause-err g c = λ aim given h.
-    let all = c.in-Some.ensures h.fed h.cut in
+    let all = c.in-Some.ensures h.cuts.fed h.cuts.cut in
     if_err_too c.search.result _ _
-    (λ fault k. last_breaks h c.in-Some.block _ fault (closed_left c.args.failed) all k)
-    (c.search.ensures.err aim h.steps (h.holds, last_may h c.in-Some.block all))
+    (λ fault k. last_breaks h c.in-Some.block _ fault c.args.failed c.requires.ended all k)
+    (c.search.ensures.err aim h.steps (h.holds, last_may h.cuts c.in-Some.block all))
 
 pub returns-in-None-clause-ok : goal.returns-in-None-clause-ok
-returns-in-None-clause-ok g c = λ aim given h. none_last h (c.in-None.ensures h.fed h.cut)
+returns-in-None-clause-ok g c = λ aim given h.
+    none_last h c.args.failed c.requires.ended (c.in-None.ensures h.cuts.fed h.cuts.cut)

@@ -1,16 +1,20 @@
-use Rattle.std.proofs.Common.{List}
-use Rattle.pg_lines.specs.Cutter.{waiting}
-use Rattle.pg_rows.specs.Output.{Left}
-use Rattle.pg_run.specs.Given.{Given}
+use Rattle.std.proofs.Common.{◌≡◌, drop}
 use Rattle.pg_run.specs.Holding.{Aim, stream}
 use Rattle.pg_run.specs.Reading.{InFile}
 use Rattle.pg_run.proofs.reading.search_ready.Given as goal
 
-abbrev pub invariant-loop-block : goal.invariant-loop-block
-invariant-loop-block g l =
-    (aim : Aim) (given : List Given) → InFile l.fn.cutter l.fn.engine aim Left given
-    (stream (g.W.Sink.taken l.fn.out) (g.W.Sink.failures l.fn.out))
-    → InFile l.cutter l.engine aim Left given (stream (g.W.Sink.taken l.out) (g.W.Sink.failures l.out))
-
-abbrev pub decreases-loop-block : goal.decreases-loop-block
-decreases-loop-block g l = waiting l.cutter
+abbrev pub invariant-loop : goal.invariant-loop
+invariant-loop g l =
+    let now = stream (g.W.Sink.taken l.out) (g.W.Sink.failures l.out) in
+    let start = stream (g.W.Sink.taken l.initial.out) (g.W.Sink.failures l.initial.out) in
+    let past = g.F.Files.past l.files in
+    let past' = g.F.Files.past l.initial.files in
+    record {
+      can_next : (goal.iterator-loop g).can_next l.iterator';
+      is_finite : (goal.iterator-loop g).is_finite l.iterator';
+      done : past.done ≡ past'.done;
+      before : drop 1 past.given ≡ drop 1 past'.given;
+      same_list : g.F.Files.list l.files ≡ g.F.Files.list l.initial.files;
+      reads : (aim : Aim) → InFile l.initial.reader l.initial.engine aim past'.given start
+          → InFile l.reader l.engine aim past.given now;
+    }

@@ -57,7 +57,6 @@ loop-preserved g c =
       can_next = tt;
       is_finite = tt;
       done = goes.1 ∙ i.done;
-      size = ok.size ∙ i.size;
       same_list = ok.same_list ∙ i.same_list;
       rests = λ aim start.
           let r = i.rests aim start in

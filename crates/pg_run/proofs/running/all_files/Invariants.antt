@@ -1,4 +1,4 @@
-use Rattle.std.proofs.Common.{◌≡◌, true, false, [], length}
+use Rattle.std.proofs.Common.{◌≡◌, true, false, []}
 use Rattle.pg_rows.specs.Output.{is_quiet}
 use Rattle.pg_run.specs.Given.{entries_given}
 use Rattle.pg_run.specs.Outcome.{EndsAtSelected}
@@ -17,7 +17,6 @@ invariant-loop g l =
       can_next : (goal.iterator-loop g).can_next l.iterator';
       is_finite : (goal.iterator-loop g).is_finite l.iterator';
       done : past.done ≡ false;
-      size : length l.buffer ≡ length l.initial.buffer;
       same_list : g.F.Files.list l.files ≡ g.F.Files.list l.initial.files;
       rests : (aim : Aim) → Rests l.initial.engine aim [] out' told' → Rests l.engine aim past.given out told
           × (is_quiet (format_of aim).mode ≡ true → EndsAtSelected aim.query (entries_given past.given));

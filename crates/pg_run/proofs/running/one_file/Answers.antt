@@ -1,10 +1,9 @@
-use Rattle.std.proofs.Common.{◌≡◌, ◌∙◌, ◌-◌, ◌<◌, ◌^◌, List, [], ◌∷◌, ◌++◌, ap, drop, refl, subst, sym, arith}
+use Rattle.std.proofs.Common.{◌≡◌, ◌∙◌, List, [], ◌∷◌, ◌++◌, ap, drop, refl, subst, sym}
 use Rattle.pg_walk.specs.declared.item.Cause.TheVariants.{ReadFailed}
 use Rattle.pg_rows.specs.Output.{Left}
 use Rattle.pg_run.specs.Given.{Given, File}
 use Rattle.pg_run.specs.Told.{fault_line, faults_of}
-use Rattle.pg_seq.specs.Plan.{Opens}
-use Rattle.pg_run.specs.Holding.{IsReady, stream}
+use Rattle.pg_run.specs.Holding.{stream}
 use Rattle.pg_run.specs.Reading.{Stops}
 use Rattle.pg_run.specs.declared.fault.RunFault.TheVariants.{OutOfMemory, TooManyFiles}
 use Rattle.pg_run.proofs.HoldLemmas.{err_by}
@@ -19,14 +18,13 @@ returns-then-engine-ge-MOST_FILES-clause-err g c = λ aim given name is rests.
     let P : List Given → Type 0 = λ gs. Stops aim gs out told TooManyFiles in
     subst P (sym is) (stops_many rests.0 told name c.if-engine-ge-MOST_FILES.true rests.1)
 
-pub open-requires-clause-ready : goal.open-requires-clause-ready
-open-requires-clause-ready g c =
-    let b = c.requires.rests.4.0 in
-    let few : c.args.engine.now.files < 2 ^ 32 - 1 = c.if-engine-ge-MOST_FILES.false in
-    (c.requires.rests.0, b.steps, _, (b.holds, (b.closed, omega (arith, b.holds.count, few))))
+pub open_file-requires-clause-between : goal.open_file-requires-clause-between
+open_file-requires-clause-between g c =
+    let r = c.requires.rests in
+    (r.0, r.1, stream (g.W.Sink.taken c.args.out.now) (g.W.Sink.failures c.args.out.now), r.4.0)
 
-pub returns-in_err-cutter-clause-err : goal.returns-in_err-cutter-clause-err
-returns-in_err-cutter-clause-err g c = λ aim given name is rests.
+pub returns-in_err-open_file-clause-err : goal.returns-in_err-open_file-clause-err
+returns-in_err-open_file-clause-err g c = λ aim given name is rests.
     let out = stream (g.W.Sink.taken c.args.out.now) (g.W.Sink.failures c.args.out.now) in
     let told = stream (g.E.Sink.taken c.args.faults.now) (g.E.Sink.failures c.args.faults.now) in
     let P : List Given → Type 0 = λ gs. Stops aim gs out told OutOfMemory in
@@ -39,26 +37,17 @@ returns-in_err-cutter-clause-err g c = λ aim given name is rests.
 pub read_file-requires-clause-in_file : goal.read_file-requires-clause-in_file
 read_file-requires-clause-in_file g c κs within =
     let r = c.requires.rests in
-    let b = r.4.0 in
-    let few : c.args.engine.now.files < 2 ^ 32 - 1 = c.if-engine-ge-MOST_FILES.false in
-    let out = stream (g.W.Sink.taken c.args.out.now) (g.W.Sink.failures c.args.out.now) in
-    let ready : IsReady c.args.engine.now r.0 b.steps out (Opens c.name.result.now) =
-    (b.holds, (b.closed, omega (arith, b.holds.count, few))) in
-    let start = file_started b c.in_ok-cutter.cutter c.open.new.self (g.F.Files.past c.args.files.now).given r.2
-    c.name.result.now r.3 c.name.ensures (c.in_ok-cutter.ensures.cutter r.0 b.steps out ready)
-    (c.in_ok-cutter.ensures.ok r.0 b.steps out ready) in
-    (r.0, start)
+    let out = stream (g.W.Sink.taken c.args.out.now) (g.W.Sink.failures c.args.out.now) in (
+      r.0,
+      file_started (g.F.Files.past c.args.files.now).given r.2 c.name.result.now r.3 c.name.ensures
+          (c.in_ok-open_file.ensures.ok r.0 r.1 out r.4.0),
+    )
 
 pub returns-in_err-failed-clause-err : goal.returns-in_err-failed-clause-err
 returns-in_err-failed-clause-err g c = λ aim given name is rests.
-    let b = rests.0 in
-    let few : c.args.engine.now.files < 2 ^ 32 - 1 = c.if-engine-ge-MOST_FILES.false in
     let out = stream (g.W.Sink.taken c.args.out.now) (g.W.Sink.failures c.args.out.now) in
-    let ready : IsReady c.args.engine.now aim b.steps out (Opens c.name.result.now) =
-    (b.holds, (b.closed, omega (arith, b.holds.count, few))) in
-    let start = file_started b c.in_ok-cutter.cutter c.open.new.self (g.F.Files.past c.args.files.now).given name
-    c.name.result.now is c.name.ensures (c.in_ok-cutter.ensures.cutter aim b.steps out ready)
-    (c.in_ok-cutter.ensures.ok aim b.steps out ready) in
+    let start = file_started (g.F.Files.past c.args.files.now).given name c.name.result.now is c.name.ensures
+    (c.in_ok-open_file.ensures.ok aim given out rests.0) in
     let told = stream (g.E.Sink.taken c.args.faults.now) (g.E.Sink.failures c.args.faults.now) in
     let before = (g.F.Files.past c.args.files.now).given in
     let given' = (g.F.Files.past c.read_file.new.files).given in
@@ -71,14 +60,9 @@ returns-in_err-failed-clause-err g c = λ aim given name is rests.
 
 pub returns-in_err-tell_fault-clause-err : goal.returns-in_err-tell_fault-clause-err
 returns-in_err-tell_fault-clause-err g c = λ aim given name is rests.
-    let b = rests.0 in
-    let few : c.args.engine.now.files < 2 ^ 32 - 1 = c.if-engine-ge-MOST_FILES.false in
     let out = stream (g.W.Sink.taken c.args.out.now) (g.W.Sink.failures c.args.out.now) in
-    let ready : IsReady c.args.engine.now aim b.steps out (Opens c.name.result.now) =
-    (b.holds, (b.closed, omega (arith, b.holds.count, few))) in
-    let start = file_started b c.in_ok-cutter.cutter c.open.new.self (g.F.Files.past c.args.files.now).given name
-    c.name.result.now is c.name.ensures (c.in_ok-cutter.ensures.cutter aim b.steps out ready)
-    (c.in_ok-cutter.ensures.ok aim b.steps out ready) in
+    let start = file_started (g.F.Files.past c.args.files.now).given name c.name.result.now is c.name.ensures
+    (c.in_ok-open_file.ensures.ok aim given out rests.0) in
     let told = stream (g.E.Sink.taken c.args.faults.now) (g.E.Sink.failures c.args.faults.now) in
     let before = (g.F.Files.past c.args.files.now).given in
     let given' = (g.F.Files.past c.read_file.new.files).given in
@@ -99,14 +83,9 @@ returns-in_err-tell_fault-clause-err g c = λ aim given name is rests.
 
 pub returns-in_ok-tell_fault-clause-ok : goal.returns-in_ok-tell_fault-clause-ok
 returns-in_ok-tell_fault-clause-ok g c = λ aim given name is rests.
-    let b = rests.0 in
-    let few : c.args.engine.now.files < 2 ^ 32 - 1 = c.if-engine-ge-MOST_FILES.false in
     let out = stream (g.W.Sink.taken c.args.out.now) (g.W.Sink.failures c.args.out.now) in
-    let ready : IsReady c.args.engine.now aim b.steps out (Opens c.name.result.now) =
-    (b.holds, (b.closed, omega (arith, b.holds.count, few))) in
-    let start = file_started b c.in_ok-cutter.cutter c.open.new.self (g.F.Files.past c.args.files.now).given name
-    c.name.result.now is c.name.ensures (c.in_ok-cutter.ensures.cutter aim b.steps out ready)
-    (c.in_ok-cutter.ensures.ok aim b.steps out ready) in
+    let start = file_started (g.F.Files.past c.args.files.now).given name c.name.result.now is c.name.ensures
+    (c.in_ok-open_file.ensures.ok aim given out rests.0) in
     let told = stream (g.E.Sink.taken c.args.faults.now) (g.E.Sink.failures c.args.faults.now) in
     let before = (g.F.Files.past c.args.files.now).given in
     let given' = (g.F.Files.past c.read_file.new.files).given in
@@ -124,14 +103,9 @@ returns-in_ok-tell_fault-clause-ok g c = λ aim given name is rests.
 
 pub returns-else-failed-clause-ok : goal.returns-else-failed-clause-ok
 returns-else-failed-clause-ok g c = λ aim given name is rests.
-    let b = rests.0 in
-    let few : c.args.engine.now.files < 2 ^ 32 - 1 = c.if-engine-ge-MOST_FILES.false in
     let out = stream (g.W.Sink.taken c.args.out.now) (g.W.Sink.failures c.args.out.now) in
-    let ready : IsReady c.args.engine.now aim b.steps out (Opens c.name.result.now) =
-    (b.holds, (b.closed, omega (arith, b.holds.count, few))) in
-    let start = file_started b c.in_ok-cutter.cutter c.open.new.self (g.F.Files.past c.args.files.now).given name
-    c.name.result.now is c.name.ensures (c.in_ok-cutter.ensures.cutter aim b.steps out ready)
-    (c.in_ok-cutter.ensures.ok aim b.steps out ready) in
+    let start = file_started (g.F.Files.past c.args.files.now).given name c.name.result.now is c.name.ensures
+    (c.in_ok-open_file.ensures.ok aim given out rests.0) in
     let told = stream (g.E.Sink.taken c.args.faults.now) (g.E.Sink.failures c.args.faults.now) in
     let before = (g.F.Files.past c.args.files.now).given in
     let given' = (g.F.Files.past c.read_file.new.files).given in (

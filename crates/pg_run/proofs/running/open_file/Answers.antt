@@ -1,0 +1,20 @@
+use Rattle.std.proofs.Common.{arith}
+use Rattle.pg_seq.specs.Plan.{Opens}
+use Rattle.pg_run.specs.Holding.{IsReady}
+use Rattle.pg_run.proofs.ReadingLemmas.{stands_by}
+use Rattle.pg_run.proofs.RunLemmas.{file_opened}
+use Rattle.pg_run.proofs.running.open_file.Goals as goal
+
+pub open-requires-clause-ready : goal.open-requires-clause-ready
+open-requires-clause-ready g c =
+    let r = c.requires.between in
+    let b = r.3 in
+    (r.0, b.steps, r.2, (b.holds, (b.closed, omega (arith, b.holds.count, c.requires.few))))
+
+pub returns-clause-ok : goal.returns-clause-ok
+returns-clause-ok g c = λ aim given out b.
+    let ready : IsReady c.args.engine.now aim b.steps out (Opens c.args.name.now) =
+    (b.holds, (b.closed, omega (arith, b.holds.count, c.requires.few))) in
+    file_opened b _ _ c.args.name.now c.open-2.ensures.came
+    (stands_by _ c.open-2.ensures.cutter (c.in_ok-cutter.ensures.cutter aim b.steps out ready))
+    (c.in_ok-cutter.ensures.ok aim b.steps out ready)

@@ -1,0 +1,130 @@
+//! Reads the open file, and cuts what comes into blocks.
+ghost use Rattle.std.specs.Prelude.{◌≡◌, ◌<◌, List, vec_len, IfSome, IfNone};
+ghost use Rattle.pg_lines.specs.Cutter.{Stands as CutterStands, Fed, IsDrained, IsNextBlock, AreAllBlocks, handed};
+
+use crate::files::Files;
+use pg_lines::{Block, CutFault, Cutter};
+use pg_round::Reader;
+use std::alloc::{AllocError, Allocator, Global};
+use std::mem;
+
+/// How many bytes are asked for in one read. They are cut into blocks and searched while they are near.
+pub(crate) const READ_SIZE: usize = 65_536;
+
+/// What the last read came to.
+#[derive(Clone, Copy, Debug, PartialEq, Eq)]
+pub(crate) enum Came {
+    /// More bytes, or nothing was read yet.
+    More,
+    /// The file's end.
+    End,
+    /// It failed.
+    Failure,
+    /// More bytes, which the cutter didn't take.
+    Refused(CutFault),
+}
+
+/// Reads the open file, and cuts what comes into blocks.
+#[derive(Drop)]
+pub(crate) struct FileReader<A: Allocator + Copy = Global> {
+    alloc: A,
+    /// The open file's.
+    pub(crate) cutter: Cutter<A>,
+    buffer: Vec<u8, A>,
+    pub(crate) came: Came,
+    /// So many more reads may be made beside a search.
+    pub(crate) ahead: u32,
+    ghost room: { 0 < vec_len buffer },
+}
+
+/// A cutter that nothing is fed to.
+fn no_cutter<A: Allocator + Copy>(alloc: A) -> Cutter<A> {
+    Cutter::new(alloc, 0, 1, 1, 0)
+}
+
+impl<A: Allocator + Copy> FileReader<A> {
+    ghost use Rattle.pg_seq.specs.Plan.{Step};
+    ghost use Rattle.pg_run.specs.Holding.{Aim};
+    ghost use Rattle.pg_run.specs.Reading.{HasCut, ReadsOn};
+    ghost use Rattle.pg_run.specs.declared.reader.Came.TheVariants.{More};
+
+    /// A reader of no file.
+    pub(crate) fn new(alloc: A) -> Result<FileReader<A>, AllocError> {
+        let buffer = vec![in alloc; 0u8; READ_SIZE]?;
+        Ok(FileReader {
+            alloc,
+            cutter: no_cutter(alloc),
+            buffer,
+            came: Came::End,
+            ahead: 0,
+        })
+    }
+
+    /// Begins with a file of which nothing was read.
+    pub(crate) fn open(&mut self, cutter: Cutter<A>)
+        ensures cutter { self.new.cutter ≡ cutter }
+        ensures came { self.new.came ≡ More }
+    {
+        self.cutter = cutter;
+        self.came = Came::More;
+    }
+
+    /// Reads once, and cuts what came. The file may be read further.
+    pub(crate) fn read<F: Files>(&mut self, files: &mut F)
+        requires more { self.old.came ≡ More }
+        requires cut { (aim : Aim) × (steps : List Step) × HasCut self.old aim (F.past files.old).given steps }
+        ensures { ReadsOn F.past F.list self.old files.old self.new files.new }
+    {
+        let Ok(count) = files.read(&mut self.buffer) else {
+            self.came = Came::Failure;
+            return;
+        };
+        if count == 0 {
+            self.came = Came::End;
+            return;
+        }
+        if let Err(fault) = self.cutter.feed(&self.buffer[..count]) {
+            self.came = Came::Refused(fault);
+        }
+    }
+
+    /// The next block that is cut.
+    pub(crate) fn take(&mut self) -> Option<Block<A>>
+        ensures came { self.new.came ≡ self.old.came }
+        ensures stands { (past : Fed) → CutterStands self.old.cutter past →
+            CutterStands self.new.cutter (handed past result) }
+        ensures next { IfSome result (λ block. (past : Fed) → CutterStands self.old.cutter past → IsNextBlock past block) }
+        ensures none { IfNone result (IsDrained self.new.cutter) }
+    {
+        self.cutter.take()
+    }
+
+    /// The last block of a file that can't go on. `take` has answered `None` since the last read.
+    pub(crate) fn finish(&mut self) -> Option<Block<A>>
+        requires { IsDrained self.old.cutter }
+        ensures { (past : Fed) → CutterStands self.old.cutter past → AreAllBlocks (handed past result) }
+    {
+        let cutter = mem::replace(&mut self.cutter, no_cutter(self.alloc));
+        cutter.finish()
+    }
+}
+
+impl<A: Allocator + Copy, F: Files> Reader<F> for FileReader<A> {
+    ghost use Rattle.std.specs.Prelude.{List};
+    ghost use Rattle.pg_seq.specs.Plan.{Step};
+    ghost use Rattle.pg_run.specs.Holding.{Aim};
+    ghost use Rattle.pg_run.specs.Reading.{HasCut, ReadsOn};
+
+    ghost ready = { λ reader files. (aim : Aim) × (steps : List Step) × HasCut reader aim (F.past files).given steps };
+
+    ghost reaches = { λ reader files reader' files'. ReadsOn F.past F.list reader files reader' files' };
+
+    fn step(&mut self, files: &mut F) -> bool {
+        if self.ahead == 0 || self.came != Came::More {
+            return false;
+        }
+        self.ahead -= 1;
+        self.read(files);
+        true
+    }
+}
