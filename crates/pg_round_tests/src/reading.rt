@@ -88,6 +88,7 @@ impl<'n> Gate for AfterReading<'n> {
 }
 
 /// What is expected of a run over a file whose second read comes while the first round is searched.
+#[derive(Drop)]
 struct Expected<'e> {
     status: Result<u8, RunFault>,
     output: &'e [u8],
