@@ -282,7 +282,7 @@ fn all_files<
 /// selected. Nothing was asked of the files yet.
 ///
 /// A file isn't read further, and with -q no further one is asked for, once nothing that stands behind
-/// changes what is written. Not more of a file is held than a block and what was read ahead of it.
+/// changes what is written. Not more of a file is held than two rounds of blocks and what one read gives.
 ///
 /// The gate is told of each search of a block, before and after it, by whoever searches. A block that isn't searched
 /// in a round is the first of its own.
