@@ -96,6 +96,11 @@ unfolding Shape
 shape G.nothing = refl
 shape (G.some small l) = literal_shape l small
 
+-- no fixed string is an alternation
+pub alt_unspelled : (fold : Bool) (p q : Pattern) (text : List ℕ) → Spells Fixed fold text (Alt p q) → ⊥
+unfolding Shape
+alt_unspelled fold p q text spells = shape spells
+
 module _ {A : Type 0} (fold : Bool) where
   -- the empty pattern
   pub extends_empty : (rest : Known A) → Extends fold Empty rest rest
@@ -177,7 +182,7 @@ module _ {A : Type 0} (fold : Bool) where
   -- one of two patterns
   pub extends_alt : (p q : Pattern) (rest whole : Known A) → Hides rest whole → Extends fold (Alt p q) rest whole
   unfolding Shape
-  extends_alt p q rest whole hides = extends_hidden (Alt p q) rest whole hides (λ text s. shape s)
+  extends_alt p q rest whole hides = extends_hidden (Alt p q) rest whole hides (alt_unspelled fold p q)
 
   -- rounds of which there may be none
   pub extends_rep : (p : Pattern) (least : ℕ) (most : Option ℕ) (rest whole : Known A) → Hides rest whole

@@ -1,2 +1,3 @@
 pub mod Literals
 pub mod Known
+pub mod Added

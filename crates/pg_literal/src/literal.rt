@@ -1,18 +1,23 @@
-//! The text that each match holds.
-ghost use Rattle.std.specs.Prelude.{◌≡◌, ◌⊎◌, ℕ, List, [], ◌∷◌, map, reverse, IsTrue, IfOk, IfSome, IsSomeAnd};
+//! The texts of which each line with a hit holds one.
+ghost use Rattle.std.specs.Prelude.{◌≡◌, ◌⊎◌, ◌<◌, ◌≤◌, ℕ, List, length, map, reverse, true, IsTrue, IfOk, IfSome};
+ghost use Rattle.std.specs.Prelude.{IsSomeAnd};
+ghost use Rattle.std.specs.List.{AllZip};
 ghost use Rattle.pg_syntax.specs.Grammar.{Spells};
-ghost use Rattle.pg_syntax.specs.Patterns.{Pattern};
 ghost use Rattle.pg_syntax.specs.Trees.{pattern};
 ghost use Rattle.pg_syntax.specs.declared.pattern_list.Kind.TheVariants.{Fixed};
 ghost use Rattle.pg_match.specs.declared.bounds.Bounds.TheVariants.{Any};
-ghost use Rattle.pg_literal.specs.Literals.{as_searched, IsNeeded, IsEnough};
+ghost use Rattle.pg_literal.specs.Literals.{as_searched, AreNeeded, AreEnough, AreTexts};
+ghost use Rattle.pg_literal.specs.Added.{Adds};
 
 use crate::known::{Known, longer, with_tree};
 use pg_match::Bounds;
 use pg_syntax::Tree;
 use std::alloc::{AllocError, Allocator, Global};
 
-/// A text that each line with a hit holds.
+/// Each text is searched for in all bytes, so that more of them cost more than the automaton does.
+const MOST: usize = 8;
+
+/// A text that each line with a hit holds, unless it holds another one that was found with it.
 #[derive(Drop)]
 pub struct Literal<A: Allocator = Global> {
     /// The bytes, as they stand in the line; where case is folded, as they stand in the line in lower case.
@@ -22,31 +27,92 @@ pub struct Literal<A: Allocator = Global> {
 }
 
 impl<A: Allocator + Copy> Literal<A> {
-    /// A text that each line holds in which some tree matches a span within the bounds; `None` where none was found.
+    /// At most 8 texts, of which each line holds one in which some tree matches a span within the bounds. Where no
+    /// such texts were found there is none, which tells nothing.
     ///
-    /// With `fold` the case of letters is folded, as it was for the trees. The tree of a plain fixed string gives that
-    /// string. Of several trees no text is searched for. A refused request for memory is the only error.
+    /// With `fold` the case of letters is folded, as it was for the trees. Each tree gives one text, and each
+    /// alternative of a tree that is an alternation. The trees of at most 8 plain fixed strings give those strings, in
+    /// their order. A refused request for memory is the only error.
     pub fn of(
         alloc: A,
         trees: &[Tree<A>],
         bounds: Bounds,
         fold: bool,
-    ) -> Result<Option<Literal<A>>, AllocError>
-        ensures needed { IfOk result (λ found. IfSome found
-            (λ literal. IsNeeded fold (map pattern trees.now) bounds literal.text.items)) }
-        ensures enough { IfOk result (λ found. IfSome found
-            (λ literal. IsTrue literal.is_enough → IsEnough fold (map pattern trees.now) bounds literal.text.items)) }
-        ensures fixed { IfOk result (λ found. (text : List ℕ) (tree : Pattern) → Spells Fixed fold text tree
-            → map pattern trees.now ≡ tree ∷ [] → bounds ≡ Any
-            → IsSomeAnd found (λ literal. (literal.text.items ≡ as_searched fold text) × IsTrue literal.is_enough)) }
+    ) -> Result<Vec<Literal<A>, A>, AllocError>
+        ensures few { IfOk result (λ literals. length literals.items ≤ 8) }
+        ensures needed { IfOk result (λ literals. 0 < length literals.items
+            → AreNeeded fold (map pattern trees.now) bounds literals.items) }
+        ensures enough { IfOk result (λ literals. AreEnough fold (map pattern trees.now) bounds literals.items) }
+        ensures fixed { IfOk result (λ literals. (texts : List (List ℕ))
+            → AllZip (Spells Fixed fold) texts (map pattern trees.now) → length texts ≤ 8 → bounds ≡ Any
+            → AreTexts (map (as_searched fold) texts) literals.items) }
     {
-        match trees {
-            [tree] => {
-                let known = with_tree(alloc, tree, fold, Known::nothing(alloc))?;
-                Ok(best_text(known, bounds))
+        let mut literals = Vec::new(alloc);
+        for tree in trees {
+            let found = push_literals(alloc, tree, bounds, fold, &mut literals)?;
+            if !found {
+                return Ok(Vec::new(alloc));
             }
-            _ => Ok(None),
         }
+        Ok(literals)
+    }
+}
+
+/// Adds the literals of a tree's alternatives, the last one first. Where one of them has none, or there are too many,
+/// the answer is false.
+///
+/// The left spine of an alternation may be as long as a text, so a loop walks it.
+fn push_literals<A: Allocator + Copy>(
+    alloc: A,
+    tree: &Tree<A>,
+    bounds: Bounds,
+    fold: bool,
+    literals: &mut Vec<Literal<A>, A>,
+) -> Result<bool, AllocError>
+    requires few { length literals.old.items ≤ 8 }
+    ensures few { length literals.new.items ≤ 8 }
+    ensures adds { IfOk result (λ found. IsTrue found
+        → Adds fold bounds (pattern tree.now) literals.old.items literals.new.items) }
+    ensures fixed { (text : List ℕ) → Spells Fixed fold text (pattern tree.now) → bounds ≡ Any
+        → length literals.old.items < 8 → IfOk result IsTrue }
+{
+    let mut tree = tree;
+    while let Tree::Alt(first, second) = tree {
+        let found = push_literals(alloc, second, bounds, fold, literals)?;
+        if !found {
+            return Ok(false);
+        }
+        tree = first;
+    }
+    let found = push_literal(alloc, tree, bounds, fold, literals)?;
+    Ok(found)
+}
+
+/// Adds the literal of a tree. Where it has none, or there are too many, the answer is false.
+fn push_literal<A: Allocator + Copy>(
+    alloc: A,
+    tree: &Tree<A>,
+    bounds: Bounds,
+    fold: bool,
+    literals: &mut Vec<Literal<A>, A>,
+) -> Result<bool, AllocError>
+    requires few { length literals.old.items ≤ 8 }
+    ensures few { length literals.new.items ≤ 8 }
+    ensures adds { IfOk result (λ found. IsTrue found
+        → Adds fold bounds (pattern tree.now) literals.old.items literals.new.items) }
+    ensures fixed { (text : List ℕ) → Spells Fixed fold text (pattern tree.now) → bounds ≡ Any
+        → length literals.old.items < 8 → IfOk result IsTrue }
+{
+    if literals.len() == MOST {
+        return Ok(false);
+    }
+    let known = with_tree(alloc, tree, fold, Known::nothing(alloc))?;
+    match best_text(known, bounds) {
+        Some(literal) => {
+            literals.push(literal)?;
+            Ok(true)
+        }
+        None => Ok(false),
     }
 }
 

@@ -1,32 +1,59 @@
-use Rattle.std.proofs.Common.{◌≡◌, IsTrue, subst, arith}
-use Rattle.std.specs.Prelude.{IsSomeAnd}
-use Rattle.std.proofs.lemmas.Option.{IfSome_then}
+use Rattle.std.proofs.Common.{◌<◌, ℕ, List, [], length, get_or, map, subst, arith, rules}
+use Rattle.std.proofs.lemmas.List.{length-map, take_all}
 use Rattle.pg_syntax.specs.Trees.{pattern}
-use Rattle.pg_literal.proofs.LiteralLemmas.{map-single, either_needed, head_enough, fixed_head}
+use Rattle.pg_literal.specs.Literals.{as_searched, AreTexts}
+use Rattle.pg_literal.proofs.LiteralLemmas.{hit_alone, pattern_among, text_spells, text_fits, zip_length}
+use Rattle.pg_literal.proofs.LiteralLemmas.{needed_more, enough_more, texts_more}
 use Rattle.pg_literal.proofs.literal.Literal.of.Goals as goal
 
-pub returns-in_ok-known-in-len1-clause-needed : goal.returns-in_ok-known-in-len1-clause-needed
-returns-in_ok-known-in-len1-clause-needed g c =
-    let single = map-single pattern c.args.trees.now c.tree-item.result (omega arith) (omega arith) c.tree-item.is in
-    IfSome_then c.best_text.result c.best_text.ensures.text
-    (λ literal either.
-    either_needed c.args.fold _ _ c.nothing.result c.in_ok-known-in-len1.known single c.nothing.ensures
-    c.in_ok-known-in-len1.ensures c.args.bounds literal.text.items either)
+pub returns-then-not-found-clause-fixed : goal.returns-then-not-found-clause-fixed
+returns-then-not-found-clause-fixed g c = λ texts spelled few any.
+    let trees = c.args.trees.now in
+    let ps = map pattern trees in
+    let i = c.loop-tree.tree-index in
+    let tree = c.tree-item.result in
+    let below : i < length ps = omega (arith, length-map trees (pattern {A = g.row.A.Denot})) in
+    let at = pattern_among pattern trees i tree c.loop-tree-test.true c.tree-item.is in
+    let room = text_fits c.args.fold ps texts spelled i (pattern tree) below at c.loop-tree.literals.items few
+    (c.loop-tree.invariant.fixed texts spelled few any) in
+    let yes = c.in_ok-found.ensures.fixed (get_or texts i []) (text_spells c.args.fold ps texts spelled i (pattern tree) below at)
+    any room in
+    absurd (search (rules, yes))
 
-pub returns-in_ok-known-in-len1-clause-enough : goal.returns-in_ok-known-in-len1-clause-enough
-returns-in_ok-known-in-len1-clause-enough g c =
-    let single = map-single pattern c.args.trees.now c.tree-item.result (omega arith) (omega arith) c.tree-item.is in
-    IfSome_then c.best_text.result c.best_text.ensures.enough
-    (λ literal said is.
-    let e = said is in
-    head_enough c.args.fold _ _ c.nothing.result c.in_ok-known-in-len1.known single c.nothing.ensures
-    c.in_ok-known-in-len1.ensures c.args.bounds literal.text.items e.0 e.1 e.2)
+pub loop-tree-preserved : goal.loop-tree-preserved
+loop-tree-preserved g c =
+    let trees = c.args.trees.now in
+    let fold = c.args.fold in
+    let bounds = c.args.bounds in
+    let ps = map pattern trees in
+    let i = c.loop-tree.tree-index in
+    let p = pattern c.tree-item.result in
+    let old = c.loop-tree.literals.items in
+    let new = c.push_literals.new.literals.items in
+    let below : i < length ps = omega (arith, length-map trees (pattern {A = g.row.A.Denot})) in
+    let at = pattern_among pattern trees i c.tree-item.result c.loop-tree-test.true c.tree-item.is in
+    let adds = c.in_ok-found.ensures.adds (search rules) in
+    let known = c.loop-tree.invariant in
+    record {
+      few = c.push_literals.ensures.few;
+      needed = needed_more fold bounds ps i p below at old new adds known.needed;
+      enough = enough_more fold bounds ps i p below at old new adds known.enough;
+      fixed = λ texts spelled few any.
+          texts_more fold bounds ps i p below at old new adds texts spelled any (known.fixed texts spelled few any);
+    }
 
-pub returns-in_ok-known-in-len1-clause-fixed : goal.returns-in_ok-known-in-len1-clause-fixed
-returns-in_ok-known-in-len1-clause-fixed g c =
-    let single = map-single pattern c.args.trees.now c.tree-item.result (omega arith) (omega arith) c.tree-item.is in
-    λ text tree spells one any.
-    let head = fixed_head c.args.fold _ _ c.nothing.result c.in_ok-known-in-len1.known single c.nothing.ensures
-    c.in_ok-known-in-len1.ensures text tree spells one in
-    subst (λ t. IsSomeAnd c.best_text.result (λ literal. (literal.text.items ≡ t) × IsTrue literal.is_enough)) head.0
-    (c.best_text.ensures.sure head.1 any)
+pub returns-clause-needed : goal.returns-clause-needed
+returns-clause-needed g c = λ some line hit.
+    let trees = c.args.trees.now in
+    let alone = hit_alone (map pattern trees) c.args.bounds line hit in
+    c.loop-tree.invariant.needed line alone.0 alone.1
+    (omega (arith, alone.2, length-map trees (pattern {A = g.row.A.Denot}))) alone.3 alone.4
+
+pub returns-clause-fixed : goal.returns-clause-fixed
+returns-clause-fixed g c = λ texts spelled few any.
+    let trees = c.args.trees.now in
+    let are = c.loop-tree.invariant.fixed texts spelled few any in
+    let P : List (List ℕ) → Type 0 = λ ts. AreTexts (map (as_searched c.args.fold) ts) c.loop-tree.literals.items in
+    let size = zip_length _ texts (map pattern trees) spelled in
+    subst P (take_all c.loop-tree.tree-index texts
+    (omega (arith, size, length-map trees (pattern {A = g.row.A.Denot})))) are

@@ -1,0 +1,21 @@
+use Rattle.std.proofs.Common.{◌≡◌, ◌≤◌, ℕ, List, length}
+use Rattle.pg_syntax.specs.Grammar.{Spells}
+use Rattle.pg_syntax.specs.Trees.{pattern}
+use Rattle.pg_syntax.specs.declared.tree.Tree.{size-Tree}
+use Rattle.pg_syntax.specs.declared.pattern_list.Kind.TheVariants.{Fixed}
+use Rattle.pg_literal.specs.Added.{Adds}
+use Rattle.pg_literal.specs.declared.literal.Literal.{Literal}
+use Rattle.pg_literal.proofs.literal.+push_literals.Given as goal
+
+abbrev pub decreases-push_literals : goal.decreases-push_literals
+decreases-push_literals g l = goal.size-push_literals g l
+
+abbrev pub invariant-loop-tree : goal.invariant-loop-tree
+invariant-loop-tree g l = record {
+  below : size-Tree _ l.tree ≤ size-Tree _ l.fn.tree;
+  few : length l.literals.items ≤ 8;
+  whole : (new : List (Literal _)) → Adds l.fold l.bounds (pattern l.tree) l.literals.items new
+      → Adds l.fold l.bounds (pattern l.fn.tree) l.fn.literals.items new;
+  fixed : (text : List ℕ) → Spells Fixed l.fold text (pattern l.fn.tree)
+      → (pattern l.tree ≡ pattern l.fn.tree) × (l.literals.items ≡ l.fn.literals.items);
+}

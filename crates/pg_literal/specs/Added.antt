@@ -1,0 +1,17 @@
+-- The literals of one more pattern.
+use Rattle.std.specs.Prelude.{◌≡◌, ℕ, Bool, List, [], ◌∷◌, ◌++◌}
+use Rattle.pg_syntax.specs.Grammar.{Spells}
+use Rattle.pg_syntax.specs.Patterns.{Pattern}
+use Rattle.pg_syntax.specs.declared.pattern_list.Kind.TheVariants.{Fixed}
+use Rattle.pg_match.specs.declared.bounds.Bounds.{Bounds}
+use Rattle.pg_match.specs.declared.bounds.Bounds.TheVariants.{Any}
+use Rattle.pg_literal.specs.Literals.{as_searched, AreNeeded, AreEnough, AreTexts}
+use Rattle.pg_literal.specs.declared.literal.Literal.{Literal}
+
+-- the literals of the pattern stand behind those that there were; that of a fixed string is the string
+pub record Adds {A : Type 0} (fold : Bool) (bounds : Bounds) (p : Pattern) (old new : List (Literal A)) : Type 0 where
+  pub added : List (Literal A)
+  pub joins : new ≡ old ++ added
+  pub needed : AreNeeded fold (p ∷ []) bounds added
+  pub enough : AreEnough fold (p ∷ []) bounds added
+  pub fixed : (text : List ℕ) → Spells Fixed fold text p → bounds ≡ Any → AreTexts (as_searched fold text ∷ []) added
