@@ -1,7 +1,7 @@
--- Lines that hold a literal, and which of them are selected.
-use Rattle.std.proofs.Common.{◌≡◌, ◌≢◌, ℕ, zero, suc, ◌+◌, ◌-◌, ◌≤◌, ◌^◌, ◌⊎◌, inl, inr, Bool, true, false, List, [], ◌∷◌}
+-- Lines that hold literals, and which of them are selected.
+use Rattle.std.proofs.Common.{◌≡◌, ◌≢◌, ℕ, zero, suc, ◌+◌, ◌-◌, ◌<◌, ◌≤◌, ◌^◌, ◌⊎◌, inl, inr, Bool, true, false, List, [], ◌∷◌}
 use Rattle.std.proofs.Common.{◌++◌, length, take, drop, slice_range, refl, sym, ap, ◌∙◌, subst, arith, append_assoc, length-append}
-use Rattle.std.specs.List.{AllByRecursion}
+use Rattle.std.specs.List.{AllByRecursion, Any}
 use Rattle.std.proofs.lemmas.List.{take-append-drop, drop-drop, drop_at, take_at, append-nil, length-take-le}
 use Rattle.pg_literal.specs.Literals.{Holds}
 use Rattle.pg_lines.specs.Lines.{lines, AreWhole, AreShort}
@@ -10,8 +10,9 @@ use Rattle.pg_lines.specs.Search.{terminator_of, terminator}
 use Rattle.pg_lines.specs.Selection.{selects}
 use Rattle.pg_lines.specs.Runs.{AllLines, IsNextRun}
 use Rattle.pg_lines.specs.Gathered.{IsNextLine}
-use Rattle.pg_lines.specs.Literals.{IsNeeded, IsLiteral}
+use Rattle.pg_lines.specs.Literals.{LiteralData, HoldsOne, AreLiterals}
 use Rattle.pg_lines.specs.Candidates.{AreWithout, IsFirstWith}
+use Rattle.pg_lines.specs.declared.needle.Candidate.{Candidate}
 use Rattle.pg_lines.specs.declared.span.Span.{Span}
 use Rattle.pg_lines.proofs.HitLemmas.{without_missed, held_hit}
 use Rattle.pg_lines.proofs.LineLemmas.{lines-append, whole_append}
@@ -29,9 +30,9 @@ nothing_behind (x ∷ xs) zero h = absurd (omega arith)
 nothing_behind (x ∷ xs) (suc n) h = nothing_behind xs n (omega arith)
 
 -- the text of the line that was found
-abbrev pub text_found : (fold : Bool) (end : ℕ) (literal : List ℕ) (at : ℕ) (bytes : List ℕ) (line : Span)
-    → IsFirstWith fold end literal at bytes line → List ℕ
-text_found fold end literal at bytes line first = take (first.e - first.s) (drop first.s bytes)
+abbrev pub text_found : (fold : Bool) (end : ℕ) (literals : List LiteralData) (at : ℕ) (bytes : List ℕ)
+    (found : Candidate) → IsFirstWith fold end literals at bytes found → List ℕ
+text_found fold end literals at bytes found first = take (first.e - first.s) (drop first.s bytes)
 
 -- whole lines behind a place, up to another one, of which none is selected
 pub record IsSkipped (q : Search) (at from : ℕ) (bytes : List ℕ) : Type 0 where
@@ -99,44 +100,57 @@ module _ (q : Search) (at from : ℕ) (bytes : List ℕ) (is : IsSkipped q at fr
       empty_text [] (y ∷ ys) zs e = absurd (omega (arith, ap length e))
       empty_text (x ∷ xs) ys zs e = absurd (omega (arith, ap length e))
 
-module _ (text : SearchText) (trees : List Pattern) (spelled : AreTreesOf text trees) (literal : List ℕ)
-    (needed : IsNeeded text literal) where
-  -- lines without the literal have no hit
-  pub missed_without : (bytes : List ℕ) → AreWithout text.fold (terminator_of text) literal bytes
-      → AllLines (search_of (uninverted text) trees) false bytes
-  missed_without bytes none =
-      all_more (λ l. Holds text.fold l literal → ⊥) (λ l. selects (search_of (uninverted text) trees) l ≡ false)
-      (lines (terminator_of text) bytes) (λ l h. without_missed text trees spelled literal l needed h) none
+module _ (text : SearchText) (trees : List Pattern) (spelled : AreTreesOf text trees) (literals : List LiteralData)
+    (are : AreLiterals text literals) (any : 0 < length literals) where
+  abbrev own : Search
+  own = search_of (uninverted text) trees
 
-  module _ (at : ℕ) (bytes : List ℕ) (line : Span) (first : IsFirstWith text.fold (terminator_of text) literal at bytes line) where
-    -- the first line that holds it is the first one with a hit, where it has one
-    pub first_selected : selects (search_of (uninverted text) trees) (text_found text.fold (terminator_of text) literal at bytes line first) ≡ true
-        → IsNextLine (search_of (uninverted text) trees) at bytes line
+  abbrev end_of : ℕ
+  end_of = terminator_of text
+
+  -- lines without a literal have no hit
+  pub missed_without : (bytes : List ℕ) → AreWithout text.fold end_of literals bytes → AllLines own false bytes
+  missed_without bytes none =
+      all_more (λ l. HoldsOne text.fold literals l → ⊥) (λ l. selects own l ≡ false) (lines end_of bytes)
+      (λ l h. without_missed text trees spelled literals are l any h) none
+
+  module _ (at : ℕ) (bytes : List ℕ) (found : Candidate)
+      (first : IsFirstWith text.fold end_of literals at bytes found) where
+    -- the first line that holds one is the first one with a hit, where it has one
+    pub first_selected : selects own (text_found text.fold end_of literals at bytes found first) ≡ true
+        → IsNextLine own at bytes found.line
     first_selected chosen =
-        line_found (search_of (uninverted text) trees) bytes at first.s first.e first.stop line first.is first.front
+        line_found own bytes at first.s first.e first.stop found.line first.is first.front
         (missed_without (take first.s bytes) first.without) chosen first.starts first.ends
 
+    -- one that is enough decides
+    pub first_enough : found.is_enough ≡ true → IsNextLine own at bytes found.line
+    first_enough flag =
+        let line = text_found text.fold end_of literals at bytes found first in
+        let P : Bool → Type 0 = λ b. Any (λ l. (l.is_enough ≡ b) × Holds text.fold line l.text) literals in
+        first_selected (held_hit text trees spelled literals are line (subst P flag first.holds))
+
     -- else no line up to its end has one
-    first_unselected : selects (search_of (uninverted text) trees) (text_found text.fold (terminator_of text) literal at bytes line first) ≡ false
-        → AllLines (search_of (uninverted text) trees) false (take first.stop bytes)
+    first_unselected : selects own (text_found text.fold end_of literals at bytes found first) ≡ false
+        → AllLines own false (take first.stop bytes)
     first_unselected not_chosen =
-        line_unselected (search_of (uninverted text) trees) bytes first.s first.e first.stop first.is first.front
+        line_unselected own bytes first.s first.e first.stop first.is first.front
         (missed_without (take first.s bytes) first.without) not_chosen
 
-  -- one more line with the literal has no hit
-  pub skipped_more : (at from : ℕ) (bytes : List ℕ) (line : Span) → IsSkipped (search_of (uninverted text) trees) at from bytes
-      → (first : IsFirstWith text.fold (terminator_of text) literal from (drop from bytes) line)
-      → selects (search_of (uninverted text) trees) (text_found text.fold (terminator_of text) literal from (drop from bytes) line first) ≡ false
-      → IsSkipped (search_of (uninverted text) trees) at line.end bytes
-  skipped_more at from bytes line is first not_chosen =
+  -- one more line with a literal has no hit
+  pub skipped_more : (at from : ℕ) (bytes : List ℕ) (found : Candidate) → IsSkipped own at from bytes
+      → (first : IsFirstWith text.fold end_of literals from (drop from bytes) found)
+      → selects own (text_found text.fold end_of literals from (drop from bytes) found first) ≡ false
+      → IsSkipped own at found.line.end bytes
+  skipped_more at from bytes found is first not_chosen =
       let q = search_of (uninverted text) trees in
       let E = terminator_of text in
       let rest = drop from bytes in
       let more = take first.stop rest in
       let some : rest ≢ [] = λ e. first.is.some (none_left first e) in
       let whole = skipped_whole q at from bytes is some in
-      let none = first_unselected from rest line first not_chosen in
-      let back : drop first.stop rest ≡ drop line.end bytes =
+      let none = first_unselected from rest found first not_chosen in
+      let back : drop first.stop rest ≡ drop found.line.end bytes =
       drop-drop first.stop from bytes ∙ ap (λ n. drop n bytes) (sym first.ends) in
       let high : first.stop ≤ length rest = stop_within first in
       let long = length-take-le first.stop rest high in
@@ -154,9 +168,9 @@ module _ (text : SearchText) (trees : List Pattern) (spelled : AreTreesOf text t
         unselected = all_lines-append q false is.skipped more whole is.unselected none;
       }
     where
-      stop_within : {from' : ℕ} {xs : List ℕ} {line' : Span} (f : IsFirstWith text.fold (terminator_of text) literal from' xs line')
+      stop_within : {from' : ℕ} {xs : List ℕ} {found' : Candidate} (f : IsFirstWith text.fold end_of literals from' xs found')
           → f.stop ≤ length xs
-      stop_within {from'} {xs} {line'} f =
+      stop_within {from'} {xs} {found'} f =
           let all = ap length f.is.joins in
           omega (
             arith,
@@ -167,9 +181,9 @@ module _ (text : SearchText) (trees : List Pattern) (spelled : AreTreesOf text t
             f.is.len,
           )
 
-      none_left : {from' : ℕ} {xs : List ℕ} {line' : Span} (f : IsFirstWith text.fold (terminator_of text) literal from' xs line')
+      none_left : {from' : ℕ} {xs : List ℕ} {found' : Candidate} (f : IsFirstWith text.fold end_of literals from' xs found')
           → xs ≡ [] → f.is.text ≡ []
-      none_left {from'} {xs} {line'} f e =
+      none_left {from'} {xs} {found'} f e =
           let all = ap length f.is.joins in
           no_bytes f.is.text (omega (
             arith,
@@ -183,16 +197,8 @@ module _ (text : SearchText) (trees : List Pattern) (spelled : AreTreesOf text t
           no_bytes [] h = refl
           no_bytes (y ∷ ys) h = absurd (omega arith)
 
--- a literal that is enough decides
-pub first_enough : (text : SearchText) (trees : List Pattern) → AreTreesOf text trees → (literal : List ℕ)
-    → IsLiteral text literal true → (at : ℕ) (bytes : List ℕ) (line : Span)
-    → IsFirstWith text.fold (terminator_of text) literal at bytes line → IsNextLine (search_of (uninverted text) trees) at bytes line
-first_enough text trees spelled literal is at bytes line first =
-    first_selected text trees spelled literal is.needed at bytes line first
-    (held_hit text trees spelled literal (text_found text.fold (terminator_of text) literal at bytes line first) is first.holds)
-
-module _ (fold : Bool) (E : ℕ) (literal : List ℕ) (at : ℕ) (bytes : List ℕ) (line : Span)
-    (first : IsFirstWith fold E literal at (drop at bytes) line) where
+module _ (fold : Bool) (E : ℕ) (literals : List LiteralData) (at : ℕ) (bytes : List ℕ) (found : Candidate)
+    (first : IsFirstWith fold E literals at (drop at bytes) found) where
   abbrev rest : List ℕ
   rest = drop at bytes
 
@@ -212,14 +218,14 @@ module _ (fold : Bool) (E : ℕ) (literal : List ℕ) (at : ℕ) (bytes : List �
 
   -- the line isn't too long where no line is, nor are those behind it
   pub first_short : AreShort E rest
-      → (length (text_found fold E literal at rest line first) ≤ 2 ^ 30) × AreShort E (drop line.end bytes)
+      → (length (text_found fold E literals at rest found first) ≤ 2 ^ 30) × AreShort E (drop found.line.end bytes)
   first_short short =
       let is = first.is in
       let Short : List ℕ → Type 0 = λ l. length l ≤ 2 ^ 30 in
       let P : List (List ℕ) → Type 0 = λ ls. AllByRecursion Short ls in
       let Q : List ℕ → Type 0 = λ xs. AreShort E xs in
       let all = all_back Short (lines E (take first.s rest)) _ (subst P apart short) in
-      let back : drop first.stop rest ≡ drop line.end bytes =
+      let back : drop first.stop rest ≡ drop found.line.end bytes =
       drop-drop first.stop at bytes ∙ ap (λ n. drop n bytes) (sym first.ends) in (
         all.0,
         subst Q back (elim is.whole [
@@ -229,27 +235,27 @@ module _ (fold : Bool) (E : ℕ) (literal : List ℕ) (at : ℕ) (bytes : List �
       )
 
   -- the line among the bytes
-  pub first_line : lines E (slice_range bytes line.start line.end) ≡ text_found fold E literal at rest line first ∷ []
+  pub first_line : lines E (slice_range bytes found.line.start found.line.end) ≡ text_found fold E literals at rest found first ∷ []
   first_line =
       let is = first.is in
-      let len : line.end - line.start ≡ length is.text = omega (arith, first.starts, first.ends, is.len) in
-      let from : drop line.start bytes ≡ is.text ++ is.later =
+      let len : found.line.end - found.line.start ≡ length is.text = omega (arith, first.starts, first.ends, is.len) in
+      let from : drop found.line.start bytes ≡ is.text ++ is.later =
       ap (λ n. drop n bytes) first.starts
       ∙ (sym (drop-drop first.s at bytes)
       ∙ (ap (drop first.s) (is.joins ∙ append_assoc (take first.s rest) is.text is.later)
       ∙ drop_at (take first.s rest) (is.text ++ is.later) first.s is.front)) in
-      let slice : slice_range bytes line.start line.end ≡ is.text =
-      ap (λ n. take n (drop line.start bytes)) len
+      let slice : slice_range bytes found.line.start found.line.end ≡ is.text =
+      ap (λ n. take n (drop found.line.start bytes)) len
       ∙ (ap (take (length is.text)) from ∙ take_at is.text is.later (length is.text) refl) in
       ap (lines E) slice ∙ is.one
 
 -- the line that was found, and what was cut out as its text
-pub found_text : (fold : Bool) (E end : ℕ) (literal : List ℕ) (at : ℕ) (bytes : List ℕ) (line : Span) (cut : List ℕ) → end ≡ E
-    → IsFirstWith fold end literal at (drop at bytes) line
-    → ((text : List ℕ) → lines end (slice_range bytes line.start line.end) ≡ text ∷ [] → cut ≡ text)
-    → (first : IsFirstWith fold E literal at (drop at bytes) line) × (cut ≡ text_found fold E literal at (drop at bytes) line first)
-found_text fold E end literal at bytes line cut same first text =
-    let P : ℕ → Type 0 = λ t. IsFirstWith fold t literal at (drop at bytes) line
-    × ((text : List ℕ) → lines t (slice_range bytes line.start line.end) ≡ text ∷ [] → cut ≡ text) in
-    let h = subst P same (first, text) in
-    (h.0, h.1 (text_found fold E literal at (drop at bytes) line h.0) (first_line fold E literal at bytes line h.0))
+pub found_text : (fold : Bool) (E : ℕ) (literals : List LiteralData) (at : ℕ) (bytes : List ℕ) (found : Candidate)
+    (end : ℕ) (cut : List ℕ) → end ≡ E → (first : IsFirstWith fold E literals at (drop at bytes) found)
+    → ((text : List ℕ) → lines end (slice_range bytes found.line.start found.line.end) ≡ text ∷ [] → cut ≡ text)
+    → cut ≡ text_found fold E literals at (drop at bytes) found first
+found_text fold E literals at bytes found end cut same first text =
+    let P : ℕ → Type 0 = λ t. (text : List ℕ) → lines t (slice_range bytes found.line.start found.line.end) ≡ text ∷ []
+    → cut ≡ text in
+    subst P same text (text_found fold E literals at (drop at bytes) found first)
+    (first_line fold E literals at bytes found first)

@@ -1,13 +1,14 @@
 -- What is said of a line, and the test of it; and what a literal tells of a line.
-use Rattle.std.proofs.Common.{◌≡◌, ℕ, zero, suc, ◌+◌, ◌<◌, ◌≤◌, Bool, true, false, not, ◌||◌, cond, inl, inr, List}
+use Rattle.std.proofs.Common.{◌≡◌, ℕ, zero, suc, ◌+◌, ◌<◌, ◌≤◌, Bool, true, false, not, ◌||◌, cond, inl, inr, List, length}
 use Rattle.std.proofs.Common.{refl, sym, ap, ◌∙◌, arith}
 use Rattle.std.specs.Bool.{MatchBool, Decides}
-use Rattle.std.specs.List.{list_any, range_with_len}
+use Rattle.std.specs.List.{list_any, range_with_len, Any}
 use Rattle.std.proofs.lemmas.Bool.{false≢true, cases_Bool, cases_eq}
+use Rattle.std.proofs.lemmas.List.Elements.{All-contains}
 use Rattle.pg_match.proofs.TestLemmas.{hits_decided}
 use Rattle.pg_lines.specs.Search.{SearchText, Search, Pattern, AreTreesOf, search_of, uninverted, bounds_of}
 use Rattle.pg_literal.specs.Literals.{Holds}
-use Rattle.pg_lines.specs.Literals.{IsNeeded, IsLiteral}
+use Rattle.pg_lines.specs.Literals.{LiteralData, HoldsOne, IsEnough, AreLiterals}
 use Rattle.pg_lines.specs.Selection.{HasHit, has_hit, selects, SelectsIsSelected}
 
 -- a test of some number of a range
@@ -46,17 +47,20 @@ selects_decides q line =
       ],
     )
 
-module _ (text : SearchText) (trees : List Pattern) (spelled : AreTreesOf text trees) (literal line : List ℕ) where
+module _ (text : SearchText) (trees : List Pattern) (spelled : AreTreesOf text trees) (literals : List LiteralData)
+    (are : AreLiterals text literals) (line : List ℕ) where
   abbrev q : Search
   q = search_of (uninverted text) trees
 
-  -- a line without a literal that is needed has no hit
-  pub without_missed : IsNeeded text literal → (Holds text.fold line literal → ⊥) → selects q line ≡ false
-  without_missed needed none = elim (cases_Bool (selects q line)) [
-    | inl some ↦ absurd (none (needed.held trees spelled line ((selects_decides q line).0 some)))
+  -- a line without a literal has no hit
+  pub without_missed : 0 < length literals → (HoldsOne text.fold literals line → ⊥) → selects q line ≡ false
+  without_missed some none = elim (cases_Bool (selects q line)) [
+    | inl chosen ↦ absurd (none (are.needed some trees spelled line ((selects_decides q line).0 chosen)))
     | inr none' ↦ none'
   ]
 
   -- a line with a literal that is enough has one
-  pub held_hit : IsLiteral text literal true → Holds text.fold line literal → selects q line ≡ true
-  held_hit is held = (selects_decides q line).1 (is.enough refl trees spelled line held)
+  pub held_hit : Any (λ l. (l.is_enough ≡ true) × Holds text.fold line l.text) literals → selects q line ≡ true
+  held_hit held =
+      let enough = All-contains (IsEnough text) literals held.1 are.enough (held.0, held.2, held.3) in
+      (selects_decides q line).1 (enough held.4.0 trees spelled line held.4.1)

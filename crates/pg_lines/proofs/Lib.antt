@@ -12,6 +12,7 @@ pub mod LiteralLemmas
 pub mod LineLaws
 pub mod LineLemmas
 pub mod LongLemmas
+pub mod NeedleLemmas
 pub mod PartLemmas
 pub mod PatternLemmas
 pub mod RunLemmas

@@ -2,7 +2,7 @@
 use Rattle.std.proofs.Common.{◌≡◌, ℕ, zero, suc, ◌+◌, ◌-◌, ◌<◌, ◌≤◌, ◌^◌, ◌⊎◌, inl, inr, Bool, true, false}
 use Rattle.std.proofs.Common.{List, [], ◌∷◌, ◌++◌, length, take, drop, get_or, refl, sym, ap, ◌∙◌, subst, arith}
 use Rattle.std.proofs.Common.{append_assoc, length-append, length-drop}
-use Rattle.std.specs.List.{AllByRecursion}
+use Rattle.std.specs.List.{AllByRecursion, Contains}
 use Rattle.std.proofs.lemmas.Bool.{cases_lt}
 use Rattle.std.proofs.lemmas.List.{take-append-drop, drop_at, length-take-le, get_or-take, get_or-drop, get_or_default}
 use Rattle.std.proofs.lemmas.List.{append-nil, take_at, drop_more, drop-drop, drop_all}
@@ -16,7 +16,9 @@ use Rattle.pg_lines.specs.Search.{Search, terminator}
 use Rattle.pg_lines.specs.Selection.{selects}
 use Rattle.pg_lines.specs.Runs.{AllLines, IsNextRun}
 use Rattle.pg_lines.specs.Gathered.{IsNextLine}
-use Rattle.pg_lines.specs.Candidates.{IsLineAt, AreWithout, IsFirstWith}
+use Rattle.pg_lines.specs.Literals.{LiteralData, HoldsOne}
+use Rattle.pg_lines.specs.Candidates.{IsLineAt, IsFirstWith}
+use Rattle.pg_lines.specs.declared.needle.Candidate.{Candidate}
 use Rattle.pg_lines.specs.declared.run.Run.{Run}
 use Rattle.pg_lines.specs.declared.span.Span.{Span}
 use Rattle.pg_lines.proofs.LineLemmas.{made, around, lines-line, lines-alone, lines-append, whole_append}
@@ -64,9 +66,13 @@ searched_inside fold xs front l tail p i e o =
     subst P (length_searched fold front) (occurs_inside (as_searched fold xs) (as_searched fold front)
     (as_searched fold l) (as_searched fold tail) p i (searched_parts fold xs front l tail e) o)
 
--- of bytes in which the literal occurs nowhere no line holds it
+-- no line of the bytes holds the text
+abbrev Without : Bool → ℕ → List ℕ → List ℕ → Type 0
+Without fold end p bytes = AllByRecursion (λ l. Holds fold l p → ⊥) (lines end bytes)
+
+-- of bytes in which the text occurs nowhere no line holds it
 pub nowhere_lines : (fold : Bool) (end : ℕ) (p bytes : List ℕ) → ((k : ℕ) → OccursAt (as_searched fold bytes) p k → ⊥)
-    → AreWithout fold end p bytes
+    → Without fold end p bytes
 nowhere_lines fold end p bytes none =
     all_by_index (λ l. Holds fold l p → ⊥) (lines end bytes) (λ k below.
     let r = around end bytes (lines end bytes) (made end bytes) k below in
@@ -77,7 +83,7 @@ nowhere_lines fold end p bytes none =
 -- nor does one that ends before the first place at which it occurs
 pub lines_before : (fold : Bool) (end : ℕ) (p bytes : List ℕ) (s k : ℕ)
     → Nowhere (OccursAt (as_searched fold bytes) p) 0 k → s ≤ k → k ≤ length bytes
-    → AreWithout fold end p (take s bytes)
+    → Without fold end p (take s bytes)
 lines_before fold end p bytes zero k none low high = tt
 lines_before fold end p bytes (suc s) k none low high =
     nowhere_lines fold end p (take (suc s) bytes) (λ j o.
@@ -97,6 +103,16 @@ lines_before fold end p bytes (suc s) k none low high =
     empty_needle : (p : List ℕ) → (p ≡ [] → ⊥) → 0 < length p
     empty_needle [] ne = absurd (ne refl)
     empty_needle (b ∷ p) ne = omega arith
+
+-- lines without any of some texts
+pub without_each : (fold : Bool) (literals : List LiteralData) (ls : List (List ℕ))
+    → ((l : LiteralData) → Contains literals l → AllByRecursion (λ line. Holds fold line l.text → ⊥) ls)
+    → AllByRecursion (λ line. HoldsOne fold literals line → ⊥) ls
+without_each fold literals [] each = tt
+without_each fold literals (line ∷ ls) each = (
+  λ held. (each held.1 (held.0, held.2, held.3)).0 held.4,
+  without_each fold literals ls (λ l among. (each l among).1),
+)
 
 is_line : (end : ℕ) (bytes : List ℕ) (s e : ℕ) → e ≤ length bytes → IsClear end bytes s e
     → IsLine end (take (e - s) (drop s bytes))
@@ -267,14 +283,22 @@ line_unselected q bytes s e stop is front none not_chosen =
     subst P (sym (upto_stop (terminator q) bytes s e stop is))
     (all_lines-append q false (take s bytes) is.text front none (subst unselected (sym is.one) (not_chosen, tt)))
 
--- the first line in which the literal occurs: the literal at k, the line's text from s up to e, and the next line
--- at `stop`
-first_found : (fold : Bool) (end : ℕ) (p bytes : List ℕ) (at s k e stop : ℕ) (line : Span)
-    → byte_as_searched fold end ≡ end → IsLine end p → OccursAt (as_searched fold bytes) p k
-    → Nowhere (OccursAt (as_searched fold bytes) p) 0 k → s ≤ k → k ≤ e → AreWhole end (take s bytes)
-    → IsClear end bytes s e → Stops end bytes e stop → s < stop → line.start ≡ at + s → line.end ≡ at + stop
-    → IsFirstWith fold end p at bytes line
-first_found fold end p bytes at s k e stop line plain alone o none low high front clear stops longer starts ends =
+-- no literal occurs before a place
+abbrev pub NoneBefore : Bool → List LiteralData → List ℕ → ℕ → Type 0
+NoneBefore fold literals bytes k =
+    (l : LiteralData) → Contains literals l → Nowhere (OccursAt (as_searched fold bytes) l.text) 0 k
+
+-- the first line in which a literal occurs: the literal at k, the line's text from s up to e, and the next line at
+-- `stop`
+first_found : (fold : Bool) (end : ℕ) (literals : List LiteralData) (l : LiteralData) (bytes : List ℕ)
+    (at s k e stop : ℕ) (found : Candidate) → byte_as_searched fold end ≡ end → IsLine end l.text
+    → Contains literals l → l.is_enough ≡ found.is_enough → OccursAt (as_searched fold bytes) l.text k
+    → NoneBefore fold literals bytes k → s ≤ k → k ≤ e → AreWhole end (take s bytes) → IsClear end bytes s e
+    → Stops end bytes e stop → s < stop → found.line.start ≡ at + s → found.line.end ≡ at + stop
+    → IsFirstWith fold end literals at bytes found
+first_found fold end literals l bytes at s k e stop found plain alone among flag o none low high front clear stops
+    longer starts ends =
+    let p = l.text in
     let size = length_searched fold bytes in
     let within : e ≤ length bytes = elim stops [ inl h ↦ omega (arith, h.1) | inr h ↦ omega (arith, h.1) ] in
     let fits : k + length p ≤ e = elim (cases_lt e (k + length p)) [
@@ -299,25 +323,27 @@ first_found fold end p bytes at s k e stop line plain alone o none low high fron
       stop = stop;
       is = line_at end bytes s e stop (omega arith) within longer clear stops;
       front = front;
-      without = lines_before fold end p bytes s k none low (omega (arith, o.fits, size));
-      holds = (k - s, searched_within fold bytes p s e k within low fits o);
+      without = without_each fold literals (lines end (take s bytes))
+          (λ m is. lines_before fold end m.text bytes s k (none m is) low (omega (arith, o.fits, size)));
+      holds = (among.0, l, among.1, among.2, (flag, (k - s, searched_within fold bytes p s e k within low fits o)));
       starts = starts;
       ends = ends;
     }
 
 -- the same, where the line's two ends were looked for from the literal's place
-pub line_around : (fold : Bool) (end : ℕ) (p bytes : List ℕ) (at s k stop : ℕ) (line : Span)
-    → byte_as_searched fold end ≡ end → IsLine end p → OccursAt (as_searched fold bytes) p k
-    → Nowhere (OccursAt (as_searched fold bytes) p) 0 k → s ≤ k → IsClear end bytes s k → AreWhole end (take s bytes)
+pub line_around : (fold : Bool) (end : ℕ) (literals : List LiteralData) (l : LiteralData) (bytes : List ℕ)
+    (at s k stop : ℕ) (found : Candidate) → byte_as_searched fold end ≡ end → IsLine end l.text → Contains literals l
+    → l.is_enough ≡ found.is_enough → OccursAt (as_searched fold bytes) l.text k → NoneBefore fold literals bytes k
+    → s ≤ k → IsClear end bytes s k → AreWhole end (take s bytes)
     → (e : ℕ) × (k ≤ e) × IsClear end bytes k e × Stops end bytes e stop → 0 < length bytes
-    → line.start ≡ at + s → line.end ≡ at + stop → IsFirstWith fold end p at bytes line
-line_around fold end p bytes at s k stop line plain alone o none low before front h some starts ends =
+    → found.line.start ≡ at + s → found.line.end ≡ at + stop → IsFirstWith fold end literals at bytes found
+line_around fold end literals l bytes at s k stop found plain alone among flag o none low before front h some starts ends =
     let size = length_searched fold bytes in
     let clear : IsClear end bytes s h.0 =
     λ i from to. elim (cases_lt i k) [ inl below ↦ before i from below | inr above ↦ h.2 i above to ] in
-    let searched_below = place_below (as_searched fold bytes) p k o none (omega (arith, size, some)) in
+    let searched_below = place_below (as_searched fold bytes) l.text k o (none l among) (omega (arith, size, some)) in
     let below : k < length bytes = omega (arith, size, searched_below) in
-    first_found fold end p bytes at s k h.0 stop line plain alone o none low h.1 front clear h.3
+    first_found fold end literals l bytes at s k h.0 stop found plain alone among flag o none low h.1 front clear h.3
     (line_some end bytes s k h.0 stop low h.1 below h.3).0 starts ends
 
 -- the lines of what stands before a run, of the run, and of what stands behind it

@@ -1,12 +1,16 @@
--- Which lines hold a text.
-use Rattle.std.specs.Prelude.{◌≡◌, ◌≢◌, Bool, ℕ, ◌+◌, ◌-◌, ◌⊎◌, List, [], ◌∷◌, ◌++◌, length, take, drop}
-use Rattle.std.specs.List.{AllByRecursion}
+-- Which lines hold a literal.
+use Rattle.std.specs.Prelude.{◌≡◌, ◌≢◌, ◌<◌, ◌≤◌, Bool, ℕ, ◌+◌, ◌-◌, ◌⊎◌, List, [], ◌∷◌, ◌++◌, length, take, drop, map}
+use Rattle.std.specs.Prelude.{Option, IfSome, Some, IsSomeAnd}
+use Rattle.std.specs.List.{AllByRecursion, All, Any}
+use Rattle.memchr.specs.Find.{OccursAt}
 use Rattle.pg_literal.specs.Literals.{Holds, as_searched}
 use Rattle.pg_lines.specs.Lines.{lines, AreWhole}
 use Rattle.pg_lines.specs.Search.{SearchText}
-use Rattle.pg_lines.specs.Literals.{IsLiteral}
-use Rattle.pg_lines.specs.declared.search.Needle.{Needle}
-use Rattle.pg_lines.specs.declared.span.Span.{Span}
+use Rattle.pg_lines.specs.Literals.{LiteralData, HoldsOne, AreLiterals}
+use Rattle.pg_lines.specs.declared.needle.Needle.{Needle}
+use Rattle.pg_lines.specs.declared.needle.Needles.{Needles}
+use Rattle.pg_lines.specs.declared.needle.Place.{Place}
+use Rattle.pg_lines.specs.declared.needle.Candidate.{Candidate}
 
 -- A line of the bytes: its text from s up to e, and the next line at `stop`.
 pub record IsLineAt (end : ℕ) (bytes : List ℕ) (s e stop : ℕ) : Type 0 where
@@ -19,23 +23,44 @@ pub record IsLineAt (end : ℕ) (bytes : List ℕ) (s e stop : ℕ) : Type 0 whe
   pub some : text ≢ []
   pub whole : (AreWhole end text × (later ≡ drop stop bytes)) ⊎ ((later ≡ []) × (stop ≡ length bytes))
 
--- no line of the bytes holds the literal
-abbrev pub AreWithout : Bool → ℕ → List ℕ → List ℕ → Type 0
-AreWithout fold end literal bytes = AllByRecursion (λ line. Holds fold line literal → ⊥) (lines end bytes)
+-- no line of the bytes holds a literal
+abbrev pub AreWithout : Bool → ℕ → List LiteralData → List ℕ → Type 0
+AreWithout fold end literals bytes = AllByRecursion (λ line. HoldsOne fold literals line → ⊥) (lines end bytes)
 
--- The first line that holds the literal, in bytes that stand from a place on: before it are whole lines without it.
-pub record IsFirstWith (fold : Bool) (end : ℕ) (literal : List ℕ) (at : ℕ) (bytes : List ℕ) (line : Span) : Type 0 where
+-- The first line that holds a literal, in bytes that stand from a place on: before it are whole lines without one. The
+-- flag is that of a literal which it holds.
+pub record IsFirstWith (fold : Bool) (end : ℕ) (literals : List LiteralData) (at : ℕ) (bytes : List ℕ)
+    (found : Candidate) : Type 0 where
   pub s : ℕ
   pub e : ℕ
   pub stop : ℕ
   pub is : IsLineAt end bytes s e stop
   pub front : AreWhole end (take s bytes)
-  pub without : AreWithout fold end literal (take s bytes)
-  pub holds : Holds fold (take (e - s) (drop s bytes)) literal
-  pub starts : line.start ≡ at + s
-  pub ends : line.end ≡ at + stop
+  pub without : AreWithout fold end literals (take s bytes)
+  pub holds : Any (λ literal. (literal.is_enough ≡ found.is_enough)
+      × Holds fold (take (e - s) (drop s bytes)) literal.text) literals
+  pub starts : found.line.start ≡ at + s
+  pub ends : found.line.end ≡ at + stop
 
--- a literal of the search, and the bytes as it is searched for in them
-pub record IsNeedle (text : SearchText) (bytes : List ℕ) (needle : Needle) : Type 0 where
-  pub literal : IsLiteral text needle.finder needle.is_enough
-  pub searched : needle.searched.now ≡ as_searched text.fold bytes
+-- the literal of a needle
+abbrev pub literal_of : Needle → LiteralData
+literal_of needle = record { text = needle.finder; is_enough = needle.is_enough }
+
+-- the needle stands where it says, and from a place on nowhere before
+pub record IsAhead (searched : List ℕ) (at : ℕ) (needle : Needle) : Type 0 where
+  pub stands : IfSome needle.next (OccursAt searched needle.finder)
+  pub first : (k : ℕ) → at ≤ k → OccursAt searched needle.finder k → IsSomeAnd needle.next (λ place. place ≤ k)
+
+-- the needle stands at the place
+abbrev pub StandsAt : Place → Needle → Type 0
+StandsAt place needle = (needle.next ≡ Some place.at) × (needle.is_enough ≡ place.is_enough)
+
+-- the place, if there is one, isn't behind that of the needle
+abbrev pub IsBefore : Option Place → Needle → Type 0
+IsBefore place needle = IfSome needle.next (λ next. IsSomeAnd place (λ place. place.at ≤ next))
+
+-- literals of the search, the bytes as they are searched for in them, and where they stand from a place on
+pub record AreNeedles {A : Type 0} (text : SearchText) (bytes : List ℕ) (at : ℕ) (needles : Needles A) : Type 0 where
+  pub literals : AreLiterals text (map literal_of needles.needles.items)
+  pub searched : 0 < length needles.needles.items → needles.searched.now ≡ as_searched text.fold bytes
+  pub ahead : All (IsAhead needles.searched.now at) needles.needles.items

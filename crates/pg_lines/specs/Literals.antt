@@ -1,18 +1,34 @@
--- What a text tells of the lines in which a search has a hit.
-use Rattle.std.specs.Prelude.{List, ℕ, Bool, IsTrue}
+-- What texts tell of the lines in which a search has a hit.
+use Rattle.std.specs.Prelude.{◌<◌, List, ℕ, Bool, IsTrue, length}
+use Rattle.std.specs.List.{All, Any}
 use Rattle.pg_literal.specs.Literals.{Holds}
+use Rattle.pg_literal.specs.declared.literal.Literal.{Literal}
 use Rattle.pg_lines.specs.Lines.{IsLine}
 use Rattle.pg_lines.specs.Search.{SearchText, Pattern, AreTreesOf, search_of, terminator_of}
 use Rattle.pg_lines.specs.Selection.{HasHit}
 
--- a text without the terminator, which each line with a hit holds; with -i the line in lower case does
-pub record IsNeeded (text : SearchText) (literal : List ℕ) : Type 0 where
-  pub line : IsLine (terminator_of text) literal
-  pub held : (trees : List Pattern) → AreTreesOf text trees → (line : List ℕ) → HasHit (search_of text trees) line
-      → Holds text.fold line literal
+-- a literal as plain data
+pub record LiteralData : Type 0 where
+  pub text : List ℕ
+  pub is_enough : Bool
 
--- the same, where the flag says truly that each line which holds it has a hit
-pub record IsLiteral (text : SearchText) (literal : List ℕ) (is_enough : Bool) : Type 0 where
-  pub needed : IsNeeded text literal
-  pub enough : IsTrue is_enough → (trees : List Pattern) → AreTreesOf text trees → (line : List ℕ)
-      → Holds text.fold line literal → HasHit (search_of text trees) line
+abbrev pub data_of : {A : Type 0} → Literal A → LiteralData
+data_of literal = record { text = literal.text.items; is_enough = literal.is_enough }
+
+-- the line holds one of the texts; with -i the line in lower case does
+abbrev pub HoldsOne : Bool → List LiteralData → List ℕ → Type 0
+HoldsOne fold literals line = Any (λ literal. Holds fold line literal.text) literals
+
+-- where the flag is set, each line that holds the text has a hit
+abbrev pub IsEnough : SearchText → LiteralData → Type 0
+IsEnough text literal =
+    IsTrue literal.is_enough → (trees : List Pattern) → AreTreesOf text trees → (line : List ℕ)
+    → Holds text.fold line literal.text → HasHit (search_of text trees) line
+
+-- Texts without the terminator, whose flags say truly which of them are enough. Where there are any, each line with a
+-- hit holds one of them.
+pub record AreLiterals (text : SearchText) (literals : List LiteralData) : Type 0 where
+  pub lines : All (λ literal. IsLine (terminator_of text) literal.text) literals
+  pub needed : 0 < length literals → (trees : List Pattern) → AreTreesOf text trees → (line : List ℕ)
+      → HasHit (search_of text trees) line → HoldsOne text.fold literals line
+  pub enough : All (IsEnough text) literals

@@ -6,6 +6,7 @@ mod count;
 mod cutter;
 mod laws;
 mod lines;
+mod needle;
 mod parts;
 mod query;
 mod result;

@@ -1,9 +1,10 @@
 //! What is searched for.
-ghost use Rattle.std.specs.Prelude.{◌≡◌, map, All, IfOk, IfErr, IfSome};
+ghost use Rattle.std.specs.Prelude.{◌≡◌, map, All, IfOk, IfErr, IsTrue};
 ghost use Rattle.pg_syntax.specs.Patterns.{IsProper};
 ghost use Rattle.pg_syntax.specs.Trees.{pattern};
 ghost use Rattle.pg_lines.specs.Search.{AreTreesOf, bounds_of, terminator_of};
-ghost use Rattle.pg_lines.specs.Literals.{IsLiteral};
+ghost use Rattle.pg_lines.specs.Lines.{IsLine};
+ghost use Rattle.pg_lines.specs.Literals.{AreLiterals, data_of};
 ghost use Rattle.pg_lines.specs.Queries.{IsCompiled, IsQueryFault};
 ghost use Rattle.pg_lines.specs.declared.query.QueryFault.TheVariants.{OutOfMemory};
 
@@ -100,18 +101,18 @@ impl From<AllocError> for QueryFault {
 }
 
 /// A query that can be searched for. It has what searches would else prepare anew: the automaton of its
-/// patterns, and a literal that the lines with a hit hold, where one was found. Contracts see its text and
-/// the automaton.
+/// patterns, and literals of which each line with a hit holds one, where such were found. Contracts see its text
+/// and the automaton.
 #[derive(Drop)]
 pub struct Query<A: Allocator = Global> {
     text: QueryText<A>,
     machine: Machine<A>,
-    literal: Option<Literal<A>>,
+    literals: Vec<Literal<A>, A>,
 }
 
 impl<A: Allocator> Model for Query<A> {
-    ghost use Rattle.std.specs.Prelude.{IfSome};
-    ghost use Rattle.pg_lines.specs.Literals.{IsLiteral};
+    ghost use Rattle.std.specs.Prelude.{map};
+    ghost use Rattle.pg_lines.specs.Literals.{AreLiterals, data_of};
     ghost use Rattle.pg_lines.specs.Queries.{Compiled, IsCompiled};
 
     ghost Value = { Compiled };
@@ -119,7 +120,7 @@ impl<A: Allocator> Model for Query<A> {
     ghost view = { λ q. record { text = q.text; machine = q.machine } };
 
     ghost invariant = { λ q. IsCompiled (record { text = q.text; machine = q.machine })
-        × IfSome q.literal (λ literal. IsLiteral q.text literal.text.items literal.is_enough) };
+        × AreLiterals q.text (map data_of q.literals.items) };
 }
 
 impl<A: Allocator> Query<A> {
@@ -139,11 +140,11 @@ impl<A: Allocator> Query<A> {
     {
         let trees = trees_of(alloc, &text)?;
         let machine = machine_of(alloc, &text, trees.as_slice())?;
-        let literal = literal_of(alloc, &text, trees.as_slice())?;
+        let literals = literals_of(alloc, &text, trees.as_slice())?;
         Ok(Query {
             text,
             machine,
-            literal,
+            literals,
         })
     }
 
@@ -170,18 +171,14 @@ impl<A: Allocator> Query<A> {
         self.text.terminator()
     }
 
-    /// A text that each line with a hit holds, where one was found, so that only lines with it are looked at. With -i
-    /// it is in lower case, as those lines are where it is searched for.
-    /// Where it is enough, each line that holds it has a hit, and the machine isn't asked.
-    pub fn literal(&self) -> Option<&Literal<A>>
-        ensures literal { IfSome result
-            (λ literal. IsLiteral self.now.text literal.now.text.items literal.now.is_enough) }
+    /// At most 8 texts of which each line with a hit holds one, so that only lines with one are looked at; none where
+    /// such texts weren't found. With -i they are in lower case, as those lines are where they are searched for.
+    /// Where a text is enough, each line that holds it has a hit, and the machine isn't asked.
+    pub fn literals(&self) -> &[Literal<A>]
+        ensures literals { AreLiterals self.now.text (map data_of result.now) }
         ensures compiled { IsCompiled self.now }
     {
-        match &self.literal {
-            Some(literal) => Some(literal),
-            None => None,
-        }
+        &self.literals
     }
 }
 
@@ -221,24 +218,31 @@ fn trees_of<A: Allocator + Copy>(
     }
 }
 
-/// A text that each line with a hit holds, where one is found.
-fn literal_of<A: Allocator + Copy>(
+/// Texts of which each line with a hit holds one, where such are found.
+fn literals_of<A: Allocator + Copy>(
     alloc: A,
     text: &QueryText<A>,
     trees: &[Tree<A>],
-) -> Result<Option<Literal<A>>, AllocError>
+) -> Result<Vec<Literal<A>, A>, AllocError>
     requires trees { AreTreesOf text.now (map pattern trees.now) }
-    ensures { IfOk result (λ found. IfSome found
-        (λ literal. IsLiteral text.now literal.text.items literal.is_enough)) }
+    ensures { IfOk result (λ literals. AreLiterals text.now (map data_of literals.items)) }
 {
-    let found = Literal::of(alloc, trees, text.bounds(), text.fold)?;
-    match found {
-        Some(literal) => {
-            if literal.text.contains(&text.terminator()) {
-                return Ok(None);
-            }
-            Ok(Some(literal))
-        }
-        None => Ok(None),
+    let literals = Literal::of(alloc, trees, text.bounds(), text.fold)?;
+    if are_within_lines(text.terminator(), &literals) {
+        Ok(literals)
+    } else {
+        Ok(Vec::new(alloc))
     }
+}
+
+/// Whether no literal has the byte that ends a line.
+fn are_within_lines<A: Allocator>(end: u8, literals: &[Literal<A>]) -> bool
+    ensures { IsTrue result → All (λ literal. IsLine end literal.text.items) literals.now }
+{
+    for literal in literals {
+        if literal.text.contains(&end) {
+            return false;
+        }
+    }
+    true
 }

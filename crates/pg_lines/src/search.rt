@@ -1,8 +1,7 @@
 //! The search of one block.
 ghost use Rattle.std.specs.Prelude.{◌≡◌, ◌+◌, ◌<◌, ◌≤◌, ◌^◌, ◌++◌, ◌∷◌, [], IfOk, IfSome, IfNone, OnOk, List};
-ghost use Rattle.std.specs.Prelude.{length, drop, slice_range, Bool, true, false, nat_lt, if◌then◌else◌};
+ghost use Rattle.std.specs.Prelude.{length, map, drop, slice_range, true, false, nat_lt, if◌then◌else◌};
 ghost use Rattle.std.specs.Arc.{arc_value};
-ghost use Rattle.pg_literal.specs.Known.{byte_as_searched};
 ghost use Rattle.pg_literal.specs.Literals.{as_searched};
 ghost use Rattle.pg_match.specs.Machines.{Fits};
 ghost use Rattle.pg_lines.specs.Lines.{lines, IsLine, AreShort};
@@ -10,66 +9,30 @@ ghost use Rattle.pg_lines.specs.Search.{Search, Pattern, AreTreesOf, search_of};
 ghost use Rattle.pg_lines.specs.Search.{terminator, terminator_of, uninverted};
 ghost use Rattle.pg_lines.specs.Queries.{IsCompiled};
 ghost use Rattle.pg_lines.specs.Selection.{has_hit};
-ghost use Rattle.pg_lines.specs.Literals.{IsLiteral};
-ghost use Rattle.pg_lines.specs.Candidates.{AreWithout, IsFirstWith, IsNeedle};
+ghost use Rattle.pg_lines.specs.Literals.{AreLiterals, data_of};
+ghost use Rattle.pg_lines.specs.Candidates.{AreNeedles};
 ghost use Rattle.pg_lines.specs.Runs.{AllLines, HasRuns};
 ghost use Rattle.pg_lines.specs.BlockParts.{HasParts};
 ghost use Rattle.pg_lines.specs.Gathered.{IsNextLine, IsGathered};
 
 use crate::block::Block;
-use crate::lines::{begin_of_line, count_lines, end_of_line, line_end, text_of};
+use crate::lines::{count_lines, line_end, text_of};
+use crate::needle::Needles;
 use crate::parts::push_line_parts;
 use crate::query::Query;
 use crate::result::BlockResult;
 use crate::run::{Found, Run};
 use crate::span::Span;
-use memchr::memmem::Finder;
 use pg_literal::Literal;
 use pg_match::Scratch;
 use std::alloc::{AllocError, Allocator};
 use std::sync::Arc;
 
-/// The needle of a literal, prepared for the search of a block.
-#[derive(Drop)]
-struct Needle<'n> {
-    finder: Finder<'n>,
-    /// The block's bytes, where case is folded in lower case: the needle is searched for in them.
-    searched: &'n [u8],
-    /// Each line that holds the needle has a hit.
-    is_enough: bool,
-}
-
-/// How many lines with the needle that have no hit may stand near the one before, until lines are searched one by one.
+/// How many lines with a needle that have no hit may stand near the one before, until lines are searched one by one.
 const PATIENCE: usize = 8;
 
 /// Lines that begin so many bytes apart are searched as fast one by one.
 const NEAR: usize = 512;
-
-/// The first line at or behind a place that holds the needle, with its terminator, which isn't a letter.
-fn next_holding(needle: &Needle<'_>, end: u8, bytes: &[u8], at: usize) -> Option<Span>
-    requires at { at ≤ length bytes.now }
-    requires line { IsLine end needle.now.finder }
-    requires searched { (fold : Bool) × (needle.now.searched.now ≡ as_searched fold bytes.now) }
-    requires end { byte_as_searched true end ≡ end }
-    ensures within { IfSome result (λ line. (at ≤ line.start) × (line.start < line.end)
-        × (line.end ≤ length bytes.now)) }
-    ensures some { (fold : Bool) → needle.now.searched.now ≡ as_searched fold bytes.now
-        → IfSome result (IsFirstWith fold end needle.now.finder at (drop at bytes.now)) }
-    ensures none { (fold : Bool) → needle.now.searched.now ≡ as_searched fold bytes.now
-        → IfNone result (AreWithout fold end needle.now.finder (drop at bytes.now)) }
-{
-    let rest = &bytes[at..];
-    if rest.is_empty() {
-        return None;
-    }
-    let Some(found) = needle.finder.find(&needle.searched[at..]) else {
-        return None;
-    };
-    Some(Span {
-        start: at + begin_of_line(end, rest, found),
-        end: at + end_of_line(end, rest, found),
-    })
-}
 
 /// Whether some span of a line is a hit.
 fn has_hit<A: Allocator>(query: &Query<A>, scratch: &mut Scratch<A>, line: &[u8]) -> bool
@@ -117,19 +80,21 @@ fn next_matched<A: Allocator>(
     None
 }
 
-/// The first line with a hit at or behind a place where a line starts, with its terminator, where such lines hold the
+/// The first line with a hit at or behind a place where a line starts, with its terminator, where such lines hold a
 /// needle: only those that do are looked at, unless too many of them have none.
 fn next_confirmed<A: Allocator>(
     query: &Query<A>,
-    needle: &Needle<'_>,
+    needles: &mut Needles<'_, A>,
     scratch: &mut Scratch<A>,
     bytes: &[u8],
     at: usize,
 ) -> Option<Span>
     requires at { at ≤ length bytes.now }
-    requires needle { IsNeedle query.now.text bytes.now needle.now }
+    requires needles { AreNeedles query.now.text bytes.now at needles.old }
+    requires some { 0 < length needles.old.needles.items }
     requires fits { Fits scratch.old query.now.machine }
     requires short { AreShort (terminator_of query.now.text) (drop at bytes.now) }
+    ensures needles { IfSome result (λ line. AreNeedles query.now.text bytes.now line.end needles.new) }
     ensures fits { Fits scratch.new query.now.machine }
     ensures within { IfSome result (λ line. (at ≤ line.start) × (line.start < line.end)
         × (line.end ≤ length bytes.now)) }
@@ -142,10 +107,11 @@ fn next_confirmed<A: Allocator>(
     let mut from = at;
     let mut near = 0;
     while near < PATIENCE {
-        let Some(line) = next_holding(needle, end, bytes, from) else {
+        let Some(found) = needles.next_line(query, bytes, from) else {
             return None;
         };
-        if has_hit(query, scratch, text_of(end, &bytes[line.start..line.end])) {
+        let line = found.line;
+        if found.is_enough || has_hit(query, scratch, text_of(end, &bytes[line.start..line.end])) {
             return Some(line);
         }
         if line.start - from < NEAR {
@@ -156,19 +122,20 @@ fn next_confirmed<A: Allocator>(
     next_matched(query, scratch, bytes, from)
 }
 
-/// The first line with a hit at or behind a place where a line starts, with its terminator: by the needle where there
-/// is one, else line by line.
+/// The first line with a hit at or behind a place where a line starts, with its terminator: by the needles where there
+/// are any, else line by line.
 fn next_hit<A: Allocator>(
     query: &Query<A>,
-    needle: Option<&Needle<'_>>,
+    needles: &mut Needles<'_, A>,
     scratch: &mut Scratch<A>,
     bytes: &[u8],
     at: usize,
 ) -> Option<Span>
     requires at { at ≤ length bytes.now }
-    requires needle { IfSome needle (λ needle. IsNeedle query.now.text bytes.now needle.now) }
+    requires needles { AreNeedles query.now.text bytes.now at needles.old }
     requires fits { Fits scratch.old query.now.machine }
     requires short { AreShort (terminator_of query.now.text) (drop at bytes.now) }
+    ensures needles { IfSome result (λ line. AreNeedles query.now.text bytes.now line.end needles.new) }
     ensures fits { Fits scratch.new query.now.machine }
     ensures within { IfSome result (λ line. (at ≤ line.start) × (line.start < line.end)
         × (line.end ≤ length bytes.now)) }
@@ -177,15 +144,10 @@ fn next_hit<A: Allocator>(
     ensures none { (trees : List Pattern) → AreTreesOf query.now.text trees →
         IfNone result (AllLines (search_of (uninverted query.now.text) trees) false (drop at bytes.now)) }
 {
-    match needle {
-        Some(needle) => {
-            if needle.is_enough {
-                next_holding(needle, query.terminator(), bytes, at)
-            } else {
-                next_confirmed(query, needle, scratch, bytes, at)
-            }
-        }
-        None => next_matched(query, scratch, bytes, at),
+    if needles.is_empty() {
+        next_matched(query, scratch, bytes, at)
+    } else {
+        next_confirmed(query, needles, scratch, bytes, at)
     }
 }
 
@@ -254,13 +216,13 @@ fn with_line<A: Allocator>(
 fn runs_of_hits<A: Allocator + Copy>(
     alloc: A,
     query: &Query<A>,
-    needle: Option<&Needle<'_>>,
+    needles: &mut Needles<'_, A>,
     scratch: &mut Scratch<A>,
     bytes: &[u8],
 ) -> Result<Found<A>, AllocError>
     requires compiled { IsCompiled query.now }
     requires upright { query.now.text.invert ≡ false }
-    requires needle { IfSome needle (λ needle. IsNeedle query.now.text bytes.now needle.now) }
+    requires needles { AreNeedles query.now.text bytes.now 0 needles.old }
     requires fits { Fits scratch.old query.now.machine }
     requires short { AreShort (terminator_of query.now.text) bytes.now }
     ensures fits { Fits scratch.new query.now.machine }
@@ -276,7 +238,7 @@ fn runs_of_hits<A: Allocator + Copy>(
         first: 0,
         count: 0,
     };
-    while let Some(line) = next_hit(query, needle, scratch, bytes, run.span.end) {
+    while let Some(line) = next_hit(query, needles, scratch, bytes, run.span.end) {
         run = with_line(&mut runs, run, end, bytes, line)?;
         let number = run.first + run.count - 1;
         push_line_parts(query, scratch, bytes, line, number, &mut parts)?;
@@ -309,13 +271,13 @@ fn run_between(end: u8, bytes: &[u8], at: usize, stop: usize, first: usize) -> R
 fn runs_between_hits<A: Allocator + Copy>(
     alloc: A,
     query: &Query<A>,
-    needle: Option<&Needle<'_>>,
+    needles: &mut Needles<'_, A>,
     scratch: &mut Scratch<A>,
     bytes: &[u8],
 ) -> Result<Found<A>, AllocError>
     requires compiled { IsCompiled query.now }
     requires inverted { query.now.text.invert ≡ true }
-    requires needle { IfSome needle (λ needle. IsNeedle query.now.text bytes.now needle.now) }
+    requires needles { AreNeedles query.now.text bytes.now 0 needles.old }
     requires fits { Fits scratch.old query.now.machine }
     requires short { AreShort (terminator_of query.now.text) bytes.now }
     ensures fits { Fits scratch.new query.now.machine }
@@ -327,7 +289,7 @@ fn runs_between_hits<A: Allocator + Copy>(
     let mut runs = Vec::new(alloc);
     let mut at = 0;
     let mut seen = 0;
-    while let Some(line) = next_hit(query, needle, scratch, bytes, at) {
+    while let Some(line) = next_hit(query, needles, scratch, bytes, at) {
         let run = run_between(end, bytes, at, line.start, seen);
         push_run(&mut runs, run)?;
         at = line.end;
@@ -346,12 +308,12 @@ fn runs_between_hits<A: Allocator + Copy>(
 fn selected_runs<A: Allocator + Copy>(
     alloc: A,
     query: &Query<A>,
-    needle: Option<&Needle<'_>>,
+    needles: &mut Needles<'_, A>,
     scratch: &mut Scratch<A>,
     bytes: &[u8],
 ) -> Result<Found<A>, AllocError>
     requires compiled { IsCompiled query.now }
-    requires needle { IfSome needle (λ needle. IsNeedle query.now.text bytes.now needle.now) }
+    requires needles { AreNeedles query.now.text bytes.now 0 needles.old }
     requires fits { Fits scratch.old query.now.machine }
     requires short { AreShort (terminator_of query.now.text) bytes.now }
     ensures fits { Fits scratch.new query.now.machine }
@@ -360,25 +322,24 @@ fn selected_runs<A: Allocator + Copy>(
     ensures lines { IfOk result (λ found. found.lines ≡ length (lines (terminator_of query.now.text) bytes.now)) }
 {
     if query.text().invert {
-        runs_between_hits(alloc, query, needle, scratch, bytes)
+        runs_between_hits(alloc, query, needles, scratch, bytes)
     } else {
-        runs_of_hits(alloc, query, needle, scratch, bytes)
+        runs_of_hits(alloc, query, needles, scratch, bytes)
     }
 }
 
-/// The same, by the lines that hold a literal. In the bytes that are searched letters are in lower case where case is
-/// folded.
+/// The same, by the literals, and with the bytes as they are searched for in them: in lower case where case is folded.
 fn search_by<A: Allocator + Copy>(
     alloc: A,
     query: &Query<A>,
-    literal: &Literal<A>,
+    literals: &[Literal<A>],
     scratch: &mut Scratch<A>,
     bytes: &[u8],
     searched: &[u8],
 ) -> Result<Found<A>, AllocError>
     requires compiled { IsCompiled query.now }
-    requires literal { IsLiteral query.now.text literal.now.text.items literal.now.is_enough }
-    requires searched { searched.now ≡ as_searched query.now.text.fold bytes.now }
+    requires literals { AreLiterals query.now.text (map data_of literals.now) }
+    requires searched { 0 < length literals.now → searched.now ≡ as_searched query.now.text.fold bytes.now }
     requires fits { Fits scratch.old query.now.machine }
     requires short { AreShort (terminator_of query.now.text) bytes.now }
     ensures fits { Fits scratch.new query.now.machine }
@@ -386,12 +347,8 @@ fn search_by<A: Allocator + Copy>(
     ensures parts { IfOk result (λ found. HasParts query.now.text bytes.now found.parts.items) }
     ensures lines { IfOk result (λ found. found.lines ≡ length (lines (terminator_of query.now.text) bytes.now)) }
 {
-    let needle = Needle {
-        finder: Finder::new(&literal.text),
-        searched,
-        is_enough: literal.is_enough,
-    };
-    selected_runs(alloc, query, Some(&needle), scratch, bytes)
+    let mut needles = Needles::new(alloc, literals, searched)?;
+    selected_runs(alloc, query, &mut needles, scratch, bytes)
 }
 
 /// The runs of selected lines, their parts, and the number of all lines.
@@ -408,14 +365,12 @@ fn search_bytes<A: Allocator + Copy>(
     ensures parts { IfOk result (λ found. HasParts query.now.text bytes.now found.parts.items) }
     ensures lines { IfOk result (λ found. found.lines ≡ length (lines (terminator_of query.now.text) bytes.now)) }
 {
-    let Some(literal) = query.literal() else {
-        return selected_runs(alloc, query, None, scratch, bytes);
-    };
-    if query.text().fold {
+    let literals = query.literals();
+    if query.text().fold && !literals.is_empty() {
         let lowered = bytes.to_ascii_lowercase(alloc)?;
-        search_by(alloc, query, literal, scratch, bytes, &lowered)
+        search_by(alloc, query, literals, scratch, bytes, &lowered)
     } else {
-        search_by(alloc, query, literal, scratch, bytes, bytes)
+        search_by(alloc, query, literals, scratch, bytes, bytes)
     }
 }
 

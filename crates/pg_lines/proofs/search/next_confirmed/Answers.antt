@@ -1,117 +1,141 @@
-use Rattle.std.proofs.Common.{◌≤◌, ◌^◌, ℕ, Option, Some, None, List, length, drop, sym, ap, ◌∙◌, subst, arith}
+use Rattle.std.proofs.Common.{◌<◌, ◌≤◌, ◌^◌, ℕ, Option, Some, None, List, length, drop, map, sym, ap, ◌∙◌, subst, arith}
 use Rattle.std.specs.Option.{IfSome, IfNone}
+use Rattle.std.proofs.lemmas.List.{length-map}
 use Rattle.pg_lines.specs.Search.{search_of, uninverted, terminator_of}
 use Rattle.pg_lines.specs.Selection.{selects}
-use Rattle.pg_lines.specs.Candidates.{AreWithout}
+use Rattle.pg_lines.specs.Candidates.{literal_of}
 use Rattle.pg_lines.specs.declared.span.Span.{Span}
 use Rattle.pg_lines.proofs.CandidateLemmas.{skipped_all, skipped_some, skipped_more, missed_without}
-use Rattle.pg_lines.proofs.CandidateLemmas.{first_selected, first_short, found_text}
+use Rattle.pg_lines.proofs.CandidateLemmas.{first_selected, first_enough, first_short, found_text}
+use Rattle.pg_lines.proofs.NeedleLemmas.{needles_later, needles_behind}
 use Rattle.pg_lines.proofs.search.next_confirmed.Goals as goal
+use Rattle.pg_lines.proofs.search.next_confirmed.Goals.{then-found-via-then-found, then-found-via-else-found+then-has_hit}
 
 pub returns-in_default-clause-none : goal.returns-in_default-clause-none
 returns-in_default-clause-none g c = λ trees spelled.
     let text = c.args.query.now.text in
     let bytes = c.args.bytes.now in
     let from = c.loop-near.from in
-    let needle = c.args.needle.now in
-    let literal = needle.finder in
-    let fold = c.args.query.now.text.fold in
-    let needed = c.requires.needle.literal.needed in
-    let searched = c.requires.needle.searched in
-    let P : ℕ → Type 0 = λ t. AreWithout fold t literal (drop from bytes) in
-    skipped_all (search_of (uninverted text) trees) c.args.at from bytes (c.loop-near.invariant.skipped trees spelled)
-    (missed_without text trees spelled literal needed (drop from bytes)
-    (subst P c.terminator-end.ensures (c.in_default.ensures.none fold searched)))
+    let i = c.loop-near.invariant in
+    let moved = c.next_line.new.self in
+    let any : 0 < length (map literal_of moved.needles.items) =
+    omega (arith, i.some, c.next_line.ensures.count, length-map moved.needles.items literal_of) in
+    skipped_all (search_of (uninverted text) trees) c.args.at from bytes (i.skipped trees spelled)
+    (missed_without text trees spelled (map literal_of moved.needles.items) c.in_default.ensures.needles.literals any
+    (drop from bytes) c.in_default.ensures.none)
 
 pub has_hit-requires-clause-short : goal.has_hit-requires-clause-short
 has_hit-requires-clause-short g c =
-    let E = terminator_of c.args.query.now.text in
-    let bytes = c.args.bytes.now in
-    let from = c.loop-near.from in
-    let needle = c.args.needle.now in
-    let literal = needle.finder in
-    let fold = c.args.query.now.text.fold in
-    let needed = c.requires.needle.literal.needed in
-    let searched = c.requires.needle.searched in
-    let line = c.in-Some.line in
-    let found = found_text fold E c.terminator-end.result literal from bytes line c.text_of.result.now
-    c.terminator-end.ensures (c.in-Some.ensures.some fold searched) c.text_of.ensures.text in
-    let P : List ℕ → Type 0 = λ l. length l ≤ 2 ^ 30 in
-    subst P (sym found.1) (first_short fold E literal from bytes line found.0 c.loop-near.invariant.short).0
-
-pub returns-then-has_hit-clause-some : goal.returns-then-has_hit-clause-some
-returns-then-has_hit-clause-some g c = λ trees spelled.
     let text = c.args.query.now.text in
-    let q = search_of (uninverted text) trees in
+    let E = terminator_of text in
     let bytes = c.args.bytes.now in
+    let i = c.loop-near.invariant in
     let from = c.loop-near.from in
-    let needle = c.args.needle.now in
-    let literal = needle.finder in
-    let fold = c.args.query.now.text.fold in
-    let needed = c.requires.needle.literal.needed in
-    let searched = c.requires.needle.searched in
-    let line = c.in-Some.line in
-    let found = found_text fold (terminator_of text) c.terminator-end.result literal from bytes line c.text_of.result.now
-    c.terminator-end.ensures (c.in-Some.ensures.some fold searched) c.text_of.ensures.text in
-    let chosen = ap (selects q) (sym found.1) ∙ (sym (c.has_hit.ensures.hit trees spelled) ∙ c.if-has_hit.true) in
-    skipped_some q c.args.at from bytes (c.loop-near.invariant.skipped trees spelled) line
-    (first_selected text trees spelled literal needed from (drop from bytes) line found.0 chosen)
+    let found = c.in-Some.found in
+    let moved = c.next_line.new.self in
+    let literals = map literal_of moved.needles.items in
+    let are = c.in-Some.ensures.needles.literals in
+    let any : 0 < length literals =
+    omega (arith, i.some, c.next_line.ensures.count, length-map moved.needles.items literal_of) in
+    let first = c.in-Some.ensures.some in
+    let cut = found_text text.fold E literals from bytes found c.terminator-end.result c.text_of.result.now
+    c.terminator-end.ensures first c.text_of.ensures.text in
+    let P : List ℕ → Type 0 = λ l. length l ≤ 2 ^ 30 in
+    subst P (sym cut) (first_short text.fold E literals from bytes found first i.short).0
+
+pub returns-then-found-clause-some : goal.returns-then-found-clause-some
+returns-then-found-clause-some g c = λ trees spelled.
+    let text = c.args.query.now.text in
+    let E = terminator_of text in
+    let bytes = c.args.bytes.now in
+    let i = c.loop-near.invariant in
+    let from = c.loop-near.from in
+    let found = c.in-Some.found in
+    let moved = c.next_line.new.self in
+    let literals = map literal_of moved.needles.items in
+    let are = c.in-Some.ensures.needles.literals in
+    let any : 0 < length literals =
+    omega (arith, i.some, c.next_line.ensures.count, length-map moved.needles.items literal_of) in
+    let first = c.in-Some.ensures.some in
+    let q = search_of (uninverted text) trees in
+    skipped_some q c.args.at from bytes (i.skipped trees spelled) found.line (elim c.then-found.branch [
+      | then-found-via-then-found w ↦
+          first_enough text trees spelled literals are any from (drop from bytes) found first w.if-found.true
+      | then-found-via-else-found+then-has_hit w ↦
+          let cut = found_text text.fold E literals from bytes found c.terminator-end.result w.text_of.result.now
+          c.terminator-end.ensures first w.text_of.ensures.text in
+          first_selected text trees spelled literals are any from (drop from bytes) found first
+          (ap (selects q) (sym cut) ∙ (sym (w.has_hit.ensures.hit trees spelled) ∙ w.if-has_hit.true))
+    ])
 
 pub loop-near-preserved-then-line-from-lt-NEAR : goal.loop-near-preserved-then-line-from-lt-NEAR
 loop-near-preserved-then-line-from-lt-NEAR g c =
     let text = c.args.query.now.text in
+    let E = terminator_of text in
     let bytes = c.args.bytes.now in
     let i = c.loop-near.invariant in
     let from = c.loop-near.from in
-    let needle = c.args.needle.now in
-    let literal = needle.finder in
-    let fold = c.args.query.now.text.fold in
-    let needed = c.requires.needle.literal.needed in
-    let searched = c.requires.needle.searched in
-    let line = c.in-Some.line in
+    let found = c.in-Some.found in
+    let moved = c.next_line.new.self in
+    let literals = map literal_of moved.needles.items in
+    let are = c.in-Some.ensures.needles.literals in
+    let any : 0 < length literals =
+    omega (arith, i.some, c.next_line.ensures.count, length-map moved.needles.items literal_of) in
+    let first = c.in-Some.ensures.some in
+    let cut = found_text text.fold E literals from bytes found c.terminator-end.result c.text_of.result.now
+    c.terminator-end.ensures first c.text_of.ensures.text in
     let within = c.in-Some.ensures.within in
-    let found = found_text fold (terminator_of text) c.terminator-end.result literal from bytes line c.text_of.result.now
-    c.terminator-end.ensures (c.in-Some.ensures.some fold searched) c.text_of.ensures.text in
     record {
       fits = c.has_hit.ensures.fits;
       low = omega (arith, i.low, within.0, within.1);
       within = within.2;
       few = omega (arith, c.loop-near-test.true);
-      short = (first_short fold (terminator_of text) literal from bytes line found.0 i.short).1;
+      needles = needles_later text bytes from found.line.end moved (omega (arith, within.0, within.1))
+          c.in-Some.ensures.needles;
+      some = omega (arith, i.some, c.next_line.ensures.count);
+      short = (first_short text.fold E literals from bytes found first i.short).1;
       skipped = λ trees spelled.
           let q = search_of (uninverted text) trees in
-          skipped_more text trees spelled literal needed c.args.at from bytes line (i.skipped trees spelled)
-          found.0 (ap (selects q) (sym found.1)
-          ∙ (sym (c.has_hit.ensures.hit trees spelled) ∙ c.if-has_hit.false));
+          skipped_more text trees spelled literals are any c.args.at from bytes found (i.skipped trees spelled)
+          first (ap (selects q) (sym cut) ∙ (sym (c.has_hit.ensures.hit trees spelled) ∙ c.if-has_hit.false));
     }
 
 pub loop-near-preserved : goal.loop-near-preserved
 loop-near-preserved g c =
     let text = c.args.query.now.text in
+    let E = terminator_of text in
     let bytes = c.args.bytes.now in
     let i = c.loop-near.invariant in
     let from = c.loop-near.from in
-    let needle = c.args.needle.now in
-    let literal = needle.finder in
-    let fold = c.args.query.now.text.fold in
-    let needed = c.requires.needle.literal.needed in
-    let searched = c.requires.needle.searched in
-    let line = c.in-Some.line in
+    let found = c.in-Some.found in
+    let moved = c.next_line.new.self in
+    let literals = map literal_of moved.needles.items in
+    let are = c.in-Some.ensures.needles.literals in
+    let any : 0 < length literals =
+    omega (arith, i.some, c.next_line.ensures.count, length-map moved.needles.items literal_of) in
+    let first = c.in-Some.ensures.some in
+    let cut = found_text text.fold E literals from bytes found c.terminator-end.result c.text_of.result.now
+    c.terminator-end.ensures first c.text_of.ensures.text in
     let within = c.in-Some.ensures.within in
-    let found = found_text fold (terminator_of text) c.terminator-end.result literal from bytes line c.text_of.result.now
-    c.terminator-end.ensures (c.in-Some.ensures.some fold searched) c.text_of.ensures.text in
     record {
       fits = c.has_hit.ensures.fits;
       low = omega (arith, i.low, within.0, within.1);
       within = within.2;
       few = i.few;
-      short = (first_short fold (terminator_of text) literal from bytes line found.0 i.short).1;
+      needles = needles_later text bytes from found.line.end moved (omega (arith, within.0, within.1))
+          c.in-Some.ensures.needles;
+      some = omega (arith, i.some, c.next_line.ensures.count);
+      short = (first_short text.fold E literals from bytes found first i.short).1;
       skipped = λ trees spelled.
           let q = search_of (uninverted text) trees in
-          skipped_more text trees spelled literal needed c.args.at from bytes line (i.skipped trees spelled)
-          found.0 (ap (selects q) (sym found.1)
-          ∙ (sym (c.has_hit.ensures.hit trees spelled) ∙ c.if-has_hit.false));
+          skipped_more text trees spelled literals are any c.args.at from bytes found (i.skipped trees spelled)
+          first (ap (selects q) (sym cut) ∙ (sym (c.has_hit.ensures.hit trees spelled) ∙ c.if-has_hit.false));
     }
+
+pub returns-clause-needles : goal.returns-clause-needles
+returns-clause-needles g c =
+    needles_behind c.args.query.now.text c.args.bytes.now c.loop-near.from c.loop-near.needles c.next_matched.result
+    c.loop-near.invariant.needles c.next_matched.ensures.within
 
 pub returns-clause-some : goal.returns-clause-some
 returns-clause-some g c = λ trees spelled.

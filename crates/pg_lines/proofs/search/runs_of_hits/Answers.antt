@@ -7,6 +7,7 @@ use Rattle.pg_lines.specs.Selection.{parts}
 use Rattle.pg_lines.specs.Runs.{AllLines, AreRuns}
 use Rattle.pg_lines.specs.BlockParts.{part_at}
 use Rattle.pg_lines.specs.Gathered.{IsNextLine, IsGathered}
+use Rattle.pg_lines.specs.Candidates.{AreNeedles}
 use Rattle.pg_lines.specs.declared.run.Run.{Run}
 use Rattle.pg_lines.specs.declared.run.Part.{Part}
 use Rattle.pg_lines.specs.declared.span.Span.{Span}
@@ -48,6 +49,7 @@ loop-line-init g c =
       fits = c.requires.fits;
       within = omega arith;
       few = omega arith;
+      needles = c.requires.needles;
       short = c.requires.short;
       gathered = λ trees spelled.
           let run : Run = record { span = record { start = 0; end = 0 }; first = 0; count = 0 } in
@@ -89,6 +91,7 @@ loop-line-preserved g c =
       fits = c.push_line_parts.ensures.fits;
       within = omega (arith, longer.stop, c.in-Some.ensures.within.2);
       few = longer.few.1;
+      needles = subst (λ n. AreNeedles text bytes n c.next_hit.new.needles) (sym longer.stop) c.in-Some.ensures.needles;
       short = subst Short (sym longer.stop)
           (short_behind (search_of text own.0) bytes run.span.end 0 _ (next_of c.args.query.now.text own.0 c.loop-line.run.span.end
           (drop c.loop-line.run.span.end c.args.bytes.now) c.in-Some.line c.requires.upright (c.in-Some.ensures.some own.0 own.1)).1 i.short);

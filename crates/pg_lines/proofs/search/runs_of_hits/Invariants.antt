@@ -3,6 +3,7 @@ use Rattle.pg_match.specs.Machines.{Fits}
 use Rattle.pg_lines.specs.Lines.{AreShort}
 use Rattle.pg_lines.specs.Search.{Pattern, AreTreesOf, search_of, terminator_of}
 use Rattle.pg_lines.specs.Gathered.{IsGathered, parts_before}
+use Rattle.pg_lines.specs.Candidates.{AreNeedles}
 use Rattle.pg_lines.proofs.search.runs_of_hits.Given as goal
 
 abbrev pub invariant-loop-line : goal.invariant-loop-line
@@ -10,6 +11,7 @@ invariant-loop-line g l = record {
   fits : Fits l.scratch l.query.machine;
   within : l.run.span.end ≤ length l.bytes;
   few : l.run.first + l.run.count ≤ l.run.span.end;
+  needles : AreNeedles l.query.text l.bytes l.run.span.end l.needles;
   short : AreShort (terminator_of l.query.text) (drop l.run.span.end l.bytes);
   gathered : (trees : List Pattern) → AreTreesOf l.query.text trees
       → IsGathered (search_of l.query.text trees) l.bytes l.runs.items l.run;

@@ -1,0 +1,25 @@
+use Rattle.std.proofs.Common.{◌≡◌, ◌<◌, List, length, map, ap, subst, rules}
+use Rattle.std.specs.List.{All}
+use Rattle.pg_syntax.specs.Trees.{pattern}
+use Rattle.pg_literal.specs.Literals as P
+use Rattle.pg_literal.specs.declared.literal.Literal.{Literal}
+use Rattle.pg_lines.specs.Lines.{IsLine}
+use Rattle.pg_lines.specs.Search.{SearchText, Bounds, terminator_of}
+use Rattle.pg_lines.proofs.LiteralLemmas.{literals_are}
+use Rattle.pg_lines.proofs.query.literals_of.Goals as goal
+
+pub returns-then-are_within_lines : goal.returns-then-are_within_lines
+returns-then-are_within_lines g c =
+    let text = c.args.text.now in
+    let trees = map (pattern {A = g.row.A.Denot}) c.args.trees.now in
+    let literals = c.in_ok-literals.literals.items in
+    let fold : c.text.inside.fold ≡ text.fold = ap (λ (t : SearchText). t.fold) c.text.view_is in
+    let Says : _ → Bounds → Type 0 = λ f b. (0 < length literals → P.AreNeeded f trees b literals)
+    × P.AreEnough f trees b literals in
+    let found = c.in_ok-literals.ensures in
+    let says = subst (Says text.fold) c.bounds.ensures (subst (λ f. Says f c.bounds.result) fold (found.needed, found.enough)) in
+    let Alone : List (Literal g.row.A.Denot) → Type 0 = λ ls. All (λ l. IsLine (terminator_of text) l.text.items) ls in
+    let none = c.are_within_lines.ensures (search rules) in
+    let alone = subst Alone c.deref.ensures.value (subst (λ e. All (λ l. IsLine e l.text.items) c.deref.result.now)
+    c.terminator.ensures none) in
+    literals_are text trees c.requires.trees literals alone says.0 says.1
