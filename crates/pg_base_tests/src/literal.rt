@@ -6,8 +6,8 @@ use pg_syntax::parse_ere;
 use std::alloc::Global;
 use std::process::Abort;
 
-/// Bounds, with `fold-` before them where case is folded, an extended expression, and its literal, with `only:` before
-/// it where each line that holds it has a hit.
+/// Bounds, with `fold-` before them where case is folded, extended expressions, which `;` parts, and their literals, with
+/// `only:` before those where each line that holds them has a hit.
 const LITERALS: &str = r"any foo => only:foo
 whole,word foo => foo
 any  => only:
@@ -28,7 +28,7 @@ any x(foo){2,5} => xfoo
 any (foo){0,2} => none
 any (foo)?bar => bar
 any a{1}b{1,1}c => only:abc
-any foo|bar => none
+any foo|bar => only:bar;only:foo
 any (foo|bar)baz => baz
 any (foo|bar)-baz(x|y) => -baz
 any ab.*cd => ab
@@ -52,23 +52,60 @@ fold-word FOO => foo
 fold-any ^Foo => foo
 fold-any @AZ`az1 => only:@az`az1
 fold-any %C3%84K => only:%C3%84k
-fold-any [k]ey|[kK] => none
+fold-any [k]ey|[kK] => only:k;ey
 fold-any [kK]ey[a-b] => key
 fold-any x.*NEEDLE => needle
 fold-any (Ab)+[^c]D => ab
-any [kK]ey => ey";
+any [kK]ey => ey
+any foo;bar => only:foo;only:bar
+whole,word foo;bar => foo;bar
+any ^foo;b+ar;baz => foo;ar;only:baz
+any foo;[0-9] => none
+any foo| => only:;only:foo
+any ;foo => only:;only:foo
+word ;foo => none
+any foo|x.z;bar => x;only:foo;only:bar
+any foo|[0-9];bar => none
+any (a|b)|(c|d) => only:d;only:c;only:b;only:a
+any (a|bc)d|e => only:e;d
+any (a|b) => only:b;only:a
+any ^(a|b) => none
+any (a|b)+ => none
+any a|a => only:a;only:a
+any a;b;c;d;e;f;g;h => only:a;only:b;only:c;only:d;only:e;only:f;only:g;only:h
+any a;b;c;d;e;f;g;h;i => none
+any a|b|c|d|e|f|g|h => only:h;only:g;only:f;only:e;only:d;only:c;only:b;only:a
+any a|b|c|d|e|f|g|h|i => none
+any a|b|c|d;e|f|g|h|i => none
+any a|b|c;d;e|f|g|h;[0-9] => none
+fold-any Foo|BAR;Baz => only:bar;only:foo;only:baz
+fold-word Foo|^BAR$ => bar;foo";
 
-/// The literal of an expression.
+/// The literals of expressions.
 pub(crate) fn literal_of(rt: &impl Abort, alloc: Global, kind: &str, text: &str) -> String {
     let (fold, bounds) = match kind.strip_prefix("fold-") {
         Some(bounds) => (true, bounds),
         None => (false, kind),
     };
-    let tree = parse_ere(alloc, &bytes_of(rt, alloc, text), fold).expect(rt, "no expression");
+    let mut trees = Vec::new(alloc);
+    for pattern in text.split(';') {
+        let tree = parse_ere(alloc, &bytes_of(rt, alloc, pattern), fold).expect(rt, "no expression");
+        trees.push(tree).expect(rt, "memory");
+    }
+    let literals = Literal::of(alloc, &trees, bounds_of(bounds), fold).expect(rt, "memory");
+    shown_of(rt, alloc, &literals)
+}
+
+fn shown_of(rt: &impl Abort, alloc: Global, literals: &[Literal]) -> String {
     let mut shown = String::new(alloc);
-    match Literal::of(alloc, &[tree], bounds_of(bounds), fold).expect(rt, "memory") {
-        Some(literal) => show(rt, &literal, &mut shown),
-        None => shown.push_str("none").expect(rt, "memory"),
+    for literal in literals {
+        if !shown.is_empty() {
+            shown.push_str(";").expect(rt, "memory");
+        }
+        show(rt, literal, &mut shown);
+    }
+    if literals.is_empty() {
+        shown.push_str("none").expect(rt, "memory");
     }
     shown
 }

@@ -63,10 +63,13 @@ fn is_endless(format: Format) -> bool
 /// Whether the machine is likely to be asked about most lines. Of other queries one thread finds the lines as fast as
 /// they are read.
 fn is_slow<A: Allocator>(query: &Query<A>) -> bool {
-    match query.literal() {
-        None => true,
-        Some(literal) => !literal.is_enough && literal.text.len() < RARE,
+    let literals = query.literals();
+    for literal in literals {
+        if !literal.is_enough && literal.text.len() < RARE {
+            return true;
+        }
     }
+    literals.is_empty()
 }
 
 /// Whether blocks are to wait for a round: where several threads may search, and that pays.
