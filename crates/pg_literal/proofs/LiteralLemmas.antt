@@ -16,7 +16,7 @@ use Rattle.pg_match.specs.Hits.{Hit, HasHit}
 use Rattle.pg_match.specs.declared.bounds.Bounds.{Bounds}
 use Rattle.pg_match.specs.declared.bounds.Bounds.TheVariants.{Any}
 use Rattle.pg_literal.specs.Literals.{as_searched, Holds, IsEnough, AreEnough, AreTexts}
-use Rattle.pg_literal.specs.Known.{head_of, best_of, IsNothing, HasTexts, Extends}
+use Rattle.pg_literal.specs.Known.{head_of, best_of, IsNothing, HasTexts, IsSureAt, Extends}
 use Rattle.pg_literal.specs.Added.{Adds}
 use Rattle.pg_literal.specs.declared.known.Known.{Known}
 use Rattle.pg_literal.specs.declared.literal.Literal.{Literal}
@@ -131,6 +131,16 @@ module _ {A : Type 0} (fold : Bool) (bounds : Bounds) (p q : Pattern) where
         fixed = λ text spells any. absurd (alt_unspelled fold p q text spells);
       }
 
+-- a text stands within the line
+place_within : {A : Type 0} (fold : Bool) (known : Known A) (line : List ℕ) (i : ℕ) → IsSureAt fold known line i
+    → i ≤ length line
+place_within fold known line i (inl head) =
+    let fits = head.1.fits in
+    omega (arith, length_searched fold line)
+place_within fold known line i (inr best) =
+    let fits = best.1.fits in
+    omega (arith, length_searched fold line)
+
 module _ {A : Type 0} (fold : Bool) (p : Pattern) (nothing known : Known A)
     (empty : IsNothing nothing) (extends : Extends fold p nothing known) where
   -- a match has the texts
@@ -155,17 +165,22 @@ module _ {A : Type 0} (fold : Bool) (p : Pattern) (nothing known : Known A)
         | inr best ↦ subst (Holds fold line) (sym best) has.best
       ]
 
-  -- a sure head is enough
-  head_enough : (bounds : Bounds) (text : List ℕ) → IsTrue known.is_sure → bounds ≡ Any → text ≡ head_of known
+  -- a text that is sure is enough
+  sure_enough : (bounds : Bounds) (text : List ℕ) → bounds ≡ Any
+      → (IsTrue known.is_sure × (text ≡ head_of known)) ⊎ (IsTrue known.is_best_sure × (text ≡ best_of known))
       → IsEnough fold (p ∷ []) bounds text
-  head_enough bounds text sure any head line held =
+  sure_enough bounds text any either line held =
       let i = held.0 in
-      let end = (extends.sure sure).1 line i (subst (λ t. OccursAt (as_searched fold line) t i) head held.1) in
-      let fits = (end.2).fits in
-      let same = length_searched fold line in
+      let At : List ℕ → Type 0 = λ t. OccursAt (as_searched fold line) t i in
+      let sure : IsSureAt fold known line i = elim either [
+        | inl head ↦ inl (head.0, subst At head.1 held.1)
+        | inr best ↦ inr (best.0, subst At best.1 held.1)
+      ] in
+      let end = extends.sure line i sure in
+      let within = place_within fold nothing line end.0 end.2 in
       let hit : Hit (p ∷ []) Any line i end.0 = record {
         ordered = match_forward p line i end.0 end.1;
-        within = omega arith;
+        within = within;
         begins = tt;
         ends = tt;
         matched = (p, in_one p, end.1);
@@ -183,7 +198,9 @@ module _ {A : Type 0} (fold : Bool) (p : Pattern) (nothing known : Known A)
   -- the literal of what is known
   pub adds_one : (bounds : Bounds) (literal : Literal A) (old new : List (Literal A)) → new ≡ old ++ literal ∷ []
       → (literal.text.items ≡ head_of known) ⊎ (literal.text.items ≡ best_of known)
-      → (IsTrue literal.is_enough → IsTrue known.is_sure × (bounds ≡ Any) × (literal.text.items ≡ head_of known))
+      → (IsTrue literal.is_enough → (bounds ≡ Any)
+      × ((IsTrue known.is_sure × (literal.text.items ≡ head_of known))
+      ⊎ (IsTrue known.is_best_sure × (literal.text.items ≡ best_of known))))
       → (IsTrue known.is_sure → bounds ≡ Any → (literal.text.items ≡ head_of known) × IsTrue literal.is_enough)
       → Adds fold bounds p old new
   adds_one bounds literal old new joins either enough sure =
@@ -195,7 +212,7 @@ module _ {A : Type 0} (fold : Bool) (p : Pattern) (nothing known : Known A)
             (0, literal, omega arith, refl, either_needed bounds literal.text.items either line hit);
         enough = All-cons Enough literal [] (λ yes.
             let e = enough yes in
-            head_enough bounds literal.text.items e.0 e.1 e.2) (All-nil Enough);
+            sure_enough bounds literal.text.items e.0 e.1) (All-nil Enough);
         fixed = λ text spells any.
             let head = fixed_head text spells in
             let says = sure head.1 any in

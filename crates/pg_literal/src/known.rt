@@ -1,9 +1,10 @@
 //! What is known of the matches of trees in a row.
-ghost use Rattle.std.specs.Prelude.{◌≡◌, ◌⊎◌, ◌++◌, ℕ, Bool, [], ◌∷◌, true, IfOk, MatchOption};
+ghost use Rattle.std.specs.Prelude.{◌≡◌, ◌⊎◌, ◌++◌, ℕ, Bool, [], ◌∷◌, true, false, IsTrue, IfOk, MatchOption};
 ghost use Rattle.pg_bytes.specs.ByteSets.{bytes};
 ghost use Rattle.pg_syntax.specs.Patterns.{Pattern, Begin, End, Set};
 ghost use Rattle.pg_syntax.specs.Trees.{pattern};
-ghost use Rattle.pg_literal.specs.Known.{byte_as_searched, IsAlone, IsNothing, Extends, Hides, HidesOthers};
+ghost use Rattle.pg_literal.specs.Known.{byte_as_searched, IsAlone, IsNothing, Extends, Hides};
+ghost use Rattle.pg_literal.specs.Known.{HidesOthers, MatchesEmpty};
 
 use pg_bytes::ByteSet;
 use pg_syntax::Tree;
@@ -20,6 +21,8 @@ pub(crate) struct Known<A: Allocator> {
     pub best: Vec<u8, A>,
     /// Wherever the head stands, a match begins.
     pub is_sure: bool,
+    /// Wherever the other text stands, a match begins.
+    pub is_best_sure: bool,
 }
 
 impl<A: Allocator + Copy> Known<A> {
@@ -31,6 +34,7 @@ impl<A: Allocator + Copy> Known<A> {
             head: Vec::new(alloc),
             best: Vec::new(alloc),
             is_sure: true,
+            is_best_sure: false,
         }
     }
 
@@ -39,28 +43,43 @@ impl<A: Allocator + Copy> Known<A> {
         ensures head { IfOk result (λ known. known.head.items ≡ self.head.items ++ byte ∷ []) }
         ensures best { IfOk result (λ known. known.best.items ≡ self.best.items) }
         ensures is_sure { IfOk result (λ known. known.is_sure ≡ self.is_sure) }
+        ensures is_best_sure { IfOk result (λ known. known.is_best_sure ≡ false) }
     {
         self.head.push(byte)?;
+        self.is_best_sure = false;
         Ok(self)
     }
 
-    /// With an anchor in front. The head also stands where none holds.
+    /// With an anchor in front. Both texts also stand where none holds.
     fn with_anchor(mut self) -> Known<A>
         ensures begin { (fold : Bool) → Extends fold Begin self result }
         ensures end { (fold : Bool) → Extends fold End self result }
     {
         self.is_sure = false;
+        self.is_best_sure = false;
         self
     }
 
-    /// With something in front of which nothing is known.
-    fn hidden(self, alloc: A) -> Known<A>
-        ensures { Hides self result }
+    /// With something in front of which nothing is known, unless that it is optional: it matches the empty string
+    /// everywhere.
+    fn hidden(self, alloc: A, is_optional: bool) -> Known<A>
+        ensures { Hides is_optional self result }
     {
-        Known {
-            head: Vec::new(alloc),
-            best: longer(self.head, self.best),
-            is_sure: false,
+        let is_sure = is_optional && self.is_sure && self.head.is_empty();
+        if self.head.len() < self.best.len() {
+            Known {
+                head: Vec::new(alloc),
+                best: self.best,
+                is_sure,
+                is_best_sure: is_optional && self.is_best_sure,
+            }
+        } else {
+            Known {
+                head: Vec::new(alloc),
+                best: self.head,
+                is_sure,
+                is_best_sure: is_optional && self.is_sure,
+            }
         }
     }
 
@@ -71,7 +90,7 @@ impl<A: Allocator + Copy> Known<A> {
         if least == 1 && most == Some(1) {
             self
         } else {
-            self.hidden(alloc)
+            self.hidden(alloc, least == 1 && most != Some(0))
         }
     }
 
@@ -84,7 +103,7 @@ impl<A: Allocator + Copy> Known<A> {
                 let known = self.with_byte(byte)?;
                 Ok(known)
             }
-            None => Ok(self.hidden(alloc)),
+            None => Ok(self.hidden(alloc, false)),
         }
     }
 }
@@ -136,6 +155,34 @@ fn only_byte(set: &ByteSet, fold: bool) -> Option<u8>
     Some(byte)
 }
 
+/// Whether a tree is known to match the empty string everywhere. Where an anchor stands, that isn't known.
+///
+/// The left spine of the tree may be as long as a text, so a loop walks it.
+fn matches_empty<A: Allocator>(tree: &Tree<A>) -> bool
+    ensures { IsTrue result → MatchesEmpty (pattern tree.now) }
+{
+    let mut tree = tree;
+    loop {
+        match tree {
+            Tree::Empty => return true,
+            Tree::Set(_) | Tree::Begin | Tree::End => return false,
+            Tree::Cat(first, second) => {
+                if !matches_empty(second) {
+                    return false;
+                }
+                tree = first;
+            }
+            Tree::Alt(first, second) => {
+                if matches_empty(second) {
+                    return true;
+                }
+                tree = first;
+            }
+            Tree::Rep(_, least, _) => return *least == 0,
+        }
+    }
+}
+
 /// What is known of a tree, followed by what was known so far.
 ///
 /// The left spine of the tree may be as long as a text, so a loop walks it.
@@ -160,10 +207,13 @@ pub(crate) fn with_tree<A: Allocator + Copy>(
                 known = with_tree(alloc, second, fold, known)?;
                 tree = first;
             }
-            Tree::Alt(_, _) => return Ok(known.hidden(alloc)),
+            Tree::Alt(_, _) => {
+                let is_optional = matches_empty(tree);
+                return Ok(known.hidden(alloc, is_optional));
+            }
             Tree::Rep(inner, least, most) => {
                 if *least == 0 {
-                    return Ok(known.hidden(alloc));
+                    return Ok(known.hidden(alloc, true));
                 }
                 // Each match begins with a first round, so the walk goes on in that one.
                 known = known.with_other_rounds(alloc, *least, *most);

@@ -116,20 +116,30 @@ fn push_literal<A: Allocator + Copy>(
     }
 }
 
-/// The text that serves best: the head where it is a match, else the longer one, unless it is empty.
+/// The text that serves best: one that is sure, else the longer one, unless it is empty.
 fn best_text<A: Allocator + Copy>(known: Known<A>, bounds: Bounds) -> Option<Literal<A>>
     ensures text { IfSome result (λ literal. (literal.text.items ≡ reverse known.head.items)
         ⊎ (literal.text.items ≡ reverse known.best.items)) }
-    ensures enough { IfSome result (λ literal. IsTrue literal.is_enough
-        → IsTrue known.is_sure × (bounds ≡ Any) × (literal.text.items ≡ reverse known.head.items)) }
+    ensures enough { IfSome result (λ literal. IsTrue literal.is_enough → (bounds ≡ Any)
+        × ((IsTrue known.is_sure × (literal.text.items ≡ reverse known.head.items))
+        ⊎ (IsTrue known.is_best_sure × (literal.text.items ≡ reverse known.best.items)))) }
     ensures sure { IsTrue known.is_sure → bounds ≡ Any
         → IsSomeAnd result (λ literal. (literal.text.items ≡ reverse known.head.items) × IsTrue literal.is_enough) }
 {
-    let is_enough = known.is_sure && bounds == Bounds::Any;
-    let mut text = if is_enough {
-        known.head
+    let Known {
+        head,
+        best,
+        is_sure,
+        is_best_sure,
+    } = known;
+    let is_any = bounds == Bounds::Any;
+    let is_enough = is_any && (is_sure || is_best_sure);
+    let mut text = if is_any && is_sure {
+        head
+    } else if is_any && is_best_sure {
+        best
     } else {
-        longer(known.head, known.best)
+        longer(head, best)
     };
     if !is_enough && text.is_empty() {
         return None;

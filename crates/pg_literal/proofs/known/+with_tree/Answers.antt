@@ -31,13 +31,14 @@ loop-tree-preserved-in-Cat-1 g t c =
 
 pub returns-in-Alt : goal.returns-in-Alt
 returns-in-Alt g t c =
-    let hidden = extends_alt c.args.fold _ _ _ _ c.hidden.ensures in
+    let empty = rw (pattern-alt _ _ _ c.in-Alt.is) at c.matches_empty-is_optional.ensures in
+    let hidden = extends_alt c.args.fold _ _ c.matches_empty-is_optional.result _ _ c.hidden.ensures empty in
     c.loop-tree.invariant.whole _ (rw (pattern-alt _ _ _ c.in-Alt.is) hidden)
 
 pub returns-then-least-eq0 : goal.returns-then-least-eq0
 returns-then-least-eq0 g t c =
     c.loop-tree.invariant.whole _
-    (rw (pattern-rep _ _ _ _ c.in-Rep.is) (extends_rep c.args.fold _ _ _ _ _ c.hidden-then-least-eq0.ensures))
+    (rw (pattern-rep _ _ _ _ c.in-Rep.is) (extends_rep c.args.fold _ _ _ _ _ (search rules) c.hidden-then-least-eq0.ensures))
 
 pub loop-tree-preserved : goal.loop-tree-preserved
 loop-tree-preserved g t c =

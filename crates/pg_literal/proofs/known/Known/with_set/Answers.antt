@@ -6,7 +6,7 @@ pub returns-in_ok-known-in-Some : goal.returns-in_ok-known-in-Some
 returns-in_ok-known-in-Some g c =
     let known = c.in_ok-known-in-Some in
     extends_byte c.args.fold (bytes c.args.set.now) c.in-Some.byte c.args.self known.known c.in-Some.ensures
-    known.ensures.head known.ensures.best known.ensures.is_sure
+    known.ensures.head known.ensures.best known.ensures.is_sure known.ensures.is_best_sure
 
 pub returns-in-None : goal.returns-in-None
 returns-in-None g c =
