@@ -6,8 +6,8 @@ use pg_syntax::parse_ere;
 use std::alloc::Global;
 use std::process::Abort;
 
-/// Bounds, with `fold-` before them where case is folded, extended expressions, which `;` parts, and their literals, with
-/// `only:` before those where each line that holds them has a hit.
+/// Bounds, with `fold-` before them where case is folded, extended expressions, which `;` parts, and their literals,
+/// with `only:` before those where each line that holds them has a hit.
 const LITERALS: &str = r"any foo => only:foo
 whole,word foo => foo
 any  => only:

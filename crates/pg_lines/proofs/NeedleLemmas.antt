@@ -1,10 +1,12 @@
 -- Where needles stand.
-use Rattle.std.proofs.Common.{◌≡◌, ◌<◌, ◌≤◌, ◌+◌, ◌-◌, ℕ, Bool, true, false, Option, Some, None, inl, inr, List, [], ◌∷◌, length}
-use Rattle.std.proofs.Common.{zero, suc, ◌⊎◌, get_or, set, map, take, drop, cond, refl, sym, ap, ◌∙◌, subst, arith, length-drop}
+use Rattle.std.proofs.Common.{◌≡◌, ◌<◌, ◌≤◌, ◌+◌, ◌-◌, ◌⊎◌, ℕ, zero, suc, Bool, true, false, Option, Some, None, inl, inr}
+use Rattle.std.proofs.Common.{List, [], ◌∷◌, length, get_or, set, map, take, drop, cond, refl, sym, ap, ◌∙◌, subst}
+use Rattle.std.proofs.Common.{arith, length-drop}
 use Rattle.std.specs.Option.{IfSome, IsSomeAnd}
 use Rattle.std.specs.List.{All, Any, Contains}
 use Rattle.std.proofs.lemmas.Bool.{cases_lt}
-use Rattle.std.proofs.lemmas.List.{drop_at, length-take-le, take-append-drop, get_or-drop, length-map, get_or-map, get_or_default}
+use Rattle.std.proofs.lemmas.List.{drop_at, length-take-le, take-append-drop, length-map}
+use Rattle.std.proofs.lemmas.List.{get_or-drop, get_or-map, get_or_default}
 use Rattle.std.proofs.lemmas.List.Elements.{All-weaker, All-contains}
 use Rattle.memchr.specs.Find.{OccursAt, FindsNeedle}
 use Rattle.pg_literal.specs.Literals.{as_searched}

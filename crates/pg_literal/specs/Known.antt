@@ -52,7 +52,8 @@ MatchesEmpty p = (line : List ℕ) (i : ℕ) → Match p line i i
 -- longer by its text, and keeps it as sure as it was.
 pub record Extends {A : Type 0} (fold : Bool) (p : Pattern) (rest whole : Known A) : Type 0 where
   pub texts : (line : List ℕ) (i j : ℕ) → Match p line i j → HasTexts fold rest line j → HasTexts fold whole line i
-  pub sure : (line : List ℕ) (i : ℕ) → IsSureAt fold whole line i → (j : ℕ) × Match p line i j × IsSureAt fold rest line j
+  pub sure : (line : List ℕ) (i : ℕ) → IsSureAt fold whole line i
+      → (j : ℕ) × Match p line i j × IsSureAt fold rest line j
   pub fixed : (text : List ℕ) → Spells Fixed fold text p
       → (head_of whole ≡ as_searched fold text ++ head_of rest) × (whole.is_sure ≡ rest.is_sure)
 
