@@ -64,7 +64,17 @@ spread() {
     ours=$(best "$rounds" "$pargrep" --workers "$workers" "$@" "$text")
     same "$@"
     report "$*, $workers" "$(wc -l < "$folder/expected")" "$ours" "$theirs"
+    echo "$workers $ours $theirs" >> "$folder/times"
   done
+}
+
+# means: the geometric means of the ratios that `spread` has found, by workers.
+means() {
+  awk '{ count[$1]++; sum[$1] += log($2 / $3) } END {
+    for (workers in count) {
+      printf "geometric mean of %d ratios by %d workers: %.2f\n", count[workers], workers, exp(sum[workers] / count[workers])
+    }
+  }' "$folder/times" | sort
 }
 
 # same WORDS..: stops where the output isn't the expected one.
@@ -96,14 +106,8 @@ for text in zzqq water the e; do
 done
 compare "$file" -nF water
 compare "$file" -cF the
-compare "$file" -FC2 water
 compare "$file" -FC3 water
 compare "$file" -nFA1 zzqq
-compare "$file" -E 'zz.*qq'
-compare "$file" -E 'water [a-z]+ people'
-compare "$file" -E '(oil|call)ed? now'
-compare "$file" -Fw water
-compare "$file" -Fx 'of the people'
 
 rounds=3
 echo "Best of $rounds runs, and by how many workers:"
@@ -111,16 +115,37 @@ strings 100 > hundred
 strings 2000 > thousands
 head -c $((megabytes * 131072)) /dev/zero | tr '\0' a | fold -w 100 > hostile
 echo >> hostile
-# The words hold no blank and no pattern of names.
-set -f
-for words in "-F zzqq" "-E zz.*qq" "-E wat.r" "-nE wat.r" "-cE wat.r" "-oE wat.r" "-C2 wat.r" "-Fi WATER" "-Fi zzqq" \
-  "-iE wat[er]+" "-Fv the" "-Fv zzqq" "-vE wat.r" "-Fw the" "-E water|people" "-E water|people|number|other|which" \
-  "-E [a-z]{9,}" "-E [^aeiou]{6}" "-oE [a-z]{7}"; do
-  # shellcheck disable=SC2086
-  spread "$file" $words
-done
-for words in "-F -f hundred" "-F -f thousands"; do
-  # shellcheck disable=SC2086
-  spread eighth $words
-done
+echo "Fixed strings: absent, rare and frequent; of words, of whole lines, in any case, not in the line; many."
+spread "$file" -F zzqq
+spread "$file" -F 'oil people call'
+spread "$file" -F the
+spread "$file" -Fw the
+spread "$file" -Fx 'of the people'
+spread "$file" -Fi WATER
+spread "$file" -Fi zzqq
+spread "$file" -Fv the
+spread "$file" -Fv zzqq
+spread eighth -F -f hundred
+spread eighth -F -f thousands
+echo "Expressions with a text in each match."
+spread "$file" -E wat.r
+spread "$file" -E 'zz.*qq'
+spread "$file" -E '(oil|call)ed? now'
+spread "$file" -nE wat.r
+spread "$file" -cE wat.r
+spread "$file" -oE wat.r
+spread "$file" -C2 wat.r
+spread "$file" -vE wat.r
+spread "$file" -wE 'wat.r'
+spread "$file" -xE 'of .*people'
+spread "$file" -iE 'wat[er]+'
+spread "$file" -E 'water|people'
+spread "$file" -E 'water|people|number|other|which'
+echo "Expressions without one."
+spread "$file" -E '[a-z]{9,}'
+spread "$file" -E '[^aeiou]{6}'
+spread "$file" -oE '[a-z]{7}'
+spread "$file" -cE '[wn][aeiou]t'
 spread hostile -E '(a*)*b'
+spread hostile -E '(a|aa)*[bc]'
+means

@@ -35,17 +35,19 @@ while [ "$i" -lt 20 ]; do
 done
 rm large/part
 
-# compare TREE OPTIONS PATTERN
+# compare TREE OPTIONS PATTERN: for at most 1 and 4 workers.
 compare() {
   theirs=$(best "$rounds" grep "$2" -e "$3" "$1")
   sort out > expected
-  ours=$(best "$rounds" "$pargrep" "$2" -e "$3" "$1")
-  sort out > found
-  if ! cmp -s found expected; then
-    echo "the outputs for $2 '$3' differ" >&2
-    exit 1
-  fi
-  report "$2 $3 $1" "$(wc -l < expected)" "$ours" "$theirs"
+  for workers in 1 4; do
+    ours=$(best "$rounds" "$pargrep" --workers "$workers" "$2" -e "$3" "$1")
+    sort out > found
+    if ! cmp -s found expected; then
+      echo "the outputs for $2 '$3' differ" >&2
+      exit 1
+    fi
+    report "$2 $3 $1, $workers" "$(wc -l < expected)" "$ours" "$theirs"
+  done
 }
 
 echo "$(grep --version | head -n 1); best of $rounds runs; load $(load)"
@@ -54,3 +56,4 @@ compare small -rcF needle
 compare small -rlF needle
 compare large -rF needle
 compare large -rnF needle
+compare large -rcE '[a-z]{7}'
