@@ -101,7 +101,10 @@ pub(crate) fn literal_of(rt: &impl Abort, alloc: Global, kind: &str, text: &str)
     };
     let mut trees = Vec::new(alloc);
     for pattern in text.split(';') {
-        let tree = parse_ere(alloc, &bytes_of(rt, alloc, pattern), fold).expect(rt, "no expression");
+        let tree = parse_ere(alloc, &bytes_of(rt, alloc, pattern), fold).expect(
+            rt,
+            "no expression",
+        );
         trees.push(tree).expect(rt, "memory");
     }
     let literals = Literal::of(alloc, &trees, bounds_of(bounds), fold).expect(rt, "memory");

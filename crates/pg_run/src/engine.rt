@@ -64,7 +64,10 @@ fn is_endless(format: Format) -> bool
 /// they are read.
 fn is_slow<A: Allocator>(query: &Query<A>) -> bool {
     let literals = query.literals();
-    literals.is_empty() || literals.iter().any(|literal| !literal.is_enough && literal.text.len() < RARE)
+    literals.is_empty()
+        || literals
+            .iter()
+            .any(|literal| !literal.is_enough && literal.text.len() < RARE)
 }
 
 /// Whether blocks are to wait for a round: where several threads may search, and that pays.
