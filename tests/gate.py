@@ -4,6 +4,7 @@
 The rows run on the program that the command has built just now, also where the command has failed.
 """
 
+import os
 import re
 import signal
 import subprocess
@@ -13,6 +14,8 @@ from pathlib import Path
 HERE = Path(__file__).resolve().parent
 PROGRAM = HERE.parent / "crates/pargrep/out/pargrep"
 FIGURES = re.compile(r"([0-9]+) passed, ([0-9]+) failed")
+# What the largest proof takes, with a third to spare.
+MEMORY_OF_A_PROOF = 4_000_000_000
 
 
 def say(text):
@@ -56,6 +59,23 @@ def figures_of(command, name):
     return passed, failed
 
 
+def free_memory():
+    """The bytes that processes may still take, or 0 where the system doesn't tell."""
+    try:
+        found = re.search(r"MemAvailable: *([0-9]+) kB", Path("/proc/meminfo").read_text())
+    except OSError:
+        found = None
+    return 1024 * int(found[1]) if found else 0
+
+
+def one_proof_a_processor():
+    """Has the toolchain run one proof on each processor, where their memory is there. By itself it gives several
+    processors to one proof where no other waits, which takes two fifths more of their time for the same work."""
+    processors = len(os.sched_getaffinity(0))
+    if "RT_JOBS" not in os.environ and processors * MEMORY_OF_A_PROOF <= free_memory():
+        os.environ["RT_JOBS"] = str(processors)
+
+
 def main():
     command = sys.argv[1:]
     if not command:
@@ -63,6 +83,7 @@ def main():
         return 2
     signal.signal(signal.SIGTERM, lambda number, _: sys.exit(128 + number))
     PROGRAM.unlink(missing_ok=True)
+    one_proof_a_processor()
     name = " ".join(command)
     proofs = figures_of(command, name)
     rows = figures_of([sys.executable, str(HERE / "run_rows.py")], "the rows")
