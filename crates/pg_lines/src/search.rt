@@ -28,11 +28,12 @@ use pg_match::Scratch;
 use std::alloc::{AllocError, Allocator};
 use std::sync::Arc;
 
-/// How many lines with a needle that have no hit may stand near the one before, until lines are searched one by one.
+/// How many lines may hold a needle and have no hit, beyond one for each `FAR` bytes, until lines are searched one by
+/// one.
 const PATIENCE: usize = 8;
 
-/// Lines that begin so many bytes apart are searched as fast one by one.
-const NEAR: usize = 512;
+/// It takes as long to look at a line that holds a needle as to search so many bytes line by line.
+const FAR: usize = 128;
 
 /// Whether some span of a line is a hit.
 fn has_hit<A: Allocator>(query: &Query<A>, scratch: &mut Scratch<A>, line: &[u8]) -> bool
@@ -105,8 +106,8 @@ fn next_confirmed<A: Allocator>(
 {
     let end = query.terminator();
     let mut from = at;
-    let mut near = 0;
-    while near < PATIENCE {
+    let mut in_vain = 0;
+    while in_vain < PATIENCE {
         let Some(found) = needles.next_line(query, bytes, from) else {
             return None;
         };
@@ -114,9 +115,7 @@ fn next_confirmed<A: Allocator>(
         if found.is_enough || has_hit(query, scratch, text_of(end, &bytes[line.start..line.end])) {
             return Some(line);
         }
-        if line.start - from < NEAR {
-            near += 1;
-        }
+        in_vain = in_vain.saturating_sub((line.start - from) / FAR) + 1;
         from = line.end;
     }
     next_matched(query, scratch, bytes, from)

@@ -15,8 +15,8 @@ pub returns-in_default-clause-none : goal.returns-in_default-clause-none
 returns-in_default-clause-none g c = λ trees spelled.
     let text = c.args.query.now.text in
     let bytes = c.args.bytes.now in
-    let from = c.loop-near.from in
-    let i = c.loop-near.invariant in
+    let from = c.loop-in_vain.from in
+    let i = c.loop-in_vain.invariant in
     let moved = c.next_line.new.self in
     let any : 0 < length (map literal_of moved.needles.items) =
     omega (arith, i.some, c.next_line.ensures.count, length-map moved.needles.items literal_of) in
@@ -29,8 +29,8 @@ has_hit-requires-clause-short g c =
     let text = c.args.query.now.text in
     let E = terminator_of text in
     let bytes = c.args.bytes.now in
-    let i = c.loop-near.invariant in
-    let from = c.loop-near.from in
+    let i = c.loop-in_vain.invariant in
+    let from = c.loop-in_vain.from in
     let found = c.in-Some.found in
     let moved = c.next_line.new.self in
     let literals = map literal_of moved.needles.items in
@@ -48,8 +48,8 @@ returns-then-found-clause-some g c = λ trees spelled.
     let text = c.args.query.now.text in
     let E = terminator_of text in
     let bytes = c.args.bytes.now in
-    let i = c.loop-near.invariant in
-    let from = c.loop-near.from in
+    let i = c.loop-in_vain.invariant in
+    let from = c.loop-in_vain.from in
     let found = c.in-Some.found in
     let moved = c.next_line.new.self in
     let literals = map literal_of moved.needles.items in
@@ -68,13 +68,13 @@ returns-then-found-clause-some g c = λ trees spelled.
           (ap (selects q) (sym cut) ∙ (sym (w.has_hit.ensures.hit trees spelled) ∙ w.if-has_hit.true))
     ])
 
-pub loop-near-preserved-then-line-from-lt-NEAR : goal.loop-near-preserved-then-line-from-lt-NEAR
-loop-near-preserved-then-line-from-lt-NEAR g c =
+pub loop-in_vain-preserved : goal.loop-in_vain-preserved
+loop-in_vain-preserved g c =
     let text = c.args.query.now.text in
     let E = terminator_of text in
     let bytes = c.args.bytes.now in
-    let i = c.loop-near.invariant in
-    let from = c.loop-near.from in
+    let i = c.loop-in_vain.invariant in
+    let from = c.loop-in_vain.from in
     let found = c.in-Some.found in
     let moved = c.next_line.new.self in
     let literals = map literal_of moved.needles.items in
@@ -89,39 +89,7 @@ loop-near-preserved-then-line-from-lt-NEAR g c =
       fits = c.has_hit.ensures.fits;
       low = omega (arith, i.low, within.0, within.1);
       within = within.2;
-      few = omega (arith, c.loop-near-test.true);
-      needles = needles_later text bytes from found.line.end moved (omega (arith, within.0, within.1))
-          c.in-Some.ensures.needles;
-      some = omega (arith, i.some, c.next_line.ensures.count);
-      short = (first_short text.fold E literals from bytes found first i.short).1;
-      skipped = λ trees spelled.
-          let q = search_of (uninverted text) trees in
-          skipped_more text trees spelled literals are any c.args.at from bytes found (i.skipped trees spelled)
-          first (ap (selects q) (sym cut) ∙ (sym (c.has_hit.ensures.hit trees spelled) ∙ c.if-has_hit.false));
-    }
-
-pub loop-near-preserved : goal.loop-near-preserved
-loop-near-preserved g c =
-    let text = c.args.query.now.text in
-    let E = terminator_of text in
-    let bytes = c.args.bytes.now in
-    let i = c.loop-near.invariant in
-    let from = c.loop-near.from in
-    let found = c.in-Some.found in
-    let moved = c.next_line.new.self in
-    let literals = map literal_of moved.needles.items in
-    let are = c.in-Some.ensures.needles.literals in
-    let any : 0 < length literals =
-    omega (arith, i.some, c.next_line.ensures.count, length-map moved.needles.items literal_of) in
-    let first = c.in-Some.ensures.some in
-    let cut = found_text text.fold E literals from bytes found c.terminator-end.result c.text_of.result.now
-    c.terminator-end.ensures first c.text_of.ensures.text in
-    let within = c.in-Some.ensures.within in
-    record {
-      fits = c.has_hit.ensures.fits;
-      low = omega (arith, i.low, within.0, within.1);
-      within = within.2;
-      few = i.few;
+      few = omega (arith, c.loop-in_vain-test.true, c.saturating_sub-in_vain.ensures);
       needles = needles_later text bytes from found.line.end moved (omega (arith, within.0, within.1))
           c.in-Some.ensures.needles;
       some = omega (arith, i.some, c.next_line.ensures.count);
@@ -134,14 +102,14 @@ loop-near-preserved g c =
 
 pub returns-clause-needles : goal.returns-clause-needles
 returns-clause-needles g c =
-    needles_behind c.args.query.now.text c.args.bytes.now c.loop-near.from c.loop-near.needles c.next_matched.result
-    c.loop-near.invariant.needles c.next_matched.ensures.within
+    needles_behind c.args.query.now.text c.args.bytes.now c.loop-in_vain.from c.loop-in_vain.needles c.next_matched.result
+    c.loop-in_vain.invariant.needles c.next_matched.ensures.within
 
 pub returns-clause-some : goal.returns-clause-some
 returns-clause-some g c = λ trees spelled.
     let q = search_of (uninverted c.args.query.now.text) trees in
-    let is = c.loop-near.invariant.skipped trees spelled in
-    if_some _ _ c.next_matched.result (skipped_some q c.args.at c.loop-near.from c.args.bytes.now is)
+    let is = c.loop-in_vain.invariant.skipped trees spelled in
+    if_some _ _ c.next_matched.result (skipped_some q c.args.at c.loop-in_vain.from c.args.bytes.now is)
     (c.next_matched.ensures.some trees spelled)
   where
     if_some : (P Q : Span → Type 0) (o : Option Span) → ((x : Span) → P x → Q x) → IfSome o P → IfSome o Q
@@ -151,8 +119,8 @@ returns-clause-some g c = λ trees spelled.
 pub returns-clause-none : goal.returns-clause-none
 returns-clause-none g c = λ trees spelled.
     let q = search_of (uninverted c.args.query.now.text) trees in
-    let is = c.loop-near.invariant.skipped trees spelled in
-    if_none _ _ c.next_matched.result (skipped_all q c.args.at c.loop-near.from c.args.bytes.now is)
+    let is = c.loop-in_vain.invariant.skipped trees spelled in
+    if_none _ _ c.next_matched.result (skipped_all q c.args.at c.loop-in_vain.from c.args.bytes.now is)
     (c.next_matched.ensures.none trees spelled)
   where
     if_none : (P Q : Type 0) (o : Option Span) → (P → Q) → IfNone o P → IfNone o Q

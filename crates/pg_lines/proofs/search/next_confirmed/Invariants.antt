@@ -7,12 +7,12 @@ use Rattle.pg_lines.proofs.CandidateLemmas.{IsSkipped}
 use Rattle.pg_lines.proofs.search.next_confirmed.Given as goal
 
 -- the lines before `from` aren't selected
-abbrev pub invariant-loop-near : goal.invariant-loop-near
-invariant-loop-near g l = record {
+abbrev pub invariant-loop-in_vain : goal.invariant-loop-in_vain
+invariant-loop-in_vain g l = record {
   fits : Fits l.scratch l.query.machine;
   low : l.at ≤ l.from;
   within : l.from ≤ length l.bytes;
-  few : l.near ≤ 8;
+  few : l.in_vain ≤ 8;
   needles : AreNeedles l.query.text l.bytes l.from l.needles;
   some : 0 < length l.needles.needles.items;
   short : AreShort (terminator_of l.query.text) (drop l.from l.bytes);
@@ -20,5 +20,5 @@ invariant-loop-near g l = record {
       → IsSkipped (search_of (uninverted l.query.text) trees) l.at l.from l.bytes;
 }
 
-abbrev pub decreases-loop-near : goal.decreases-loop-near
-decreases-loop-near g l = length l.bytes - l.from
+abbrev pub decreases-loop-in_vain : goal.decreases-loop-in_vain
+decreases-loop-in_vain g l = length l.bytes - l.from
