@@ -47,7 +47,7 @@ bench: all
 	bench/tree.sh $(program)
 	bench/memory.sh $(program)
 
-# Times crates that the program doesn't use yet.
+# Times crates by themselves.
 bench-parts: toolchain
 	@cd crates/pg_bench && $(RT) run > /dev/null
 	bench/walk.sh crates/pg_bench/out/pg_bench

@@ -16,10 +16,12 @@ load() {
 }
 
 # least SO_FAR COMMAND..: sets so_far to the smaller one of a time and the command's wall time, in microseconds. Its
-# output goes to $folder/out.
+# output goes to $folder/out, which is a new file each time: to cut an old one takes time, and some file systems write
+# it to the disk at once.
 least() {
   so_far=$1
   shift
+  rm -f "$folder/out"
   from=$(date +%s%N)
   "$@" > "$folder/out"
   to=$(date +%s%N)

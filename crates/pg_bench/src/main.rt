@@ -1,4 +1,4 @@
-//! Times parts that the program doesn't use yet: `pg_bench patterns MEGABYTES` and `pg_bench files OPERAND..`. Without
+//! Times parts of the program by themselves: `pg_bench patterns MEGABYTES` and `pg_bench files OPERAND..`. Without
 //! an argument it does nothing.
 #![tactic(auto)]
 
