@@ -42,15 +42,6 @@ pub record IsSkipped (q : Search) (at from : ℕ) (bytes : List ℕ) : Type 0 wh
   pub whole : AreWhole (terminator q) skipped ⊎ (drop from bytes ≡ [])
   pub unselected : AllLines q false skipped
 
-pub skipped_none : (q : Search) (at : ℕ) (bytes : List ℕ) → IsSkipped q at at bytes
-skipped_none q at bytes = record {
-  skipped = [];
-  joins = refl;
-  len = omega arith;
-  whole = inl (inl refl);
-  unselected = tt;
-}
-
 module _ (q : Search) (at from : ℕ) (bytes : List ℕ) (is : IsSkipped q at from bytes) where
   -- what stands before lines that are left is whole
   skipped_whole : drop from bytes ≢ [] → AreWhole (terminator q) is.skipped

@@ -5,7 +5,7 @@ use Rattle.std.proofs.Common.{Decides}
 use Rattle.std.specs.Option.{IfSome, option_to_list}
 use Rattle.std.proofs.lemmas.Bool.{false≢true, cases_Bool}
 use Rattle.std.proofs.lemmas.List.{append-nil, take-append-drop, drop-drop}
-use Rattle.pg_lines.specs.Blocks.{BlockData, joined, IsCut, IsFinished, IsUnfinished, AreNumbered, Cuts}
+use Rattle.pg_lines.specs.Blocks.{BlockData, joined, IsFinished, IsUnfinished, AreNumbered, Cuts}
 use Rattle.pg_lines.specs.Long.{has_long, open_from, CutsOff}
 use Rattle.pg_lines.specs.Cutter.{Fed, Stands, IsDrained, fed, handed, IsNextBlock, AreAllBlocks, HasLongLine}
 use Rattle.pg_lines.specs.declared.cutter.Cutter.{Cutter}
@@ -32,15 +32,6 @@ drained cutter past s d =
     let C : List BlockData → Type 0 = λ bs. Cuts past.end past.size past.bytes bs cutter.rest.items in
     let P : List BlockData → Type 0 = λ bs. C bs × AreNumbered past.file 0 bs in
     subst P same (s.cut, s.numbered)
-
-pub finished_none : {A : Type 0} (cutter : Cutter A) (past : Fed) → Stands cutter past → IsDrained cutter
-    → cutter.rest.items ≡ [] → AreAllBlocks (handed past None)
-finished_none cutter past s d e =
-    let h = drained cutter past s d in
-    let C : List ℕ → Type 0 = λ rest. Cuts past.end past.size past.bytes past.taken rest in
-    let P : List BlockData → Type 0 = λ bs. AreNumbered past.file 0 bs × IsCut past.end past.size past.bytes bs in
-    let both = subst P (sym (append-nil past.taken)) (h.1, inl (subst C e h.0)) in
-    record { numbered = both.0; cut = both.1 }
 
 pub finished_some : {A : Type 0} (cutter : Cutter A) (past : Fed) → Stands cutter past → IsDrained cutter
     → cutter.rest.items ≢ []

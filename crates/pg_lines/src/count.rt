@@ -51,19 +51,23 @@ fn hits_in_chunk(byte: u8, bytes: &[u8], at: usize) -> u64
         .to_bitmask()
 }
 
+/// How often a byte stands among some bytes, each of which is looked at.
+fn count_each(byte: u8, bytes: &[u8]) -> usize
+    ensures { result ≡ count_by (λ b. b == byte) bytes.now }
+{
+    bytes.iter().filter(|b| **b == byte).count()
+}
+
 /// How often a byte stands among the bytes from a place on. Those behind the last whole chunk are looked at in the last
 /// 16 bytes of all, where there are so many.
 fn count_from(byte: u8, bytes: &[u8], from: usize) -> usize
     requires { from ≤ length bytes.now }
     ensures { result ≡ count_by (λ b. b == byte) (drop from bytes.now) }
 {
-    let mut count = 0;
     if bytes.len() < CHUNK {
-        for b in &bytes[from..] {
-            count += usize::from(*b == byte);
-        }
-        return count;
+        return count_each(byte, &bytes[from..]);
     }
+    let mut count = 0;
     let mut at = from;
     while bytes.len() - at >= CHUNK {
         count += hits_in_chunk(byte, bytes, at).count_ones() as usize;

@@ -321,9 +321,6 @@ memory_marked_end m old new r answer is w le told =
     same_some : (a c : Bool) → Some a ≡ Some c → a ≡ c
     same_some a c e = cc
 
-pub keeps_self : (mem : Remembered) → Keeps mem mem
-keeps_self mem = record { sets = λ r le. same_self (In mem r); fresh = λ r le. refl; more = omega arith }
-
 -- a row's number, and the state of a walk
 pub row_of : (state r : ℕ) → state ≡ 256 * r → state / 256 ≡ r
 row_of state r e = omega arith

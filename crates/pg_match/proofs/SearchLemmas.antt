@@ -297,12 +297,6 @@ not_late : (t : List State) (l : List ℕ) (x : ℕ) (B E : ℕ → Type 0) (fro
 not_late t l x B E from p None b none early = true≢false none
 not_late t l x B E from p (Some c) b none early = omega (arith, b.1, b.2)
 
-pub searching_below : (m : Nfa) (l : List ℕ) (from p : ℕ) (s : Buffers) (best : Option (ℕ × ℕ)) → Searching m l from p s best → AllBelow s.current (p + 1)
-searching_below m l from p s best g q = elim (cases_lt 0 (mark s.current q)) [
-  | inl some ↦ let a = g.alive.sound q some in omega (arith, a.1, a.3)
-  | inr none ↦ omega arith
-]
-
 module _ (m : Nfa) (l : List ℕ) (from p : ℕ) (s u : Buffers) (best : Option (ℕ × ℕ)) (is : IsRunnable m)
     (g : Searching m l from p s best) (le : from ≤ p) where
   -- after the set of p is complete
@@ -324,11 +318,6 @@ wide : (t : List State) (l : List ℕ) (x : ℕ) (B E : ℕ → Type 0) (from p 
 wide t l x B E from p None short s le early = omega arith
 wide t l x B E from p (Some c) short s le early = omega arith
 
-pub limit_fits : (t : List State) (l : List ℕ) (x : ℕ) (B E : ℕ → Type 0) (from p : ℕ) (best : Option (ℕ × ℕ)) → p < 2 ^ 31
-    → IsBest t l x B E from (p + 1) best → limit_of best < 2 ^ 32
-limit_fits t l x B E from p None short b = omega arith
-limit_fits t l x B E from p (Some c) short b = omega (arith, b.1, b.2)
-
 pub searched : (m : Nfa) (l : List ℕ) (from p : ℕ) (s u : Buffers) (best : Option (ℕ × ℕ)) → p < 2 ^ 31
     → Alive m.states l m.start (MayBegin m.bounds l) from (p + 1) p s.current best
     → IsBest m.states l m.start (MayBegin m.bounds l) (MayEnd m.bounds l) from (p + 1) best
@@ -339,15 +328,6 @@ searched m l from p s u best short a b step fits = record {
   next = fits.next;
   next_size = fits.next_size;
   so_far = b;
-}
-
-pub search_first : (m : Nfa) (l : List ℕ) (from : ℕ) (s : Buffers) → IsGood s.current → IsEmpty s.current → length s.current.marks ≡ length m.states
-    → IsGood s.next → length s.next.marks ≡ length m.states → Searching m l from from s None
-search_first m l from s good empty size next next_size = record {
-  alive = alive_first m.states l m.start (MayBegin m.bounds l) (MayEnd m.bounds l) from s.current None good empty size;
-  next = next;
-  next_size = next_size;
-  so_far = λ v j ge lt less. absurd (omega arith);
 }
 
 -- a span was found, and nothing is left that may win over it

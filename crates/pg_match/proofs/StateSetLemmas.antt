@@ -32,18 +32,6 @@ member_in t q h =
       | inr past ↦ let z : mark t q ≡ 0 = get_or_past t.marks q 0 past in absurd (omega arith)
     ]
 
-pub same_inserted : (t : Members) (q start : ℕ) → IsGood t → 0 < mark t q → Inserted t t q start
-same_inserted t q start good some = record {
-  good = good;
-  size = refl;
-  kept = λ r h. refl;
-  fresh = λ r z h. absurd (omega arith);
-  here = some;
-  list = λ k h. refl;
-  longer = omega arith;
-  last = λ k ge lt. absurd (omega arith);
-}
-
 pub new_inserted : (t u : Members) (q start : ℕ) → IsGood t → q < length t.marks → 0 < start → mark t q ≡ 0
     → u.order ≡ set t.order t.len q → u.marks ≡ set t.marks q start → u.len ≡ t.len + 1
     → Inserted t u q start

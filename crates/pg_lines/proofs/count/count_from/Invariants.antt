@@ -1,12 +1,6 @@
-use Rattle.std.proofs.Common.{◌≡◌, ◌==◌, ◌+◌, ◌-◌, ◌≤◌, length, take, drop}
+use Rattle.std.proofs.Common.{◌≡◌, ◌==◌, ◌+◌, ◌-◌, ◌≤◌, length, drop}
 use Rattle.std.specs.List.{count_by}
 use Rattle.pg_lines.proofs.count.count_from.Given as goal
-
-abbrev pub invariant-loop-b : goal.invariant-loop-b
-invariant-loop-b l = record {
-  few : l.count ≤ l.b-index;
-  counted : l.count ≡ count_by (λ b. b == l.byte) (take l.b-index l.b-items);
-}
 
 abbrev pub invariant-loop-at : goal.invariant-loop-at
 invariant-loop-at l = record {
