@@ -11,85 +11,128 @@ pub const MAX_BLOCK: u32 = 16_777_216;
 /// The largest number of blocks in a round.
 pub const MAX_ROUND: u32 = 1_024;
 
+/// An option without a value: its name in this crate, its letter and its long name.
+type Flag = (&'static str, char, &'static str);
+
+/// What is searched for. -G is read by nobody: it asks for what is taken without -E and -F, and has no
+/// effect beside them.
+static PATTERN_FLAGS: [Flag; 8] = [
+    ("extended", 'E', "extended-regexp"),
+    ("fixed", 'F', "fixed-strings"),
+    ("basic", 'G', "basic-regexp"),
+    ("fold", 'i', "ignore-case"),
+    ("invert", 'v', "invert-match"),
+    ("word", 'w', "word-regexp"),
+    ("whole", 'x', "line-regexp"),
+    ("zero", 'z', "null-data"),
+];
+
+/// What is written of it.
+static MODE_FLAGS: [Flag; 3] = [
+    ("pieces", 'o', "only-matching"),
+    ("count", 'c', "count"),
+    ("list", 'l', "files-with-matches"),
+];
+
+/// What rows begin with.
+static ROW_FLAGS: [Flag; 3] = [
+    ("numbers", 'n', "line-number"),
+    ("names", 'H', "with-filename"),
+    ("no-names", 'h', "no-filename"),
+];
+
+/// Which files are searched. Every file is text, so -a has no effect.
+static FILE_FLAGS: [Flag; 3] = [
+    ("recursive", 'r', "recursive"),
+    ("silent", 's', "no-messages"),
+    ("as-text", 'a', "text"),
+];
+
+/// How the work is cut: options whose values are numbers from 1 to a largest one, by their long names.
+static RANGES: [(&str, u32); 3] = [
+    ("workers", MAX_WORKERS),
+    ("block", MAX_BLOCK),
+    ("round", MAX_ROUND),
+];
+
 /// The options and operands of a search.
 pub fn search_command<'a>(alloc: Global) -> Result<Command<'a>, AllocError> {
-    let command = Command::new(alloc, "pargrep")
+    let args = search_args(alloc)?;
+    Command::new(alloc, "pargrep")
         .override_usage("pargrep [OPTION ...] [PATTERN] [FILE ...]")
         .no_binary_name(true)
         .disable_help_flag(true)
         .disable_version_flag(true)
-        .args_override_self(true);
-    let command = with_patterns(alloc, command)?;
-    let command = with_rows(alloc, command)?;
-    let command = with_context(alloc, command)?;
-    let command = with_files(alloc, command)?;
-    let command = with_work(alloc, command)?;
-    command
-        .arg(long_flag(alloc, "help", "help"))?
-        .arg(flag(alloc, "version", 'V', "version"))?
-        .arg(operands(alloc))
+        .args_override_self(true)
+        .args(args)
 }
 
-/// What is searched for. -G is read by nobody: it asks for what is taken without -E and -F, and has no
-/// effect beside them.
-fn with_patterns<'a>(alloc: Global, command: Command<'a>) -> Result<Command<'a>, AllocError> {
-    command
-        .arg(flag(alloc, "extended", 'E', "extended-regexp"))?
-        .arg(flag(alloc, "fixed", 'F', "fixed-strings"))?
-        .arg(flag(alloc, "basic", 'G', "basic-regexp"))?
-        .arg(flag(alloc, "fold", 'i', "ignore-case"))?
-        .arg(flag(alloc, "invert", 'v', "invert-match"))?
-        .arg(flag(alloc, "word", 'w', "word-regexp"))?
-        .arg(flag(alloc, "whole", 'x', "line-regexp"))?
-        .arg(flag(alloc, "zero", 'z', "null-data"))?
-        .arg(pattern_option(alloc, "text", 'e', "regexp", "TEXT"))?
-        .arg(pattern_option(alloc, "pattern-file", 'f', "file", "FILE"))
+/// The options, and behind them the operands.
+fn search_args<'a>(alloc: Global) -> Result<Vec<Arg<'a>>, AllocError> {
+    let mut args = Vec::new(alloc);
+    add_options(alloc, &mut args)?;
+    args.push(operands(alloc))?;
+    Ok(args)
+}
+
+fn add_options<'a>(alloc: Global, args: &mut Vec<Arg<'a>>) -> Result<(), AllocError> {
+    add_patterns(alloc, args)?;
+    add_rows(alloc, args)?;
+    add_context(alloc, args)?;
+    add_flags(alloc, args, &FILE_FLAGS)?;
+    add_work(alloc, args)?;
+    add_texts(alloc, args)
+}
+
+/// Adds flags, in their order.
+fn add_flags<'a>(alloc: Global, args: &mut Vec<Arg<'a>>, flags: &[Flag]) -> Result<(), AllocError> {
+    for (name, letter, long) in flags {
+        args.push(flag(alloc, name, *letter, long))?;
+    }
+    Ok(())
+}
+
+/// What is searched for.
+fn add_patterns<'a>(alloc: Global, args: &mut Vec<Arg<'a>>) -> Result<(), AllocError> {
+    add_flags(alloc, args, &PATTERN_FLAGS)?;
+    args.push(pattern_option(alloc, "text", 'e', "regexp", "TEXT"))?;
+    args.push(pattern_option(alloc, "pattern-file", 'f', "file", "FILE"))?;
+    Ok(())
 }
 
 /// What is written of it.
-fn with_rows<'a>(alloc: Global, command: Command<'a>) -> Result<Command<'a>, AllocError> {
-    let quiet = flag(alloc, "quiet", 'q', "quiet").alias("silent")?;
-    command
-        .arg(flag(alloc, "pieces", 'o', "only-matching"))?
-        .arg(flag(alloc, "count", 'c', "count"))?
-        .arg(flag(alloc, "list", 'l', "files-with-matches"))?
-        .arg(quiet)?
-        .arg(flag(alloc, "numbers", 'n', "line-number"))?
-        .arg(flag(alloc, "names", 'H', "with-filename"))?
-        .arg(flag(alloc, "no-names", 'h', "no-filename"))
+fn add_rows<'a>(alloc: Global, args: &mut Vec<Arg<'a>>) -> Result<(), AllocError> {
+    add_flags(alloc, args, &MODE_FLAGS)?;
+    args.push(flag(alloc, "quiet", 'q', "quiet").alias("silent")?)?;
+    add_flags(alloc, args, &ROW_FLAGS)
 }
 
 /// How many lines are written.
-fn with_context<'a>(alloc: Global, command: Command<'a>) -> Result<Command<'a>, AllocError> {
-    let limit = number_option(alloc, "limit", "max-count")
-        .short('m')
-        .value_parser(clap::value_parser!(u32).range(1..));
-    let after = number_option(alloc, "after", "after-context")
-        .short('A')
-        .value_parser(clap::value_parser!(u32));
-    let before = number_option(alloc, "before", "before-context")
-        .short('B')
-        .value_parser(clap::value_parser!(u16));
-    let around = number_option(alloc, "around", "context")
-        .short('C')
-        .value_parser(clap::value_parser!(u16));
-    command.arg(limit)?.arg(after)?.arg(before)?.arg(around)
-}
-
-/// Which files are searched. Every file is text, so -a has no effect.
-fn with_files<'a>(alloc: Global, command: Command<'a>) -> Result<Command<'a>, AllocError> {
-    command
-        .arg(flag(alloc, "recursive", 'r', "recursive"))?
-        .arg(flag(alloc, "silent", 's', "no-messages"))?
-        .arg(flag(alloc, "as-text", 'a', "text"))
+fn add_context<'a>(alloc: Global, args: &mut Vec<Arg<'a>>) -> Result<(), AllocError> {
+    let limit = number_option(alloc, "limit", "max-count").short('m');
+    args.push(limit.value_parser(clap::value_parser!(u32).range(1..)))?;
+    let after = number_option(alloc, "after", "after-context").short('A');
+    args.push(after.value_parser(clap::value_parser!(u32)))?;
+    let before = number_option(alloc, "before", "before-context").short('B');
+    args.push(before.value_parser(clap::value_parser!(u16)))?;
+    let around = number_option(alloc, "around", "context").short('C');
+    args.push(around.value_parser(clap::value_parser!(u16)))?;
+    Ok(())
 }
 
 /// How the work is cut.
-fn with_work<'a>(alloc: Global, command: Command<'a>) -> Result<Command<'a>, AllocError> {
-    command
-        .arg(ranged_option(alloc, "workers", MAX_WORKERS))?
-        .arg(ranged_option(alloc, "block", MAX_BLOCK))?
-        .arg(ranged_option(alloc, "round", MAX_ROUND))
+fn add_work<'a>(alloc: Global, args: &mut Vec<Arg<'a>>) -> Result<(), AllocError> {
+    for (name, largest) in &RANGES {
+        args.push(ranged_option(alloc, name, *largest))?;
+    }
+    Ok(())
+}
+
+/// What is told of the program.
+fn add_texts<'a>(alloc: Global, args: &mut Vec<Arg<'a>>) -> Result<(), AllocError> {
+    args.push(long_flag(alloc, "help", "help"))?;
+    args.push(flag(alloc, "version", 'V', "version"))?;
+    Ok(())
 }
 
 fn long_flag<'a>(alloc: Global, name: &'a str, long: &'a str) -> Arg<'a> {

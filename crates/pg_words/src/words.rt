@@ -1,10 +1,11 @@
 //! The words of the command line.
-ghost use Rattle.std.specs.Prelude.{◌≡◌};
+ghost use Rattle.std.specs.Prelude.{◌≡◌, ◌<◌, ◌+◌, vec_len};
 ghost use Rattle.pg_words.specs.declared.words.WordsFault.TheVariants.{OutOfMemory, Usage};
 
 use crate::command::{MAX_BLOCK, MAX_ROUND, MAX_WORKERS, options_of, search_command};
 use crate::help::{HELP, VERSION};
 use crate::operands::{Operands, place_operands, searched_files};
+use crate::options::Options;
 use crate::request::Request;
 use crate::split::Words;
 use crate::usage::{UsageFault, check_usage};
@@ -119,7 +120,21 @@ fn request_of<'a>(alloc: Global, found: &ArgMatches<'a>) -> Result<Request<'a>, 
     let options = options_of(found);
     check_usage(&options, texts.as_slice(), pattern_files.as_slice(), files)?;
     let files = searched_files(alloc, files)?;
-    Ok(Request {
+    Ok(build_request(found, &options, texts, pattern_files, files))
+}
+
+/// The search with these options, texts and files of patterns, and files that are searched.
+fn build_request<'a>(
+    found: &ArgMatches<'a>,
+    options: &Options,
+    texts: Vec<&'a str>,
+    pattern_files: Vec<&'a str>,
+    files: Vec<&'a str>,
+) -> Request<'a>
+    requires some_pattern { 0 < vec_len texts + vec_len pattern_files }
+    requires some_file { 0 < vec_len files }
+{
+    Request {
         kind: options.kind(),
         texts,
         pattern_files,
@@ -137,7 +152,7 @@ fn request_of<'a>(alloc: Global, found: &ArgMatches<'a>) -> Result<Request<'a>, 
         workers: number_of(found, "workers", DEFAULT_WORKERS).clamp(1, MAX_WORKERS),
         block: number_of(found, "block", DEFAULT_BLOCK).clamp(1, MAX_BLOCK),
         round: number_of(found, "round", DEFAULT_ROUND).clamp(1, MAX_ROUND),
-    })
+    }
 }
 
 /// The number that an option gives, and this one where it isn't given.
