@@ -159,13 +159,16 @@ fn has_value(letter: u8) -> bool
 fn wants_value(word: &str) -> bool
     ensures { result ≡ wants_value word.now }
 {
-    word == "--regexp"
-        || word == "--file"
-        || word == "--max-count"
-        || word == "--after-context"
-        || word == "--before-context"
-        || word == "--context"
-        || word == "--workers"
-        || word == "--block"
-        || word == "--round"
+    matches!(
+        word,
+        "--regexp"
+            | "--file"
+            | "--max-count"
+            | "--after-context"
+            | "--before-context"
+            | "--context"
+            | "--workers"
+            | "--block"
+            | "--round"
+    )
 }
