@@ -1,4 +1,5 @@
-use Rattle.std.proofs.Common.{◌≡◌, inl, inr, ⊎_elim, true, List, All, Any, [], ◌∷◌, ◌++◌, sym, subst, arith}
+use Rattle.std.proofs.Common.{◌≡◌, inl, inr, ⊎_elim, true, List, All, Any, [], ◌∷◌, ◌++◌, refl, sym, subst, arith}
+use Rattle.std.proofs.lemmas.Result.{err_from_is_err_and}
 use Rattle.std.specs.Arc.{arc_value}
 use Rattle.pg_match.specs.Machines.{Fits, Room}
 use Rattle.pg_lines.specs.Searched.{Searched}
@@ -38,7 +39,55 @@ loop-worker-preserved g c =
       room = ((let a = i.room.0 in let l = s.capacity in omega arith), (let a = i.room.1 in let l = p.capacity in omega arith));
     }
 
-pub returns-clause-spent : goal.returns-clause-spent
-returns-clause-spent g c =
+pub loop-worker-init : goal.loop-worker-init
+loop-worker-init g c =
+    let s = c.in_ok-seats.ensures in let p = c.in_ok-passes.ensures in
+    let a = s.len in let b = p.len in let d = s.exact in let e = p.exact in
+    let l = c.len.ensures in let k = c.len-2.ensures in
+    record {
+      worked = c.requires.worked;
+      works = rw (s.items, p.items) tt;
+      spent = inl c.requires.spent;
+      fits = c.requires.fits;
+      same = omega arith;
+      count = omega arith;
+      back = refl;
+      room = (omega arith, omega arith);
+    }
+
+pub push_reserved-requires : goal.push_reserved-requires
+push_reserved-requires g c =
+    let i = c.loop-worker.invariant in let a = i.count in let b = c.in-Some.ensures.cases in let d = i.room.0 in
+    omega arith
+
+pub push_reserved-requires-in-Some : goal.push_reserved-requires-in-Some
+push_reserved-requires-in-Some g c =
+    let i = c.loop-worker.invariant in let a = i.count in let e = i.same in let b = c.in-Some.ensures.cases in let d = i.room.1 in
+    omega arith
+
+pub returns-in_err-seats : goal.returns-in_err-seats
+returns-in_err-seats g c =
+    let p = err_from_is_err_and c.from_residual.result c.from_residual.ensures.1 in
+    rw p.1 (record { works = tt; spent = tt; len = tt; fits = tt; count = tt })
+
+pub returns-in_err-passes : goal.returns-in_err-passes
+returns-in_err-passes g c =
+    let p = err_from_is_err_and c.from_residual-in_err-passes.result c.from_residual-in_err-passes.ensures.1 in
+    rw p.1 (record { works = tt; spent = tt; len = tt; fits = tt; count = tt })
+
+pub returns-in_err-push : goal.returns-in_err-push
+returns-in_err-push g c =
+    let p = err_from_is_err_and c.from_residual-in_err-push.result c.from_residual-in_err-push.ensures.1 in
+    rw p.1 (record { works = tt; spent = tt; len = tt; fits = tt; count = tt })
+
+pub returns : goal.returns
+returns g c =
     let WasSpent : Worker g.row.A.Denot → Type 0 = λ w. w.seat.spent ≡ true in
-    ⊎_elim (λ some. any_none WasSpent c.loop-worker.workers.items some (let n = c.in_default.ensures.cases in omega (arith, c.loop-worker.workers.ok.0))) (λ done. done) c.loop-worker.invariant.spent
+    let i = c.loop-worker.invariant in let n = c.in_default.ensures.cases in
+    record {
+      works = i.works;
+      spent = ⊎_elim (λ some. any_none WasSpent c.loop-worker.workers.items some (omega (arith, c.loop-worker.workers.ok.0))) (λ done. done) i.spent;
+      len = (let a = i.count in omega arith);
+      fits = i.fits;
+      count = (let a = i.back in omega arith);
+    }
