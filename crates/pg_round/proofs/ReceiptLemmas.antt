@@ -1,5 +1,5 @@
 -- Results that were received one after another.
-use Rattle.std.proofs.Common.{◌≡◌, ℕ, ◌<◌, false, List, [], ◌∷◌, ◌++◌, refl, sym, ap, ◌∙◌, subst, append_assoc, append-nil, Result, Ok, Err, OnOk, OnErr}
+use Rattle.std.proofs.Common.{◌≡◌, ℕ, ◌<◌, false, List, [], ◌∷◌, ◌++◌, refl, sym, ap, ◌∙◌, subst, append_assoc, append-nil, Result, Ok, Err, OnOk, OnErr, IsErrOf}
 use Rattle.std.specs.declared.sync.Arc.{Arc}
 use Rattle.pg_lines.specs.Blocks.{BlockData}
 use Rattle.pg_lines.specs.Search.{SearchText}
@@ -101,6 +101,10 @@ on_err P (Err e) p = p
 pub on_ok : {T E : Type 0} (P : Type 0) (r : Result T E) → P → OnOk r P
 on_ok P (Ok x) p = p
 on_ok P (Err e) p = tt
+
+-- an error is this one, whatever value there would be else
+pub same_fault : {T U E : Type 0} (x y : E) → IsErrOf {T = T} (Err x) y → IsErrOf {T = U} (Err x) y
+same_fault x y is = let e : x ≡ y = cc in ap Err e
 
 pub map_ok : {T E : Type 0} (P Q : Type 0) (r : Result T E) → (P → Q) → OnOk r P → OnOk r Q
 map_ok P Q (Ok x) f p = f p

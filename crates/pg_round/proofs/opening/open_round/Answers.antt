@@ -1,4 +1,4 @@
-use Rattle.std.proofs.Common.{◌≡◌, ◌∙◌, ℕ, List, All, [], false, length, replicate, vec_len, refl, sym, subst, ap, arith}
+use Rattle.std.proofs.Common.{◌≡◌, ◌∙◌, ℕ, List, All, [], false, length, replicate, refl, sym, subst, ap, arith}
 use Rattle.std.proofs.lemmas.List.{length-replicate}
 use Rattle.pg_lines.specs.Searched.{Searched}
 use Rattle.pg_board.specs.Board.{SeatView, seat_view}

@@ -1,44 +1,76 @@
-use Rattle.std.proofs.Common.{List, sym, subst}
+use Rattle.std.proofs.Common.{List, refl, sym, subst}
+use Rattle.std.proofs.lemmas.Result.{IfOk-at_ok, err_from_is_err_and}
 use Rattle.pg_lines.specs.Searched.{Searched}
-use Rattle.pg_round.specs.Receipts.{HasReceived, HasFailed}
+use Rattle.pg_round.specs.Receipts.{HasReceived}
 use Rattle.pg_round.specs.Reading.{HasGoneOn}
-use Rattle.pg_round.proofs.ReceiptLemmas.{received_none, failed_after, took_ok, took_err, on_err}
+use Rattle.pg_round.proofs.ReceiptLemmas.{received_none, failed_after, took_ok, took_err}
 use Rattle.pg_round.proofs.searching.search_beside.Goals as goal
 
-pub returns-then-is_empty-clause-ok : goal.returns-then-is_empty-clause-ok
-returns-then-is_empty-clause-ok g c = λ past st n s.
+pub returns-then-is_empty : goal.returns-then-is_empty
+returns-then-is_empty g c =
     let w = g.W.Sink.taken c.args.out.now in let stands = g.S.Collector.stands c.args.collector.now in
-    subst (λ (l : List Searched). HasReceived stands past l w w) (sym c.requires.take.1) (received_none stands past w st s)
+    record {
+      worked = (refl, c.requires.worked);
+      same = (c.requires.take.0, refl);
+      ok = λ past st n s. subst (λ (l : List Searched). HasReceived stands past l w w) (sym c.requires.take.1) (received_none stands past w st s);
+      err = λ past st n s. tt;
+      cause = λ past st n s is. absurd (cc is);
+      calm = refl;
+      ready = c.requires.reader;
+      read = λ r f h. h;
+    }
 
-pub returns-clause-ok : goal.returns-clause-ok
-returns-clause-ok g c = λ past st n s.
-    took_ok c.stream-back.result.1 c.in_ok-taken.field-0 (g.S.Collector.stands c.args.collector.now) (g.S.Collector.stands c.stream-back.new.collector) c.stream-back.new.take.taken (g.W.Sink.taken c.args.out.now) (g.W.Sink.taken c.stream-back.new.out) (g.W.Sink.failures c.args.out.now) (g.W.Sink.failures c.stream-back.new.out) c.stream-back.ensures.took c.in_ok-taken.was past st n s
-
-pub returns-in_err-taken-clause-err : goal.returns-in_err-taken-clause-err
-returns-in_err-taken-clause-err g c = λ past st n s.
+pub returns-in_err-taken : goal.returns-in_err-taken
+unfolding HasGoneOn
+returns-in_err-taken g c =
+    let p = err_from_is_err_and c.from_residual.result c.from_residual.ensures.1 in
+    let e = c.stream-back.ensures in let stands = g.S.Collector.stands c.args.collector.now in let last = g.S.Collector.stands c.stream-back.new.collector in
     let b = g.W.Sink.taken c.args.out.now in let a = g.W.Sink.taken c.stream-back.new.out in
-    on_err (HasFailed past b a) c.from_residual.result
-    (took_err c.stream-back.result.1 _ (g.S.Collector.stands c.args.collector.now) (g.S.Collector.stands c.stream-back.new.collector) c.stream-back.new.take.taken b a (g.W.Sink.failures c.args.out.now) (g.W.Sink.failures c.stream-back.new.out) c.stream-back.ensures.took c.in_err-taken.was past st n s).0
+    let f = g.W.Sink.failures c.args.out.now in let f' = g.W.Sink.failures c.stream-back.new.out in
+    rw (p.1, p.2) (record {
+      worked = tt;
+      same = e.same;
+      ok = λ past st n s. tt;
+      err = λ past st n s. (took_err c.stream-back.result.1 _ stands last c.stream-back.new.take.taken b a f f' e.took c.in_err-taken.was past st n s).0;
+      cause = λ past st n s is. (took_err c.stream-back.result.1 _ stands last c.stream-back.new.take.taken b a f f' e.took c.in_err-taken.was past st n s).1;
+      calm = tt;
+      ready = e.ready;
+      read = λ r f h. e.read r f h;
+    })
 
-pub returns-in_err-taken-clause-cause : goal.returns-in_err-taken-clause-cause
-returns-in_err-taken-clause-cause g c = λ past st n s e.
-    (took_err c.stream-back.result.1 _ (g.S.Collector.stands c.args.collector.now) (g.S.Collector.stands c.stream-back.new.collector) c.stream-back.new.take.taken (g.W.Sink.taken c.args.out.now) (g.W.Sink.taken c.stream-back.new.out) (g.W.Sink.failures c.args.out.now) (g.W.Sink.failures c.stream-back.new.out) c.stream-back.ensures.took c.in_err-taken.was past st n s).1
-
-pub returns-in_err-back-clause-err : goal.returns-in_err-back-clause-err
-returns-in_err-back-clause-err g c = λ past st n s.
+pub returns-in_err-back : goal.returns-in_err-back
+unfolding HasGoneOn
+returns-in_err-back g c =
+    let p = err_from_is_err_and c.from_residual-in_err-back.result c.from_residual-in_err-back.ensures.1 in
+    let e = c.stream-back.ensures in let stands = g.S.Collector.stands c.args.collector.now in let last = g.S.Collector.stands c.stream-back.new.collector in
     let b = g.W.Sink.taken c.args.out.now in let a = g.W.Sink.taken c.stream-back.new.out in
-    on_err (HasFailed past b a) c.from_residual-in_err-back.result
-    (failed_after (g.S.Collector.stands c.stream-back.new.collector) past c.stream-back.new.take.taken b a
-    (took_ok c.stream-back.result.1 c.in_ok-taken.field-0 (g.S.Collector.stands c.args.collector.now) (g.S.Collector.stands c.stream-back.new.collector) c.stream-back.new.take.taken b a (g.W.Sink.failures c.args.out.now) (g.W.Sink.failures c.stream-back.new.out) c.stream-back.ensures.took c.in_ok-taken.was past st n s))
+    let f = g.W.Sink.failures c.args.out.now in let f' = g.W.Sink.failures c.stream-back.new.out in
+    rw (p.1, p.2) (record {
+      worked = tt;
+      same = e.same;
+      ok = λ past st n s. tt;
+      err = λ past st n s.
+          failed_after last past c.stream-back.new.take.taken b a
+          (took_ok c.stream-back.result.1 c.in_ok-taken.field-0 stands last c.stream-back.new.take.taken b a f f' e.took c.in_ok-taken.was past st n s);
+      cause = λ past st n s is. absurd (cc is);
+      calm = tt;
+      ready = e.ready;
+      read = λ r f h. e.read r f h;
+    })
 
-pub returns-clause-read : goal.returns-clause-read
+pub returns : goal.returns
 unfolding HasGoneOn
-returns-clause-read g c = λ r f h. c.stream-back.ensures.read r f h
-
-pub returns-in_err-taken-clause-read : goal.returns-in_err-taken-clause-read
-unfolding HasGoneOn
-returns-in_err-taken-clause-read g c = λ r f h. c.stream-back.ensures.read r f h
-
-pub returns-in_err-back-clause-read : goal.returns-in_err-back-clause-read
-unfolding HasGoneOn
-returns-in_err-back-clause-read g c = λ r f h. c.stream-back.ensures.read r f h
+returns g c =
+    let e = c.stream-back.ensures in let stands = g.S.Collector.stands c.args.collector.now in let last = g.S.Collector.stands c.stream-back.new.collector in
+    let b = g.W.Sink.taken c.args.out.now in let a = g.W.Sink.taken c.stream-back.new.out in
+    let f = g.W.Sink.failures c.args.out.now in let f' = g.W.Sink.failures c.stream-back.new.out in
+    record {
+      worked = IfOk-at_ok _ c.in_ok-back.was e.worked;
+      same = e.same;
+      ok = λ past st n s. took_ok c.stream-back.result.1 c.in_ok-taken.field-0 stands last c.stream-back.new.take.taken b a f f' e.took c.in_ok-taken.was past st n s;
+      err = λ past st n s. tt;
+      cause = λ past st n s is. absurd (cc is);
+      calm = IfOk-at_ok _ c.in_ok-taken.was e.calm;
+      ready = e.ready;
+      read = λ r f h. e.read r f h;
+    }

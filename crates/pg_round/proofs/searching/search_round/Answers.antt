@@ -1,27 +1,109 @@
-use Rattle.std.proofs.Common.{List, subst}
+use Rattle.std.proofs.Common.{◌∙◌, List, ap, sym, subst, arith}
 use Rattle.std.specs.Arc.{arc_value}
+use Rattle.std.proofs.lemmas.Result.{err_from_is_err_and}
 use Rattle.pg_lines.specs.Searched.{Searched}
-use Rattle.pg_round.specs.Receipts.{HasFailed, HasDelivered}
-use Rattle.pg_round.proofs.ReceiptLemmas.{broken_more, round_done, on_err}
+use Rattle.pg_round.specs.Receipts.{HasDelivered}
+use Rattle.pg_round.specs.declared.searching.RoundFault.TheVariants.{Sink as SinkFails}
+use Rattle.pg_round.proofs.ReceiptLemmas.{broken_more, failed_none, failed_after, round_done, same_fault}
 use Rattle.pg_round.proofs.searching.search_round.Goals as goal
 
-pub returns-in_err-deliver-clause-err : goal.returns-in_err-deliver-clause-err
-returns-in_err-deliver-clause-err g c = λ past st n s.
-    let b = g.W.Sink.taken c.args.out.now in let m = g.W.Sink.taken c.search_all.new.out in let a = g.W.Sink.taken c.deliver.new.out in
-    on_err (HasFailed past b a) c.from_residual-in_err-deliver.result
-    (broken_more (g.S.Collector.stands c.search_all.new.collector) past c.search_all.new.take.taken b m a (g.W.Sink.failures c.args.out.now) (g.W.Sink.failures c.search_all.new.out) (g.W.Sink.failures c.deliver.new.out)
-    (c.in_ok-workers.ensures.ok past st n s) c.in_ok-workers.ensures.calm c.in_err-deliver.ensures.err n).0
+pub open_round-requires-clause-few : goal.open_round-requires-clause-few
+open_round-requires-clause-few g c = let n = c.count_workers-count.ensures in let l = c.len.ensures in (n.0, n.1, omega arith, c.requires.few.2)
 
-pub returns-in_err-deliver-clause-cause : goal.returns-in_err-deliver-clause-cause
-returns-in_err-deliver-clause-cause g c = λ past st n s e.
-    let b = g.W.Sink.taken c.args.out.now in let m = g.W.Sink.taken c.search_all.new.out in let a = g.W.Sink.taken c.deliver.new.out in
-    (broken_more (g.S.Collector.stands c.search_all.new.collector) past c.search_all.new.take.taken b m a (g.W.Sink.failures c.args.out.now) (g.W.Sink.failures c.search_all.new.out) (g.W.Sink.failures c.deliver.new.out)
-    (c.in_ok-workers.ensures.ok past st n s) c.in_ok-workers.ensures.calm c.in_err-deliver.ensures.err n).1
+pub open_round-requires-clause-fits : goal.open_round-requires-clause-fits
+open_round-requires-clause-fits g c = c.requires.fits
 
-pub returns-clause-ok : goal.returns-clause-ok
-returns-clause-ok g c = λ past st n s.
+pub close_round-requires-clause-worked : goal.close_round-requires-clause-worked
+close_round-requires-clause-worked g c = c.in_ok-workers.ensures.worked.1
+
+pub close_round-requires-clause-spent : goal.close_round-requires-clause-spent
+close_round-requires-clause-spent g c = (c.in_ok-workers.ensures.spent, sym c.in_ok-board.ensures.board.0)
+
+pub close_round-requires-clause-all : goal.close_round-requires-clause-all
+close_round-requires-clause-all g c =
+    let opened = c.in_ok-board.ensures in let back = c.in_ok-workers.ensures in
+    (back.worked.0 ∙ opened.workers.0 ∙ sym opened.board.1, back.worked.0 ∙ opened.workers.0 ∙ sym (back.same.1 ∙ ap (λ t. t.workers) opened.take), back.same.0)
+
+pub close_round-requires-clause-fits : goal.close_round-requires-clause-fits
+close_round-requires-clause-fits g c = c.in_ok-board.ensures.scratches.0
+
+pub deliver-requires : goal.deliver-requires
+deliver-requires g c = record { sees = c.requires.sees }
+
+pub returns-in_err-board : goal.returns-in_err-board
+returns-in_err-board g c =
+    let p = err_from_is_err_and c.from_residual.result c.from_residual.ensures.1 in
+    rw (p.1, p.2) (record {
+      ok = λ past st n s. tt;
+      err = λ past st n s. failed_none past (g.W.Sink.taken c.args.out.now) s;
+      cause = λ past st n s is. absurd (cc is);
+      calm = tt;
+      ready = c.requires.reader;
+      read = λ r f h. h;
+      scratches = tt;
+    })
+
+pub returns-in_err-workers : goal.returns-in_err-workers
+returns-in_err-workers g c =
+    let p = err_from_is_err_and c.from_residual-in_err-workers.result c.from_residual-in_err-workers.ensures.1 in
+    let e = c.in_err-workers.ensures in
+    rw (p.1, p.2) (record {
+      ok = λ past st n s. tt;
+      err = e.err;
+      cause = λ past st n s is. e.cause past st n s (same_fault c.in_err-workers.field-0.0 SinkFails is);
+      calm = tt;
+      ready = e.ready;
+      read = e.read;
+      scratches = tt;
+    })
+
+pub returns-in_err-delivered : goal.returns-in_err-delivered
+returns-in_err-delivered g c =
+    let p = err_from_is_err_and c.from_residual-in_err-delivered.result c.from_residual-in_err-delivered.ensures.1 in
+    let e = c.in_ok-workers.ensures in
+    rw (p.1, p.2) (record {
+      ok = λ past st n s. tt;
+      err = λ past st n s. failed_after (g.S.Collector.stands c.search_all.new.collector) past c.search_all.new.take.taken (g.W.Sink.taken c.args.out.now) (g.W.Sink.taken c.search_all.new.out) (e.ok past st n s);
+      cause = λ past st n s is. absurd (cc is);
+      calm = tt;
+      ready = e.ready;
+      read = e.read;
+      scratches = tt;
+    })
+
+pub returns-in_err-deliver : goal.returns-in_err-deliver
+returns-in_err-deliver g c =
+    let p = err_from_is_err_and c.from_residual-in_err-deliver.result c.from_residual-in_err-deliver.ensures.1 in
+    let b = g.W.Sink.taken c.args.out.now in let m = g.W.Sink.taken c.search_all.new.out in let a = g.W.Sink.taken c.deliver.new.out in
+    let e = c.in_ok-workers.ensures in
+    let mid = g.S.Collector.stands c.search_all.new.collector in let taken = c.search_all.new.take.taken in
+    let f = g.W.Sink.failures c.args.out.now in let f' = g.W.Sink.failures c.search_all.new.out in let f'' = g.W.Sink.failures c.deliver.new.out in
+    rw (p.1, p.2) (record {
+      ok = λ past st n s. tt;
+      err = λ past st n s. (broken_more mid past taken b m a f f' f'' (e.ok past st n s) e.calm c.in_err-deliver.ensures.err n).0;
+      cause = λ past st n s is. (broken_more mid past taken b m a f f' f'' (e.ok past st n s) e.calm c.in_err-deliver.ensures.err n).1;
+      calm = tt;
+      ready = e.ready;
+      read = e.read;
+      scratches = tt;
+    })
+
+pub returns : goal.returns
+returns g c =
     let b = g.W.Sink.taken c.args.out.now in let m = g.W.Sink.taken c.search_all.new.out in let a = g.W.Sink.taken c.deliver.new.out in
     let mid = g.S.Collector.stands c.search_all.new.collector in let last = g.S.Collector.stands c.deliver.new.collector in
     let left = c.in_ok-delivered.delivered in
-    round_done mid last past (arc_value c.args.query.now).text c.args.blocks.now left.lists c.search_all.new.take.taken b m a c.in_ok-delivered.ensures.all (c.in_ok-workers.ensures.ok past st n s)
-    (λ p h f i. subst (λ (l : List Searched). HasDelivered last p left.lists l m a) c.in_ok-delivered.ensures.taken (c.in_ok-deliver.ensures.ok p h f i)) n
+    let e = c.in_ok-workers.ensures in
+    let opened = c.in_ok-board.ensures.workers.0 in let lent = c.in_ok-board.ensures.scratches.1 in
+    let back = e.worked.0 in let given = c.in_ok-delivered.ensures.count in
+    record {
+      ok = λ past st n s.
+          round_done mid last past (arc_value c.args.query.now).text c.args.blocks.now left.lists c.search_all.new.take.taken b m a c.in_ok-delivered.ensures.all (e.ok past st n s)
+          (λ p h f i. subst (λ (l : List Searched). HasDelivered last p left.lists l m a) c.in_ok-delivered.ensures.taken (c.in_ok-deliver.ensures.ok p h f i)) n;
+      err = λ past st n s. tt;
+      cause = λ past st n s is. absurd (cc is);
+      calm = c.in_ok-deliver.ensures.calm ∙ e.calm;
+      ready = e.ready;
+      read = e.read;
+      scratches = (omega arith, c.in_ok-delivered.ensures.fits);
+    }
