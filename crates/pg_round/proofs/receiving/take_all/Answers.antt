@@ -1,7 +1,8 @@
 use Rattle.std.proofs.Common.{List, [], ◌∷◌, refl, sym, ◌∙◌, subst}
+use Rattle.std.proofs.lemmas.Result.{err_from_is_err_and}
 use Rattle.pg_lines.specs.Searched.{Searched}
-use Rattle.pg_round.specs.Receipts.{HasReceived, HasBroken}
-use Rattle.pg_round.proofs.ReceiptLemmas.{received_more, received_none, broken_more, on_err}
+use Rattle.pg_round.specs.Receipts.{HasReceived}
+use Rattle.pg_round.proofs.ReceiptLemmas.{received_more, received_none, broken_more}
 use Rattle.pg_round.proofs.receiving.take_all.Goals as goal
 
 pub loop-init : goal.loop-init
@@ -34,11 +35,60 @@ loop-preserved-in-Some-take g c =
       read = i.read;
     }
 
-pub returns-in_err-receive-in-Some-take-clause-err :
-    goal.returns-in_err-receive-in-Some-take-clause-err
-returns-in_err-receive-in-Some-take-clause-err g c = λ past st n s.
+pub loop-preserved-then-not-step : goal.loop-preserved-then-not-step
+loop-preserved-then-not-step g c =
     let i = c.loop.invariant in
+    let took = c.in-None-take.ensures in
+    record {
+      more = (tt, tt);
+      tray = took.tray.0;
+      workers = took.tray.1 ∙ i.workers;
+      failures = i.failures;
+      got = λ past st n s. subst (λ (l : List Searched). HasReceived (g.S.Collector.stands c.loop.collector) past l (g.W.Sink.taken c.args.out.now) (g.W.Sink.taken c.loop.out)) (sym took.none) (i.got past st n s);
+      ready = c.step.ensures.ready;
+      read = λ r f h. c.step.ensures.reaches r f (i.read r f h);
+    }
+
+pub loop-preserved : goal.loop-preserved
+loop-preserved g c =
+    let i = c.loop.invariant in
+    let took = c.in-None-take.ensures in
+    record {
+      more = (tt, tt);
+      tray = took.tray.0;
+      workers = took.tray.1 ∙ i.workers;
+      failures = i.failures;
+      got = λ past st n s. subst (λ (l : List Searched). HasReceived (g.S.Collector.stands c.loop.collector) past l (g.W.Sink.taken c.args.out.now) (g.W.Sink.taken c.loop.out)) (sym took.none) (i.got past st n s);
+      ready = c.step.ensures.ready;
+      read = λ r f h. c.step.ensures.reaches r f (i.read r f h);
+    }
+
+pub returns-then-ended : goal.returns-then-ended
+returns-then-ended g c =
+    let i = c.loop.invariant in
+    let took = c.in-None-take.ensures in
+    record {
+      same = (took.tray.0, took.tray.1 ∙ i.workers);
+      ok = λ past st n s. subst (λ (l : List Searched). HasReceived (g.S.Collector.stands c.loop.collector) past l (g.W.Sink.taken c.args.out.now) (g.W.Sink.taken c.loop.out)) (sym took.none) (i.got past st n s);
+      err = λ past st n s. tt;
+      calm = i.failures;
+      ready = i.ready;
+      read = i.read;
+    }
+
+pub returns-in_err-receive-in-Some-take : goal.returns-in_err-receive-in-Some-take
+returns-in_err-receive-in-Some-take g c =
+    let p = err_from_is_err_and c.from_residual.result c.from_residual.ensures.1 in
+    let i = c.loop.invariant in
+    let took = c.in-Some-take.ensures in
     let b = g.W.Sink.taken c.args.out.now in let a = g.W.Sink.taken c.receive.new.out in
-    on_err (HasBroken past b a (g.W.Sink.failures c.args.out.now) (g.W.Sink.failures c.receive.new.out)) c.from_residual.result
-    (broken_more (g.S.Collector.stands c.loop.collector) past c.loop.take.taken b (g.W.Sink.taken c.loop.out) a (g.W.Sink.failures c.args.out.now) (g.W.Sink.failures c.loop.out) (g.W.Sink.failures c.receive.new.out)
-    (i.got past st n s) i.failures (λ p h m e. c.in_err-receive-in-Some-take.ensures.err p h m) n)
+    rw p.1 (record {
+      same = (took.tray.0, took.tray.1 ∙ i.workers);
+      ok = λ past st n s. tt;
+      err = λ past st n s.
+          broken_more (g.S.Collector.stands c.loop.collector) past c.loop.take.taken b (g.W.Sink.taken c.loop.out) a (g.W.Sink.failures c.args.out.now) (g.W.Sink.failures c.loop.out) (g.W.Sink.failures c.receive.new.out)
+          (i.got past st n s) i.failures (λ p h m e. c.in_err-receive-in-Some-take.ensures.err p h m) n;
+      calm = tt;
+      ready = i.ready;
+      read = i.read;
+    })
