@@ -49,18 +49,29 @@ returns-in_err-all g c =
       read = e.read;
     })
 
-pub returns : goal.returns
-returns g c =
-    let e = c.in_ok-back.ensures in let all = c.in_ok-all.ensures in
-    let a = all.worked.0 in let b = e.worked.0 in let d = c.in-Some.ensures.cases in
-    record {
-      worked = (omega arith, all.worked.1);
-      spent = all.spent;
-      same = e.same;
-      ok = e.ok;
-      err = λ past st n s. tt;
-      cause = λ past st n s is. absurd (cc is);
-      calm = e.calm;
-      ready = e.ready;
-      read = e.read;
-    }
+pub returns-clause-worked : goal.returns-clause-worked
+returns-clause-worked g c =
+    let all = c.in_ok-all.ensures in
+    let a = all.worked.0 in let b = c.in_ok-back.ensures.worked.0 in let d = c.in-Some.ensures.cases in
+    (omega arith, all.worked.1)
+
+pub returns-clause-same : goal.returns-clause-same
+returns-clause-same g c = c.in_ok-back.ensures.same
+
+pub returns-clause-ok : goal.returns-clause-ok
+returns-clause-ok g c = c.in_ok-back.ensures.ok
+
+pub returns-clause-err : goal.returns-clause-err
+returns-clause-err g c = λ past st n s. tt
+
+pub returns-clause-cause : goal.returns-clause-cause
+returns-clause-cause g c = λ past st n s is. absurd (cc is)
+
+pub returns-clause-calm : goal.returns-clause-calm
+returns-clause-calm g c = c.in_ok-back.ensures.calm
+
+pub returns-clause-ready : goal.returns-clause-ready
+returns-clause-ready g c = c.in_ok-back.ensures.ready
+
+pub returns-clause-read : goal.returns-clause-read
+returns-clause-read g c = c.in_ok-back.ensures.read

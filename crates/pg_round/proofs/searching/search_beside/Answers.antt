@@ -58,19 +58,27 @@ returns-in_err-back g c =
       read = λ r f h. e.read r f h;
     })
 
-pub returns : goal.returns
-unfolding HasGoneOn
-returns g c =
-    let e = c.stream-back.ensures in let stands = g.S.Collector.stands c.args.collector.now in let last = g.S.Collector.stands c.stream-back.new.collector in
+pub returns-clause-worked : goal.returns-clause-worked
+returns-clause-worked g c = IfOk-at_ok _ c.in_ok-back.was c.stream-back.ensures.worked
+
+pub returns-clause-same : goal.returns-clause-same
+returns-clause-same g c = c.stream-back.ensures.same
+
+pub returns-clause-ok : goal.returns-clause-ok
+returns-clause-ok g c = λ past st n s.
     let b = g.W.Sink.taken c.args.out.now in let a = g.W.Sink.taken c.stream-back.new.out in
-    let f = g.W.Sink.failures c.args.out.now in let f' = g.W.Sink.failures c.stream-back.new.out in
-    record {
-      worked = IfOk-at_ok _ c.in_ok-back.was e.worked;
-      same = e.same;
-      ok = λ past st n s. took_ok c.stream-back.result.1 c.in_ok-taken.field-0 stands last c.stream-back.new.take.taken b a f f' e.took c.in_ok-taken.was past st n s;
-      err = λ past st n s. tt;
-      cause = λ past st n s is. absurd (cc is);
-      calm = IfOk-at_ok _ c.in_ok-taken.was e.calm;
-      ready = e.ready;
-      read = λ r f h. e.read r f h;
-    }
+    took_ok c.stream-back.result.1 c.in_ok-taken.field-0 (g.S.Collector.stands c.args.collector.now) (g.S.Collector.stands c.stream-back.new.collector) c.stream-back.new.take.taken b a
+    (g.W.Sink.failures c.args.out.now) (g.W.Sink.failures c.stream-back.new.out) c.stream-back.ensures.took c.in_ok-taken.was past st n s
+
+pub returns-clause-err : goal.returns-clause-err
+returns-clause-err g c = λ past st n s. tt
+
+pub returns-clause-cause : goal.returns-clause-cause
+returns-clause-cause g c = λ past st n s is. absurd (cc is)
+
+pub returns-clause-ready : goal.returns-clause-ready
+returns-clause-ready g c = c.stream-back.ensures.ready
+
+pub returns-clause-read : goal.returns-clause-read
+unfolding HasGoneOn
+returns-clause-read g c = λ r f h. c.stream-back.ensures.read r f h
