@@ -98,10 +98,6 @@ pub on_err : {T E : Type 0} (P : Type 0) (r : Result T E) → P → OnErr r P
 on_err P (Ok x) p = tt
 on_err P (Err e) p = p
 
-pub on_ok : {T E : Type 0} (P : Type 0) (r : Result T E) → P → OnOk r P
-on_ok P (Ok x) p = p
-on_ok P (Err e) p = tt
-
 -- an error is this one, whatever value there would be else
 pub same_fault : {T U E : Type 0} (x y : E) → IsErrOf {T = T} (Err x) y → IsErrOf {T = U} (Err x) y
 same_fault x y is = let e : x ≡ y = cc in ap Err e
@@ -109,10 +105,6 @@ same_fault x y is = let e : x ≡ y = cc in ap Err e
 pub map_ok : {T E : Type 0} (P Q : Type 0) (r : Result T E) → (P → Q) → OnOk r P → OnOk r Q
 map_ok P Q (Ok x) f p = f p
 map_ok P Q (Err e) f p = tt
-
-pub map_err : {T E : Type 0} (P Q : Type 0) (r : Result T E) → (P → Q) → OnErr r P → OnErr r Q
-map_err P Q (Ok x) f p = tt
-map_err P Q (Err e) f p = f p
 
 -- results that have been handed out of a tray
 abbrev pub Handing : (Past → Type 0) → Past → List Searched → List Searched → List ℕ → List ℕ → Type 0
