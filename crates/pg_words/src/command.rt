@@ -75,6 +75,7 @@ fn search_args<'a>(alloc: Global) -> Result<Vec<Arg<'a>>, AllocError> {
     Ok(args)
 }
 
+/// Adds all options. Of names that are equally close to a wrong one `clap` proposes the last.
 fn add_options<'a>(alloc: Global, args: &mut Vec<Arg<'a>>) -> Result<(), AllocError> {
     add_patterns(alloc, args)?;
     add_rows(alloc, args)?;
