@@ -3,7 +3,7 @@ use Rattle.std.proofs.Common.{◌≡◌, ℕ, ◌<◌, Bool, true, false, ◌&&�
 use Rattle.std.proofs.Common.{List, [], ◌∷◌, ◌++◌, length, refl, sym, ap, ◌∙◌, subst, arith, append_assoc}
 use Rattle.std.specs.List.{Contains, list_all}
 use Rattle.std.specs.Option.{IsSome, MatchOption}
-use Rattle.std.specs.Result.{IsErrAnd, IsErrOf, IfErr}
+use Rattle.std.specs.Result.{IsErr, IsErrAnd, IsErrOf, IfErr, OnOk}
 use Rattle.std.specs.Arc.{arc_value}
 use Rattle.std.proofs.lemmas.Bool.{eq-eqb, false≢true}
 use Rattle.std.proofs.lemmas.List.{append-nil, get_or_at, length_push}
@@ -303,6 +303,11 @@ some_status p (Some s) c m = refl
 pub err_by : {T E : Type 0} (r : Result T E) (P : E → Type 0) (e : E) → IsErrAnd r (λ x. x ≡ e) → P e → IfErr r P
 err_by (Ok x) P e h p = tt
 err_by (Err x) P e h p = subst P (sym h) p
+
+-- nothing is said of the Ok of an error
+pub ok_of_err : {T E : Type 0} (r : Result T E) (P : Type 0) → IsErr r → OnOk r P
+ok_of_err (Ok x) P h = absurd (false≢true h)
+ok_of_err (Err e) P h = tt
 
 pub if_err_too : {T E : Type 0} (r : Result T E) (P Q : E → Type 0) → ((e : E) → P e → Q e) → IfErr r P → IfErr r Q
 if_err_too (Ok x) P Q f h = tt

@@ -1,7 +1,8 @@
-use Rattle.std.proofs.Common.{◌∙◌, ap, length, List, map, arith, refl, subst, sym}
+use Rattle.std.proofs.Common.{◌≡◌, ◌+◌, ◌<◌, ◌≤◌, ◌∙◌, ℕ, ap, length, List, map, arith, refl, subst, sym}
 use Rattle.std.specs.List.{All}
 use Rattle.std.specs.Arc.{arc_value}
 use Rattle.std.specs.declared.sync.Arc.{Arc}
+use Rattle.pg_match.specs.Machines.{Room, Fits}
 use Rattle.pg_lines.specs.Blocks.{BlockData}
 use Rattle.pg_seq.specs.Standing.{Stands}
 use Rattle.pg_run.specs.Faults.{fault_of_round}
@@ -9,7 +10,7 @@ use Rattle.pg_run.specs.Holding.{Broke, past_of, format_of, stream}
 use Rattle.pg_round.specs.Results.{HasShortLines}
 use Rattle.pg_round.specs.Receipts.{HasRound}
 use Rattle.pg_run.specs.declared.fault.RunFault.TheVariants.{OutOfMemory}
-use Rattle.pg_run.proofs.HoldLemmas.{broke_now, err_by}
+use Rattle.pg_run.proofs.HoldLemmas.{broke_now, err_by, ok_of_err}
 use Rattle.pg_run.proofs.RoundLemmas.{short_round, safe_now, round_done, round_failed}
 use Rattle.pg_run.proofs.engine.Engine.search_round.Goals as goal
 
@@ -90,3 +91,81 @@ invariant_of-self-2 g c =
       at_once = λ e. c.clear.ensures.items;
       few = omega (arith, ap length c.clear.ensures.items);
     }
+
+few_blocks : (blocks waiting round : ℕ) → blocks ≡ waiting → waiting ≤ round → round ≤ 1024 → blocks ≤ 1024
+few_blocks blocks waiting round same few in_range = omega arith
+
+some_scratch : (workers len scratches : ℕ) → len ≡ scratches → workers + 1 ≤ scratches → 0 < len
+some_scratch workers len scratches same enough = omega arith
+
+few_scratches : (len scratches : ℕ) → len ≡ scratches → scratches ≤ 65 → len ≤ 65
+few_scratches len scratches same few = omega arith
+
+pub equip-requires-clause-fits : goal.equip-requires-clause-fits
+equip-requires-clause-fits g c = λ k d below.
+    let F : List Room → Type 0 = λ xs. All (λ s. Fits s (arc_value c.args.self.now.query).machine) xs in
+    subst F (sym (ap (λ v. v.items) c.replace-scratches.ensures.value)) c.args.self.now.all_fit k d below
+    ∙ sym (ap (λ q. q.machine) c.deref.ensures)
+
+pub search_round-requires-clause-few : goal.search_round-requires-clause-few
+search_round-requires-clause-few g c κs within =
+    let engine = c.args.self.now in
+    let scratches = c.equip.new.scratches in (
+      some_scratch c.workers-workers.result _ _ scratches.ok.0 c.in_ok-equip.ensures.enough,
+      few_scratches _ _ scratches.ok.0 c.in_ok-equip.ensures.few,
+      few_blocks _ _ engine.setup.round (ap length c.deref-2.ensures.value) engine.few engine.setup.round_in_range.1,
+      c.workers-workers.ensures,
+    )
+
+pub search_round-requires-clause-sees : goal.search_round-requires-clause-sees
+search_round-requires-clause-sees g c κs within = λ found. refl
+
+pub search_round-requires-clause-reader : goal.search_round-requires-clause-reader
+search_round-requires-clause-reader g c κs within = c.requires.ready
+
+pub returns-in_err-equip-clause-ready : goal.returns-in_err-equip-clause-ready
+returns-in_err-equip-clause-ready g c = c.requires.ready
+
+pub returns-in_err-equip-clause-read : goal.returns-in_err-equip-clause-read
+returns-in_err-equip-clause-read g c = λ r f before. before
+
+pub returns-in_err-equip-clause-kept : goal.returns-in_err-equip-clause-kept
+returns-in_err-equip-clause-kept g c = (refl, refl)
+
+pub returns-in_err-equip-clause-none : goal.returns-in_err-equip-clause-none
+returns-in_err-equip-clause-none g c = ok_of_err c.from_residual.result _ c.from_residual.ensures.0
+
+pub returns-in_err-equip-clause-ok : goal.returns-in_err-equip-clause-ok
+returns-in_err-equip-clause-ok g c = λ aim steps h. ok_of_err c.from_residual.result _ c.from_residual.ensures.0
+
+pub returns-in_err-search_round-clause-ready : goal.returns-in_err-search_round-clause-ready
+returns-in_err-search_round-clause-ready g c = c.in_err-search_round.ensures.ready
+
+pub returns-in_err-search_round-clause-read : goal.returns-in_err-search_round-clause-read
+returns-in_err-search_round-clause-read g c = c.in_err-search_round.ensures.read
+
+pub returns-in_err-search_round-clause-kept : goal.returns-in_err-search_round-clause-kept
+returns-in_err-search_round-clause-kept g c = (refl, refl)
+
+pub returns-in_err-search_round-clause-none : goal.returns-in_err-search_round-clause-none
+returns-in_err-search_round-clause-none g c =
+    ok_of_err c.from_residual-in_err-search_round.result _ c.from_residual-in_err-search_round.ensures.0
+
+pub returns-in_err-search_round-clause-ok : goal.returns-in_err-search_round-clause-ok
+returns-in_err-search_round-clause-ok g c = λ aim steps h.
+    ok_of_err c.from_residual-in_err-search_round.result _ c.from_residual-in_err-search_round.ensures.0
+
+pub returns-clause-ready : goal.returns-clause-ready
+returns-clause-ready g c = c.in_ok-search_round.ensures.ready
+
+pub returns-clause-read : goal.returns-clause-read
+returns-clause-read g c = c.in_ok-search_round.ensures.read
+
+pub returns-clause-kept : goal.returns-clause-kept
+returns-clause-kept g c = (refl, refl)
+
+pub returns-clause-none : goal.returns-clause-none
+returns-clause-none g c = c.clear.ensures.items
+
+pub returns-clause-err : goal.returns-clause-err
+returns-clause-err g c = λ aim steps h. tt
