@@ -1,11 +1,12 @@
 -- Between files, and a whole run.
-use Rattle.std.proofs.Common.{◌≡◌, inl, inr, ℕ, ◌+◌, ◌-◌, ◌<◌, ◌≤◌, ◌^◌, Bool, true, false, not, cond, List, [], ◌∷◌}
+use Rattle.std.proofs.Common.{Result, Ok, Err, ◌≡◌, inl, inr, ℕ, ◌+◌, ◌-◌, ◌<◌, ◌≤◌, ◌^◌, Bool, true, false, not, cond, List, [], ◌∷◌}
 use Rattle.std.proofs.Common.{◌++◌}
 use Rattle.std.proofs.Common.{drop, refl, sym, ap, ◌∙◌, subst, arith, append_assoc}
 use Rattle.std.specs.List.{list_any}
+use Rattle.std.specs.Result.{IfOk, IfErr}
 use Rattle.std.proofs.lemmas.Bool.{false≢true}
 use Rattle.std.proofs.lemmas.List.{append-nil}
-use Rattle.pg_lines.specs.Search.{SearchText, Pattern, AreTreesOf, search_of, terminator}
+use Rattle.pg_lines.specs.Search.{Search, SearchText, Pattern, AreTreesOf, search_of, terminator}
 use Rattle.pg_lines.specs.Cutter.{unfed, Stands as CutterStands}
 use Rattle.pg_walk.specs.declared.item.Cause.{Cause}
 use Rattle.pg_walk.specs.declared.item.Cause.TheVariants.{ReadFailed}
@@ -16,7 +17,7 @@ use Rattle.pg_seq.specs.Plan.{Step, Opens, Announces, Ends, Misses, IsShaped, is
 use Rattle.pg_seq.proofs.BeginLemmas.{begins_trans}
 use Rattle.pg_run.specs.Given.{Given, NoFile, File, FilesPast, entries_given, newest_name, nothing_given}
 use Rattle.pg_run.specs.Told.{faults_of, fault_of, fault_line, told_of}
-use Rattle.pg_run.specs.Outcome.{Stream, EndsAtSelected, Finishes, BreaksOff, HasCause}
+use Rattle.pg_run.specs.Outcome.{Stream, IsSearchFor, EndsAtSelected, Finishes, BreaksOff, HasCause}
 use Rattle.pg_run.specs.Holding.{Aim, Holds, Broke, IsWritten, format_of}
 use Rattle.pg_run.specs.Cover.{IsReading}
 use Rattle.pg_run.specs.Reading.{InFile, IsLost, Between, IsTold, Breaks, IsSafe, ReadCause, StopCause, Stops, IsDone}
@@ -397,3 +398,20 @@ breaks_first text setup past out told fault new cause =
           none_taken (output (search_of text trees) setup.format files) out.taken;
       faults = none_taken (told_of setup.silent past.given) told.taken;
     }
+
+-- a run is for the search that its text and trees make
+pub finishes_for : (r : Result ℕ RunFault) (text : SearchText) (setup : Setup) (past : FilesPast)
+    (out out' told told' : Stream) (own : (trees : List Pattern) × AreTreesOf text trees)
+    → IfOk r (Finishes (search_of text own.0) setup past out out' told told')
+    → IfOk r (λ answer. (q : Search) × IsSearchFor text q × Finishes q setup past out out' told told' answer)
+finishes_for (Ok answer) text setup past out out' told told' own f = (search_of text own.0, (refl, own.1), f)
+finishes_for (Err fault) text setup past out out' told told' own f = tt
+
+pub breaks_for : (r : Result ℕ RunFault) (text : SearchText) (setup : Setup) (past : FilesPast)
+    (out out' told told' : Stream) (own : (trees : List Pattern) × AreTreesOf text trees)
+    → ((trees : List Pattern) → AreTreesOf text trees
+    → IfErr r (Stops (aim_for text trees setup out told) past.given out' told'))
+    → IfErr r (BreaksOff text setup past out out' told told')
+breaks_for (Ok answer) text setup past out out' told told' own stops = tt
+breaks_for (Err fault) text setup past out out' told told' own stops =
+    breaks_off text setup past out out' told told' fault own stops

@@ -32,22 +32,21 @@ use std::time::Clock;
 /// So many files get a number.
 const MOST_FILES: u32 = u32::MAX;
 
-/// An engine for a text, and a reader of no file.
+/// An engine for a text.
 fn begin<A: Allocator + Copy + Send + Sync>(
     alloc: A,
     text: QueryText<A>,
     setup: Setup,
-) -> Result<(Engine<A>, FileReader<A>), RunFault>
-    ensures holds { IfOk result (λ both. (aim : Aim) → HasItsTrees aim.query → aim.query.text ≡ text →
-        aim.setup ≡ setup → Holds both.0 aim [] aim.out) }
+) -> Result<Engine<A>, RunFault>
+    ensures holds { IfOk result (λ engine. (aim : Aim) → HasItsTrees aim.query → aim.query.text ≡ text →
+        aim.setup ≡ setup → Holds engine aim [] aim.out) }
     ensures trees { OnOk result ((trees : List Pattern) × AreTreesOf text trees) }
     ensures err { IfErr result (λ fault. (out : Stream) → (told : Stream) →
         HasCause fault text setup nothing_given out out told told) }
 {
     let query = Query::compile(alloc, text)?;
     let engine = Engine::new(alloc, query, setup)?;
-    let reader = FileReader::new(alloc)?;
-    Ok((engine, reader))
+    Ok(engine)
 }
 
 /// The parts of a fault line, in their order.
@@ -275,6 +274,42 @@ fn all_files<
     unreachable!()
 }
 
+/// Takes all files with a reader of their own, and answers the status.
+fn search_files<
+    R: Threads + Wait + Clock + Sync,
+    A: Allocator + Copy + Send + Sync,
+    F: Files,
+    W: Sink,
+    E: Sink,
+    G: Gate + Sync,
+>(
+    rt: &R,
+    gate: &G,
+    engine: &mut Engine<A>,
+    files: &mut F,
+    out: &mut W,
+    faults: &mut E,
+) -> Result<u8, RunFault>
+    requires new { F.past files.old ≡ nothing_given }
+    requires rests { (aim : Aim) × Rests engine.old aim [] (stream (W.taken out.old) (W.failures out.old))
+        (stream (E.taken faults.old) (E.failures faults.old)) }
+    ensures same_list { F.list files.new ≡ F.list files.old }
+    ensures ok { (aim : Aim) → Rests engine.old aim [] (stream (W.taken out.old) (W.failures out.old))
+        (stream (E.taken faults.old) (E.failures faults.old)) →
+        IfOk result (Finishes aim.query aim.setup (F.past files.new)
+        aim.out (stream (W.taken out.new) (W.failures out.new))
+        aim.told (stream (E.taken faults.new) (E.failures faults.new))) }
+    ensures err { (aim : Aim) → Rests engine.old aim [] (stream (W.taken out.old) (W.failures out.old))
+        (stream (E.taken faults.old) (E.failures faults.old)) →
+        IfErr result (Stops aim (F.past files.new).given (stream (W.taken out.new) (W.failures out.new))
+        (stream (E.taken faults.new) (E.failures faults.new))) }
+{
+    let mut reader = FileReader::new(engine.alloc)?;
+    all_files(rt, gate, engine, files, &mut reader, out, faults)?;
+    let status = engine.finish(rt, gate, out)?;
+    Ok(status)
+}
+
 /// Searches files one after the other, as far as that is needed, and writes what the setup's format
 /// asks for to `out`. `faults` gets a line for each name that gives no file and each file whose reading
 /// failed, at once; the others go on. The answer is the exit status: 0 where a line was selected, 1
@@ -325,8 +360,6 @@ pub fn run<
         (record { taken = E.taken faults.new; failures = E.failures faults.new })) }
     ensures same_list { F.list files.new ≡ F.list files.old }
 {
-    let (mut engine, mut reader) = begin(alloc, text, setup)?;
-    all_files(rt, gate, &mut engine, files, &mut reader, out, faults)?;
-    let status = engine.finish(rt, gate, out)?;
-    Ok(status)
+    let mut engine = begin(alloc, text, setup)?;
+    search_files(rt, gate, &mut engine, files, out, faults)
 }

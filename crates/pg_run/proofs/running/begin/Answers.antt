@@ -3,17 +3,35 @@ use Rattle.pg_run.specs.Outcome.{HasCause, Stream}
 use Rattle.pg_run.specs.Given.{nothing_given}
 use Rattle.pg_run.specs.declared.fault.RunFault.{RunFault}
 use Rattle.pg_run.specs.declared.fault.RunFault.TheVariants.{OutOfMemory}
-use Rattle.pg_run.proofs.HoldLemmas.{err_by}
+use Rattle.std.proofs.lemmas.Result.{IfOk-from_err}
+use Rattle.pg_run.proofs.HoldLemmas.{err_by, ok_of_err}
 use Rattle.pg_run.proofs.running.begin.Goals as goal
 
-pub returns-in_err-reader-clause-err : goal.returns-in_err-reader-clause-err
-returns-in_err-reader-clause-err g c =
+pub returns-in_err-query-clause-holds : goal.returns-in_err-query-clause-holds
+returns-in_err-query-clause-holds g c = IfOk-from_err c.from_residual.result _ c.from_residual.ensures.0
+
+pub returns-in_err-query-clause-trees : goal.returns-in_err-query-clause-trees
+returns-in_err-query-clause-trees g c = ok_of_err c.from_residual.result _ c.from_residual.ensures.0
+
+pub returns-in_err-engine-clause-holds : goal.returns-in_err-engine-clause-holds
+returns-in_err-engine-clause-holds g c =
+    IfOk-from_err c.from_residual-in_err-engine.result _ c.from_residual-in_err-engine.ensures.0
+
+pub returns-in_err-engine-clause-trees : goal.returns-in_err-engine-clause-trees
+returns-in_err-engine-clause-trees g c =
+    ok_of_err c.from_residual-in_err-engine.result _ c.from_residual-in_err-engine.ensures.0
+
+pub returns-in_err-engine-clause-err : goal.returns-in_err-engine-clause-err
+returns-in_err-engine-clause-err g c =
     let P : RunFault → Type 0 =
     λ fault. (out : Stream) → (told : Stream) →
     HasCause fault c.args.text c.args.setup nothing_given out out told told in
-    err_by c.from_residual-in_err-reader.result P OutOfMemory c.from_residual-in_err-reader.ensures.1
+    err_by c.from_residual-in_err-engine.result P OutOfMemory c.from_residual-in_err-engine.ensures.1
     (λ out told. tt)
 
 pub returns-clause-holds : goal.returns-clause-holds
 returns-clause-holds g c = λ aim trees text set.
     c.in_ok-engine.ensures aim trees (text ∙ sym c.in_ok-query.ensures.text) set
+
+pub returns-clause-err : goal.returns-clause-err
+returns-clause-err g c = tt

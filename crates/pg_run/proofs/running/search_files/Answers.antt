@@ -1,0 +1,82 @@
+use Rattle.std.proofs.Common.{[], refl, subst, sym}
+use Rattle.std.proofs.lemmas.Result.{IfOk-from_err}
+use Rattle.pg_run.specs.Given.{FilesPast}
+use Rattle.pg_run.specs.Holding.{stream}
+use Rattle.pg_run.specs.Reading.{Stops}
+use Rattle.pg_run.specs.declared.fault.RunFault.TheVariants.{OutOfMemory}
+use Rattle.pg_run.proofs.HoldLemmas.{err_by}
+use Rattle.pg_run.proofs.RunLemmas.{between_safe, done_breaks, done_finishes, stops_memory}
+use Rattle.pg_run.proofs.running.search_files.Goals as goal
+
+pub returns-in_err-reader-clause-same_list : goal.returns-in_err-reader-clause-same_list
+returns-in_err-reader-clause-same_list g c = refl
+
+pub returns-in_err-reader-clause-ok : goal.returns-in_err-reader-clause-ok
+returns-in_err-reader-clause-ok g c = λ aim start. IfOk-from_err c.from_residual.result _ c.from_residual.ensures.0
+
+pub returns-in_err-reader-clause-err : goal.returns-in_err-reader-clause-err
+returns-in_err-reader-clause-err g c = λ aim start.
+    let out = stream (g.W.Sink.taken c.args.out.now) (g.W.Sink.failures c.args.out.now) in
+    let told = stream (g.E.Sink.taken c.args.faults.now) (g.E.Sink.failures c.args.faults.now) in
+    let P : FilesPast → Type 0 = λ past. Stops aim past.given out told OutOfMemory in
+    err_by c.from_residual.result (Stops aim (g.F.Files.past c.args.files.now).given out told) OutOfMemory
+    c.from_residual.ensures.1
+    (subst P (sym c.requires.new) (stops_memory aim [] out told (between_safe start.0) start.1))
+
+pub all_files-requires-clause-new : goal.all_files-requires-clause-new
+all_files-requires-clause-new g c κs within = c.requires.new
+
+pub all_files-requires-clause-rests : goal.all_files-requires-clause-rests
+all_files-requires-clause-rests g c κs within = c.requires.rests
+
+pub returns-in_err-all_files-clause-same_list : goal.returns-in_err-all_files-clause-same_list
+returns-in_err-all_files-clause-same_list g c = c.in_err-all_files.ensures.same_list
+
+pub returns-in_err-all_files-clause-ok : goal.returns-in_err-all_files-clause-ok
+returns-in_err-all_files-clause-ok g c = λ aim start.
+    IfOk-from_err c.from_residual-in_err-all_files.result _ c.from_residual-in_err-all_files.ensures.0
+
+pub returns-in_err-all_files-clause-err : goal.returns-in_err-all_files-clause-err
+returns-in_err-all_files-clause-err g c = λ aim start.
+    let out' = stream (g.W.Sink.taken c.all_files.new.out) (g.W.Sink.failures c.all_files.new.out) in
+    let told' = stream (g.E.Sink.taken c.all_files.new.faults) (g.E.Sink.failures c.all_files.new.faults) in
+    err_by c.from_residual-in_err-all_files.result (Stops aim (g.F.Files.past c.all_files.new.files).given out' told')
+    c.in_err-all_files.field-0.0 c.from_residual-in_err-all_files.ensures.1 (c.in_err-all_files.ensures.err aim start)
+
+pub finish-requires-clause-holds : goal.finish-requires-clause-holds
+finish-requires-clause-holds g c κs within =
+    let r = c.requires.rests in
+    let b = (c.in_ok-all_files.ensures.ok r.0 r.1).rests.0 in
+    (r.0, b.steps, b.holds, b.closed)
+
+pub returns-in_err-status-clause-same_list : goal.returns-in_err-status-clause-same_list
+returns-in_err-status-clause-same_list g c = c.in_ok-all_files.ensures.same_list
+
+pub returns-in_err-status-clause-ok : goal.returns-in_err-status-clause-ok
+returns-in_err-status-clause-ok g c = λ aim start.
+    IfOk-from_err c.from_residual-in_err-status.result _ c.from_residual-in_err-status.ensures.0
+
+pub returns-in_err-status-clause-err : goal.returns-in_err-status-clause-err
+returns-in_err-status-clause-err g c = λ aim start.
+    let out' = stream (g.W.Sink.taken c.finish.new.out) (g.W.Sink.failures c.finish.new.out) in
+    let told' = stream (g.E.Sink.taken c.all_files.new.faults) (g.E.Sink.failures c.all_files.new.faults) in
+    let d = c.in_ok-all_files.ensures.ok aim start in
+    let fault = c.in_err-status.field-0.0 in
+    err_by c.from_residual-in_err-status.result (Stops aim (g.F.Files.past c.all_files.new.files).given out' told') fault
+    c.from_residual-in_err-status.ensures.1
+    (done_breaks d out' fault (c.in_err-status.ensures.err aim d.rests.0.steps d.rests.0.holds))
+
+pub returns-clause-same_list : goal.returns-clause-same_list
+returns-clause-same_list g c = c.in_ok-all_files.ensures.same_list
+
+pub returns-clause-ok : goal.returns-clause-ok
+returns-clause-ok g c = λ aim start.
+    let out' = stream (g.W.Sink.taken c.finish.new.out) (g.W.Sink.failures c.finish.new.out) in
+    let d = c.in_ok-all_files.ensures.ok aim start in
+    let b = d.rests.0 in
+    let ok = c.in_ok-status.ensures in
+    done_finishes d out' c.in_ok-status.status (ok.written aim b.steps b.holds) (ok.status aim b.steps b.holds)
+    (ok.calm aim b.steps b.holds)
+
+pub returns-clause-err : goal.returns-clause-err
+returns-clause-err g c = λ aim start. tt
