@@ -1,8 +1,9 @@
 -- An open file, one call further.
 use Rattle.std.proofs.Common.{◌≡◌, ◌⊎◌, inl, inr, ℕ, zero, suc, ◌+◌, ◌<◌, ◌≤◌, ◌^◌, Bool, true, false, Some, None}
-use Rattle.std.proofs.Common.{List, [], ◌∷◌, ◌++◌, length, take, drop, refl, sym, ap, ◌∙◌, subst, arith}
+use Rattle.std.proofs.Common.{Result, Ok, Err, List, [], ◌∷◌, ◌++◌, length, take, drop, refl, sym, ap, ◌∙◌, subst, arith}
 use Rattle.std.proofs.Common.{append_assoc, length-append}
 use Rattle.std.specs.List.{Any}
+use Rattle.std.specs.Result.{IfOk}
 use Rattle.std.proofs.lemmas.List.{append-nil}
 use Rattle.pg_lines.specs.Search.{terminator}
 use Rattle.pg_lines.specs.Lines.{lines, AreShort, AreWhole}
@@ -659,3 +660,8 @@ file_ended {aim = aim} {failed = failed} {given = given} engine' h k = record {
   covers =
       ends aim.query (format_of aim) h.name h.front failed (entries_of h.steps) (entries_given given) h.reads;
 }
+
+-- what holds at a value holds of an answer that is this value
+pub ok_by : {T E : Type 0} (r : Result T E) (P : T → Type 0) (x : T) → IfOk r (λ y. y ≡ x) → P x → IfOk r P
+ok_by (Ok y) P x h p = subst P (sym h) p
+ok_by (Err e) P x h p = tt

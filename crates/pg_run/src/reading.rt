@@ -7,12 +7,13 @@ ghost use Rattle.pg_run.specs.Given.{Given, newest_name};
 ghost use Rattle.pg_run.specs.Told.{faults_of, fault_line};
 ghost use Rattle.pg_run.specs.Holding.{Aim, stream};
 ghost use Rattle.pg_run.specs.Reading.{InFile, IsWhole, Between, Breaks, ending_of, ending_after};
-ghost use Rattle.pg_run.specs.declared.reader.Came.TheVariants.{More};
+ghost use Rattle.pg_run.specs.declared.reader.Came.TheVariants.{More, Refused};
 
 use crate::engine::Engine;
 use crate::fault::RunFault;
 use crate::files::Files;
 use crate::reader::{Came, FileReader};
+use pg_lines::CutFault;
 use pg_round::Gate;
 use pg_rows::Sink;
 use std::alloc::Allocator;
@@ -194,18 +195,19 @@ fn search_last<A: Allocator + Copy + Send + Sync, W: Sink, G: Gate>(
     }
 }
 
-/// Ends a file that can't go on.
+/// Ends a file that can't go on, and answers whether a read failed.
 fn finish_file<A: Allocator + Copy + Send + Sync, W: Sink, G: Gate>(
     gate: &G,
     reader: &mut FileReader<A>,
     engine: &mut Engine<A>,
     failed: bool,
     out: &mut W,
-) -> Result<(), RunFault>
+) -> Result<bool, RunFault>
     requires ended { ending_after reader.old.came ≡ ending_of failed }
     requires room { engine.old.spread ≡ true → length engine.old.round.items < engine.old.setup.round }
     requires in_file { (aim : Aim) × (given : List Given) × IsDrained reader.old.cutter
         × InFile reader.old engine.old aim given (stream (W.taken out.old) (W.failures out.old)) }
+    ensures failed { IfOk result (λ answer. answer ≡ failed) }
     ensures ok { (aim : Aim) → (given : List Given) →
         InFile reader.old engine.old aim given (stream (W.taken out.old) (W.failures out.old)) →
         OnOk result (Between engine.new aim given (stream (W.taken out.new) (W.failures out.new))) }
@@ -215,7 +217,34 @@ fn finish_file<A: Allocator + Copy + Send + Sync, W: Sink, G: Gate>(
 {
     search_last(gate, reader, engine, failed, out)?;
     engine.end(failed);
-    Ok(())
+    Ok(failed)
+}
+
+/// Searches what waits where the cutter takes no more of the file, and answers the fault that ends the run.
+fn break_off<
+    R: Threads + Wait + Clock + Sync,
+    A: Allocator + Copy + Send + Sync,
+    W: Sink,
+    G: Gate + Sync,
+>(
+    rt: &R,
+    gate: &G,
+    reader: &FileReader<A>,
+    engine: &mut Engine<A>,
+    fault: CutFault,
+    out: &mut W,
+) -> RunFault
+    requires refused { reader.now.came ≡ Refused fault }
+    requires in_file { (aim : Aim) × (given : List Given)
+        × InFile reader.now engine.old aim given (stream (W.taken out.old) (W.failures out.old)) }
+    ensures { (aim : Aim) → (given : List Given) →
+        InFile reader.now engine.old aim given (stream (W.taken out.old) (W.failures out.old)) →
+        Breaks aim given (stream (W.taken out.new) (W.failures out.new)) result }
+{
+    match engine.flush(rt, gate, out) {
+        Ok(()) => RunFault::from(fault),
+        Err(failure) => failure,
+    }
 }
 
 /// Reads the open file until enough was read, its end is met or a read fails, and ends it. The answer
@@ -257,17 +286,10 @@ pub(crate) fn read_file<
         read_once(rt, gate, reader, engine, files, out)?;
         match reader.came {
             Came::More => {}
-            Came::End => {
-                finish_file(gate, reader, engine, false, out)?;
-                return Ok(false);
-            }
-            Came::Failure => {
-                finish_file(gate, reader, engine, true, out)?;
-                return Ok(true);
-            }
+            Came::End => return finish_file(gate, reader, engine, false, out),
+            Came::Failure => return finish_file(gate, reader, engine, true, out),
             Came::Refused(fault) => {
-                engine.flush(rt, gate, out)?;
-                return Err(RunFault::from(fault));
+                return Err(break_off(rt, gate, reader, engine, fault, out));
             }
         }
     }

@@ -1,11 +1,26 @@
-use Rattle.std.proofs.Common.{◌∙◌, false, true, ap, subst, sym}
-use Rattle.pg_rows.specs.Output.{is_failed}
+use Rattle.std.proofs.Common.{◌≡◌, ◌∙◌, Bool, false, true, ◌++◌, ap, sym}
+use Rattle.std.proofs.lemmas.Result.{IfOk-from_err}
+use Rattle.pg_walk.specs.declared.item.Cause.TheVariants.{ReadFailed}
+use Rattle.pg_rows.specs.Output.{is_failed, when}
+use Rattle.pg_run.specs.Given.{newest_name}
+use Rattle.pg_run.specs.Told.{faults_of, fault_line}
 use Rattle.pg_run.specs.Holding.{stream}
 use Rattle.pg_run.specs.Reading.{Breaks, ending_after}
-use Rattle.pg_run.specs.declared.fault.RunFault.{RunFault}
-use Rattle.pg_run.proofs.HoldLemmas.{err_by}
-use Rattle.pg_run.proofs.ReadingLemmas.{file_left, refused_breaks, rest_breaks, told_more}
+use Rattle.pg_run.proofs.HoldLemmas.{err_by, ok_of_err}
+use Rattle.pg_run.proofs.ReadingLemmas.{file_left, ok_by, told_more}
 use Rattle.pg_run.proofs.reading.read_file.Goals as goal
+
+pub returns-then-enough-clause-done : goal.returns-then-enough-clause-done
+returns-then-enough-clause-done g c = c.loop.invariant.done
+
+pub returns-then-enough-clause-before : goal.returns-then-enough-clause-before
+returns-then-enough-clause-before g c = c.loop.invariant.before
+
+pub returns-then-enough-clause-same_list : goal.returns-then-enough-clause-same_list
+returns-then-enough-clause-same_list g c = c.loop.invariant.same_list
+
+pub returns-then-enough-clause-err : goal.returns-then-enough-clause-err
+returns-then-enough-clause-err g c = λ aim start. tt
 
 pub end-requires : goal.end-requires
 end-requires g c =
@@ -26,10 +41,28 @@ returns-then-enough-clause-ok g c = λ aim start.
     file_left h c.loop.invariant.more _ (sym (c.enough.ensures aim h.steps _ h.holds) ∙ c.if-enough.true)
     (c.end.ensures aim h.steps _ (h.holds, (h.cuts.running, tt)))
 
+pub read_once-requires-clause-more : goal.read_once-requires-clause-more
+read_once-requires-clause-more g c κs within = c.loop.invariant.more
+
 pub read_once-requires-clause-in_file : goal.read_once-requires-clause-in_file
 read_once-requires-clause-in_file g c κs within =
     let r = c.requires.in_file in
     (r.0, c.loop.invariant.reads r.0 r.1)
+
+pub returns-in_err-read_once-clause-done : goal.returns-in_err-read_once-clause-done
+returns-in_err-read_once-clause-done g c = c.in_err-read_once.ensures.done ∙ c.loop.invariant.done
+
+pub returns-in_err-read_once-clause-before : goal.returns-in_err-read_once-clause-before
+returns-in_err-read_once-clause-before g c = c.in_err-read_once.ensures.before ∙ c.loop.invariant.before
+
+pub returns-in_err-read_once-clause-same_list : goal.returns-in_err-read_once-clause-same_list
+returns-in_err-read_once-clause-same_list g c = c.in_err-read_once.ensures.same_list ∙ c.loop.invariant.same_list
+
+pub returns-in_err-read_once-clause-told : goal.returns-in_err-read_once-clause-told
+returns-in_err-read_once-clause-told g c = IfOk-from_err c.from_residual.result _ c.from_residual.ensures.0
+
+pub returns-in_err-read_once-clause-ok : goal.returns-in_err-read_once-clause-ok
+returns-in_err-read_once-clause-ok g c = λ aim start. ok_of_err c.from_residual.result _ c.from_residual.ensures.0
 
 pub returns-in_err-read_once-clause-err : goal.returns-in_err-read_once-clause-err
 returns-in_err-read_once-clause-err g c = λ aim start.
@@ -58,28 +91,41 @@ finish_file-requires-clause-in_file g c κs within =
     let r = c.requires.in_file in
     (r.0, (g.F.Files.past c.read_once.new.files).given, ok.drained, ok.ok r.0 (c.loop.invariant.reads r.0 r.1))
 
+pub finish_file-requires-clause-room : goal.finish_file-requires-clause-room
+finish_file-requires-clause-room g c κs within = c.in_ok-read_once.ensures.room
+
 pub finish_file-requires-clause-ended : goal.finish_file-requires-clause-ended
 finish_file-requires-clause-ended g c κs within = ap ending_after c.in-End.is
 
-pub returns-in_err-finish_file-in-End-clause-err : goal.returns-in_err-finish_file-in-End-clause-err
-returns-in_err-finish_file-in-End-clause-err g c = λ aim start.
-    let given = (g.F.Files.past c.read_once.new.files).given in
-    let last = stream (g.W.Sink.taken c.finish_file.new.out) (g.W.Sink.failures c.finish_file.new.out) in
-    err_by c.from_residual-in_err-finish_file-in-End.result (Breaks aim given last)
-    c.in_err-finish_file-in-End.field-0.0 c.from_residual-in_err-finish_file-in-End.ensures.1
-    (c.in_err-finish_file-in-End.ensures.err aim given
-    (c.in_ok-read_once.ensures.ok aim (c.loop.invariant.reads aim start)))
+pub returns-in-End-clause-done : goal.returns-in-End-clause-done
+returns-in-End-clause-done g c = c.in_ok-read_once.ensures.done ∙ c.loop.invariant.done
+
+pub returns-in-End-clause-before : goal.returns-in-End-clause-before
+returns-in-End-clause-before g c = c.in_ok-read_once.ensures.before ∙ c.loop.invariant.before
+
+pub returns-in-End-clause-same_list : goal.returns-in-End-clause-same_list
+returns-in-End-clause-same_list g c = c.in_ok-read_once.ensures.same_list ∙ c.loop.invariant.same_list
 
 pub returns-in-End-clause-told : goal.returns-in-End-clause-told
 returns-in-End-clause-told g c =
     let ok = c.in_ok-read_once.ensures in
     let r = c.requires.in_file in
-    told_more r.1.cuts (ok.ok r.0 (c.loop.invariant.reads r.0 r.1)).cuts false c.requires.more
-    (ap (λ x. is_failed (ending_after x)) c.in-End.is) (ok.before ∙ c.loop.invariant.before)
+    let given = (g.F.Files.past c.args.files.now).given in
+    let given' = (g.F.Files.past c.read_once.new.files).given in
+    let P : Bool → Type 0 =
+    λ failed. faults_of given' ≡ faults_of given ++ when failed (fault_line (newest_name given') ReadFailed) in
+    ok_by c.finish_file.result P false c.finish_file.ensures.failed
+    (told_more r.1.cuts (ok.ok r.0 (c.loop.invariant.reads r.0 r.1)).cuts false c.requires.more
+    (ap (λ x. is_failed (ending_after x)) c.in-End.is) (ok.before ∙ c.loop.invariant.before))
 
 pub returns-in-End-clause-ok : goal.returns-in-End-clause-ok
 returns-in-End-clause-ok g c = λ aim start.
-    c.in_ok-finish_file-in-End.ensures.ok aim (g.F.Files.past c.read_once.new.files).given
+    c.finish_file.ensures.ok aim (g.F.Files.past c.read_once.new.files).given
+    (c.in_ok-read_once.ensures.ok aim (c.loop.invariant.reads aim start))
+
+pub returns-in-End-clause-err : goal.returns-in-End-clause-err
+returns-in-End-clause-err g c = λ aim start.
+    c.finish_file.ensures.err aim (g.F.Files.past c.read_once.new.files).given
     (c.in_ok-read_once.ensures.ok aim (c.loop.invariant.reads aim start))
 
 pub finish_file-requires-in-Failure-clause-in_file : goal.finish_file-requires-in-Failure-clause-in_file
@@ -88,51 +134,68 @@ finish_file-requires-in-Failure-clause-in_file g c κs within =
     let r = c.requires.in_file in
     (r.0, (g.F.Files.past c.read_once.new.files).given, ok.drained, ok.ok r.0 (c.loop.invariant.reads r.0 r.1))
 
+pub finish_file-requires-in-Failure-clause-room : goal.finish_file-requires-in-Failure-clause-room
+finish_file-requires-in-Failure-clause-room g c κs within = c.in_ok-read_once.ensures.room
+
 pub finish_file-requires-in-Failure-clause-ended : goal.finish_file-requires-in-Failure-clause-ended
 finish_file-requires-in-Failure-clause-ended g c κs within = ap ending_after c.in-Failure.is
 
-pub returns-in_err-finish_file-in-Failure-clause-err : goal.returns-in_err-finish_file-in-Failure-clause-err
-returns-in_err-finish_file-in-Failure-clause-err g c = λ aim start.
-    let given = (g.F.Files.past c.read_once.new.files).given in
-    let last =
-    stream (g.W.Sink.taken c.finish_file-in-Failure.new.out) (g.W.Sink.failures c.finish_file-in-Failure.new.out) in
-    err_by c.from_residual-in_err-finish_file-in-Failure.result (Breaks aim given last)
-    c.in_err-finish_file-in-Failure.field-0.0 c.from_residual-in_err-finish_file-in-Failure.ensures.1
-    (c.in_err-finish_file-in-Failure.ensures.err aim given
-    (c.in_ok-read_once.ensures.ok aim (c.loop.invariant.reads aim start)))
+pub returns-in-Failure-clause-done : goal.returns-in-Failure-clause-done
+returns-in-Failure-clause-done g c = c.in_ok-read_once.ensures.done ∙ c.loop.invariant.done
+
+pub returns-in-Failure-clause-before : goal.returns-in-Failure-clause-before
+returns-in-Failure-clause-before g c = c.in_ok-read_once.ensures.before ∙ c.loop.invariant.before
+
+pub returns-in-Failure-clause-same_list : goal.returns-in-Failure-clause-same_list
+returns-in-Failure-clause-same_list g c = c.in_ok-read_once.ensures.same_list ∙ c.loop.invariant.same_list
 
 pub returns-in-Failure-clause-told : goal.returns-in-Failure-clause-told
 returns-in-Failure-clause-told g c =
     let ok = c.in_ok-read_once.ensures in
     let r = c.requires.in_file in
-    told_more r.1.cuts (ok.ok r.0 (c.loop.invariant.reads r.0 r.1)).cuts true c.requires.more
-    (ap (λ x. is_failed (ending_after x)) c.in-Failure.is) (ok.before ∙ c.loop.invariant.before)
+    let given = (g.F.Files.past c.args.files.now).given in
+    let given' = (g.F.Files.past c.read_once.new.files).given in
+    let P : Bool → Type 0 =
+    λ failed. faults_of given' ≡ faults_of given ++ when failed (fault_line (newest_name given') ReadFailed) in
+    ok_by c.finish_file-in-Failure.result P true c.finish_file-in-Failure.ensures.failed
+    (told_more r.1.cuts (ok.ok r.0 (c.loop.invariant.reads r.0 r.1)).cuts true c.requires.more
+    (ap (λ x. is_failed (ending_after x)) c.in-Failure.is) (ok.before ∙ c.loop.invariant.before))
 
 pub returns-in-Failure-clause-ok : goal.returns-in-Failure-clause-ok
 returns-in-Failure-clause-ok g c = λ aim start.
-    c.in_ok-finish_file-in-Failure.ensures.ok aim (g.F.Files.past c.read_once.new.files).given
+    c.finish_file-in-Failure.ensures.ok aim (g.F.Files.past c.read_once.new.files).given
     (c.in_ok-read_once.ensures.ok aim (c.loop.invariant.reads aim start))
 
-pub flush-requires-clause-holds : goal.flush-requires-clause-holds
-flush-requires-clause-holds g c κs within =
-    let r = c.requires.in_file in
-    let h = c.in_ok-read_once.ensures.ok r.0 (c.loop.invariant.reads r.0 r.1) in
-    (r.0, h.steps, h.holds)
+pub returns-in-Failure-clause-err : goal.returns-in-Failure-clause-err
+returns-in-Failure-clause-err g c = λ aim start.
+    c.finish_file-in-Failure.ensures.err aim (g.F.Files.past c.read_once.new.files).given
+    (c.in_ok-read_once.ensures.ok aim (c.loop.invariant.reads aim start))
 
-pub returns-in_err-flush-in-Refused-clause-err : goal.returns-in_err-flush-in-Refused-clause-err
-returns-in_err-flush-in-Refused-clause-err g c = λ aim start.
-    let h = c.in_ok-read_once.ensures.ok aim (c.loop.invariant.reads aim start) in
+pub break_off-requires-clause-refused : goal.break_off-requires-clause-refused
+break_off-requires-clause-refused g c κs within = c.in-Refused.is
+
+pub break_off-requires-clause-in_file : goal.break_off-requires-clause-in_file
+break_off-requires-clause-in_file g c κs within =
+    let r = c.requires.in_file in
     let given = (g.F.Files.past c.read_once.new.files).given in
-    let last = stream (g.W.Sink.taken c.flush.new.out) (g.W.Sink.failures c.flush.new.out) in
-    let fault = c.in_err-flush-in-Refused.field-0.0 in
-    err_by c.from_residual-in_err-flush-in-Refused.result (Breaks aim given last) fault c.from_residual-in_err-flush-in-Refused.ensures.1
-    (rest_breaks h _ given last fault h.cuts (c.in_err-flush-in-Refused.ensures.err aim h.steps h.holds))
+    (r.0, given, c.in_ok-read_once.ensures.ok r.0 (c.loop.invariant.reads r.0 r.1))
+
+pub returns-in-Refused-clause-done : goal.returns-in-Refused-clause-done
+returns-in-Refused-clause-done g c = c.in_ok-read_once.ensures.done ∙ c.loop.invariant.done
+
+pub returns-in-Refused-clause-before : goal.returns-in-Refused-clause-before
+returns-in-Refused-clause-before g c = c.in_ok-read_once.ensures.before ∙ c.loop.invariant.before
+
+pub returns-in-Refused-clause-same_list : goal.returns-in-Refused-clause-same_list
+returns-in-Refused-clause-same_list g c = c.in_ok-read_once.ensures.same_list ∙ c.loop.invariant.same_list
+
+pub returns-in-Refused-clause-told : goal.returns-in-Refused-clause-told
+returns-in-Refused-clause-told g c = tt
+
+pub returns-in-Refused-clause-ok : goal.returns-in-Refused-clause-ok
+returns-in-Refused-clause-ok g c = λ aim start. tt
 
 pub returns-in-Refused-clause-err : goal.returns-in-Refused-clause-err
 returns-in-Refused-clause-err g c = λ aim start.
-    let h = c.in_ok-read_once.ensures.ok aim (c.loop.invariant.reads aim start) in
-    let given = (g.F.Files.past c.read_once.new.files).given in
-    let last = stream (g.W.Sink.taken c.flush.new.out) (g.W.Sink.failures c.flush.new.out) in
-    let F : RunFault → Type 0 = λ fault. Breaks aim given last fault in
-    subst F (sym c.from.ensures)
-    (refused_breaks h last _ c.in-Refused.fault c.in-Refused.is (c.in_ok-flush-in-Refused.ensures.ok aim h.steps h.holds).0)
+    c.break_off.ensures aim (g.F.Files.past c.read_once.new.files).given
+    (c.in_ok-read_once.ensures.ok aim (c.loop.invariant.reads aim start))
