@@ -110,10 +110,10 @@ impl<A: Allocator + Copy> Engine<A> {
         ensures { IfOk result (λ engine. (aim : Aim) → HasItsTrees aim.query → aim.query.text ≡ query.text →
             aim.setup ≡ setup → Holds engine aim [] aim.out) }
     {
-        let scratch = Scratch::new(alloc, query.machine())?;
         let query = Arc::new(alloc, query)?;
         let spread = is_spread(&query, &setup);
         let sequencer = Sequencer::new(alloc, Arc::try_clone(&query)?, setup.format)?;
+        let scratch = Scratch::new(alloc, query.machine())?;
         Ok(Engine {
             alloc,
             setup,

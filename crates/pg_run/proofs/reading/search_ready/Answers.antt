@@ -1,7 +1,7 @@
 use Rattle.std.proofs.Common.{◌∙◌}
 use Rattle.pg_run.specs.Holding.{stream}
 use Rattle.pg_run.specs.Reading.{Breaks}
-use Rattle.pg_run.proofs.HoldLemmas.{err_by}
+use Rattle.pg_run.proofs.HoldLemmas.{err_by, ok_of_err}
 use Rattle.pg_run.proofs.ReadingLemmas.{next_may, next_breaks, next_taken, none_taken}
 use Rattle.pg_run.proofs.reading.search_ready.Goals as goal
 
@@ -60,3 +60,64 @@ loop-preserved g c =
             cuts = next_taken h.cuts _ c.in-Some-take.block e.came n (e.stands h.cuts.fed h.cuts.cut);
           };
     }
+
+pub returns-in_err-make_room-clause-done : goal.returns-in_err-make_room-clause-done
+returns-in_err-make_room-clause-done g c = c.in_err-make_room.ensures.done ∙ c.loop.invariant.done
+
+pub returns-in_err-make_room-clause-before : goal.returns-in_err-make_room-clause-before
+returns-in_err-make_room-clause-before g c = c.in_err-make_room.ensures.before ∙ c.loop.invariant.before
+
+pub returns-in_err-make_room-clause-same_list : goal.returns-in_err-make_room-clause-same_list
+returns-in_err-make_room-clause-same_list g c = c.in_err-make_room.ensures.same_list ∙ c.loop.invariant.same_list
+
+pub returns-in_err-make_room-clause-drained : goal.returns-in_err-make_room-clause-drained
+returns-in_err-make_room-clause-drained g c = ok_of_err c.from_residual.result _ c.from_residual.ensures.0
+
+pub returns-in_err-make_room-clause-room : goal.returns-in_err-make_room-clause-room
+returns-in_err-make_room-clause-room g c = ok_of_err c.from_residual.result _ c.from_residual.ensures.0
+
+pub returns-in_err-make_room-clause-ok : goal.returns-in_err-make_room-clause-ok
+returns-in_err-make_room-clause-ok g c = λ aim start. ok_of_err c.from_residual.result _ c.from_residual.ensures.0
+
+pub search-requires-clause-room : goal.search-requires-clause-room
+search-requires-clause-room g c = c.in_ok-make_room.ensures.room
+
+pub returns-in_err-search-clause-done : goal.returns-in_err-search-clause-done
+returns-in_err-search-clause-done g c = c.in_ok-make_room.ensures.done ∙ c.loop.invariant.done
+
+pub returns-in_err-search-clause-before : goal.returns-in_err-search-clause-before
+returns-in_err-search-clause-before g c = c.in_ok-make_room.ensures.before ∙ c.loop.invariant.before
+
+pub returns-in_err-search-clause-same_list : goal.returns-in_err-search-clause-same_list
+returns-in_err-search-clause-same_list g c = c.in_ok-make_room.ensures.same_list ∙ c.loop.invariant.same_list
+
+pub returns-in_err-search-clause-drained : goal.returns-in_err-search-clause-drained
+returns-in_err-search-clause-drained g c =
+    ok_of_err c.from_residual-in_err-search.result _ c.from_residual-in_err-search.ensures.0
+
+pub returns-in_err-search-clause-room : goal.returns-in_err-search-clause-room
+returns-in_err-search-clause-room g c =
+    ok_of_err c.from_residual-in_err-search.result _ c.from_residual-in_err-search.ensures.0
+
+pub returns-in_err-search-clause-ok : goal.returns-in_err-search-clause-ok
+returns-in_err-search-clause-ok g c =
+    λ aim start.
+    ok_of_err c.from_residual-in_err-search.result _ c.from_residual-in_err-search.ensures.0
+
+pub returns-in_default-clause-done : goal.returns-in_default-clause-done
+returns-in_default-clause-done g c = c.in_ok-make_room.ensures.done ∙ c.loop.invariant.done
+
+pub returns-in_default-clause-before : goal.returns-in_default-clause-before
+returns-in_default-clause-before g c = c.in_ok-make_room.ensures.before ∙ c.loop.invariant.before
+
+pub returns-in_default-clause-same_list : goal.returns-in_default-clause-same_list
+returns-in_default-clause-same_list g c = c.in_ok-make_room.ensures.same_list ∙ c.loop.invariant.same_list
+
+pub returns-in_default-clause-drained : goal.returns-in_default-clause-drained
+returns-in_default-clause-drained g c = c.in_default.ensures.none
+
+pub returns-in_default-clause-room : goal.returns-in_default-clause-room
+returns-in_default-clause-room g c = c.in_ok-make_room.ensures.room
+
+pub returns-in_default-clause-err : goal.returns-in_default-clause-err
+returns-in_default-clause-err g c = λ aim start. tt

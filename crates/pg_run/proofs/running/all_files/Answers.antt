@@ -3,7 +3,7 @@ use Rattle.pg_run.specs.Given.{Given, entries_given}
 use Rattle.pg_run.specs.Outcome.{EndsAtSelected}
 use Rattle.pg_run.specs.Holding.{stream}
 use Rattle.pg_run.specs.Reading.{Goes, Stops}
-use Rattle.pg_run.proofs.HoldLemmas.{err_by}
+use Rattle.pg_run.proofs.HoldLemmas.{err_by, ok_of_err}
 use Rattle.pg_run.proofs.RunLemmas.{between_enough, between_more, ends_at}
 use Rattle.pg_run.proofs.running.all_files.Goals as goal
 
@@ -64,3 +64,21 @@ loop-preserved g c =
           let few = sym (c.enough.ensures aim b.steps _ b.holds) ∙ c.if-enough.false in
           (ok.ok aim r.0, λ quiet. ends_at aim given' given goes.0 (between_more b few quiet));
     }
+
+pub returns-then-enough-clause-err : goal.returns-then-enough-clause-err
+returns-then-enough-clause-err g c = λ aim start. tt
+
+pub take_next-requires-clause-done : goal.take_next-requires-clause-done
+take_next-requires-clause-done g c κs within = c.loop.invariant.done
+
+pub returns-in_err-take_next-clause-same_list : goal.returns-in_err-take_next-clause-same_list
+returns-in_err-take_next-clause-same_list g c = c.in_err-take_next.ensures.same_list ∙ c.loop.invariant.same_list
+
+pub returns-in_err-take_next-clause-ok : goal.returns-in_err-take_next-clause-ok
+returns-in_err-take_next-clause-ok g c = λ aim start. ok_of_err c.from_residual.result _ c.from_residual.ensures.0
+
+pub returns-then-not-branch-clause-same_list : goal.returns-then-not-branch-clause-same_list
+returns-then-not-branch-clause-same_list g c = c.in_ok-take_next.ensures.same_list ∙ c.loop.invariant.same_list
+
+pub returns-then-not-branch-clause-err : goal.returns-then-not-branch-clause-err
+returns-then-not-branch-clause-err g c = λ aim start. tt

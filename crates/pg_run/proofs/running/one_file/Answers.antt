@@ -6,7 +6,7 @@ use Rattle.pg_run.specs.Told.{fault_line, faults_of}
 use Rattle.pg_run.specs.Holding.{stream}
 use Rattle.pg_run.specs.Reading.{Stops}
 use Rattle.pg_run.specs.declared.fault.RunFault.TheVariants.{OutOfMemory, TooManyFiles}
-use Rattle.pg_run.proofs.HoldLemmas.{err_by}
+use Rattle.pg_run.proofs.HoldLemmas.{err_by, ok_of_err}
 use Rattle.pg_run.proofs.RunLemmas.{told_by, told_same, told_failed, told_unfailed, stops_telling, stops_memory}
 use Rattle.pg_run.proofs.RunLemmas.{stops_reading, stops_many, unopened_safe, between_safe, file_started}
 use Rattle.pg_run.proofs.running.one_file.Goals as goal
@@ -114,3 +114,83 @@ returns-else-failed-clause-ok g c = λ aim given name is rests.
           (told_unfailed given before given' name c.in_ok-failed.failed is c.in_ok-failed.ensures.told
           c.if-failed.false),
     )
+
+pub returns-then-engine-ge-MOST_FILES-clause-done : goal.returns-then-engine-ge-MOST_FILES-clause-done
+returns-then-engine-ge-MOST_FILES-clause-done g c = refl
+
+pub returns-then-engine-ge-MOST_FILES-clause-before : goal.returns-then-engine-ge-MOST_FILES-clause-before
+returns-then-engine-ge-MOST_FILES-clause-before g c = refl
+
+pub returns-then-engine-ge-MOST_FILES-clause-same_list : goal.returns-then-engine-ge-MOST_FILES-clause-same_list
+returns-then-engine-ge-MOST_FILES-clause-same_list g c = refl
+
+pub returns-then-engine-ge-MOST_FILES-clause-ok : goal.returns-then-engine-ge-MOST_FILES-clause-ok
+returns-then-engine-ge-MOST_FILES-clause-ok g c = λ aim given name is rests. tt
+
+pub returns-in_err-open_file-clause-done : goal.returns-in_err-open_file-clause-done
+returns-in_err-open_file-clause-done g c = refl
+
+pub returns-in_err-open_file-clause-before : goal.returns-in_err-open_file-clause-before
+returns-in_err-open_file-clause-before g c = refl
+
+pub returns-in_err-open_file-clause-same_list : goal.returns-in_err-open_file-clause-same_list
+returns-in_err-open_file-clause-same_list g c = refl
+
+pub returns-in_err-open_file-clause-ok : goal.returns-in_err-open_file-clause-ok
+returns-in_err-open_file-clause-ok g c =
+    λ aim given name is rests. ok_of_err c.from_residual.result _ c.from_residual.ensures.0
+
+pub read_file-requires-clause-more : goal.read_file-requires-clause-more
+read_file-requires-clause-more g c κs within = c.in_ok-open_file.ensures.more
+
+pub returns-in_err-failed-clause-done : goal.returns-in_err-failed-clause-done
+returns-in_err-failed-clause-done g c = c.in_err-failed.ensures.done
+
+pub returns-in_err-failed-clause-before : goal.returns-in_err-failed-clause-before
+returns-in_err-failed-clause-before g c = c.in_err-failed.ensures.before
+
+pub returns-in_err-failed-clause-same_list : goal.returns-in_err-failed-clause-same_list
+returns-in_err-failed-clause-same_list g c = c.in_err-failed.ensures.same_list
+
+pub returns-in_err-failed-clause-ok : goal.returns-in_err-failed-clause-ok
+returns-in_err-failed-clause-ok g c =
+    λ aim given name is rests.
+    ok_of_err c.from_residual-in_err-failed.result _ c.from_residual-in_err-failed.ensures.0
+
+pub returns-in_err-tell_fault-clause-done : goal.returns-in_err-tell_fault-clause-done
+returns-in_err-tell_fault-clause-done g c = c.in_ok-failed.ensures.done
+
+pub returns-in_err-tell_fault-clause-before : goal.returns-in_err-tell_fault-clause-before
+returns-in_err-tell_fault-clause-before g c = c.in_ok-failed.ensures.before
+
+pub returns-in_err-tell_fault-clause-same_list : goal.returns-in_err-tell_fault-clause-same_list
+returns-in_err-tell_fault-clause-same_list g c = c.in_ok-failed.ensures.same_list
+
+pub returns-in_err-tell_fault-clause-ok : goal.returns-in_err-tell_fault-clause-ok
+returns-in_err-tell_fault-clause-ok g c =
+    λ aim given name is rests.
+    ok_of_err c.from_residual-in_err-tell_fault.result _ c.from_residual-in_err-tell_fault.ensures.0
+
+pub returns-in_ok-tell_fault-clause-done : goal.returns-in_ok-tell_fault-clause-done
+returns-in_ok-tell_fault-clause-done g c = c.in_ok-failed.ensures.done
+
+pub returns-in_ok-tell_fault-clause-before : goal.returns-in_ok-tell_fault-clause-before
+returns-in_ok-tell_fault-clause-before g c = c.in_ok-failed.ensures.before
+
+pub returns-in_ok-tell_fault-clause-same_list : goal.returns-in_ok-tell_fault-clause-same_list
+returns-in_ok-tell_fault-clause-same_list g c = c.in_ok-failed.ensures.same_list
+
+pub returns-in_ok-tell_fault-clause-err : goal.returns-in_ok-tell_fault-clause-err
+returns-in_ok-tell_fault-clause-err g c = λ aim given name is rests. tt
+
+pub returns-else-failed-clause-done : goal.returns-else-failed-clause-done
+returns-else-failed-clause-done g c = c.in_ok-failed.ensures.done
+
+pub returns-else-failed-clause-before : goal.returns-else-failed-clause-before
+returns-else-failed-clause-before g c = c.in_ok-failed.ensures.before
+
+pub returns-else-failed-clause-same_list : goal.returns-else-failed-clause-same_list
+returns-else-failed-clause-same_list g c = c.in_ok-failed.ensures.same_list
+
+pub returns-else-failed-clause-err : goal.returns-else-failed-clause-err
+returns-else-failed-clause-err g c = λ aim given name is rests. tt

@@ -1,12 +1,13 @@
-use Rattle.std.proofs.Common.{◌≡◌, ◌∙◌, List, ◌∷◌, ap, subst, sym}
+use Rattle.std.proofs.Common.{◌≡◌, ◌∙◌, List, ◌∷◌, ap, drop, subst, sym}
 use Rattle.pg_run.specs.Given.{Given, NoFile, FilesPast, newest_name}
 use Rattle.pg_run.specs.Asking.{NextGives}
 use Rattle.pg_run.specs.Holding.{stream}
 use Rattle.pg_run.specs.Reading.{Rests, Stops}
 use Rattle.pg_run.specs.declared.files.Step.{Step}
 use Rattle.pg_run.specs.declared.fault.RunFault.TheVariants.{OutOfMemory}
-use Rattle.pg_run.proofs.HoldLemmas.{err_by}
+use Rattle.pg_run.proofs.HoldLemmas.{err_by, ok_of_err}
 use Rattle.pg_run.proofs.RunLemmas.{between_safe, stops_memory}
+use Rattle.std.proofs.lemmas.Result.{IfOk-from_err}
 use Rattle.pg_run.proofs.running.take_next.Goals as goal
 
 pub returns-in_err-next-clause-err : goal.returns-in_err-next-clause-err
@@ -56,3 +57,99 @@ returns-in_ok-one_file-in-File-clause-ok g c = λ aim rests.
     let S : Step → Type 0 = λ s. NextGives s (g.F.Files.past c.args.files.now) (g.F.Files.past c.next.new.self) in
     let e = subst S c.in-File.is c.in_ok-next.ensures.ok in
     c.in_ok-one_file-in-File.ensures.ok aim (g.F.Files.past c.args.files.now).given e.0 (ap (λ p. p.given) e.1) rests
+
+pub returns-in_err-next-clause-goes : goal.returns-in_err-next-clause-goes
+returns-in_err-next-clause-goes g c = IfOk-from_err c.from_residual.result _ c.from_residual.ensures.0
+
+pub returns-in_err-next-clause-same_list : goal.returns-in_err-next-clause-same_list
+returns-in_err-next-clause-same_list g c = c.in_err-next.ensures.same_list
+
+pub returns-in_err-next-clause-ok : goal.returns-in_err-next-clause-ok
+returns-in_err-next-clause-ok g c = λ aim rests. ok_of_err c.from_residual.result _ c.from_residual.ensures.0
+
+pub returns-in-Done-clause-same_list : goal.returns-in-Done-clause-same_list
+returns-in-Done-clause-same_list g c = c.in_ok-next.ensures.same_list
+
+pub returns-in-Done-clause-err : goal.returns-in-Done-clause-err
+returns-in-Done-clause-err g c = λ aim rests. tt
+
+pub returns-in_err-miss-in-Miss-clause-goes : goal.returns-in_err-miss-in-Miss-clause-goes
+returns-in_err-miss-in-Miss-clause-goes g c =
+    IfOk-from_err c.from_residual-in_err-miss-in-Miss.result _ c.from_residual-in_err-miss-in-Miss.ensures.0
+
+pub returns-in_err-miss-in-Miss-clause-same_list : goal.returns-in_err-miss-in-Miss-clause-same_list
+returns-in_err-miss-in-Miss-clause-same_list g c = c.in_ok-next.ensures.same_list
+
+pub returns-in_err-miss-in-Miss-clause-ok : goal.returns-in_err-miss-in-Miss-clause-ok
+returns-in_err-miss-in-Miss-clause-ok g c =
+    λ aim rests.
+    ok_of_err c.from_residual-in_err-miss-in-Miss.result _ c.from_residual-in_err-miss-in-Miss.ensures.0
+
+pub returns-in_ok-miss-in-Miss-clause-same_list : goal.returns-in_ok-miss-in-Miss-clause-same_list
+returns-in_ok-miss-in-Miss-clause-same_list g c = c.in_ok-next.ensures.same_list
+
+pub returns-in_ok-miss-in-Miss-clause-err : goal.returns-in_ok-miss-in-Miss-clause-err
+returns-in_ok-miss-in-Miss-clause-err g c = λ aim rests. tt
+
+pub returns-in_err-one_file-in-File-clause-goes : goal.returns-in_err-one_file-in-File-clause-goes
+returns-in_err-one_file-in-File-clause-goes g c =
+    IfOk-from_err c.from_residual-in_err-one_file-in-File.result _ c.from_residual-in_err-one_file-in-File.ensures.0
+
+pub returns-in_err-one_file-in-File-clause-same_list : goal.returns-in_err-one_file-in-File-clause-same_list
+returns-in_err-one_file-in-File-clause-same_list g c =
+    c.in_err-one_file-in-File.ensures.same_list ∙ c.in_ok-next.ensures.same_list
+
+pub returns-in_err-one_file-in-File-clause-ok : goal.returns-in_err-one_file-in-File-clause-ok
+returns-in_err-one_file-in-File-clause-ok g c =
+    λ aim rests.
+    ok_of_err c.from_residual-in_err-one_file-in-File.result _ c.from_residual-in_err-one_file-in-File.ensures.0
+
+pub returns-in_ok-one_file-in-File-clause-same_list : goal.returns-in_ok-one_file-in-File-clause-same_list
+returns-in_ok-one_file-in-File-clause-same_list g c =
+    c.in_ok-one_file-in-File.ensures.same_list ∙ c.in_ok-next.ensures.same_list
+
+pub returns-in_ok-one_file-in-File-clause-err : goal.returns-in_ok-one_file-in-File-clause-err
+returns-in_ok-one_file-in-File-clause-err g c = λ aim rests. tt
+
+pub returns-in-Done-clause-goes : goal.returns-in-Done-clause-goes
+returns-in-Done-clause-goes g c =
+    let S : Step → Type 0 = λ s. NextGives s (g.F.Files.past c.args.files.now) (g.F.Files.past c.next.new.self) in
+    let e = subst S c.in-Done.is c.in_ok-next.ensures.ok in
+    (ap (λ p. p.given) e, ap (λ p. p.done) e)
+
+pub returns-in-Done-clause-ok : goal.returns-in-Done-clause-ok
+returns-in-Done-clause-ok g c = λ aim rests.
+    let S : Step → Type 0 = λ s. NextGives s (g.F.Files.past c.args.files.now) (g.F.Files.past c.next.new.self) in
+    let out = stream (g.W.Sink.taken c.args.out.now) (g.W.Sink.failures c.args.out.now) in
+    let told = stream (g.E.Sink.taken c.args.faults.now) (g.E.Sink.failures c.args.faults.now) in
+    let P : FilesPast → Type 0 = λ p. Rests c.args.engine.now aim p.given out told in
+    subst P (sym (subst S c.in-Done.is c.in_ok-next.ensures.ok)) rests
+
+pub returns-in_ok-miss-in-Miss-clause-goes : goal.returns-in_ok-miss-in-Miss-clause-goes
+returns-in_ok-miss-in-Miss-clause-goes g c =
+    let S : Step → Type 0 = λ s. NextGives s (g.F.Files.past c.args.files.now) (g.F.Files.past c.next.new.self) in
+    let e = subst S c.in-Miss.is c.in_ok-next.ensures.ok in
+    (ap (λ p. drop 1 p.given) e.1, ap (λ p. p.done) e.1)
+
+pub returns-in_ok-one_file-in-File-clause-goes : goal.returns-in_ok-one_file-in-File-clause-goes
+returns-in_ok-one_file-in-File-clause-goes g c =
+    let S : Step → Type 0 = λ s. NextGives s (g.F.Files.past c.args.files.now) (g.F.Files.past c.next.new.self) in
+    let e = subst S c.in-File.is c.in_ok-next.ensures.ok in
+    let ok = c.in_ok-one_file-in-File.ensures in
+    (ok.before ∙ ap (λ p. drop 1 p.given) e.1, ok.done ∙ ap (λ p. p.done) e.1)
+
+pub returns-in_err-miss-in-Miss-clause-err : goal.returns-in_err-miss-in-Miss-clause-err
+returns-in_err-miss-in-Miss-clause-err g c = λ aim rests.
+    let out = stream (g.W.Sink.taken c.args.out.now) (g.W.Sink.failures c.args.out.now) in
+    let told' = stream (g.E.Sink.taken c.miss.new.faults) (g.E.Sink.failures c.miss.new.faults) in
+    let given = (g.F.Files.past c.args.files.now).given in
+    let S : Step → Type 0 = λ s. NextGives s (g.F.Files.past c.args.files.now) (g.F.Files.past c.next.new.self) in
+    let e = subst S c.in-Miss.is c.in_ok-next.ensures.ok in
+    let is : (g.F.Files.past c.next.new.self).given ≡ NoFile e.0 c.in-Miss.cause ∷ given = ap (λ p. p.given) e.1 in
+    let named : c.name.result.now ≡ e.0 = c.name.ensures ∙ ap newest_name is in
+    let fault = c.in_err-miss-in-Miss.field-0.0 in
+    let P : List Given → Type 0 = λ gs. Stops aim gs out told' fault in
+    err_by c.from_residual-in_err-miss-in-Miss.result (Stops aim (g.F.Files.past c.next.new.self).given out told') fault
+    c.from_residual-in_err-miss-in-Miss.ensures.1
+    (subst P (sym (is ∙ ap (λ n. NoFile n c.in-Miss.cause ∷ given) (sym named)))
+    (c.in_err-miss-in-Miss.ensures.err aim given out rests))

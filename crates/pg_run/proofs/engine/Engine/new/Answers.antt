@@ -5,6 +5,7 @@ use Rattle.pg_rows.specs.declared.format.Format.{Format}
 use Rattle.pg_seq.specs.History.{start}
 use Rattle.pg_seq.specs.Standing.{Stands}
 use Rattle.pg_run.proofs.HoldLemmas.{holds_new}
+use Rattle.std.proofs.lemmas.Result.{IfOk-from_err}
 use Rattle.pg_run.proofs.engine.Engine.new.Goals as goal
 
 pub returns : goal.returns
@@ -23,3 +24,28 @@ returns g c = λ aim trees text set.
 
 pub invariant_of-result-clause-all_fit : goal.invariant_of-result-clause-all_fit
 invariant_of-result-clause-all_fit g c = λ k d below. absurd (omega (arith, ap length c.new-4.ensures.items, below))
+
+pub returns-in_err-query : goal.returns-in_err-query
+returns-in_err-query g c = IfOk-from_err c.from_residual.result _ c.from_residual.ensures.0
+
+pub returns-in_err-try_clone : goal.returns-in_err-try_clone
+returns-in_err-try_clone g c =
+    IfOk-from_err c.from_residual-in_err-try_clone.result _ c.from_residual-in_err-try_clone.ensures.0
+
+pub returns-in_err-sequencer : goal.returns-in_err-sequencer
+returns-in_err-sequencer g c =
+    IfOk-from_err c.from_residual-in_err-sequencer.result _ c.from_residual-in_err-sequencer.ensures.0
+
+pub returns-in_err-scratch : goal.returns-in_err-scratch
+returns-in_err-scratch g c =
+    IfOk-from_err c.from_residual-in_err-scratch.result _ c.from_residual-in_err-scratch.ensures.0
+
+pub invariant_of-result-clause-fits : goal.invariant_of-result-clause-fits
+invariant_of-result-clause-fits g c =
+    c.in_ok-scratch.ensures ∙ (c.machine.ensures.machine ∙ ap (λ q. q.machine) c.deref-2.ensures)
+
+pub invariant_of-result-clause-endless : goal.invariant_of-result-clause-endless
+invariant_of-result-clause-endless g c = c.is_spread-spread.ensures
+
+pub invariant_of-result-clause-at_once : goal.invariant_of-result-clause-at_once
+invariant_of-result-clause-at_once g c = λ spread. c.new-5.ensures.items
