@@ -1,6 +1,7 @@
+use Rattle.std.proofs.Common.{◌∙◌, refl}
 use Rattle.pg_run.specs.Holding.{stream}
 use Rattle.pg_run.specs.Reading.{Breaks}
-use Rattle.pg_run.proofs.HoldLemmas.{err_by}
+use Rattle.pg_run.proofs.HoldLemmas.{err_by, ok_of_err}
 use Rattle.pg_run.proofs.ReadingLemmas.{read_on}
 use Rattle.pg_run.proofs.reading.read_once.Goals as goal
 
@@ -28,3 +29,73 @@ pub returns-clause-ok : goal.returns-clause-ok
 returns-clause-ok g c = λ aim start.
     let h = c.in_ok-settle.ensures.ok aim (g.F.Files.past c.args.files.now).given start in
     c.in_ok-search_ready.ensures.ok aim (read_on h c.read.ensures)
+
+pub returns-in_err-settle-clause-done : goal.returns-in_err-settle-clause-done
+returns-in_err-settle-clause-done g c = refl
+
+pub returns-in_err-settle-clause-before : goal.returns-in_err-settle-clause-before
+returns-in_err-settle-clause-before g c = refl
+
+pub returns-in_err-settle-clause-same_list : goal.returns-in_err-settle-clause-same_list
+returns-in_err-settle-clause-same_list g c = refl
+
+pub returns-in_err-settle-clause-drained : goal.returns-in_err-settle-clause-drained
+returns-in_err-settle-clause-drained g c = ok_of_err c.from_residual.result _ c.from_residual.ensures.0
+
+pub returns-in_err-settle-clause-room : goal.returns-in_err-settle-clause-room
+returns-in_err-settle-clause-room g c = ok_of_err c.from_residual.result _ c.from_residual.ensures.0
+
+pub returns-in_err-settle-clause-ok : goal.returns-in_err-settle-clause-ok
+returns-in_err-settle-clause-ok g c = λ aim start. ok_of_err c.from_residual.result _ c.from_residual.ensures.0
+
+pub returns-in_err-settle-clause-err : goal.returns-in_err-settle-clause-err
+returns-in_err-settle-clause-err g c =
+    λ aim start.
+    let given = (g.F.Files.past c.args.files.now).given in
+    let out' = stream (g.W.Sink.taken c.settle.new.out) (g.W.Sink.failures c.settle.new.out) in
+    err_by c.from_residual.result (Breaks aim given out') c.in_err-settle.field-0.0 c.from_residual.ensures.1
+    (c.in_err-settle.ensures.err aim given start)
+
+pub read-requires-clause-more : goal.read-requires-clause-more
+read-requires-clause-more g c = c.requires.more
+
+pub returns-in_err-search_ready-clause-done : goal.returns-in_err-search_ready-clause-done
+returns-in_err-search_ready-clause-done g c = c.in_err-search_ready.ensures.done ∙ c.read.ensures.done
+
+pub returns-in_err-search_ready-clause-before : goal.returns-in_err-search_ready-clause-before
+returns-in_err-search_ready-clause-before g c = c.in_err-search_ready.ensures.before ∙ c.read.ensures.before
+
+pub returns-in_err-search_ready-clause-same_list : goal.returns-in_err-search_ready-clause-same_list
+returns-in_err-search_ready-clause-same_list g c =
+    c.in_err-search_ready.ensures.same_list ∙ c.read.ensures.same_list
+
+pub returns-in_err-search_ready-clause-drained : goal.returns-in_err-search_ready-clause-drained
+returns-in_err-search_ready-clause-drained g c =
+    ok_of_err c.from_residual-in_err-search_ready.result _ c.from_residual-in_err-search_ready.ensures.0
+
+pub returns-in_err-search_ready-clause-room : goal.returns-in_err-search_ready-clause-room
+returns-in_err-search_ready-clause-room g c =
+    ok_of_err c.from_residual-in_err-search_ready.result _ c.from_residual-in_err-search_ready.ensures.0
+
+pub returns-in_err-search_ready-clause-ok : goal.returns-in_err-search_ready-clause-ok
+returns-in_err-search_ready-clause-ok g c =
+    λ aim start.
+    ok_of_err c.from_residual-in_err-search_ready.result _ c.from_residual-in_err-search_ready.ensures.0
+
+pub returns-clause-done : goal.returns-clause-done
+returns-clause-done g c = c.in_ok-search_ready.ensures.done ∙ c.read.ensures.done
+
+pub returns-clause-before : goal.returns-clause-before
+returns-clause-before g c = c.in_ok-search_ready.ensures.before ∙ c.read.ensures.before
+
+pub returns-clause-same_list : goal.returns-clause-same_list
+returns-clause-same_list g c = c.in_ok-search_ready.ensures.same_list ∙ c.read.ensures.same_list
+
+pub returns-clause-drained : goal.returns-clause-drained
+returns-clause-drained g c = c.in_ok-search_ready.ensures.drained
+
+pub returns-clause-room : goal.returns-clause-room
+returns-clause-room g c = c.in_ok-search_ready.ensures.room
+
+pub returns-clause-err : goal.returns-clause-err
+returns-clause-err g c = λ aim start. tt

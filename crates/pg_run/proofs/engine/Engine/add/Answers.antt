@@ -7,7 +7,7 @@ use Rattle.pg_seq.specs.Plan.{Announces, MayFollow}
 use Rattle.pg_seq.specs.History.{plan, planned}
 use Rattle.pg_seq.specs.Standing.{Stands}
 use Rattle.pg_run.specs.Holding.{past_of, format_of}
-use Rattle.pg_run.proofs.HoldLemmas.{may_past, holds_waiting}
+use Rattle.pg_run.proofs.HoldLemmas.{may_past, ok_of_err, holds_waiting}
 use Rattle.pg_run.proofs.engine.Engine.add.Goals as goal
 
 pub returns : goal.returns
@@ -25,3 +25,21 @@ returns g c = λ aim steps out ready.
     let more = ap (λ xs. map arc_value xs) c.in_ok-push.ensures.items
     ∙ (map-append arc_value old (c.in_ok-block.block ∷ []) ∙ ap (λ x. map arc_value old ++ x ∷ []) b) in
     holds_waiting h _ c.args.block m h.same h.set h.count more middle
+
+pub returns-in_err-block : goal.returns-in_err-block
+returns-in_err-block g c = λ aim steps out ready. ok_of_err c.from_residual.result _ c.from_residual.ensures.0
+
+pub returns-in_err-try_clone : goal.returns-in_err-try_clone
+returns-in_err-try_clone g c =
+    λ aim steps out ready.
+    ok_of_err c.from_residual-in_err-try_clone.result _ c.from_residual-in_err-try_clone.ensures.0
+
+pub returns-in_err-announce : goal.returns-in_err-announce
+returns-in_err-announce g c =
+    λ aim steps out ready.
+    ok_of_err c.from_residual-in_err-announce.result _ c.from_residual-in_err-announce.ensures.0
+
+pub returns-in_err-push : goal.returns-in_err-push
+returns-in_err-push g c =
+    λ aim steps out ready.
+    ok_of_err c.from_residual-in_err-push.result _ c.from_residual-in_err-push.ensures.0

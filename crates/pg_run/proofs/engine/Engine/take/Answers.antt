@@ -6,7 +6,7 @@ use Rattle.pg_seq.specs.Plan.{Announces, MayFollow}
 use Rattle.pg_seq.specs.History.{plan, planned}
 use Rattle.pg_seq.specs.Standing.{Stands}
 use Rattle.pg_run.specs.Holding.{past_of, format_of}
-use Rattle.pg_run.proofs.HoldLemmas.{may_past, is_first, holds_block}
+use Rattle.pg_run.proofs.HoldLemmas.{may_past, is_first, holds_block, ok_of_err}
 use Rattle.pg_run.proofs.engine.Engine.take.Goals as goal
 
 pub keep-requires : goal.keep-requires
@@ -47,3 +47,38 @@ returns-clause-ok g c = λ aim steps out ready.
     holds_block h _ c.args.block c.in_ok-found.found m h.same h.set h.count none none found
     (c.keep.ensures (planned past (Announces c.args.block)) middle
     (is_first h c.args.block m c.in_ok-found.found found))
+
+pub returns-in_err-block-clause-none : goal.returns-in_err-block-clause-none
+returns-in_err-block-clause-none g c = c.args.self.now.at_once c.requires.at_once
+
+pub returns-in_err-block-clause-ok : goal.returns-in_err-block-clause-ok
+returns-in_err-block-clause-ok g c =
+    λ aim steps out ready.
+    ok_of_err c.from_residual.result _ c.from_residual.ensures.0
+
+pub returns-in_err-searched-clause-none : goal.returns-in_err-searched-clause-none
+returns-in_err-searched-clause-none g c = c.args.self.now.at_once c.requires.at_once
+
+pub returns-in_err-searched-clause-ok : goal.returns-in_err-searched-clause-ok
+returns-in_err-searched-clause-ok g c =
+    λ aim steps out ready.
+    ok_of_err c.from_residual-in_err-searched.result _ c.from_residual-in_err-searched.ensures.0
+
+pub returns-in_err-found-clause-none : goal.returns-in_err-found-clause-none
+returns-in_err-found-clause-none g c = c.args.self.now.at_once c.requires.at_once
+
+pub returns-in_err-found-clause-ok : goal.returns-in_err-found-clause-ok
+returns-in_err-found-clause-ok g c =
+    λ aim steps out ready.
+    ok_of_err c.from_residual-in_err-found.result _ c.from_residual-in_err-found.ensures.0
+
+pub returns-in_err-announce-clause-none : goal.returns-in_err-announce-clause-none
+returns-in_err-announce-clause-none g c = c.args.self.now.at_once c.requires.at_once
+
+pub returns-in_err-announce-clause-ok : goal.returns-in_err-announce-clause-ok
+returns-in_err-announce-clause-ok g c =
+    λ aim steps out ready.
+    ok_of_err c.from_residual-in_err-announce.result _ c.from_residual-in_err-announce.ensures.0
+
+pub returns-clause-none : goal.returns-clause-none
+returns-clause-none g c = c.args.self.now.at_once c.requires.at_once
