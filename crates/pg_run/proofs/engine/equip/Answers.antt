@@ -3,6 +3,7 @@ use Rattle.std.specs.List.{All}
 use Rattle.std.proofs.lemmas.List.{length_push}
 use Rattle.std.proofs.lemmas.List.Elements.{All-push}
 use Rattle.pg_match.specs.Machines.{Room, Fits}
+use Rattle.pg_run.proofs.HoldLemmas.{ok_of_err}
 use Rattle.pg_run.proofs.engine.equip.Goals as goal
 
 pub loop-alloc-preserved : goal.loop-alloc-preserved
@@ -16,3 +17,10 @@ loop-alloc-preserved g c =
       omega (arith, ap length grown, length_push old scratch, c.len.ensures, c.loop-alloc-test.true, c.requires.few.0),
       subst P (sym grown) (All-push (λ s. Fits s machine) old scratch c.loop-alloc.invariant.1 fits),
     )
+
+pub returns-in_err-scratch-clause-enough : goal.returns-in_err-scratch-clause-enough
+returns-in_err-scratch-clause-enough g c = ok_of_err c.from_residual.result _ c.from_residual.ensures.0
+
+pub returns-in_err-push-clause-enough : goal.returns-in_err-push-clause-enough
+returns-in_err-push-clause-enough g c =
+    ok_of_err c.from_residual-in_err-push.result _ c.from_residual-in_err-push.ensures.0

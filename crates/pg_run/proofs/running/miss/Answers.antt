@@ -4,7 +4,7 @@ use Rattle.pg_run.specs.Told.{fault_line}
 use Rattle.pg_run.specs.Holding.{stream}
 use Rattle.pg_run.specs.Reading.{Stops}
 use Rattle.pg_run.specs.declared.fault.RunFault.TheVariants.{OutOfMemory}
-use Rattle.pg_run.proofs.HoldLemmas.{err_by}
+use Rattle.pg_run.proofs.HoldLemmas.{err_by, ok_of_err}
 use Rattle.pg_run.proofs.RunLemmas.{told_by, stops_telling, stops_memory, unmissed_safe, name_missed}
 use Rattle.pg_run.proofs.running.miss.Goals as goal
 
@@ -49,3 +49,15 @@ returns-clause-ok g c = λ aim given out rests.
       told_by aim given more told told' c.args.engine.now.setup.silent (fault_line c.args.name.now c.args.cause)
           (ap (λ s. s.silent) b.holds.set) rests.1 refl ok.ok ok.calm,
     )
+
+pub returns-in_err-tell_fault-clause-ok : goal.returns-in_err-tell_fault-clause-ok
+returns-in_err-tell_fault-clause-ok g c =
+    λ aim given out rests. ok_of_err c.from_residual.result _ c.from_residual.ensures.0
+
+pub returns-in_err-miss-clause-ok : goal.returns-in_err-miss-clause-ok
+returns-in_err-miss-clause-ok g c =
+    λ aim given out rests.
+    ok_of_err c.from_residual-in_err-miss.result _ c.from_residual-in_err-miss.ensures.0
+
+pub returns-clause-err : goal.returns-clause-err
+returns-clause-err g c = λ aim given out rests. tt

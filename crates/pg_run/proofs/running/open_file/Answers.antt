@@ -3,6 +3,7 @@ use Rattle.pg_seq.specs.Plan.{Opens}
 use Rattle.pg_run.specs.Holding.{IsReady}
 use Rattle.pg_run.proofs.ReadingLemmas.{stands_by}
 use Rattle.pg_run.proofs.RunLemmas.{file_opened}
+use Rattle.pg_run.proofs.HoldLemmas.{ok_of_err}
 use Rattle.pg_run.proofs.running.open_file.Goals as goal
 
 pub open-requires-clause-ready : goal.open-requires-clause-ready
@@ -18,3 +19,11 @@ returns-clause-ok g c = λ aim given out b.
     file_opened b _ _ c.args.name.now c.open-2.ensures.came
     (stands_by _ c.open-2.ensures.cutter (c.in_ok-cutter.ensures.cutter aim b.steps out ready))
     (c.in_ok-cutter.ensures.ok aim b.steps out ready)
+
+pub returns-in_err-cutter-clause-more : goal.returns-in_err-cutter-clause-more
+returns-in_err-cutter-clause-more g c = ok_of_err c.from_residual.result _ c.from_residual.ensures.0
+
+pub returns-in_err-cutter-clause-ok : goal.returns-in_err-cutter-clause-ok
+returns-in_err-cutter-clause-ok g c =
+    λ aim given out between.
+    ok_of_err c.from_residual.result _ c.from_residual.ensures.0

@@ -2,7 +2,7 @@ use Rattle.std.proofs.Common.{ap, map}
 use Rattle.std.specs.Arc.{arc_value}
 use Rattle.pg_run.specs.Holding.{Broke, stream, past_of, format_of}
 use Rattle.pg_run.specs.declared.fault.RunFault.TheVariants.{Sink}
-use Rattle.pg_run.proofs.HoldLemmas.{holds_drained, broke_drained, err_by}
+use Rattle.pg_run.proofs.HoldLemmas.{holds_drained, broke_drained, err_by, ok_of_err}
 use Rattle.pg_run.proofs.engine.Engine.drain.Goals as goal
 
 pub returns-clause-ok : goal.returns-clause-ok
@@ -18,3 +18,9 @@ returns-in_err-drain-clause-err g c = λ aim steps h.
     let out' = stream (g.W.Sink.taken c.drain.new.out) (g.W.Sink.failures c.drain.new.out) in
     err_by c.from_residual.result (Broke aim steps out') Sink c.from_residual.ensures.1
     (broke_drained h (ap (λ xs. map arc_value xs) c.requires.none) d.0 out' c.in_err-drain.field-0.0 d.1 d.2 c.in_err-drain.ensures.cause)
+
+pub returns-in_err-drain-clause-ok : goal.returns-in_err-drain-clause-ok
+returns-in_err-drain-clause-ok g c = λ aim steps h. ok_of_err c.from_residual.result _ c.from_residual.ensures.0
+
+pub returns-clause-err : goal.returns-clause-err
+returns-clause-err g c = λ aim steps h. tt

@@ -1,7 +1,8 @@
 use Rattle.std.proofs.Common.{◌+◌, ap}
 use Rattle.pg_seq.specs.Plan.{Opens}
 use Rattle.pg_run.specs.Holding.{past_of, format_of}
-use Rattle.pg_run.proofs.HoldLemmas.{holds_step}
+use Rattle.pg_run.proofs.HoldLemmas.{holds_step, ok_of_err}
+use Rattle.std.proofs.lemmas.Result.{IfOk-from_err}
 use Rattle.pg_run.proofs.engine.Engine.open.Goals as goal
 
 pub returns-clause-ok : goal.returns-clause-ok
@@ -9,3 +10,15 @@ returns-clause-ok g c = λ aim steps out ready.
     let h = ready.0 in
     holds_step h _ (Opens c.args.name.now) ready.1 h.same h.set (ap (λ n. n + 1) h.count) h.blocks
     (c.in_ok-open.ensures.ok (past_of aim.query (format_of aim) h.events h.written) h.stands)
+
+pub returns-in_err-open-clause-ok : goal.returns-in_err-open-clause-ok
+returns-in_err-open-clause-ok g c =
+    λ aim steps out ready. ok_of_err c.from_residual.result _ c.from_residual.ensures.0
+
+pub returns-in_err-open-clause-cutter : goal.returns-in_err-open-clause-cutter
+returns-in_err-open-clause-cutter g c =
+    λ aim steps out ready.
+    IfOk-from_err c.from_residual.result _ c.from_residual.ensures.0
+
+pub returns-in_err-open-clause-drained : goal.returns-in_err-open-clause-drained
+returns-in_err-open-clause-drained g c = IfOk-from_err c.from_residual.result _ c.from_residual.ensures.0
