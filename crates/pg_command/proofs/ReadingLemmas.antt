@@ -2,7 +2,8 @@
 use Rattle.std.proofs.Common.{◌≡◌, ◌∙◌, ◌+◌, ◌<◌, List, [], ◌∷◌, ◌++◌, ℕ, length, take, drop, get_or}
 use Rattle.std.proofs.Common.{Result, Ok, Err, ap, subst, sym}
 use Rattle.std.specs.Borrow.{Bor}
-use Rattle.std.specs.Result.{IfErr, IsErrAnd}
+use Rattle.std.specs.Result.{IfErr, IsErr, IsErrAnd, OnOk}
+use Rattle.std.proofs.lemmas.Bool.{false≢true}
 use Rattle.pg_syntax.specs.Slices.{bytes_of}
 use Rattle.pg_syntax.proofs.ListLemmas.{texts-more, texts-whole}
 use Rattle.pg_rows.specs.Output.{Ended}
@@ -14,6 +15,11 @@ use Rattle.pg_command.specs.declared.fault.Fault.{Fault}
 pub if_err : {T E : Type 0} (P Q : E → Type 0) (r : Result T E) → IsErrAnd r Q → ((e : E) → Q e → P e) → IfErr r P
 if_err P Q (Ok x) h f = tt
 if_err P Q (Err e) h f = f e h
+
+-- nothing is said of the Ok of an error
+pub ok_of_err : {T E : Type 0} (r : Result T E) (P : Type 0) → IsErr r → OnOk r P
+ok_of_err (Ok x) P h = absurd (false≢true h)
+ok_of_err (Err e) P h = tt
 
 -- one more file was read
 pub read_next : (paths contents : List (List ℕ)) (path content : List ℕ) (past mid past' : List Given)
