@@ -1,6 +1,6 @@
-use Rattle.std.proofs.Common.{◌∙◌, refl, subst, sym}
+use Rattle.std.proofs.Common.{◌∙◌, refl, sym}
 use Rattle.std.proofs.lemmas.Result.{IfOk-from_err}
-use Rattle.pg_lines.specs.Search.{SearchText, Pattern, AreTreesOf}
+use Rattle.pg_lines.specs.Search.{SearchText}
 use Rattle.pg_lines.specs.Queries.{IsQueryFault}
 use Rattle.pg_lines.specs.declared.query.QueryFault.{QueryFault}
 use Rattle.pg_lines.specs.declared.query.QueryFault.TheVariants.{Syntax, TooLarge, OutOfMemory as NoMemoryForQuery}
