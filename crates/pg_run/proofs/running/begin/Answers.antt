@@ -1,6 +1,6 @@
-use Rattle.std.proofs.Common.{◌∙◌, refl, sym}
+use Rattle.std.proofs.Common.{◌∙◌, refl, subst, sym}
 use Rattle.std.proofs.lemmas.Result.{IfOk-from_err}
-use Rattle.pg_lines.specs.Search.{SearchText}
+use Rattle.pg_lines.specs.Search.{SearchText, AreTreesOf}
 use Rattle.pg_lines.specs.Queries.{IsQueryFault}
 use Rattle.pg_lines.specs.declared.query.QueryFault.{QueryFault}
 use Rattle.pg_lines.specs.declared.query.QueryFault.TheVariants.{Syntax, TooLarge, OutOfMemory as NoMemoryForQuery}
@@ -49,6 +49,12 @@ returns-in_err-engine-clause-err g c =
     HasCause fault c.args.text c.args.setup nothing_given out out told told in
     err_by c.from_residual-in_err-engine.result P OutOfMemory c.from_residual-in_err-engine.ensures.1
     (λ out told. tt)
+
+pub returns-clause-trees : goal.returns-clause-trees
+returns-clause-trees g c =
+    let compiled = c.in_ok-query.ensures.compiled in
+    let T : SearchText → Type 0 = λ text. AreTreesOf text compiled.0 in
+    (compiled.0, subst T c.in_ok-query.ensures.text compiled.1)
 
 pub returns-clause-holds : goal.returns-clause-holds
 returns-clause-holds g c = λ aim trees text set.

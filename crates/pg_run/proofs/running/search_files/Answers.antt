@@ -61,8 +61,9 @@ returns-in_err-status-clause-err g c = λ aim start.
     let out' = stream (g.W.Sink.taken c.finish.new.out) (g.W.Sink.failures c.finish.new.out) in
     let told' = stream (g.E.Sink.taken c.all_files.new.faults) (g.E.Sink.failures c.all_files.new.faults) in
     let d = c.in_ok-all_files.ensures.ok aim start in
+    let given = (g.F.Files.past c.all_files.new.files).given in
     let fault = c.in_err-status.field-0.0 in
-    err_by c.from_residual-in_err-status.result (Stops aim (g.F.Files.past c.all_files.new.files).given out' told') fault
+    err_by c.from_residual-in_err-status.result (Stops aim given out' told') fault
     c.from_residual-in_err-status.ensures.1
     (done_breaks d out' fault (c.in_err-status.ensures.err aim d.rests.0.steps d.rests.0.holds))
 

@@ -94,7 +94,8 @@ returns-in_err-drain-clause-err g c = λ aim steps ready.
     let out' = stream (g.W.Sink.taken c.drain.new.out) (g.W.Sink.failures c.drain.new.out) in
     let next = Announces c.args.block ∷ steps in
     err_by c.from_residual-in_err-drain.result (Broke aim next out') c.in_err-drain.field-0.0
-    c.from_residual-in_err-drain.ensures.1 (c.in_err-drain.ensures.err aim next (c.in_ok-take.ensures.ok aim steps out ready))
+    c.from_residual-in_err-drain.ensures.1
+    (c.in_err-drain.ensures.err aim next (c.in_ok-take.ensures.ok aim steps out ready))
 
 pub returns-clause-ok : goal.returns-clause-ok
 returns-clause-ok g c = λ aim steps ready.
