@@ -5,7 +5,7 @@ ghost use Rattle.pg_match.specs.Machines.{Fits};
 ghost use Rattle.pg_lines.specs.Lines.{AreShort};
 ghost use Rattle.pg_lines.specs.Search.{terminator_of};
 
-use crate::rows::{Question, assert_rows, bytes_of, cut, few_bytes, halves};
+use crate::rows::{Question, assert_rows, bytes_of, cut, few_bytes};
 use pg_lines::{
     Block, BlockResult, CutFault, Kind, PatternList, Query, QueryFault, QueryText, Scratch,
     search_block,
@@ -14,7 +14,6 @@ use refusing::Refusing;
 use std::alloc::{AllocError, Allocator, Global};
 use std::process::Abort;
 use std::sync::Arc;
-use std::test::Fail;
 
 /// What a query is compiled from: the letters say the kind (`E`, `F`, or none of both), the options, and by `f` that
 /// the pattern is of a file.
@@ -190,18 +189,24 @@ pub(crate) fn found(rt: &impl Abort, alloc: Global, letters: &str, asked: &str) 
     let block = few_bytes(rt, alloc, block);
     let text = text_of(alloc, letters, &bytes_of(rt, alloc, pattern)).expect(rt, "memory");
     match Query::compile(alloc, text) {
-        Ok(query) => shown_search(rt, alloc, query, &block),
+        Ok(query) => shown_search(rt, alloc, alloc, query, &block).expect(rt, "memory"),
         Err(fault) => format!(in alloc; "{fault}").expect(rt, "memory"),
     }
 }
 
 /// What a search finds in a block with these bytes, at most 100, as `shown` shows it.
-fn shown_search(rt: &impl Abort, alloc: Global, query: Query, bytes: &[u8]) -> String
+fn shown_search<A: Allocator + Copy>(
+    rt: &impl Abort,
+    alloc: Global,
+    heap: A,
+    query: Query<A>,
+    bytes: &[u8],
+) -> Result<String, AllocError>
     requires { length bytes.now ≤ 100 }
 {
-    let prepared = prepare(alloc, query, bytes).expect(rt, "memory");
-    let found = search_for(alloc, prepared).expect(rt, "memory");
-    shown(rt, alloc, &found)
+    let prepared = prepare(heap, query, bytes).expect(rt, "memory");
+    let found = search_for(heap, prepared)?;
+    Ok(shown(rt, alloc, &found))
 }
 
 #[test]
@@ -224,7 +229,8 @@ fn long_block(alloc: Global, size: usize) -> Result<Vec<u8>, AllocError> {
 fn found_in_long(rt: &impl Abort, alloc: Global, size: usize) -> String {
     let bytes = long_block(alloc, size).expect(rt, "memory");
     assert!(rt; bytes.len() <= 100);
-    shown_search(rt, alloc, query_of(rt, alloc, "Fo", b"b"), &bytes)
+    let query = query_of(rt, alloc, "Fo", b"b");
+    shown_search(rt, alloc, alloc, query, &bytes).expect(rt, "memory")
 }
 
 /// What is wanted of such a search, for a size below 100.
@@ -239,13 +245,12 @@ fn wanted_of_long(alloc: Global, size: u32) -> Result<String, AllocError>
 }
 
 #[test]
-fn long_blocks_are_counted(rt: HostRuntime) -> Result<(), Fail> {
+fn long_blocks_are_counted(rt: HostRuntime) {
     for size in 0..98u32 {
-        let want = wanted_of_long(rt.alloc(), size)?;
+        let want = wanted_of_long(rt.alloc(), size).expect(&rt, "memory");
         let got = found_in_long(&rt, rt.alloc(), size as usize);
         assert!(rt; got == want, "at {size}");
     }
-    Ok(())
 }
 
 /// A search of which a row tells.
@@ -269,66 +274,68 @@ fn asked_by<'a>(rt: &impl Abort, alloc: Global, asked: &'a str) -> Asked<'a> {
     }
 }
 
-fn prepare_row<A: Allocator + Copy>(rt: &impl Abort, alloc: A, asked: &Asked<'_>) -> Prepared<A>
-    ensures fits { Fits result.scratch (arc_value result.query).machine }
-    ensures short { AreShort (terminator_of (arc_value result.query).text) (arc_value result.block).bytes }
-{
-    let query = query_of(rt, alloc, asked.letters, &asked.pattern);
-    prepare(alloc, query, &asked.bytes).expect(rt, "memory")
+/// Makes what a search needs, and drops it.
+fn only_prepare<A: Allocator + Copy>(rt: &impl Abort, heap: A, asked: &Asked<'_>) {
+    let query = query_of(rt, heap, asked.letters, &asked.pattern);
+    let _prepared = prepare(heap, query, &asked.bytes).expect(rt, "memory");
+}
+
+/// What the search finds, as `shown` shows it.
+fn search_as_asked<A: Allocator + Copy>(
+    rt: &impl Abort,
+    alloc: Global,
+    heap: A,
+    asked: &Asked<'_>,
+) -> Result<String, AllocError> {
+    let query = query_of(rt, heap, asked.letters, &asked.pattern);
+    shown_search(rt, alloc, heap, query, &asked.bytes)
 }
 
 /// How many requests for memory are made before a search.
 fn requests_before(rt: &impl Abort, alloc: Global, asked: &Asked<'_>) -> u64 {
     let heap = Refusing::new(alloc, 1000);
-    let _prepared = prepare_row(rt, &heap, asked);
+    only_prepare(rt, &heap, asked);
     heap.requests()
 }
 
 /// Searches where the requests for memory that the search makes pass up to one, which is refused, and sees that the
-/// answer is the want of memory, and without a refusal what is wanted. Answers whether a request was refused.
-fn is_refused(rt: &impl Abort, alloc: Global, asked: &Asked<'_>, want: &str, passes: u64) -> bool {
+/// answer is the want of memory then. Without a refusal the answer is what is found.
+fn search_refused(
+    rt: &impl Abort,
+    alloc: Global,
+    asked: &Asked<'_>,
+    passes: u64,
+) -> Option<String> {
     let before = requests_before(rt, alloc, asked);
     let heap = Refusing::new(alloc, before.wrapping_add(passes));
-    let prepared = prepare_row(rt, &heap, asked);
-    match search_for(&heap, prepared) {
-        Ok(found) => {
-            assert!(rt; !heap.has_refused() && shown(rt, alloc, &found).as_str() == want);
-            false
-        }
-        Err(AllocError) => {
-            assert!(rt; heap.has_refused());
-            true
-        }
-    }
+    let found = search_as_asked(rt, alloc, &heap, asked).ok();
+    assert!(rt; found.is_none() == heap.has_refused());
+    found
 }
 
-/// Searches as those of `FOUND`, each with several runs, and how many requests for memory it makes at least.
+/// How many requests for memory a search makes at least, and searches as those of `FOUND`, each with several runs.
 const LARGE: &str =
     "2 F b on b%0Ax%0Ab%0Ax%0Ab%0Ax%0Ab%0Ax%0Ab => 9: 0-2=0+1 4-6=2+1 8-10=4+1 12-14=6+1 16-17=8+1
 2 Ev x on b%0Ax%0Ab%0Ax%0Ab%0Ax%0Ab%0Ax%0Ab => 9: 0-2=0+1 4-6=2+1 8-10=4+1 12-14=6+1 16-17=8+1
 3 Fo b on bbbbb%0Ax%0Ab => 3: 0-6=0+1 8-9=2+1 0:0-1 0:1-2 0:2-3 0:3-4 0:4-5 2:8-9
 3 Eo b|c on bcbcb%0Ax%0Ab => 3: 0-6=0+1 8-9=2+1 0:0-1 0:1-2 0:2-3 0:3-4 0:4-5 2:8-9";
 
-/// How many requests for memory of a search are refused in turn, at most 20.
-fn count_refused(rt: &impl Abort, alloc: Global, asked: &str, want: &str) -> u64 {
+/// What is found where each request for memory of a search has been refused in turn, at most 20.
+pub(crate) fn refused(rt: &impl Abort, alloc: Global, least: &str, asked: &str) -> String {
     let asked = asked_by(rt, alloc, asked);
+    let least: u64 = least.parse().expect(rt, "a number");
     for passes in 0..20u64 {
-        if !is_refused(rt, alloc, &asked, want, passes) {
-            return passes;
+        if let Some(shown) = search_refused(rt, alloc, &asked, passes) {
+            assert!(rt; passes >= least);
+            return shown;
         }
     }
-    20
+    panic!(rt; "20 requests or more")
 }
 
 #[test]
 fn memory_may_be_refused(rt: HostRuntime) {
-    for row in LARGE.lines() {
-        let (asked, want) = halves(row);
-        let (least, asked) = cut(asked, " ");
-        let least: u64 = least.parse().expect(&rt, "a number");
-        let count = count_refused(&rt, rt.alloc(), asked, want);
-        assert!(rt; count >= least && count < 20, "{row}");
-    }
+    assert_rows(&rt, rt.alloc(), Question::Refused, LARGE);
 }
 
 /// A query with the options of these letters.
@@ -350,15 +357,21 @@ fn is_block(block: &Block, number: u64, bytes: &[u8]) -> bool {
     block.file == 7 && block.number == number && block.bytes.as_slice() == bytes
 }
 
+/// What a search for `b` finds in a block.
+fn found_in(rt: &impl Abort, alloc: Global, bytes: &[u8]) -> BlockResult
+    requires { length bytes.now ≤ 100 }
+{
+    let query = query_of(rt, alloc, "F", b"b");
+    let prepared = prepare(alloc, query, bytes).expect(rt, "memory");
+    search_for(alloc, prepared).expect(rt, "memory")
+}
+
 #[test]
-fn a_result_has_its_block_and_query(rt: HostRuntime) -> Result<(), Fail> {
-    let query = query_of(&rt, rt.alloc(), "F", b"b");
-    let prepared = prepare(rt.alloc(), query, b"abc\nxyz\nb")?;
-    let found = search_for(rt.alloc(), prepared)?;
+fn a_result_has_its_block_and_query(rt: HostRuntime) {
+    let found = found_in(&rt, rt.alloc(), b"abc\nxyz\nb");
     assert!(rt; is_block(found.block(), 5, b"abc\nxyz\nb"));
     let query: &Query = found.query();
     assert!(rt; *query == query_of(&rt, rt.alloc(), "F", b"b"));
-    Ok(())
 }
 
 /// Two queries, each by its letters and a text, and whether they are the same, as are the texts that they are of.
@@ -379,28 +392,30 @@ fn query_by(rt: &impl Abort, alloc: Global, asked: &str) -> Query {
     query_of(rt, alloc, letters, text.as_bytes())
 }
 
-/// Whether queries are the same, and so are their texts, or neither of both are.
-fn are_same(one: &Query, other: &Query, want: bool) -> bool {
-    (*one == *other) == want && (*one.text() == *other.text()) == want
+/// Whether queries are the same, where their texts say so too.
+fn are_same(one: &Query, other: &Query) -> &'static str {
+    match (*one == *other, *one.text() == *other.text()) {
+        (true, true) => "true",
+        (false, false) => "false",
+        _ => "queries and texts differ",
+    }
+}
+
+pub(crate) fn compared(rt: &impl Abort, alloc: Global, one: &str, other: &str) -> String {
+    let same = are_same(&query_by(rt, alloc, one), &query_by(rt, alloc, other));
+    String::from_str(alloc, same).expect(rt, "memory")
 }
 
 #[test]
 fn queries_are_compared_by_content(rt: HostRuntime) {
-    for row in QUERIES.lines() {
-        let (pair, want) = halves(row);
-        let (one, other) = cut(pair, " ");
-        let one = query_by(&rt, rt.alloc(), one);
-        let other = query_by(&rt, rt.alloc(), other);
-        assert!(rt; are_same(&one, &other, want == "true"), "{row}");
-    }
+    assert_rows(&rt, rt.alloc(), Question::SameQueries, QUERIES);
 }
 
 #[test]
-fn faults_are_shown(rt: HostRuntime) -> Result<(), Fail> {
+fn faults_are_shown(rt: HostRuntime) {
     let long = CutFault::LineTooLong;
     let file = CutFault::FileTooLong;
     let memory = QueryFault::OutOfMemory;
-    let texts = format!(in rt.alloc(); "{long}, {file}, {memory}")?;
+    let texts = format!(in rt.alloc(); "{long}, {file}, {memory}").expect(&rt, "memory");
     assert!(rt; texts.as_str() == "line too long, file too long, out of memory");
-    Ok(())
 }

@@ -100,24 +100,42 @@ whole a*b on b/ab/aab/abx/xab//b/ab => +++---++
 word foo on foo/xfoo/foo_/a foo b/foofoo/foo-/foo/xfoo => +--+-++-
 word x* on a/-//xx/ax/x => -+++-+";
 
-/// Shows whether a line is selected. The scratch is the machine's.
-fn show_selected(rt: &impl Abort, alloc: Global, search: &mut Search, line: &str, out: &mut String)
+/// Shows whether a line is selected, or its matched parts. The scratch is the machine's.
+fn show_line(
+    rt: &impl Abort,
+    alloc: Global,
+    search: &mut Search,
+    line: &str,
+    in_parts: bool,
+    out: &mut String,
+)
     requires { Fits search.old.scratch search.old.machine }
     ensures { Fits search.new.scratch search.new.machine }
 {
     let line = few_bytes(rt, alloc, line);
-    let is_selected = search.machine.selects(&mut search.scratch, &line);
-    out.push(if is_selected { '+' } else { '-' })
-        .expect(rt, "memory");
+    if in_parts {
+        show_parts(rt, search, &line, out);
+    } else {
+        let is_selected = search.machine.selects(&mut search.scratch, &line);
+        out.push(if is_selected { '+' } else { '-' })
+            .expect(rt, "memory");
+    }
 }
 
-pub(crate) fn selected(rt: &impl Abort, alloc: Global, bounds: &str, asked: &str) -> String {
+/// Shows of each line whether it is selected, or its matched parts.
+pub(crate) fn searched(
+    rt: &impl Abort,
+    alloc: Global,
+    bounds: &str,
+    asked: &str,
+    in_parts: bool,
+) -> String {
     let (text, lines) = cut(asked, " on ");
     let text = bytes_of(rt, alloc, text);
     let mut search = machine(rt, alloc, &text, bounds_of(bounds));
     let mut out = String::new(alloc);
     for line in lines.split('/') {
-        show_selected(rt, alloc, &mut search, line, &mut out);
+        show_line(rt, alloc, &mut search, line, in_parts, &mut out);
     }
     out
 }
@@ -171,17 +189,6 @@ any a*b on aaab/xb/aaa/ab => 0-4/1-2//0-2/
 any ^a|b on aab/ba/aa => 0-1 2-3/0-1/0-1/
 word fo+ on foo xfoo foo_ fo/foo/foo => 0-3 14-16/0-3/0-3/
 whole a|ab on a/ab/abb/ab => 0-1/0-2//0-2/";
-
-pub(crate) fn parts(rt: &impl Abort, alloc: Global, bounds: &str, asked: &str) -> String {
-    let (text, lines) = cut(asked, " on ");
-    let mut search = machine(rt, alloc, text.as_bytes(), bounds_of(bounds));
-    let mut out = String::new(alloc);
-    for line in lines.split('/') {
-        let line = few_bytes(rt, alloc, line);
-        show_parts(rt, &mut search, &line, &mut out);
-    }
-    out
-}
 
 #[test]
 fn parts_of_lines(rt: HostRuntime) {

@@ -66,6 +66,8 @@ pub(crate) enum Question {
     Set,
     Blocks,
     Found,
+    Refused,
+    SameQueries,
     Literal,
     Selected,
     Parts,
@@ -75,6 +77,7 @@ pub(crate) enum Question {
     DeepTree,
     TreeAround,
     PatternList,
+    SameLists,
 }
 
 fn answer(rt: &impl Abort, alloc: Global, question: Question, kind: &str, asked: &str) -> String {
@@ -83,26 +86,36 @@ fn answer(rt: &impl Abort, alloc: Global, question: Question, kind: &str, asked:
         Question::Set => bytes::changed(rt, alloc, kind),
         Question::Blocks => cutter::blocks_of(rt, alloc, kind, asked),
         Question::Found => lines::found(rt, alloc, kind, asked),
+        Question::Refused => lines::refused(rt, alloc, kind, asked),
+        Question::SameQueries => lines::compared(rt, alloc, kind, asked),
         Question::Literal => literal::literal_of(rt, alloc, kind, asked),
-        Question::Selected => machine::selected(rt, alloc, kind, asked),
-        Question::Parts => machine::parts(rt, alloc, kind, asked),
+        Question::Selected => machine::searched(rt, alloc, kind, asked, false),
+        Question::Parts => machine::searched(rt, alloc, kind, asked, true),
         Question::Visits => machine::visits_of(rt, alloc, kind, asked),
         Question::Expression => syntax::expression(rt, alloc, kind, asked),
         Question::LargeText => syntax::large_text(rt, alloc, kind, asked),
         Question::DeepTree => syntax::deep_tree(rt, alloc, kind, asked),
         Question::TreeAround => syntax::is_proper(rt, alloc, kind),
         Question::PatternList => syntax::pattern_list(rt, alloc, kind, asked),
+        Question::SameLists => syntax::same_lists(rt, alloc, kind, asked),
     }
+}
+
+/// Compares the answer to what is asked of a kind with what is wanted.
+fn assert_answer(rt: &impl Abort, alloc: Global, question: Question, kind: &str, row: &str) {
+    let (asked, want) = halves(row);
+    let (_, asked) = cut(asked, " ");
+    let got = answer(rt, alloc, question, kind, asked);
+    assert_eq!(rt; got.as_str(), want, "{kind}: {row}");
 }
 
 /// Compares what a row wants with the answer to it. What it asks of begins with a word in which commas part kinds: the
 /// rest is asked of each of them.
 fn assert_row(rt: &impl Abort, alloc: Global, question: Question, row: &str) {
-    let (asked, want) = halves(row);
-    let (kinds, asked) = cut(asked, " ");
+    let (asked, _) = halves(row);
+    let (kinds, _) = cut(asked, " ");
     for kind in kinds.split(',') {
-        let got = answer(rt, alloc, question, kind, asked);
-        assert_eq!(rt; got.as_str(), want, "{kind}: {row}");
+        assert_answer(rt, alloc, question, kind, row);
     }
 }
 

@@ -1,13 +1,12 @@
 //! Expressions and lists of patterns.
-use crate::rows::{Question, assert_rows, bytes_of, cut, halves, repeated};
+use crate::rows::{Question, assert_rows, bytes_of, cut, repeated};
 use crate::sets::show_set;
 use pg_syntax::{
     FaultKind, Kind, ListFault, PatternList, SyntaxFault, Tree, fixed, parse_bre, parse_ere,
     parse_list,
 };
-use std::alloc::{AllocError, Allocator, Global};
+use std::alloc::{AllocError, Global};
 use std::process::Abort;
-use std::test::Fail;
 
 /// Parsers, a text, and the tree that they read as `show` shows it, or the kind of the fault and its offset.
 ///
@@ -129,32 +128,25 @@ basic,fixed-folded %0A:4096 => true
 basic,fixed-folded .:4096 => true
 extended a:1 |a:2047 => true";
 
-fn show<A: Allocator>(tree: &Tree<A>, out: &mut String) -> Result<(), AllocError> {
-    match tree {
-        Tree::Empty => out.push_str("Empty"),
-        Tree::Set(set) => show_set(set, out),
-        Tree::Begin => out.push_str("Begin"),
-        Tree::End => out.push_str("End"),
-        Tree::Cat(first, second) => {
-            out.push_str("Cat(")?;
-            show(first, out)?;
-            out.push_str(", ")?;
-            show(second, out)?;
-            out.push(')')
-        }
-        Tree::Alt(first, second) => {
-            out.push_str("Alt(")?;
-            show(first, out)?;
-            out.push_str(", ")?;
-            show(second, out)?;
-            out.push(')')
-        }
+fn show(tree: &Tree, out: &mut String) -> Result<(), AllocError> {
+    let (name, first, second) = match tree {
+        Tree::Empty => return out.push_str("Empty"),
+        Tree::Set(set) => return show_set(set, out),
+        Tree::Begin => return out.push_str("Begin"),
+        Tree::End => return out.push_str("End"),
         Tree::Rep(inner, least, most) => {
             out.push_str("Rep(")?;
             show(inner, out)?;
-            write!(out, ", {least}, {most:?})")
+            return write!(out, ", {least}, {most:?})");
         }
-    }
+        Tree::Cat(first, second) => ("Cat(", first, second),
+        Tree::Alt(first, second) => ("Alt(", first, second),
+    };
+    out.push_str(name)?;
+    show(first, out)?;
+    out.push_str(", ")?;
+    show(second, out)?;
+    out.push(')')
 }
 
 /// Shows what a parser answered.
@@ -229,13 +221,14 @@ first-of-two => false
 nowhere => true";
 
 fn tree_around(alloc: Global, place: &str) -> Result<Tree, AllocError> {
+    let inner = Box::new(alloc, improper(alloc)?)?;
     let end = Box::new(alloc, Tree::End)?;
-    match place {
-        "alone" => improper(alloc),
-        "second-of-alternatives" => Ok(Tree::Alt(end, Box::new(alloc, improper(alloc)?)?)),
-        "first-of-two" => Ok(Tree::Cat(Box::new(alloc, improper(alloc)?)?, end)),
-        _ => Ok(Tree::Rep(Box::new(alloc, Tree::Empty)?, 2, Some(2))),
-    }
+    Ok(match place {
+        "alone" => Box::into_inner(inner),
+        "second-of-alternatives" => Tree::Alt(end, inner),
+        "first-of-two" => Tree::Cat(inner, end),
+        _ => Tree::Rep(end, 2, Some(2)),
+    })
 }
 
 pub(crate) fn is_proper(rt: &impl Abort, alloc: Global, place: &str) -> String {
@@ -327,15 +320,16 @@ file: file: => true
 text:a text:b => false
 text:a file:a => false";
 
+/// Whether two lists are the same.
+pub(crate) fn same_lists(rt: &impl Abort, alloc: Global, one: &str, other: &str) -> String {
+    let are_same = list_of(rt, alloc, one) == list_of(rt, alloc, other);
+    format!(in alloc; "{are_same}").expect(rt, "memory")
+}
+
 #[test]
 fn lists_compare_by_contents(rt: HostRuntime) {
     assert!(rt; Kind::Basic != Kind::Extended);
-    for row in PAIRS.lines() {
-        let (pair, want) = halves(row);
-        let (one, other) = cut(pair, " ");
-        let are_same = list_of(&rt, rt.alloc(), one) == list_of(&rt, rt.alloc(), other);
-        assert!(rt; are_same == (want == "true"), "{row}");
-    }
+    assert_rows(&rt, rt.alloc(), Question::SameLists, PAIRS);
 }
 
 /// The faults of the third pattern at offset 7, each by its kind and by its text.
@@ -373,15 +367,14 @@ const KINDS: [FaultKind; 14] = [
 ];
 
 #[test]
-fn texts_of_faults(rt: HostRuntime) -> Result<(), Fail> {
+fn texts_of_faults(rt: HostRuntime) {
     let mut out = String::new(rt.alloc());
     for kind in KINDS {
         let fault = ListFault {
             pattern: 3,
             fault: SyntaxFault { kind, at: 7 },
         };
-        writeln!(out, "{kind:?}: {fault}")?;
+        writeln!(out, "{kind:?}: {fault}").expect(&rt, "memory");
     }
     assert!(rt; out.as_str() == FAULTS);
-    Ok(())
 }
