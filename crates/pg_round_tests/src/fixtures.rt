@@ -126,8 +126,8 @@ impl<A: Allocator> Collector<BlockResult<A>> for Counts {
 /// Counts the calls around each search.
 #[derive(Drop)]
 pub(crate) struct Counting {
-    pub(crate) before: [AtomicU64; 8],
-    pub(crate) after: [AtomicU64; 8],
+    before: [AtomicU64; 8],
+    after: [AtomicU64; 8],
 }
 
 /// So many zeros.
@@ -150,6 +150,13 @@ impl Counting {
             before: zeros(),
             after: zeros(),
         }
+    }
+
+    /// Whether so many calls were made before the searches of the block of a number, and as many behind them.
+    pub(crate) fn has_called(&self, number: usize, count: u64) -> bool {
+        number < 8
+            && self.before[number].load(Ordering::SeqCst) == count
+            && self.after[number].load(Ordering::SeqCst) == count
     }
 }
 

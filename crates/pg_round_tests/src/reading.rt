@@ -1,15 +1,13 @@
 //! Runs that read a file on while threads search what was read of it.
 ghost use Rattle.std.specs.Prelude.{IfOk, ◌≡◌, false};
 
-use crate::fixtures::text;
-use crate::runs::setup;
-use pg_rows::MemSink;
-use pg_run::{Ending, Gate, Listed, MemStore, OpenFault, ReadFault, RunFault, Store, run};
+use crate::runs::{Outcome, run_over, setup};
+use pg_run::{Ending, Gate, Listed, MemStore, OpenFault, ReadFault, RunFault, Store};
 use pg_walk::Item;
 use std::alloc::{AllocError, Global};
+use std::process::Abort;
 use std::sync::Wait;
 use std::sync::atomic::{AtomicU64, Ordering};
-use std::test::Fail;
 use std::thread;
 use std::thread::Threads;
 use std::time::Clock;
@@ -87,104 +85,103 @@ impl<'n> Gate for AfterReading<'n> {
     fn after(&self, _number: u32) {}
 }
 
-/// What is expected of a run over a file whose second read comes while the first round is searched.
+/// A file, how long a search waits for its second read, and what a run over it does.
 #[derive(Drop)]
-struct Expected<'e> {
+struct Case<'c> {
+    file: &'c [u8],
+    ending: Ending,
+    may_wait: bool,
+    patience: u32,
     status: Result<u8, RunFault>,
-    output: &'e [u8],
-    told: &'e [u8],
+    output: &'c [u8],
+    told: &'c [u8],
+    given_up: u64,
+}
+
+/// Whether a run answers, writes and tells what is expected.
+fn is_expected(found: &Outcome, case: &Case<'_>) -> bool {
+    found.status == case.status
+        && found.out.bytes() == case.output
+        && found.told.bytes() == case.told
 }
 
 /// Whether a run for the letter x does what is expected, in rounds of two lines, with lines of at most four bytes.
-fn reads_on<R: Threads + Wait + Clock + Sync>(
+fn reads_on<R: Abort + Threads + Wait + Clock + Sync>(
     rt: &R,
     alloc: Global,
-    file: &[u8],
-    ending: Ending,
-    expected: &Expected<'_>,
-) -> Result<bool, AllocError> {
+    case: &Case<'_>,
+) -> bool {
     let reads = AtomicU64::new(0);
     let gate = AfterReading {
         reads: &reads,
         least: 2,
-        patience: 10_000_000,
+        patience: case.patience,
         given_up: AtomicU64::new(0),
     };
-    let mut files = file_of(alloc, file, ending, false, &reads)?;
-    let mut out = MemSink::new(alloc, 100)?;
-    let mut told = MemSink::new(alloc, 100)?;
+    let files = file_of(alloc, case.file, case.ending, case.may_wait, &reads);
+    let mut files = files.expect(rt, "memory");
     let mut setup = setup(2, 2);
     setup.line = 4;
-    let text = text(alloc)?;
-    let status = run(
-        rt, alloc, text, setup, &mut files, &mut out, &mut told, &gate,
-    );
-    let written = out.bytes() == expected.output && told.bytes() == expected.told;
-    Ok(written && status == expected.status && gate.given_up.load(Ordering::SeqCst) == 0)
+    let found = run_over(rt, alloc, setup, &mut files, &gate);
+    is_expected(&found, case) && gate.given_up.load(Ordering::SeqCst) == case.given_up
 }
 
 #[test]
-fn a_file_is_read_on_while_it_is_searched(rt: HostRuntime) -> Result<(), Fail> {
-    let expected = Expected {
+fn a_file_is_read_on_while_it_is_searched(rt: HostRuntime) {
+    let case = Case {
+        file: b"x1\nx2\nx3\nx4\nx5",
+        ending: Ending::Ends,
+        may_wait: false,
+        patience: 10_000_000,
         status: Ok(0),
         output: b"x1\nx2\nx3\nx4\nx5\n",
         told: b"",
+        given_up: 0,
     };
-    let right = reads_on(
-        &rt,
-        rt.alloc(),
-        b"x1\nx2\nx3\nx4\nx5",
-        Ending::Ends,
-        &expected,
-    )?;
-    assert!(rt; right);
-    Ok(())
+    assert!(rt; reads_on(&rt, rt.alloc(), &case));
 }
 
 #[test]
-fn a_read_that_fails_comes_behind_the_rows(rt: HostRuntime) -> Result<(), Fail> {
-    let expected = Expected {
+fn a_read_that_fails_comes_behind_the_rows(rt: HostRuntime) {
+    let case = Case {
+        file: b"x1\nx2\n",
+        ending: Ending::Fails,
+        may_wait: false,
+        patience: 10_000_000,
         status: Ok(2),
         output: b"x1\nx2\n",
         told: b"pargrep: f: read failed\n",
+        given_up: 0,
     };
-    let right = reads_on(&rt, rt.alloc(), b"x1\nx2\n", Ending::Fails, &expected)?;
-    assert!(rt; right);
-    Ok(())
+    assert!(rt; reads_on(&rt, rt.alloc(), &case));
 }
 
 #[test]
-fn a_line_that_is_too_long_comes_behind_the_rows(rt: HostRuntime) -> Result<(), Fail> {
-    let expected = Expected {
+fn a_line_that_is_too_long_comes_behind_the_rows(rt: HostRuntime) {
+    let case = Case {
+        file: b"x1\nx2\nxxxxxx",
+        ending: Ending::Ends,
+        may_wait: false,
+        patience: 10_000_000,
         status: Err(RunFault::TooLong),
         output: b"x1\nx2\n",
         told: b"",
+        given_up: 0,
     };
-    let right = reads_on(&rt, rt.alloc(), b"x1\nx2\nxxxxxx", Ending::Ends, &expected)?;
-    assert!(rt; right);
-    Ok(())
+    assert!(rt; reads_on(&rt, rt.alloc(), &case));
 }
 
 #[test]
-fn a_file_that_may_wait_is_not_read_on(rt: HostRuntime) -> Result<(), Fail> {
-    let alloc = rt.alloc();
-    let reads = AtomicU64::new(0);
-    let gate = AfterReading {
-        reads: &reads,
-        least: 2,
+fn a_file_that_may_wait_is_not_read_on(rt: HostRuntime) {
+    let case = Case {
+        file: b"x1\nx2\n",
+        ending: Ending::Ends,
+        may_wait: true,
         patience: 1_000,
-        given_up: AtomicU64::new(0),
+        status: Ok(0),
+        output: b"x1\nx2\n",
+        told: b"",
+        given_up: 2,
     };
-    let mut files = file_of(alloc, b"x1\nx2\n", Ending::Ends, true, &reads)?;
-    let mut out = MemSink::new(alloc, 100)?;
-    let mut told = MemSink::new(alloc, 100)?;
-    let text = text(alloc)?;
-    let setup = setup(2, 2);
-    let status = run(
-        &rt, alloc, text, setup, &mut files, &mut out, &mut told, &gate,
-    );
-    assert_eq!(rt; status, Ok(0));
-    assert!(rt; out.bytes() == b"x1\nx2\n".as_slice());
-    assert_eq!(rt; gate.given_up.load(Ordering::SeqCst), 2);
-    Ok(())
+    assert!(rt; reads_on(&rt, rt.alloc(), &case));
 }

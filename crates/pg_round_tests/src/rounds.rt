@@ -1,16 +1,47 @@
 //! Rounds of blocks.
-ghost use Rattle.std.specs.Prelude.{◌≡◌, ◌<◌, ◌≤◌, vec_len, IfOk};
+ghost use Rattle.std.specs.Prelude.{◌≡◌, ◌<◌, ◌≤◌, All, vec_len, IfOk};
+ghost use Rattle.std.specs.Arc.{arc_value};
+ghost use Rattle.pg_match.specs.Machines.{Fits};
+ghost use Rattle.pg_round.specs.Results.{HasShortLines};
 
 use crate::fixtures::{Counting, Counts, Holding, Meeting, Stepping, blocks, query, scratches};
+use pg_lines::{Block, Query, Scratch};
 use pg_round::{FreeGate, Gate, NothingToRead, Reader, RoundFault, search_round};
 use pg_seq::MemSink;
 use refusing::Refusing;
-use std::alloc::Allocator;
-use std::sync::Wait;
+use std::alloc::{AllocError, Allocator, Global};
 use std::sync::atomic::Ordering;
-use std::test::Fail;
+use std::sync::{Arc, Wait};
 use std::thread::Threads;
 use std::time::Clock;
+
+/// What a round searches, and by which scratches.
+#[derive(Drop)]
+struct Round<A: Allocator> {
+    query: Arc<Query<A>, A>,
+    blocks: Vec<Arc<Block<A>, A>, A>,
+    scratches: Vec<Scratch<A>, A>,
+}
+
+/// A round of so many blocks, by so many scratches.
+fn round_of<A: Allocator + Copy>(
+    alloc: A,
+    blocks_count: u32,
+    scratches_count: u32,
+) -> Result<Round<A>, AllocError>
+    ensures counts { IfOk result (λ r. (vec_len r.blocks ≡ blocks_count) × (vec_len r.scratches ≡ scratches_count)) }
+    ensures short { IfOk result (λ r. All (HasShortLines (arc_value r.query).text) r.blocks.items) }
+    ensures fits { IfOk result (λ r. All (λ s. Fits s (arc_value r.query).machine) r.scratches.items) }
+{
+    let query = query(alloc)?;
+    let blocks = blocks(alloc, &query, blocks_count)?;
+    let scratches = scratches(alloc, &query, scratches_count)?;
+    Ok(Round {
+        query,
+        blocks,
+        scratches,
+    })
+}
 
 /// How often the result of each block came, and how many scratches are there after the round.
 fn search_beside<
@@ -31,25 +62,23 @@ fn search_beside<
     requires few { (0 < scratches_count) × (scratches_count ≤ 65) × (blocks_count ≤ 8) }
     requires reader { D.ready reader.old from.old }
 {
-    let query = query(alloc)?;
-    let blocks = blocks(alloc, &query, blocks_count)?;
-    let mut scratches = scratches(alloc, &query, scratches_count)?;
+    let mut round = round_of(alloc, blocks_count, scratches_count)?;
     let mut counts = Counts { found: [0; 8] };
     let mut sink = MemSink::new(alloc, 100)?;
     search_round(
         rt,
         alloc,
-        &query,
-        blocks.as_slice(),
+        &round.query,
+        round.blocks.as_slice(),
         64,
-        &mut scratches,
+        &mut round.scratches,
         &mut counts,
         &mut sink,
         reader,
         from,
         gate,
     )?;
-    Ok((counts.found, scratches.len()))
+    Ok((counts.found, round.scratches.len()))
 }
 
 /// The same, where there is nothing to read.
@@ -74,85 +103,89 @@ fn search_some<R: Threads + Wait + Clock + Sync, A: Allocator + Copy + Send + Sy
 }
 
 #[test]
-fn each_block_is_searched_once(rt: HostRuntime) -> Result<(), Fail> {
+fn each_block_is_searched_once(rt: HostRuntime) {
     for count in [1u32, 2, 4, 65] {
         let gate = Counting::new();
         let found = search_some(&rt, rt.alloc(), 7, count, &gate);
-        assert_eq!(rt; found, Ok(([1, 1, 1, 1, 1, 1, 1, 0], count as usize)));
+        assert!(rt; found == Ok(([1, 1, 1, 1, 1, 1, 1, 0], count as usize)));
         for number in 0..7usize {
-            assert_eq!(rt; gate.before[number].load(Ordering::SeqCst), 1);
-            assert_eq!(rt; gate.after[number].load(Ordering::SeqCst), 1);
+            assert!(rt; gate.has_called(number, 1));
         }
     }
-    Ok(())
 }
 
 #[test]
-fn a_round_may_be_short(rt: HostRuntime) -> Result<(), Fail> {
-    assert_eq!(rt;
-        search_some(&rt, rt.alloc(), 0, 3, &FreeGate),
-        Ok(([0; 8], 3))
-    );
-    assert_eq!(rt;
-        search_some(&rt, rt.alloc(), 1, 3, &FreeGate),
-        Ok(([1, 0, 0, 0, 0, 0, 0, 0], 3))
-    );
-    assert_eq!(rt;
-        search_some(&rt, rt.alloc(), 3, 65, &FreeGate),
-        Ok(([1, 1, 1, 0, 0, 0, 0, 0], 65))
-    );
-    Ok(())
+fn a_round_may_be_short(rt: HostRuntime) {
+    let found = search_some(&rt, rt.alloc(), 0, 3, &FreeGate);
+    assert!(rt; found == Ok(([0; 8], 3)));
+    let found = search_some(&rt, rt.alloc(), 1, 3, &FreeGate);
+    assert!(rt; found == Ok(([1, 0, 0, 0, 0, 0, 0, 0], 3)));
+    let found = search_some(&rt, rt.alloc(), 3, 65, &FreeGate);
+    assert!(rt; found == Ok(([1, 1, 1, 0, 0, 0, 0, 0], 65)));
 }
 
 #[test]
-fn two_search_at_once(rt: HostRuntime) -> Result<(), Fail> {
+fn two_search_at_once(rt: HostRuntime) {
     let gate = Meeting::new();
     let found = search_some(&rt, rt.alloc(), 2, 3, &gate);
-    assert_eq!(rt; found, Ok(([1, 1, 0, 0, 0, 0, 0, 0], 3)));
+    assert!(rt; found == Ok(([1, 1, 0, 0, 0, 0, 0, 0], 3)));
     assert_eq!(rt; gate.met.load(Ordering::SeqCst), 2);
-    Ok(())
 }
 
-#[test]
-fn steps_are_made_while_a_block_is_searched(rt: HostRuntime) -> Result<(), Fail> {
-    let gate = Holding::new(100);
+/// Searches four blocks beside a reader that has 100 steps to make, of which so many are waited for. Answers whether
+/// each block was searched once; and how many steps were left, how many were made, and how often the wait was given up.
+fn step_beside<R: Threads + Wait + Clock + Sync>(
+    rt: &R,
+    alloc: Global,
+    wanted: u64,
+    scratches_count: u32,
+) -> (bool, u32, u32, u64)
+    requires { (0 < scratches_count) × (scratches_count ≤ 65) }
+{
+    let gate = Holding::new(wanted);
     let mut reader = Stepping {
         gate: &gate,
         left: 100,
     };
     let mut steps = 0u32;
-    let found = search_beside(&rt, rt.alloc(), 4, 3, &mut reader, &mut steps, &gate);
-    assert_eq!(rt; found, Ok(([1, 1, 1, 1, 0, 0, 0, 0], 3)));
-    assert_eq!(rt; (reader.left, steps), (0, 100));
-    assert_eq!(rt; gate.given_up.load(Ordering::SeqCst), 0);
-    Ok(())
+    let found = search_beside(
+        rt,
+        alloc,
+        4,
+        scratches_count,
+        &mut reader,
+        &mut steps,
+        &gate,
+    );
+    let is_once = found == Ok(([1, 1, 1, 1, 0, 0, 0, 0], scratches_count as usize));
+    (
+        is_once,
+        reader.left,
+        steps,
+        gate.given_up.load(Ordering::SeqCst),
+    )
 }
 
 #[test]
-fn a_round_without_workers_makes_no_step(rt: HostRuntime) -> Result<(), Fail> {
-    let gate = Holding::new(0);
-    let mut reader = Stepping {
-        gate: &gate,
-        left: 100,
-    };
-    let mut steps = 0u32;
-    let found = search_beside(&rt, rt.alloc(), 4, 1, &mut reader, &mut steps, &gate);
-    assert_eq!(rt; found, Ok(([1, 1, 1, 1, 0, 0, 0, 0], 1)));
-    assert_eq!(rt; (reader.left, steps), (100, 0));
-    Ok(())
+fn steps_are_made_while_a_block_is_searched(rt: HostRuntime) {
+    assert!(rt; step_beside(&rt, rt.alloc(), 100, 3) == (true, 0, 100, 0));
 }
 
 #[test]
-fn each_request_may_be_refused(rt: HostRuntime) -> Result<(), Fail> {
+fn a_round_without_workers_makes_no_step(rt: HostRuntime) {
+    assert!(rt; step_beside(&rt, rt.alloc(), 0, 1) == (true, 100, 0, 0));
+}
+
+#[test]
+fn each_request_may_be_refused(rt: HostRuntime) {
     for passes in 0..1000u64 {
         let heap = Refusing::new(rt.alloc(), passes);
         let found = search_some(&rt, &heap, 4, 3, &FreeGate);
-        match found {
-            Ok(found) => assert_eq!(rt; found, ([1, 1, 1, 1, 0, 0, 0, 0], 3)),
-            Err(fault) => assert_eq!(rt; fault, RoundFault::OutOfMemory),
-        }
+        assert!(rt;
+            found == Ok(([1, 1, 1, 1, 0, 0, 0, 0], 3)) || found == Err(RoundFault::OutOfMemory)
+        );
         if !heap.has_refused() {
-            return Ok(());
+            return;
         }
     }
     panic!(rt; "more than 1000 requests")

@@ -1,14 +1,15 @@
 //! Runs whose rounds are searched by threads: who searches when.
 ghost use Rattle.std.specs.Prelude.{◌≡◌, ◌≤◌, false, IfOk};
+ghost use Rattle.pg_run.specs.Given.{nothing_given};
 
 use crate::fixtures::{Counting, Meeting, text};
 use pg_rows::{Format, MemSink, Mode, Sink, WriteError};
-use pg_run::{Ending, FreeGate, Gate, Listed, MemStore, Setup, run};
+use pg_run::{Ending, Files, FreeGate, Gate, Listed, MemStore, RunFault, Setup, run};
 use pg_walk::Item;
 use std::alloc::{AllocError, Allocator, Global};
+use std::process::Abort;
 use std::sync::Wait;
 use std::sync::atomic::{AtomicU64, Ordering};
-use std::test::Fail;
 use std::thread;
 use std::thread::Threads;
 use std::time::Clock;
@@ -48,84 +49,102 @@ fn file_of(alloc: Global, bytes: &[u8]) -> Result<Listed<MemStore>, AllocError>
     Ok(files)
 }
 
+/// A sink that takes at most 100 bytes.
+fn sink(rt: &impl Abort, alloc: Global) -> MemSink {
+    MemSink::new(alloc, 100).expect(rt, "memory")
+}
+
+/// What a run for the letter x answers.
+fn answer<R: Threads + Wait + Clock + Sync, F: Files, W: Sink, G: Gate + Sync>(
+    rt: &R,
+    alloc: Global,
+    setup: Setup,
+    files: &mut F,
+    out: &mut W,
+    told: &mut MemSink,
+    gate: &G,
+) -> Result<u8, RunFault>
+    requires { F.past files.old ≡ nothing_given }
+{
+    let text = text(alloc)?;
+    run(rt, alloc, text, setup, files, out, told, gate)
+}
+
+/// What a run answered, wrote and told.
+#[derive(Drop)]
+pub(crate) struct Outcome {
+    pub(crate) status: Result<u8, RunFault>,
+    pub(crate) out: MemSink,
+    pub(crate) told: MemSink,
+}
+
+/// What a run for the letter x does.
+pub(crate) fn run_over<R: Abort + Threads + Wait + Clock + Sync, F: Files, G: Gate + Sync>(
+    rt: &R,
+    alloc: Global,
+    setup: Setup,
+    files: &mut F,
+    gate: &G,
+) -> Outcome
+    requires { F.past files.old ≡ nothing_given }
+{
+    let mut out = sink(rt, alloc);
+    let mut told = sink(rt, alloc);
+    let status = answer(rt, alloc, setup, files, &mut out, &mut told, gate);
+    Outcome { status, out, told }
+}
+
 /// Whether a run for the letter x over a file writes this and tells nothing.
-fn writes<R: Threads + Wait + Clock + Sync, G: Gate + Sync>(
+fn writes<R: Abort + Threads + Wait + Clock + Sync, G: Gate + Sync>(
     rt: &R,
     alloc: Global,
     setup: Setup,
     file: &[u8],
     output: &[u8],
     gate: &G,
-) -> Result<bool, AllocError> {
-    let mut files = file_of(alloc, file)?;
-    let mut out = MemSink::new(alloc, 100)?;
-    let mut faults = MemSink::new(alloc, 100)?;
-    let text = text(alloc)?;
-    let status = run(
-        rt,
-        alloc,
-        text,
-        setup,
-        &mut files,
-        &mut out,
-        &mut faults,
-        gate,
-    );
-    Ok(status == Ok(0) && out.bytes() == output && faults.bytes().is_empty())
+) -> bool {
+    let mut files = file_of(alloc, file).expect(rt, "memory");
+    let found = run_over(rt, alloc, setup, &mut files, gate);
+    found.status == Ok(0) && found.out.bytes() == output && found.told.bytes().is_empty()
 }
 
 #[test]
-fn two_blocks_of_a_run_are_searched_at_once(rt: HostRuntime) -> Result<(), Fail> {
+fn two_blocks_of_a_run_are_searched_at_once(rt: HostRuntime) {
     let gate = Meeting::new();
-    let right = writes(
-        &rt,
-        rt.alloc(),
-        setup(2, 2),
-        b"x1\nx2\n",
-        b"x1\nx2\n",
-        &gate,
-    )?;
-    assert!(rt; right);
+    let file: &[u8] = b"x1\nx2\n";
+    assert!(rt; writes(&rt, rt.alloc(), setup(2, 2), file, file, &gate));
     assert_eq!(rt; gate.met.load(Ordering::SeqCst), 2);
-    Ok(())
 }
 
+/// A file, and its rows.
+const FILE: &[u8] = b"x\na\nx\n\nb\nx\nc";
+
+const ROWS: &[u8] = b"x\nx\nx\n";
+
 #[test]
-fn any_number_of_workers_will_do(rt: HostRuntime) -> Result<(), Fail> {
+fn any_number_of_workers_will_do(rt: HostRuntime) {
     for workers in [0u32, 1, 2, 64] {
         for round in [1u32, 2, 3] {
-            let setup = setup(workers, round);
             let right = writes(
                 &rt,
                 rt.alloc(),
-                setup,
-                b"x\na\nx\n\nb\nx\nc",
-                b"x\nx\nx\n",
+                setup(workers, round),
+                FILE,
+                ROWS,
                 &FreeGate,
-            )?;
+            );
             assert!(rt; right, "{workers} workers, rounds of {round}");
         }
     }
-    Ok(())
 }
 
 #[test]
-fn numbers_of_blocks_begin_anew_in_each_round(rt: HostRuntime) -> Result<(), Fail> {
+fn numbers_of_blocks_begin_anew_in_each_round(rt: HostRuntime) {
     let gate = Counting::new();
-    let right = writes(
-        &rt,
-        rt.alloc(),
-        setup(4, 3),
-        b"x\na\nx\n\nb\nx\nc",
-        b"x\nx\nx\n",
-        &gate,
-    )?;
-    assert!(rt; right);
+    assert!(rt; writes(&rt, rt.alloc(), setup(4, 3), FILE, ROWS, &gate));
     for (number, count) in [3u64, 2, 2, 0].iter().enumerate() {
-        assert_eq!(rt; gate.before[number].load(Ordering::SeqCst), *count);
-        assert_eq!(rt; gate.after[number].load(Ordering::SeqCst), *count);
+        assert!(rt; gate.has_called(number, *count));
     }
-    Ok(())
 }
 
 /// A sink over memory that tells others how many bytes it took.
@@ -176,34 +195,37 @@ impl<'n> Gate for AfterWriting<'n> {
     fn after(&self, _number: u32) {}
 }
 
+/// Whether a run writes its rows into a sink that tells the gate how many bytes it took.
+fn writes_watched<R: Abort + Threads + Wait + Clock + Sync>(
+    rt: &R,
+    alloc: Global,
+    gate: &AfterWriting<'_>,
+) -> bool {
+    let mut files = file_of(alloc, b"x1\nx2\n").expect(rt, "memory");
+    let mut out = Watched {
+        inner: sink(rt, alloc),
+        taken: gate.taken,
+    };
+    let mut told = sink(rt, alloc);
+    let status = answer(
+        rt,
+        alloc,
+        setup(2, 2),
+        &mut files,
+        &mut out,
+        &mut told,
+        gate,
+    );
+    status == Ok(0) && out.inner.bytes() == b"x1\nx2\n".as_slice()
+}
+
 #[test]
-fn rows_are_written_while_others_search(rt: HostRuntime) -> Result<(), Fail> {
-    let alloc = rt.alloc();
+fn rows_are_written_while_others_search(rt: HostRuntime) {
     let taken = AtomicU64::new(0);
     let gate = AfterWriting {
         taken: &taken,
         given_up: AtomicU64::new(0),
     };
-    let mut files = file_of(alloc, b"x1\nx2\n")?;
-    let mut out = Watched {
-        inner: MemSink::new(alloc, 100)?,
-        taken: &taken,
-    };
-    let mut faults = MemSink::new(alloc, 100)?;
-    let text = text(alloc)?;
-    let setup = setup(2, 2);
-    let status = run(
-        &rt,
-        alloc,
-        text,
-        setup,
-        &mut files,
-        &mut out,
-        &mut faults,
-        &gate,
-    );
-    assert_eq!(rt; status, Ok(0));
-    assert!(rt; out.inner.bytes() == b"x1\nx2\n".as_slice());
+    assert!(rt; writes_watched(&rt, rt.alloc(), &gate));
     assert_eq!(rt; gate.given_up.load(Ordering::SeqCst), 0);
-    Ok(())
 }
