@@ -46,9 +46,12 @@ HEAD = """\
 /// - the files `a`, `b`, `c`, a `|` before each, where `!` is one that isn't there;
 /// - the status, and behind a colon the output.
 ///
-/// In files and output `/` stands for a newline.
-pub(crate) const CASES: &str = r"\
+/// In files and output `/` stands for a newline. Texts of a few rows are proved sooner than one of all.
+pub(crate) const CASES: [&str; %d] = [
 """
+
+# How many rows stand in one text.
+TEXT = 10
 
 
 @dataclass
@@ -156,7 +159,8 @@ def main():
             is_dull = mode != "q" and row.endswith(":") and rng.random() < LEFT_OUT
             if len(row) <= WIDTH and row not in rows and not is_dull:
                 rows.append(row)
-    print(HEAD + "\n".join(rows) + '";')
+    texts = ["\n".join(rows[at : at + TEXT]) for at in range(0, len(rows), TEXT)]
+    print(HEAD % len(texts) + "".join(f'    r"{text}",\n' for text in texts) + "];")
 
 
 if __name__ == "__main__":

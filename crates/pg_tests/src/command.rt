@@ -7,8 +7,8 @@ use pg_run::{Ending, Listed, MemStore};
 use pg_walk::{FileKind, MemTree, Node};
 use pg_words::{Task, Words, read_words};
 use std::alloc::{AllocError, Global};
+use std::process::Abort;
 use std::sync::Wait;
-use std::test::Fail;
 use std::thread::Threads;
 use std::time::Clock;
 
@@ -67,24 +67,25 @@ fn store_of(alloc: Global, ending: Ending, read_limit: usize) -> Result<MemStore
 
 /// What a command line does.
 fn run(
-    rt: &(impl Threads + Wait + Clock + Sync),
+    rt: &(impl Abort + Threads + Wait + Clock + Sync),
     alloc: Global,
     text: &str,
     ending: Ending,
     limits: Limits,
-) -> Result<Outcome, AllocError>
+) -> Outcome
     requires { 1 ≤ limits.read }
 {
-    let words = words_of(alloc, text)?;
+    let words = words_of(alloc, text).expect(rt, "memory");
     let mut tree = MemTree::new(alloc);
-    tree.add("broken", Node::new(FileKind::Regular))?;
-    let mut files = Listed::new(alloc, store_of(alloc, ending, limits.read)?);
-    let mut out = MemSink::new(alloc, limits.out)?;
+    tree.add("broken", Node::new(FileKind::Regular))
+        .expect(rt, "memory");
+    let store = store_of(alloc, ending, limits.read).expect(rt, "memory");
+    let mut files = Listed::new(alloc, store);
+    let mut out = MemSink::new(alloc, limits.out).expect(rt, "memory");
     out.set_write_limit(limits.write);
-    let mut err = MemSink::new(alloc, limits.err)?;
-    let words = words.as_slice();
-    let answer = command(rt, alloc, words, &tree, &mut files, &mut out, &mut err);
-    Ok(Outcome { answer, out, err })
+    let mut err = MemSink::new(alloc, limits.err).expect(rt, "memory");
+    let answer = command(rt, alloc, &words, &tree, &mut files, &mut out, &mut err);
+    Outcome { answer, out, err }
 }
 
 /// Whether a command line has this answer, and has written and told these.
@@ -104,7 +105,7 @@ const BLOCKS: &str = "\
 -F b - --block 16777216";
 
 #[test]
-fn few_bytes_at_a_time(rt: HostRuntime) -> Result<(), Fail> {
+fn few_bytes_at_a_time(rt: HostRuntime) {
     for text in BLOCKS.lines() {
         for limit in [1, 2, 3, 9, 10] {
             let limits = Limits {
@@ -112,11 +113,10 @@ fn few_bytes_at_a_time(rt: HostRuntime) -> Result<(), Fail> {
                 write: limit,
                 ..UNLIMITED
             };
-            let found = run(&rt, rt.alloc(), text, Ending::Ends, limits)?;
+            let found = run(&rt, rt.alloc(), text, Ending::Ends, limits);
             assert!(rt; is_outcome(&found, Ok(0), OUTPUT, ""), "{text}");
         }
     }
-    Ok(())
 }
 
 /// Block sizes, and the words that give them.
@@ -150,13 +150,12 @@ fn block_of(alloc: Global, text: &str) -> Result<Option<u32>, AllocError> {
 }
 
 #[test]
-fn the_last_block_size_counts(rt: HostRuntime) -> Result<(), Fail> {
+fn the_last_block_size_counts(rt: HostRuntime) {
     for line in BLOCK_SIZES.lines() {
         let (size, text) = line.split_once(' ').unwrap_or(("", ""));
-        let block = block_of(rt.alloc(), text)?;
+        let block = block_of(rt.alloc(), text).expect(&rt, "memory");
         assert!(rt; block.is_some() && block == size.parse().ok(), "{line}");
     }
-    Ok(())
 }
 
 /// Command lines that name a file whose reading fails behind its bytes, and what is told.
@@ -164,14 +163,24 @@ const BROKEN: &str = "\
 -F b broken=pargrep: broken: read failed\n|\
 -F b -=pargrep: (standard input): read failed\n";
 
+/// A command line whose reading fails answers and writes these, and tells what its row says.
+fn assert_fails(
+    rt: &(impl Abort + Threads + Wait + Clock + Sync),
+    alloc: Global,
+    row: &str,
+    answer: Result<u8, Told>,
+    out: &[u8],
+) {
+    let (text, told) = row.split_once('=').unwrap_or(("", ""));
+    let found = run(rt, alloc, text, Ending::Fails, UNLIMITED);
+    assert!(rt; is_outcome(&found, answer, out, told), "{row}");
+}
+
 #[test]
-fn reading_fails_in_mid_stream(rt: HostRuntime) -> Result<(), Fail> {
+fn reading_fails_in_mid_stream(rt: HostRuntime) {
     for row in BROKEN.split('|') {
-        let (text, told) = row.split_once('=').unwrap_or(("", ""));
-        let found = run(&rt, rt.alloc(), text, Ending::Fails, UNLIMITED)?;
-        assert!(rt; is_outcome(&found, Ok(2), OUTPUT, told), "{row}");
+        assert_fails(&rt, rt.alloc(), row, Ok(2), OUTPUT);
     }
-    Ok(())
 }
 
 /// Command lines that take patterns from a file whose reading fails, and what is told.
@@ -181,78 +190,71 @@ const BROKEN_PATTERNS: &str = "\
 -e ( -E -f broken -=pargrep: broken: read failed\n";
 
 #[test]
-fn reading_patterns_fails(rt: HostRuntime) -> Result<(), Fail> {
+fn reading_patterns_fails(rt: HostRuntime) {
     for row in BROKEN_PATTERNS.split('|') {
-        let (text, told) = row.split_once('=').unwrap_or(("", ""));
-        let found = run(&rt, rt.alloc(), text, Ending::Fails, UNLIMITED)?;
-        assert!(rt; is_outcome(&found, Err(Told), b"", told), "{row}");
+        assert_fails(&rt, rt.alloc(), row, Err(Told), b"");
     }
-    Ok(())
 }
 
 /// Whether a search fails, and tells it, where so many bytes are written in all, and `write` of them at a time.
 fn fails_at(
-    rt: &(impl Threads + Wait + Clock + Sync),
+    rt: &(impl Abort + Threads + Wait + Clock + Sync),
     alloc: Global,
     room: usize,
     write: usize,
-) -> Result<bool, AllocError> {
+) -> bool {
     let limits = Limits {
         write,
         out: room,
         ..UNLIMITED
     };
-    let found = run(rt, alloc, "-F b -", Ending::Ends, limits)?;
+    let found = run(rt, alloc, "-F b -", Ending::Ends, limits);
     let written = if write == 0 {
         0
     } else {
         room.min(OUTPUT.len())
     };
-    Ok(is_outcome(
-        &found,
-        Err(Told),
-        &OUTPUT[..written],
-        "pargrep: write failed\n",
-    ))
+    let told = "pargrep: write failed\n";
+    is_outcome(&found, Err(Told), &OUTPUT[..written], told)
 }
 
 #[test]
-fn an_output_that_fails(rt: HostRuntime) -> Result<(), Fail> {
+fn an_output_that_fails(rt: HostRuntime) {
     for room in 0..OUTPUT.len() {
         for write in [ROOM, 1, 0] {
-            assert!(rt;
-                fails_at(&rt, rt.alloc(), room, write)?,
-                "{room} and {write}"
-            );
+            let right = fails_at(&rt, rt.alloc(), room, write);
+            assert!(rt; right, "{room} and {write}");
         }
     }
-    Ok(())
 }
 
 #[test]
-fn both_streams_fail(rt: HostRuntime) -> Result<(), Fail> {
+fn both_streams_fail(rt: HostRuntime) {
     for room in 0..OUTPUT.len() {
         let limits = Limits {
             out: room,
             err: 0,
             ..UNLIMITED
         };
-        let found = run(&rt, rt.alloc(), "-F b -", Ending::Ends, limits)?;
+        let found = run(&rt, rt.alloc(), "-F b -", Ending::Ends, limits);
         assert!(rt; is_outcome(&found, Err(Told), &OUTPUT[..room], ""));
     }
-    Ok(())
+}
+
+/// Whether a fault is reported by a line.
+fn is_reported(rt: &impl Abort, alloc: Global, fault: Fault, line: &str) -> bool {
+    let mut err = MemSink::new(alloc, ROOM).expect(rt, "memory");
+    let status = report(alloc, fault, &mut err);
+    status == 2 && err.bytes() == line.as_bytes()
 }
 
 #[test]
-fn texts_of_rare_faults(rt: HostRuntime) -> Result<(), Fail> {
+fn texts_of_rare_faults(rt: HostRuntime) {
     for (fault, line) in [
         (Fault::OutOfMemory, "pargrep: out of memory\n"),
         (Fault::LineTooLong, "pargrep: line too long\n"),
         (Fault::TooManyFiles, "pargrep: too many files\n"),
     ] {
-        let mut err = MemSink::new(rt.alloc(), ROOM)?;
-        let status = report(rt.alloc(), fault, &mut err);
-        assert!(rt; status == 2 && err.bytes() == line.as_bytes(), "{line}");
+        assert!(rt; is_reported(&rt, rt.alloc(), fault, line), "{line}");
     }
-    Ok(())
 }

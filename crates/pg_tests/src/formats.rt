@@ -14,7 +14,6 @@ use pg_seq::{Arrival, Format, MemSink, Mode, Sequencer};
 use std::alloc::{AllocError, Global};
 use std::process::Abort;
 use std::sync::Arc;
-use std::test::Fail;
 
 /// What stands before a mark and what stands behind it. Without the mark nothing stands behind.
 pub(crate) fn cut<'a>(text: &'a str, mark: &str) -> (&'a str, &'a str) {
@@ -107,9 +106,14 @@ struct Case {
     status: u8,
 }
 
-fn case_of(rt: &impl Abort, alloc: Global, row: &str) -> Result<Case, Fail>
-    ensures room { IfOk result (λ case. HasRoom case.format) }
-    ensures zero { IfOk result (λ case. (arc_value case.query).text.zero ≡ false) }
+/// A number below 256.
+fn number(rt: &impl Abort, field: &str) -> u8 {
+    field.parse().expect(rt, "a number")
+}
+
+fn case_of(rt: &impl Abort, alloc: Global, row: &str) -> Case
+    ensures room { HasRoom result.format }
+    ensures zero { (arc_value result.query).text.zero ≡ false }
 {
     let (letters, rest) = cut(row, " ");
     let (asked, rest) = cut(rest, " ");
@@ -117,26 +121,27 @@ fn case_of(rt: &impl Abort, alloc: Global, row: &str) -> Result<Case, Fail>
     let (seed, rest) = cut(rest, " ");
     let (files, answer) = cut(rest, " ");
     let (status, output) = cut(answer, ":");
-    let size = size.parse()?;
-    let seed = seed.parse()?;
-    let status = status.parse()?;
-    let files = with_newlines(alloc, files)?;
-    let output = with_newlines(alloc, output)?;
-    Ok(Case {
+    Case {
         format: format_of(rt, letters),
-        query: asked_query(alloc, asked)?,
-        size,
-        seed,
-        files,
-        output,
-        status,
-    })
+        query: asked_query(alloc, asked).expect(rt, "a query"),
+        size: number(rt, size),
+        seed: number(rt, seed),
+        files: with_newlines(alloc, files).expect(rt, "memory"),
+        output: with_newlines(alloc, output).expect(rt, "memory"),
+        status: number(rt, status),
+    }
 }
 
 /// The blocks of a file. All but the last one have at least `size` bytes, and each has at least one.
-fn cut_file(alloc: Global, file: u32, text: &str, size: u8) -> Result<Vec<Block>, Fail> {
+fn cut_file(
+    rt: &impl Abort,
+    alloc: Global,
+    file: u32,
+    text: &str,
+    size: u8,
+) -> Result<Vec<Block>, AllocError> {
     let mut cutter = Cutter::new(alloc, file, u32::from(size.max(1)), 100, b'\n');
-    cutter.feed(text.as_bytes())?;
+    cutter.feed(text.as_bytes()).expect(rt, "short lines");
     let mut blocks = Vec::new(alloc);
     while let Some(block) = cutter.take() {
         blocks.push(block)?;
@@ -184,7 +189,7 @@ fn plan_text(
     name: u8,
     text: &str,
     size: u8,
-) -> Result<u32, Fail>
+) -> Result<u32, AllocError>
     requires between { IsBetween sequencer.old file }
     requires few { file ≤ 100 }
     ensures { IfOk result (λ files. IsBetween sequencer.new files) }
@@ -193,7 +198,7 @@ fn plan_text(
         miss_name(sequencer, file, &[name])?;
         return Ok(file);
     }
-    let mut blocks = cut_file(alloc, file, text, size)?;
+    let mut blocks = cut_file(rt, alloc, file, text, size)?;
     plan_file(rt, alloc, sequencer, file, name, &blocks)?;
     planned.append(&mut blocks)?;
     Ok(file + 1)
@@ -207,7 +212,7 @@ fn plan_files(
     planned: &mut Vec<Block>,
     files: &str,
     size: u8,
-) -> Result<(), Fail>
+) -> Result<(), AllocError>
     requires { IsBetween sequencer.old 0 }
 {
     let mut file = 0;
@@ -218,29 +223,6 @@ fn plan_files(
         name = name.wrapping_add(1);
     }
     Ok(())
-}
-
-/// A sequencer with the files of a case, and their blocks, which have at least `size` bytes.
-fn plan_case(
-    rt: &impl Abort,
-    alloc: Global,
-    case: &Case,
-    size: u8,
-) -> Result<(Sequencer, Vec<Block>), Fail>
-    requires room { HasRoom case.now.format }
-    requires zero { (arc_value case.now.query).text.zero ≡ false }
-{
-    let mut sequencer = new_sequencer(alloc, &case.query, case.format)?;
-    let mut planned = Vec::new(alloc);
-    plan_files(
-        rt,
-        alloc,
-        &mut sequencer,
-        &mut planned,
-        case.files.as_str(),
-        size,
-    )?;
-    Ok((sequencer, planned))
 }
 
 /// The order in which results arrive.
@@ -290,32 +272,27 @@ impl Trial<'_> {
         query: &Arc<Query>,
         block: &Block,
         arrival: Arrival,
-    ) -> Result<bool, AllocError> {
+    ) -> bool {
         let bytes = block.bytes.as_slice();
         assert!(rt; bytes.len() <= 100);
-        let found = search(self.alloc, query, block.file, block.number, bytes)?;
-        let answer = self.sequencer.arrive(found);
-        Ok(answer == arrival && self.drains())
+        let found = search(self.alloc, query, block.file, block.number, bytes);
+        let answer = self.sequencer.arrive(found.expect(rt, "memory"));
+        answer == arrival && self.drains()
     }
 
     /// Whether the results of blocks have their answers, and all drains succeed. Behind each third one come that of
     /// another query and the same once more.
-    fn takes_all(
-        &mut self,
-        rt: &impl Abort,
-        other: &Arc<Query>,
-        blocks: &[Block],
-    ) -> Result<bool, AllocError> {
+    fn takes_all(&mut self, rt: &impl Abort, other: &Arc<Query>, blocks: &[Block]) -> bool {
         let query = &self.case.query;
         let mut right = true;
         for (turn, block) in blocks.iter().enumerate() {
-            right &= self.takes(rt, query, block, Arrival::Taken)?;
+            right &= self.takes(rt, query, block, Arrival::Taken);
             if turn % 3 == 2 {
-                right &= self.takes(rt, other, block, Arrival::Stranger)?;
-                right &= self.takes(rt, query, block, Arrival::Double)?;
+                right &= self.takes(rt, other, block, Arrival::Stranger);
+                right &= self.takes(rt, query, block, Arrival::Double);
             }
         }
-        Ok(right)
+        right
     }
 
     /// Whether the whole output is written, and the status is there.
@@ -327,46 +304,80 @@ impl Trial<'_> {
     }
 }
 
-/// Whether a case has its output and status where blocks have at least `size` bytes and results arrive in this order.
-fn passes(rt: &impl Abort, alloc: Global, case: &Case, size: u8, order: Order) -> Result<bool, Fail>
+/// The sequencer of a case whose files are planned, and their blocks, which have at least `size` bytes.
+fn plan_blocks(
+    rt: &impl Abort,
+    alloc: Global,
+    case: &Case,
+    size: u8,
+) -> Result<(Sequencer, Vec<Block>), AllocError>
     requires room { HasRoom case.now.format }
     requires zero { (arc_value case.now.query).text.zero ≡ false }
 {
-    let other = query_of(alloc, b"other")?;
-    let sink = MemSink::new(alloc, 1000)?;
-    let (sequencer, mut blocks) = plan_case(rt, alloc, case, size)?;
-    put_in_order(&mut blocks, order);
-    let mut trial = Trial {
+    let mut sequencer = new_sequencer(alloc, &case.query, case.format)?;
+    let mut planned = Vec::new(alloc);
+    let files = case.files.as_str();
+    plan_files(rt, alloc, &mut sequencer, &mut planned, files, size)?;
+    Ok((sequencer, planned))
+}
+
+/// A case whose files are planned, and their blocks, which have at least `size` bytes.
+fn plan_case<'a>(
+    rt: &impl Abort,
+    alloc: Global,
+    case: &'a Case,
+    size: u8,
+) -> (Trial<'a>, Vec<Block>)
+    requires room { HasRoom case.now.format }
+    requires zero { (arc_value case.now.query).text.zero ≡ false }
+{
+    let (sequencer, planned) = plan_blocks(rt, alloc, case, size).expect(rt, "a plan");
+    let trial = Trial {
         alloc,
         case,
         sequencer,
-        sink,
+        sink: MemSink::new(alloc, 1000).expect(rt, "memory"),
     };
-    let right = trial.takes_all(rt, &other, &blocks)?;
-    Ok(right && trial.ends())
+    (trial, planned)
+}
+
+/// Whether a case has its output and status where blocks have at least `size` bytes and results arrive in this order,
+/// and among them those of another query.
+fn passes(
+    rt: &impl Abort,
+    alloc: Global,
+    case: &Case,
+    other: &Arc<Query>,
+    size: u8,
+    order: Order,
+) -> bool
+    requires room { HasRoom case.now.format }
+    requires zero { (arc_value case.now.query).text.zero ≡ false }
+{
+    let (mut trial, mut blocks) = plan_case(rt, alloc, case, size);
+    put_in_order(&mut blocks, order);
+    trial.takes_all(rt, other, &blocks) && trial.ends()
 }
 
 /// A case has its output and status in blocks of its size and of a line, in the order of its seed and the falling one.
-fn assert_case(rt: &impl Abort, alloc: Global, row: &str) -> Result<(), Fail> {
-    let case = case_of(rt, alloc, row)?;
+fn assert_case(rt: &impl Abort, alloc: Global, other: &Arc<Query>, row: &str) {
+    let case = case_of(rt, alloc, row);
+    let size = case.size;
     let seeded = Order::Seeded(case.seed);
-    for (size, order) in [
-        (case.size, seeded),
-        (1, seeded),
-        (case.size, Order::Falling),
-    ] {
-        let right = passes(rt, alloc, &case, size, order)?;
+    for (size, order) in [(size, seeded), (1, seeded), (size, Order::Falling)] {
+        let right = passes(rt, alloc, &case, other, size, order);
         assert!(rt; right, "{row}");
     }
-    Ok(())
 }
 
 #[test]
-fn formats_give_the_output_of_grep(rt: HostRuntime) -> Result<(), Fail> {
-    for row in CASES.lines() {
-        assert_case(&rt, rt.alloc(), row)?;
+fn formats_give_the_output_of_grep(rt: HostRuntime) {
+    let other = query_of(rt.alloc(), b"other").expect(&rt, "memory");
+    for rows in CASES {
+        for row in rows.lines() {
+            assert_case(&rt, rt.alloc(), &other, row);
+        }
     }
-    Ok(())
 }
 
 /// A format, and what is read of files in which `m` is searched for: a letter is a line that arrives, `|` ends a file
@@ -437,6 +448,26 @@ fn read_on(
     }
 }
 
+/// Reads on by the letter of a step, as `read_on` does.
+fn read_step(
+    rt: &impl Abort,
+    alloc: Global,
+    query: &Arc<Query>,
+    sequencer: &mut Sequencer,
+    file: u32,
+    number: u64,
+    step: &[u8],
+) -> (u32, u64)
+    requires { IsReading sequencer.old file number }
+    ensures { IsReading sequencer.new result.0 result.1 }
+{
+    let [letter, _] = step else {
+        panic!(rt; "a letter and a sign");
+    };
+    assert!(rt; file < 100 && number < 100);
+    read_on(rt, alloc, query, sequencer, file, number, *letter).expect(rt, "memory")
+}
+
 /// What was read is enough where the steps say so. The sequencer's first file is open without a block.
 fn assert_steps(
     rt: &impl Abort,
@@ -444,22 +475,17 @@ fn assert_steps(
     query: &Arc<Query>,
     sequencer: &mut Sequencer,
     steps: &str,
-) -> Result<(), AllocError>
+)
     requires { IsReading sequencer.old 0 0 }
 {
     let mut file = 0;
     let mut number = 0;
     for step in steps.as_bytes().chunks(2) {
-        let [letter, answer] = step else {
-            panic!(rt; "a letter and a sign: {steps}");
-        };
-        assert!(rt; file < 100 && number < 100);
-        let place = read_on(rt, alloc, query, sequencer, file, number, *letter)?;
+        let place = read_step(rt, alloc, query, sequencer, file, number, step);
         file = place.0;
         number = place.1;
-        assert_eq!(rt; sequencer.enough(), *answer == b'+', "{steps}");
+        assert!(rt; sequencer.enough() == step.ends_with(b"+"), "{steps}");
     }
-    Ok(())
 }
 
 /// What was read is enough where the row says so.
@@ -468,13 +494,13 @@ fn assert_enough(rt: &impl Abort, alloc: Global, row: &str) -> Result<(), AllocE
     let query = query_of(alloc, b"m")?;
     let mut sequencer = new_sequencer(alloc, &query, format_of(rt, letters))?;
     open_file(&mut sequencer, 0, b"f")?;
-    assert_steps(rt, alloc, &query, &mut sequencer, steps)
+    assert_steps(rt, alloc, &query, &mut sequencer, steps);
+    Ok(())
 }
 
 #[test]
-fn enough_was_read(rt: HostRuntime) -> Result<(), Fail> {
+fn enough_was_read(rt: HostRuntime) {
     for row in ENOUGH.lines() {
-        assert_enough(&rt, rt.alloc(), row)?;
+        assert_enough(&rt, rt.alloc(), row).expect(&rt, "memory");
     }
-    Ok(())
 }

@@ -12,13 +12,12 @@ use refusing::Refusing;
 use std::alloc::{AllocError, Allocator, Global};
 use std::process::Abort;
 use std::sync::Wait;
-use std::test::Fail;
 use std::thread::Threads;
 use std::time::Clock;
 
 const FILE: &[u8] = b"abc\nxyz\nb";
 
-/// A file named `f`, how it is read and cut, and what is asked for of it.
+/// A file named `f`, how it is read and cut, what is asked for of it, and what its output takes.
 #[derive(Clone, Copy)]
 struct Case<'a> {
     pattern: &'a [u8],
@@ -28,6 +27,11 @@ struct Case<'a> {
     read_limit: usize,
     block: u32,
     workers: u32,
+    /// Whether no names are listed behind the file.
+    is_alone: bool,
+    /// The most bytes of the output, and of a write to it.
+    room: usize,
+    write_limit: usize,
     ghost some_limit: { HasRoom format },
     ghost some_bytes: { 1 ≤ read_limit },
     ghost block_in_range: { (1 ≤ block) × (block ≤ 2 ^ 24) },
@@ -47,7 +51,23 @@ impl<'a> Case<'a> {
             read_limit: 100,
             block: 1,
             workers: 0,
+            is_alone: true,
+            room: 100,
+            write_limit: usize::MAX,
         }
+    }
+
+    /// Names that give none behind the file.
+    fn among_others(mut self) -> Case<'a> {
+        self.is_alone = false;
+        self
+    }
+
+    /// An output that takes so many bytes in all, and so many in a write.
+    fn into_room(mut self, room: usize, write_limit: usize) -> Case<'a> {
+        self.room = room;
+        self.write_limit = write_limit;
+        self
     }
 
     /// Rounds of two blocks, each searched by so many threads beside the calling one.
@@ -94,10 +114,10 @@ fn items_of(alloc: Global, is_alone: bool) -> Result<Vec<Item>, AllocError> {
 }
 
 /// The file, listed in front of names that give none, unless it is alone.
-fn list(alloc: Global, case: Case<'_>, is_alone: bool) -> Result<Listed<MemStore>, AllocError>
+fn list(alloc: Global, case: Case<'_>) -> Result<Listed<MemStore>, AllocError>
     ensures { IfOk result (λ files. (files.asked ≡ 0) × (files.done ≡ false)) }
 {
-    let items = items_of(alloc, is_alone)?;
+    let items = items_of(alloc, case.is_alone)?;
     let mut store = MemStore::new(alloc);
     store.add("f", case.file, case.ending)?;
     store.set_read_limit(case.read_limit);
@@ -107,7 +127,7 @@ fn list(alloc: Global, case: Case<'_>, is_alone: bool) -> Result<Listed<MemStore
 }
 
 /// What a run answers, with the memory that `heap` gives. A refused text counts as a refused run.
-fn run_case<R: Threads + Wait + Clock + Sync, A: Allocator + Copy + Send + Sync>(
+fn answer<R: Threads + Wait + Clock + Sync, A: Allocator + Copy + Send + Sync>(
     rt: &R,
     heap: A,
     case: Case<'_>,
@@ -130,48 +150,79 @@ fn run_case<R: Threads + Wait + Clock + Sync, A: Allocator + Copy + Send + Sync>
     run(rt, heap, text, setup, files, out, faults, &FreeGate)
 }
 
-/// Whether a run over the file alone writes and tells these, and has this status.
-fn runs<R: Threads + Wait + Clock + Sync>(
+/// What a run answered, wrote and told.
+#[derive(Drop)]
+struct Outcome {
+    answer: Result<u8, RunFault>,
+    out: MemSink,
+    faults: MemSink,
+}
+
+/// What a run does, with the memory that `heap` gives.
+fn run_case<R: Abort + Threads + Wait + Clock + Sync, A: Allocator + Copy + Send + Sync>(
+    rt: &R,
+    alloc: Global,
+    heap: A,
+    case: Case<'_>,
+) -> Outcome {
+    let mut files = list(alloc, case).expect(rt, "memory");
+    let mut out = MemSink::new(alloc, case.room).expect(rt, "memory");
+    out.set_write_limit(case.write_limit);
+    let mut faults = MemSink::new(alloc, 100).expect(rt, "memory");
+    let answer = answer(rt, heap, case, &mut files, &mut out, &mut faults);
+    Outcome {
+        answer,
+        out,
+        faults,
+    }
+}
+
+/// Whether a run answers, writes and tells these.
+fn runs<R: Abort + Threads + Wait + Clock + Sync>(
     rt: &R,
     alloc: Global,
     case: Case<'_>,
+    answer: Result<u8, RunFault>,
     output: &[u8],
     told: &str,
-    status: u8,
-) -> Result<bool, AllocError> {
-    let mut files = list(alloc, case, true)?;
-    let mut out = MemSink::new(alloc, 100)?;
-    let mut faults = MemSink::new(alloc, 100)?;
-    let answer = run_case(rt, alloc, case, &mut files, &mut out, &mut faults);
-    Ok(answer == Ok(status) && out.bytes() == output && faults.bytes() == told.as_bytes())
+) -> bool {
+    let found = run_case(rt, alloc, alloc, case);
+    found.answer == answer && found.out.bytes() == output && found.faults.bytes() == told.as_bytes()
 }
 
-/// A run writes these bytes and has this status, whatever the size of its blocks and of the reads, by one thread and
+/// A run writes these bytes and has this status in blocks of this size, whatever that of the reads, by one thread and
 /// by three.
+fn assert_blocks(
+    rt: &(impl Abort + Threads + Wait + Clock + Sync),
+    alloc: Global,
+    case: Case<'_>,
+    block: u32,
+    output: &[u8],
+    status: u8,
+)
+    requires { (1 ≤ block) × (block ≤ 64) }
+{
+    for read_limit in [1, 2, 5, 100] {
+        let case = case.cut(block, read_limit);
+        let right = runs(rt, alloc, case, Ok(status), output, "");
+        assert!(rt; right, "in blocks of {block}");
+    }
+    let case = case.cut(block, 100).spread(2);
+    let right = runs(rt, alloc, case, Ok(status), output, "");
+    assert!(rt; right, "in blocks of {block}, by threads");
+}
+
+/// The same, whatever the size of its blocks.
 fn assert_run(
     rt: &(impl Abort + Threads + Wait + Clock + Sync),
     alloc: Global,
     case: Case<'_>,
     output: &[u8],
     status: u8,
-) -> Result<(), AllocError> {
+) {
     for block in 1..=64u32 {
-        for read_limit in [1, 2, 5, 100] {
-            let case = case.cut(block, read_limit);
-            let right = runs(rt, alloc, case, output, "", status)?;
-            assert!(rt; right, "in blocks of {block}");
-        }
-        let right = runs(
-            rt,
-            alloc,
-            case.cut(block, 100).spread(2),
-            output,
-            "",
-            status,
-        )?;
-        assert!(rt; right, "in blocks of {block}, by threads");
+        assert_blocks(rt, alloc, case, block, output, status);
     }
-    Ok(())
 }
 
 /// A pattern, the letters of a format, a file, the status, and behind a colon the output. In files and output `/`
@@ -192,39 +243,32 @@ q H-c--- abc/xyz/b 1:f:0/
  H-c---  1:f:0/";
 
 /// A run is as a row says.
-fn assert_row(
-    rt: &(impl Abort + Threads + Wait + Clock + Sync),
-    alloc: Global,
-    row: &str,
-) -> Result<(), Fail> {
+fn assert_row(rt: &(impl Abort + Threads + Wait + Clock + Sync), alloc: Global, row: &str) {
     let (pattern, rest) = cut(row, " ");
     let (letters, rest) = cut(rest, " ");
     let (file, answer) = cut(rest, " ");
     let (status, output) = cut(answer, ":");
-    let status: u8 = status.parse()?;
-    let file = with_newlines(alloc, file)?;
-    let output = with_newlines(alloc, output)?;
+    let status: u8 = status.parse().expect(rt, "a status");
+    let file = with_newlines(alloc, file).expect(rt, "memory");
+    let output = with_newlines(alloc, output).expect(rt, "memory");
     let case = Case::new(format_of(rt, letters)).with(pattern.as_bytes(), file.as_bytes());
-    assert_run(rt, alloc, case, output.as_bytes(), status)?;
-    Ok(())
+    assert_run(rt, alloc, case, output.as_bytes(), status)
 }
 
 #[test]
-fn small_files(rt: HostRuntime) -> Result<(), Fail> {
+fn small_files(rt: HostRuntime) {
     for row in RUNS.lines() {
-        assert_row(&rt, rt.alloc(), row)?;
+        assert_row(&rt, rt.alloc(), row);
     }
-    Ok(())
 }
 
 #[test]
-fn any_byte_is_searched_for(rt: HostRuntime) -> Result<(), Fail> {
+fn any_byte_is_searched_for(rt: HostRuntime) {
     let file = b"a\0\xff\n\0\n\xff\x80\n\xff\0";
     let case = Case::new(PLAIN).with(b"\0", file);
-    assert_run(&rt, rt.alloc(), case, b"a\0\xff\n\0\n\xff\0\n", 0)?;
+    assert_run(&rt, rt.alloc(), case, b"a\0\xff\n\0\n\xff\0\n", 0);
     let case = Case::new(PLAIN).with(b"\xff\x80", file);
-    assert_run(&rt, rt.alloc(), case, b"\xff\x80\n", 0)?;
-    Ok(())
+    assert_run(&rt, rt.alloc(), case, b"\xff\x80\n", 0);
 }
 
 /// The letters of a format, the output for `FILE`, and how much of it is written before the last request for memory:
@@ -233,25 +277,6 @@ const OUTPUTS: &str = "------ abc/b/ 4
 Hn---- f:1:abc/f:3:b/ 8
 H-c--- f:2/ 0";
 
-/// Whether a run over a sink that takes as many bytes as these, and `write_limit` in a write, has written these, and
-/// fails unless they are all.
-fn writes<R: Threads + Wait + Clock + Sync>(
-    rt: &R,
-    alloc: Global,
-    case: Case<'_>,
-    written: &[u8],
-    write_limit: usize,
-    is_all: bool,
-) -> Result<bool, AllocError> {
-    let mut files = list(alloc, case, true)?;
-    let mut out = MemSink::new(alloc, written.len())?;
-    out.set_write_limit(write_limit);
-    let mut faults = MemSink::new(alloc, 0)?;
-    let answer = run_case(rt, alloc, case, &mut files, &mut out, &mut faults);
-    let wanted = if is_all { Ok(0) } else { Err(RunFault::Sink) };
-    Ok(answer == wanted && out.bytes() == written)
-}
-
 /// A run whose sink takes less than the output fails once the sink is full, and one whose sink takes a byte at a time
 /// goes through.
 fn assert_sinks(
@@ -259,30 +284,36 @@ fn assert_sinks(
     alloc: Global,
     format: Format,
     output: &[u8],
-) -> Result<(), AllocError>
+)
     requires { HasRoom format }
 {
     for block in 1..=10u32 {
         let case = Case::new(format).cut(block, 100);
         for limit in 0..output.len() {
-            let right = writes(rt, alloc, case, &output[..limit], usize::MAX, false)?;
+            let case = case.into_room(limit, usize::MAX);
+            let failed = Err(RunFault::Sink);
+            let right = runs(rt, alloc, case, failed, &output[..limit], "");
             assert!(rt; right);
         }
-        let right = writes(rt, alloc, case.spread(2), output, 1, true)?;
+        let case = case.into_room(output.len(), 1).spread(2);
+        let right = runs(rt, alloc, case, Ok(0), output, "");
         assert!(rt; right);
     }
-    Ok(())
+}
+
+/// Each write of a run may fail, as a row of `OUTPUTS` says.
+fn assert_writes(rt: &(impl Abort + Threads + Wait + Clock + Sync), alloc: Global, row: &str) {
+    let (letters, rest) = cut(row, " ");
+    let (output, _) = cut(rest, " ");
+    let output = with_newlines(alloc, output).expect(rt, "memory");
+    assert_sinks(rt, alloc, format_of(rt, letters), output.as_bytes())
 }
 
 #[test]
-fn each_write_may_fail(rt: HostRuntime) -> Result<(), Fail> {
+fn each_write_may_fail(rt: HostRuntime) {
     for row in OUTPUTS.lines() {
-        let (letters, rest) = cut(row, " ");
-        let (output, _) = cut(rest, " ");
-        let output = with_newlines(rt.alloc(), output)?;
-        assert_sinks(&rt, rt.alloc(), format_of(&rt, letters), output.as_bytes())?;
+        assert_writes(&rt, rt.alloc(), row);
     }
-    Ok(())
 }
 
 /// The letters of a format, how many bytes of `FILE` are read, and what is written of them.
@@ -297,35 +328,39 @@ H-c--- 2 f:1/
 H-c--- 8 f:1/
 H-c--- 9 f:2/";
 
-/// A run whose reading fails writes what a row says, whatever the size of its blocks, and tells it.
-fn assert_broken(
+/// A run whose reading fails writes this, whatever the size of its blocks, and tells it.
+fn assert_fails(
     rt: &(impl Abort + Threads + Wait + Clock + Sync),
     alloc: Global,
+    case: Case<'_>,
+    output: &[u8],
     row: &str,
-) -> Result<(), Fail> {
-    let (letters, rest) = cut(row, " ");
-    let (count, output) = cut(rest, " ");
-    let count: usize = count.parse()?;
-    assert!(rt; count <= 9);
-    let output = with_newlines(alloc, output)?;
-    let format = format_of(rt, letters);
+) {
     for block in 1..=10u32 {
-        let case = Case::new(format).broken(&FILE[..count]).cut(block, 2);
-        let told = "pargrep: f: read failed\n";
         for workers in [0, 2] {
-            let right = runs(rt, alloc, case.spread(workers), output.as_bytes(), told, 2)?;
+            let case = case.cut(block, 2).spread(workers);
+            let right = runs(rt, alloc, case, Ok(2), output, "pargrep: f: read failed\n");
             assert!(rt; right, "{row}, by {workers}");
         }
     }
-    Ok(())
+}
+
+/// A run whose reading fails is as a row says.
+fn assert_broken(rt: &(impl Abort + Threads + Wait + Clock + Sync), alloc: Global, row: &str) {
+    let (letters, rest) = cut(row, " ");
+    let (count, output) = cut(rest, " ");
+    let count: usize = count.parse().expect(rt, "a number");
+    assert!(rt; count <= 9);
+    let output = with_newlines(alloc, output).expect(rt, "memory");
+    let case = Case::new(format_of(rt, letters)).broken(&FILE[..count]);
+    assert_fails(rt, alloc, case, output.as_bytes(), row)
 }
 
 #[test]
-fn each_read_may_fail(rt: HostRuntime) -> Result<(), Fail> {
+fn each_read_may_fail(rt: HostRuntime) {
     for row in BROKEN.lines() {
-        assert_broken(&rt, rt.alloc(), row)?;
+        assert_broken(&rt, rt.alloc(), row);
     }
-    Ok(())
 }
 
 /// What is told of the names behind the file.
@@ -333,26 +368,24 @@ const TOLD: &[u8] = b"pargrep: g: cannot open\npargrep: d: cannot list\n";
 
 /// A run whose memory refuses a request has written and told beginnings, and one whose memory refuses none all of it.
 /// The answer is whether that is so, and how much was written.
-fn run_refused<R: Threads + Wait + Clock + Sync>(
+fn run_refused<R: Abort + Threads + Wait + Clock + Sync>(
     rt: &R,
     alloc: Global,
     heap: &Refusing,
     case: Case<'_>,
     output: &[u8],
-) -> Result<(bool, usize), AllocError> {
-    let mut files = list(alloc, case, false)?;
-    let mut out = MemSink::new(alloc, 100)?;
-    let mut faults = MemSink::new(alloc, 100)?;
-    let answer = run_case(rt, heap, case, &mut files, &mut out, &mut faults);
-    let right = if answer == Ok(2) {
-        out.bytes() == output && faults.bytes() == TOLD
+) -> (bool, usize) {
+    let found = run_case(rt, alloc, heap, case.among_others());
+    let written = found.out.bytes();
+    let right = if found.answer == Ok(2) {
+        written == output && found.faults.bytes() == TOLD
     } else {
         heap.has_refused()
-            && answer == Err(RunFault::OutOfMemory)
-            && output.starts_with(out.bytes())
-            && TOLD.starts_with(faults.bytes())
+            && found.answer == Err(RunFault::OutOfMemory)
+            && output.starts_with(written)
+            && TOLD.starts_with(found.faults.bytes())
     };
-    Ok((right, out.bytes().len()))
+    (right, written.len())
 }
 
 /// Each request for memory of a run is refused in turn. Where the last one is, at least so many bytes were written.
@@ -363,72 +396,74 @@ fn assert_refusals(
     case: Case<'_>,
     output: &[u8],
     early: usize,
-) -> Result<(), AllocError> {
+) {
     let mut longest = 0;
     for passes in 0..1000u64 {
         let heap = Refusing::new(alloc, passes);
-        let (right, written) = run_refused(rt, alloc, &heap, case, output)?;
+        let (right, written) = run_refused(rt, alloc, &heap, case, output);
         assert!(rt; right, "at {passes}");
         if !heap.has_refused() {
             assert!(rt; early <= longest);
-            return Ok(());
+            return;
         }
         longest = written;
     }
     panic!(rt; "more than 1000 requests")
 }
 
-#[test]
-fn each_request_may_be_refused(rt: HostRuntime) -> Result<(), Fail> {
-    for row in OUTPUTS.lines() {
-        let (letters, rest) = cut(row, " ");
-        let (output, early) = cut(rest, " ");
-        let early: usize = early.parse()?;
-        let output = with_newlines(rt.alloc(), output)?;
-        let case = Case::new(format_of(&rt, letters)).cut(1, 3);
-        assert_refusals(&rt, rt.alloc(), case, output.as_bytes(), early)?;
-        assert_refusals(&rt, rt.alloc(), case.spread(2), output.as_bytes(), 0)?;
-    }
-    Ok(())
+/// Each request for memory of a run is refused in turn, as a row of `OUTPUTS` says.
+fn assert_refused(rt: &(impl Abort + Threads + Wait + Clock + Sync), alloc: Global, row: &str) {
+    let (letters, rest) = cut(row, " ");
+    let (output, early) = cut(rest, " ");
+    let early: usize = early.parse().expect(rt, "a number");
+    let output = with_newlines(alloc, output).expect(rt, "memory");
+    let case = Case::new(format_of(rt, letters)).cut(1, 3);
+    assert_refusals(rt, alloc, case, output.as_bytes(), early);
+    assert_refusals(rt, alloc, case.spread(2), output.as_bytes(), 0)
 }
 
 #[test]
-fn long_lines_end_a_run(rt: HostRuntime) -> Result<(), Fail> {
-    for (length, wanted) in [(100, Ok(1)), (101, Err(RunFault::TooLong))] {
-        let file = vec![in rt.alloc(); b'a'; length]?;
-        let case = Case::new(PLAIN).with(b"b", &file);
-        let mut files = list(rt.alloc(), case, true)?;
-        let mut out = MemSink::new(rt.alloc(), 100)?;
-        let mut faults = MemSink::new(rt.alloc(), 100)?;
-        let answer = run_case(&rt, rt.alloc(), case, &mut files, &mut out, &mut faults);
-        assert!(&rt; answer == wanted, "{length} bytes");
+fn each_request_may_be_refused(rt: HostRuntime) {
+    for row in OUTPUTS.lines() {
+        assert_refused(&rt, rt.alloc(), row);
     }
-    Ok(())
+}
+
+/// What a search for `b` answers over a file of so many letters `a`.
+fn answer_to_long(
+    rt: &(impl Abort + Threads + Wait + Clock + Sync),
+    alloc: Global,
+    length: usize,
+) -> Result<u8, RunFault> {
+    let file = vec![in alloc; b'a'; length].expect(rt, "memory");
+    let found = run_case(rt, alloc, alloc, Case::new(PLAIN).with(b"b", &file));
+    found.answer
+}
+
+#[test]
+fn long_lines_end_a_run(rt: HostRuntime) {
+    assert!(rt; answer_to_long(&rt, rt.alloc(), 100) == Ok(1));
+    assert!(rt; answer_to_long(&rt, rt.alloc(), 101) == Err(RunFault::TooLong));
 }
 
 /// Whether a run over a file writes the row of its first line, and breaks off at its second one, which is too long.
-fn writes_before_it_breaks<R: Threads + Wait + Clock + Sync>(
+fn writes_before_it_breaks<R: Abort + Threads + Wait + Clock + Sync>(
     rt: &R,
     alloc: Global,
     file: &[u8],
     workers: u32,
-) -> Result<bool, AllocError>
+) -> bool
     requires { workers ≤ 64 }
 {
     let case = Case::new(PLAIN).with(b"b", file).spread(workers);
-    let mut files = list(alloc, case, true)?;
-    let mut out = MemSink::new(alloc, 100)?;
-    let mut faults = MemSink::new(alloc, 100)?;
-    let answer = run_case(rt, alloc, case, &mut files, &mut out, &mut faults);
-    Ok(answer == Err(RunFault::TooLong) && out.bytes() == b"b\n".as_slice())
+    runs(rt, alloc, case, Err(RunFault::TooLong), b"b\n", "")
 }
 
 #[test]
-fn rows_before_a_long_line_are_written(rt: HostRuntime) -> Result<(), Fail> {
-    let mut file = vec![in rt.alloc(); b'a'; 103]?;
+fn rows_before_a_long_line_are_written(rt: HostRuntime) {
+    let mut file = [b'a'; 103];
     file[0] = b'b';
     file[1] = b'\n';
-    assert!(rt; writes_before_it_breaks(&rt, rt.alloc(), &file, 0)?);
-    assert!(rt; writes_before_it_breaks(&rt, rt.alloc(), &file, 2)?);
-    Ok(())
+    assert!(rt; writes_before_it_breaks(&rt, rt.alloc(), &file, 0));
+    assert!(rt; writes_before_it_breaks(&rt, rt.alloc(), &file, 2));
 }

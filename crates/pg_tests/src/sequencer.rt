@@ -12,7 +12,6 @@ use refusing::Refusing;
 use std::alloc::{AllocError, Allocator, Global};
 use std::process::Abort;
 use std::sync::Arc;
-use std::test::Fail;
 
 /// All that is written, where the lines are selected.
 const OUTPUT: &[u8] = b"xa\nxb\nxc\n";
@@ -191,11 +190,10 @@ fn assert_arrivals(rt: &impl Abort, alloc: Global, row: &str) -> Result<(), Allo
 }
 
 #[test]
-fn results_arrive_in_any_order(rt: HostRuntime) -> Result<(), Fail> {
+fn results_arrive_in_any_order(rt: HostRuntime) {
     for row in ARRIVALS.lines() {
-        assert_arrivals(&rt, rt.alloc(), row)?;
+        assert_arrivals(&rt, rt.alloc(), row).expect(&rt, "memory");
     }
-    Ok(())
 }
 
 /// Whether a run in which no line is selected writes nothing, and has status 1.
@@ -209,9 +207,8 @@ fn writes_nothing(alloc: Global) -> Result<bool, AllocError> {
 }
 
 #[test]
-fn nothing_is_selected(rt: HostRuntime) -> Result<(), Fail> {
-    assert!(rt; writes_nothing(rt.alloc())?);
-    Ok(())
+fn nothing_is_selected(rt: HostRuntime) {
+    assert!(rt; writes_nothing(rt.alloc()) == Ok(true));
 }
 
 /// Whether a run is complete, and its status.
@@ -228,10 +225,9 @@ fn states_of_open(alloc: Global) -> Result<(State, State), AllocError> {
 }
 
 #[test]
-fn open_file_is_not_complete(rt: HostRuntime) -> Result<(), Fail> {
-    let states = states_of_open(rt.alloc())?;
-    assert_eq!(rt; states, ((false, None), (true, Some(2))));
-    Ok(())
+fn open_file_is_not_complete(rt: HostRuntime) {
+    let states = states_of_open(rt.alloc());
+    assert!(rt; states == Ok(((false, None), (true, Some(2)))));
 }
 
 /// A sequencer that got the results of all three blocks, and whether an announcement was refused and made again.
@@ -269,30 +265,22 @@ fn drains(
 
 /// A drain into a sink that takes `limit` bytes in all, and `write_limit` in a write, writes so many bytes of the
 /// output.
-fn assert_drains(
-    rt: &impl Abort,
-    alloc: Global,
-    limit: usize,
-    write_limit: usize,
-    written: usize,
-) -> Result<(), AllocError> {
-    let (mut sequencer, _) = finish_plan(rt, alloc)?;
-    let mut sink = MemSink::new(alloc, limit)?;
-    let mut other = MemSink::new(alloc, 100)?;
+fn assert_drains(rt: &impl Abort, alloc: Global, limit: usize, write_limit: usize, written: usize) {
+    let (mut sequencer, _) = finish_plan(rt, alloc).expect(rt, "memory");
+    let mut sink = MemSink::new(alloc, limit).expect(rt, "memory");
+    let mut other = MemSink::new(alloc, 100).expect(rt, "memory");
     sink.set_write_limit(write_limit);
     let right = drains(&mut sequencer, &mut sink, &mut other, written);
     assert!(rt; right, "{limit} and {write_limit}");
-    Ok(())
 }
 
 #[test]
-fn each_write_may_fail(rt: HostRuntime) -> Result<(), Fail> {
+fn each_write_may_fail(rt: HostRuntime) {
     for limit in 0..=OUTPUT.len() {
-        assert_drains(&rt, rt.alloc(), limit, 100, limit)?;
-        assert_drains(&rt, rt.alloc(), limit, 1, limit)?;
-        assert_drains(&rt, rt.alloc(), limit, 0, 0)?;
+        assert_drains(&rt, rt.alloc(), limit, 100, limit);
+        assert_drains(&rt, rt.alloc(), limit, 1, limit);
+        assert_drains(&rt, rt.alloc(), limit, 0, 0);
     }
-    Ok(())
 }
 
 /// Whether a sequencer writes all, and whether an announcement was refused and made again.

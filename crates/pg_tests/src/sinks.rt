@@ -2,11 +2,10 @@
 ghost use Rattle.std.specs.Prelude.{◌≤◌};
 
 use pg_seq::{History, MemSink, Out, Sink, WriteError, write_all};
-use std::alloc::{AllocError, Global};
+use std::alloc::Global;
 use std::io::{self, ErrorKind, Write};
 use std::mem::size_of;
 use std::process::Abort;
-use std::test::Fail;
 
 const TEXT: &[u8] = b"alpha\nbeta\n";
 
@@ -31,15 +30,10 @@ fn is_full(sink: &mut MemSink, limit: usize) -> bool
 }
 
 /// A sink that takes `limit` bytes in all takes these of the text.
-fn assert_takes(
-    rt: &impl Abort,
-    alloc: Global,
-    limit: usize,
-    write_limit: usize,
-) -> Result<(), AllocError>
+fn assert_takes(rt: &impl Abort, alloc: Global, limit: usize, write_limit: usize)
     requires { limit ≤ 11 }
 {
-    let mut sink = MemSink::new(alloc, limit)?;
+    let mut sink = MemSink::new(alloc, limit).expect(rt, "memory");
     sink.set_write_limit(write_limit);
     let written = write_all(&mut sink, TEXT);
     let is_whole = limit == TEXT.len();
@@ -47,47 +41,41 @@ fn assert_takes(
         written.is_ok() == is_whole && is_full(&mut sink, limit),
         "at {limit}"
     );
-    Ok(())
 }
 
 #[test]
-fn memory_fails_at_each_byte(rt: HostRuntime) -> Result<(), Fail> {
+fn memory_fails_at_each_byte(rt: HostRuntime) {
     for limit in 0..=TEXT.len() {
         for write_limit in [usize::MAX, 2, 1] {
-            assert_takes(&rt, rt.alloc(), limit, write_limit)?;
+            assert_takes(&rt, rt.alloc(), limit, write_limit);
         }
     }
-    Ok(())
 }
 
 #[test]
-fn memory_that_takes_no_byte(rt: HostRuntime) -> Result<(), Fail> {
-    let mut sink = MemSink::new(rt.alloc(), TEXT.len())?;
+fn memory_that_takes_no_byte(rt: HostRuntime) {
+    let mut sink = MemSink::new(rt.alloc(), TEXT.len()).expect(&rt, "memory");
     sink.set_write_limit(0);
-    let none = sink.write(TEXT);
-    let all = write_all(&mut sink, TEXT);
-    let nothing = write_all(&mut sink, b"");
-    assert!(rt;
-        none == Ok(0) && all == Err(WriteError) && nothing.is_ok() && sink.bytes().is_empty()
-    );
+    assert!(rt; sink.write(TEXT) == Ok(0) && write_all(&mut sink, TEXT) == Err(WriteError));
+    assert!(rt; write_all(&mut sink, b"").is_ok() && sink.bytes().is_empty());
     sink.set_write_limit(TEXT.len());
-    let all = write_all(&mut sink, TEXT);
-    assert!(rt; all.is_ok() && sink.bytes() == TEXT);
+    assert!(rt; write_all(&mut sink, TEXT).is_ok() && sink.bytes() == TEXT);
     assert!(rt; MemSink::new(rt.alloc(), usize::MAX).is_err());
-    Ok(())
+}
+
+/// Whether the text is written through a writer in two parts.
+fn takes_text<W: Write>(out: &mut Out<W>) -> bool {
+    out.write(b"") == Ok(0)
+        && write_all(out, b"alpha\n").is_ok()
+        && write_all(out, b"beta\n").is_ok()
+        && out.flush().is_ok()
 }
 
 #[test]
-fn a_writer_gets_the_text(rt: HostRuntime) -> Result<(), Fail> {
+fn a_writer_gets_the_text(rt: HostRuntime) {
     let mut bytes = Vec::new(rt.alloc());
-    let mut out = Out::new(&mut bytes);
-    let nothing = out.write(b"");
-    let first = write_all(&mut out, b"alpha\n");
-    let second = write_all(&mut out, b"beta\n");
-    let flushed = out.flush();
-    assert!(rt; nothing == Ok(0) && first.is_ok() && second.is_ok() && flushed.is_ok());
+    assert!(rt; takes_text(&mut Out::new(&mut bytes)));
     assert!(rt; bytes.as_slice() == TEXT);
-    Ok(())
 }
 
 /// What a writer does at its third call.
@@ -163,13 +151,13 @@ fn a_writer_fails_once_in_mid_stream(rt: HostRuntime) {
         let mut faulty = Faulty::new(rt.alloc(), third);
         let written = write_twice(&mut faulty);
         let is_short = matches!(third, Third::Short);
-        assert_eq!(rt; written, (is_short, true), "at {third:?}");
-        assert_eq!(rt; faulty.bytes.as_slice(), TEXT, "at {third:?}");
+        let is_right = written == (is_short, true) && faulty.bytes.as_slice() == TEXT;
+        assert!(rt; is_right, "at {third:?}");
     }
 }
 
 #[test]
-fn a_flush_fails(rt: HostRuntime) -> Result<(), Fail> {
+fn a_flush_fails(rt: HostRuntime) {
     let mut faulty = Faulty::new(rt.alloc(), Third::Failed);
     let mut out = Out::new(&mut faulty);
     let written = out.write(TEXT);
@@ -178,21 +166,18 @@ fn a_flush_fails(rt: HostRuntime) -> Result<(), Fail> {
     let third = out.flush();
     assert!(rt; written == Ok(2) && first.is_ok() && second == Err(WriteError) && third.is_ok());
     assert!(rt; faulty.bytes.as_slice() == b"al".as_slice());
-    Ok(())
 }
 
 #[test]
-fn an_error_has_its_text(rt: HostRuntime) -> Result<(), Fail> {
-    let text = format!(in rt.alloc(); "{WriteError}")?;
-    assert_eq!(rt; text.as_str(), "write failed");
-    Ok(())
+fn an_error_has_its_text(rt: HostRuntime) {
+    let text = format!(in rt.alloc(); "{WriteError}").expect(&rt, "memory");
+    assert!(rt; text.as_str() == "write failed");
 }
 
 fn needs_send<T: Send>(_value: &T) {}
 
 #[test]
-fn sinks_go_to_other_threads(rt: HostRuntime) -> Result<(), Fail> {
-    needs_send(&MemSink::new(rt.alloc(), 1)?);
+fn sinks_go_to_other_threads(rt: HostRuntime) {
+    needs_send(&MemSink::new(rt.alloc(), 1).expect(&rt, "memory"));
     needs_send(&Out::new(Vec::new(rt.alloc())));
-    Ok(())
 }
