@@ -1,4 +1,5 @@
-//! Rows of tests. A row is a line of a text, so that a further row costs no proof.
+//! Rows of tests. A row is a line of a text, so that a further row costs no proof. Many rows stand in several texts,
+//! for a long text takes longer than its parts.
 ghost use Rattle.std.specs.Prelude.{◌≤◌, length};
 
 use crate::{bytes, cutter, lines, literal, machine, syntax};

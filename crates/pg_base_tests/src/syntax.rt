@@ -12,7 +12,8 @@ use std::process::Abort;
 ///
 /// An interval that goes wrong has no bounds to repeat by, whatever stands to its left. Behind a backslash that is
 /// escaped stands an ordinary byte. Of several faults in a bracket the one that stands first is answered.
-const EXPRESSIONS: &str = r"basic  => Empty
+const EXPRESSIONS: [&str; 6] = [
+    r"basic  => Empty
 basic * => *
 basic ** => Rep(*, 0, None)
 basic ^* => Cat(Begin, *)
@@ -27,8 +28,8 @@ basic \{1\} => NothingToRepeat at 0
 basic a\ => TrailingBackslash at 1
 basic a\{2 => BadInterval at 1
 basic a|b => Cat(Cat(a, |), b)
-basic \(*a\) => Cat(*, a)
-basic \(^*\) => Cat(Begin, *)
+basic \(*a\) => Cat(*, a)",
+    r"basic \(^*\) => Cat(Begin, *)
 basic a\{02\} => Rep(a, 2, Some(2))
 basic a\{2,1\} => BadInterval at 1
 basic x\( => UnmatchedGroup at 3
@@ -43,8 +44,8 @@ basic a\{3,\} => Rep(a, 3, None)
 basic a\{,3\} => BadInterval at 1
 basic a\{1, 2\} => BadInterval at 1
 basic ^\{1\} => NothingToRepeat at 1
-basic a\(*\)* => Cat(a, Rep(*, 0, None))
-basic a.b => Cat(Cat(a, {0-255,}), b)
+basic a\(*\)* => Cat(a, Rep(*, 0, None))",
+    r"basic a.b => Cat(Cat(a, {0-255,}), b)
 basic {}()+?] => Cat(Cat(Cat(Cat(Cat(Cat({, }), (), )), +), ?), ])
 basic $a^ => Cat(Cat($, a), ^)
 extended  => Empty
@@ -59,8 +60,8 @@ extended {x => BadInterval at 0
 extended a|b|c => Alt(Alt(a, b), c)
 extended a|b* => Alt(a, Rep(b, 0, None))
 extended (a|) => EmptyOperand at 3
-extended a| => EmptyOperand at 2
-extended a||b => EmptyOperand at 2
+extended a| => EmptyOperand at 2",
+    r"extended a||b => EmptyOperand at 2
 extended a|*b => NothingToRepeat at 2
 extended a^b => Cat(Cat(a, Begin), b)
 extended $* => Rep(End, 0, None)
@@ -75,8 +76,8 @@ basic,extended [[:foo:]] => BadClass at 1
 basic,extended [[:foo:] => UnmatchedBracket at 0
 basic,extended [a-c-e] => BadRange at 1
 basic,extended [[.ab.]] => BadCollating at 1
-basic,extended [a => UnmatchedBracket at 0
-basic,extended [%25--] => {37-45,}
+basic,extended [a => UnmatchedBracket at 0",
+    r"basic,extended [%25--] => {37-45,}
 basic,extended [--@] => {45-64,}
 basic,extended [a-] => {45,97,}
 basic,extended [[.].]] => ]
@@ -91,8 +92,8 @@ basic,extended [z-[.ab.]] => BadCollating at 3
 basic,extended [a-[.ab.]-z] => BadRange at 1
 basic,extended [a-[=b=]] => BadRange at 1
 basic,extended [[=a=][.-.]b] => {45,97-98,}
-basic,extended [[.a.]-[.c.]] => {97-99,}
-basic,extended [\.*[] => {42,46,91-92,}
+basic,extended [[.a.]-[.c.]] => {97-99,}",
+    r"basic,extended [\.*[] => {42,46,91-92,}
 basic,extended [a-c-] => {45,97-99,}
 basic,extended [^-a] => {0-44,46-96,98-255,}
 basic,extended [^] => UnmatchedBracket at 0
@@ -107,7 +108,8 @@ basic-folded,extended-folded 1. => Cat(1, {0-255,})
 fixed  => Empty
 fixed-folded a => {65,97,}
 fixed [*\ => Cat(Cat([, *), \)
-fixed-folded b%0A( => Cat(Cat({66,98,}, {10,}), ()";
+fixed-folded b%0A( => Cat(Cat({66,98,}, {10,}), ()",
+];
 
 /// Parsers, a text in parts, and what is wanted of it.
 const LARGE: &str = r"extended (:100 a:1 ):100 => a
@@ -178,7 +180,9 @@ pub(crate) fn expression(rt: &impl Abort, alloc: Global, parser: &str, text: &st
 
 #[test]
 fn expressions(rt: HostRuntime) {
-    assert_rows(&rt, rt.alloc(), Question::Expression, EXPRESSIONS);
+    for rows in EXPRESSIONS {
+        assert_rows(&rt, rt.alloc(), Question::Expression, rows);
+    }
 }
 
 pub(crate) fn large_text(rt: &impl Abort, alloc: Global, parser: &str, parts: &str) -> String {
