@@ -3,7 +3,7 @@ ghost use Rattle.std.specs.Prelude.{◌≡◌, ◌<◌, ◌≤◌, length, IfOk}
 
 use pg_board::{Board, Drawn, Seat};
 use refusing::Refusing;
-use std::alloc::{AllocError, Global};
+use std::alloc::{AllocError, Allocator, Global};
 use std::sync::atomic::{AtomicU64, Ordering};
 use std::thread;
 use std::thread::Threads;
@@ -91,9 +91,12 @@ fn four_threads_draw_each_number_once(rt: HostRuntime) {
 }
 
 /// Opens a board of two numbers, draws one, and closes it. Answers what was drawn, up to where, and how many requests
-/// for memory the draw and the close made.
-fn draw_one(heap: &Refusing) -> Result<(Option<u32>, Drawn, u64), AllocError> {
-    let (board, mut seats) = Board::open(heap, 2, 2)?;
+/// for memory the draw and the close made. `alloc` is the heap that counts them.
+fn draw_one<A: Allocator + Copy>(
+    alloc: A,
+    heap: &Refusing,
+) -> Result<(Option<u32>, Drawn, u64), AllocError> {
+    let (board, mut seats) = Board::open(alloc, 2, 2)?;
     let requests = heap.requests();
     let drawn = board.draw(&mut seats[1]);
     let all = board.close(seats);
@@ -104,7 +107,7 @@ fn draw_one(heap: &Refusing) -> Result<(Option<u32>, Drawn, u64), AllocError> {
 fn each_request_of_a_board_may_be_refused(rt: HostRuntime) {
     for passes in 0..100u64 {
         let heap = Refusing::new(rt.alloc(), passes);
-        let drawn = draw_one(&heap);
+        let drawn = draw_one(&heap, &heap);
         assert!(rt; drawn.is_err() == heap.has_refused(), "at {passes}");
         if let Ok(drawn) = drawn {
             assert!(rt; drawn == (Some(0), Drawn { upto: 1 }, 0));

@@ -63,11 +63,7 @@ root/a/empty =>
 root/a/up/up => root/a/up/up/b";
 
 /// The kinds of what stands at a path, where `root` stands for the root, and behind its links.
-fn kinds_at<R: Files + AllocGlobal + Clone + Drop>(
-    rt: &R,
-    root: &str,
-    path: &str,
-) -> Result<String, AllocError> {
+fn kinds_at(rt: &HostRuntime, root: &str, path: &str) -> Result<String, AllocError> {
     let tree = DiskTree::new(rt);
     let path = path.replace(rt.alloc(), "root", root)?;
     let kind = tree.kind(path.as_str(), false);
@@ -76,30 +72,27 @@ fn kinds_at<R: Files + AllocGlobal + Clone + Drop>(
 }
 
 /// What a walk over operands gives, where `root` stands for the root.
-fn walked_below<R: Files + AllocGlobal + Clone + Drop>(
-    rt: &R,
-    root: &str,
-    operands: &str,
-) -> Result<String, AllocError> {
+fn walked_below(rt: &HostRuntime, root: &str, operands: &str) -> Result<String, AllocError> {
     let operands = operands.replace(rt.alloc(), "root", root)?;
     let got = walked(rt.alloc(), &DiskTree::new(rt), operands.as_str(), true)?;
     got.replace(rt.alloc(), root, "root")
 }
 
 /// Whether the entries of a file can be asked for.
-fn has_entries<R: Files + AllocGlobal + Clone + Drop>(
-    rt: &R,
-    root: &str,
-) -> Result<bool, AllocError> {
+fn has_entries(rt: &HostRuntime, root: &str) -> Result<bool, AllocError> {
     let file = format!(in rt.alloc(); "{root}/a.txt")?;
     Ok(DiskTree::new(rt).entries(rt.alloc(), file.as_str()).is_ok())
 }
 
-/// Asks for kinds below the root, and walks.
-fn look_around<R: Files + AllocGlobal + Abort + Clone + Drop>(rt: &R, root: &str) {
-    assert_rows(rt, KINDS, |path: &str| kinds_at(rt, root, path));
-    assert_rows(rt, WALKS, |operands: &str| walked_below(rt, root, operands));
-    assert!(rt; !has_entries(rt, root).expect(rt, "memory"));
+/// Asks the system for kinds below the root, and walks.
+fn look_around(rt: &impl Abort, system: &HostRuntime, root: &str) {
+    assert_rows(rt, KINDS, |path: &str| kinds_at(system, root, path));
+    assert_rows(
+        rt,
+        WALKS,
+        |operands: &str| walked_below(system, root, operands),
+    );
+    assert!(rt; !has_entries(system, root).expect(rt, "memory"));
 }
 
 /// The path of a new directory's place, which is the test's own.
@@ -117,7 +110,7 @@ fn a_directory_of_the_system(rt: HostRuntime) -> Result<(), Fail> {
     let descriptor = reader.as_raw_fd();
     let pipe = format!(in rt.alloc(); "/proc/self/fd/{descriptor}")?;
     make_tree(&rt, root.as_str(), pipe.as_str())?;
-    look_around(&rt, root.as_str());
+    look_around(&rt, &rt, root.as_str());
     fs::remove_dir_all(&rt, root.as_str())?;
     Ok(())
 }

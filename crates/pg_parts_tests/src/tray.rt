@@ -235,9 +235,13 @@ struct Seen {
     requests: u64,
 }
 
-/// Puts 100 numbers into a tray, takes one, and closes it.
-fn put_into_tray<R: Wait>(rt: &R, heap: &Refusing) -> Result<Seen, AllocError> {
-    let (tray, mut passes, mut take) = Tray::open(heap, 2)?;
+/// Puts 100 numbers into a tray, takes one, and closes it. `alloc` is the heap that counts the requests.
+fn put_into_tray<R: Wait, A: Allocator + Copy>(
+    rt: &R,
+    alloc: A,
+    heap: &Refusing,
+) -> Result<Seen, AllocError> {
+    let (tray, mut passes, mut take) = Tray::open(alloc, 2)?;
     let refused = put_numbers(rt, &tray, &mut passes[1]);
     let made = heap.requests();
     let taken = tray.take(rt, &mut take);
@@ -262,7 +266,7 @@ fn is_right(seen: Seen, has_refused: bool) -> bool {
 fn each_request_of_a_tray_may_be_refused(rt: HostRuntime) {
     for requests in 0..100u64 {
         let heap = Refusing::new(rt.alloc(), requests);
-        match put_into_tray(&rt, &heap) {
+        match put_into_tray(&rt, &heap, &heap) {
             Ok(seen) => {
                 assert!(rt; is_right(seen, heap.has_refused()), "at {requests}");
                 if seen.refused == 0 {
