@@ -72,7 +72,8 @@ spread() {
 means() {
   awk '{ count[$1]++; sum[$1] += log($2 / $3) } END {
     for (workers in count) {
-      printf "geometric mean of %d ratios by %d workers: %.2f\n", count[workers], workers, exp(sum[workers] / count[workers])
+      mean = exp(sum[workers] / count[workers])
+      printf "geometric mean of %d ratios by %d workers: %.2f\n", count[workers], workers, mean
     }
   }' "$folder/times" | sort
 }

@@ -1,5 +1,6 @@
 -- Lines that hold literals, and which of them are selected.
-use Rattle.std.proofs.Common.{◌≡◌, ◌≢◌, ℕ, zero, suc, ◌+◌, ◌-◌, ◌<◌, ◌≤◌, ◌^◌, ◌⊎◌, inl, inr, Bool, true, false, List, [], ◌∷◌}
+use Rattle.std.proofs.Common.{◌≡◌, ◌≢◌, ℕ, zero, suc, ◌+◌, ◌-◌, ◌<◌, ◌≤◌, ◌^◌, ◌⊎◌, inl, inr, Bool, true, false, List}
+use Rattle.std.proofs.Common.{[], ◌∷◌}
 use Rattle.std.proofs.Common.{◌++◌, length, take, drop, slice_range, refl, sym, ap, ◌∙◌, subst, arith, append_assoc, length-append}
 use Rattle.std.specs.List.{AllByRecursion, Any}
 use Rattle.std.proofs.lemmas.List.{take-append-drop, drop-drop, drop_at, take_at, append-nil, length-take-le}
@@ -159,7 +160,8 @@ module _ (text : SearchText) (trees : List Pattern) (spelled : AreTreesOf text t
         unselected = all_lines-append q false is.skipped more whole is.unselected none;
       }
     where
-      stop_within : {from' : ℕ} {xs : List ℕ} {found' : Candidate} (f : IsFirstWith text.fold end_of literals from' xs found')
+      stop_within : {from' : ℕ} {xs : List ℕ} {found' : Candidate}
+          (f : IsFirstWith text.fold end_of literals from' xs found')
           → f.stop ≤ length xs
       stop_within {from'} {xs} {found'} f =
           let all = ap length f.is.joins in
@@ -172,7 +174,8 @@ module _ (text : SearchText) (trees : List Pattern) (spelled : AreTreesOf text t
             f.is.len,
           )
 
-      none_left : {from' : ℕ} {xs : List ℕ} {found' : Candidate} (f : IsFirstWith text.fold end_of literals from' xs found')
+      none_left : {from' : ℕ} {xs : List ℕ} {found' : Candidate}
+          (f : IsFirstWith text.fold end_of literals from' xs found')
           → xs ≡ [] → f.is.text ≡ []
       none_left {from'} {xs} {found'} f e =
           let all = ap length f.is.joins in
@@ -226,7 +229,8 @@ module _ (fold : Bool) (E : ℕ) (literals : List LiteralData) (at : ℕ) (bytes
       )
 
   -- the line among the bytes
-  pub first_line : lines E (slice_range bytes found.line.start found.line.end) ≡ text_found fold E literals at rest found first ∷ []
+  pub first_line : lines E (slice_range bytes found.line.start found.line.end)
+      ≡ text_found fold E literals at rest found first ∷ []
   first_line =
       let is = first.is in
       let len : found.line.end - found.line.start ≡ length is.text = omega (arith, first.starts, first.ends, is.len) in

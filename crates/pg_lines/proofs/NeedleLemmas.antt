@@ -1,5 +1,6 @@
 -- Where needles stand.
-use Rattle.std.proofs.Common.{◌≡◌, ◌<◌, ◌≤◌, ◌+◌, ◌-◌, ◌⊎◌, ℕ, zero, suc, Bool, true, false, Option, Some, None, inl, inr}
+use Rattle.std.proofs.Common.{◌≡◌, ◌<◌, ◌≤◌, ◌+◌, ◌-◌, ◌⊎◌, ℕ, zero, suc, Bool, true, false, Option, Some, None, inl}
+use Rattle.std.proofs.Common.{inr}
 use Rattle.std.proofs.Common.{List, [], ◌∷◌, length, get_or, set, map, take, drop, cond, refl, sym, ap, ◌∙◌, subst}
 use Rattle.std.proofs.Common.{arith, length-drop}
 use Rattle.std.specs.Option.{IfSome, IsSomeAnd}
@@ -131,7 +132,8 @@ of_needle needles l among =
     (h.1, (h.0, h.2, h.3), h.4)
 
 -- the literal of a needle is among those of all
-to_literal : (needles : List Needle) (n : Needle) → Contains needles n → Contains (map literal_of needles) (literal_of n)
+to_literal : (needles : List Needle) (n : Needle) → Contains needles n
+    → Contains (map literal_of needles) (literal_of n)
 to_literal needles n among = (
   among.0,
   omega (arith, among.1, length-map needles literal_of),
@@ -167,7 +169,8 @@ needles_behind text bytes at needles None are within = tt
 needles_behind text bytes at needles (Some line) are within =
     needles_later text bytes at line.end needles (omega (arith, within.0, within.1)) are
 
-module _ (fold : Bool) (bytes searched : List ℕ) (at : ℕ) (needles : List Needle) (is : searched ≡ as_searched fold bytes)
+module _ (fold : Bool) (bytes searched : List ℕ) (at : ℕ) (needles : List Needle)
+    (is : searched ≡ as_searched fold bytes)
     (within : at ≤ length bytes) (ahead : All (IsAhead searched at) needles) where
   -- a place in what stands behind one
   whole_place : (p : List ℕ) (k : ℕ) → OccursAt (as_searched fold (drop at bytes)) p k → OccursAt searched p (at + k)
@@ -205,7 +208,8 @@ module _ (fold : Bool) (bytes searched : List ℕ) (at : ℕ) (needles : List Ne
       let P : LiteralData → Type 0 = λ m. OccursAt (as_searched fold (drop at bytes)) m.text k in
       let here = whole_place n.0.finder k (subst P (sym n.2) o) in
       let next = (All-contains (IsAhead searched at) needles n.0 ahead n.1).first (at + k) (omega arith) here in
-      let far = not_before place.at (at + k) n.0.next (All-contains (IsBefore (Some place)) needles n.0 least n.1) next in
+      let far = not_before place.at (at + k) n.0.next
+          (All-contains (IsBefore (Some place)) needles n.0 least n.1) next in
       omega arith
     where
       not_before : (p m : ℕ) (next : Option ℕ) → IfSome next (λ n. p ≤ n) → IsSomeAnd next (λ place. place ≤ m)
@@ -223,7 +227,8 @@ module _ (fold : Bool) (bytes searched : List ℕ) (at : ℕ) (needles : List Ne
       → 0 < length (drop at bytes) → found.line.start ≡ at + start → found.line.end ≡ at + stop
       → IsFirstWith fold end (map literal_of needles) at (drop at bytes) found
       × (found.line.start < found.line.end) × (found.line.end ≤ length bytes)
-  line_of_least end place start stop found plain alone low stands least flag before clear whole behind some starts ends =
+  line_of_least end place start stop found plain alone low stands least flag before clear whole behind some starts
+      ends =
       let n = stands.1 in
       let among : Contains needles n = (stands.0, stands.2, stands.3) in
       let own = (All-contains (IsAhead searched at) needles n ahead among).stands in
@@ -238,7 +243,8 @@ module _ (fold : Bool) (bytes searched : List ℕ) (at : ℕ) (needles : List Ne
       let size = length_searched fold (drop at bytes) in
       let below = place_below (as_searched fold (drop at bytes)) n.finder k o (none (literal_of n) all)
       (omega (arith, size, some)) in
-      let sides = line_some end (drop at bytes) start k behind.0 stop before behind.1 (omega (arith, below, size)) behind.3 in (
+      let sides = line_some end (drop at bytes) start k behind.0 stop before behind.1
+          (omega (arith, below, size)) behind.3 in (
         line_around fold end literals (literal_of n) (drop at bytes) at start k stop found plain line all
             (stands.4.1 ∙ sym flag) o none before clear whole behind some starts ends,
         omega (arith, sides.0),

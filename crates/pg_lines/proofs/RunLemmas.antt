@@ -337,7 +337,8 @@ pub line_around : (fold : Bool) (end : ℕ) (literals : List LiteralData) (l : L
     → s ≤ k → IsClear end bytes s k → AreWhole end (take s bytes)
     → (e : ℕ) × (k ≤ e) × IsClear end bytes k e × Stops end bytes e stop → 0 < length bytes
     → found.line.start ≡ at + s → found.line.end ≡ at + stop → IsFirstWith fold end literals at bytes found
-line_around fold end literals l bytes at s k stop found plain alone among flag o none low before front h some starts ends =
+line_around fold end literals l bytes at s k stop found plain alone among flag o none low before front h some starts
+    ends =
     let size = length_searched fold bytes in
     let clear : IsClear end bytes s h.0 =
     λ i from to. elim (cases_lt i k) [ inl below ↦ before i from below | inr above ↦ h.2 i above to ] in

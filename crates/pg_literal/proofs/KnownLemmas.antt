@@ -1,6 +1,7 @@
 -- What is known of some patterns in a row, with one more in front.
 use Rattle.std.proofs.Common.{ℕ, zero, suc, ◌≡◌, ◌<◌, ◌≤◌, ◌+◌, Bool, List, [], ◌∷◌, ◌++◌, length, get_or, reverse}
-use Rattle.std.proofs.Common.{IsTrue, true, false, Option, None, Some, inl, inr, refl, sym, ap, ◌∙◌, subst, arith, append_assoc}
+use Rattle.std.proofs.Common.{IsTrue, true, false, Option, None, Some, inl, inr, refl, sym, ap, ◌∙◌, subst, arith}
+use Rattle.std.proofs.Common.{append_assoc}
 use Rattle.std.specs.Prelude.{slice_get, IfSome}
 use Rattle.std.proofs.lemmas.Bool.{false≢true}
 use Rattle.std.proofs.lemmas.List.{reverse-append, length_push}
@@ -211,7 +212,8 @@ module _ {A : Type 0} (fold : Bool) where
   pub extends_set : (set : Bytes) (rest whole : Known A) → Hides false rest whole → ((b : ℕ) → IsAlone fold set b → ⊥)
       → Extends fold (Set set) rest whole
   unfolding Shape
-  extends_set set rest whole hides none = extends_hidden false rest whole hides (Set set) (λ is. absurd (false≢true is)) (λ text s.
+  extends_set set rest whole hides none = extends_hidden false rest whole hides (Set set) (λ is. absurd (false≢true is))
+      (λ text s.
       let is = shape s in
       let b = byte_as_searched fold is.0 in
       none b (subst (λ t. IsAlone fold t b) (sym is.2) (folded_alone fold is.0)))

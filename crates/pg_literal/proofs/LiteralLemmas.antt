@@ -4,7 +4,8 @@ use Rattle.std.proofs.Common.{reverse, map, take}
 use Rattle.std.proofs.Common.{IsTrue, inl, inr, refl, sym, ap, ◌∙◌, subst, arith, append_assoc}
 use Rattle.std.specs.List.{Contains, Any as AnyOf, All, AllZip}
 use Rattle.std.proofs.lemmas.Bool.{cases_lt}
-use Rattle.std.proofs.lemmas.List.{append-nil, get_or-map, get_or_default, length-map, length-take-le, map-append, map_more}
+use Rattle.std.proofs.lemmas.List.{append-nil, get_or-map, get_or_default, length-map, length-take-le, map-append}
+use Rattle.std.proofs.lemmas.List.{map_more}
 use Rattle.std.proofs.lemmas.List.Elements.{All-append, All-weaker, All-cons, All-nil}
 use Rattle.std.proofs.lemmas.List.Elements.{Contains-append_left, Contains-append_right}
 use Rattle.memchr.specs.Find.{OccursAt}
@@ -29,7 +30,8 @@ the_only p q zero less is = sym is
 the_only p q (suc k) less is = absurd (omega arith)
 
 -- the pattern of a hit of one alone
-alone_matched : (p : Pattern) (bounds : Bounds) (line : List ℕ) (i j : ℕ) → Hit (p ∷ []) bounds line i j → Match p line i j
+alone_matched : (p : Pattern) (bounds : Bounds) (line : List ℕ) (i j : ℕ) → Hit (p ∷ []) bounds line i j
+    → Match p line i j
 alone_matched p bounds line i j hit =
     let m = hit.matched in
     subst (λ q. Match q line i j) (the_only p m.0 m.1.0 m.1.1 m.1.2) m.2
@@ -67,7 +69,8 @@ hit_of_all ps p bounds line among hit =
     (i, j, with_pattern (p ∷ []) ps p bounds line i j hit.2 among (alone_matched p bounds line i j hit.2))
 
 -- what is enough for one pattern is for all
-pub enough_for_all : {A : Type 0} (fold : Bool) (ps : List Pattern) (p : Pattern) (bounds : Bounds) (ls : List (Literal A))
+pub enough_for_all : {A : Type 0} (fold : Bool) (ps : List Pattern) (p : Pattern) (bounds : Bounds)
+    (ls : List (Literal A))
     → Contains ps p → AreEnough fold (p ∷ []) bounds ls → AreEnough fold ps bounds ls
 enough_for_all {A} fold ps p bounds ls among enough =
     All-weaker (λ l. IsTrue l.is_enough → IsEnough fold (p ∷ []) bounds l.text.items)
@@ -124,9 +127,11 @@ module _ {A : Type 0} (fold : Bool) (bounds : Bounds) (p q : Pattern) where
           | inr h ↦ any_front (Held line) second.added first.added (second.needed line h)
         ];
         enough = All-append (Enough (Alt p q)) second.added first.added
-            (All-weaker (Enough q) (Enough (Alt p q)) (λ l says yes line held. hit_of_second bounds p q line (says yes line held))
+            (All-weaker (Enough q) (Enough (Alt p q))
+                (λ l says yes line held. hit_of_second bounds p q line (says yes line held))
             second.added second.enough)
-            (All-weaker (Enough p) (Enough (Alt p q)) (λ l says yes line held. hit_of_first bounds p q line (says yes line held))
+            (All-weaker (Enough p) (Enough (Alt p q))
+                (λ l says yes line held. hit_of_first bounds p q line (says yes line held))
             first.added first.enough);
         fixed = λ text spells any. absurd (alt_unspelled fold p q text spells);
       }
@@ -229,7 +234,8 @@ texts_counted : {A : Type 0} (wanted : List (List ℕ)) (ls : List (Literal A)) 
 texts_counted wanted ls are = sym (length-map ls (λ l. l.text.items)) ∙ ap length are.texts
 
 -- pairs are as many on both sides
-pub zip_length : {X Y : Type 0} (R : X → Y → Type 0) (xs : List X) (ys : List Y) → AllZip R xs ys → length xs ≡ length ys
+pub zip_length : {X Y : Type 0} (R : X → Y → Type 0) (xs : List X) (ys : List Y) → AllZip R xs ys
+    → length xs ≡ length ys
 zip_length R [] [] h = refl
 zip_length R [] (y ∷ ys) h = absurd h
 zip_length R (x ∷ xs) [] h = absurd h
@@ -292,7 +298,8 @@ module _ {A : Type 0} (fold : Bool) (bounds : Bounds) (ps : List Pattern) (i : �
 
   -- one more fixed string is its literal
   pub texts_more : (texts : List (List ℕ)) → AllZip (Spells Fixed fold) texts ps → bounds ≡ Any
-      → AreTexts (map (as_searched fold) (take i texts)) old → AreTexts (map (as_searched fold) (take (i + 1) texts)) new
+      → AreTexts (map (as_searched fold) (take i texts)) old
+      → AreTexts (map (as_searched fold) (take (i + 1) texts)) new
   texts_more texts spelled any are =
       let Text : Literal A → List ℕ = λ l. l.text.items in
       let Yes : Literal A → Type 0 = λ l. IsTrue l.is_enough in

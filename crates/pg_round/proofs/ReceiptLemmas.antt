@@ -1,5 +1,6 @@
 -- Results that were received one after another.
-use Rattle.std.proofs.Common.{◌≡◌, ℕ, ◌<◌, false, List, [], ◌∷◌, ◌++◌, refl, sym, ap, ◌∙◌, subst, append_assoc, append-nil, Result, Ok, Err, OnOk, OnErr, IsErrOf}
+use Rattle.std.proofs.Common.{◌≡◌, ℕ, ◌<◌, false, List, [], ◌∷◌, ◌++◌, refl, sym, ap, ◌∙◌, subst, append_assoc}
+use Rattle.std.proofs.Common.{append-nil, Result, Ok, Err, OnOk, OnErr, IsErrOf}
 use Rattle.std.specs.declared.sync.Arc.{Arc}
 use Rattle.pg_lines.specs.Blocks.{BlockData}
 use Rattle.pg_lines.specs.Search.{SearchText}

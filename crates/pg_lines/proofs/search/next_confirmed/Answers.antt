@@ -9,7 +9,8 @@ use Rattle.pg_lines.proofs.CandidateLemmas.{skipped_all, skipped_some, skipped_m
 use Rattle.pg_lines.proofs.CandidateLemmas.{first_selected, first_enough, first_short, found_text}
 use Rattle.pg_lines.proofs.NeedleLemmas.{needles_later, needles_behind}
 use Rattle.pg_lines.proofs.search.next_confirmed.Goals as goal
-use Rattle.pg_lines.proofs.search.next_confirmed.Goals.{then-found-via-then-found, then-found-via-else-found+then-has_hit}
+use Rattle.pg_lines.proofs.search.next_confirmed.Goals.{then-found-via-then-found}
+use Rattle.pg_lines.proofs.search.next_confirmed.Goals.{then-found-via-else-found+then-has_hit}
 
 pub returns-in_default-clause-none : goal.returns-in_default-clause-none
 returns-in_default-clause-none g c = λ trees spelled.
@@ -102,7 +103,8 @@ loop-in_vain-preserved g c =
 
 pub returns-clause-needles : goal.returns-clause-needles
 returns-clause-needles g c =
-    needles_behind c.args.query.now.text c.args.bytes.now c.loop-in_vain.from c.loop-in_vain.needles c.next_matched.result
+    needles_behind c.args.query.now.text c.args.bytes.now c.loop-in_vain.from c.loop-in_vain.needles
+        c.next_matched.result
     c.loop-in_vain.invariant.needles c.next_matched.ensures.within
 
 pub returns-clause-some : goal.returns-clause-some

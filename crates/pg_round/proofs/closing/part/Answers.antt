@@ -62,7 +62,11 @@ push_reserved-requires g c =
 
 pub push_reserved-requires-in-Some : goal.push_reserved-requires-in-Some
 push_reserved-requires-in-Some g c =
-    let i = c.loop-worker.invariant in let a = i.count in let e = i.same in let b = c.in-Some.ensures.cases in let d = i.room.1 in
+    let i = c.loop-worker.invariant in
+    let a = i.count in
+    let e = i.same in
+    let b = c.in-Some.ensures.cases in
+    let d = i.room.1 in
     omega arith
 
 pub returns-in_err-seats : goal.returns-in_err-seats
@@ -86,7 +90,8 @@ returns g c =
     let i = c.loop-worker.invariant in let n = c.in_default.ensures.cases in
     record {
       works = i.works;
-      spent = ⊎_elim (λ some. any_none WasSpent c.loop-worker.workers.items some (omega (arith, c.loop-worker.workers.ok.0))) (λ done. done) i.spent;
+      spent = ⊎_elim (λ some. any_none WasSpent c.loop-worker.workers.items some
+          (omega (arith, c.loop-worker.workers.ok.0))) (λ done. done) i.spent;
       len = (let a = i.count in omega arith);
       fits = i.fits;
       count = (let a = i.back in omega arith);

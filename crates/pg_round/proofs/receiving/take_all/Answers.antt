@@ -44,7 +44,8 @@ loop-preserved-then-not-step g c =
       tray = took.tray.0;
       workers = took.tray.1 ∙ i.workers;
       failures = i.failures;
-      got = λ past st n s. subst (λ (l : List Searched). HasReceived (g.S.Collector.stands c.loop.collector) past l (g.W.Sink.taken c.args.out.now) (g.W.Sink.taken c.loop.out)) (sym took.none) (i.got past st n s);
+      got = λ past st n s. subst (λ (l : List Searched). HasReceived (g.S.Collector.stands c.loop.collector) past l
+          (g.W.Sink.taken c.args.out.now) (g.W.Sink.taken c.loop.out)) (sym took.none) (i.got past st n s);
       ready = c.step.ensures.ready;
       read = λ r f h. c.step.ensures.reaches r f (i.read r f h);
     }
@@ -58,7 +59,8 @@ loop-preserved g c =
       tray = took.tray.0;
       workers = took.tray.1 ∙ i.workers;
       failures = i.failures;
-      got = λ past st n s. subst (λ (l : List Searched). HasReceived (g.S.Collector.stands c.loop.collector) past l (g.W.Sink.taken c.args.out.now) (g.W.Sink.taken c.loop.out)) (sym took.none) (i.got past st n s);
+      got = λ past st n s. subst (λ (l : List Searched). HasReceived (g.S.Collector.stands c.loop.collector) past l
+          (g.W.Sink.taken c.args.out.now) (g.W.Sink.taken c.loop.out)) (sym took.none) (i.got past st n s);
       ready = c.step.ensures.ready;
       read = λ r f h. c.step.ensures.reaches r f (i.read r f h);
     }
@@ -69,7 +71,8 @@ returns-then-ended g c =
     let took = c.in-None-take.ensures in
     record {
       same = (took.tray.0, took.tray.1 ∙ i.workers);
-      ok = λ past st n s. subst (λ (l : List Searched). HasReceived (g.S.Collector.stands c.loop.collector) past l (g.W.Sink.taken c.args.out.now) (g.W.Sink.taken c.loop.out)) (sym took.none) (i.got past st n s);
+      ok = λ past st n s. subst (λ (l : List Searched). HasReceived (g.S.Collector.stands c.loop.collector) past l
+          (g.W.Sink.taken c.args.out.now) (g.W.Sink.taken c.loop.out)) (sym took.none) (i.got past st n s);
       err = λ past st n s. tt;
       calm = i.failures;
       ready = i.ready;
@@ -86,7 +89,8 @@ returns-in_err-receive-in-Some-take g c =
       same = (took.tray.0, took.tray.1 ∙ i.workers);
       ok = λ past st n s. tt;
       err = λ past st n s.
-          broken_more (g.S.Collector.stands c.loop.collector) past c.loop.take.taken b (g.W.Sink.taken c.loop.out) a (g.W.Sink.failures c.args.out.now) (g.W.Sink.failures c.loop.out) (g.W.Sink.failures c.receive.new.out)
+          broken_more (g.S.Collector.stands c.loop.collector) past c.loop.take.taken b (g.W.Sink.taken c.loop.out) a
+              (g.W.Sink.failures c.args.out.now) (g.W.Sink.failures c.loop.out) (g.W.Sink.failures c.receive.new.out)
           (i.got past st n s) i.failures (λ p h m e. c.in_err-receive-in-Some-take.ensures.err p h m) n;
       calm = tt;
       ready = i.ready;

@@ -42,7 +42,9 @@ returns-in_err-all g c =
       spent = tt;
       same = e.same;
       ok = λ past st n s. tt;
-      err = λ past st n s. failed_after (g.S.Collector.stands c.search_beside.new.collector) past c.search_beside.new.take.taken (g.W.Sink.taken c.args.out.now) (g.W.Sink.taken c.search_beside.new.out) (e.ok past st n s);
+      err = λ past st n s. failed_after (g.S.Collector.stands c.search_beside.new.collector) past
+          c.search_beside.new.take.taken (g.W.Sink.taken c.args.out.now) (g.W.Sink.taken c.search_beside.new.out)
+          (e.ok past st n s);
       cause = λ past st n s is. absurd (cc is);
       calm = tt;
       ready = e.ready;

@@ -12,7 +12,8 @@ returns-then-is_empty g c =
     record {
       worked = (refl, c.requires.worked);
       same = (c.requires.take.0, refl);
-      ok = λ past st n s. subst (λ (l : List Searched). HasReceived stands past l w w) (sym c.requires.take.1) (received_none stands past w st s);
+      ok = λ past st n s. subst (λ (l : List Searched). HasReceived stands past l w w) (sym c.requires.take.1)
+          (received_none stands past w st s);
       err = λ past st n s. tt;
       cause = λ past st n s is. absurd (cc is);
       calm = refl;
@@ -24,15 +25,19 @@ pub returns-in_err-taken : goal.returns-in_err-taken
 unfolding HasGoneOn
 returns-in_err-taken g c =
     let p = err_from_is_err_and c.from_residual.result c.from_residual.ensures.1 in
-    let e = c.stream-back.ensures in let stands = g.S.Collector.stands c.args.collector.now in let last = g.S.Collector.stands c.stream-back.new.collector in
+    let e = c.stream-back.ensures in
+    let stands = g.S.Collector.stands c.args.collector.now in
+    let last = g.S.Collector.stands c.stream-back.new.collector in
     let b = g.W.Sink.taken c.args.out.now in let a = g.W.Sink.taken c.stream-back.new.out in
     let f = g.W.Sink.failures c.args.out.now in let f' = g.W.Sink.failures c.stream-back.new.out in
     rw (p.1, p.2) (record {
       worked = tt;
       same = e.same;
       ok = λ past st n s. tt;
-      err = λ past st n s. (took_err c.stream-back.result.1 _ stands last c.stream-back.new.take.taken b a f f' e.took c.in_err-taken.was past st n s).0;
-      cause = λ past st n s is. (took_err c.stream-back.result.1 _ stands last c.stream-back.new.take.taken b a f f' e.took c.in_err-taken.was past st n s).1;
+      err = λ past st n s. (took_err c.stream-back.result.1 _ stands last c.stream-back.new.take.taken b a f f' e.took
+          c.in_err-taken.was past st n s).0;
+      cause = λ past st n s is. (took_err c.stream-back.result.1 _ stands last c.stream-back.new.take.taken b a f f'
+          e.took c.in_err-taken.was past st n s).1;
       calm = tt;
       ready = e.ready;
       read = λ r f h. e.read r f h;
@@ -42,7 +47,9 @@ pub returns-in_err-back : goal.returns-in_err-back
 unfolding HasGoneOn
 returns-in_err-back g c =
     let p = err_from_is_err_and c.from_residual-in_err-back.result c.from_residual-in_err-back.ensures.1 in
-    let e = c.stream-back.ensures in let stands = g.S.Collector.stands c.args.collector.now in let last = g.S.Collector.stands c.stream-back.new.collector in
+    let e = c.stream-back.ensures in
+    let stands = g.S.Collector.stands c.args.collector.now in
+    let last = g.S.Collector.stands c.stream-back.new.collector in
     let b = g.W.Sink.taken c.args.out.now in let a = g.W.Sink.taken c.stream-back.new.out in
     let f = g.W.Sink.failures c.args.out.now in let f' = g.W.Sink.failures c.stream-back.new.out in
     rw (p.1, p.2) (record {
@@ -51,7 +58,8 @@ returns-in_err-back g c =
       ok = λ past st n s. tt;
       err = λ past st n s.
           failed_after last past c.stream-back.new.take.taken b a
-          (took_ok c.stream-back.result.1 c.in_ok-taken.field-0 stands last c.stream-back.new.take.taken b a f f' e.took c.in_ok-taken.was past st n s);
+          (took_ok c.stream-back.result.1 c.in_ok-taken.field-0 stands last c.stream-back.new.take.taken b a f f' e.took
+              c.in_ok-taken.was past st n s);
       cause = λ past st n s is. absurd (cc is);
       calm = tt;
       ready = e.ready;
@@ -67,8 +75,10 @@ returns-clause-same g c = c.stream-back.ensures.same
 pub returns-clause-ok : goal.returns-clause-ok
 returns-clause-ok g c = λ past st n s.
     let b = g.W.Sink.taken c.args.out.now in let a = g.W.Sink.taken c.stream-back.new.out in
-    took_ok c.stream-back.result.1 c.in_ok-taken.field-0 (g.S.Collector.stands c.args.collector.now) (g.S.Collector.stands c.stream-back.new.collector) c.stream-back.new.take.taken b a
-    (g.W.Sink.failures c.args.out.now) (g.W.Sink.failures c.stream-back.new.out) c.stream-back.ensures.took c.in_ok-taken.was past st n s
+    took_ok c.stream-back.result.1 c.in_ok-taken.field-0 (g.S.Collector.stands c.args.collector.now)
+        (g.S.Collector.stands c.stream-back.new.collector) c.stream-back.new.take.taken b a
+    (g.W.Sink.failures c.args.out.now) (g.W.Sink.failures c.stream-back.new.out) c.stream-back.ensures.took
+        c.in_ok-taken.was past st n s
 
 pub returns-clause-err : goal.returns-clause-err
 returns-clause-err g c = λ past st n s. tt

@@ -8,7 +8,10 @@ use Rattle.pg_round.proofs.ReceiptLemmas.{broken_more, failed_none, failed_after
 use Rattle.pg_round.proofs.searching.search_round.Goals as goal
 
 pub open_round-requires-clause-few : goal.open_round-requires-clause-few
-open_round-requires-clause-few g c = let n = c.count_workers-count.ensures in let l = c.len.ensures in (n.0, n.1, omega arith, c.requires.few.2)
+open_round-requires-clause-few g c =
+    let n = c.count_workers-count.ensures in
+    let l = c.len.ensures in
+    (n.0, n.1, omega arith, c.requires.few.2)
 
 pub open_round-requires-clause-fits : goal.open_round-requires-clause-fits
 open_round-requires-clause-fits g c = c.requires.fits
@@ -22,7 +25,8 @@ close_round-requires-clause-spent g c = (c.in_ok-workers.ensures.spent, sym c.in
 pub close_round-requires-clause-all : goal.close_round-requires-clause-all
 close_round-requires-clause-all g c =
     let opened = c.in_ok-board.ensures in let back = c.in_ok-workers.ensures in
-    (back.worked.0 ∙ opened.workers.0 ∙ sym opened.board.1, back.worked.0 ∙ opened.workers.0 ∙ sym (back.same.1 ∙ ap (λ t. t.workers) opened.take), back.same.0)
+    (back.worked.0 ∙ opened.workers.0 ∙ sym opened.board.1, back.worked.0 ∙ opened.workers.0
+        ∙ sym (back.same.1 ∙ ap (λ t. t.workers) opened.take), back.same.0)
 
 pub close_round-requires-clause-fits : goal.close_round-requires-clause-fits
 close_round-requires-clause-fits g c = c.in_ok-board.ensures.scratches.0
@@ -63,7 +67,9 @@ returns-in_err-delivered g c =
     let e = c.in_ok-workers.ensures in
     rw (p.1, p.2) (record {
       ok = λ past st n s. tt;
-      err = λ past st n s. failed_after (g.S.Collector.stands c.search_all.new.collector) past c.search_all.new.take.taken (g.W.Sink.taken c.args.out.now) (g.W.Sink.taken c.search_all.new.out) (e.ok past st n s);
+      err = λ past st n s. failed_after (g.S.Collector.stands c.search_all.new.collector) past
+          c.search_all.new.take.taken (g.W.Sink.taken c.args.out.now) (g.W.Sink.taken c.search_all.new.out)
+          (e.ok past st n s);
       cause = λ past st n s is. absurd (cc is);
       calm = tt;
       ready = e.ready;
@@ -77,11 +83,15 @@ returns-in_err-deliver g c =
     let b = g.W.Sink.taken c.args.out.now in let m = g.W.Sink.taken c.search_all.new.out in let a = g.W.Sink.taken c.deliver.new.out in
     let e = c.in_ok-workers.ensures in
     let mid = g.S.Collector.stands c.search_all.new.collector in let taken = c.search_all.new.take.taken in
-    let f = g.W.Sink.failures c.args.out.now in let f' = g.W.Sink.failures c.search_all.new.out in let f'' = g.W.Sink.failures c.deliver.new.out in
+    let f = g.W.Sink.failures c.args.out.now in
+    let f' = g.W.Sink.failures c.search_all.new.out in
+    let f'' = g.W.Sink.failures c.deliver.new.out in
     rw (p.1, p.2) (record {
       ok = λ past st n s. tt;
-      err = λ past st n s. (broken_more mid past taken b m a f f' f'' (e.ok past st n s) e.calm c.in_err-deliver.ensures.err n).0;
-      cause = λ past st n s is. (broken_more mid past taken b m a f f' f'' (e.ok past st n s) e.calm c.in_err-deliver.ensures.err n).1;
+      err = λ past st n s. (broken_more mid past taken b m a f f' f'' (e.ok past st n s) e.calm
+          c.in_err-deliver.ensures.err n).0;
+      cause = λ past st n s is. (broken_more mid past taken b m a f f' f'' (e.ok past st n s) e.calm
+          c.in_err-deliver.ensures.err n).1;
       calm = tt;
       ready = e.ready;
       read = e.read;
@@ -98,8 +108,10 @@ returns g c =
     let back = e.worked.0 in let given = c.in_ok-delivered.ensures.count in
     record {
       ok = λ past st n s.
-          round_done mid last past (arc_value c.args.query.now).text c.args.blocks.now left.lists c.search_all.new.take.taken b m a c.in_ok-delivered.ensures.all (e.ok past st n s)
-          (λ p h f i. subst (λ (l : List Searched). HasDelivered last p left.lists l m a) c.in_ok-delivered.ensures.taken (c.in_ok-deliver.ensures.ok p h f i)) n;
+          round_done mid last past (arc_value c.args.query.now).text c.args.blocks.now left.lists
+              c.search_all.new.take.taken b m a c.in_ok-delivered.ensures.all (e.ok past st n s)
+          (λ p h f i. subst (λ (l : List Searched). HasDelivered last p left.lists l m a)
+              c.in_ok-delivered.ensures.taken (c.in_ok-deliver.ensures.ok p h f i)) n;
       err = λ past st n s. tt;
       cause = λ past st n s is. absurd (cc is);
       calm = c.in_ok-deliver.ensures.calm ∙ e.calm;

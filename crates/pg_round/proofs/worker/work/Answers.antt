@@ -52,7 +52,9 @@ returns-in_default-put g c =
       same = (c.draw.ensures.board, c.put.ensures.tray);
       fits = c.search_block-found.ensures.fits;
       ok = tt;
-      err = grow_short (task_of c.args.round) c.args.seat.now.drawn c.loop.seat.drawn c.draw.new.seat.drawn c.args.pass.now.put c.loop.pass.put c.put.new.pass.put c.in-Some-draw.number i.5 c.in-Some-draw.ensures.some.2 c.in_default-put.ensures.err.1;
+      err = grow_short (task_of c.args.round) c.args.seat.now.drawn c.loop.seat.drawn c.draw.new.seat.drawn
+          c.args.pass.now.put c.loop.pass.put c.put.new.pass.put c.in-Some-draw.number i.5 c.in-Some-draw.ensures.some.2
+          c.in_default-put.ensures.err.1;
     }
 
 pub returns-in_err-block : goal.returns-in_err-block
@@ -63,7 +65,9 @@ returns-in_err-block g c =
       same = (c.draw.ensures.board, i.3);
       fits = i.4;
       ok = tt;
-      err = grow_short (task_of c.args.round) c.args.seat.now.drawn c.loop.seat.drawn c.draw.new.seat.drawn c.args.pass.now.put c.loop.pass.put c.loop.pass.put c.in-Some-draw.number i.5 c.in-Some-draw.ensures.some.2 refl;
+      err = grow_short (task_of c.args.round) c.args.seat.now.drawn c.loop.seat.drawn c.draw.new.seat.drawn
+          c.args.pass.now.put c.loop.pass.put c.loop.pass.put c.in-Some-draw.number i.5 c.in-Some-draw.ensures.some.2
+          refl;
     })
 
 pub returns-in_err-found : goal.returns-in_err-found
@@ -74,5 +78,7 @@ returns-in_err-found g c =
       same = (c.draw.ensures.board, i.3);
       fits = c.search_block-found.ensures.fits;
       ok = tt;
-      err = grow_short (task_of c.args.round) c.args.seat.now.drawn c.loop.seat.drawn c.draw.new.seat.drawn c.args.pass.now.put c.loop.pass.put c.loop.pass.put c.in-Some-draw.number i.5 c.in-Some-draw.ensures.some.2 refl;
+      err = grow_short (task_of c.args.round) c.args.seat.now.drawn c.loop.seat.drawn c.draw.new.seat.drawn
+          c.args.pass.now.put c.loop.pass.put c.loop.pass.put c.in-Some-draw.number i.5 c.in-Some-draw.ensures.some.2
+          refl;
     })

@@ -16,7 +16,8 @@ returns-then-not-found-clause-fixed g c = λ texts spelled few any.
     let at = pattern_among pattern trees i tree c.loop-tree-test.true c.tree-item.is in
     let room = text_fits c.args.fold ps texts spelled i (pattern tree) below at c.loop-tree.literals.items few
     (c.loop-tree.invariant.fixed texts spelled few any) in
-    let yes = c.in_ok-found.ensures.fixed (get_or texts i []) (text_spells c.args.fold ps texts spelled i (pattern tree) below at)
+    let yes = c.in_ok-found.ensures.fixed (get_or texts i [])
+        (text_spells c.args.fold ps texts spelled i (pattern tree) below at)
     any room in
     absurd (search (rules, yes))
 
