@@ -209,7 +209,7 @@ module _ (fold : Bool) (bytes searched : List ℕ) (at : ℕ) (needles : List Ne
       let here = whole_place n.0.finder k (subst P (sym n.2) o) in
       let next = (All-contains (IsAhead searched at) needles n.0 ahead n.1).first (at + k) (omega arith) here in
       let far = not_before place.at (at + k) n.0.next
-          (All-contains (IsBefore (Some place)) needles n.0 least n.1) next in
+      (All-contains (IsBefore (Some place)) needles n.0 least n.1) next in
       omega arith
     where
       not_before : (p m : ℕ) (next : Option ℕ) → IfSome next (λ n. p ≤ n) → IsSomeAnd next (λ place. place ≤ m)
@@ -244,7 +244,7 @@ module _ (fold : Bool) (bytes searched : List ℕ) (at : ℕ) (needles : List Ne
       let below = place_below (as_searched fold (drop at bytes)) n.finder k o (none (literal_of n) all)
       (omega (arith, size, some)) in
       let sides = line_some end (drop at bytes) start k behind.0 stop before behind.1
-          (omega (arith, below, size)) behind.3 in (
+      (omega (arith, below, size)) behind.3 in (
         line_around fold end literals (literal_of n) (drop at bytes) at start k stop found plain line all
             (stands.4.1 ∙ sym flag) o none before clear whole behind some starts ends,
         omega (arith, sides.0),

@@ -128,10 +128,10 @@ module _ {A : Type 0} (fold : Bool) (bounds : Bounds) (p q : Pattern) where
         ];
         enough = All-append (Enough (Alt p q)) second.added first.added
             (All-weaker (Enough q) (Enough (Alt p q))
-                (λ l says yes line held. hit_of_second bounds p q line (says yes line held))
+            (λ l says yes line held. hit_of_second bounds p q line (says yes line held))
             second.added second.enough)
             (All-weaker (Enough p) (Enough (Alt p q))
-                (λ l says yes line held. hit_of_first bounds p q line (says yes line held))
+            (λ l says yes line held. hit_of_first bounds p q line (says yes line held))
             first.added first.enough);
         fixed = λ text spells any. absurd (alt_unspelled fold p q text spells);
       }

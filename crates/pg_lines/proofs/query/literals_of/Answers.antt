@@ -18,7 +18,7 @@ returns-then-are_within_lines g c =
     × P.AreEnough f trees b literals in
     let found = c.in_ok-literals.ensures in
     let says = subst (Says text.fold) c.bounds.ensures
-        (subst (λ f. Says f c.bounds.result) fold (found.needed, found.enough)) in
+    (subst (λ f. Says f c.bounds.result) fold (found.needed, found.enough)) in
     let Alone : List (Literal g.row.A.Denot) → Type 0 = λ ls. All (λ l. IsLine (terminator_of text) l.text.items) ls in
     let none = c.are_within_lines.ensures (search rules) in
     let alone = subst Alone c.deref.ensures.value (subst (λ e. All (λ l. IsLine e l.text.items) c.deref.result.now)

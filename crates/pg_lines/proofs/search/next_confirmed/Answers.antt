@@ -104,7 +104,7 @@ loop-in_vain-preserved g c =
 pub returns-clause-needles : goal.returns-clause-needles
 returns-clause-needles g c =
     needles_behind c.args.query.now.text c.args.bytes.now c.loop-in_vain.from c.loop-in_vain.needles
-        c.next_matched.result
+    c.next_matched.result
     c.loop-in_vain.invariant.needles c.next_matched.ensures.within
 
 pub returns-clause-some : goal.returns-clause-some

@@ -39,7 +39,7 @@ pub returns-then-least-eq0 : goal.returns-then-least-eq0
 returns-then-least-eq0 g t c =
     c.loop-tree.invariant.whole _
     (rw (pattern-rep _ _ _ _ c.in-Rep.is) (extends_rep c.args.fold _ _ _ _ _ (search rules)
-        c.hidden-then-least-eq0.ensures))
+    c.hidden-then-least-eq0.ensures))
 
 pub loop-tree-preserved : goal.loop-tree-preserved
 loop-tree-preserved g t c =

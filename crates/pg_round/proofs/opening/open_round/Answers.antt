@@ -15,7 +15,7 @@ gather-requires-clause-seats g c =
     let new = seat_view c.in_ok-board.board [] false in
     let IsNew : SeatView → Type 0 = λ s. s ≡ new in
     subst (λ (l : List SeatView). All IsNew l) (sym c.in_ok-board.ensures.seats)
-        (all_copies IsNew c.args.count new refl)
+    (all_copies IsNew c.args.count new refl)
 
 pub gather-requires-clause-passes : goal.gather-requires-clause-passes
 gather-requires-clause-passes g c =
@@ -23,7 +23,7 @@ gather-requires-clause-passes g c =
     let IsNew : PutView Searched g.row.A.Denot → Type 0 = λ p. p ≡ new in
     let passes = length_copies c.in_ok-tray.passes.items c.args.count new c.in_ok-tray.ensures.passes in
     let seats = length_copies c.in_ok-board.seats.items c.args.count (seat_view c.in_ok-board.board [] false)
-        c.in_ok-board.ensures.seats in (
+    c.in_ok-board.ensures.seats in (
       subst (λ (l : List (PutView Searched g.row.A.Denot)). All IsNew l) (sym c.in_ok-tray.ensures.passes)
           (all_copies IsNew c.args.count new refl),
       omega (arith, c.in_ok-board.seats.ok.0, c.in_ok-tray.passes.ok.0),
@@ -32,14 +32,14 @@ gather-requires-clause-passes g c =
 pub gather-requires-clause-scratches : goal.gather-requires-clause-scratches
 gather-requires-clause-scratches g c =
     let seats = length_copies c.in_ok-board.seats.items c.args.count (seat_view c.in_ok-board.board [] false)
-        c.in_ok-board.ensures.seats in
+    c.in_ok-board.ensures.seats in
     let few = c.requires.few.2 in
     (c.requires.fits, omega (arith, c.in_ok-board.seats.ok.0))
 
 pub returns : goal.returns
 returns g c =
     let seats = length_copies c.in_ok-board.seats.items c.args.count (seat_view c.in_ok-board.board [] false)
-        c.in_ok-board.ensures.seats in
+    c.in_ok-board.ensures.seats in
     let all = c.in_ok-workers.ensures.workers in let left = c.in_ok-workers.ensures.scratches in
     let many = all.1 in let rest = left.1 in
     record {

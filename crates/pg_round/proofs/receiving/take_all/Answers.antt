@@ -90,7 +90,7 @@ returns-in_err-receive-in-Some-take g c =
       ok = λ past st n s. tt;
       err = λ past st n s.
           broken_more (g.S.Collector.stands c.loop.collector) past c.loop.take.taken b (g.W.Sink.taken c.loop.out) a
-              (g.W.Sink.failures c.args.out.now) (g.W.Sink.failures c.loop.out) (g.W.Sink.failures c.receive.new.out)
+          (g.W.Sink.failures c.args.out.now) (g.W.Sink.failures c.loop.out) (g.W.Sink.failures c.receive.new.out)
           (i.got past st n s) i.failures (λ p h m e. c.in_err-receive-in-Some-take.ensures.err p h m) n;
       calm = tt;
       ready = i.ready;

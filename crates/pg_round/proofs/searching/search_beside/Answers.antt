@@ -59,7 +59,7 @@ returns-in_err-back g c =
       err = λ past st n s.
           failed_after last past c.stream-back.new.take.taken b a
           (took_ok c.stream-back.result.1 c.in_ok-taken.field-0 stands last c.stream-back.new.take.taken b a f f' e.took
-              c.in_ok-taken.was past st n s);
+          c.in_ok-taken.was past st n s);
       cause = λ past st n s is. absurd (cc is);
       calm = tt;
       ready = e.ready;
@@ -76,9 +76,9 @@ pub returns-clause-ok : goal.returns-clause-ok
 returns-clause-ok g c = λ past st n s.
     let b = g.W.Sink.taken c.args.out.now in let a = g.W.Sink.taken c.stream-back.new.out in
     took_ok c.stream-back.result.1 c.in_ok-taken.field-0 (g.S.Collector.stands c.args.collector.now)
-        (g.S.Collector.stands c.stream-back.new.collector) c.stream-back.new.take.taken b a
+    (g.S.Collector.stands c.stream-back.new.collector) c.stream-back.new.take.taken b a
     (g.W.Sink.failures c.args.out.now) (g.W.Sink.failures c.stream-back.new.out) c.stream-back.ensures.took
-        c.in_ok-taken.was past st n s
+    c.in_ok-taken.was past st n s
 
 pub returns-clause-err : goal.returns-clause-err
 returns-clause-err g c = λ past st n s. tt

@@ -24,9 +24,12 @@ close_round-requires-clause-spent g c = (c.in_ok-workers.ensures.spent, sym c.in
 
 pub close_round-requires-clause-all : goal.close_round-requires-clause-all
 close_round-requires-clause-all g c =
-    let opened = c.in_ok-board.ensures in let back = c.in_ok-workers.ensures in
-    (back.worked.0 ∙ opened.workers.0 ∙ sym opened.board.1, back.worked.0 ∙ opened.workers.0
-        ∙ sym (back.same.1 ∙ ap (λ t. t.workers) opened.take), back.same.0)
+    let opened = c.in_ok-board.ensures in let back = c.in_ok-workers.ensures in (
+      back.worked.0 ∙ opened.workers.0 ∙ sym opened.board.1,
+      back.worked.0 ∙ opened.workers.0
+          ∙ sym (back.same.1 ∙ ap (λ t. t.workers) opened.take),
+      back.same.0,
+    )
 
 pub close_round-requires-clause-fits : goal.close_round-requires-clause-fits
 close_round-requires-clause-fits g c = c.in_ok-board.ensures.scratches.0
@@ -109,9 +112,9 @@ returns g c =
     record {
       ok = λ past st n s.
           round_done mid last past (arc_value c.args.query.now).text c.args.blocks.now left.lists
-              c.search_all.new.take.taken b m a c.in_ok-delivered.ensures.all (e.ok past st n s)
+          c.search_all.new.take.taken b m a c.in_ok-delivered.ensures.all (e.ok past st n s)
           (λ p h f i. subst (λ (l : List Searched). HasDelivered last p left.lists l m a)
-              c.in_ok-delivered.ensures.taken (c.in_ok-deliver.ensures.ok p h f i)) n;
+          c.in_ok-delivered.ensures.taken (c.in_ok-deliver.ensures.ok p h f i)) n;
       err = λ past st n s. tt;
       cause = λ past st n s is. absurd (cc is);
       calm = c.in_ok-deliver.ensures.calm ∙ e.calm;

@@ -17,7 +17,7 @@ returns-then-not-found-clause-fixed g c = λ texts spelled few any.
     let room = text_fits c.args.fold ps texts spelled i (pattern tree) below at c.loop-tree.literals.items few
     (c.loop-tree.invariant.fixed texts spelled few any) in
     let yes = c.in_ok-found.ensures.fixed (get_or texts i [])
-        (text_spells c.args.fold ps texts spelled i (pattern tree) below at)
+    (text_spells c.args.fold ps texts spelled i (pattern tree) below at)
     any room in
     absurd (search (rules, yes))
 
