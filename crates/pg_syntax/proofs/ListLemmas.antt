@@ -7,6 +7,8 @@ use Rattle.pg_syntax.specs.PatternLists.{Patterns, split, patterns_in, patterns}
 use Rattle.pg_syntax.specs.Lines.{lines}
 use Rattle.pg_syntax.specs.Slices.{bytes_of, last_line}
 use Rattle.pg_syntax.specs.Patterns.{Pattern}
+use Rattle.pg_syntax.specs.Trees.{pattern}
+use Rattle.pg_syntax.specs.declared.tree.Tree.{Tree}
 use Rattle.pg_syntax.specs.Places.{Place}
 use Rattle.pg_syntax.specs.Results.{IsSpelled, IsFault, out_of_memory}
 use Rattle.pg_syntax.specs.ListResults.{AreSpelled, IsListFault}
@@ -82,6 +84,14 @@ spelled-more kind fold [] [] text p h s = (s, tt)
 spelled-more kind fold [] (q ∷ trees) text p h s = absurd h
 spelled-more kind fold (t ∷ texts) [] text p h s = absurd h
 spelled-more kind fold (t ∷ texts) (q ∷ trees) text p h s = (h.0, spelled-more kind fold texts trees text p h.1 s)
+
+-- the tree of one more text
+pub trees-more : {A : Type 0} (kind : Kind) (fold : Bool) (texts : List (Bor (List ℕ))) (i : ℕ) (d : Bor (List ℕ)) (trees new : List (Tree A)) (tree : Tree A) → i < length texts → new ≡ trees ++ tree ∷ [] → AreSpelled kind fold (bytes_of (take i texts)) (map pattern trees) → IsSpelled kind fold (get_or texts i d).now (pattern tree) → AreSpelled kind fold (bytes_of (take (i + 1) texts)) (map pattern new)
+trees-more {A} kind fold texts i d trees new tree h e spelled s =
+    let pushed : map pattern new ≡ map pattern trees ++ pattern tree ∷ [] = ap (map pattern) e ∙ map-push pattern trees tree in
+    subst (AreSpelled kind fold (bytes_of (take (i + 1) texts))) (sym pushed)
+    (subst (λ ts. AreSpelled kind fold ts (map pattern trees ++ pattern tree ∷ [])) (sym (texts-more texts i d h))
+    (spelled-more kind fold (bytes_of (take i texts)) (map pattern trees) (get_or texts i d).now (pattern tree) spelled s))
 
 spelled-length : (kind : Kind) (fold : Bool) (texts : List (List ℕ)) (trees : List Pattern) → AreSpelled kind fold texts trees → length trees ≡ length texts
 spelled-length kind fold [] [] h = refl

@@ -5,8 +5,9 @@ ghost use Rattle.pg_syntax.specs.Results.{IsSpelled, IsFault, too_long};
 ghost use Rattle.pg_syntax.specs.Expressions.{kind_of};
 ghost use Rattle.pg_syntax.specs.declared.pattern_list.Kind.TheVariants.{Basic, Extended, Fixed};
 ghost use Rattle.pg_syntax.specs.Grammar.{Literal};
-ghost use Rattle.pg_syntax.specs.States.{state_of};
-ghost use Rattle.pg_syntax.specs.Tokens.{token_of, Applies};
+ghost use Rattle.pg_syntax.specs.Machine.{start, after};
+ghost use Rattle.pg_syntax.specs.States.{state_of, Did};
+ghost use Rattle.pg_syntax.specs.Tokens.{token_of, blame, Applies};
 
 use crate::builder::Builder;
 use crate::fault::{FaultKind, SyntaxFault};
@@ -131,12 +132,28 @@ fn parse_some<A: Allocator + Copy>(alloc: A, source: &Source) -> Result<Tree<A>,
     ensures refused { IfErr result (λ fault. IsFault (kind_of source.now.syntax)
         source.now.fold source.now.text.now fault) }
 {
-    let len = source.text.len();
     let mut builder = Builder::new(alloc);
+    build(&mut builder, source)
+}
+
+/// The tree of an expression that isn't empty, by a builder of which nothing was read.
+fn build<A: Allocator + Copy>(
+    builder: &mut Builder<A>,
+    source: &Source,
+) -> Result<Tree<A>, SyntaxFault>
+    requires fresh { state_of builder.old ≡ start }
+    requires some { source.now.text.now ≢ [] }
+    requires short { length source.now.text.now ≤ 4096 }
+    ensures spelled { IfOk result (λ tree. IsSpelled (kind_of source.now.syntax)
+        source.now.fold source.now.text.now (pattern tree)) }
+    ensures refused { IfErr result (λ fault. IsFault (kind_of source.now.syntax)
+        source.now.fold source.now.text.now fault) }
+{
+    let len = source.text.len();
     let mut at = 0;
     while at < len {
-        let (token, next) = source.token(&builder, at)?;
-        apply(&mut builder, token, at)?;
+        let (token, next) = source.token(builder, at)?;
+        apply(builder, token, at)?;
         at = next;
     }
     if builder.has_group() {
@@ -163,43 +180,37 @@ fn apply<A: Allocator + Copy>(
     ensures { Applies result
         (token_of token) (state_of builder.old) (state_of builder.new) at }
 {
-    match token {
-        Token::Set(set) => builder.push(Tree::Set(set))?,
-        Token::Begin => builder.push_anchor(Tree::Begin)?,
-        Token::LastEnd => builder.push_anchor(Tree::End)?,
-        Token::End => builder.push(Tree::End)?,
-        Token::Repeat(least, most) => {
-            if !builder.repeat(least, most)? {
-                return Err(SyntaxFault {
-                    kind: FaultKind::NothingToRepeat,
-                    at,
-                });
-            }
-        }
-        Token::Open => {
-            if !builder.open()? {
-                return Err(SyntaxFault {
-                    kind: FaultKind::TooDeep,
-                    at,
-                });
-            }
-        }
-        Token::Close => {
-            if !builder.close()? {
-                return Err(SyntaxFault {
-                    kind: FaultKind::EmptyOperand,
-                    at,
-                });
-            }
-        }
-        Token::Bar => {
-            if !builder.bar()? {
-                return Err(SyntaxFault {
-                    kind: FaultKind::EmptyOperand,
-                    at,
-                });
-            }
-        }
+    let kind = blame(token);
+    if !step(builder, token)? {
+        return Err(SyntaxFault { kind, at });
     }
     Ok(())
+}
+
+/// The fault of a token that can't come where it stands; sets and anchors can come anywhere.
+fn blame(token: Token) -> FaultKind
+    ensures { result ≡ blame (token_of token) }
+{
+    match token {
+        Token::Repeat(_, _) => FaultKind::NothingToRepeat,
+        Token::Open => FaultKind::TooDeep,
+        Token::Close | Token::Bar => FaultKind::EmptyOperand,
+        _ => FaultKind::OutOfMemory,
+    }
+}
+
+/// Goes on with a token, if it can come where it stands.
+fn step<A: Allocator + Copy>(builder: &mut Builder<A>, token: Token) -> Result<bool, AllocError>
+    ensures { Did result (after (token_of token) (state_of builder.old)) (state_of builder.new) }
+{
+    match token {
+        Token::Set(set) => builder.push(Tree::Set(set)).and(Ok(true)),
+        Token::Begin => builder.push_anchor(Tree::Begin).and(Ok(true)),
+        Token::LastEnd => builder.push_anchor(Tree::End).and(Ok(true)),
+        Token::End => builder.push(Tree::End).and(Ok(true)),
+        Token::Repeat(least, most) => builder.repeat(least, most),
+        Token::Open => builder.open(),
+        Token::Close => builder.close(),
+        Token::Bar => builder.bar(),
+    }
 }

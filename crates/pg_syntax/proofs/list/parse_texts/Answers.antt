@@ -1,8 +1,7 @@
-use Rattle.std.proofs.Common.{◌≡◌, ◌+◌, ◌++◌, ◌∷◌, [], length, map, take, sym, ap, ◌∙◌, subst, arith}
+use Rattle.std.proofs.Common.{◌≡◌, ◌+◌, length, map, arith}
 use Rattle.pg_syntax.specs.Trees.{pattern}
 use Rattle.pg_syntax.specs.Slices.{bytes_of}
-use Rattle.pg_syntax.specs.ListResults.{AreSpelled}
-use Rattle.pg_syntax.proofs.ListLemmas.{map-push, texts-more, spelled-more, memory-refused, first-refused}
+use Rattle.pg_syntax.proofs.ListLemmas.{trees-more, memory-refused, first-refused}
 use Rattle.std.proofs.lemmas.List.{length-map}
 use Rattle.pg_syntax.proofs.list.parse_texts.Goals as goal
 use Rattle.pg_syntax.proofs.list.parse_texts.Goals.{in-OutOfMemory, in_default}
@@ -20,11 +19,4 @@ returns-in-Err-clause-refused g c =
 
 pub loop-text-preserved : goal.loop-text-preserved
 loop-text-preserved g c =
-    let texts = c.args.texts.now in
-    let i = c.loop-text.text-index in
-    let trees = map pattern c.loop-text.trees.items in
-    let tree = c.in-Ok.tree in
-    let pushed : map pattern c.push.new.self.items ≡ trees ++ pattern tree ∷ [] = ap (map pattern) c.in_ok-push-in-Ok.ensures.items ∙ map-push pattern c.loop-text.trees.items tree in
-    subst (AreSpelled c.args.kind c.args.fold (bytes_of (take (i + 1) texts))) (sym pushed)
-    (subst (λ ts. AreSpelled c.args.kind c.args.fold ts (trees ++ pattern tree ∷ [])) (sym (texts-more texts i _ c.loop-text-test.true))
-    (spelled-more c.args.kind c.args.fold (bytes_of (take i texts)) trees _ (pattern tree) c.loop-text.invariant c.in-Ok.ensures.spelled))
+    trees-more c.args.kind c.args.fold c.args.texts.now c.loop-text.text-index _ c.loop-text.trees.items c.push.new.self.items c.in-Ok.tree c.loop-text-test.true c.in_ok-push-in-Ok.ensures.items c.loop-text.invariant c.in-Ok.ensures.spelled

@@ -2,7 +2,7 @@ use Rattle.std.proofs.Common.{◌≡◌, ◌-◌, ◌≤◌, length, drop}
 use Rattle.pg_syntax.specs.Machine.{Leads}
 use Rattle.pg_syntax.specs.States.{state_of}
 use Rattle.pg_syntax.proofs.TokenLoop.{Keeps}
-use Rattle.pg_syntax.proofs.parser.parse_some.Given as goal
+use Rattle.pg_syntax.proofs.parser.build.Given as goal
 
 abbrev pub invariant-loop-at : goal.invariant-loop-at
 invariant-loop-at g l = record {

@@ -7,7 +7,7 @@ use Rattle.pg_syntax.specs.States.{state_of}
 use Rattle.pg_syntax.specs.Tokens.{token_of}
 use Rattle.pg_syntax.proofs.TokenLoop.{Keeps, keeps_on, leads_on, no_token_fault, refused_token, in_group}
 use Rattle.pg_syntax.proofs.TokenLoop.{empty_operand, finished, nonempty_drop}
-use Rattle.pg_syntax.proofs.parser.parse_some.Goals as goal
+use Rattle.pg_syntax.proofs.parser.build.Goals as goal
 
 pub returns-in_err-token-clause-refused : goal.returns-in_err-token-clause-refused
 returns-in_err-token-clause-refused g c =
@@ -34,8 +34,8 @@ loop-at-init g c =
     record {
       within = omega arith;
       whole = refl;
-      keeps = subst (λ s. Keeps syntax fold text s text) (sym c.new-builder.ensures) (λ p. (λ x. x, λ x. x));
-      leads = subst (λ s. Leads syntax fold text s text) (sym c.new-builder.ensures) begin;
+      keeps = subst (λ s. Keeps syntax fold text s text) (sym c.requires.fresh) (λ p. (λ x. x, λ x. x));
+      leads = subst (λ s. Leads syntax fold text s text) (sym c.requires.fresh) begin;
     }
 
 pub loop-at-preserved : goal.loop-at-preserved
@@ -69,8 +69,8 @@ returns-in-Some-clause-spelled g c =
     (subst (λ y. Keeps c.args.source.now.syntax c.args.source.now.fold text (state_of c.loop-at.builder) y)
     (drop_all c.loop-at.at text (omega arith)) c.loop-at.invariant.keeps)
 
-pub returns-clause-refused : goal.returns-clause-refused
-returns-clause-refused g c =
+pub returns-in-None-clause-refused : goal.returns-in-None-clause-refused
+returns-in-None-clause-refused g c =
     let text = c.args.source.now.text.now in
     let w = c.in_ok-tree.ensures in
     inr (empty_operand _ _ text (state_of c.loop-at.builder) c.requires.short c.requires.some
