@@ -1,5 +1,5 @@
 //! Patterns as trees.
-ghost use Rattle.std.specs.Prelude.{◌≡◌, ◌↔◌, IsTrue, IfOk};
+ghost use Rattle.std.specs.Prelude.{◌≡◌, ◌≤◌, ◌↔◌, false, IsTrue, IfOk, IfSome};
 ghost use Rattle.pg_syntax.specs.Patterns.{IsProper, Cat, Alt};
 ghost use Rattle.pg_syntax.specs.Trees.{pattern};
 
@@ -59,16 +59,25 @@ impl<A: Allocator> Tree<A> {
                     }
                     first
                 }
-                Tree::Rep(inner, least, Some(most)) => {
-                    if least > most {
+                Tree::Rep(inner, least, most) => {
+                    if is_above(*least, *most) {
                         return false;
                     }
                     inner
                 }
-                Tree::Rep(inner, _, None) => inner,
                 Tree::Empty | Tree::Set(_) | Tree::Begin | Tree::End => return true,
             };
         }
+    }
+}
+
+/// Whether a least count is above the greatest, where there is one.
+fn is_above(least: u8, most: Option<u8>) -> bool
+    ensures { result ≡ false ↔ IfSome most (λ most. least ≤ most) }
+{
+    match most {
+        Some(most) => least > most,
+        None => false,
     }
 }
 
