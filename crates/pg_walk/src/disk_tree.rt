@@ -3,6 +3,7 @@ ghost use Rattle.std.specs.Prelude.{None};
 
 use crate::tree::{FileKind, FileTree, Listing, LookFault};
 use std::alloc::{AllocError, Allocator};
+use std::fs::{DirEntry, ReadDir};
 use std::rt::Files;
 use std::{fs, io};
 
@@ -39,6 +40,32 @@ fn push_name<A: Allocator + Copy>(
     Ok(())
 }
 
+/// Adds an entry's name, or that it isn't UTF-8.
+fn push_entry<A: Allocator + Copy, R: Files + Drop, B: Allocator>(
+    alloc: A,
+    entry: io::Result<DirEntry<R, B>>,
+    listing: &mut Listing<A>,
+) -> Result<(), LookFault> {
+    match entry {
+        Ok(entry) => push_name(alloc, entry.file_name(), &mut listing.names)?,
+        Err(error) if error.kind() == io::ErrorKind::InvalidFilename => listing.nameless = true,
+        Err(error) => return Err(look_fault(&error)),
+    }
+    Ok(())
+}
+
+/// Adds the names of all entries.
+fn push_all<A: Allocator + Copy, R: Files + Clone + Drop, B: Allocator + Clone>(
+    alloc: A,
+    entries: ReadDir<R, B>,
+    listing: &mut Listing<A>,
+) -> Result<(), LookFault> {
+    for entry in entries {
+        push_entry(alloc, entry, listing)?;
+    }
+    Ok(())
+}
+
 impl<R: Files + Drop> FileTree for DiskTree<R> {
     ghost tells = { λ _. ⊥ };
 
@@ -63,20 +90,14 @@ impl<R: Files + Drop> FileTree for DiskTree<R> {
     }
 
     fn entries<A: Allocator + Copy>(&self, alloc: A, path: &str) -> Result<Listing<A>, LookFault> {
-        let entries = match fs::read_dir(&(&self.rt, &alloc), path) {
-            Ok(entries) => entries,
-            Err(error) => return Err(look_fault(&error)),
+        let mut listing = Listing {
+            names: Vec::new(alloc),
+            nameless: false,
         };
-        let mut names = Vec::new(alloc);
-        let mut nameless = false;
-        for entry in entries {
-            match entry {
-                Ok(entry) => push_name(alloc, entry.file_name(), &mut names)?,
-                // The name of one entry isn't UTF-8.
-                Err(error) if error.kind() == io::ErrorKind::InvalidFilename => nameless = true,
-                Err(error) => return Err(look_fault(&error)),
-            }
+        match fs::read_dir(&(&self.rt, &alloc), path) {
+            Ok(entries) => push_all(alloc, entries, &mut listing)?,
+            Err(error) => return Err(look_fault(&error)),
         }
-        Ok(Listing { names, nameless })
+        Ok(listing)
     }
 }
