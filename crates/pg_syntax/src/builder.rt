@@ -89,13 +89,6 @@ impl<A: Allocator + Copy> Level<A> {
         }
     }
 
-    /// The level's tree, and `None` where its last alternative is empty.
-    fn into_whole(mut self, alloc: A) -> Result<Option<Tree<A>>, AllocError>
-        ensures { IfOk result (λ t. pattern_of t ≡ whole (level_of self)) }
-    {
-        self.take_whole(alloc)
-    }
-
     /// Goes on with an item.
     fn push(&mut self, alloc: A, tree: Tree<A>) -> Result<(), AllocError>
         ensures { OnOk result (level_of self.new ≡ with_item (pattern tree) (level_of self.old)) }
@@ -185,14 +178,14 @@ impl<A: Allocator + Copy> Builder<A> {
     pub(crate) fn close(&mut self) -> Result<bool, AllocError>
         ensures { Did result (after Close (state_of self.old)) (state_of self.new) }
     {
-        let Some(level) = self.outer.pop() else {
+        let Some(mut level) = self.outer.pop() else {
             return Ok(false);
         };
-        let group = mem::replace(&mut self.level, level);
-        let Some(tree) = group.into_whole(self.alloc)? else {
+        let Some(tree) = self.level.take_whole(self.alloc)? else {
             return Ok(false);
         };
-        self.level.push(self.alloc, tree)?;
+        level.push(self.alloc, tree)?;
+        self.level = level;
         Ok(true)
     }
 

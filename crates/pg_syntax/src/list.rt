@@ -60,33 +60,16 @@ fn push_texts<'a, A: Allocator + Copy>(
         (bytes_of texts.new.items ≡ bytes_of texts.old.items ++ patterns_in (patterns_of list.now)) }
 {
     match list {
-        PatternList::Text(text) => push_split(texts, text.as_slice()),
-        PatternList::Lines(bytes) => push_lines(texts, bytes.as_slice()),
-    }
-}
-
-/// Appends the texts between newlines.
-fn push_split<'a, A: Allocator + Copy>(
-    texts: &mut Vec<&'a [u8], A>,
-    text: &'a [u8],
-) -> Result<(), AllocError>
-    ensures { OnOk result (bytes_of texts.new.items ≡ bytes_of texts.old.items ++ split text.now) }
-{
-    let last = push_ended(texts, text)?;
-    texts.push(last)?;
-    Ok(())
-}
-
-/// Appends the lines of a file.
-fn push_lines<'a, A: Allocator + Copy>(
-    texts: &mut Vec<&'a [u8], A>,
-    bytes: &'a [u8],
-) -> Result<(), AllocError>
-    ensures { OnOk result (bytes_of texts.new.items ≡ bytes_of texts.old.items ++ lines 10 bytes.now) }
-{
-    let last = push_ended(texts, bytes)?;
-    if !last.is_empty() {
-        texts.push(last)?;
+        PatternList::Text(text) => {
+            let last = push_ended(texts, text.as_slice())?;
+            texts.push(last)?;
+        }
+        PatternList::Lines(bytes) => {
+            let last = push_ended(texts, bytes.as_slice())?;
+            if !last.is_empty() {
+                texts.push(last)?;
+            }
+        }
     }
     Ok(())
 }
