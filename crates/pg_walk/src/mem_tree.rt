@@ -5,7 +5,7 @@ ghost use Rattle.std.specs.String.{string_bytes};
 ghost use Rattle.pg_walk.specs.declared.tree.FileKind.TheVariants.{Directory};
 ghost use Rattle.pg_walk.specs.MemTree.{node_data, stored, node_at};
 
-use crate::tree::{FileKind, FileTree, Listing, LookFault};
+use crate::tree::{FileKind, FileTree, Listing, LookFault, push_name};
 use std::alloc::{AllocError, Allocator, Global};
 
 /// What a tree in memory answers at a path. `None` is a failure.
@@ -45,7 +45,7 @@ impl<A: Allocator + Copy> Node<A> {
     {
         let mut copies = Vec::new(alloc);
         for name in names {
-            copies.push(String::from_str(alloc, name)?)?;
+            push_name(alloc, name, &mut copies)?;
         }
         Ok(Node {
             listing: Some(Listing {
@@ -80,7 +80,7 @@ fn copy_names<A: Allocator, B: Allocator + Copy>(
 {
     let mut copies = Vec::new(alloc);
     for name in names {
-        copies.push(String::from_str(alloc, name.as_str())?)?;
+        push_name(alloc, name.as_str(), &mut copies)?;
     }
     Ok(copies)
 }
