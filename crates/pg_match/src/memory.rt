@@ -53,7 +53,7 @@ impl<A: Allocator> Memory<A> {
         ensures { IfOk result (λ memory. IsBlank states (remembered memory)) }
     {
         let steps = vec![in alloc; 0u32; 256 * ROWS]?;
-        let ends = Vec::from_array(alloc, [None; ROWS])?;
+        let ends = vec![in alloc; None; ROWS]?;
         let fresh = vec![in alloc; false; ROWS]?;
         let pool = vec![in alloc; 0u32; states.saturating_mul(SETS).min(POOL)]?;
         let cuts = vec![in alloc; 0u32; ROWS + 1]?;

@@ -1,8 +1,47 @@
-use Rattle.std.proofs.Common.{length, arith}
+use Rattle.std.proofs.Common.{◌≡◌, ℕ, ◌+◌, ◌*◌, ◌^◌, ◌<◌, ◌≤◌, ◌∙◌, length, arith, subst}
+use Rattle.std.proofs.Math.Nat.{mul-le-mul_left}
 use Rattle.pg_match.specs.Views.{members}
 use Rattle.pg_match.proofs.StateSetLemmas.{few}
 use Rattle.pg_match.proofs.MemoryLemmas.{visits_after}
 use Rattle.pg_match.proofs.automaton.Automaton.study.Goals as goal
+
+most_small : (l n size : ℕ) → size ≡ n → l ≤ 2 ^ 30 → n < 2 ^ 64 → l * size < 2 ^ 98
+most_small l n size same short few = let less : size ≤ 2 ^ 64 = omega arith in omega (arith, mul-le-mul_left l less)
+
+within_most : (l n size v : ℕ) → size ≡ n → l ≤ 2 ^ 30 → n < 2 ^ 64 → v ≤ l * size → v < 2 ^ 98
+within_most l n size v same short few le = let small = most_small l n size same short few in omega arith
+
+within_room : (l n size v : ℕ) → size ≡ n → l ≤ 2 ^ 30 → n < 2 ^ 64 → v ≤ l * size → v < 2 ^ 99
+within_room l n size v same short few le = let small = most_small l n size same short few in omega arith
+
+visits_whole : (l n size v w : ℕ) → size ≡ n → v ≤ l * size → w ≤ v + n → w ≤ (l + 1) * n
+visits_whole l n size v w same le more = visits_after l n size v w n same le more (omega arith)
+
+pub first-requires-clause-visits : goal.first-requires-clause-visits
+first-requires-clause-visits g c =
+    let size = c.args.self.now.states.ok.0 in
+    within_most _ (length c.args.self.now.states.items) _ _ (c.len-size.ensures ∙ size) c.requires.short (omega arith) c.if-sets-most.false
+
+pub finish-requires-clause-visits : goal.finish-requires-clause-visits
+finish-requires-clause-visits g c =
+    let size = c.args.self.now.states.ok.0 in
+    within_most _ (length c.args.self.now.states.items) _ _ (c.len-size.ensures ∙ size) c.requires.short (omega arith) c.if-sets-most-2.false
+
+pub learn-requires-clause-visits : goal.learn-requires-clause-visits
+learn-requires-clause-visits g c =
+    let size = c.args.self.now.states.ok.0 in
+    within_room _ (length c.args.self.now.states.items) _ _ (c.len-size.ensures ∙ size) c.requires.short (omega arith) c.if-sets-most-2.false
+
+pub returns-then-here-line-clause-visits : goal.returns-then-here-line-clause-visits
+returns-then-here-line-clause-visits g c =
+    visits_whole _ _ _ _ _ (c.len-size.ensures ∙ c.args.self.now.states.ok.0) c.if-sets-most-2.false c.finish.ensures.visits
+
+pub returns-in-Lost-clause-visits : goal.returns-in-Lost-clause-visits
+returns-in-Lost-clause-visits g c =
+    let u = members c.learn.new.sets.current in
+    let room = c.learn.ensures.room in
+    visits_after _ _ _ _ _ u.len (c.len-size.ensures ∙ c.args.self.now.states.ok.0) c.if-sets-most-2.false c.learn.ensures.visits
+    (subst (λ n. u.len ≤ n) room.now_size (few u room.now))
 
 pub loop-sets-preserved : goal.loop-sets-preserved
 loop-sets-preserved g c =
@@ -15,7 +54,7 @@ loop-sets-preserved g c =
       within = omega (arith, c.walk-at.ensures.within, c.if-here-line.false);
       row = c.in-Row.ensures.learned.0;
       visits = visits_after (length c.args.line.now) (length c.args.self.now.states.items) c.len-size.result c.loop-sets.sets.visits c.learn.new.sets.visits _
-          (omega (arith, c.len-size.ensures)) c.if-sets-most-2.false c.in-Row.ensures.visits (omega arith);
+          (c.len-size.ensures ∙ c.args.self.now.states.ok.0) c.if-sets-most-2.false c.in-Row.ensures.visits (omega arith);
     }
 
 pub returns-in-Hit : goal.returns-in-Hit
@@ -26,5 +65,5 @@ returns-in-Hit g c =
       room = c.learn.ensures.room;
       memory = c.learn.ensures.memory;
       visits = visits_after (length c.args.line.now) (length c.args.self.now.states.items) c.len-size.result c.loop-sets.sets.visits c.learn.new.sets.visits _
-          (omega (arith, c.len-size.ensures)) c.if-sets-most-2.false c.learn.ensures.visits (omega arith);
+          (c.len-size.ensures ∙ c.args.self.now.states.ok.0) c.if-sets-most-2.false c.learn.ensures.visits (omega arith);
     }

@@ -1,11 +1,15 @@
-use Rattle.std.proofs.Common.{◌∙◌, length, arith, refl, sym, ap, rules}
+use Rattle.std.proofs.Common.{◌≡◌, Bool, Option, None, Some, ◌∙◌, length, arith, refl, sym, rules}
 use Rattle.pg_match.proofs.MemoryLemmas.{blank_table, zeros, nones}
 use Rattle.pg_match.proofs.memory.Memory.new.Goals as goal
+
+none_only : (P : Option Bool → Type 0) → ((b : Bool) → P (Some b) → ⊥) → (y : Option Bool) → P y → y ≡ None
+none_only P other None h = refl
+none_only P other (Some b) h = absurd (other b h)
 
 pub returns : goal.returns
 returns g c =
     let s = c.in_ok-steps.ensures.items_if_clones_equal (λ y h. search rules) in
-    let l = c.in_ok-ends.ensures.items in
+    let l = c.in_ok-ends.ensures.items_if_clones_equal (none_only _ (λ b e. e)) in
     let u = c.in_ok-cuts.ensures.items_if_clones_equal (λ y h. search rules) in
     let s_ok = c.in_ok-steps.steps.ok.0 in
     let l_ok = c.in_ok-ends.ends.ok.0 in
@@ -13,6 +17,6 @@ returns g c =
     let f_ok = c.in_ok-fresh.fresh.ok.0 in
     let u_ok = c.in_ok-cuts.cuts.ok.0 in
     let zero = zeros _ 258 u in
-    blank_table c.args.states _ (omega (arith, c.in_ok-steps.ensures.len)) (ap length l) (omega (arith, c.in_ok-pool.ensures.len))
+    blank_table c.args.states _ (omega (arith, c.in_ok-steps.ensures.len)) (omega (arith, c.in_ok-ends.ensures.len)) (omega (arith, c.in_ok-pool.ensures.len))
     (omega (arith, c.in_ok-cuts.ensures.len)) (omega (arith, c.in_ok-fresh.ensures.len)) refl (zeros _ 65792 s) (nones _ 257 l)
     (zero 0 ∙ sym (zero 1)) (omega (arith, zero 1))
