@@ -7,7 +7,7 @@ use Rattle.std.proofs.lemmas.Bool.Decides.{not_from_Decides}
 use Rattle.std.proofs.lemmas.Bool.{cases_eq, cases_lt, leb-true, leb-false, ltb-true, ltb-false}
 use Rattle.pg_match.specs.Automata.{Edge, Runs, Nfa, IsRunnable}
 use Rattle.pg_match.specs.StateSets.{Members, mark, IsGood, IsEmpty, Buffers, HaveRoom}
-use Rattle.pg_match.specs.Closures.{IsClosed, AllBelow, Stepped}
+use Rattle.pg_match.specs.Closures.{IsClosed, Stepped}
 use Rattle.pg_match.specs.Bounds.{MayBegin, MayEnd, may_end}
 use Rattle.pg_match.proofs.TestLemmas.{end_decided}
 use Rattle.pg_match.specs.Hits.{Hit, HasNoNext, IsNext}

@@ -1,8 +1,45 @@
-use Rattle.std.proofs.Common.{◌≡◌, ◌<◌, ◌≤◌, ◌+◌, ◌-◌, ◌*◌, ◌^◌, ℕ, length, arith, subst}
+use Rattle.std.proofs.Common.{◌≡◌, ◌<◌, ◌≤◌, ◌+◌, ◌-◌, ◌*◌, ◌^◌, ◌∙◌, ℕ, length, arith, subst}
+use Rattle.std.proofs.Math.Nat.{mul-le-mul_left}
 use Rattle.pg_match.specs.Views.{nfa, buffers}
 use Rattle.pg_match.proofs.StateSetLemmas.{few}
 use Rattle.pg_match.proofs.SearchLemmas.{Searching, settled, searched, search_over}
 use Rattle.pg_match.proofs.automaton.Automaton.find.Goals as goal
+
+visits_small : (p from n v : ℕ) → v ≤ (p - from) * n → p ≤ 2 ^ 30 → n < 2 ^ 64 → v < 2 ^ 100
+visits_small p from n v le short few =
+    let less : n ≤ 2 ^ 64 = omega arith in
+    omega (arith, mul-le-mul_left (p - from) less)
+
+visits_last : (p l from n v w k : ℕ) → p ≤ l → v ≤ (p - from) * n → w ≡ v + k → k ≤ n → w ≤ (l + 1) * n
+visits_last p l from n v w k short le more few =
+    let turns : p - from + 1 ≤ l + 1 = omega arith in
+    omega (arith, mul-le-mul_left n turns)
+
+pub settle-best-requires-clause-visits : goal.settle-best-requires-clause-visits
+settle-best-requires-clause-visits g c =
+    let size = c.args.self.now.states.ok.0 in
+    visits_small c.loop-place.place c.args.from (length c.args.self.now.states.items) _ c.loop-place.invariant.visits
+    (omega arith) (omega arith)
+
+pub settle-requires-clause-visits : goal.settle-requires-clause-visits
+settle-requires-clause-visits g c =
+    let size = c.args.self.now.states.ok.0 in
+    visits_small c.loop-place.place c.args.from (length c.args.self.now.states.items) _ c.loop-place.invariant.visits
+    (omega arith) (omega arith)
+
+pub returns-then-sets-eq0-clause-visits : goal.returns-then-sets-eq0-clause-visits
+returns-then-sets-eq0-clause-visits g c =
+    let u = (buffers c.settle-best.new.sets).current in
+    let room = c.settle-best.ensures.room in
+    visits_last c.loop-place.place _ c.args.from _ _ _ u.len (omega arith) c.loop-place.invariant.visits
+    (c.advance.ensures.visits ∙ c.settle-best.ensures.visits) (subst (λ n. u.len ≤ n) room.now_size (few u room.now))
+
+pub returns-clause-visits : goal.returns-clause-visits
+returns-clause-visits g c =
+    let u = (buffers c.settle.new.sets).current in
+    let room = c.settle.ensures.room in
+    visits_last c.loop-place.place _ c.args.from _ _ _ u.len (omega arith) c.loop-place.invariant.visits
+    c.settle.ensures.visits (subst (λ n. u.len ≤ n) room.now_size (few u room.now))
 
 pub loop-place-preserved : goal.loop-place-preserved
 loop-place-preserved g c =

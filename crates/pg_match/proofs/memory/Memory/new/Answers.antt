@@ -1,4 +1,4 @@
-use Rattle.std.proofs.Common.{◌≡◌, Bool, Option, None, Some, ◌∙◌, length, arith, refl, sym, rules}
+use Rattle.std.proofs.Common.{◌≡◌, Bool, Option, None, Some, ◌∙◌, arith, refl, sym, rules}
 use Rattle.pg_match.proofs.MemoryLemmas.{blank_table, zeros, nones}
 use Rattle.pg_match.proofs.memory.Memory.new.Goals as goal
 
