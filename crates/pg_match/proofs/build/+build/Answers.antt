@@ -1,5 +1,4 @@
 use Rattle.std.proofs.Common.{◌≡◌, ◌+◌, ◌-◌, ◌*◌, ◌<◌, ◌≤◌, length, arith, refl, rules}
-use Rattle.std.proofs.lemmas.Result.{IfOk-from_err}
 use Rattle.pg_syntax.specs.Patterns.{Empty, Set, Begin, End, Rep}
 use Rattle.pg_syntax.specs.Trees.{pattern}
 use Rattle.pg_syntax.specs.declared.tree.Tree.{the_lemmas}
@@ -153,45 +152,3 @@ add_copies-loop-i-preserved g t c = copy_added _ _ _ _ _ _ _ _ c.loop-i.invarian
 pub add_optional-loop-i-preserved : goal.add_optional-loop-i-preserved
 add_optional-loop-i-preserved g t c =
     option_added _ _ _ _ _ _ _ _ _ _ c.loop-i.invariant c.in_ok-first.ensures c.in_ok-entry.ensures (omega arith)
-
-pub add-returns-in_err-gap-in-Cat : goal.add-returns-in_err-gap-in-Cat
-add-returns-in_err-gap-in-Cat g t c = IfOk-from_err c.from_residual.result _ c.from_residual.ensures.0
-
-pub add-returns-in_err-gap-in-Alt : goal.add-returns-in_err-gap-in-Alt
-add-returns-in_err-gap-in-Alt g t c = IfOk-from_err c.from_residual-in_err-gap-in-Alt.result _ c.from_residual-in_err-gap-in-Alt.ensures.0
-
-pub add-returns-in_err-gap-in-Rep : goal.add-returns-in_err-gap-in-Rep
-add-returns-in_err-gap-in-Rep g t c = IfOk-from_err c.from_residual-in_err-gap-in-Rep.result _ c.from_residual-in_err-gap-in-Rep.ensures.0
-
-pub open_choice-returns-in_err-other : goal.open_choice-returns-in_err-other
-open_choice-returns-in_err-other g t c = IfOk-from_err c.from_residual.result _ c.from_residual.ensures.0
-
-pub open_choice-returns-in_err-place : goal.open_choice-returns-in_err-place
-open_choice-returns-in_err-place g t c = IfOk-from_err c.from_residual-in_err-place.result _ c.from_residual-in_err-place.ensures.0
-
-pub open_repetition-returns-in_err-turn-in-None : goal.open_repetition-returns-in_err-turn-in-None
-open_repetition-returns-in_err-turn-in-None g t c = IfOk-from_err c.from_residual.result _ c.from_residual.ensures.0
-
-pub open_repetition-returns-in_err-copies-in-None : goal.open_repetition-returns-in_err-copies-in-None
-open_repetition-returns-in_err-copies-in-None g t c = IfOk-from_err c.from_residual-in_err-copies-in-None.result _ c.from_residual-in_err-copies-in-None.ensures.0
-
-pub open_repetition-returns-in_err-others-in-Some : goal.open_repetition-returns-in_err-others-in-Some
-open_repetition-returns-in_err-others-in-Some g t c = IfOk-from_err c.from_residual-in_err-others-in-Some.result _ c.from_residual-in_err-others-in-Some.ensures.0
-
-pub open_repetition-returns-in_err-place-in-Some : goal.open_repetition-returns-in_err-place-in-Some
-open_repetition-returns-in_err-place-in-Some g t c = IfOk-from_err c.from_residual-in_err-place-in-Some.result _ c.from_residual-in_err-place-in-Some.ensures.0
-
-pub open_repetition-returns-in_err-copies-in-Some : goal.open_repetition-returns-in_err-copies-in-Some
-open_repetition-returns-in_err-copies-in-Some g t c = IfOk-from_err c.from_residual-in_err-copies-in-Some.result _ c.from_residual-in_err-copies-in-Some.ensures.0
-
-pub open_repetition-returns-in_err-next-in-Some-2 : goal.open_repetition-returns-in_err-next-in-Some-2
-open_repetition-returns-in_err-next-in-Some-2 g t c = IfOk-from_err c.from_residual-in_err-next-in-Some-2.result _ c.from_residual-in_err-next-in-Some-2.ensures.0
-
-pub add_optional-returns-in_err-first : goal.add_optional-returns-in_err-first
-add_optional-returns-in_err-first g t c = IfOk-from_err c.from_residual.result _ c.from_residual.ensures.0
-
-pub add_optional-returns-in_err-entry : goal.add_optional-returns-in_err-entry
-add_optional-returns-in_err-entry g t c = IfOk-from_err c.from_residual-in_err-entry.result _ c.from_residual-in_err-entry.ensures.0
-
-pub add_copies-returns-in_err-entry : goal.add_copies-returns-in_err-entry
-add_copies-returns-in_err-entry g t c = IfOk-from_err c.from_residual.result _ c.from_residual.ensures.0

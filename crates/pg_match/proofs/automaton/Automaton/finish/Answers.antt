@@ -1,9 +1,38 @@
-use Rattle.std.proofs.Common.{◌/◌, false}
+use Rattle.std.proofs.Common.{◌≡◌, ℕ, ◌+◌, ◌≤◌, ◌/◌, false, arith, subst}
 use Rattle.pg_match.specs.Memories.{In}
 use Rattle.pg_match.specs.Steps.{Has}
 use Rattle.pg_match.specs.Views.{nfa, members, remembered}
+use Rattle.pg_match.proofs.StateSetLemmas.{few}
 use Rattle.pg_match.proofs.MemoryLemmas.{finishes_hit, finishes_end, answers_same, memory_marked_end}
 use Rattle.pg_match.proofs.automaton.Automaton.finish.Goals as goal
+
+visits_by : (n v w k : ℕ) → w ≤ v + k → k ≤ n → w ≤ v + n
+visits_by n v w k more few = omega arith
+
+visits_end : (n v w u k j : ℕ) → u ≤ v + k → w + k ≡ u + j → j ≤ n → w ≤ v + n
+visits_end n v w u k j more same few = omega arith
+
+pub returns-in-Hit-clause-visits : goal.returns-in-Hit-clause-visits
+returns-in-Hit-clause-visits g c =
+    let u = members c.learn.new.sets.current in
+    let room = c.in-Hit.ensures.room in
+    visits_by _ _ _ u.len c.in-Hit.ensures.visits (subst (λ n. u.len ≤ n) room.now_size (few u room.now))
+
+pub returns-in-Row-clause-visits : goal.returns-in-Row-clause-visits
+returns-in-Row-clause-visits g c =
+    let u = members c.learn.new.sets.current in
+    let w = members c.hits_at_end-answer.new.sets.current in
+    let room = c.hits_at_end-answer.ensures.room in
+    visits_end _ _ _ c.learn.new.sets.visits u.len w.len c.in-Row.ensures.visits c.hits_at_end-answer.ensures.visits
+    (subst (λ n. w.len ≤ n) room.now_size (few w room.now))
+
+pub returns-in-Lost-clause-visits : goal.returns-in-Lost-clause-visits
+returns-in-Lost-clause-visits g c =
+    let u = members c.learn.new.sets.current in
+    let w = members c.hits_at_end.new.sets.current in
+    let room = c.hits_at_end.ensures.room in
+    visits_end _ _ _ c.learn.new.sets.visits u.len w.len c.in-Lost.ensures.visits c.hits_at_end.ensures.visits
+    (subst (λ n. w.len ≤ n) room.now_size (few w room.now))
 
 pub returns-in-Hit-clause-finishes : goal.returns-in-Hit-clause-finishes
 returns-in-Hit-clause-finishes g c =

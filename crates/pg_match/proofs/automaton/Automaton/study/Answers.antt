@@ -20,27 +20,32 @@ visits_whole l n size v w same le more = visits_after l n size v w n same le mor
 pub first-requires-clause-visits : goal.first-requires-clause-visits
 first-requires-clause-visits g c =
     let size = c.args.self.now.states.ok.0 in
-    within_most _ (length c.args.self.now.states.items) _ _ (c.len-size.ensures ∙ size) c.requires.short (omega arith) c.if-sets-most.false
+    within_most _ (length c.args.self.now.states.items) _ _ (c.len-size.ensures ∙ size)
+    c.requires.short (omega arith) c.if-sets-most.false
 
 pub finish-requires-clause-visits : goal.finish-requires-clause-visits
 finish-requires-clause-visits g c =
     let size = c.args.self.now.states.ok.0 in
-    within_most _ (length c.args.self.now.states.items) _ _ (c.len-size.ensures ∙ size) c.requires.short (omega arith) c.if-sets-most-2.false
+    within_most _ (length c.args.self.now.states.items) _ _ (c.len-size.ensures ∙ size)
+    c.requires.short (omega arith) c.if-sets-most-2.false
 
 pub learn-requires-clause-visits : goal.learn-requires-clause-visits
 learn-requires-clause-visits g c =
     let size = c.args.self.now.states.ok.0 in
-    within_room _ (length c.args.self.now.states.items) _ _ (c.len-size.ensures ∙ size) c.requires.short (omega arith) c.if-sets-most-2.false
+    within_room _ (length c.args.self.now.states.items) _ _ (c.len-size.ensures ∙ size)
+    c.requires.short (omega arith) c.if-sets-most-2.false
 
 pub returns-then-here-line-clause-visits : goal.returns-then-here-line-clause-visits
 returns-then-here-line-clause-visits g c =
-    visits_whole _ _ _ _ _ (c.len-size.ensures ∙ c.args.self.now.states.ok.0) c.if-sets-most-2.false c.finish.ensures.visits
+    visits_whole _ _ _ _ _ (c.len-size.ensures ∙ c.args.self.now.states.ok.0)
+    c.if-sets-most-2.false c.finish.ensures.visits
 
 pub returns-in-Lost-clause-visits : goal.returns-in-Lost-clause-visits
 returns-in-Lost-clause-visits g c =
     let u = members c.learn.new.sets.current in
     let room = c.learn.ensures.room in
-    visits_after _ _ _ _ _ u.len (c.len-size.ensures ∙ c.args.self.now.states.ok.0) c.if-sets-most-2.false c.learn.ensures.visits
+    visits_after _ _ _ _ _ u.len (c.len-size.ensures ∙ c.args.self.now.states.ok.0)
+    c.if-sets-most-2.false c.learn.ensures.visits
     (subst (λ n. u.len ≤ n) room.now_size (few u room.now))
 
 pub loop-sets-preserved : goal.loop-sets-preserved
