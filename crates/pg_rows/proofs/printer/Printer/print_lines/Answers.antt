@@ -1,6 +1,7 @@
-use Rattle.std.proofs.Common.{◌≡◌, ℕ, ◌+◌, ◌-◌, ◌≤◌, List, ◌++◌, length, take, drop, refl, ap, ◌∙◌, subst}
+use Rattle.std.proofs.Common.{◌≡◌, ℕ, ◌+◌, ◌-◌, ◌≤◌, ◌<◌, ◌^◌, List, ◌++◌, length, take, drop, refl, sym, ap, ◌∙◌, subst}
 use Rattle.std.proofs.Common.{arith}
 use Rattle.std.proofs.lemmas.List.{take_rest}
+use Rattle.std.proofs.lemmas.Result.{IfOk-from_err}
 use Rattle.pg_lines.specs.Search.{terminator}
 use Rattle.pg_lines.specs.Lines.{lines}
 use Rattle.pg_rows.specs.declared.printer.Printer.{Printer}
@@ -96,3 +97,58 @@ returns-clause-follows g c q format cur r shows has =
     c.saturating_sub.result r shows h c.pass-last.ensures.fields count
     (subst Q whole (subst P c.in_ok-place.ensures.same c.in_ok-stop.ensures.rest))
     (subst R whole c.in_ok-stop.ensures.within) c.saturating_sub.ensures
+
+-- what the runs leave is within the block
+
+left_count : (total seen rest all : ℕ) → total ≡ all → seen + rest ≡ all → total - seen ≡ rest
+left_count total seen rest all t s = omega arith
+
+left_within : (total seen rest all : ℕ) → total ≡ all → seen + rest ≡ all → seen ≤ total
+left_within total seen rest all t s = omega arith
+
+left_small : (number before total seen : ℕ) → number ≡ before + seen → seen ≤ total → before + total < 2 ^ 63
+    → number + (total - seen) < 2 ^ 63
+left_small number before total seen n within small = omega arith
+
+pub overflow_sub-left : goal.overflow_sub-left
+overflow_sub-left g c =
+    let w = c.requires.stands in
+    let h = c.in_ok-place.ensures.all w.0 w.1 w.2 w.3 w.4 w.5 in
+    left_within c.args.total c.in_ok-place.place.seen _ _ w.5.total h.here.count
+
+pub print_passed-requires-clause-count : goal.print_passed-requires-clause-count
+print_passed-requires-clause-count g c =
+    let s = c.args.self.now in
+    let bytes = c.args.bytes.now in
+    let place = c.in_ok-place.place in
+    let w = c.requires.stands in
+    let h = c.in_ok-place.ensures.all w.0 w.1 w.2 w.3 w.4 w.5 in
+    let n = c.args.total - place.seen in
+    let P : Printer g.row.A.Denot → Type 0 = λ p. n ≡ length
+    (lines p.end (take (length bytes - place.at) (drop place.at bytes))) in
+    let Q : List ℕ → Type 0 = λ t. n ≡ length (lines s.end t) in
+    let R : ℕ → Type 0 = λ e. n ≡ length (lines e (drop place.at bytes)) in
+    subst P (sym c.in_ok-place.ensures.same) (subst Q (sym (take_rest bytes place.at))
+    (subst R (sym w.3.end_is)
+    (left_count c.args.total place.seen _ _ w.5.total h.here.count)))
+
+pub print_passed-requires-clause-small : goal.print_passed-requires-clause-small
+print_passed-requires-clause-small g c =
+    let w = c.requires.stands in
+    let h = c.in_ok-place.ensures.all w.0 w.1 w.2 w.3 w.4 w.5 in
+    left_small c.in_ok-place.place.progress.number c.args.self.now.progress.number c.args.total
+    c.in_ok-place.place.seen c.in_ok-place.ensures.number
+    (left_within c.args.total c.in_ok-place.place.seen _ _ w.5.total h.here.count) c.requires.small
+
+pub returns-in_err-place-clause-part : goal.returns-in_err-place-clause-part
+returns-in_err-place-clause-part g c q format cur r shows has =
+    on_err (TakesPart (run_rows q format cur.name cur.earlier cur.trail (lines (terminator q) c.args.bytes.now))
+    (g.W.Sink.taken c.args.out.now) (g.W.Sink.taken c.print_runs.new.out)) c.from_residual.result
+    (c.in_err-place.ensures.part q format cur r shows has)
+
+pub returns-in_err-stop-clause-follows : goal.returns-in_err-stop-clause-follows
+returns-in_err-stop-clause-follows g c q format cur r shows has =
+    IfOk-from_err c.from_residual-in_err-stop.result _ c.from_residual-in_err-stop.ensures.0
+
+pub returns-clause-part : goal.returns-clause-part
+returns-clause-part g c = λ q format cur r shows has. tt

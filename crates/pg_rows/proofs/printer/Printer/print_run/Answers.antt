@@ -1,12 +1,27 @@
-use Rattle.std.proofs.Common.{◌≡◌, ℕ, ◌-◌, ◌++◌, List, length, take, drop, ap, ◌∙◌, subst}
+use Rattle.std.proofs.Common.{◌≡◌, ℕ, zero, suc, ◌+◌, ◌-◌, ◌<◌, ◌≤◌, ◌^◌, ◌++◌, List, [], ◌∷◌, length, take, drop, min, arith}
+use Rattle.std.proofs.Common.{sym, ap, ◌∙◌, subst, append_assoc, length-drop, refl, inl, inr}
 use Rattle.std.proofs.lemmas.List.{take_rest}
-use Rattle.pg_lines.specs.Lines.{lines}
+use Rattle.pg_lines.specs.Lines.{lines, AreWhole}
+use Rattle.pg_rows.specs.declared.printer.Printer.{Printer}
+use Rattle.pg_rows.specs.Output.{context}
 use Rattle.pg_rows.specs.Sink.{TakesPart}
-use Rattle.pg_rows.specs.Window.{held}
-use Rattle.pg_rows.specs.Printing.{rows_of_passed, rows_of_kept}
-use Rattle.pg_rows.proofs.SinkLemmas.{on_err, on_err_too}
+use Rattle.pg_rows.specs.Window.{held, IsWindow}
+use Rattle.pg_rows.specs.Printing.{leading, rows_of_passed, rows_of_kept}
+use Rattle.pg_rows.proofs.SinkLemmas.{on_err, on_ok, on_err_too}
 use Rattle.pg_rows.proofs.LeftLemmas.{takes_first, takes_second}
 use Rattle.pg_rows.proofs.printer.Printer.print_run.Goals as goal
+
+-- what is left of whole lines behind a place are whole lines
+
+whole_tail : (end b : ℕ) (bytes : List ℕ) → AreWhole end (b ∷ bytes) → AreWhole end bytes
+whole_tail end b bytes (inl e) = absurd (cc)
+whole_tail end b bytes (inr ([], e)) = inl (ap (drop 1) e)
+whole_tail end b bytes (inr (x ∷ front, e)) = inr (front, ap (drop 1) e)
+
+whole_drop : (end k : ℕ) (bytes : List ℕ) → AreWhole end bytes → AreWhole end (drop k bytes)
+whole_drop end zero bytes w = w
+whole_drop end (suc k) [] w = inl refl
+whole_drop end (suc k) (b ∷ bytes) w = whole_drop end k bytes (whole_tail end b bytes w)
 
 pub returns-in_err-stop-clause-part : goal.returns-in_err-stop-clause-part
 returns-in_err-stop-clause-part g c =
@@ -46,3 +61,81 @@ returns-clause-part g c =
     on_err_too c.print_kept.result (Q written) (TakesPart (first ++ second) start after)
     (λ e. takes_second first second start middle after c.in_ok-stop.ensures.all (subst Q as_second e))
     c.print_kept.ensures.part
+
+pub print_kept-requires-clause-window : goal.print_kept-requires-clause-window
+print_kept-requires-clause-window g c =
+    let P : Printer g.row.A.Denot → Type 0 = λ p. IsWindow p.end p.window in
+    subst P (sym c.in_ok-stop.ensures.same) c.requires.window
+
+pub print_kept-requires-clause-whole : goal.print_kept-requires-clause-whole
+print_kept-requires-clause-whole g c =
+    let P : List ℕ → Type 0 = λ xs. AreWhole c.args.self.now.end xs in
+    let Q : Printer g.row.A.Denot → Type 0 = λ p. AreWhole p.end
+    (take (length c.args.gap.now - c.in_ok-stop.stop) (drop c.in_ok-stop.stop c.args.gap.now)) in
+    subst Q (sym c.in_ok-stop.ensures.same) (subst P (sym (take_rest c.args.gap.now c.in_ok-stop.stop))
+    (whole_drop c.args.self.now.end c.in_ok-stop.stop c.args.gap.now c.requires.whole))
+
+-- how many lines of the gap aren't shown as trailing context
+hidden_count : (rest gap : List (List ℕ)) (count countdown hidden : ℕ) → rest ≡ drop countdown gap
+    → count ≡ length gap → hidden ≡ count - countdown → hidden ≡ length rest
+hidden_count rest gap count countdown hidden r n h =
+    h ∙ (ap (λ k. k - countdown) n ∙ (sym (length-drop countdown gap) ∙ ap length (sym r)))
+
+pub print_kept-requires-clause-count : goal.print_kept-requires-clause-count
+print_kept-requires-clause-count g c =
+    let a = c.args in
+    let s = a.self.now in
+    let stop = c.in_ok-stop.stop in
+    let near = take (length a.gap.now - stop) (drop stop a.gap.now) in
+    let rest = ap (lines s.end) (take_rest a.gap.now stop) ∙ c.in_ok-stop.ensures.rest in
+    let Q : Printer g.row.A.Denot → Type 0 = λ p. c.saturating_sub-hidden.result ≡ length (lines p.end near) in
+    subst Q (sym c.in_ok-stop.ensures.same) (hidden_count (lines s.end near) (lines s.end a.gap.now) a.count
+    a.progress.countdown c.saturating_sub-hidden.result rest c.requires.count c.saturating_sub-hidden.ensures)
+
+-- the lines that aren't shown are enough behind the gap too
+enough_behind : (most behind more held hidden : ℕ) → min most behind ≤ held → hidden ≡ more
+    → min most (behind + more) ≤ held + hidden
+enough_behind most behind more held hidden h e = omega arith
+
+pub print_kept-requires-clause-enough : goal.print_kept-requires-clause-enough
+print_kept-requires-clause-enough g c =
+    let a = c.args in
+    let s = a.self.now in
+    let n = c.saturating_sub-hidden.result in
+    let Q : Printer g.row.A.Denot → Type 0 = λ p. leading p.format a.passed ≤ length (held p.end p.window) + n in
+    let R : ℕ → Type 0 = λ b. min (context s.format.before) b ≤ length (held s.end s.window) + n in
+    subst Q (sym c.in_ok-stop.ensures.same) (subst R (sym c.requires.passes.behind) (enough_behind
+    (context s.format.before) a.progress.behind (a.count - a.progress.countdown) (length (held s.end s.window)) n
+    c.requires.enough c.saturating_sub-hidden.ensures))
+
+pub print_kept-requires-clause-small : goal.print_kept-requires-clause-small
+print_kept-requires-clause-small g c =
+    let Q : Printer g.row.A.Denot → Type 0 = λ p. c.args.passed.number + length (lines p.end c.args.text.now) < 2 ^ 63 in
+    subst Q (sym c.in_ok-stop.ensures.same) c.requires.small
+
+pub returns-clause-all : goal.returns-clause-all
+returns-clause-all g c =
+    let a = c.args in
+    let s = a.self.now in
+    let t = c.print_passed.new.self in
+    let stop = c.in_ok-stop.stop in
+    let gap = lines s.end a.gap.now in
+    let text = lines s.end a.text.now in
+    let first = rows_of_passed s.format s.end s.prefix a.progress gap in
+    let all = held s.end s.window ++ drop a.progress.countdown gap in
+    let second = rows_of_kept s.format s.end s.prefix s.earlier all a.passed text in
+    let near = take (length a.gap.now - stop) (drop stop a.gap.now) in
+    let written = rows_of_kept t.format t.end t.prefix t.earlier (held t.end t.window ++ lines t.end near) a.passed
+    (lines t.end a.text.now) in
+    let rest = ap (lines s.end) (take_rest a.gap.now stop) ∙ c.in_ok-stop.ensures.rest in
+    let as_second : written ≡ second =
+    ap (λ p. rows_of_kept p.format p.end p.prefix p.earlier (held p.end p.window ++ lines p.end near) a.passed
+    (lines p.end a.text.now)) c.in_ok-stop.ensures.same
+    ∙ ap (λ xs. rows_of_kept s.format s.end s.prefix s.earlier (held s.end s.window ++ xs) a.passed text) rest in
+    let start = g.W.Sink.taken a.out.now in
+    let middle = g.W.Sink.taken c.print_passed.new.out in
+    let after = g.W.Sink.taken c.print_kept.new.out in
+    on_ok c.print_kept.result (after ≡ middle ++ written) (after ≡ start ++ (first ++ second))
+    (λ e. e ∙ (ap (λ xs. middle ++ xs) as_second ∙ (ap (λ xs. xs ++ second) c.in_ok-stop.ensures.all
+    ∙ append_assoc start first second)))
+    c.print_kept.ensures.all
