@@ -1,15 +1,21 @@
 -- Texts that are written in parts.
-use Rattle.std.proofs.Common.{◌≡◌, ℕ, ◌+◌, ◌-◌, ◌<◌, List, ◌++◌, length, get_or, take, drop, Result, Ok, Err, ap, sym, ◌∙◌, append_assoc}
+use Rattle.std.proofs.Common.{◌≡◌, ℕ, ◌+◌, ◌-◌, ◌<◌, ◌≤◌, arith, List, ◌++◌, length, get_or, take, drop, Result, Ok, Err, ap, sym, ◌∙◌, append_assoc}
 use Rattle.std.proofs.lemmas.List.{take-append-drop, take_rest, drop_more}
 use Rattle.std.proofs.lemmas.List.Concat.{flat_map-append}
 use Rattle.std.specs.List.{flat_map}
 use Rattle.std.proofs.Math.Seq.{take-add}
-use Rattle.std.specs.Result.{OnOk, OnErr}
+use Rattle.std.specs.Result.{IsErr, OnOk, OnErr}
+use Rattle.std.proofs.lemmas.Bool.{false≢true}
 use Rattle.pg_rows.specs.Sink.{IsBeginning, TakesPart}
 
 pub on_err : {T E : Type 0} (P : Type 0) (r : Result T E) → P → OnErr r P
 on_err P (Ok x) p = tt
 on_err P (Err e) p = p
+
+-- nothing is said of the Ok of an error
+pub ok_of_err : {T E : Type 0} (r : Result T E) (P : Type 0) → IsErr r → OnOk r P
+ok_of_err (Ok x) P h = absurd (false≢true h)
+ok_of_err (Err e) P h = tt
 
 pub on_ok : {T E : Type 0} (r : Result T E) (P Q : Type 0) → (P → Q) → OnOk r P → OnOk r Q
 on_ok (Ok x) P Q f h = f h
@@ -18,6 +24,14 @@ on_ok (Err e) P Q f h = tt
 pub on_err_too : {T E : Type 0} (r : Result T E) (P Q : Type 0) → (P → Q) → OnErr r P → OnErr r Q
 on_err_too (Ok x) P Q f h = tt
 on_err_too (Err e) P Q f h = f h
+
+-- a count of failures that rises, or doesn't fall, behind calls that changed nothing of it
+
+pub rises : (before middle after : ℕ) → middle ≡ before → middle < after → before < after
+rises before middle after e h = omega arith
+
+pub stays_above : (before middle after : ℕ) → middle ≡ before → middle ≤ after → before ≤ after
+stays_above before middle after e h = omega arith
 
 -- the first bytes of a text are a part of it
 pub takes_part : (text before after : List ℕ) (n : ℕ) → after ≡ before ++ take n text → TakesPart text before after

@@ -1,12 +1,13 @@
-use Rattle.std.proofs.Common.{◌≡◌, ◌+◌, ◌-◌, ◌<◌, ◌^◌, ◌++◌, List, ℕ, length, drop, subst, sym, ap, ◌∙◌, arith}
+use Rattle.std.proofs.Common.{◌≡◌, ◌+◌, ◌-◌, ◌<◌, ◌≤◌, ◌^◌, ◌++◌, List, [], ℕ, zero, suc, length, drop, subst, sym, ap, ◌∙◌, arith}
 use Rattle.std.proofs.Common.{refl, length-drop}
+use Rattle.std.proofs.lemmas.List.{append-nil}
 use Rattle.std.specs.List.{AllByRecursion}
 use Rattle.circular_buffer.specs.Buffer.{keep_last}
 use Rattle.pg_rows.specs.declared.window.Tail.{Tail}
 use Rattle.pg_rows.specs.Sink.{TakesPart}
 use Rattle.pg_rows.specs.Stretch.{marked_rows}
 use Rattle.pg_rows.specs.Window.{lines_in, tail_lines, held, IsTail}
-use Rattle.pg_rows.proofs.SinkLemmas.{on_err}
+use Rattle.pg_rows.proofs.SinkLemmas.{on_err, ok_of_err, rises, stays_above}
 use Rattle.pg_rows.proofs.LeftLemmas.{TakesBut, left_whole, left_less, left_part}
 use Rattle.pg_rows.proofs.WindowLemmas.{shown_tails, shown_count}
 use Rattle.pg_rows.proofs.window.Window.write_last.Goals as goal
@@ -100,3 +101,84 @@ loop-tail-preserved g c =
           (subst P l.invariant.prefix c.in_ok-write_from.ensures.all) l.invariant.left));
       no_failure = c.in_ok-write_from.ensures.no_failure ∙ l.invariant.no_failure;
     }
+
+shown_fits : (at skip lines shown later all : ℕ) → all ≡ (lines - skip) + later → shown ≡ lines - skip
+    → at + all < 2 ^ 64 → at + shown < 2 ^ 64
+shown_fits at skip lines shown later all a s small = omega arith
+
+pub overflow_sub-skip : goal.overflow_sub-skip
+overflow_sub-skip g c = omega (arith, c.requires.window.counted, c.requires.within)
+
+pub write_from-requires-clause-tail : goal.write_from-requires-clause-tail
+write_from-requires-clause-tail g c =
+    let Q : List (Tail g.row.A.Denot) → Type 0 = λ xs. AllByRecursion (IsTail c.args.end) xs in
+    (subst Q c.in-Some.ensures.steps c.loop-tail.invariant.each).0
+
+pub write_from-requires-clause-small : goal.write_from-requires-clause-small
+write_from-requires-clause-small g c =
+    let a = c.args in
+    let l = c.loop-tail in
+    let t = c.in-Some.tail.now in
+    let ts = c.next.new.self in
+    let Q : List (Tail g.row.A.Denot) → Type 0 = λ xs. AllByRecursion (IsTail a.end) xs in
+    let each = subst Q c.in-Some.ensures.steps l.invariant.each in
+    let counted = ap (λ xs. length (drop l.skip (lines_in a.end xs))) c.in-Some.ensures.steps
+    ∙ shown_count a.end l.skip t ts each.0 in
+    let shown = length-drop l.skip (tail_lines a.end t) ∙ ap (λ n. n - l.skip) (sym each.0.counted) in
+    shown_fits l.at l.skip t.lines _ _ _ counted shown l.invariant.small
+
+pub returns-in_err-write_from-clause-same : goal.returns-in_err-write_from-clause-same
+returns-in_err-write_from-clause-same g c = c.in_err-write_from.ensures.same ∙ c.loop-tail.invariant.prefix
+
+pub returns-in_err-write_from-clause-all : goal.returns-in_err-write_from-clause-all
+returns-in_err-write_from-clause-all g c = ok_of_err c.from_residual.result _ c.from_residual.ensures.0
+
+pub returns-in_err-write_from-clause-failure : goal.returns-in_err-write_from-clause-failure
+returns-in_err-write_from-clause-failure g c =
+    let start = g.W.Sink.failures c.args.out.now in
+    let after = g.W.Sink.failures c.write_from.new.out in
+    on_err (start < after) c.from_residual.result
+    (rises start (g.W.Sink.failures c.loop-tail.out) after c.loop-tail.invariant.no_failure
+    c.in_err-write_from.ensures.failure)
+
+pub returns-in_err-write_from-clause-no_failure : goal.returns-in_err-write_from-clause-no_failure
+returns-in_err-write_from-clause-no_failure g c = ok_of_err c.from_residual.result _ c.from_residual.ensures.0
+
+pub returns-in_err-write_from-clause-never_falls : goal.returns-in_err-write_from-clause-never_falls
+returns-in_err-write_from-clause-never_falls g c =
+    stays_above (g.W.Sink.failures c.args.out.now) (g.W.Sink.failures c.loop-tail.out)
+    (g.W.Sink.failures c.write_from.new.out) c.loop-tail.invariant.no_failure c.in_err-write_from.ensures.never_falls
+
+pub overflow_add-at : goal.overflow_add-at
+overflow_add-at g c =
+    let a = c.args in
+    let l = c.loop-tail in
+    let t = c.in-Some.tail.now in
+    let ts = c.next.new.self in
+    let Q : List (Tail g.row.A.Denot) → Type 0 = λ xs. AllByRecursion (IsTail a.end) xs in
+    let each = subst Q c.in-Some.ensures.steps l.invariant.each in
+    let counted = ap (λ xs. length (drop l.skip (lines_in a.end xs))) c.in-Some.ensures.steps
+    ∙ shown_count a.end l.skip t ts each.0 in
+    let fits = shown_fits l.at l.skip t.lines c.saturating_sub.result _ _ counted c.saturating_sub.ensures
+    l.invariant.small in
+    omega (arith, fits)
+
+drop_none : (k : ℕ) → drop {A = List ℕ} k [] ≡ []
+drop_none zero = refl
+drop_none (suc k) = refl
+
+none_left : (whole rest before after : List ℕ) → rest ≡ [] → TakesBut whole rest before after
+    → after ≡ before ++ whole
+none_left whole rest before after e h =
+    h.taken ∙ ap (λ xs. before ++ xs) (sym (append-nil h.part) ∙ (ap (λ xs. h.part ++ xs) (sym e) ∙ h.joins))
+
+pub returns-clause-all : goal.returns-clause-all
+returns-clause-all g c =
+    let a = c.args in
+    let l = c.loop-tail in
+    let whole = marked_rows a.format.now a.end a.prefix.now 45 a.number (keep_last a.count (held a.end a.self.now)) in
+    let rows = λ (ls : List (List ℕ)). marked_rows a.format.now a.end a.prefix.now 45 l.at ls in
+    let none = ap (λ ts. rows (drop l.skip (lines_in a.end ts))) c.in-None.ensures.steps.0
+    ∙ ap rows (drop_none l.skip) in
+    none_left whole (rows (drop l.skip (lines_in a.end l.tail-iterator))) (g.W.Sink.taken a.out.now)
+    (g.W.Sink.taken l.out) none l.invariant.left
