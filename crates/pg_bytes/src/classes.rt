@@ -1,7 +1,7 @@
 //! The character classes of the C locale.
 ghost use Rattle.std.specs.Prelude.{◌≡◌, ◌&&◌, not, option_map};
 ghost use Rattle.pg_bytes.specs.Sets.{between, union, one};
-ghost use Rattle.pg_bytes.specs.Classes.{class, alpha, digit, alnum, graph, punct, xdigit};
+ghost use Rattle.pg_bytes.specs.Classes.{class, alpha, digit, alnum, graph, punct, xdigit, blank, space, cntrl};
 ghost use Rattle.pg_bytes.specs.ByteSets.{bytes};
 
 use crate::byte_set::ByteSet;
@@ -45,6 +45,27 @@ fn punct() -> ByteSet
     other.union(alnum()).complement()
 }
 
+/// Tab and space.
+fn blank() -> ByteSet
+    ensures { bytes result ≡ blank }
+{
+    one(b'\t').union(one(b' '))
+}
+
+/// Space, and the bytes from tab to carriage return.
+fn space() -> ByteSet
+    ensures { bytes result ≡ space }
+{
+    ByteSet::between(9, 13).union(one(b' '))
+}
+
+/// The control characters.
+fn cntrl() -> ByteSet
+    ensures { bytes result ≡ cntrl }
+{
+    ByteSet::between(0, 31).union(one(127))
+}
+
 /// The character class of a name in the C locale (XBD 7.3.1, 9.3.5): `upper`, `lower`, `alpha`,
 /// `digit`, `alnum`, `xdigit`, `blank`, `space`, `cntrl`, `graph`, `print` or `punct`. `None` for
 /// every other name; names are compared byte for byte.
@@ -64,11 +85,11 @@ pub fn class(name: &[u8]) -> Option<ByteSet>
     } else if name == b"xdigit".as_slice() {
         Some(xdigit())
     } else if name == b"blank".as_slice() {
-        Some(one(b'\t').union(one(b' ')))
+        Some(blank())
     } else if name == b"space".as_slice() {
-        Some(ByteSet::between(9, 13).union(one(b' ')))
+        Some(space())
     } else if name == b"cntrl".as_slice() {
-        Some(ByteSet::between(0, 31).union(one(127)))
+        Some(cntrl())
     } else if name == b"graph".as_slice() {
         Some(ByteSet::between(b'!', b'~'))
     } else if name == b"print".as_slice() {

@@ -11,12 +11,12 @@ pub const MAX_BLOCK: u32 = 16_777_216;
 /// The largest number of blocks in a round.
 pub const MAX_ROUND: u32 = 1_024;
 
-/// An option without a value: its name in this crate, its letter and its long name.
-type Flag = (&'static str, char, &'static str);
+/// An option: its name in this crate, its letter and its long name.
+type Named = (&'static str, char, &'static str);
 
 /// What is searched for. -G is read by nobody: it asks for what is taken without -E and -F, and has no
 /// effect beside them.
-static PATTERN_FLAGS: [Flag; 8] = [
+static PATTERN_FLAGS: [Named; 8] = [
     ("extended", 'E', "extended-regexp"),
     ("fixed", 'F', "fixed-strings"),
     ("basic", 'G', "basic-regexp"),
@@ -28,24 +28,30 @@ static PATTERN_FLAGS: [Flag; 8] = [
 ];
 
 /// What is written of it.
-static MODE_FLAGS: [Flag; 3] = [
+static MODE_FLAGS: [Named; 3] = [
     ("pieces", 'o', "only-matching"),
     ("count", 'c', "count"),
     ("list", 'l', "files-with-matches"),
 ];
 
 /// What rows begin with.
-static ROW_FLAGS: [Flag; 3] = [
+static ROW_FLAGS: [Named; 3] = [
     ("numbers", 'n', "line-number"),
     ("names", 'H', "with-filename"),
     ("no-names", 'h', "no-filename"),
 ];
 
 /// Which files are searched. Every file is text, so -a has no effect.
-static FILE_FLAGS: [Flag; 3] = [
+static FILE_FLAGS: [Named; 3] = [
     ("recursive", 'r', "recursive"),
     ("silent", 's', "no-messages"),
     ("as-text", 'a', "text"),
+];
+
+/// Options that ask for lines before a selected one.
+static CONTEXT_OPTIONS: [Named; 2] = [
+    ("before", 'B', "before-context"),
+    ("around", 'C', "context"),
 ];
 
 /// How the work is cut: options whose values are numbers from 1 to a largest one, by their long names.
@@ -86,7 +92,11 @@ fn add_options<'a>(alloc: Global, args: &mut Vec<Arg<'a>>) -> Result<(), AllocEr
 }
 
 /// Adds flags, in their order.
-fn add_flags<'a>(alloc: Global, args: &mut Vec<Arg<'a>>, flags: &[Flag]) -> Result<(), AllocError> {
+fn add_flags<'a>(
+    alloc: Global,
+    args: &mut Vec<Arg<'a>>,
+    flags: &[Named],
+) -> Result<(), AllocError> {
     for (name, letter, long) in flags {
         args.push(flag(alloc, name, *letter, long))?;
     }
@@ -110,14 +120,11 @@ fn add_rows<'a>(alloc: Global, args: &mut Vec<Arg<'a>>) -> Result<(), AllocError
 
 /// How many lines are written.
 fn add_context<'a>(alloc: Global, args: &mut Vec<Arg<'a>>) -> Result<(), AllocError> {
-    let limit = number_option(alloc, "limit", "max-count").short('m');
-    args.push(limit.value_parser(clap::value_parser!(u32).range(1..)))?;
-    let after = number_option(alloc, "after", "after-context").short('A');
-    args.push(after.value_parser(clap::value_parser!(u32)))?;
-    let before = number_option(alloc, "before", "before-context").short('B');
-    args.push(before.value_parser(clap::value_parser!(u16)))?;
-    let around = number_option(alloc, "around", "context").short('C');
-    args.push(around.value_parser(clap::value_parser!(u16)))?;
+    args.push(limit_option(alloc))?;
+    args.push(after_option(alloc))?;
+    for (name, letter, long) in &CONTEXT_OPTIONS {
+        args.push(context_option(alloc, name, *letter, long))?;
+    }
     Ok(())
 }
 
@@ -167,6 +174,27 @@ fn number_option<'a>(alloc: Global, name: &'a str, long: &'a str) -> Arg<'a> {
         .value_name("N")
         .action(ArgAction::Set)
         .allow_hyphen_values(true)
+}
+
+/// -m, from 1 on.
+fn limit_option<'a>(alloc: Global) -> Arg<'a> {
+    number_option(alloc, "limit", "max-count")
+        .short('m')
+        .value_parser(clap::value_parser!(u32).range(1..))
+}
+
+/// -A, which may be larger than the others.
+fn after_option<'a>(alloc: Global) -> Arg<'a> {
+    number_option(alloc, "after", "after-context")
+        .short('A')
+        .value_parser(clap::value_parser!(u32))
+}
+
+/// An option whose value is a number of lines before a selected one.
+fn context_option<'a>(alloc: Global, name: &'a str, letter: char, long: &'a str) -> Arg<'a> {
+    number_option(alloc, name, long)
+        .short(letter)
+        .value_parser(clap::value_parser!(u16))
 }
 
 /// An option of that name whose value is a number from 1 to a largest one.
