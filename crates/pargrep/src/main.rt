@@ -5,8 +5,8 @@ ghost use Rattle.std.specs.Prelude.{◌≡◌, ◌⊎◌, IfErr};
 ghost use Rattle.pg_command.specs.declared.fault.Fault.TheVariants.{NotText, OutOfMemory};
 
 use pg_command::{Fault, report, run};
+use pg_files::{DiskStore, Listed};
 use pg_rows::Out;
-use pg_run::{DiskStore, Listed};
 use pg_walk::DiskTree;
 use std::alloc::Global;
 use std::env;

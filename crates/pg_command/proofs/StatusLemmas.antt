@@ -4,7 +4,7 @@ use Rattle.std.specs.List.{list_any}
 use Rattle.pg_lines.specs.Search.{Search}
 use Rattle.pg_rows.specs.declared.format.Format.{Format}
 use Rattle.pg_rows.specs.Output.{Entry, status, is_quiet, has_selected, is_bad}
-use Rattle.pg_run.specs.Given.{FilesPast, entries_given}
+use Rattle.pg_files.specs.Given.{FilesPast, entries_given}
 use Rattle.pg_run.specs.Outcome.{Finishes, Stream}
 use Rattle.pg_run.specs.declared.setup.Setup.{Setup}
 

@@ -3,8 +3,8 @@ use Rattle.std.proofs.Common.{◌≡◌, ◌∙◌, ℕ, Bool, List, length, dro
 use Rattle.pg_walk.specs.Answers.{Answers as Tree}
 use Rattle.pg_walk.specs.Items.{Found}
 use Rattle.pg_walk.specs.Walks.{FilesOf}
-use Rattle.pg_run.specs.Given.{Given}
-use Rattle.pg_run.specs.Listed.{asked_for, file_paths, newest_paths, sources}
+use Rattle.pg_files.specs.Given.{Given}
+use Rattle.pg_files.specs.Listed.{asked_for, file_paths, newest_paths, sources}
 use Rattle.pg_run.specs.declared.setup.Setup.{Setup}
 use Rattle.pg_command.specs.Answers.{IsSetup, Work}
 use Rattle.pg_command.specs.Asked.{Asked}

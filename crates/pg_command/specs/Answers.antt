@@ -8,8 +8,8 @@ use Rattle.pg_walk.specs.Places.{is_standard_input}
 use Rattle.pg_walk.specs.Walks.{FilesOf}
 use Rattle.pg_walk.specs.declared.tree.FileKind.{FileKind}
 use Rattle.pg_walk.specs.declared.tree.FileKind.TheVariants.{Regular, Directory, Link, Other}
-use Rattle.pg_run.specs.Given.{Given}
-use Rattle.pg_run.specs.Listed.{asked_for, file_paths, files_past, newest_paths}
+use Rattle.pg_files.specs.Given.{Given}
+use Rattle.pg_files.specs.Listed.{asked_for, file_paths, files_past, newest_paths}
 use Rattle.pg_run.specs.Outcome.{Stream, IsSearchFor, Finishes, BreaksOff}
 use Rattle.pg_run.specs.declared.fault.RunFault.{RunFault}
 use Rattle.pg_run.specs.declared.setup.Setup.{Setup}

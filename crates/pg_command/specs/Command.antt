@@ -3,7 +3,7 @@ use Rattle.std.specs.Prelude.{◌≡◌, ℕ, ◌<◌, ◌⊎◌, List, ◌++◌
 use Rattle.std.specs.Result.{IsErr}
 use Rattle.pg_rows.specs.Sink.{TakesPart}
 use Rattle.pg_walk.specs.Answers.{Answers as Tree}
-use Rattle.pg_run.specs.Given.{Given}
+use Rattle.pg_files.specs.Given.{Given}
 use Rattle.pg_run.specs.Outcome.{Stream}
 use Rattle.pg_command.specs.Asked.{Asked}
 use Rattle.pg_command.specs.Answers.{Answers}

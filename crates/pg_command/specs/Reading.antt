@@ -3,8 +3,8 @@ use Rattle.std.specs.Prelude.{◌≡◌, ℕ, ◌⊎◌, false, List, [], ◌∷
 use Rattle.pg_rows.specs.Output.{Ending, Ended, Failed, Left, is_failed}
 use Rattle.pg_walk.specs.declared.item.Cause.{Cause}
 use Rattle.pg_walk.specs.declared.item.Cause.TheVariants.{ReadFailed}
-use Rattle.pg_run.specs.Given.{Given, NoFile, File}
-use Rattle.pg_run.specs.Listed.{shown_name}
+use Rattle.pg_files.specs.Given.{Given, NoFile, File}
+use Rattle.pg_files.specs.Listed.{shown_name}
 use Rattle.pg_command.specs.declared.fault.Fault.{Fault}
 use Rattle.pg_command.specs.declared.fault.Fault.TheVariants.{NotText, Usage, Unreadable, Pattern, TooLarge}
 use Rattle.pg_command.specs.declared.fault.Fault.TheVariants.{OutOfMemory, WriteFailed, TooManyFiles, LineTooLong}

@@ -4,12 +4,12 @@ ghost use Rattle.pg_syntax.specs.Memory.{patterns_of};
 ghost use Rattle.pg_syntax.specs.Slices.{bytes_of};
 ghost use Rattle.pg_lines.specs.Search.{ByLine};
 ghost use Rattle.pg_rows.specs.Output.{Ended, Left};
-ghost use Rattle.pg_run.specs.Given.{Given, File};
+ghost use Rattle.pg_files.specs.Given.{Given, File};
 ghost use Rattle.pg_command.specs.Reading.{FailsToReadAll, HasRead, ReadsOn, StopsAt};
 
 use crate::fault::Fault;
+use pg_files::{OpenFault, ReadFault, Store, shown_name};
 use pg_lines::PatternList;
-use pg_run::{OpenFault, ReadFault, Store, shown_name};
 use pg_walk::Cause;
 use std::alloc::{AllocError, Global};
 

@@ -5,8 +5,9 @@ ghost use Rattle.pg_command.specs.Told.{Tells, TellsText};
 
 use crate::fault::{FAULT_STATUS, Fault, report};
 use crate::search::{Told, answer};
+use pg_files::{Listed, Store};
 use pg_rows::{Out, Sink, write_all};
-use pg_run::{Listed, Store, tell};
+use pg_run::tell;
 use pg_walk::FileTree;
 use pg_words::{Task, Words, WordsFault, read_words};
 use std::alloc::Global;

@@ -2,7 +2,8 @@
 ghost use Rattle.std.specs.Prelude.{IfOk, ◌≡◌, false};
 
 use crate::runs::{Outcome, run_over, setup};
-use pg_run::{Ending, Gate, Listed, MemStore, OpenFault, ReadFault, RunFault, Store};
+use pg_files::{Ending, Listed, MemStore, OpenFault, ReadFault, Store};
+use pg_run::{Gate, RunFault};
 use pg_walk::Item;
 use std::alloc::{AllocError, Global};
 use std::process::Abort;

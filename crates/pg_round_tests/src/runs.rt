@@ -1,10 +1,11 @@
 //! Runs whose rounds are searched by threads: who searches when.
 ghost use Rattle.std.specs.Prelude.{◌≡◌, ◌≤◌, false, IfOk};
-ghost use Rattle.pg_run.specs.Given.{nothing_given};
+ghost use Rattle.pg_files.specs.Given.{nothing_given};
 
 use crate::fixtures::{Counting, Meeting, text};
+use pg_files::{Ending, Files, Listed, MemStore};
 use pg_rows::{Format, MemSink, Mode, Sink, WriteError};
-use pg_run::{Ending, Files, FreeGate, Gate, Listed, MemStore, RunFault, Setup, run};
+use pg_run::{FreeGate, Gate, RunFault, Setup, run};
 use pg_walk::Item;
 use std::alloc::{AllocError, Allocator, Global};
 use std::process::Abort;

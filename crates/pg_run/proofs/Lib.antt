@@ -2,7 +2,6 @@ pub mod BlockLemmas
 pub mod CoverLemmas
 pub mod EndlessLemmas
 pub mod HoldLemmas
-pub mod ListedLemmas
 pub mod ReadingLemmas
 pub mod RoundLemmas
 pub mod RunLemmas

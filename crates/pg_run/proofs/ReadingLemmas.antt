@@ -22,11 +22,12 @@ use Rattle.pg_rows.specs.Sink.{IsBeginning, TakesPart}
 use Rattle.pg_rows.proofs.SinkLemmas.{takes_longer}
 use Rattle.pg_seq.specs.Plan.{Step, Announces, Ends, entries_of}
 use Rattle.pg_seq.proofs.CursorLemmas.{joined_push}
-use Rattle.pg_run.specs.Given.{Given, NoFile, File, FilesPast, Sources, entries_given, files_given}
-use Rattle.pg_run.specs.Given.{gave_bytes, gave_end, is_reading}
-use Rattle.pg_run.specs.Given.{newest_name, IsTooLong}
+use Rattle.pg_files.specs.Given.{Given, NoFile, File, FilesPast, Sources, entries_given, files_given}
+use Rattle.pg_files.specs.Given.{gave_bytes, gave_end, is_reading}
+use Rattle.pg_files.specs.Given.{newest_name}
+use Rattle.pg_run.specs.Lengths.{IsTooLong}
 use Rattle.pg_run.specs.Told.{faults_of, fault_line}
-use Rattle.pg_run.specs.Asking.{read_given}
+use Rattle.pg_files.specs.Asking.{read_given}
 use Rattle.pg_run.specs.Faults.{fault_of_cut}
 use Rattle.pg_run.specs.Outcome.{Stream, GoesOn}
 use Rattle.pg_run.specs.Cover.{is_left, IsReading}

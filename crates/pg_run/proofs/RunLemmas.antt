@@ -16,7 +16,7 @@ use Rattle.pg_rows.specs.Enough.{is_enough, file_suffices}
 use Rattle.pg_rows.specs.Sink.{TakesPart}
 use Rattle.pg_seq.specs.Plan.{Step, Opens, Announces, Ends, Misses, IsShaped, is_open, entries_of, with_end}
 use Rattle.pg_seq.proofs.BeginLemmas.{begins_trans}
-use Rattle.pg_run.specs.Given.{Given, NoFile, File, FilesPast, entries_given, newest_name, nothing_given}
+use Rattle.pg_files.specs.Given.{Given, NoFile, File, FilesPast, entries_given, newest_name, nothing_given}
 use Rattle.pg_run.specs.Told.{faults_of, fault_of, fault_line, told_of}
 use Rattle.pg_run.specs.Outcome.{Stream, IsSearchFor, EndsAtSelected, Finishes, BreaksOff, HasCause}
 use Rattle.pg_run.specs.Holding.{Aim, Holds, Broke, IsWritten, format_of}

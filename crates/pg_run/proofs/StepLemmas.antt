@@ -10,7 +10,7 @@ use Rattle.pg_rows.specs.declared.format.Format.{Format}
 use Rattle.pg_rows.specs.Output.{Entry, Missed, Read, Ending, Running, Ended, Failed, Left, is_running}
 use Rattle.pg_seq.specs.Plan.{with_bytes, with_end}
 use Rattle.pg_rows.specs.Enough.{is_enough}
-use Rattle.pg_run.specs.Given.{Given, NoFile, File, entries_given, gave_bytes, gave_end}
+use Rattle.pg_files.specs.Given.{Given, NoFile, File, entries_given, gave_bytes, gave_end}
 use Rattle.pg_run.specs.Cover.{is_left, IsEntryOf, Covers, IsReading}
 
 append_none : (xs ys : List ℕ) → xs ++ ys ≡ [] → (xs ≡ []) × (ys ≡ [])

@@ -1,13 +1,8 @@
-pub mod Accesses
-pub mod Asking
 pub mod Cover
 pub mod Endless
 pub mod Faults
-pub mod Given
 pub mod Holding
-pub mod Listed
-pub mod MemStore
+pub mod Lengths
 pub mod Outcome
 pub mod Reading
-pub mod Store
 pub mod Told

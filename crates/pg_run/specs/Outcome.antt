@@ -8,7 +8,8 @@ use Rattle.pg_rows.specs.Output.{Entry, Missed, Read, Ending, Running, Ended, Fa
 use Rattle.pg_rows.specs.Output.{has_selected, output, status}
 use Rattle.pg_rows.specs.Sink.{TakesPart}
 use Rattle.pg_seq.specs.Settled.{AreLeftRightly}
-use Rattle.pg_run.specs.Given.{FilesPast, nothing_given, entries_given, files_given, IsTooLong}
+use Rattle.pg_files.specs.Given.{FilesPast, nothing_given, entries_given, files_given}
+use Rattle.pg_run.specs.Lengths.{IsTooLong}
 use Rattle.pg_run.specs.Told.{told_of}
 use Rattle.pg_run.specs.declared.setup.Setup.{Setup}
 use Rattle.pg_run.specs.declared.fault.RunFault.{RunFault}

@@ -9,7 +9,8 @@ use Rattle.pg_lines.specs.declared.cutter.CutFault.TheVariants.{OutOfMemory as N
 use Rattle.pg_rows.specs.Output.{Entry, Ending, Ended, Failed, Left, output, is_quiet}
 use Rattle.pg_rows.specs.Sink.{TakesPart}
 use Rattle.pg_seq.specs.Plan.{Step, is_open, opened, last_blocks, entries_of}
-use Rattle.pg_run.specs.Given.{Given, FilesPast, Sources, entries_given, files_given, IsTooLong}
+use Rattle.pg_files.specs.Given.{Given, FilesPast, Sources, entries_given, files_given}
+use Rattle.pg_run.specs.Lengths.{IsTooLong}
 use Rattle.pg_run.specs.Told.{told_of}
 use Rattle.pg_run.specs.Outcome.{Stream, GoesOn, EndsAtSelected, AsksToTheEnd}
 use Rattle.pg_run.specs.Cover.{Covers, IsReading}

@@ -4,7 +4,7 @@ use Rattle.pg_walk.specs.Causes.{cause_text}
 use Rattle.pg_walk.specs.declared.item.Cause.{Cause}
 use Rattle.pg_walk.specs.declared.item.Cause.TheVariants.{ReadFailed}
 use Rattle.pg_rows.specs.Output.{is_failed, when}
-use Rattle.pg_run.specs.Given.{Given, NoFile, File}
+use Rattle.pg_files.specs.Given.{Given, NoFile, File}
 
 abbrev pub fault_line : List ℕ → Cause → List ℕ
 fault_line name cause = codes "pargrep: " ++ name ++ codes ": " ++ cause_text cause ++ codes "\n"

@@ -2,7 +2,7 @@
 ghost use Rattle.std.specs.Prelude.{◌≡◌, ◌<◌, List, vec_len, IfSome, IfNone};
 ghost use Rattle.pg_lines.specs.Cutter.{Stands as CutterStands, Fed, IsDrained, IsNextBlock, AreAllBlocks, handed};
 
-use crate::files::Files;
+use pg_files::Files;
 use pg_lines::{Block, CutFault, Cutter};
 use pg_round::Reader;
 use std::alloc::{AllocError, Allocator, Global};

@@ -3,7 +3,7 @@ ghost use Rattle.std.specs.Prelude.{◌≡◌, ◌<◌, ◌++◌, List, true, fa
 ghost use Rattle.pg_lines.specs.Cutter.{IsDrained};
 ghost use Rattle.pg_rows.specs.Output.{when};
 ghost use Rattle.pg_walk.specs.declared.item.Cause.TheVariants.{ReadFailed};
-ghost use Rattle.pg_run.specs.Given.{Given, newest_name};
+ghost use Rattle.pg_files.specs.Given.{Given, newest_name};
 ghost use Rattle.pg_run.specs.Told.{faults_of, fault_line};
 ghost use Rattle.pg_run.specs.Holding.{Aim, stream};
 ghost use Rattle.pg_run.specs.Reading.{InFile, IsWhole, Between, Breaks, ending_of, ending_after};
@@ -11,8 +11,8 @@ ghost use Rattle.pg_run.specs.declared.reader.Came.TheVariants.{More, Refused};
 
 use crate::engine::Engine;
 use crate::fault::RunFault;
-use crate::files::Files;
 use crate::reader::{Came, FileReader};
+use pg_files::Files;
 use pg_lines::CutFault;
 use pg_round::Gate;
 use pg_rows::Sink;

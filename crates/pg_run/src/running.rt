@@ -5,7 +5,7 @@ ghost use Rattle.std.specs.List.{flat_map};
 ghost use Rattle.pg_lines.specs.Search.{Search, Pattern, AreTreesOf, HasItsTrees};
 ghost use Rattle.pg_rows.specs.Output.{Left, when};
 ghost use Rattle.pg_rows.specs.Sink.{TakesPart};
-ghost use Rattle.pg_run.specs.Given.{Given, NoFile, File, nothing_given};
+ghost use Rattle.pg_files.specs.Given.{Given, NoFile, File, nothing_given};
 ghost use Rattle.pg_run.specs.Told.{fault_line};
 ghost use Rattle.pg_run.specs.Outcome.{Stream, IsSearchFor, Finishes, BreaksOff, HasCause};
 ghost use Rattle.pg_run.specs.Holding.{Aim, Holds, stream};
@@ -15,11 +15,11 @@ ghost use Rattle.pg_run.specs.declared.fault.RunFault.TheVariants.{Sink as SinkF
 
 use crate::engine::Engine;
 use crate::fault::RunFault;
-use crate::files::{Files, Step};
 use crate::reader::FileReader;
 use crate::reading::read_file;
 use crate::setup::Setup;
 use crate::telling::tell;
+use pg_files::{Files, Step};
 use pg_lines::{Query, QueryText};
 use pg_round::Gate;
 use pg_rows::{Sink, WriteError};

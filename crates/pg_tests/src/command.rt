@@ -2,8 +2,8 @@
 ghost use Rattle.std.specs.Prelude.{◌≤◌};
 
 use pg_command::{Fault, Told, command, report};
+use pg_files::{Ending, Listed, MemStore};
 use pg_rows::MemSink;
-use pg_run::{Ending, Listed, MemStore};
 use pg_walk::{FileKind, MemTree, Node};
 use pg_words::{Task, Words, read_words};
 use std::alloc::{AllocError, Global};

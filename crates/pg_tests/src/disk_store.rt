@@ -1,6 +1,6 @@
 //! The system's files.
 use crate::formats::cut;
-use pg_run::{DiskStore, Store};
+use pg_files::{DiskStore, Store};
 use std::process::Abort;
 
 /// Whether a read into 16 bytes gives so many, or fails where `wanted` is no number.

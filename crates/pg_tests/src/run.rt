@@ -4,9 +4,10 @@ ghost use Rattle.pg_rows.specs.Output.{HasRoom};
 
 use crate::fixtures::{PLAIN, text_of};
 use crate::formats::{cut, format_of, with_newlines};
+use pg_files::{Ending, Listed, MemStore};
 use pg_lines::Kind;
 use pg_rows::{Format, MemSink};
-use pg_run::{Ending, FreeGate, Listed, MemStore, RunFault, Setup, run};
+use pg_run::{FreeGate, RunFault, Setup, run};
 use pg_walk::{Cause, Item};
 use refusing::Refusing;
 use std::alloc::{AllocError, Allocator, Global};

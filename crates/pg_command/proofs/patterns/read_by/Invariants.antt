@@ -1,6 +1,6 @@
 use Rattle.std.proofs.Common.{◌≡◌, ◌∷◌, ◌-◌, ◌^◌, ◌<◌, ℕ, List, length}
 use Rattle.pg_rows.specs.Output.{Left}
-use Rattle.pg_run.specs.Given.{Given, File}
+use Rattle.pg_files.specs.Given.{Given, File}
 use Rattle.pg_command.proofs.patterns.read_by.Given as goal
 
 abbrev pub invariant-loop-count : goal.invariant-loop-count

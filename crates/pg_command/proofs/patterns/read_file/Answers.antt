@@ -1,6 +1,6 @@
 use Rattle.std.proofs.Common.{◌∙◌, ◌∷◌, ap, inr, refl, subst, sym}
 use Rattle.pg_rows.specs.Output.{Left}
-use Rattle.pg_run.specs.Given.{File}
+use Rattle.pg_files.specs.Given.{File}
 use Rattle.pg_command.specs.Reading.{IsReadBy}
 use Rattle.std.proofs.lemmas.Result.{IfOk-from_err}
 use Rattle.pg_command.proofs.patterns.read_file.Goals as goal

@@ -1,7 +1,7 @@
 use Rattle.std.proofs.Common.{◌∙◌, map, ap, inr, refl, subst, sym}
 use Rattle.pg_syntax.specs.Slices.{bytes_of}
 use Rattle.pg_walk.specs.Items.{found}
-use Rattle.pg_run.specs.Listed.{files_past, sources}
+use Rattle.pg_files.specs.Listed.{files_past, sources}
 use Rattle.pg_run.specs.Outcome.{BreaksOff, IsSearchFor, Stream}
 use Rattle.pg_command.specs.Asked.{asked_of, text_with}
 use Rattle.pg_command.specs.Answers.{Fails}

@@ -2,7 +2,7 @@ use Rattle.std.proofs.Common.{◌≡◌, ◌∙◌, Bool, false, true, ◌++◌,
 use Rattle.std.proofs.lemmas.Result.{IfOk-from_err}
 use Rattle.pg_walk.specs.declared.item.Cause.TheVariants.{ReadFailed}
 use Rattle.pg_rows.specs.Output.{is_failed, when}
-use Rattle.pg_run.specs.Given.{newest_name}
+use Rattle.pg_files.specs.Given.{newest_name}
 use Rattle.pg_run.specs.Told.{faults_of, fault_line}
 use Rattle.pg_run.specs.Holding.{stream}
 use Rattle.pg_run.specs.Reading.{Breaks, ending_after}

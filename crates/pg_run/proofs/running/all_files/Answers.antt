@@ -1,5 +1,5 @@
 use Rattle.std.proofs.Common.{◌∙◌, Bool, List, inl, inr, sym, subst}
-use Rattle.pg_run.specs.Given.{Given, entries_given}
+use Rattle.pg_files.specs.Given.{Given, entries_given}
 use Rattle.pg_run.specs.Outcome.{EndsAtSelected}
 use Rattle.pg_run.specs.Holding.{stream}
 use Rattle.pg_run.specs.Reading.{Goes, Stops}

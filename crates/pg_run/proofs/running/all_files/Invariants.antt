@@ -1,6 +1,6 @@
 use Rattle.std.proofs.Common.{◌≡◌, true, false, []}
 use Rattle.pg_rows.specs.Output.{is_quiet}
-use Rattle.pg_run.specs.Given.{entries_given}
+use Rattle.pg_files.specs.Given.{entries_given}
 use Rattle.pg_run.specs.Outcome.{EndsAtSelected}
 use Rattle.pg_run.specs.Holding.{Aim, stream, format_of}
 use Rattle.pg_run.specs.Reading.{Rests}

@@ -7,7 +7,7 @@ use Rattle.pg_lines.specs.declared.query.QueryFault.TheVariants.{Syntax, TooLarg
 use Rattle.pg_run.specs.declared.setup.Setup.{Setup}
 use Rattle.pg_run.specs.Faults.{fault_of_query}
 use Rattle.pg_run.specs.Outcome.{HasCause, Stream}
-use Rattle.pg_run.specs.Given.{nothing_given}
+use Rattle.pg_files.specs.Given.{nothing_given}
 use Rattle.pg_run.specs.declared.fault.RunFault.{RunFault}
 use Rattle.pg_run.specs.declared.fault.RunFault.TheVariants.{OutOfMemory}
 use Rattle.pg_run.proofs.HoldLemmas.{err_by, ok_of_err}

@@ -1,5 +1,5 @@
 use Rattle.std.proofs.Common.{◌∷◌, ap, refl, subst, sym}
-use Rattle.pg_run.specs.Given.{NoFile}
+use Rattle.pg_files.specs.Given.{NoFile}
 use Rattle.pg_run.specs.Told.{fault_line}
 use Rattle.pg_run.specs.Holding.{stream}
 use Rattle.pg_run.specs.Reading.{Stops}

@@ -1,7 +1,7 @@
 use Rattle.std.proofs.Common.{◌≡◌, ◌∙◌, List, [], ◌∷◌, ◌++◌, ap, drop, refl, subst, sym}
 use Rattle.pg_walk.specs.declared.item.Cause.TheVariants.{ReadFailed}
 use Rattle.pg_rows.specs.Output.{Left}
-use Rattle.pg_run.specs.Given.{Given, File}
+use Rattle.pg_files.specs.Given.{Given, File}
 use Rattle.pg_run.specs.Told.{fault_line, faults_of}
 use Rattle.pg_run.specs.Holding.{stream}
 use Rattle.pg_run.specs.Reading.{Stops}

@@ -1,6 +1,6 @@
 use Rattle.std.proofs.Common.{[], refl, subst, sym}
 use Rattle.std.proofs.lemmas.Result.{IfOk-from_err}
-use Rattle.pg_run.specs.Given.{FilesPast}
+use Rattle.pg_files.specs.Given.{FilesPast}
 use Rattle.pg_run.specs.Holding.{stream}
 use Rattle.pg_run.specs.Reading.{Stops}
 use Rattle.pg_run.specs.declared.fault.RunFault.TheVariants.{OutOfMemory}

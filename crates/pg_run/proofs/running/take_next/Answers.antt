@@ -1,9 +1,9 @@
 use Rattle.std.proofs.Common.{◌≡◌, ◌∙◌, List, ◌∷◌, ap, drop, subst, sym}
-use Rattle.pg_run.specs.Given.{Given, NoFile, FilesPast, newest_name}
-use Rattle.pg_run.specs.Asking.{NextGives}
+use Rattle.pg_files.specs.Given.{Given, NoFile, FilesPast, newest_name}
+use Rattle.pg_files.specs.Asking.{NextGives}
 use Rattle.pg_run.specs.Holding.{stream}
 use Rattle.pg_run.specs.Reading.{Rests, Stops}
-use Rattle.pg_run.specs.declared.files.Step.{Step}
+use Rattle.pg_files.specs.declared.files.Step.{Step}
 use Rattle.pg_run.specs.declared.fault.RunFault.TheVariants.{OutOfMemory}
 use Rattle.pg_run.proofs.HoldLemmas.{err_by, ok_of_err}
 use Rattle.pg_run.proofs.RunLemmas.{between_safe, stops_memory}

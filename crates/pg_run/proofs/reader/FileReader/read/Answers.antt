@@ -1,6 +1,6 @@
 use Rattle.std.proofs.Common.{◌≡◌, ◌∙◌, ℕ, Err, true, false, List, ◌++◌, length, take, drop, ap, sym, refl, arith}
 use Rattle.std.proofs.Math.Seq.{take-append_seam}
-use Rattle.pg_run.specs.Given.{gave_bytes}
+use Rattle.pg_files.specs.Given.{gave_bytes}
 use Rattle.pg_run.proofs.ReadingLemmas.{read_some, read_none, read_stopped, read_cut, read_refused}
 use Rattle.pg_run.proofs.reader.FileReader.read.Goals as goal
 

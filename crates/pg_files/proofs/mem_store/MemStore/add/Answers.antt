@@ -1,0 +1,28 @@
+use Rattle.std.proofs.Common.{arith, refl}
+use Rattle.std.proofs.lemmas.Grind.{common_steps}
+use Rattle.pg_rows.proofs.SinkLemmas.{on_err}
+use Rattle.pg_run.proofs.HoldLemmas.{ok_of_err}
+use Rattle.pg_files.proofs.mem_store.MemStore.add.Goals as goal
+
+pub returns-in_err-from_str-clause-ok : goal.returns-in_err-from_str-clause-ok
+returns-in_err-from_str-clause-ok c = ok_of_err c.from_residual.result _ c.from_residual.ensures.0
+
+pub returns-in_err-from_str-clause-err : goal.returns-in_err-from_str-clause-err
+returns-in_err-from_str-clause-err c = on_err _ c.from_residual.result refl
+
+pub returns-in_err-from_slice-clause-ok : goal.returns-in_err-from_slice-clause-ok
+returns-in_err-from_slice-clause-ok c =
+    ok_of_err c.from_residual-in_err-from_slice.result _ c.from_residual-in_err-from_slice.ensures.0
+
+pub returns-in_err-from_slice-clause-err : goal.returns-in_err-from_slice-clause-err
+returns-in_err-from_slice-clause-err c = on_err _ c.from_residual-in_err-from_slice.result refl
+
+pub returns-in_err-push-clause-ok : goal.returns-in_err-push-clause-ok
+returns-in_err-push-clause-ok c =
+    ok_of_err c.from_residual-in_err-push.result _ c.from_residual-in_err-push.ensures.0
+
+pub returns-clause-ok : goal.returns-clause-ok
+returns-clause-ok c = grind (arith, common_steps)
+
+pub returns-clause-err : goal.returns-clause-err
+returns-clause-err c = tt

@@ -1,0 +1,31 @@
+-- What was kept of the paths that were opened, as what they gave.
+use Rattle.std.specs.Prelude.{ℕ, Bool, if◌then◌else◌, List, [], ◌∷◌, map, reverse, Option, Some, None}
+use Rattle.pg_rows.specs.Output.{Left, Ended, Failed}
+use Rattle.pg_files.specs.Given.{Given, NoFile, File}
+use Rattle.pg_files.specs.declared.past.Access.{Access}
+use Rattle.pg_files.specs.declared.past.Reading.{Reading}
+use Rattle.pg_files.specs.declared.past.Reading.TheVariants.{Refused, Unfinished, Finished, Broken}
+
+abbrev pub given_as : (path bytes : List ℕ) → Reading → Given
+given_as path bytes (Refused cause) = NoFile path cause
+given_as path bytes Unfinished = File path bytes Left
+given_as path bytes Finished = File path bytes Ended
+given_as path bytes Broken = File path bytes Failed
+
+abbrev pub given_of : Access → Given
+given_of access = given_as access.path.items access.bytes.items access.reading
+
+abbrev pub newest_of : Option Access → List Given → List Given
+newest_of None earlier = []
+newest_of (Some access) earlier = given_of access ∷ earlier
+
+-- an end was met, or a failure; where there was no file nothing changes
+abbrev pub ended : Bool → Reading → Reading
+ended failed (Refused cause) = Refused cause
+ended failed Unfinished = if failed then Broken else Finished
+ended failed Finished = if failed then Broken else Finished
+ended failed Broken = if failed then Broken else Finished
+
+-- The earlier accesses stand in their order, and then the newest; without a newest there is none.
+abbrev pub past_of : List Access → Option Access → List Given
+past_of earlier newest = newest_of newest (reverse (map given_of earlier))

@@ -1,0 +1,65 @@
+-- What files gave. The newest stands first in each list.
+use Rattle.std.specs.Prelude.{ℕ, ◌+◌, Bool, true, false, if◌then◌else◌, List, [], ◌∷◌, ◌++◌, map}
+use Rattle.pg_walk.specs.Items.{Found}
+use Rattle.pg_walk.specs.declared.item.Cause.{Cause}
+use Rattle.pg_rows.specs.Output.{Entry, Missed, Read, Ending, Running, Ended, Failed, Left}
+
+-- a name that gives no file, and why; or a file with the bytes that its reads gave. A file whose end wasn't met and
+-- whose reading didn't fail is `Left`.
+pub data Given : Type 0 where
+  NoFile : (name : List ℕ) (cause : Cause) → Given
+  File : (name bytes : List ℕ) (ending : Ending) → Given
+
+-- what was given, and whether it was told that there is no more
+pub record FilesPast : Type 0 where
+  pub given : List Given
+  pub done : Bool
+
+-- the names that are looked for, and what was given of others before
+pub record Sources : Type 0 where
+  pub items : List Found
+  pub earlier : List Given
+
+abbrev pub nothing_given : FilesPast
+nothing_given = record { given = []; done = false }
+
+-- as output and status see it
+abbrev pub entry_of : Given → Entry
+entry_of (NoFile name cause) = Missed name
+entry_of (File name bytes ending) = Read name bytes ending
+
+abbrev pub entries_given : List Given → List Entry
+entries_given given = map entry_of given
+
+-- a file is open: it is the newest, and neither its end nor a failure was met
+abbrev pub is_reading : List Given → Bool
+is_reading [] = false
+is_reading (NoFile name cause ∷ given) = false
+is_reading (File name bytes Running ∷ given) = false
+is_reading (File name bytes Ended ∷ given) = false
+is_reading (File name bytes Failed ∷ given) = false
+is_reading (File name bytes Left ∷ given) = true
+
+-- the name of the newest
+abbrev pub newest_name : List Given → List ℕ
+newest_name [] = []
+newest_name (NoFile name cause ∷ given) = name
+newest_name (File name bytes ending ∷ given) = name
+
+-- the newest file gave more bytes
+abbrev pub gave_bytes : List ℕ → List Given → List Given
+gave_bytes more [] = []
+gave_bytes more (NoFile name cause ∷ given) = NoFile name cause ∷ given
+gave_bytes more (File name bytes ending ∷ given) = File name (bytes ++ more) ending ∷ given
+
+-- the newest file's end was met, or its reading failed
+abbrev pub gave_end : Bool → List Given → List Given
+gave_end failed [] = []
+gave_end failed (NoFile name cause ∷ given) = NoFile name cause ∷ given
+gave_end failed (File name bytes ending ∷ given) = File name bytes (if failed then Failed else Ended) ∷ given
+
+-- how many files were opened
+abbrev pub files_given : List Given → ℕ
+files_given [] = 0
+files_given (NoFile name cause ∷ given) = files_given given
+files_given (File name bytes ending ∷ given) = files_given given + 1

@@ -1,0 +1,62 @@
+-- The items of a walk as files that are given, by what a store gave for their paths.
+use Rattle.std.specs.Prelude.{◌≡◌, ◌⊎◌, ℕ, nat_eq, Bool, List, [], ◌∷◌, map, length, take, drop, reverse}
+use Rattle.std.specs.Prelude.{codes, if◌then◌else◌}
+use lib.Pointwise.{pointwise}
+use Rattle.pg_walk.specs.Items.{Found, File as AFile, Fault}
+use Rattle.pg_walk.specs.declared.item.Cause.{Cause}
+use Rattle.pg_rows.specs.Output.{Left}
+use Rattle.pg_files.specs.Given.{Given, NoFile, File, FilesPast, Sources}
+use Rattle.pg_files.specs.declared.files.Step.{Step}
+use Rattle.pg_files.specs.declared.files.Step.TheVariants.{File as NextFile, Miss as NextMiss}
+
+-- how a path is called in rows and fault lines
+abbrev pub shown_name : List ℕ → List ℕ
+shown_name path = if pointwise nat_eq path (codes "-") then codes "(standard input)" else path
+
+abbrev pub shown : Given → Given
+shown (NoFile path cause) = NoFile (shown_name path) cause
+shown (File path bytes ending) = File (shown_name path) bytes ending
+
+-- the first items, the last of them first
+abbrev pub asked_for : ℕ → List Found → List Found
+asked_for count items = reverse (take count items)
+
+-- The items that were asked for, the newest first, have given this: a fault itself, and a file what the store gave for
+-- it. The store's past has the newest access first, and one for each file.
+abbrev pub given_by : List Found → List Given → List Given
+given_by [] past = []
+given_by (Fault path cause ∷ items) past = NoFile (shown_name path) cause ∷ given_by items past
+given_by (AFile path ∷ items) [] = []
+given_by (AFile path ∷ items) (g ∷ past) = shown g ∷ given_by items past
+
+-- the paths of the files among items
+abbrev pub file_paths : List Found → List (List ℕ)
+file_paths [] = []
+file_paths (Fault path cause ∷ items) = file_paths items
+file_paths (AFile path ∷ items) = path ∷ file_paths items
+
+abbrev pub path_of : Given → List ℕ
+path_of (NoFile path cause) = path
+path_of (File path bytes ending) = path
+
+-- the paths that were opened last, so many of them, the newest first
+abbrev pub newest_paths : ℕ → List Given → List (List ℕ)
+newest_paths count past = map path_of (take count past)
+
+abbrev pub path_in : Found → List ℕ
+path_in (AFile path) = path
+path_in (Fault path cause) = path
+
+-- An item's turn came: its file was opened or gave none, or it is a fault.
+abbrev pub Reaches : Found → Step → List Given → List Given → Type 0
+Reaches (Fault path cause) step past past' = (step ≡ NextMiss cause) × (past' ≡ past)
+Reaches (AFile path) step past past' =
+    ((step ≡ NextFile) × (past' ≡ File path [] Left ∷ past))
+    ⊎ ((cause : Cause) × (step ≡ NextMiss cause) × (past' ≡ NoFile path cause ∷ past))
+
+abbrev pub files_past : ℕ → Bool → List Found → List Given → FilesPast
+files_past asked done items past = record { given = given_by (asked_for asked items) past; done = done }
+
+-- what the store gave before the items' files were opened stands behind these
+abbrev pub sources : ℕ → List Found → List Given → Sources
+sources asked items past = record { items = items; earlier = drop (length (file_paths (asked_for asked items))) past }

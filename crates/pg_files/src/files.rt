@@ -1,0 +1,69 @@
+//! Files that are given one after another.
+ghost use Rattle.std.specs.Prelude.{◌≡◌, ◌<◌, false, true, length, IfOk, OnErr};
+ghost use Rattle.pg_files.specs.Given.{FilesPast, Sources, is_reading, newest_name};
+ghost use Rattle.pg_files.specs.Asking.{NextGives, ReadGives};
+
+use pg_walk::Cause;
+use std::alloc::AllocError;
+use thiserror::Error;
+
+/// A read that failed.
+#[derive(Clone, Copy, Debug, PartialEq, Eq, Error)]
+#[error("read failed")]
+pub struct ReadFault;
+
+/// What comes next.
+#[derive(Clone, Copy, Debug, PartialEq, Eq)]
+pub enum Step {
+    /// A file. It is the one that is read.
+    File,
+    /// A name that gives no file, and why.
+    Miss(Cause),
+    /// There is no more.
+    Done,
+}
+
+/// Files that are given one after another, and read as far as that is asked for.
+pub trait Files {
+    /// What is looked for, and where. No call changes it.
+    ghost list: { Self → Sources };
+
+    /// What was given.
+    ghost past: { Self → FilesPast };
+
+    /// Goes on to the next file or name, also where the one before wasn't read to its end. It isn't
+    /// called behind `Done`.
+    ///
+    /// # Errors
+    ///
+    /// `AllocError` where a request for memory was refused. The next call tries the same again.
+    fn next(&mut self) -> Result<Step, AllocError>
+        requires { (past self.old).done ≡ false }
+        ensures ok { IfOk result (λ step. NextGives step (past self.old) (past self.new)) }
+        ensures err { OnErr result (past self.new ≡ past self.old) }
+        ensures same_list { list self.new ≡ list self.old };
+
+    /// The name of the newest file or miss, and the empty one where nothing was given.
+    fn name(&self) -> &[u8]
+        ensures { result.now ≡ newest_name (past self.now).given };
+
+    /// Whether a read of the newest file may wait for someone else, as that of a pipe or a terminal.
+    /// Nothing rests on the answer but when rows are written.
+    fn may_wait(&self) -> bool;
+
+    /// Reads the next bytes of the newest file into the front of a buffer that isn't empty. The file's
+    /// end wasn't met, and no read of it failed.
+    ///
+    /// `Ok(k)` says that these are the buffer's first k bytes. `Ok(0)` is the file's end.
+    ///
+    /// # Errors
+    ///
+    /// `ReadFault` where the read failed, also where it was interrupted.
+    fn read(&mut self, into: &mut [u8]) -> Result<usize, ReadFault>
+        requires room { 0 < length into.old }
+        requires reading { is_reading (past self.old).given ≡ true }
+        ensures given { ReadGives into.new (past self.old).given (past self.new).given result }
+        ensures size { length into.new ≡ length into.old }
+        ensures done { (past self.new).done ≡ (past self.old).done }
+        ensures same_list { list self.new ≡ list self.old };
+}

@@ -1,0 +1,50 @@
+//! Files by their paths.
+ghost use Rattle.std.specs.Prelude.{◌≡◌, ◌<◌, length, List};
+ghost use Rattle.pg_files.specs.Given.{Given};
+ghost use Rattle.pg_files.specs.Asking.{ReadGives};
+ghost use Rattle.pg_files.specs.Store.{Opens};
+
+use crate::files::ReadFault;
+use pg_walk::Cause;
+
+/// Why a path isn't opened.
+#[derive(Clone, Copy, Debug, PartialEq, Eq)]
+pub enum OpenFault {
+    /// It gives no file.
+    Refused(Cause),
+    /// A request for memory was refused.
+    OutOfMemory,
+}
+
+/// Files that are opened by their paths and read one at a time.
+pub trait Store {
+    /// What the files gave, by their paths.
+    ghost past: { Self → List Given };
+
+    /// Makes the file at a path, or for `-` standard input, the one that `read` reads. Where
+    /// `spares_output` is true, the file that the output goes to is refused, for it would be read on as
+    /// it grows.
+    ///
+    /// # Errors
+    ///
+    /// `Refused` where the path gives no file, with its cause, and `OutOfMemory` where a request for
+    /// memory was refused. Then nothing has changed.
+    fn open(&mut self, path: &str, spares_output: bool) -> Result<(), OpenFault>
+        ensures { Opens path.now (past self.old) (past self.new) result };
+
+    /// Whether a read of the open file may wait for someone else, as that of a pipe or a terminal.
+    /// Nothing rests on the answer but when rows are written.
+    fn may_wait(&self) -> bool;
+
+    /// Reads the next bytes of the open file into the front of a buffer that isn't empty.
+    ///
+    /// `Ok(k)` says that these are the buffer's first k bytes. `Ok(0)` is the file's end.
+    ///
+    /// # Errors
+    ///
+    /// `ReadFault` where the read failed, also where it was interrupted, and where no file is open.
+    fn read(&mut self, into: &mut [u8]) -> Result<usize, ReadFault>
+        requires { 0 < length into.old }
+        ensures given { ReadGives into.new (past self.old) (past self.new) result }
+        ensures size { length into.new ≡ length into.old };
+}

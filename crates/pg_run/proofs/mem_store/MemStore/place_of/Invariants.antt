@@ -1,6 +1,0 @@
-use Rattle.std.proofs.Common.{◌≡◌, drop, map}
-use Rattle.pg_run.specs.MemStore.{files, stored, file_at}
-use Rattle.pg_run.proofs.mem_store.MemStore.place_of.Given as goal
-
-abbrev pub invariant-loop-place : goal.invariant-loop-place
-invariant-loop-place l = file_at (map stored (drop l.place l.self.files.items)) l.path ≡ file_at (files l.self) l.path
