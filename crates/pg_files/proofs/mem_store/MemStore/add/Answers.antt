@@ -1,7 +1,6 @@
 use Rattle.std.proofs.Common.{arith, refl}
 use Rattle.std.proofs.lemmas.Grind.{common_steps}
-use Rattle.pg_rows.proofs.SinkLemmas.{on_err}
-use Rattle.pg_run.proofs.HoldLemmas.{ok_of_err}
+use Rattle.pg_rows.proofs.SinkLemmas.{ok_of_err, on_err}
 use Rattle.pg_files.proofs.mem_store.MemStore.add.Goals as goal
 
 pub returns-in_err-from_str-clause-ok : goal.returns-in_err-from_str-clause-ok
