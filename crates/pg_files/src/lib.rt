@@ -1,8 +1,8 @@
 //! Files that are given one after another, and read as far as that is asked for: the system's, or some in memory.
 //!
 //! A run reads [`Files`]. [`Listed`] gives the items of a walk, each file opened in a [`Store`] when its turn comes;
-//! [`DiskStore`] opens the system's files and [`MemStore`] those that a test has put there. Contracts see what was given
-//! so far, which takes no memory.
+//! [`DiskStore`] opens the system's files and [`MemStore`] those that a test has put there. Contracts see what was
+//! given so far, which takes no memory.
 #![tactic(auto)]
 
 mod disk_store;

@@ -86,12 +86,18 @@ spelled-more kind fold (t ∷ texts) [] text p h s = absurd h
 spelled-more kind fold (t ∷ texts) (q ∷ trees) text p h s = (h.0, spelled-more kind fold texts trees text p h.1 s)
 
 -- the tree of one more text
-pub trees-more : {A : Type 0} (kind : Kind) (fold : Bool) (texts : List (Bor (List ℕ))) (i : ℕ) (d : Bor (List ℕ)) (trees new : List (Tree A)) (tree : Tree A) → i < length texts → new ≡ trees ++ tree ∷ [] → AreSpelled kind fold (bytes_of (take i texts)) (map pattern trees) → IsSpelled kind fold (get_or texts i d).now (pattern tree) → AreSpelled kind fold (bytes_of (take (i + 1) texts)) (map pattern new)
+pub trees-more : {A : Type 0} (kind : Kind) (fold : Bool) (texts : List (Bor (List ℕ))) (i : ℕ) (d : Bor (List ℕ))
+    (trees new : List (Tree A)) (tree : Tree A)
+    → i < length texts → new ≡ trees ++ tree ∷ [] → AreSpelled kind fold (bytes_of (take i texts)) (map pattern trees)
+    → IsSpelled kind fold (get_or texts i d).now (pattern tree)
+    → AreSpelled kind fold (bytes_of (take (i + 1) texts)) (map pattern new)
 trees-more {A} kind fold texts i d trees new tree h e spelled s =
-    let pushed : map pattern new ≡ map pattern trees ++ pattern tree ∷ [] = ap (map pattern) e ∙ map-push pattern trees tree in
+    let pushed : map pattern new ≡ map pattern trees ++ pattern tree ∷ [] =
+    ap (map pattern) e ∙ map-push pattern trees tree in
     subst (AreSpelled kind fold (bytes_of (take (i + 1) texts))) (sym pushed)
     (subst (λ ts. AreSpelled kind fold ts (map pattern trees ++ pattern tree ∷ [])) (sym (texts-more texts i d h))
-    (spelled-more kind fold (bytes_of (take i texts)) (map pattern trees) (get_or texts i d).now (pattern tree) spelled s))
+    (spelled-more kind fold (bytes_of (take i texts)) (map pattern trees) (get_or texts i d).now (pattern tree)
+    spelled s))
 
 spelled-length : (kind : Kind) (fold : Bool) (texts : List (List ℕ)) (trees : List Pattern) → AreSpelled kind fold texts trees → length trees ≡ length texts
 spelled-length kind fold [] [] h = refl

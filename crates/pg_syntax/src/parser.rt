@@ -123,7 +123,7 @@ fn parse<A: Allocator + Copy>(alloc: A, source: Source) -> Result<Tree<A>, Synta
     parse_some(alloc, &source)
 }
 
-/// The tree of an expression that isn't empty.
+/// The tree of an expression of 1 to 4,096 bytes.
 fn parse_some<A: Allocator + Copy>(alloc: A, source: &Source) -> Result<Tree<A>, SyntaxFault>
     requires some { source.now.text.now ≢ [] }
     requires short { length source.now.text.now ≤ 4096 }
@@ -136,7 +136,7 @@ fn parse_some<A: Allocator + Copy>(alloc: A, source: &Source) -> Result<Tree<A>,
     build(&mut builder, source)
 }
 
-/// The tree of an expression that isn't empty, by a builder of which nothing was read.
+/// The tree of an expression of 1 to 4,096 bytes, by a builder that was given nothing yet.
 fn build<A: Allocator + Copy>(
     builder: &mut Builder<A>,
     source: &Source,

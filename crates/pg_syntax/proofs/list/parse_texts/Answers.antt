@@ -19,4 +19,6 @@ returns-in-Err-clause-refused g c =
 
 pub loop-text-preserved : goal.loop-text-preserved
 loop-text-preserved g c =
-    trees-more c.args.kind c.args.fold c.args.texts.now c.loop-text.text-index _ c.loop-text.trees.items c.push.new.self.items c.in-Ok.tree c.loop-text-test.true c.in_ok-push-in-Ok.ensures.items c.loop-text.invariant c.in-Ok.ensures.spelled
+    trees-more c.args.kind c.args.fold c.args.texts.now c.loop-text.text-index _ c.loop-text.trees.items
+    c.push.new.self.items c.in-Ok.tree c.loop-text-test.true c.in_ok-push-in-Ok.ensures.items
+    c.loop-text.invariant c.in-Ok.ensures.spelled

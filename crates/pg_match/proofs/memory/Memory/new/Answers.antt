@@ -17,6 +17,7 @@ returns g c =
     let f_ok = c.in_ok-fresh.fresh.ok.0 in
     let u_ok = c.in_ok-cuts.cuts.ok.0 in
     let zero = zeros _ 258 u in
-    blank_table c.args.states _ (omega (arith, c.in_ok-steps.ensures.len)) (omega (arith, c.in_ok-ends.ensures.len)) (omega (arith, c.in_ok-pool.ensures.len))
+    blank_table c.args.states _ (omega (arith, c.in_ok-steps.ensures.len)) (omega (arith, c.in_ok-ends.ensures.len))
+    (omega (arith, c.in_ok-pool.ensures.len))
     (omega (arith, c.in_ok-cuts.ensures.len)) (omega (arith, c.in_ok-fresh.ensures.len)) refl (zeros _ 65792 s) (nones _ 257 l)
     (zero 0 ∙ sym (zero 1)) (omega (arith, zero 1))
