@@ -1,4 +1,5 @@
-use Rattle.std.proofs.Common.{◌≡◌, ℕ, zero, suc, ◌+◌, ◌-◌, ◌<◌, ◌≤◌, ◌^◌, ◌++◌, List, [], ◌∷◌, length, take, drop, min, arith}
+use Rattle.std.proofs.Common.{◌≡◌, ℕ, zero, suc, ◌+◌, ◌-◌, ◌<◌, ◌≤◌, ◌^◌, ◌++◌, List, [], ◌∷◌}
+use Rattle.std.proofs.Common.{length, take, drop, min, arith}
 use Rattle.std.proofs.Common.{sym, ap, ◌∙◌, subst, append_assoc, length-drop, refl, inl, inr}
 use Rattle.std.proofs.lemmas.List.{take_rest}
 use Rattle.pg_lines.specs.Lines.{lines, AreWhole}
@@ -110,7 +111,8 @@ print_kept-requires-clause-enough g c =
 
 pub print_kept-requires-clause-small : goal.print_kept-requires-clause-small
 print_kept-requires-clause-small g c =
-    let Q : Printer g.row.A.Denot → Type 0 = λ p. c.args.passed.number + length (lines p.end c.args.text.now) < 2 ^ 63 in
+    let Q : Printer g.row.A.Denot → Type 0 =
+    λ p. c.args.passed.number + length (lines p.end c.args.text.now) < 2 ^ 63 in
     subst Q (sym c.in_ok-stop.ensures.same) c.requires.small
 
 pub returns-clause-all : goal.returns-clause-all
