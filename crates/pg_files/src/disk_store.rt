@@ -1,13 +1,15 @@
 //! The system's files.
+ghost use Rattle.std.specs.Prelude.{◌≡◌, ◌∷◌};
+
 use crate::files::ReadFault;
 use crate::past::StorePast;
 use crate::store::{OpenFault, Store};
 use pg_walk::Cause;
-use std::fs;
-use std::fs::OpenFile;
+use std::fs::{Metadata, OpenFile};
 use std::io::{ErrorKind, Read};
 use std::os::unix::fs::MetadataExt;
 use std::rt::Files;
+use std::{fs, io};
 
 #[derive(Drop)]
 enum Source<I: Read + Drop, F: Read + OpenFile + Drop> {
@@ -23,9 +25,9 @@ struct FileId {
     number: u64,
 }
 
-/// The regular file at a path, links followed.
-fn regular_file<R: Files>(rt: &R, path: &str) -> Option<FileId> {
-    let metadata = fs::metadata(rt, path).ok()?;
+/// What tells a regular file from all others. Other things have none.
+fn regular_id(metadata: io::Result<Metadata>) -> Option<FileId> {
+    let metadata = metadata.ok()?;
     if metadata.is_file() {
         Some(FileId {
             device: metadata.dev(),
@@ -47,9 +49,12 @@ pub struct DiskStore<R: Files + Input + Drop> {
 }
 
 impl<R: Files + Input + Drop> DiskStore<R> {
+    ghost use Rattle.pg_files.specs.Given.{NoFile};
+    ghost use Rattle.pg_files.specs.declared.store.OpenFault.TheVariants.{Refused};
+
     /// No file is open. What standard output goes to is looked at now.
     pub fn new(rt: R) -> DiskStore<R> {
-        let output = regular_file(&rt, "/dev/stdout");
+        let output = regular_id(fs::metadata(&rt, "/dev/stdout"));
         DiskStore {
             rt,
             source: Source::Closed,
@@ -58,9 +63,24 @@ impl<R: Files + Input + Drop> DiskStore<R> {
         }
     }
 
-    /// Whether standard output goes to the file at a path.
-    fn is_output(&self, path: &str) -> bool {
-        self.output.is_some() && self.output == regular_file(&self.rt, path)
+    /// Whether standard output goes to standard input's file.
+    fn is_output_read(&self) -> bool {
+        self.output.is_some() && self.output == regular_id(fs::metadata(&self.rt, "/dev/stdin"))
+    }
+
+    /// Whether standard output goes to an open file.
+    fn is_output(&self, file: &R::File) -> bool {
+        self.output.is_some() && self.output == regular_id(file.metadata())
+    }
+
+    /// Notes that a path gives no file. None is open then.
+    fn refuse(&mut self, path: &str, cause: Cause) -> OpenFault
+        ensures past { self.new.past ≡ NoFile path.now cause ∷ self.old.past }
+        ensures fault { result ≡ Refused cause }
+    {
+        self.source = Source::Closed;
+        self.past.refuse(path, cause);
+        OpenFault::Refused(cause)
     }
 }
 
@@ -68,37 +88,32 @@ impl<R: Files + Input + Drop> Store for DiskStore<R> {
     ghost past = { λ s. s.past };
 
     fn open(&mut self, path: &str, spares_output: bool) -> Result<(), OpenFault> {
-        let is_standard = path == "-";
-        let looked_at = if is_standard { "/dev/stdin" } else { path };
-        if spares_output && self.is_output(looked_at) {
-            self.source = Source::Closed;
-            self.past.refuse(path, Cause::IsOutput);
-            return Err(OpenFault::Refused(Cause::IsOutput));
-        }
-        if is_standard {
+        if path == "-" {
+            if spares_output && self.is_output_read() {
+                return Err(self.refuse(path, Cause::IsOutput));
+            }
             self.source = Source::Standard(self.rt.reader());
             self.past.open(path);
             return Ok(());
         }
         match fs::open(&self.rt, path) {
             Ok(file) => {
+                if spares_output && self.is_output(&file) {
+                    return Err(self.refuse(path, Cause::IsOutput));
+                }
                 self.source = Source::Open(file);
                 self.past.open(path);
                 Ok(())
             }
             Err(error) if error.kind() == ErrorKind::OutOfMemory => Err(OpenFault::OutOfMemory),
-            Err(_) => {
-                self.source = Source::Closed;
-                self.past.refuse(path, Cause::CannotOpen);
-                Err(OpenFault::Refused(Cause::CannotOpen))
-            }
+            Err(_) => Err(self.refuse(path, Cause::CannotOpen)),
         }
     }
 
     fn may_wait(&self) -> bool {
         match &self.source {
             Source::Closed => false,
-            Source::Standard(_) => regular_file(&self.rt, "/dev/stdin").is_none(),
+            Source::Standard(_) => regular_id(fs::metadata(&self.rt, "/dev/stdin")).is_none(),
             Source::Open(file) => !file.metadata().is_ok_and(|metadata| metadata.is_file()),
         }
     }

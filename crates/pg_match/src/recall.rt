@@ -72,6 +72,9 @@ impl<A: Allocator> Automaton<A> {
         ensures some { 1 ≤ memory.new.count }
         ensures visits { sets.new.visits ≤ sets.old.visits + sets.new.current.len }
     {
+        if memory.steps[256 * row + byte as usize] == HIT {
+            return Next::Hit;
+        }
         memory.load(row, &mut sets.current);
         if self.hits_before(&sets.current, byte) {
             memory.mark(row, byte, HIT);

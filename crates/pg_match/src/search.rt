@@ -43,6 +43,7 @@ impl<A: Allocator> StateSets<A> {
 }
 
 /// The best span, where a match ends at `place` whose start, plus one, is `mark`, or none does and `mark` is 0.
+#[inline(always)]
 fn judge(place: usize, mark: u32, best: Option<(usize, usize)>) -> Option<(usize, usize)>
     ensures { result ≡ judged place mark best }
 {
@@ -67,6 +68,7 @@ fn judge(place: usize, mark: u32, best: Option<(usize, usize)>) -> Option<(usize
 }
 
 /// The greatest mark of a match that may still win.
+#[inline(always)]
 fn limit(best: Option<(usize, usize)>) -> u32
     requires { limit_of best < 2 ^ 32 }
     ensures { result ≡ limit_of best }
@@ -143,6 +145,7 @@ impl<A: Allocator> Automaton<A> {
     }
 
     /// Completes the set of a place, and judges the match that ends there.
+    #[inline(always)]
     fn settle(
         &self,
         sets: &mut StateSets<A>,

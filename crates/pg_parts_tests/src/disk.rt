@@ -1,99 +1,13 @@
-//! The system's tree, over a directory that the test makes, and over a runtime that stands in for the system.
-use crate::memory::{assert_rows, halves, walked};
-use pg_walk::{DiskTree, FileKind, FileTree, LookFault};
+//! The system's tree, over directories that a test makes, and over a runtime that stands in for the system.
+use crate::memory::{halves, walked};
+use pg_walk::{DiskTree, FileTree, LookFault};
 use refusing::Refusing;
 use std::alloc::{AllocError, Allocator, Global};
 use std::fs::{File, Metadata, OpenOptions};
 use std::io::{ErrorKind, Read};
-use std::os::fd::AsRawFd;
-use std::os::unix::fs::symlink;
 use std::process::Abort;
 use std::rt::Files;
-use std::test::Fail;
 use std::{env, fs, io, process, thread};
-
-/// What stands below the root: directories, files with their texts, and links with what they lead to.
-const ENTRIES: &str = "directory a/empty
-file a/b x
-file a.txt x
-file .hidden
-link file-link a.txt
-link a/up .
-link dead missing
-link self self";
-
-/// Makes what a line tells of.
-fn make_entry(rt: &HostRuntime, root: &str, line: &str) -> io::Result<()> {
-    let (kind, entry) = line.split_once(' ').unwrap_or((line, ""));
-    let (path, text) = entry.split_once(' ').unwrap_or((entry, ""));
-    let path = format!(in rt.alloc(); "{root}/{path}")?;
-    match kind {
-        "directory" => fs::create_dir_all(rt, path),
-        "file" => fs::write(rt, path, text),
-        _ => symlink(rt, text, path),
-    }
-}
-
-/// Makes the directory that the test below walks. `pipe` is the path of a pipe.
-fn make_tree(rt: &HostRuntime, root: &str, pipe: &str) -> io::Result<()> {
-    for line in ENTRIES.lines() {
-        make_entry(rt, root, line)?;
-    }
-    symlink(rt, pipe, format!(in rt.alloc(); "{root}/pipe")?)
-}
-
-/// Paths, `root` for the root, and the kinds of what stands there and behind its links.
-const KINDS: &str = "root/a => Ok(Directory) Ok(Directory)
-root/a.txt => Ok(Regular) Ok(Regular)
-root/file-link => Ok(Link) Ok(Regular)
-root/a/up => Ok(Link) Ok(Directory)
-root/pipe => Ok(Link) Ok(Other)
-root/dead => Ok(Link) Err(Failed)
-root/self => Ok(Link) Err(Failed)
-root/missing => Err(Failed) Err(Failed)
-root/a.txt/b => Err(Failed) Err(Failed)
-/dev/null => Ok(Other) Ok(Other)";
-
-/// Operands, and what walks over them give.
-const WALKS: &str = "root => root/.hidden root/a/b root/a.txt
-root/ => root/.hidden root/a/b root/a.txt
-root/pipe => root/pipe
-root/dead => root/dead:CannotOpen
-root/a/empty =>
-root/a/up/up => root/a/up/up/b";
-
-/// The kinds of what stands at a path, where `root` stands for the root, and behind its links.
-fn kinds_at(rt: &HostRuntime, root: &str, path: &str) -> Result<String, AllocError> {
-    let tree = DiskTree::new(rt);
-    let path = path.replace(rt.alloc(), "root", root)?;
-    let kind = tree.kind(path.as_str(), false);
-    let target = tree.kind(path.as_str(), true);
-    format!(in rt.alloc(); "{kind:?} {target:?}")
-}
-
-/// What a walk over operands gives, where `root` stands for the root.
-fn walked_below(rt: &HostRuntime, root: &str, operands: &str) -> Result<String, AllocError> {
-    let operands = operands.replace(rt.alloc(), "root", root)?;
-    let got = walked(rt.alloc(), &DiskTree::new(rt), operands.as_str(), true)?;
-    got.replace(rt.alloc(), root, "root")
-}
-
-/// Whether the entries of a file can be asked for.
-fn has_entries(rt: &HostRuntime, root: &str) -> Result<bool, AllocError> {
-    let file = format!(in rt.alloc(); "{root}/a.txt")?;
-    Ok(DiskTree::new(rt).entries(rt.alloc(), file.as_str()).is_ok())
-}
-
-/// Asks the system for kinds below the root, and walks.
-fn look_around(rt: &impl Abort, system: &HostRuntime, root: &str) {
-    assert_rows(rt, KINDS, |path: &str| kinds_at(system, root, path));
-    assert_rows(
-        rt,
-        WALKS,
-        |operands: &str| walked_below(system, root, operands),
-    );
-    assert!(rt; !has_entries(system, root).expect(rt, "memory"));
-}
 
 /// The path of a new directory's place, which is the test's own.
 fn new_root(rt: &HostRuntime, name: &str) -> io::Result<String> {
@@ -101,18 +15,6 @@ fn new_root(rt: &HostRuntime, name: &str) -> io::Result<String> {
     let parent = temporary.as_str();
     let number = process::id(rt.process());
     Ok(format!(in rt.alloc(); "{parent}/pg_walk-{name}-{number}")?)
-}
-
-#[test]
-fn a_directory_of_the_system(rt: HostRuntime) -> Result<(), Fail> {
-    let root = new_root(&rt, "kinds")?;
-    let (reader, _writer) = io::pipe(&rt)?;
-    let descriptor = reader.as_raw_fd();
-    let pipe = format!(in rt.alloc(); "/proc/self/fd/{descriptor}")?;
-    make_tree(&rt, root.as_str(), pipe.as_str())?;
-    look_around(&rt, &rt, root.as_str());
-    fs::remove_dir_all(&rt, root.as_str())?;
-    Ok(())
 }
 
 /// The stack of the thread that walks, in bytes: 4 KiB for each level of directories.
@@ -145,6 +47,12 @@ fn a_small_stack_holds_all_levels(rt: HostRuntime) {
         .expect(&rt, "memory");
     fs::remove_dir_all(&rt, root.as_str()).expect(&rt, "a directory");
     assert!(rt; got.as_str().strip_suffix(":TooDeep") == Some(deepest.as_str()));
+}
+
+#[test]
+fn a_device_has_no_entries(rt: HostRuntime) {
+    let listed = DiskTree::new(&rt).entries(rt.alloc(), "/dev/null");
+    assert!(rt; matches!(listed, Err(LookFault::Failed)));
 }
 
 /// A runtime that stands in for the system, with a directory `d/`.

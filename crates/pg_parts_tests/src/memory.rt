@@ -86,21 +86,6 @@ pub(crate) fn halves(row: &str) -> (&str, &str) {
     (asked, want.trim_start())
 }
 
-/// Compares what each row wants with the answer to what it asks.
-pub(crate) fn assert_rows<R: Abort, F: Fn(&str) -> Result<String, AllocError>>(
-    rt: &R,
-    rows: &str,
-    answer: F,
-)
-    requires { F.IsAlwaysCallable answer }
-{
-    for row in rows.lines() {
-        let (asked, want) = halves(row);
-        let got = answer(asked).expect(rt, "memory");
-        assert_eq!(rt; got.as_str(), want, "{row}");
-    }
-}
-
 /// Walks over operands, and shows the items.
 pub(crate) fn walked<T: FileTree>(
     alloc: Global,
