@@ -8,7 +8,7 @@ use Rattle.std.specs.List.{All, Any, Contains}
 use Rattle.std.proofs.lemmas.Bool.{cases_lt}
 use Rattle.std.proofs.lemmas.List.{drop_at, length-take-le, take-append-drop, length-map}
 use Rattle.std.proofs.lemmas.List.{get_or-drop, get_or-map, get_or_default}
-use Rattle.std.proofs.lemmas.List.Elements.{All-weaker, All-contains}
+use Rattle.std.proofs.lemmas.List.Elements.{All-nil, All-weaker, All-contains}
 use Rattle.memchr.specs.Find.{OccursAt, FindsNeedle}
 use Rattle.pg_literal.specs.Literals.{as_searched}
 use Rattle.pg_literal.specs.Known.{byte_as_searched}
@@ -168,6 +168,19 @@ pub needles_behind : {A : Type 0} (text : SearchText) (bytes : List ℕ) (at : �
 needles_behind text bytes at needles None are within = tt
 needles_behind text bytes at needles (Some line) are within =
     needles_later text bytes at line.end needles (omega (arith, within.0, within.1)) are
+
+-- where there are none, they stand anywhere
+pub given_up : {A : Type 0} (text : SearchText) (bytes : List ℕ) (needles : Needles A) (line : Option Span)
+    → needles.needles.items ≡ [] → IfSome line (λ line. AreNeedles text bytes line.end needles)
+given_up text bytes needles None none = tt
+given_up text bytes needles (Some line) none =
+    let nothing : map literal_of needles.needles.items ≡ [] = ap (map literal_of) none in
+    record {
+      literals = subst (AreLiterals text) (sym nothing)
+          (record { lines = All-nil _; needed = λ some. absurd (omega arith); enough = All-nil _ });
+      searched = λ some. absurd (omega (arith, ap length none));
+      ahead = subst (All (IsAhead needles.searched.now line.end)) (sym none) (All-nil _);
+    }
 
 module _ (fold : Bool) (bytes searched : List ℕ) (at : ℕ) (needles : List Needle)
     (is : searched ≡ as_searched fold bytes)

@@ -1,5 +1,5 @@
 //! Where the literals of a query stand in a block.
-ghost use Rattle.std.specs.Prelude.{◌≡◌, ◌⊎◌, ◌<◌, ◌≤◌, ◌==◌, length, map, drop, IfOk, IfSome, IfNone, IsSomeAnd};
+ghost use Rattle.std.specs.Prelude.{◌≡◌, ◌⊎◌, ◌<◌, ◌≤◌, ◌==◌, [], length, map, drop, IfOk, IfSome, IfNone, IsSomeAnd};
 ghost use Rattle.std.specs.List.{All, Any};
 ghost use Rattle.pg_lines.specs.Search.{terminator_of};
 ghost use Rattle.pg_lines.specs.Literals.{data_of};
@@ -125,6 +125,13 @@ impl<'n, A: Allocator> Needles<'n, A> {
         ensures { result ≡ (length self.now.needles.items == 0) }
     {
         self.needles.is_empty()
+    }
+
+    /// Looks for no needle from now on.
+    pub fn give_up(&mut self)
+        ensures { self.new.needles.items ≡ [] }
+    {
+        self.needles.clear();
     }
 
     /// Finds each place anew that was passed.

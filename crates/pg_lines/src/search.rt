@@ -28,8 +28,8 @@ use pg_match::Scratch;
 use std::alloc::{AllocError, Allocator};
 use std::sync::Arc;
 
-/// How many lines may hold a needle and have no hit, beyond one for each `FAR` bytes, until lines are searched one by
-/// one.
+/// How many lines may hold a needle and have no hit, beyond one for each `FAR` bytes, until the rest of the block is
+/// searched line by line.
 const PATIENCE: usize = 8;
 
 /// It takes as long to look at a line that holds a needle as to search so many bytes line by line.
@@ -82,7 +82,7 @@ fn next_matched<A: Allocator>(
 }
 
 /// The first line with a hit at or behind a place where a line starts, with its terminator, where such lines hold a
-/// needle: only those that do are looked at, unless too many of them have none.
+/// needle: only those that do are looked at. If too many of them have none, needles are looked for no more.
 fn next_confirmed<A: Allocator>(
     query: &Query<A>,
     needles: &mut Needles<'_, A>,
@@ -118,6 +118,7 @@ fn next_confirmed<A: Allocator>(
         in_vain = in_vain.saturating_sub((line.start - from) / FAR) + 1;
         from = line.end;
     }
+    needles.give_up();
     next_matched(query, scratch, bytes, from)
 }
 

@@ -7,7 +7,7 @@ use Rattle.pg_lines.specs.Candidates.{literal_of}
 use Rattle.pg_lines.specs.declared.span.Span.{Span}
 use Rattle.pg_lines.proofs.CandidateLemmas.{skipped_all, skipped_some, skipped_more, missed_without}
 use Rattle.pg_lines.proofs.CandidateLemmas.{first_selected, first_enough, first_short, found_text}
-use Rattle.pg_lines.proofs.NeedleLemmas.{needles_later, needles_behind}
+use Rattle.pg_lines.proofs.NeedleLemmas.{needles_later, given_up}
 use Rattle.pg_lines.proofs.search.next_confirmed.Goals as goal
 use Rattle.pg_lines.proofs.search.next_confirmed.Goals.{then-found-via-then-found}
 use Rattle.pg_lines.proofs.search.next_confirmed.Goals.{then-found-via-else-found+then-has_hit}
@@ -103,9 +103,7 @@ loop-in_vain-preserved g c =
 
 pub returns-clause-needles : goal.returns-clause-needles
 returns-clause-needles g c =
-    needles_behind c.args.query.now.text c.args.bytes.now c.loop-in_vain.from c.loop-in_vain.needles
-    c.next_matched.result
-    c.loop-in_vain.invariant.needles c.next_matched.ensures.within
+    given_up c.args.query.now.text c.args.bytes.now c.give_up.new.self c.next_matched.result c.give_up.ensures
 
 pub returns-clause-some : goal.returns-clause-some
 returns-clause-some g c = λ trees spelled.
