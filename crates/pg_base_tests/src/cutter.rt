@@ -2,9 +2,19 @@
 ghost use Rattle.pg_lines.specs.Cutter.{IsDrained};
 
 use crate::rows::{Question, assert_rows, bytes_of, show_bytes};
-use pg_lines::{Block, Cutter};
-use std::alloc::Global;
+use pg_lines::{Block, CutFault, Cutter};
+use refusing::Refusing;
+use std::alloc::{Allocator, Global};
 use std::process::Abort;
+
+/// How the bytes of a file come into a cutter.
+#[derive(Clone, Copy)]
+pub(crate) enum Way {
+    /// As pieces that are fed.
+    Fed,
+    /// As what is read into the cutter's room.
+    Filled,
+}
 
 /// A terminator and the pieces of a file, and what a cutter gives: behind each piece the blocks that are finished then,
 /// each as its file, number and bytes, or why the piece isn't taken; and then the last block. Blocks have at least 3
@@ -40,11 +50,24 @@ fn show_block(rt: &impl Abort, block: &Block, out: &mut String) {
     out.push(' ').expect(rt, "memory");
 }
 
-/// Feeds a piece, and shows the blocks that are finished then, or why the piece isn't taken.
-fn show_fed(rt: &impl Abort, cutter: &mut Cutter, piece: &[u8], out: &mut String)
+/// Takes a piece of at most 4,096 bytes by way of the cutter's room.
+fn fill<A: Allocator + Copy>(cutter: &mut Cutter<A>, piece: &[u8]) -> Result<(), CutFault> {
+    cutter.make_room()?;
+    let room = cutter.room();
+    let count = piece.len().min(room.len());
+    room[..count].copy_from_slice(&piece[..count]);
+    cutter.fill(count)
+}
+
+/// Takes a piece, and shows the blocks that are finished then, or why the piece isn't taken.
+fn show_taken(rt: &impl Abort, cutter: &mut Cutter, way: Way, piece: &[u8], out: &mut String)
     ensures { IsDrained cutter.new }
 {
-    if let Err(fault) = cutter.feed(piece) {
+    let taken = match way {
+        Way::Fed => cutter.feed(piece),
+        Way::Filled => fill(cutter, piece),
+    };
+    if let Err(fault) = taken {
         write!(out, "({fault}) ").expect(rt, "memory");
     }
     while let Some(block) = cutter.take() {
@@ -53,34 +76,84 @@ fn show_fed(rt: &impl Abort, cutter: &mut Cutter, piece: &[u8], out: &mut String
 }
 
 /// Shows what a cutter gives of a file in pieces, where spaces part them.
-fn show_cut(rt: &impl Abort, alloc: Global, cutter: Cutter, pieces: &str, out: &mut String)
+fn show_cut(
+    rt: &impl Abort,
+    alloc: Global,
+    cutter: Cutter,
+    way: Way,
+    pieces: &str,
+    out: &mut String,
+)
     requires { IsDrained cutter }
 {
     let mut cutter = cutter;
     for piece in pieces.split(' ') {
         let piece = bytes_of(rt, alloc, piece);
-        show_fed(rt, &mut cutter, &piece, out);
+        show_taken(rt, &mut cutter, way, &piece, out);
     }
     if let Some(block) = cutter.finish() {
         show_block(rt, &block, out);
     }
 }
 
-pub(crate) fn blocks_of(rt: &impl Abort, alloc: Global, end: &str, pieces: &str) -> String {
+pub(crate) fn blocks_of(
+    rt: &impl Abort,
+    alloc: Global,
+    way: Way,
+    end: &str,
+    pieces: &str,
+) -> String {
     let mut out = String::new(alloc);
     let end = bytes_of(rt, alloc, end);
     let end = end.first().expect(rt, "a terminator");
-    show_cut(
-        rt,
-        alloc,
-        Cutter::new(alloc, 7, 3, 4, *end),
-        pieces,
-        &mut out,
-    );
+    let cutter = Cutter::new(alloc, 7, 3, 4, *end);
+    show_cut(rt, alloc, cutter, way, pieces, &mut out);
     String::from_str(alloc, out.as_str().trim_end()).expect(rt, "memory")
 }
 
 #[test]
 fn a_file_is_cut_at_its_terminator(rt: HostRuntime) {
-    assert_rows(&rt, rt.alloc(), Question::Blocks, CUT);
+    assert_rows(&rt, rt.alloc(), Question::Blocks(Way::Fed), CUT);
+    assert_rows(&rt, rt.alloc(), Question::Blocks(Way::Filled), CUT);
+}
+
+/// Whether a file of two blocks comes by way of the room, at a second call where a request for memory is refused.
+fn is_filled(heap: &Refusing) -> bool {
+    let mut cutter = Cutter::new(heap, 0, 2, 100, b'\n');
+    let is_taken = match fill(&mut cutter, b"a\nb") {
+        Ok(()) => !heap.has_refused(),
+        Err(_) => heap.has_refused() && fill(&mut cutter, b"a\nb").is_ok(),
+    };
+    let block = cutter.take();
+    is_taken && block.is_some_and(|block| block.bytes.as_slice() == b"a\n".as_slice())
+}
+
+#[test]
+fn each_request_of_a_room_may_be_refused(rt: HostRuntime) {
+    for passes in 0..100u64 {
+        let heap = Refusing::new(rt.alloc(), passes);
+        assert!(rt; is_filled(&heap), "at {passes}");
+        if !heap.has_refused() {
+            assert!(rt; passes > 1);
+            return;
+        }
+    }
+    panic!(rt; "more than 100 requests")
+}
+
+/// Makes room once a block was taken, whose memory is given back before. Answers how many requests that makes.
+fn requests_of_room(heap: &Refusing) -> Result<u64, CutFault> {
+    let mut cutter = Cutter::new(heap, 0, 2, 100, b'\n');
+    fill(&mut cutter, b"a\n")?;
+    let before = heap.requests();
+    if let Some(block) = cutter.take() {
+        cutter.give_back(block.bytes);
+    }
+    cutter.make_room()?;
+    Ok(heap.requests().wrapping_sub(before))
+}
+
+#[test]
+fn memory_that_was_given_back_is_used_again(rt: HostRuntime) {
+    assert!(rt; requests_of_room(&Refusing::new(rt.alloc(), 100)) == Ok(0));
 }

@@ -2,6 +2,7 @@
 //! for a long text takes longer than its parts.
 ghost use Rattle.std.specs.Prelude.{◌≤◌, length};
 
+use crate::cutter::Way;
 use crate::{bytes, cutter, lines, literal, machine, syntax};
 use percent_encoding::{CONTROLS, percent_decode, percent_encode};
 use std::alloc::{AllocError, Global};
@@ -65,7 +66,7 @@ pub(crate) fn halves(row: &str) -> (&str, &str) {
 pub(crate) enum Question {
     Class,
     Set,
-    Blocks,
+    Blocks(Way),
     Found,
     Refused,
     SameQueries,
@@ -85,7 +86,7 @@ fn answer(rt: &impl Abort, alloc: Global, question: Question, kind: &str, asked:
     match question {
         Question::Class => bytes::class_of(rt, alloc, kind),
         Question::Set => bytes::changed(rt, alloc, kind),
-        Question::Blocks => cutter::blocks_of(rt, alloc, kind, asked),
+        Question::Blocks(way) => cutter::blocks_of(rt, alloc, way, kind, asked),
         Question::Found => lines::found(rt, alloc, kind, asked),
         Question::Refused => lines::refused(rt, alloc, kind, asked),
         Question::SameQueries => lines::compared(rt, alloc, kind, asked),

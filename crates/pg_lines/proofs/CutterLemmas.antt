@@ -7,7 +7,7 @@ use Rattle.std.proofs.lemmas.Bool.{false≢true, cases_Bool}
 use Rattle.std.proofs.lemmas.List.{append-nil, take-append-drop, drop-drop}
 use Rattle.pg_lines.specs.Blocks.{BlockData, joined, IsFinished, IsUnfinished, AreNumbered, Cuts}
 use Rattle.pg_lines.specs.Long.{has_long, open_from, CutsOff}
-use Rattle.pg_lines.specs.Cutter.{Fed, Stands, IsDrained, fed, handed, IsNextBlock, AreAllBlocks, HasLongLine}
+use Rattle.pg_lines.specs.Cutter.{Fed, Stands, IsDrained, fed, handed, IsNextBlock, AreAllBlocks, HasLongLine, held}
 use Rattle.pg_lines.specs.declared.cutter.Cutter.{Cutter}
 use Rattle.pg_lines.proofs.CutLemmas.{numbered_front, numbered_more, numbered_append, cuts_more}
 use Rattle.pg_lines.proofs.LongLemmas.{long_decides, long_append, open_append, chosen_some}
@@ -16,30 +16,30 @@ pub next_block : {A : Type 0} (cutter : Cutter A) (past : Fed) (b : BlockData) (
     → cutter.ready.items ≡ b ∷ rest → Stands cutter past → IsNextBlock past b
 next_block cutter past b rest e s =
     let P : List BlockData → Type 0 = λ bs. AreNumbered past.file 0 (past.taken ++ bs) in
-    let Q : List BlockData → Type 0 = λ bs. Cuts past.end past.size past.bytes (past.taken ++ bs) cutter.rest.items in
+    let Q : List BlockData → Type 0 = λ bs. Cuts past.end past.size past.bytes (past.taken ++ bs) (held cutter) in
     let R : List BlockData → Type 0 = λ bs. AreNumbered past.file 0 bs in
     record {
       numbered =
           numbered_front past.file 0 (past.taken ++ b ∷ []) rest
           (subst R (sym (append_assoc past.taken (b ∷ []) rest)) (subst P e s.numbered));
-      cut = (rest, cutter.rest.items, subst Q e s.cut);
+      cut = (rest, held cutter, subst Q e s.cut);
     }
 
 drained : {A : Type 0} (cutter : Cutter A) (past : Fed) → Stands cutter past → IsDrained cutter
-    → Cuts past.end past.size past.bytes past.taken cutter.rest.items × AreNumbered past.file 0 past.taken
+    → Cuts past.end past.size past.bytes past.taken (held cutter) × AreNumbered past.file 0 past.taken
 drained cutter past s d =
     let same : past.taken ++ cutter.ready.items ≡ past.taken = ap (λ bs. past.taken ++ bs) d ∙ append-nil past.taken in
-    let C : List BlockData → Type 0 = λ bs. Cuts past.end past.size past.bytes bs cutter.rest.items in
+    let C : List BlockData → Type 0 = λ bs. Cuts past.end past.size past.bytes bs (held cutter) in
     let P : List BlockData → Type 0 = λ bs. C bs × AreNumbered past.file 0 bs in
     subst P same (s.cut, s.numbered)
 
 pub finished_some : {A : Type 0} (cutter : Cutter A) (past : Fed) → Stands cutter past → IsDrained cutter
-    → cutter.rest.items ≢ []
+    → held cutter ≢ []
     → AreAllBlocks
-    (handed past (Some (record { file = cutter.file; number = cutter.number; bytes = cutter.rest.items })))
+    (handed past (Some (record { file = cutter.file; number = cutter.number; bytes = held cutter })))
 finished_some cutter past s d ne =
     let h = drained cutter past s d in
-    let b : BlockData = record { file = cutter.file; number = cutter.number; bytes = cutter.rest.items } in
+    let b : BlockData = record { file = cutter.file; number = cutter.number; bytes = held cutter } in
     let n : cutter.number ≡ 0 + length past.taken =
     omega (arith, s.next, ap length d, length-append past.taken cutter.ready.items) in
     record {
@@ -85,18 +85,18 @@ pub fed_stands : {A : Type 0} (old new : Cutter A) (past : Fed) (piece left : Li
     (ready' : List BlockData) → Stands old past
     → new.file ≡ old.file → new.size ≡ old.size → new.longest ≡ old.longest → new.end ≡ old.end
     → new.number ≡ old.number + count → new.total ≡ old.total + length piece
-    → new.line ≡ open_from old.end old.line piece → new.ready.items ≡ ready' → new.rest.items ≡ left
-    → CutsOff old.end old.size old.file old.number (old.rest.items ++ piece) old.ready.items ready' left count
+    → new.line ≡ open_from old.end old.line piece → new.ready.items ≡ ready' → held new ≡ left
+    → CutsOff old.end old.size old.file old.number (held old ++ piece) old.ready.items ready' left count
     → (HasLongLine (fed past piece) → ⊥) → Stands new (fed past piece)
 fed_stands old new past piece left count ready' s file size longest end number total line ready rest off short =
     let blocks = off.blocks in
     let together : (past.taken ++ old.ready.items) ++ blocks ≡ past.taken ++ new.ready.items =
     append_assoc past.taken old.ready.items blocks ∙ ap (λ bs. past.taken ++ bs) (sym (ready ∙ off.added)) in
-    let C : List BlockData → Type 0 = λ bs. Cuts past.end past.size (past.bytes ++ piece) bs new.rest.items in
+    let C : List BlockData → Type 0 = λ bs. Cuts past.end past.size (past.bytes ++ piece) bs (held new) in
     let N : List BlockData → Type 0 = λ bs. AreNumbered past.file 0 bs in
-    let D : ℕ → Type 0 = λ e. Cuts e past.size (old.rest.items ++ piece) blocks new.rest.items in
-    let E : ℕ → Type 0 = λ n. Cuts old.end n (old.rest.items ++ piece) blocks new.rest.items in
-    let G : List ℕ → Type 0 = λ r. Cuts old.end old.size (old.rest.items ++ piece) blocks r in
+    let D : ℕ → Type 0 = λ e. Cuts e past.size (held old ++ piece) blocks (held new) in
+    let E : ℕ → Type 0 = λ n. Cuts old.end n (held old ++ piece) blocks (held new) in
+    let G : List ℕ → Type 0 = λ r. Cuts old.end old.size (held old ++ piece) blocks r in
     let H : ℕ → Type 0 = λ f. AreNumbered f (0 + length (past.taken ++ old.ready.items)) blocks in
     let I : ℕ → Type 0 = λ n. AreNumbered old.file n blocks in
     let next : old.number ≡ 0 + length (past.taken ++ old.ready.items) = omega (arith, s.next) in
@@ -108,7 +108,7 @@ fed_stands old new past piece left count ready' s file size longest end number t
       longest = s.longest ∙ sym longest;
       cut =
           subst C together
-          (cuts_more past.end past.size past.bytes piece old.rest.items new.rest.items
+          (cuts_more past.end past.size past.bytes piece (held old) (held new)
           (past.taken ++ old.ready.items) blocks s.cut cut');
       numbered =
           subst N together

@@ -2,6 +2,8 @@ pub mod CountLemmas
 pub mod CutLaws
 pub mod CutLemmas
 pub mod CutterLemmas
+pub mod BufferLemmas
+pub mod RoomLemmas
 pub mod BetweenLemmas
 pub mod CandidateLemmas
 pub mod Examples

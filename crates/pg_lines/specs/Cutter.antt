@@ -1,5 +1,5 @@
 -- What a cutter was fed and what it has handed out.
-use Rattle.std.specs.Prelude.{◌≡◌, ℕ, ◌<◌, Option, List, [], ◌∷◌, ◌++◌, length}
+use Rattle.std.specs.Prelude.{◌≡◌, ℕ, ◌<◌, Option, List, [], ◌∷◌, ◌++◌, length, take, drop}
 use Rattle.std.specs.List.{Any}
 use Rattle.std.specs.Option.{option_to_list}
 use Rattle.pg_lines.specs.Lines.{lines}
@@ -45,13 +45,21 @@ pub record AreAllBlocks (past : Fed) : Type 0 where
 abbrev pub HasLongLine : Fed → Type 0
 HasLongLine past = Any (λ line. past.longest < length line) (lines past.end past.bytes)
 
+-- the bytes of the open block
+abbrev pub held : {A : Type 0} → Cutter A → List ℕ
+held cutter = take cutter.filled cutter.rest.items
+
+-- what the room behind them holds
+abbrev pub room_of : {A : Type 0} → Cutter A → List ℕ
+room_of cutter = drop cutter.filled cutter.rest.items
+
 -- The cutter stands after this.
 pub record Stands {A : Type 0} (cutter : Cutter A) (past : Fed) : Type 0 where
   pub terminator : past.end ≡ cutter.end
   pub file : past.file ≡ cutter.file
   pub size : past.size ≡ cutter.size
   pub longest : past.longest ≡ cutter.longest
-  pub cut : Cuts past.end past.size past.bytes (past.taken ++ cutter.ready.items) cutter.rest.items
+  pub cut : Cuts past.end past.size past.bytes (past.taken ++ cutter.ready.items) (held cutter)
   pub numbered : AreNumbered past.file 0 (past.taken ++ cutter.ready.items)
   pub next : cutter.number ≡ length (past.taken ++ cutter.ready.items)
   pub total : cutter.total ≡ length past.bytes
@@ -65,3 +73,8 @@ IsDrained cutter = cutter.ready.items ≡ []
 -- how many finished blocks are held
 abbrev pub waiting : {A : Type 0} → Cutter A → ℕ
 waiting cutter = length cutter.ready.items
+
+-- every past that stood stands, and a drained cutter is drained
+pub record Keeps {A : Type 0} (old new : Cutter A) : Type 0 where
+  pub stands : (past : Fed) → Stands old past → Stands new past
+  pub drained : IsDrained old → IsDrained new

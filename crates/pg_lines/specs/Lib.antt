@@ -11,4 +11,5 @@ pub mod Candidates
 pub mod Searched
 pub mod Same
 pub mod Cutter
+pub mod Lending
 pub mod Long

@@ -18,6 +18,9 @@ const MAX_FILE: u64 = 4_611_686_018_427_387_904;
 /// The room behind a block's size for the line that ends it. Longer lines make the block grow.
 const LINE_ROOM: usize = 4096;
 
+/// The most bytes that a file's first buffer begins with.
+const FIRST_ROOM: usize = 16_384;
+
 /// Why a piece of a file isn't taken.
 #[derive(Clone, Copy, Debug, PartialEq, Eq, Error)]
 pub enum CutFault {
@@ -210,6 +213,122 @@ fn cut_behind<A: Allocator + Copy>(
     }
 }
 
+/// How many bytes the buffer of an open block is to have, where it has `len` and the block has `filled` of them: at
+/// first those of a block and of the line that ends it, or fewer for a file's first block, since many files are small.
+/// A buffer that is full and holds so many doubles.
+fn buffer_len(size: u32, is_first: bool, len: usize, filled: usize) -> usize
+    requires { (size ≤ 2 ^ 24) × (filled ≤ 2 ^ 62) }
+    ensures { filled < result }
+{
+    let whole = size as usize + LINE_ROOM;
+    if is_first && filled < FIRST_ROOM.min(whole) {
+        FIRST_ROOM.min(whole)
+    } else if filled < whole {
+        whole
+    } else if filled < len {
+        len
+    } else {
+        2 * filled
+    }
+}
+
+/// A buffer that begins with these bytes. It is the spare one, and what that has behind them is room, unless it is too
+/// short.
+fn buffer_behind<A: Allocator + Copy>(
+    alloc: A,
+    spare: &mut Vec<u8, A>,
+    bytes: &[u8],
+) -> Result<Vec<u8, A>, AllocError>
+    ensures within { IfOk result (λ buffer. length bytes.now ≤ length buffer.items) }
+    ensures begins { IfOk result (λ buffer. take (length bytes.now) buffer.items ≡ bytes.now) }
+{
+    if spare.len() < bytes.len() {
+        return Vec::from_slice(alloc, bytes);
+    }
+    let mut buffer = mem::replace(spare, Vec::new(alloc));
+    buffer.slice_mut(..bytes.len()).copy_from_slice(bytes);
+    Ok(buffer)
+}
+
+/// Cuts the blocks off that `count` bytes behind the first `filled` ones of `rest` finish, and leaves there what is
+/// behind them. The first `len` of these bytes finish the first of them, whose size is as `Cutter::new` has it. The
+/// answer is their count, and how many bytes of `rest` are the open block's then. An `Err` leaves both lists as they
+/// were.
+fn cut_open<A: Allocator + Copy>(
+    alloc: A,
+    cutting: Cutting,
+    number: u64,
+    rest: &mut Vec<u8, A>,
+    spare: &mut Vec<u8, A>,
+    ready: &mut VecDeque<Block<A>, A>,
+    filled: usize,
+    count: usize,
+    len: usize,
+) -> Result<(u64, usize), AllocError>
+    requires size { (0 < cutting.size) × (cutting.size ≤ 2 ^ 24) }
+    requires number { number + count < 2 ^ 63 }
+    requires within { filled + count ≤ length rest.old.items }
+    requires len { (0 < len) × (len ≤ count) }
+    requires finished { IsFinished cutting.end cutting.size
+        (take filled rest.old.items ++ take len (take count (drop filled rest.old.items))) }
+    ensures ok { IfOk result (λ cut. CutsOff cutting.end cutting.size cutting.file number
+        (take filled rest.old.items ++ take count (drop filled rest.old.items))
+        ready.old.items ready.new.items (take cut.1 rest.new.items) cut.0) }
+    ensures within { IfOk result (λ cut. cut.1 ≤ length rest.new.items) }
+    ensures few { IfOk result (λ cut. cut.0 + cut.1 ≤ filled + count) }
+    ensures err { OnErr result ((rest.new.items ≡ rest.old.items) × (ready.new.items ≡ ready.old.items)) }
+{
+    let (_, room) = rest.as_slice().split_at(filled);
+    let piece = &room[..count];
+    let (mut blocks, at) = cut_all(alloc, cutting, number + 1, &piece[len..])?;
+    ready.reserve(blocks.len() + 1)?;
+    let behind = &piece[len + at..];
+    let left = buffer_behind(alloc, spare, behind)?;
+    let cut = (blocks.len() as u64 + 1, behind.len());
+    rest.truncate(filled + len);
+    ready.push_back_reserved(Block {
+        file: cutting.file,
+        number,
+        bytes: mem::replace(rest, left),
+    });
+    ready.append(&mut blocks).unwrap();
+    Ok(cut)
+}
+
+/// Cuts the blocks off that `count` bytes behind the first `filled` ones of `rest` finish, and leaves there what is
+/// behind them. No block is finished in the first ones, and sizes are as `Cutter::new` has them. The answer is the
+/// count of the blocks, and how many bytes of `rest` are the open block's then. An `Err` leaves both lists as they
+/// were.
+fn cut_filled<A: Allocator + Copy>(
+    alloc: A,
+    cutting: Cutting,
+    number: u64,
+    rest: &mut Vec<u8, A>,
+    spare: &mut Vec<u8, A>,
+    ready: &mut VecDeque<Block<A>, A>,
+    filled: usize,
+    count: usize,
+) -> Result<(u64, usize), AllocError>
+    requires size { (0 < cutting.size) × (cutting.size ≤ 2 ^ 24) }
+    requires number { number + count < 2 ^ 63 }
+    requires within { filled + count ≤ length rest.old.items }
+    requires unfinished { IsUnfinished cutting.end cutting.size (take filled rest.old.items) }
+    ensures ok { IfOk result (λ cut. CutsOff cutting.end cutting.size cutting.file number
+        (take filled rest.old.items ++ take count (drop filled rest.old.items))
+        ready.old.items ready.new.items (take cut.1 rest.new.items) cut.0) }
+    ensures within { IfOk result (λ cut. cut.1 ≤ length rest.new.items) }
+    ensures few { IfOk result (λ cut. cut.0 + cut.1 ≤ filled + count) }
+    ensures err { OnErr result ((rest.new.items ≡ rest.old.items) × (ready.new.items ≡ ready.old.items)) }
+{
+    let (open, room) = rest.as_slice().split_at(filled);
+    match first_cut(open, cutting.size, cutting.end, &room[..count]) {
+        Some(len) => cut_open(
+            alloc, cutting, number, rest, spare, ready, filled, count, len,
+        ),
+        None => Ok((0, filled + count)),
+    }
+}
+
 /// Cuts a file into blocks of whole lines.
 ///
 /// A block is the shortest beginning of what follows that has at least `size` bytes and ends with the
@@ -226,17 +345,25 @@ pub struct Cutter<A: Allocator + Copy = Global> {
     total: u64,
     line: u32,
     ready: VecDeque<Block<A>, A>,
+    /// The bytes of the open block, and the room behind them.
     rest: Vec<u8, A>,
+    /// How many bytes the open block has.
+    filled: usize,
+    /// What the next block's buffer is made of.
+    spare: Vec<u8, A>,
     ghost sized: { (0 < size) × (size ≤ 2 ^ 24) },
-    ghost unfinished: { IsUnfinished end size rest.items },
+    ghost within: { filled ≤ length rest.items },
+    ghost unfinished: { IsUnfinished end size (take filled rest.items) },
     ghost few: { total ≤ 2 ^ 62 },
-    ghost numbers: { number + length rest.items ≤ total },
+    ghost numbers: { number + filled ≤ total },
     ghost line_fits: { line ≤ longest },
 }
 
 impl<A: Allocator + Copy> Cutter<A> {
+    ghost use Rattle.std.specs.Borrow.{sem};
     ghost use Rattle.pg_lines.specs.Cutter.{Fed, Stands, IsDrained, unfed, fed, handed, HasNoneLeft, IsNextBlock};
-    ghost use Rattle.pg_lines.specs.Cutter.{AreAllBlocks, HasLongLine, waiting};
+    ghost use Rattle.pg_lines.specs.Cutter.{AreAllBlocks, HasLongLine, waiting, room_of, Keeps};
+    ghost use Rattle.pg_lines.specs.Lending.{LendsRoom};
     ghost use Rattle.pg_lines.specs.declared.cutter.CutFault.TheVariants.{LineTooLong, FileTooLong};
 
     /// A cutter for the file of a number, which was fed nothing.
@@ -261,6 +388,8 @@ impl<A: Allocator + Copy> Cutter<A> {
             line: 0,
             ready: VecDeque::new(alloc),
             rest: Vec::new(alloc),
+            filled: 0,
+            spare: Vec::new(alloc),
         }
     }
 
@@ -290,6 +419,7 @@ impl<A: Allocator + Copy> Cutter<A> {
             size: self.size,
             end: self.end,
         };
+        self.rest.truncate(self.filled);
         let count = cut_behind(
             self.alloc,
             cutting,
@@ -298,10 +428,112 @@ impl<A: Allocator + Copy> Cutter<A> {
             &mut self.ready,
             piece,
         )?;
+        self.filled = self.rest.len();
         self.number += count;
         self.total += piece.len() as u64;
         self.line = line;
         Ok(())
+    }
+
+    /// Sees that there is room behind the open block, of one byte at least. It is that of memory that was given back,
+    /// where that serves. What the room held may change, and nothing else does.
+    ///
+    /// # Errors
+    ///
+    /// `AllocError` where a request for memory was refused.
+    pub fn make_room(&mut self) -> Result<(), AllocError>
+        ensures some { OnOk result (0 < length (room_of self.new)) }
+        ensures keeps { Keeps self.old self.new }
+    {
+        self.take_spare();
+        let is_first = self.number == 0;
+        let len = buffer_len(self.size, is_first, self.rest.len(), self.filled);
+        if len <= self.rest.len() {
+            return Ok(());
+        }
+        self.rest.resize(len, 0)
+    }
+
+    /// Takes the spare buffer for a block of which nothing came yet, where it is the longer one.
+    fn take_spare(&mut self)
+        ensures { Keeps self.old self.new }
+    {
+        if self.filled == 0 && self.rest.len() < self.spare.len() {
+            self.rest = mem::replace(&mut self.spare, Vec::new(self.alloc));
+        }
+    }
+
+    /// The room behind the bytes of the file so far. What is written there counts once `fill` is called.
+    pub fn room(&mut self) -> &mut [u8]
+        ensures* lends { sem 𝓛 (LendsRoom A.row A.Allocator self.entry result) }
+        ensures value { result.now ≡ room_of self.old }
+    {
+        let filled = self.filled;
+        self.rest.slice_mut(filled..)
+    }
+
+    /// Takes the first `count` bytes of the room as the next bytes of the file, as `feed` takes a piece. An `Err`
+    /// changes nothing, and the bytes still stand in the room.
+    ///
+    /// # Errors
+    ///
+    /// `FileTooLong` comes where more than 2^62 bytes would have been fed, and else `LineTooLong`
+    /// where a line of the bytes so far would be too long. `OutOfMemory` comes where neither holds
+    /// and a request for memory was refused.
+    pub fn fill(&mut self, count: usize) -> Result<(), CutFault>
+        requires { count ≤ length (room_of self.old) }
+        ensures ok { (past : Fed) → Stands self.old past →
+            OnOk result (Stands self.new (fed past (take count (room_of self.old)))) }
+        ensures err { (past : Fed) → Stands self.old past → OnErr result (Stands self.new past) }
+        ensures file { (past : Fed) → Stands self.old past →
+            IsErrOf result FileTooLong
+            ↔ (2 ^ 62 < length past.bytes + length (take count (room_of self.old))) }
+        ensures line { (past : Fed) → Stands self.old past →
+            IsErrOf result LineTooLong
+            ↔ ((length past.bytes + length (take count (room_of self.old)) ≤ 2 ^ 62)
+            × HasLongLine (fed past (take count (room_of self.old)))) }
+        ensures same { OnErr result (room_of self.new ≡ room_of self.old) }
+    {
+        if count as u64 > MAX_FILE - self.total {
+            return Err(CutFault::FileTooLong);
+        }
+        let piece = &self.rest[self.filled..self.filled + count];
+        let Some(line) = line_after(self.line, self.longest, self.end, piece) else {
+            return Err(CutFault::LineTooLong);
+        };
+        let cutting = Cutting {
+            file: self.file,
+            size: self.size,
+            end: self.end,
+        };
+        let (blocks, filled) = cut_filled(
+            self.alloc,
+            cutting,
+            self.number,
+            &mut self.rest,
+            &mut self.spare,
+            &mut self.ready,
+            self.filled,
+            count,
+        )?;
+        self.filled = filled;
+        self.number += blocks;
+        self.total += count as u64;
+        self.line = line;
+        Ok(())
+    }
+
+    /// Takes the memory of a block that is done with, for the room of a later one. Of two such the longer one is kept,
+    /// and what is far longer than a block is freed.
+    pub fn give_back(&mut self, memory: Vec<u8, A>)
+        ensures keeps { Keeps self.old self.new }
+        ensures waiting { waiting self.new ≡ waiting self.old }
+        ensures room { room_of self.new ≡ room_of self.old }
+    {
+        let most = 2 * (self.size as usize + LINE_ROOM);
+        if self.spare.len() < memory.len() && memory.capacity() <= most {
+            self.spare = memory;
+        }
     }
 
     /// The next finished block. `None` comes only where no finished block is left.
@@ -330,8 +562,11 @@ impl<A: Allocator + Copy> Cutter<A> {
             total: _,
             line: _,
             ready: _,
-            rest,
+            mut rest,
+            filled,
+            spare: _,
         } = self;
+        rest.truncate(filled);
         if rest.is_empty() {
             return None;
         }

@@ -522,6 +522,31 @@ module _ {A : Type 0} {reader : FileReader A} {aim : Aim} {given : List Given} {
         reads = subst R (sym came) (reads_more piece);
       }
 
+  -- it wasn't read, for want of memory
+  pub file_unread : (reader' : FileReader A) → reader'.came ≡ Refused NoMemory → CutterStands reader'.cutter h.fed
+      → HasCut reader' aim given steps
+  file_unread reader' came stands =
+      let R : Came → Type 0 =
+      λ came. IsReading aim.query (format_of aim) h.name (joined h.fed.taken) h.rest (ending_after came)
+      (entries_of steps) (entries_given given) in
+      let L : Came → Type 0 = λ came. IsLost came aim given h.lost in
+      record {
+        fed = h.fed;
+        cut = stands;
+        ends = h.ends;
+        longest = h.longest;
+        running = h.running;
+        file = h.file;
+        number = h.number;
+        last = h.last;
+        name = h.name;
+        rest = h.rest;
+        lost = h.lost;
+        whole = h.whole;
+        cause = subst L (sym came) tt;
+        reads = subst R (sym came) (subst R more h.reads);
+      }
+
   -- it met the end, or failed
   pub file_stopped : (reader' : FileReader A) (failed : Bool) → ending_after reader'.came ≡ ending_of failed
       → ((lost : List ℕ) → lost ≡ [] → IsLost reader'.came aim (gave_end failed given) lost)
@@ -561,9 +586,10 @@ module _ {A F : Type 0} {past : F → FilesPast} {list : F → Sources} {reader 
   -- its end, or a failure
   pub read_stopped : (failed : Bool) → (past files').given ≡ gave_end failed (past files).given
       → ending_after reader'.came ≡ ending_of failed
-      → ((aim : Aim) → IsLost reader'.came aim (gave_end failed (past files).given) []) → reader'.cutter ≡ reader.cutter
+      → ((aim : Aim) → IsLost reader'.came aim (gave_end failed (past files).given) [])
+      → ((fed : Fed) → CutterStands reader.cutter fed → CutterStands reader'.cutter fed)
       → ReadsOn past list reader files reader' files'
-  read_stopped failed is stops none cutter = record {
+  read_stopped failed is stops none stands = record {
     done = done;
     before = ap (λ gs. drop 1 gs) is ∙ end_before failed (past files).given;
     same_list = same;
@@ -571,8 +597,20 @@ module _ {A F : Type 0} {past : F → FilesPast} {list : F → Sources} {reader 
         let P : List Given → Type 0 = λ gs. HasCut reader' aim gs steps in
         let L : List ℕ → Type 0 = λ lost. IsLost reader'.came aim (gave_end failed (past files).given) lost in
         subst P (sym is)
-        (file_stopped h more reader' failed stops (λ lost e. subst L (sym e) (none aim))
-        (stands_by h.fed cutter h.cut));
+        (file_stopped h more reader' failed stops (λ lost e. subst L (sym e) (none aim)) (stands h.fed h.cut));
+  }
+
+  -- nothing, for want of memory
+  pub read_unread : (past files').given ≡ (past files).given → reader'.came ≡ Refused NoMemory
+      → ((fed : Fed) → CutterStands reader.cutter fed → CutterStands reader'.cutter fed)
+      → ReadsOn past list reader files reader' files'
+  read_unread is came stands = record {
+    done = done;
+    before = ap (λ gs. drop 1 gs) is;
+    same_list = same;
+    cuts = λ aim steps h.
+        let P : List Given → Type 0 = λ gs. HasCut reader' aim gs steps in
+        subst P (sym is) (file_unread h more reader' came (stands h.fed h.cut));
   }
 
   -- bytes that are cut
@@ -626,6 +664,38 @@ pub read_on : {A F : Type 0} {past : F → FilesPast} {list : F → Sources} {re
     {engine : Engine A} {aim : Aim} {out : Stream} → InFile reader engine aim (past files).given out
     → ReadsOn past list reader files reader' files' → InFile reader' engine aim (past files').given out
 read_on {aim = aim} h on = record { steps = h.steps; holds = h.holds; cuts = on.cuts aim h.steps h.cuts }
+
+-- memory went from the engine to the reader
+pub recycled : {A : Type 0} {reader : FileReader A} {engine : Engine A} {aim : Aim} {given : List Given} {out : Stream}
+    (h : InFile reader engine aim given out) (reader' : FileReader A) (engine' : Engine A)
+    → reader'.cutter ≡ reader.cutter → reader'.came ≡ reader.came → Holds engine' aim h.steps out
+    → InFile reader' engine' aim given out
+recycled {aim = aim} {given = given} h reader' engine' cutter came holds =
+    let cuts = h.cuts in
+    let R : Came → Type 0 =
+    λ came. IsReading aim.query (format_of aim) cuts.name (joined cuts.fed.taken) cuts.rest (ending_after came)
+    (entries_of h.steps) (entries_given given) in
+    let L : Came → Type 0 = λ came. IsLost came aim given cuts.lost in
+    record {
+      steps = h.steps;
+      holds = holds;
+      cuts = record {
+        fed = cuts.fed;
+        cut = stands_by cuts.fed cutter cuts.cut;
+        ends = cuts.ends;
+        longest = cuts.longest;
+        running = cuts.running;
+        file = cuts.file;
+        number = cuts.number;
+        last = cuts.last;
+        name = cuts.name;
+        rest = cuts.rest;
+        lost = cuts.lost;
+        whole = cuts.whole;
+        cause = subst L (sym came) cuts.cause;
+        reads = subst R (sym came) cuts.reads;
+      };
+    }
 
 -- the blocks that wait were searched
 pub flushed : {A : Type 0} {reader : FileReader A} {engine : Engine A} {aim : Aim} {given : List Given} {out : Stream}

@@ -8,7 +8,6 @@ ghost use Rattle.pg_rows.specs.Output.{status};
 ghost use Rattle.pg_run.specs.Endless.{is_endless};
 
 use crate::fault::RunFault;
-use crate::reader::READ_SIZE;
 use crate::setup::Setup;
 use pg_lines::{Block, Cutter, Query, Scratch, search_block};
 use pg_round::{Gate, NothingToRead, Reader, search_round};
@@ -45,6 +44,8 @@ pub(crate) struct Engine<A: Allocator + Copy = Global> {
     /// The blocks that wait.
     round: Vec<Arc<Block<A>, A>, A>,
     sequencer: Sequencer<A>,
+    /// The memory of a block that is done with.
+    spare: Option<Vec<u8, A>>,
     ghost fits: { Fits scratch (arc_value query).machine },
     ghost all_fit: { All (λ s. Fits s (arc_value query).machine) scratches.items },
     ghost few_scratches: { length scratches.items ≤ 65 },
@@ -98,6 +99,14 @@ fn equip<A: Allocator + Copy>(
     Ok(())
 }
 
+/// The memory of a block, where nothing else holds it.
+fn memory_of<A: Allocator>(block: Arc<Block<A>, A>) -> Option<Vec<u8, A>> {
+    match Arc::into_inner(block) {
+        Some(block) => Some(block.bytes),
+        None => None,
+    }
+}
+
 impl<A: Allocator + Copy> Engine<A> {
     ghost use Rattle.pg_lines.specs.Cutter.{Stands as CutterStands, IsDrained, unfed};
     ghost use Rattle.pg_rows.specs.Enough.{is_enough};
@@ -124,11 +133,16 @@ impl<A: Allocator + Copy> Engine<A> {
             spread,
             round: Vec::new(alloc),
             sequencer,
+            spare: None,
         })
     }
 
-    /// Searches the open file's next block, and gives the sequencer its result. No block waits.
-    fn take<G: Gate>(&mut self, gate: &G, block: Block<A>) -> Result<(), AllocError>
+    /// Searches the open file's next block, and gives the sequencer its result. No block waits. Answers the block.
+    fn take<G: Gate>(
+        &mut self,
+        gate: &G,
+        block: Block<A>,
+    ) -> Result<Arc<Block<A>, A>, AllocError>
         requires at_once { self.old.spread ≡ false }
         requires ready { (aim : Aim) × (steps : List Step) × (out : Stream)
             × IsReady self.old aim steps out (Announces block) }
@@ -143,9 +157,10 @@ impl<A: Allocator + Copy> Engine<A> {
         let answer = search_block(self.alloc, &self.query, &mut self.scratch, searched);
         gate.after(0);
         let found = answer?;
+        let kept = Arc::try_clone(&block)?;
         self.sequencer.announce(block)?;
         self.sequencer.keep(found);
-        Ok(())
+        Ok(kept)
     }
 
     /// Has the open file's next block wait for its round, which has room for it.
@@ -207,8 +222,9 @@ impl<A: Allocator + Copy> Engine<A> {
             self.add(block)?;
             return Ok(());
         }
-        self.take(gate, block)?;
+        let kept = self.take(gate, block)?;
         self.drain(out)?;
+        self.spare = memory_of(kept);
         Ok(())
     }
 
@@ -219,10 +235,19 @@ impl<A: Allocator + Copy> Engine<A> {
         self.spread && self.round.len() >= self.setup.round as usize
     }
 
-    /// How many reads give about as many bytes as a round has.
+    /// How many reads give about as many bytes as a round has: one gives about as many as a block.
     pub(crate) fn reads_ahead(&self) -> u32 {
-        let bytes = self.setup.round as u64 * self.setup.block as u64;
-        (bytes / READ_SIZE as u64) as u32 + 1
+        self.setup.round.saturating_add(1)
+    }
+
+    /// The memory of the block that was searched last, if nothing holds that any more.
+    pub(crate) fn take_spare(&mut self) -> Option<Vec<u8, A>>
+        ensures kept { (self.new.spread ≡ self.old.spread) × (self.new.setup ≡ self.old.setup) }
+        ensures round { self.new.round ≡ self.old.round }
+        ensures holds { (aim : Aim) → (steps : List Step) → (out : Stream) → Holds self.old aim steps out →
+            Holds self.new aim steps out }
+    {
+        self.spare.take()
     }
 
     /// How many threads are to search the blocks that wait, beside the calling one.

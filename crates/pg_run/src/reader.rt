@@ -1,15 +1,13 @@
 //! Reads the open file, and cuts what comes into blocks.
-ghost use Rattle.std.specs.Prelude.{◌≡◌, ◌<◌, List, vec_len, IfSome, IfNone};
+ghost use Rattle.std.specs.Prelude.{◌≡◌, ◌<◌, List, length, IfSome, IfNone, OnOk};
 ghost use Rattle.pg_lines.specs.Cutter.{Stands as CutterStands, Fed, IsDrained, IsNextBlock, AreAllBlocks, handed};
+ghost use Rattle.pg_lines.specs.Cutter.{Keeps, room_of};
 
 use pg_files::Files;
 use pg_lines::{Block, CutFault, Cutter};
 use pg_round::Reader;
 use std::alloc::{AllocError, Allocator, Global};
 use std::mem;
-
-/// How many bytes are asked for in one read. They are cut into blocks and searched while they are near.
-pub(crate) const READ_SIZE: usize = 65_536;
 
 /// What the last read came to.
 #[derive(Clone, Copy, Debug, PartialEq, Eq)]
@@ -30,11 +28,11 @@ pub(crate) struct FileReader<A: Allocator + Copy = Global> {
     alloc: A,
     /// The open file's.
     pub(crate) cutter: Cutter<A>,
-    buffer: Vec<u8, A>,
+    /// The memory of a block that is done with, for the next one.
+    spare: Option<Vec<u8, A>>,
     pub(crate) came: Came,
     /// So many more reads may be made beside a search.
     pub(crate) ahead: u32,
-    ghost room: { 0 < vec_len buffer },
 }
 
 /// A cutter that nothing is fed to.
@@ -49,15 +47,24 @@ impl<A: Allocator + Copy> FileReader<A> {
     ghost use Rattle.pg_run.specs.declared.reader.Came.TheVariants.{More};
 
     /// A reader of no file.
-    pub(crate) fn new(alloc: A) -> Result<FileReader<A>, AllocError> {
-        let buffer = vec![in alloc; 0u8; READ_SIZE]?;
-        Ok(FileReader {
+    pub(crate) fn new(alloc: A) -> FileReader<A> {
+        FileReader {
             alloc,
             cutter: no_cutter(alloc),
-            buffer,
+            spare: None,
             came: Came::End,
             ahead: 0,
-        })
+        }
+    }
+
+    /// Takes the memory of a block that is done with, if there is any.
+    pub(crate) fn give_back(&mut self, memory: Option<Vec<u8, A>>)
+        ensures cutter { self.new.cutter ≡ self.old.cutter }
+        ensures came { self.new.came ≡ self.old.came }
+    {
+        if memory.is_some() {
+            self.spare = memory;
+        }
     }
 
     /// Begins with a file of which nothing was read.
@@ -69,13 +76,29 @@ impl<A: Allocator + Copy> FileReader<A> {
         self.came = Came::More;
     }
 
+    /// Sees that the cutter has room for what is read next.
+    fn make_room(&mut self) -> Result<(), AllocError>
+        ensures came { self.new.came ≡ self.old.came }
+        ensures some { OnOk result (0 < length (room_of self.new.cutter)) }
+        ensures keeps { Keeps self.old.cutter self.new.cutter }
+    {
+        if let Some(memory) = self.spare.take() {
+            self.cutter.give_back(memory);
+        }
+        self.cutter.make_room()
+    }
+
     /// Reads once, and cuts what came. The file may be read further.
     pub(crate) fn read<F: Files>(&mut self, files: &mut F)
         requires more { self.old.came ≡ More }
         requires cut { (aim : Aim) × (steps : List Step) × HasCut self.old aim (F.past files.old).given steps }
         ensures { ReadsOn F.past F.list self.old files.old self.new files.new }
     {
-        let Ok(count) = files.read(&mut self.buffer) else {
+        if self.make_room().is_err() {
+            self.came = Came::Refused(CutFault::OutOfMemory);
+            return;
+        }
+        let Ok(count) = files.read(self.cutter.room()) else {
             self.came = Came::Failure;
             return;
         };
@@ -83,7 +106,7 @@ impl<A: Allocator + Copy> FileReader<A> {
             self.came = Came::End;
             return;
         }
-        if let Err(fault) = self.cutter.feed(&self.buffer[..count]) {
+        if let Err(fault) = self.cutter.fill(count) {
             self.came = Came::Refused(fault);
         }
     }

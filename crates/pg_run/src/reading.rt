@@ -4,6 +4,7 @@ ghost use Rattle.pg_lines.specs.Cutter.{IsDrained};
 ghost use Rattle.pg_rows.specs.Output.{when};
 ghost use Rattle.pg_walk.specs.declared.item.Cause.TheVariants.{ReadFailed};
 ghost use Rattle.pg_files.specs.Given.{Given, newest_name};
+ghost use Rattle.pg_run.specs.Outcome.{Stream};
 ghost use Rattle.pg_run.specs.Told.{faults_of, fault_line};
 ghost use Rattle.pg_run.specs.Holding.{Aim, stream};
 ghost use Rattle.pg_run.specs.Reading.{InFile, IsWhole, Between, Breaks, ending_of, ending_after};
@@ -132,6 +133,15 @@ fn settle<
     Ok(())
 }
 
+/// Gives the memory of the block that was searched last back to the reader.
+fn recycle<A: Allocator + Copy>(reader: &mut FileReader<A>, engine: &mut Engine<A>)
+    ensures came { reader.new.came ≡ reader.old.came }
+    ensures in_file { (aim : Aim) → (given : List Given) → (out : Stream) →
+        InFile reader.old engine.old aim given out → InFile reader.new engine.new aim given out }
+{
+    reader.give_back(engine.take_spare());
+}
+
 /// Reads once, and searches the blocks that this finishes. What waits is searched before a read that may wait.
 fn read_once<
     R: Threads + Wait + Clock + Sync,
@@ -164,6 +174,7 @@ fn read_once<
         IfErr result (Breaks aim (F.past files.new).given (stream (W.taken out.new) (W.failures out.new))) }
 {
     settle(rt, gate, reader, engine, files, out)?;
+    recycle(reader, engine);
     reader.read(files);
     search_ready(rt, gate, reader, engine, files, out)?;
     Ok(())

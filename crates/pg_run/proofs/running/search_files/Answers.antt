@@ -1,27 +1,9 @@
-use Rattle.std.proofs.Common.{[], refl, subst, sym}
 use Rattle.std.proofs.lemmas.Result.{IfOk-from_err}
-use Rattle.pg_files.specs.Given.{FilesPast}
 use Rattle.pg_run.specs.Holding.{stream}
 use Rattle.pg_run.specs.Reading.{Stops}
-use Rattle.pg_run.specs.declared.fault.RunFault.TheVariants.{OutOfMemory}
 use Rattle.pg_run.proofs.HoldLemmas.{err_by}
-use Rattle.pg_run.proofs.RunLemmas.{between_safe, done_breaks, done_finishes, stops_memory}
+use Rattle.pg_run.proofs.RunLemmas.{done_breaks, done_finishes}
 use Rattle.pg_run.proofs.running.search_files.Goals as goal
-
-pub returns-in_err-reader-clause-same_list : goal.returns-in_err-reader-clause-same_list
-returns-in_err-reader-clause-same_list g c = refl
-
-pub returns-in_err-reader-clause-ok : goal.returns-in_err-reader-clause-ok
-returns-in_err-reader-clause-ok g c = λ aim start. IfOk-from_err c.from_residual.result _ c.from_residual.ensures.0
-
-pub returns-in_err-reader-clause-err : goal.returns-in_err-reader-clause-err
-returns-in_err-reader-clause-err g c = λ aim start.
-    let out = stream (g.W.Sink.taken c.args.out.now) (g.W.Sink.failures c.args.out.now) in
-    let told = stream (g.E.Sink.taken c.args.faults.now) (g.E.Sink.failures c.args.faults.now) in
-    let P : FilesPast → Type 0 = λ past. Stops aim past.given out told OutOfMemory in
-    err_by c.from_residual.result (Stops aim (g.F.Files.past c.args.files.now).given out told) OutOfMemory
-    c.from_residual.ensures.1
-    (subst P (sym c.requires.new) (stops_memory aim [] out told (between_safe start.0) start.1))
 
 pub all_files-requires-clause-new : goal.all_files-requires-clause-new
 all_files-requires-clause-new g c κs within = c.requires.new
@@ -34,14 +16,14 @@ returns-in_err-all_files-clause-same_list g c = c.in_err-all_files.ensures.same_
 
 pub returns-in_err-all_files-clause-ok : goal.returns-in_err-all_files-clause-ok
 returns-in_err-all_files-clause-ok g c = λ aim start.
-    IfOk-from_err c.from_residual-in_err-all_files.result _ c.from_residual-in_err-all_files.ensures.0
+    IfOk-from_err c.from_residual.result _ c.from_residual.ensures.0
 
 pub returns-in_err-all_files-clause-err : goal.returns-in_err-all_files-clause-err
 returns-in_err-all_files-clause-err g c = λ aim start.
     let out' = stream (g.W.Sink.taken c.all_files.new.out) (g.W.Sink.failures c.all_files.new.out) in
     let told' = stream (g.E.Sink.taken c.all_files.new.faults) (g.E.Sink.failures c.all_files.new.faults) in
-    err_by c.from_residual-in_err-all_files.result (Stops aim (g.F.Files.past c.all_files.new.files).given out' told')
-    c.in_err-all_files.field-0.0 c.from_residual-in_err-all_files.ensures.1 (c.in_err-all_files.ensures.err aim start)
+    err_by c.from_residual.result (Stops aim (g.F.Files.past c.all_files.new.files).given out' told')
+    c.in_err-all_files.field-0.0 c.from_residual.ensures.1 (c.in_err-all_files.ensures.err aim start)
 
 pub finish-requires-clause-holds : goal.finish-requires-clause-holds
 finish-requires-clause-holds g c κs within =

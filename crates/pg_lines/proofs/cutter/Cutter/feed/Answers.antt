@@ -1,8 +1,11 @@
-use Rattle.std.proofs.Common.{ℕ, List, subst, sym, ap, arith, refl, length}
+use Rattle.std.proofs.Common.{◌≡◌, ◌∙◌, ℕ, List, subst, sym, ap, arith, refl, length, take, ◌++◌}
 use Rattle.std.proofs.lemmas.Result.{err_from_is_err_and}
+use Rattle.std.proofs.lemmas.List.{take-take, take_all, length-take-le}
 use Rattle.pg_lines.specs.Blocks.{IsUnfinished}
+use Rattle.pg_lines.specs.Long.{CutsOff}
 use Rattle.pg_lines.proofs.LongLemmas.{chosen_none, chosen_some}
 use Rattle.pg_lines.proofs.CutterLemmas.{piece_decides, no_long, fed_stands}
+use Rattle.pg_lines.proofs.RoomLemmas.{held_stays, on_err}
 use Rattle.pg_lines.proofs.cutter.Cutter.feed.Goals as goal
 
 pub returns-in_default-clause-line : goal.returns-in_default-clause-line
@@ -10,17 +13,38 @@ returns-in_default-clause-line g c = λ past s.
     let decides = piece_decides c.args.self.now past c.args.piece.now s in
     (λ e. (omega (arith, s.total), decides.0 (chosen_none _ _ c.in_default.ensures.value)), λ h. refl)
 
+pub cut_behind-requires-clause-unfinished : goal.cut_behind-requires-clause-unfinished
+cut_behind-requires-clause-unfinished g c =
+    let self = c.args.self.now in
+    let P : List ℕ → Type 0 = λ xs. IsUnfinished self.end self.size xs in
+    subst P (sym c.truncate.ensures.items) self.unfinished
+
 pub invariant_of-self : goal.invariant_of-self
 invariant_of-self g c =
-    let P : List ℕ → Type 0 = λ xs. IsUnfinished c.args.self.now.end c.args.self.now.size xs in
-    let same = c.in_err-count.ensures.err.0 in
+    let self = c.args.self.now in
+    let open' = take self.filled self.rest.items in
+    let P : List ℕ → Type 0 = λ xs. IsUnfinished self.end self.size xs in
+    let same : c.cut_behind.new.rest.items ≡ open' = c.in_err-count.ensures.err.0 ∙ c.truncate.ensures.items in
+    let held' : take self.filled c.cut_behind.new.rest.items ≡ open' =
+    ap (take self.filled) same ∙ take-take self.filled self.filled self.rest.items (omega arith) in
     record {
-      sized = c.args.self.now.sized;
-      unfinished = subst P (sym same) c.args.self.now.unfinished;
-      few = c.args.self.now.few;
-      numbers = omega (arith, ap length same, c.args.self.now.numbers);
-      line_fits = c.args.self.now.line_fits;
+      sized = self.sized;
+      within = omega (arith, ap length same, length-take-le self.filled self.rest.items self.within);
+      unfinished = subst P (sym held') self.unfinished;
+      few = self.few;
+      numbers = self.numbers;
+      line_fits = self.line_fits;
     }
+
+pub returns-in_err-count-clause-err : goal.returns-in_err-count-clause-err
+returns-in_err-count-clause-err g c = λ past s.
+    let self = c.args.self.now in
+    let open' = take self.filled self.rest.items in
+    let same : c.cut_behind.new.rest.items ≡ open' = c.in_err-count.ensures.err.0 ∙ c.truncate.ensures.items in
+    let held' : take self.filled c.cut_behind.new.rest.items ≡ open' =
+    ap (take self.filled) same ∙ take-take self.filled self.filled self.rest.items (omega arith) in
+    on_err _ c.from_residual.result
+    (held_stays self _ past s refl refl refl refl refl refl refl c.in_err-count.ensures.err.1 held')
 
 pub returns-in_err-count-clause-line : goal.returns-in_err-count-clause-line
 returns-in_err-count-clause-line g c = λ past s.
@@ -28,11 +52,44 @@ returns-in_err-count-clause-line g c = λ past s.
     let short = no_long c.args.self.now past c.args.piece.now c.in-Some.line s c.in-Some.ensures.value in
     (λ e. absurd (cc (p.1, p.2)), λ h. absurd (short h.1))
 
+pub invariant_of-self-2 : goal.invariant_of-self-2
+invariant_of-self-2 g c =
+    let self = c.args.self.now in
+    let new = c.cut_behind.new.rest in
+    let P : List ℕ → Type 0 = λ xs. IsUnfinished self.end self.size xs in
+    let whole : take c.len-self.result new.items ≡ new.items =
+    take_all c.len-self.result new.items (omega (arith, c.len-self.ensures, new.ok.0)) in
+    record {
+      sized = self.sized;
+      within = omega (arith, c.len-self.ensures, new.ok.0);
+      unfinished = subst P (sym whole) c.in_ok-count.ensures.ok.cuts.unfinished;
+      few = omega (arith, c.if-piece-self.false, self.few);
+      numbers = omega (
+        arith,
+        c.in_ok-count.ensures.few,
+        c.len-self.ensures,
+        new.ok.0,
+        self.numbers,
+        ap length c.truncate.ensures.items,
+        length-take-le self.filled self.rest.items self.within,
+      );
+      line_fits = c.in-Some.ensures.fits;
+    }
+
 pub returns-clause-ok : goal.returns-clause-ok
 returns-clause-ok g c = λ past s.
+    let self = c.args.self.now in
+    let piece = c.args.piece.now in
+    let new = c.cut_behind.new.rest in
+    let whole : take c.len-self.result new.items ≡ new.items =
+    take_all c.len-self.result new.items (omega (arith, c.len-self.ensures, new.ok.0)) in
     let line = chosen_some _ _ c.in-Some.line c.in-Some.ensures.value in
-    fed_stands c.args.self.now _ past c.args.piece.now _ _ _ s refl refl refl refl refl refl line.1 refl refl
-    c.in_ok-count.ensures.ok (no_long c.args.self.now past c.args.piece.now c.in-Some.line s c.in-Some.ensures.value)
+    let P : List ℕ → Type 0 =
+    λ xs. CutsOff self.end self.size self.file self.number (xs ++ piece) self.ready.items
+    c.cut_behind.new.ready.items new.items c.in_ok-count.count in
+    fed_stands self _ past piece new.items _ _ s refl refl refl refl refl refl line.1 refl whole
+    (subst P c.truncate.ensures.items c.in_ok-count.ensures.ok)
+    (no_long self past piece c.in-Some.line s c.in-Some.ensures.value)
 
 pub returns-clause-line : goal.returns-clause-line
 returns-clause-line g c = λ past s.

@@ -1,9 +1,18 @@
-use Rattle.std.proofs.Common.{◌≡◌, length, ap, sym, ◌∙◌}
+use Rattle.std.proofs.Common.{◌≡◌, ◌≢◌, ℕ, List, [], Some, length, ap, sym, ◌∙◌, subst}
 use Rattle.std.proofs.lemmas.Bool.{eqb-false}
+use Rattle.pg_lines.specs.Blocks.{BlockData}
+use Rattle.pg_lines.specs.Cutter.{handed, held, AreAllBlocks}
 use Rattle.pg_lines.proofs.CutterLemmas.{finished_some}
 use Rattle.pg_lines.proofs.cutter.Cutter.finish.Goals as goal
 
 pub returns : goal.returns
-returns g c = λ past s. finished_some c.args.self past s c.requires (λ e.
-    let n : length c.args.self.rest.items ≡ 0 = ap length e in
-    eqb-false c.args.self.rest.len 0 (sym c.is_empty.ensures ∙ c.if-is_empty.false) (c.args.self.rest.ok.0 ∙ n))
+returns g c = λ past s.
+    let self = c.args.self in
+    let rest = c.truncate.new.self in
+    let is : rest.items ≡ held self = c.truncate.ensures.items in
+    let some : held self ≢ [] = λ e.
+    let n : length rest.items ≡ 0 = ap length (is ∙ e) in
+    eqb-false rest.len 0 (sym c.is_empty.ensures ∙ c.if-is_empty.false) (rest.ok.0 ∙ n) in
+    let B : List ℕ → BlockData = λ xs. record { file = self.file; number = self.number; bytes = xs } in
+    let P : List ℕ → Type 0 = λ xs. AreAllBlocks (handed past (Some (B xs))) in
+    subst P (sym is) (finished_some self past s c.requires some)

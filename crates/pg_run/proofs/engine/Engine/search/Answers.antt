@@ -12,15 +12,15 @@ returns-in_err-add-clause-err g c = λ aim steps ready.
     err_by c.from_residual.result (Broke aim (Announces c.args.block ∷ steps) out) OutOfMemory c.from_residual.ensures.1
     (broke_step ready.0 (Announces c.args.block) ready.1)
 
-pub returns-in_err-take-clause-err : goal.returns-in_err-take-clause-err
-returns-in_err-take-clause-err g c = λ aim steps ready.
+pub returns-in_err-kept-clause-err : goal.returns-in_err-kept-clause-err
+returns-in_err-kept-clause-err g c = λ aim steps ready.
     let out = stream (g.W.Sink.taken c.args.out.now) (g.W.Sink.failures c.args.out.now) in
-    err_by c.from_residual-in_err-take.result (Broke aim (Announces c.args.block ∷ steps) out) OutOfMemory c.from_residual-in_err-take.ensures.1
+    err_by c.from_residual-in_err-kept.result (Broke aim (Announces c.args.block ∷ steps) out) OutOfMemory c.from_residual-in_err-kept.ensures.1
     (broke_step ready.0 (Announces c.args.block) ready.1)
 
 pub returns-clause-written : goal.returns-clause-written
 returns-clause-written g c = λ aim steps ready at_once.
-    (c.in_ok-drain.ensures.ok aim (Announces c.args.block ∷ steps) (c.in_ok-take.ensures.ok aim steps
+    (c.in_ok-drain.ensures.ok aim (Announces c.args.block ∷ steps) (c.in_ok-kept.ensures.ok aim steps
     (stream (g.W.Sink.taken c.args.out.now) (g.W.Sink.failures c.args.out.now)) ready)).1
 
 pub returns-in_err-add-clause-ok : goal.returns-in_err-add-clause-ok
@@ -33,15 +33,15 @@ returns-in_err-add-clause-written g c =
     λ aim steps ready at_once.
     ok_of_err c.from_residual.result _ c.from_residual.ensures.0
 
-pub returns-in_err-take-clause-ok : goal.returns-in_err-take-clause-ok
-returns-in_err-take-clause-ok g c =
+pub returns-in_err-kept-clause-ok : goal.returns-in_err-kept-clause-ok
+returns-in_err-kept-clause-ok g c =
     λ aim steps ready.
-    ok_of_err c.from_residual-in_err-take.result _ c.from_residual-in_err-take.ensures.0
+    ok_of_err c.from_residual-in_err-kept.result _ c.from_residual-in_err-kept.ensures.0
 
-pub returns-in_err-take-clause-written : goal.returns-in_err-take-clause-written
-returns-in_err-take-clause-written g c =
+pub returns-in_err-kept-clause-written : goal.returns-in_err-kept-clause-written
+returns-in_err-kept-clause-written g c =
     λ aim steps ready at_once.
-    ok_of_err c.from_residual-in_err-take.result _ c.from_residual-in_err-take.ensures.0
+    ok_of_err c.from_residual-in_err-kept.result _ c.from_residual-in_err-kept.ensures.0
 
 pub returns-in_err-drain-clause-ok : goal.returns-in_err-drain-clause-ok
 returns-in_err-drain-clause-ok g c =
@@ -76,7 +76,7 @@ take-requires-clause-ready g c =
     (r.0, r.1, stream (g.W.Sink.taken c.args.out.now) (g.W.Sink.failures c.args.out.now), r.2)
 
 pub drain-requires : goal.drain-requires
-drain-requires g c = record { none = c.in_ok-take.ensures.none }
+drain-requires g c = record { none = c.in_ok-kept.ensures.none }
 
 pub returns-then-self-clause-ok : goal.returns-then-self-clause-ok
 returns-then-self-clause-ok g c = λ aim steps ready.
@@ -95,9 +95,24 @@ returns-in_err-drain-clause-err g c = λ aim steps ready.
     let next = Announces c.args.block ∷ steps in
     err_by c.from_residual-in_err-drain.result (Broke aim next out') c.in_err-drain.field-0.0
     c.from_residual-in_err-drain.ensures.1
-    (c.in_err-drain.ensures.err aim next (c.in_ok-take.ensures.ok aim steps out ready))
+    (c.in_err-drain.ensures.err aim next (c.in_ok-kept.ensures.ok aim steps out ready))
 
 pub returns-clause-ok : goal.returns-clause-ok
 returns-clause-ok g c = λ aim steps ready.
-    (c.in_ok-drain.ensures.ok aim (Announces c.args.block ∷ steps) (c.in_ok-take.ensures.ok aim steps
-    (stream (g.W.Sink.taken c.args.out.now) (g.W.Sink.failures c.args.out.now)) ready)).0
+    let h = (c.in_ok-drain.ensures.ok aim (Announces c.args.block ∷ steps) (c.in_ok-kept.ensures.ok aim steps
+    (stream (g.W.Sink.taken c.args.out.now) (g.W.Sink.failures c.args.out.now)) ready)).0 in
+    record {
+      same = h.same;
+      set = h.set;
+      count = h.count;
+      events = h.events;
+      written = h.written;
+      stands = h.stands;
+      planned = h.planned;
+      taken = h.taken;
+      blocks = h.blocks;
+      all = h.all;
+      safe = h.safe;
+      got = h.got;
+      calm = h.calm;
+    }

@@ -1,5 +1,5 @@
 use Rattle.pg_lines.specs.Cutter.{waiting}
-use Rattle.pg_base_tests.proofs.cutter.show_fed.Given as goal
+use Rattle.pg_base_tests.proofs.cutter.show_taken.Given as goal
 
 abbrev pub decreases-loop-block : goal.decreases-loop-block
 decreases-loop-block g l = waiting l.cutter

@@ -1,0 +1,48 @@
+-- A buffer, some of whose bytes count.
+use Rattle.std.proofs.Common.{◌≡◌, ℕ, ◌+◌, ◌-◌, ◌≤◌, Bool, true, false, cond, List, Vec, [], ◌++◌, length, take, drop}
+use Rattle.std.proofs.Common.{sym, ap, ◌∙◌, arith, length-append, length-drop}
+use Rattle.std.proofs.lemmas.List.{take-append-le, length-take-le, append-nil, nil_from_length, take_all}
+use Rattle.std.proofs.Math.Seq.{take-length, drop-append_seam}
+use Rattle.std.specs.Vec.{with_items_from}
+
+-- as many as there were behind the place are all that stands there
+pub back_is : {A : Type 0} (v : Vec ℕ A) (n : ℕ) (ws : List ℕ) → n ≤ length v.items
+    → length ws ≡ length (drop n v.items) → drop n (with_items_from v n ws).items ≡ ws
+back_is v n ws h fits =
+    let xs = v.items in
+    let behind = drop n xs in
+    let front = length-take-le n xs h in
+    let none : drop (length ws) behind ≡ [] =
+    nil_from_length (drop (length ws) behind) (omega (arith, length-drop (length ws) behind)) in
+    let tail : ws ++ drop (length ws) behind ≡ ws = ap (λ ys. ws ++ ys) none ∙ append-nil ws in
+    let all = take n xs ++ (ws ++ drop (length ws) behind) in
+    let all-is : all ≡ take n xs ++ ws = ap (λ ys. take n xs ++ ys) tail in
+    let len : length all ≡ v.len =
+    omega (arith, ap length all-is, length-append (take n xs) ws, front, length-drop n xs, v.ok.0) in
+    let rest = drop (length all) xs in
+    let kept : take v.len (all ++ rest) ≡ take n xs ++ ws =
+    ap (λ k. take k (all ++ rest)) (sym len)
+    ∙ (take-append-le (length all) all rest (omega arith) ∙ (take-length all ∙ all-is)) in
+    ap (drop n) kept ∙ (ap (λ k. drop k (take n xs ++ ws)) (sym front) ∙ drop-append_seam (take n xs) ws)
+
+-- what stood first stays where the length grew
+pub front_grown : (b : Bool) (n m : ℕ) (xs ys zs : List ℕ) → n ≤ length xs → length xs ≤ m
+    → ys ≡ cond b (take m xs ++ zs) xs → take n ys ≡ take n xs
+front_grown true n m xs ys zs within grown is =
+    let all : take m xs ≡ xs = take_all m xs grown in
+    ap (take n) (is ∙ ap (λ ts. ts ++ zs) all) ∙ take-append-le n xs zs within
+front_grown false n m xs ys zs within grown is = ap (take n) is
+
+pub length_grown : (b : Bool) (n m len : ℕ) → len ≤ m → n ≡ cond b m len → len ≤ n
+length_grown true n m len h e = omega arith
+length_grown false n m len h e = omega arith
+
+-- the piece of a slice by its ends
+pub piece_is : (f n : ℕ) (xs ys : List ℕ) → ys ≡ xs → take ((f + n) - f) (drop f ys) ≡ take n (drop f xs)
+piece_is f n xs ys e =
+    let same : (f + n) - f ≡ n = omega arith in
+    ap (λ k. take k (drop f ys)) same ∙ ap (λ zs. take n (drop f zs)) e
+
+-- of nothing there is one beginning
+pub none_held : (n : ℕ) (xs ys : List ℕ) → n ≡ 0 → take n xs ≡ take n ys
+none_held n xs ys e = ap (λ k. take k xs) e ∙ ap (λ k. take k ys) (sym e)

@@ -1,0 +1,51 @@
+use Rattle.std.proofs.Common.{◌≡◌, ◌+◌, ◌-◌, ◌++◌, ◌∷◌, [], ℕ, List, Vec, is_ok, cond, length, take, drop, sym, ap, ◌∙◌}
+use Rattle.std.proofs.Common.{subst}
+use Rattle.std.proofs.lemmas.List.{take_rest, take-take}
+use Rattle.std.proofs.Math.Seq.{take-add}
+use Rattle.pg_lines.specs.Blocks.{BlockData, Cuts}
+use Rattle.pg_lines.specs.Long.{CutsOff}
+use Rattle.pg_lines.proofs.CutterLemmas.{cuts_first}
+use Rattle.pg_lines.proofs.cutter.cut_open.Goals as goal
+
+pub returns-clause-ok : goal.returns-clause-ok
+returns-clause-ok g c =
+    let items : Vec ℕ g.row.A.Denot → List ℕ = λ v. v.items in
+    let k = c.args.cutting in
+    let number = c.args.number in
+    let len = c.args.len in
+    let all = c.args.rest.now.items in
+    let rest = take c.args.filled all in
+    let behind = drop c.args.filled all in
+    let piece = take c.args.count behind in
+    let ready = c.args.ready.now.items in
+    let blocks = c.in_ok-blocks.blocks.items in
+    let at = c.in_ok-blocks.at in
+    let given = take c.args.count c.split_at.result.1.now in
+    let given-is : given ≡ piece =
+    ap (take c.args.count) (c.split_at.ensures.back ∙ ap (drop c.args.filled) c.as_slice.ensures.value) in
+    let P : List ℕ → Type 0 = λ xs. Cuts k.end k.size xs blocks (drop at xs) in
+    let Q : List ℕ → Type 0 = λ xs. Cuts k.end k.size (drop len xs) blocks (drop at (drop len xs)) in
+    let cuts = subst Q given-is (subst P (take_rest given len) c.in_ok-blocks.ensures.cut) in
+    let front : take len behind ≡ take len piece = sym (take-take len c.args.count behind c.requires.len.1) in
+    let first : c.replace.result.items ≡ rest ++ take len piece =
+    ap items c.replace.ensures.value
+    ∙ (c.truncate.ensures.items ∙ (take-add c.args.filled len all ∙ ap (λ xs. rest ++ xs) front)) in
+    let tail = take (length given - (len + at)) (drop (len + at) given) in
+    let rest' = take (length tail) c.replace.new.dest.items in
+    let left : rest' ≡ drop (len + at) piece =
+    ap (take (length tail)) (ap items c.replace.ensures.after)
+    ∙ (c.in_ok-left.ensures.begins ∙ (take_rest given (len + at) ∙ ap (drop (len + at)) given-is)) in
+    let b : BlockData = record { file = k.file; number = number; bytes = c.replace.result.items } in
+    let pushed =
+    c.push_back_reserved.ensures.items ∙ ap (λ (bs : List BlockData). bs ++ b ∷ []) c.in_ok-reserve.ensures.items in
+    let with_first = c.push_back_reserved.new.self.items in
+    let appended =
+    c.append.ensures.items
+    ∙ (ap (λ r. cond (is_ok r) (with_first ++ blocks) with_first) c.unwrap.ensures
+    ∙ ap (λ (bs : List BlockData). bs ++ blocks) pushed) in
+    let ready' = c.append.new.self.items in
+    let count : c.len-2.result ≡ length blocks = c.len-2.ensures ∙ c.in_ok-blocks.blocks.ok.0 in
+    let N : ℕ → Type 0 = λ n. CutsOff k.end k.size k.file number (rest ++ piece) ready ready' rest' (n + 1) in
+    subst N (sym count)
+    (cuts_first k.end k.size k.file number len at rest piece b.bytes rest' blocks ready ready' c.requires.finished cuts
+    c.in_ok-blocks.ensures.numbered first left appended)
