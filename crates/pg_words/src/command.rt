@@ -10,55 +10,54 @@ pub const MAX_WORKERS: u32 = 64;
 pub const MAX_BLOCK: u32 = 16_777_216;
 /// The largest number of blocks in a round.
 pub const MAX_ROUND: u32 = 1_024;
+/// The most lines before a selected one.
+const MAX_BEFORE: u32 = 65_535;
 
-/// An option: its name in this crate, its letter and its long name.
-type Named = (&'static str, char, &'static str);
+/// What stands behind an option: whatever the next word is.
+#[derive(Clone, Copy)]
+enum Value {
+    Nothing,
+    /// A text, which faults call so. Texts collect.
+    Text(&'static str),
+    /// A number from the first to the second one. The last number counts.
+    Number(u32, u32),
+}
 
-/// What is searched for. -G is read by nobody: it asks for what is taken without -E and -F, and has no
-/// effect beside them.
-static PATTERN_FLAGS: [Named; 8] = [
-    ("extended", 'E', "extended-regexp"),
-    ("fixed", 'F', "fixed-strings"),
-    ("basic", 'G', "basic-regexp"),
-    ("fold", 'i', "ignore-case"),
-    ("invert", 'v', "invert-match"),
-    ("word", 'w', "word-regexp"),
-    ("whole", 'x', "line-regexp"),
-    ("zero", 'z', "null-data"),
-];
+/// An option: its letter, its name, and what stands behind it.
+struct Opt(Option<char>, &'static str, Value);
 
-/// What is written of it.
-static MODE_FLAGS: [Named; 3] = [
-    ("pieces", 'o', "only-matching"),
-    ("count", 'c', "count"),
-    ("list", 'l', "files-with-matches"),
-];
-
-/// What rows begin with.
-static ROW_FLAGS: [Named; 3] = [
-    ("numbers", 'n', "line-number"),
-    ("names", 'H', "with-filename"),
-    ("no-names", 'h', "no-filename"),
-];
-
-/// Which files are searched. Every file is text, so -a has no effect.
-static FILE_FLAGS: [Named; 3] = [
-    ("recursive", 'r', "recursive"),
-    ("silent", 's', "no-messages"),
-    ("as-text", 'a', "text"),
-];
-
-/// Options that ask for lines before a selected one.
-static CONTEXT_OPTIONS: [Named; 2] = [
-    ("before", 'B', "before-context"),
-    ("around", 'C', "context"),
-];
-
-/// How the work is cut: options whose values are numbers from 1 to a largest one, by their long names.
-static RANGES: [(&str, u32); 3] = [
-    ("workers", MAX_WORKERS),
-    ("block", MAX_BLOCK),
-    ("round", MAX_ROUND),
+/// The options but for -q. Of names that are equally close to a wrong one `clap` proposes the last. -G is read by
+/// nobody: it asks for what is taken without -E and -F, and has no effect beside them. Nor is -a, for every file is
+/// text.
+static OPTIONS: [Opt; 28] = [
+    Opt(Some('E'), "extended-regexp", Value::Nothing),
+    Opt(Some('F'), "fixed-strings", Value::Nothing),
+    Opt(Some('G'), "basic-regexp", Value::Nothing),
+    Opt(Some('i'), "ignore-case", Value::Nothing),
+    Opt(Some('v'), "invert-match", Value::Nothing),
+    Opt(Some('w'), "word-regexp", Value::Nothing),
+    Opt(Some('x'), "line-regexp", Value::Nothing),
+    Opt(Some('z'), "null-data", Value::Nothing),
+    Opt(Some('e'), "regexp", Value::Text("TEXT")),
+    Opt(Some('f'), "file", Value::Text("FILE")),
+    Opt(Some('o'), "only-matching", Value::Nothing),
+    Opt(Some('c'), "count", Value::Nothing),
+    Opt(Some('l'), "files-with-matches", Value::Nothing),
+    Opt(Some('n'), "line-number", Value::Nothing),
+    Opt(Some('H'), "with-filename", Value::Nothing),
+    Opt(Some('h'), "no-filename", Value::Nothing),
+    Opt(Some('m'), "max-count", Value::Number(1, u32::MAX)),
+    Opt(Some('A'), "after-context", Value::Number(0, u32::MAX)),
+    Opt(Some('B'), "before-context", Value::Number(0, MAX_BEFORE)),
+    Opt(Some('C'), "context", Value::Number(0, MAX_BEFORE)),
+    Opt(Some('r'), "recursive", Value::Nothing),
+    Opt(Some('s'), "no-messages", Value::Nothing),
+    Opt(Some('a'), "text", Value::Nothing),
+    Opt(None, "workers", Value::Number(1, MAX_WORKERS)),
+    Opt(None, "block", Value::Number(1, MAX_BLOCK)),
+    Opt(None, "round", Value::Number(1, MAX_ROUND)),
+    Opt(None, "help", Value::Nothing),
+    Opt(Some('V'), "version", Value::Nothing),
 ];
 
 /// The options and operands of a search.
@@ -76,132 +75,66 @@ pub fn search_command<'a>(alloc: Global) -> Result<Command<'a>, AllocError> {
 /// The options, and behind them the operands.
 fn search_args<'a>(alloc: Global) -> Result<Vec<Arg<'a>>, AllocError> {
     let mut args = Vec::new(alloc);
-    add_options(alloc, &mut args)?;
+    args.push(quiet(alloc)?)?;
+    add_options(alloc, &mut args, &OPTIONS)?;
     args.push(operands(alloc))?;
     Ok(args)
 }
 
-/// Adds all options. Of names that are equally close to a wrong one `clap` proposes the last.
-fn add_options<'a>(alloc: Global, args: &mut Vec<Arg<'a>>) -> Result<(), AllocError> {
-    add_patterns(alloc, args)?;
-    add_rows(alloc, args)?;
-    add_context(alloc, args)?;
-    add_flags(alloc, args, &FILE_FLAGS)?;
-    add_work(alloc, args)?;
-    add_texts(alloc, args)
-}
-
-/// Adds flags, in their order.
-fn add_flags<'a>(
+/// Adds options, in their order.
+fn add_options<'a>(
     alloc: Global,
     args: &mut Vec<Arg<'a>>,
-    flags: &[Named],
+    options: &[Opt],
 ) -> Result<(), AllocError> {
-    for (name, letter, long) in flags {
-        args.push(flag(alloc, name, *letter, long))?;
+    for option in options {
+        args.push(option.arg(alloc))?;
     }
     Ok(())
 }
 
-/// What is searched for.
-fn add_patterns<'a>(alloc: Global, args: &mut Vec<Arg<'a>>) -> Result<(), AllocError> {
-    add_flags(alloc, args, &PATTERN_FLAGS)?;
-    args.push(pattern_option(alloc, "text", 'e', "regexp", "TEXT"))?;
-    args.push(pattern_option(alloc, "pattern-file", 'f', "file", "FILE"))?;
-    Ok(())
+/// -q, which has two names.
+fn quiet<'a>(alloc: Global) -> Result<Arg<'a>, AllocError> {
+    Opt(Some('q'), "quiet", Value::Nothing)
+        .arg(alloc)
+        .alias("silent")
 }
 
-/// What is written of it.
-fn add_rows<'a>(alloc: Global, args: &mut Vec<Arg<'a>>) -> Result<(), AllocError> {
-    add_flags(alloc, args, &MODE_FLAGS)?;
-    args.push(flag(alloc, "quiet", 'q', "quiet").alias("silent")?)?;
-    add_flags(alloc, args, &ROW_FLAGS)
-}
-
-/// How many lines are written.
-fn add_context<'a>(alloc: Global, args: &mut Vec<Arg<'a>>) -> Result<(), AllocError> {
-    args.push(limit_option(alloc))?;
-    args.push(after_option(alloc))?;
-    for (name, letter, long) in &CONTEXT_OPTIONS {
-        args.push(context_option(alloc, name, *letter, long))?;
+impl Opt {
+    fn arg<'a>(&self, alloc: Global) -> Arg<'a> {
+        let Opt(letter, name, value) = self;
+        let arg = value.behind(Arg::new(alloc, name).long(name));
+        match letter {
+            Some(letter) => arg.short(*letter),
+            None => arg,
+        }
     }
-    Ok(())
 }
 
-/// How the work is cut.
-fn add_work<'a>(alloc: Global, args: &mut Vec<Arg<'a>>) -> Result<(), AllocError> {
-    for (name, largest) in &RANGES {
-        args.push(ranged_option(alloc, name, *largest))?;
+impl Value {
+    /// An option with this behind it.
+    fn behind<'a>(self, arg: Arg<'a>) -> Arg<'a> {
+        match self {
+            Value::Nothing => arg.action(ArgAction::SetTrue),
+            Value::Text(name) => with_texts(arg, name),
+            Value::Number(first, last) => with_number(arg, first, last),
+        }
     }
-    Ok(())
 }
 
-/// What is told of the program.
-fn add_texts<'a>(alloc: Global, args: &mut Vec<Arg<'a>>) -> Result<(), AllocError> {
-    args.push(long_flag(alloc, "help", "help"))?;
-    args.push(flag(alloc, "version", 'V', "version"))?;
-    Ok(())
-}
-
-fn long_flag<'a>(alloc: Global, name: &'a str, long: &'a str) -> Arg<'a> {
-    Arg::new(alloc, name).long(long).action(ArgAction::SetTrue)
-}
-
-fn flag<'a>(alloc: Global, name: &'a str, letter: char, long: &'a str) -> Arg<'a> {
-    long_flag(alloc, name, long).short(letter)
-}
-
-/// An option whose values collect. Each word behind it is its value.
-fn pattern_option<'a>(
-    alloc: Global,
-    name: &'a str,
-    letter: char,
-    long: &'a str,
-    value: &'a str,
-) -> Arg<'a> {
-    Arg::new(alloc, name)
-        .short(letter)
-        .long(long)
-        .value_name(value)
+/// An option with texts behind it, which collect.
+fn with_texts<'a>(arg: Arg<'a>, name: &'a str) -> Arg<'a> {
+    arg.value_name(name)
         .action(ArgAction::Append)
         .allow_hyphen_values(true)
 }
 
-/// An option whose value is a number. Each word behind it is its value.
-fn number_option<'a>(alloc: Global, name: &'a str, long: &'a str) -> Arg<'a> {
-    Arg::new(alloc, name)
-        .long(long)
-        .value_name("N")
+/// An option with a number behind it.
+fn with_number(arg: Arg<'_>, first: u32, last: u32) -> Arg<'_> {
+    arg.value_name("N")
         .action(ArgAction::Set)
         .allow_hyphen_values(true)
-}
-
-/// -m, from 1 on.
-fn limit_option<'a>(alloc: Global) -> Arg<'a> {
-    number_option(alloc, "limit", "max-count")
-        .short('m')
-        .value_parser(clap::value_parser!(u32).range(1..))
-}
-
-/// -A, which may be larger than the others.
-fn after_option<'a>(alloc: Global) -> Arg<'a> {
-    number_option(alloc, "after", "after-context")
-        .short('A')
-        .value_parser(clap::value_parser!(u32))
-}
-
-/// An option whose value is a number of lines before a selected one.
-fn context_option<'a>(alloc: Global, name: &'a str, letter: char, long: &'a str) -> Arg<'a> {
-    number_option(alloc, name, long)
-        .short(letter)
-        .value_parser(clap::value_parser!(u16))
-}
-
-/// An option of that name whose value is a number from 1 to a largest one.
-fn ranged_option<'a>(alloc: Global, name: &'a str, largest: u32) -> Arg<'a> {
-    number_option(alloc, name, name).value_parser(clap::value_parser!(u32).range(
-        1..=i64::from(largest),
-    ))
+        .value_parser(clap::value_parser!(u32).range(i64::from(first)..=i64::from(last)))
 }
 
 /// PATTERN, where neither -e nor -f is given, and each FILE.
@@ -212,23 +145,29 @@ fn operands<'a>(alloc: Global) -> Arg<'a> {
         .action(ArgAction::Append)
 }
 
+/// The number that an option gives for lines before a selected one. `clap` has refused those that are too large.
+fn lines_before(found: &ArgMatches<'_>, name: &str) -> Option<u16> {
+    let lines: u32 = found.get_one(name)?;
+    Some(u16::try_from(lines).unwrap_or(u16::MAX))
+}
+
 /// The options that exclude one another, want operands or decide how rows look.
 pub fn options_of(found: &ArgMatches<'_>) -> Options {
     Options {
-        extended: found.get_flag("extended"),
-        fixed: found.get_flag("fixed"),
-        invert: found.get_flag("invert"),
-        pieces: found.get_flag("pieces"),
+        extended: found.get_flag("extended-regexp"),
+        fixed: found.get_flag("fixed-strings"),
+        invert: found.get_flag("invert-match"),
+        pieces: found.get_flag("only-matching"),
         count: found.get_flag("count"),
-        list: found.get_flag("list"),
+        list: found.get_flag("files-with-matches"),
         quiet: found.get_flag("quiet"),
-        numbers: found.get_flag("numbers"),
-        names: found.get_flag("names"),
-        no_names: found.get_flag("no-names"),
+        numbers: found.get_flag("line-number"),
+        names: found.get_flag("with-filename"),
+        no_names: found.get_flag("no-filename"),
         recursive: found.get_flag("recursive"),
-        limit: found.get_one("limit"),
-        after: found.get_one("after"),
-        before: found.get_one("before"),
-        around: found.get_one("around"),
+        limit: found.get_one("max-count"),
+        after: found.get_one("after-context"),
+        before: lines_before(found, "before-context"),
+        around: lines_before(found, "context"),
     }
 }

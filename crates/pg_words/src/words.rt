@@ -112,11 +112,11 @@ fn task_of<'a>(alloc: Global, found: &ArgMatches<'a>) -> Result<Task<'a>, WordsF
 
 /// The search that the words ask for. `clap` has refused numbers out of range.
 fn request_of<'a>(alloc: Global, found: &ArgMatches<'a>) -> Result<Request<'a>, WordsFault> {
-    let has_patterns = found.contains_id("text") || found.contains_id("pattern-file");
+    let has_patterns = found.contains_id("regexp") || found.contains_id("file");
     let words = found.get_strs("operands").unwrap_or(&[]);
     let Operands { pattern, files } = place_operands(has_patterns, words);
     let texts = texts_of(alloc, found, pattern)?;
-    let pattern_files = values_of(alloc, found, "pattern-file")?;
+    let pattern_files = values_of(alloc, found, "file")?;
     let options = options_of(found);
     check_usage(&options, texts.as_slice(), pattern_files.as_slice(), files)?;
     let files = searched_files(alloc, files)?;
@@ -138,17 +138,17 @@ fn build_request<'a>(
         kind: options.kind(),
         texts,
         pattern_files,
-        fold: found.get_flag("fold"),
-        whole: found.get_flag("whole"),
-        word: found.get_flag("word"),
+        fold: found.get_flag("ignore-case"),
+        whole: found.get_flag("line-regexp"),
+        word: found.get_flag("word-regexp"),
         invert: options.invert,
-        zero: found.get_flag("zero"),
+        zero: found.get_flag("null-data"),
         pieces: options.pieces,
         format: options.format(),
         names: options.naming(),
         files,
         recursive: options.recursive,
-        silent: found.get_flag("silent"),
+        silent: found.get_flag("no-messages"),
         workers: number_of(found, "workers", DEFAULT_WORKERS).clamp(1, MAX_WORKERS),
         block: number_of(found, "block", DEFAULT_BLOCK).clamp(1, MAX_BLOCK),
         round: number_of(found, "round", DEFAULT_ROUND).clamp(1, MAX_ROUND),
@@ -166,7 +166,7 @@ fn texts_of<'a>(
     found: &ArgMatches<'a>,
     pattern: Option<&'a str>,
 ) -> Result<Vec<&'a str>, AllocError> {
-    let mut texts = values_of(alloc, found, "text")?;
+    let mut texts = values_of(alloc, found, "regexp")?;
     if let Some(pattern) = pattern {
         texts.push(pattern)?;
     }
