@@ -1,3 +1,4 @@
+use Rattle.std.proofs.lemmas.Result.{IfOk-from_err}
 use Rattle.std.proofs.Common.{◌≡◌, length, map, arith, subst, refl, Some, ap, ◌∙◌}
 use Rattle.std.specs.Prelude.{slice_get, option_map}
 use Rattle.std.proofs.lemmas.List.{length-map}
@@ -54,3 +55,57 @@ returns-clause-built g c =
     built _ (map pattern trees) c.requires.proper c.args.bounds b refl
     (λ h. let n = any_some (length trees) _ c.is_empty.ensures h in omega (arith, same))
     (λ h. some_any (length trees) _ c.is_empty.ensures (omega (arith, same)))
+
+pub returns-in_err-push-clause-runs : goal.returns-in_err-push-clause-runs
+returns-in_err-push-clause-runs g c = IfOk-from_err c.from_residual.result _ c.from_residual.ensures.0
+
+pub returns-in_err-push-clause-seeds : goal.returns-in_err-push-clause-seeds
+returns-in_err-push-clause-seeds g c = IfOk-from_err c.from_residual.result _ c.from_residual.ensures.0
+
+pub returns-in_err-push-clause-built : goal.returns-in_err-push-clause-built
+returns-in_err-push-clause-built g c = IfOk-from_err c.from_residual.result _ c.from_residual.ensures.0
+
+pub offset_bounds-trees-i : goal.offset_bounds-trees-i
+offset_bounds-trees-i g c = omega arith
+
+pub bounds-trees-i : goal.bounds-trees-i
+bounds-trees-i g c = omega arith
+
+pub returns-in_err-entry-clause-runs : goal.returns-in_err-entry-clause-runs
+returns-in_err-entry-clause-runs g c = IfOk-from_err c.from_residual-in_err-entry.result _ c.from_residual-in_err-entry.ensures.0
+
+pub returns-in_err-entry-clause-seeds : goal.returns-in_err-entry-clause-seeds
+returns-in_err-entry-clause-seeds g c = IfOk-from_err c.from_residual-in_err-entry.result _ c.from_residual-in_err-entry.ensures.0
+
+pub returns-in_err-entry-clause-built : goal.returns-in_err-entry-clause-built
+returns-in_err-entry-clause-built g c = IfOk-from_err c.from_residual-in_err-entry.result _ c.from_residual-in_err-entry.ensures.0
+
+pub returns-in_err-start-clause-runs : goal.returns-in_err-start-clause-runs
+returns-in_err-start-clause-runs g c = IfOk-from_err c.from_residual-in_err-start.result _ c.from_residual-in_err-start.ensures.0
+
+pub returns-in_err-start-clause-seeds : goal.returns-in_err-start-clause-seeds
+returns-in_err-start-clause-seeds g c = IfOk-from_err c.from_residual-in_err-start.result _ c.from_residual-in_err-start.ensures.0
+
+pub returns-in_err-start-clause-built : goal.returns-in_err-start-clause-built
+returns-in_err-start-clause-built g c = IfOk-from_err c.from_residual-in_err-start.result _ c.from_residual-in_err-start.ensures.0
+
+pub returns-in_err-seeds-clause-runs : goal.returns-in_err-seeds-clause-runs
+returns-in_err-seeds-clause-runs g c = IfOk-from_err c.from_residual-in_err-seeds.result _ c.from_residual-in_err-seeds.ensures.0
+
+pub returns-in_err-seeds-clause-seeds : goal.returns-in_err-seeds-clause-seeds
+returns-in_err-seeds-clause-seeds g c = IfOk-from_err c.from_residual-in_err-seeds.result _ c.from_residual-in_err-seeds.ensures.0
+
+pub returns-in_err-seeds-clause-built : goal.returns-in_err-seeds-clause-built
+returns-in_err-seeds-clause-built g c = IfOk-from_err c.from_residual-in_err-seeds.result _ c.from_residual-in_err-seeds.ensures.0
+
+pub push-requires : goal.push-requires
+push-requires g c = omega arith
+
+pub add-requires-clause-next_in : goal.add-requires-clause-next_in
+add-requires-clause-next_in g c = omega arith
+
+pub add-requires-clause-tidy : goal.add-requires-clause-tidy
+add-requires-clause-tidy g c = c.loop-i.invariant.tidy
+
+pub seeds-requires-clause-within : goal.seeds-requires-clause-within
+seeds-requires-clause-within g c = omega arith

@@ -38,3 +38,9 @@ loop-k-preserved g c =
           let is = subst (λ q. slice_get t q ≡ Some st) e (stands _ _ _ inside refl) in
           rw w.next-is (aimed_over t b now _ k c.loop-k.invariant (aimed_none t b now k st is w.in_default.not-Read))
     ]
+
+pub offset_bounds-states-state : goal.offset_bounds-states-state
+offset_bounds-states-state g c = omega arith
+
+pub insert-requires-clause-good : goal.insert-requires-clause-good
+insert-requires-clause-good g c = c.loop-k.invariant.good

@@ -23,3 +23,21 @@ loop-i-preserved g c =
       | then-i-eq0 w ↦ omega (arith, more, c.loop-i.invariant)
       | else-i-eq0 w ↦ omega (arith, more, c.loop-i.invariant)
     ]
+
+pub offset_bounds-trees-i : goal.offset_bounds-trees-i
+offset_bounds-trees-i g c = omega arith
+
+pub bounds-trees-i : goal.bounds-trees-i
+bounds-trees-i g c = omega arith
+
+pub overflow_add-total : goal.overflow_add-total
+overflow_add-total g c = omega arith
+
+pub overflow_add-total-in-loop-i : goal.overflow_add-total-in-loop-i
+overflow_add-total-in-loop-i g c = omega arith
+
+pub overflow_add-total-2 : goal.overflow_add-total-2
+overflow_add-total-2 g c = omega arith
+
+pub loop-i-init : goal.loop-i-init
+loop-i-init g c = omega arith

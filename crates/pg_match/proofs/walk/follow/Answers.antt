@@ -37,3 +37,54 @@ returns-in-Read g c =
         | inr a ↦ read_followed _ _ _ _ _ _ Accept (stands _ _ _ within a) (λ r e. e) good
       ]
     ]
+
+pub offset_bounds-states-state : goal.offset_bounds-states-state
+offset_bounds-states-state g c = omega arith
+
+pub bounds : goal.bounds
+bounds g c = omega arith
+
+pub bounds-states-state : goal.bounds-states-state
+bounds-states-state g c = omega arith
+
+pub bounds-states : goal.bounds-states
+bounds-states g c = omega arith
+
+pub bounds-states-in-AtEnd-1 : goal.bounds-states-in-AtEnd-1
+bounds-states-in-AtEnd-1 g c = omega arith
+
+pub bounds-states-in-Split-1 : goal.bounds-states-in-Split-1
+bounds-states-in-Split-1 g c = omega arith
+
+pub bounds-states-in-Split-2 : goal.bounds-states-in-Split-2
+bounds-states-in-Split-2 g c = omega arith
+
+pub insert-requires-clause-good : goal.insert-requires-clause-good
+insert-requires-clause-good g c = c.requires.good
+
+pub insert-requires-clause-some : goal.insert-requires-clause-some
+insert-requires-clause-some g c = omega arith
+
+pub insert-requires-then-place-eq0-clause-good : goal.insert-requires-then-place-eq0-clause-good
+insert-requires-then-place-eq0-clause-good g c = c.requires.good
+
+pub insert-requires-then-place-eq0-clause-some : goal.insert-requires-then-place-eq0-clause-some
+insert-requires-then-place-eq0-clause-some g c = omega arith
+
+pub insert-requires-then-place-line-clause-good : goal.insert-requires-then-place-line-clause-good
+insert-requires-then-place-line-clause-good g c = c.requires.good
+
+pub insert-requires-then-place-line-clause-some : goal.insert-requires-then-place-line-clause-some
+insert-requires-then-place-line-clause-some g c = omega arith
+
+pub insert-requires-in-Split-clause-good : goal.insert-requires-in-Split-clause-good
+insert-requires-in-Split-clause-good g c = c.requires.good
+
+pub insert-requires-in-Split-clause-some : goal.insert-requires-in-Split-clause-some
+insert-requires-in-Split-clause-some g c = omega arith
+
+pub insert-requires-in-Split-2-clause-good : goal.insert-requires-in-Split-2-clause-good
+insert-requires-in-Split-2-clause-good g c = c.insert-in-Split.ensures.good
+
+pub insert-requires-in-Split-2-clause-some : goal.insert-requires-in-Split-2-clause-some
+insert-requires-in-Split-2-clause-some g c = omega arith

@@ -68,3 +68,27 @@ loop-k-preserved g c =
           (λ q early e. no_byte t l i now limit q0 st is w.in_default.not-Read q e))
       | else-mark-limit w ↦ rw w.next-is (stepping_over t l i now limit _ _ c.loop-k.invariant (λ q early edge. omega (arith, r.1, w.if-mark-limit.false)))
     ]
+
+pub bounds-line-place : goal.bounds-line-place
+bounds-line-place g c = omega arith
+
+pub offset_bounds-states-state : goal.offset_bounds-states-state
+offset_bounds-states-state g c = omega arith
+
+pub overflow_add-place : goal.overflow_add-place
+overflow_add-place g c = omega arith
+
+pub reach-requires-clause-tidy : goal.reach-requires-clause-tidy
+reach-requires-clause-tidy g c = c.requires.tidy
+
+pub reach-requires-clause-good : goal.reach-requires-clause-good
+reach-requires-clause-good g c = c.loop-k.invariant.good
+
+pub reach-requires-clause-size : goal.reach-requires-clause-size
+reach-requires-clause-size g c = omega arith
+
+pub reach-requires-clause-closed : goal.reach-requires-clause-closed
+reach-requires-clause-closed g c = c.loop-k.invariant.closed
+
+pub reach-requires-clause-ordered : goal.reach-requires-clause-ordered
+reach-requires-clause-ordered g c = c.loop-k.invariant.ordered

@@ -90,3 +90,45 @@ returns-then-sets-eq0-clause-best g c =
     let search = searched m l c.args.from p u v c.settle-best.result short
     (rw c.settle-best.ensures.judged both.0) (rw c.settle-best.ensures.judged both.1) c.advance.ensures.stepped c.advance.ensures.room in
     search_over m l c.args.from (p + 1) v c.settle-best.result search (omega arith) (omega arith) (cc)
+
+pub settle-best-requires-clause-runs : goal.settle-best-requires-clause-runs
+settle-best-requires-clause-runs g c = c.requires.runs
+
+pub settle-best-requires-clause-seeds : goal.settle-best-requires-clause-seeds
+settle-best-requires-clause-seeds g c = c.requires.seeds
+
+pub settle-best-requires-clause-place : goal.settle-best-requires-clause-place
+settle-best-requires-clause-place g c = omega arith
+
+pub settle-best-requires-clause-short : goal.settle-best-requires-clause-short
+settle-best-requires-clause-short g c = omega arith
+
+pub advance-requires-clause-runs : goal.advance-requires-clause-runs
+advance-requires-clause-runs g c = c.requires.runs
+
+pub advance-requires-clause-seeds : goal.advance-requires-clause-seeds
+advance-requires-clause-seeds g c = c.requires.seeds
+
+pub advance-requires-clause-room : goal.advance-requires-clause-room
+advance-requires-clause-room g c = c.settle-best.ensures.room
+
+pub advance-requires-clause-place : goal.advance-requires-clause-place
+advance-requires-clause-place g c = omega arith
+
+pub returns-then-sets-eq0-clause-room : goal.returns-then-sets-eq0-clause-room
+returns-then-sets-eq0-clause-room g c = c.advance.ensures.room
+
+pub settle-requires-clause-runs : goal.settle-requires-clause-runs
+settle-requires-clause-runs g c = c.requires.runs
+
+pub settle-requires-clause-seeds : goal.settle-requires-clause-seeds
+settle-requires-clause-seeds g c = c.requires.seeds
+
+pub settle-requires-clause-place : goal.settle-requires-clause-place
+settle-requires-clause-place g c = omega arith
+
+pub settle-requires-clause-short : goal.settle-requires-clause-short
+settle-requires-clause-short g c = omega arith
+
+pub returns-clause-room : goal.returns-clause-room
+returns-clause-room g c = c.settle.ensures.room

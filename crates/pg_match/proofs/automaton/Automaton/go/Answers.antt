@@ -1,4 +1,4 @@
-use Rattle.std.proofs.Common.{◌∙◌, sym}
+use Rattle.std.proofs.Common.{◌∙◌, sym, arith}
 use Rattle.std.proofs.lemmas.Bool.{eqb-true}
 use Rattle.pg_match.specs.Views.{nfa, members}
 use Rattle.pg_match.proofs.StepLemmas.{gone_seeded, gone_plain, aimed_at_none}
@@ -26,3 +26,18 @@ pub returns-clause-fresh : goal.returns-clause-fresh
 returns-clause-fresh g c = λ t.
     let aimed = rw c.deref.ensures.value at c.aim.ensures in
     aimed_at_none (nfa c.args.self.now) c.args.byte (members c.args.sets.now.current) (members c.aim.new.next) c.requires.room.now aimed (eqb-true _ 0 t)
+
+pub aim-requires-clause-good : goal.aim-requires-clause-good
+aim-requires-clause-good g c = c.requires.room.now
+
+pub aim-requires-clause-size : goal.aim-requires-clause-size
+aim-requires-clause-size g c = omega arith
+
+pub aim-requires-clause-next_good : goal.aim-requires-clause-next_good
+aim-requires-clause-next_good g c = c.requires.room.next
+
+pub aim-requires-clause-next_size : goal.aim-requires-clause-next_size
+aim-requires-clause-next_size g c = omega arith
+
+pub insert-requires-clause-some : goal.insert-requires-clause-some
+insert-requires-clause-some g c = omega arith

@@ -51,3 +51,99 @@ returns-clause-learned g c =
     learned_row m old mid new c.args.row c.args.byte k _ (members c.load.new.set) (members c.go-is_fresh.new.sets.current) refl c.keep-to.ensures.known
     (mark_keeps mid new _ _ c.mark-2.ensures) c.load.ensures.same
     (λ h. true≢false (sym (c.hits_before.ensures.1 h) ∙ c.if-hits_before.false)) c.go-is_fresh.ensures.goes (c.keep-to.ensures.same some)
+
+pub overflow_mul-row : goal.overflow_mul-row
+overflow_mul-row g c = omega arith
+
+pub overflow_add-row : goal.overflow_add-row
+overflow_add-row g c = omega arith
+
+pub index-requires : goal.index-requires
+index-requires g c = omega arith
+
+pub overflow_cast-to : goal.overflow_cast-to
+overflow_cast-to g c = omega arith
+
+pub overflow_mul-to : goal.overflow_mul-to
+overflow_mul-to g c = omega arith
+
+pub overflow_cast-result : goal.overflow_cast-result
+overflow_cast-result g c = omega arith
+
+pub overflow_mul-result : goal.overflow_mul-result
+overflow_mul-result g c = omega arith
+
+pub returns-then-index-eq-HIT-clause-room : goal.returns-then-index-eq-HIT-clause-room
+returns-then-index-eq-HIT-clause-room g c = c.requires.room
+
+pub returns-then-index-eq-HIT-clause-memory : goal.returns-then-index-eq-HIT-clause-memory
+returns-then-index-eq-HIT-clause-memory g c = c.requires.memory
+
+pub returns-then-index-eq-HIT-clause-some : goal.returns-then-index-eq-HIT-clause-some
+returns-then-index-eq-HIT-clause-some g c = omega arith
+
+pub returns-then-index-eq-HIT-clause-visits : goal.returns-then-index-eq-HIT-clause-visits
+returns-then-index-eq-HIT-clause-visits g c = omega arith
+
+pub load-requires-clause-good : goal.load-requires-clause-good
+load-requires-clause-good g c = c.requires.room.now
+
+pub load-requires-clause-known : goal.load-requires-clause-known
+load-requires-clause-known g c = omega arith
+
+pub hits_before-requires-clause-runs : goal.hits_before-requires-clause-runs
+hits_before-requires-clause-runs g c = c.requires.runs
+
+pub hits_before-requires-clause-size : goal.hits_before-requires-clause-size
+hits_before-requires-clause-size g c = omega arith
+
+pub mark-requires-clause-size : goal.mark-requires-clause-size
+mark-requires-clause-size g c = omega arith
+
+pub returns-then-hits_before-clause-some : goal.returns-then-hits_before-clause-some
+returns-then-hits_before-clause-some g c = omega arith
+
+pub returns-then-hits_before-clause-visits : goal.returns-then-hits_before-clause-visits
+returns-then-hits_before-clause-visits g c = omega arith
+
+pub go-is_fresh-requires-clause-runs : goal.go-is_fresh-requires-clause-runs
+go-is_fresh-requires-clause-runs g c = c.requires.runs
+
+pub go-is_fresh-requires-clause-visits : goal.go-is_fresh-requires-clause-visits
+go-is_fresh-requires-clause-visits g c = omega arith
+
+pub keep-to-requires-clause-memory : goal.keep-to-requires-clause-memory
+keep-to-requires-clause-memory g c = c.requires.memory
+
+pub keep-to-requires-clause-size : goal.keep-to-requires-clause-size
+keep-to-requires-clause-size g c = omega arith
+
+pub keep-to-requires-clause-some : goal.keep-to-requires-clause-some
+keep-to-requires-clause-some g c = omega arith
+
+pub returns-then-to-eq0-clause-room : goal.returns-then-to-eq0-clause-room
+returns-then-to-eq0-clause-room g c = c.go-is_fresh.ensures.room
+
+pub returns-then-to-eq0-clause-memory : goal.returns-then-to-eq0-clause-memory
+returns-then-to-eq0-clause-memory g c = c.keep-to.ensures.memory
+
+pub returns-then-to-eq0-clause-some : goal.returns-then-to-eq0-clause-some
+returns-then-to-eq0-clause-some g c = omega arith
+
+pub returns-then-to-eq0-clause-visits : goal.returns-then-to-eq0-clause-visits
+returns-then-to-eq0-clause-visits g c = omega arith
+
+pub mark-requires-2-clause-size : goal.mark-requires-2-clause-size
+mark-requires-2-clause-size g c = omega arith
+
+pub mark-requires-2-clause-row : goal.mark-requires-2-clause-row
+mark-requires-2-clause-row g c = omega arith
+
+pub returns-clause-room : goal.returns-clause-room
+returns-clause-room g c = c.go-is_fresh.ensures.room
+
+pub returns-clause-some : goal.returns-clause-some
+returns-clause-some g c = omega arith
+
+pub returns-clause-visits : goal.returns-clause-visits
+returns-clause-visits g c = omega arith

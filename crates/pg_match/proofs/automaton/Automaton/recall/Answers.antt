@@ -125,3 +125,138 @@ search_on-requires-in-Lost-clause-visits g c =
     let n : ℕ = length c.args.self.now.states.items in
     let v = visits_later c.loop-sets.place c.walk-at.result.1 n c.loop-sets.sets.visits c.loop-sets.invariant.visits c.walk-at.ensures.onward in
     omega (arith, v, c.in-Lost.ensures.visits)
+
+pub overflow_add-here : goal.overflow_add-here
+overflow_add-here g c = omega arith
+
+pub bounds-line-here : goal.bounds-line-here
+bounds-line-here g c = omega arith
+
+pub overflow_cast-at : goal.overflow_cast-at
+overflow_cast-at g c = omega arith
+
+pub bounds-line-here-in-loop-sets : goal.bounds-line-here-in-loop-sets
+bounds-line-here-in-loop-sets g c = omega arith
+
+pub overflow_add-place : goal.overflow_add-place
+overflow_add-place g c = omega arith
+
+pub loop-sets-smaller : goal.loop-sets-smaller
+loop-sets-smaller g c = omega arith
+
+pub overflow_sub-line : goal.overflow_sub-line
+overflow_sub-line g c = omega arith
+
+pub overflow_add-here-in-Lost : goal.overflow_add-here-in-Lost
+overflow_add-here-in-Lost g c = omega arith
+
+pub first-requires-clause-runs : goal.first-requires-clause-runs
+first-requires-clause-runs g c = c.requires.runs
+
+pub first-requires-clause-room : goal.first-requires-clause-room
+first-requires-clause-room g c = c.requires.room
+
+pub first-requires-clause-memory : goal.first-requires-clause-memory
+first-requires-clause-memory g c = c.requires.memory
+
+pub first-requires-clause-visits : goal.first-requires-clause-visits
+first-requires-clause-visits g c = omega arith
+
+pub search_on-requires-clause-runs : goal.search_on-requires-clause-runs
+search_on-requires-clause-runs g c = c.requires.runs
+
+pub search_on-requires-clause-room : goal.search_on-requires-clause-room
+search_on-requires-clause-room g c = c.first.ensures.room
+
+pub search_on-requires-clause-short : goal.search_on-requires-clause-short
+search_on-requires-clause-short g c = omega arith
+
+pub search_on-requires-clause-from_in : goal.search_on-requires-clause-from_in
+search_on-requires-clause-from_in g c = omega arith
+
+pub returns-then-not-first-clause-room : goal.returns-then-not-first-clause-room
+returns-then-not-first-clause-room g c = c.search_on.ensures.room
+
+pub returns-then-not-first-clause-memory : goal.returns-then-not-first-clause-memory
+returns-then-not-first-clause-memory g c = c.first.ensures.memory
+
+pub returns-then-not-first-clause-exact : goal.returns-then-not-first-clause-exact
+returns-then-not-first-clause-exact g c = c.search_on.ensures.exact
+
+pub returns-then-not-first-clause-visits : goal.returns-then-not-first-clause-visits
+returns-then-not-first-clause-visits g c = omega arith
+
+pub walk-at-requires-clause-runs : goal.walk-at-requires-clause-runs
+walk-at-requires-clause-runs g c = c.requires.runs
+
+pub walk-at-requires-clause-memory : goal.walk-at-requires-clause-memory
+walk-at-requires-clause-memory g c = c.loop-sets.invariant.memory
+
+pub walk-at-requires-clause-from_in : goal.walk-at-requires-clause-from_in
+walk-at-requires-clause-from_in g c = omega arith
+
+pub walk-at-requires-clause-row : goal.walk-at-requires-clause-row
+walk-at-requires-clause-row g c = c.loop-sets.invariant.row
+
+pub finish-requires-clause-runs : goal.finish-requires-clause-runs
+finish-requires-clause-runs g c = c.requires.runs
+
+pub finish-requires-clause-room : goal.finish-requires-clause-room
+finish-requires-clause-room g c = c.loop-sets.invariant.room
+
+pub finish-requires-clause-memory : goal.finish-requires-clause-memory
+finish-requires-clause-memory g c = c.loop-sets.invariant.memory
+
+pub finish-requires-clause-row : goal.finish-requires-clause-row
+finish-requires-clause-row g c = c.walk-at.ensures.row
+
+pub finish-requires-clause-some : goal.finish-requires-clause-some
+finish-requires-clause-some g c = omega arith
+
+pub returns-then-here-line-clause-room : goal.returns-then-here-line-clause-room
+returns-then-here-line-clause-room g c = c.finish.ensures.room
+
+pub returns-then-here-line-clause-memory : goal.returns-then-here-line-clause-memory
+returns-then-here-line-clause-memory g c = c.finish.ensures.memory
+
+pub learn-requires-clause-runs : goal.learn-requires-clause-runs
+learn-requires-clause-runs g c = c.requires.runs
+
+pub learn-requires-clause-room : goal.learn-requires-clause-room
+learn-requires-clause-room g c = c.loop-sets.invariant.room
+
+pub learn-requires-clause-memory : goal.learn-requires-clause-memory
+learn-requires-clause-memory g c = c.loop-sets.invariant.memory
+
+pub learn-requires-clause-known : goal.learn-requires-clause-known
+learn-requires-clause-known g c = omega arith
+
+pub learn-requires-clause-some : goal.learn-requires-clause-some
+learn-requires-clause-some g c = omega arith
+
+pub returns-in-Hit-clause-room : goal.returns-in-Hit-clause-room
+returns-in-Hit-clause-room g c = c.learn.ensures.room
+
+pub returns-in-Hit-clause-memory : goal.returns-in-Hit-clause-memory
+returns-in-Hit-clause-memory g c = c.learn.ensures.memory
+
+pub search_on-requires-in-Lost-clause-runs : goal.search_on-requires-in-Lost-clause-runs
+search_on-requires-in-Lost-clause-runs g c = c.requires.runs
+
+pub search_on-requires-in-Lost-clause-room : goal.search_on-requires-in-Lost-clause-room
+search_on-requires-in-Lost-clause-room g c = c.learn.ensures.room
+
+pub search_on-requires-in-Lost-clause-short : goal.search_on-requires-in-Lost-clause-short
+search_on-requires-in-Lost-clause-short g c = omega arith
+
+pub search_on-requires-in-Lost-clause-from_in : goal.search_on-requires-in-Lost-clause-from_in
+search_on-requires-in-Lost-clause-from_in g c = omega arith
+
+pub returns-in-Lost-clause-room : goal.returns-in-Lost-clause-room
+returns-in-Lost-clause-room g c = c.search_on-in-Lost.ensures.room
+
+pub returns-in-Lost-clause-exact : goal.returns-in-Lost-clause-exact
+returns-in-Lost-clause-exact g c = c.search_on-in-Lost.ensures.exact
+
+pub returns-in-Lost-clause-visits : goal.returns-in-Lost-clause-visits
+returns-in-Lost-clause-visits g c = omega arith

@@ -44,3 +44,30 @@ returns-clause-exact g c =
     let S = Has (members c.loop-place.sets.current) in
     ended_so m l 0 S c.hits_at_end.result c.is_empty.result c.requires.runs (subst (λ p. Stands m l 0 p S) end c.loop-place.invariant.stands)
     (λ t. eqb-true (length l) 0 (sym c.is_empty.ensures ∙ t)) (λ e. c.is_empty.ensures ∙ eq-eqb (length l) 0 e) c.hits_at_end.ensures.answer
+
+pub bounds-line-place : goal.bounds-line-place
+bounds-line-place g c = omega arith
+
+pub hits_before-requires-clause-runs : goal.hits_before-requires-clause-runs
+hits_before-requires-clause-runs g c = c.requires.runs
+
+pub hits_before-requires-clause-size : goal.hits_before-requires-clause-size
+hits_before-requires-clause-size g c = omega arith
+
+pub returns-then-hits_before-clause-room : goal.returns-then-hits_before-clause-room
+returns-then-hits_before-clause-room g c = c.loop-place.invariant.room
+
+pub go-requires-clause-runs : goal.go-requires-clause-runs
+go-requires-clause-runs g c = c.requires.runs
+
+pub go-requires-clause-room : goal.go-requires-clause-room
+go-requires-clause-room g c = c.loop-place.invariant.room
+
+pub hits_at_end-requires-clause-runs : goal.hits_at_end-requires-clause-runs
+hits_at_end-requires-clause-runs g c = c.requires.runs
+
+pub hits_at_end-requires-clause-room : goal.hits_at_end-requires-clause-room
+hits_at_end-requires-clause-room g c = c.loop-place.invariant.room
+
+pub returns-clause-room : goal.returns-clause-room
+returns-clause-room g c = c.hits_at_end.ensures.room

@@ -74,3 +74,99 @@ returns-in-Hit g c =
           (c.len-size.ensures ∙ c.args.self.now.states.ok.0) c.if-sets-most-2.false
           c.learn.ensures.visits (omega arith);
     }
+
+pub overflow_cast-size : goal.overflow_cast-size
+overflow_cast-size g c = omega arith
+
+pub overflow_cast-most : goal.overflow_cast-most
+overflow_cast-most g c = omega arith
+
+pub overflow_add-here : goal.overflow_add-here
+overflow_add-here g c = omega arith
+
+pub bounds-line-here : goal.bounds-line-here
+bounds-line-here g c = omega arith
+
+pub overflow_cast-at : goal.overflow_cast-at
+overflow_cast-at g c = omega arith
+
+pub bounds-line-here-in-loop-sets : goal.bounds-line-here-in-loop-sets
+bounds-line-here-in-loop-sets g c = omega arith
+
+pub overflow_add-place : goal.overflow_add-place
+overflow_add-place g c = omega arith
+
+pub loop-sets-smaller : goal.loop-sets-smaller
+loop-sets-smaller g c = omega arith
+
+pub overflow_sub-line : goal.overflow_sub-line
+overflow_sub-line g c = omega arith
+
+pub first-requires-clause-runs : goal.first-requires-clause-runs
+first-requires-clause-runs g c = c.requires.runs
+
+pub first-requires-clause-room : goal.first-requires-clause-room
+first-requires-clause-room g c = c.requires.room
+
+pub first-requires-clause-memory : goal.first-requires-clause-memory
+first-requires-clause-memory g c = c.requires.memory
+
+pub walk-at-requires-clause-runs : goal.walk-at-requires-clause-runs
+walk-at-requires-clause-runs g c = c.requires.runs
+
+pub walk-at-requires-clause-memory : goal.walk-at-requires-clause-memory
+walk-at-requires-clause-memory g c = c.loop-sets.invariant.memory
+
+pub walk-at-requires-clause-from_in : goal.walk-at-requires-clause-from_in
+walk-at-requires-clause-from_in g c = omega arith
+
+pub walk-at-requires-clause-row : goal.walk-at-requires-clause-row
+walk-at-requires-clause-row g c = c.loop-sets.invariant.row
+
+pub returns-then-sets-most-2-clause-room : goal.returns-then-sets-most-2-clause-room
+returns-then-sets-most-2-clause-room g c = c.loop-sets.invariant.room
+
+pub returns-then-sets-most-2-clause-memory : goal.returns-then-sets-most-2-clause-memory
+returns-then-sets-most-2-clause-memory g c = c.loop-sets.invariant.memory
+
+pub returns-then-sets-most-2-clause-visits : goal.returns-then-sets-most-2-clause-visits
+returns-then-sets-most-2-clause-visits g c = omega arith
+
+pub finish-requires-clause-runs : goal.finish-requires-clause-runs
+finish-requires-clause-runs g c = c.requires.runs
+
+pub finish-requires-clause-room : goal.finish-requires-clause-room
+finish-requires-clause-room g c = c.loop-sets.invariant.room
+
+pub finish-requires-clause-memory : goal.finish-requires-clause-memory
+finish-requires-clause-memory g c = c.loop-sets.invariant.memory
+
+pub finish-requires-clause-row : goal.finish-requires-clause-row
+finish-requires-clause-row g c = c.walk-at.ensures.row
+
+pub finish-requires-clause-some : goal.finish-requires-clause-some
+finish-requires-clause-some g c = omega arith
+
+pub returns-then-here-line-clause-room : goal.returns-then-here-line-clause-room
+returns-then-here-line-clause-room g c = c.finish.ensures.room
+
+pub returns-then-here-line-clause-memory : goal.returns-then-here-line-clause-memory
+returns-then-here-line-clause-memory g c = c.finish.ensures.memory
+
+pub learn-requires-clause-runs : goal.learn-requires-clause-runs
+learn-requires-clause-runs g c = c.requires.runs
+
+pub learn-requires-clause-room : goal.learn-requires-clause-room
+learn-requires-clause-room g c = c.loop-sets.invariant.room
+
+pub learn-requires-clause-memory : goal.learn-requires-clause-memory
+learn-requires-clause-memory g c = c.loop-sets.invariant.memory
+
+pub learn-requires-clause-known : goal.learn-requires-clause-known
+learn-requires-clause-known g c = omega arith
+
+pub learn-requires-clause-some : goal.learn-requires-clause-some
+learn-requires-clause-some g c = omega arith
+
+pub returns-in-Lost-clause-room : goal.returns-in-Lost-clause-room
+returns-in-Lost-clause-room g c = c.learn.ensures.room

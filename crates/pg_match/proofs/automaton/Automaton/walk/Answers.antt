@@ -68,3 +68,87 @@ loop-place-2-preserved g c =
     c.requires.runs c.requires.memory (omega (arith, c.type_inv.line p)) (slice_get-get_or l p 0 (omega arith)) more
     (get_or_read mem.steps _ c.index-next.result.now (in_table m mem at (get_or l p 0) c.requires.memory w0.row (omega (arith, c.type_inv.line p))) c.index-next.ensures 0)
     c.if-next-lt256.false w0
+
+pub overflow_add-place : goal.overflow_add-place
+overflow_add-place g c = omega arith
+
+pub overflow_cast-at : goal.overflow_cast-at
+overflow_cast-at g c = omega arith
+
+pub bounds-line-place : goal.bounds-line-place
+bounds-line-place g c = omega arith
+
+pub overflow_add-at : goal.overflow_add-at
+overflow_add-at g c = omega arith
+
+pub index-one-requires : goal.index-one-requires
+index-one-requires g c = omega arith
+
+pub overflow_add-place-in-loop-place : goal.overflow_add-place-in-loop-place
+overflow_add-place-in-loop-place g c = omega arith
+
+pub bounds-line-place-in-loop-place : goal.bounds-line-place-in-loop-place
+bounds-line-place-in-loop-place g c = omega arith
+
+pub overflow_add-one : goal.overflow_add-one
+overflow_add-one g c = omega arith
+
+pub overflow_add-place-in-loop-place-2 : goal.overflow_add-place-in-loop-place-2
+overflow_add-place-in-loop-place-2 g c = omega arith
+
+pub bounds-line-place-in-loop-place-2 : goal.bounds-line-place-in-loop-place-2
+bounds-line-place-in-loop-place-2 g c = omega arith
+
+pub overflow_add-two : goal.overflow_add-two
+overflow_add-two g c = omega arith
+
+pub overflow_add-place-in-loop-place-3 : goal.overflow_add-place-in-loop-place-3
+overflow_add-place-in-loop-place-3 g c = omega arith
+
+pub bounds-line-place-in-loop-place-3 : goal.bounds-line-place-in-loop-place-3
+bounds-line-place-in-loop-place-3 g c = omega arith
+
+pub overflow_add-three : goal.overflow_add-three
+overflow_add-three g c = omega arith
+
+pub overflow_add-place-in-loop-place-4 : goal.overflow_add-place-in-loop-place-4
+overflow_add-place-in-loop-place-4 g c = omega arith
+
+pub loop-place-smaller : goal.loop-place-smaller
+loop-place-smaller g c = omega arith
+
+pub overflow_add-place-in-loop-place-2-2 : goal.overflow_add-place-in-loop-place-2-2
+overflow_add-place-in-loop-place-2-2 g c = omega arith
+
+pub overflow_cast-at-in-loop-place-2 : goal.overflow_cast-at-in-loop-place-2
+overflow_cast-at-in-loop-place-2 g c = omega arith
+
+pub bounds-line-place-in-loop-place-2-2 : goal.bounds-line-place-in-loop-place-2-2
+bounds-line-place-in-loop-place-2-2 g c = omega arith
+
+pub overflow_add-at-in-loop-place-2 : goal.overflow_add-at-in-loop-place-2
+overflow_add-at-in-loop-place-2 g c = omega arith
+
+pub index-next-requires : goal.index-next-requires
+index-next-requires g c = omega arith
+
+pub overflow_add-place-in-loop-place-2-3 : goal.overflow_add-place-in-loop-place-2-3
+overflow_add-place-in-loop-place-2-3 g c = omega arith
+
+pub loop-place-2-smaller : goal.loop-place-2-smaller
+loop-place-2-smaller g c = omega arith
+
+pub loop-place-2-init : goal.loop-place-2-init
+loop-place-2-init g c = c.loop-place.invariant
+
+pub returns-after-loop-place-2-clause-within : goal.returns-after-loop-place-2-clause-within
+returns-after-loop-place-2-clause-within g c = omega arith
+
+pub returns-after-loop-place-2-clause-onward : goal.returns-after-loop-place-2-clause-onward
+returns-after-loop-place-2-clause-onward g c = omega arith
+
+pub returns-then-next-lt256-clause-within : goal.returns-then-next-lt256-clause-within
+returns-then-next-lt256-clause-within g c = omega arith
+
+pub returns-then-next-lt256-clause-onward : goal.returns-then-next-lt256-clause-onward
+returns-then-next-lt256-clause-onward g c = omega arith

@@ -14,3 +14,30 @@ returns-clause-grown g c = λ t.
     let copy = subst (λ v. Copying mem (remembered c.loop-k.self) s c.index.result.now v) end c.loop-k.invariant in
     grown _ mem (remembered c.loop-k.self) _ s c.index.result.now c.args.is_fresh shape c.requires.good refl start c.if-self-eq-SETS.false (let e = c.len.ensures in omega (arith, c.if-len-start.false, e)) copy
     refl refl refl refl refl refl
+
+pub overflow_add-self : goal.overflow_add-self
+overflow_add-self g c = omega arith
+
+pub index-requires : goal.index-requires
+index-requires g c = omega arith
+
+pub overflow_add-start : goal.overflow_add-start
+overflow_add-start g c = omega arith
+
+pub index_mut-requires : goal.index_mut-requires
+index_mut-requires g c = omega arith
+
+pub overflow_add-start-2 : goal.overflow_add-start-2
+overflow_add-start-2 g c = omega arith
+
+pub overflow_cast-start-2 : goal.overflow_cast-start-2
+overflow_cast-start-2 g c = omega arith
+
+pub overflow_add-self-2 : goal.overflow_add-self-2
+overflow_add-self-2 g c = omega arith
+
+pub overflow_add-self-3 : goal.overflow_add-self-3
+overflow_add-self-3 g c = omega arith
+
+pub overflow_add-self-4 : goal.overflow_add-self-4
+overflow_add-self-4 g c = omega arith

@@ -29,3 +29,15 @@ returns g c = λ t.
     let end = get_or_read mem.cuts (row + 1) c.index-2.result.now (omega (arith, shape.cuts_size, shape.few)) c.index-2.ensures 0 in
     same_list mem row c.index.result.now (members c.args.set.now) c.requires.good start (c.if-start-set.false ∙ end)
     (λ j lt. c.loop-k.invariant j (omega arith))
+
+pub index-requires : goal.index-requires
+index-requires g c = omega arith
+
+pub overflow_add-row : goal.overflow_add-row
+overflow_add-row g c = omega arith
+
+pub index-requires-2 : goal.index-requires-2
+index-requires-2 g c = omega arith
+
+pub overflow_add-start-in-loop-k : goal.overflow_add-start-in-loop-k
+overflow_add-start-in-loop-k g c = omega arith

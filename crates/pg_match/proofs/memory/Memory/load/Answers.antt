@@ -47,3 +47,24 @@ returns-clause-same g c =
       λ h. let w = inv.from q h in
           (w.0, w.1, omega (arith, w.2, end, upper), w.3),
     )
+
+pub index-requires : goal.index-requires
+index-requires g c = omega arith
+
+pub overflow_add-row : goal.overflow_add-row
+overflow_add-row g c = omega arith
+
+pub index-requires-2 : goal.index-requires-2
+index-requires-2 g c = omega arith
+
+pub clear-requires : goal.clear-requires
+clear-requires g c = c.requires.good
+
+pub insert-requires-clause-good : goal.insert-requires-clause-good
+insert-requires-clause-good g c = c.loop-k.invariant.good
+
+pub returns-clause-good : goal.returns-clause-good
+returns-clause-good g c = c.loop-k.invariant.good
+
+pub returns-clause-size : goal.returns-clause-size
+returns-clause-size g c = omega arith

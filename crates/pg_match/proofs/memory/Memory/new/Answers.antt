@@ -1,3 +1,4 @@
+use Rattle.std.proofs.lemmas.Result.{IfOk-from_err}
 use Rattle.std.proofs.Common.{◌≡◌, Bool, Option, None, Some, ◌∙◌, arith, refl, sym, rules}
 use Rattle.pg_match.proofs.MemoryLemmas.{blank_table, zeros, nones}
 use Rattle.pg_match.proofs.memory.Memory.new.Goals as goal
@@ -21,3 +22,24 @@ returns g c =
     (omega (arith, c.in_ok-pool.ensures.len))
     (omega (arith, c.in_ok-cuts.ensures.len)) (omega (arith, c.in_ok-fresh.ensures.len)) refl (zeros _ 65792 s) (nones _ 257 l)
     (zero 0 ∙ sym (zero 1)) (omega (arith, zero 1))
+
+pub overflow_mul-vec : goal.overflow_mul-vec
+overflow_mul-vec g c = omega arith
+
+pub returns-in_err-steps : goal.returns-in_err-steps
+returns-in_err-steps g c = IfOk-from_err c.from_residual.result _ c.from_residual.ensures.0
+
+pub returns-in_err-ends : goal.returns-in_err-ends
+returns-in_err-ends g c = IfOk-from_err c.from_residual-in_err-ends.result _ c.from_residual-in_err-ends.ensures.0
+
+pub returns-in_err-fresh : goal.returns-in_err-fresh
+returns-in_err-fresh g c = IfOk-from_err c.from_residual-in_err-fresh.result _ c.from_residual-in_err-fresh.ensures.0
+
+pub returns-in_err-pool : goal.returns-in_err-pool
+returns-in_err-pool g c = IfOk-from_err c.from_residual-in_err-pool.result _ c.from_residual-in_err-pool.ensures.0
+
+pub overflow_add-vec : goal.overflow_add-vec
+overflow_add-vec g c = omega arith
+
+pub returns-in_err-cuts : goal.returns-in_err-cuts
+returns-in_err-cuts g c = IfOk-from_err c.from_residual-in_err-cuts.result _ c.from_residual-in_err-cuts.ensures.0

@@ -29,3 +29,6 @@ returns-clause-good g c =
           absurd (w.1 f.0 (omega (arith, f.1)) f.2)
       | inr none ↦ omega arith
     ])
+
+pub returns-clause-size : goal.returns-clause-size
+returns-clause-size g c = omega arith

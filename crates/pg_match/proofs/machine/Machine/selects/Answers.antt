@@ -1,0 +1,5 @@
+use Rattle.std.proofs.Common.{arith}
+use Rattle.pg_match.proofs.machine.Machine.selects.Goals as goal
+
+pub selects-requires-clause-short : goal.selects-requires-clause-short
+selects-requires-clause-short g c = omega arith
