@@ -19,7 +19,14 @@ use Rattle.pg_match.proofs.TableLemmas.{plain_trans, keeps_trans, written, chain
 written_trans : (a b c : List State) → KeepsWritten a b → KeepsWritten b c → KeepsWritten a c
 written_trans a b c f g q s other h = g q s other (f q s other h)
 
-hole_kept : (n : ℕ) (t u : List State) (h : Option Hole) → Keeps t u → length t ≤ length u → IsHole n t h → IsHole n u h
+pub hole_any : (n : ℕ) (t : List State) (h : Option Hole) → IsHole n t h → IsHole 0 t h
+hole_any n t None x = tt
+hole_any n t (Some h) x = (omega arith, x.1, x.2, x.3)
+
+pub gap_any : (n : ℕ) (t : List State) (g : Gap) → IsGap n t g → IsGap 0 t g
+gap_any n t g x = record { tidy = x.tidy; next_in = x.next_in; hole_in = hole_any n t g.hole x.hole_in }
+
+pub hole_kept : (n : ℕ) (t u : List State) (h : Option Hole) → Keeps t u → length t ≤ length u → IsHole n t h → IsHole n u h
 hole_kept n t u None keeps le hole = tt
 hole_kept n t u (Some h) keeps le hole = (hole.0, keeps h.place Fail hole.1, omega (arith, hole.2), omega (arith, hole.3))
 
