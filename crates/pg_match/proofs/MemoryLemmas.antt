@@ -384,7 +384,7 @@ walking_next m mem l from state p u at v b e is_m is lt byte more read big w =
           stands_step m mem l start p u at v b e is_m is w.row lt byte (omega arith) (omega arith) read big (w.stands start le s);
     }
 
-pub visits_small : (p n v : ℕ) → v ≤ (p + 1) * n → p < 2 ^ 30 → n < 2 ^ 64 → v < 2 ^ 98
+pub visits_small : (p n v : ℕ) → v ≤ (p + 1) * n → p ≤ 2 ^ 30 → n < 2 ^ 64 → v < 2 ^ 98
 visits_small p n v le short few = let less : n ≤ 2 ^ 64 = omega arith in omega (arith, mul-le-mul_left (p + 1) less)
 
 pub visits_later : (p h n v : ℕ) → v ≤ (p + 1) * n → p ≤ h → v ≤ (h + 1) * n

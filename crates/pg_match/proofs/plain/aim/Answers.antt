@@ -1,11 +1,12 @@
+use Rattle.pg_match.specs.Steps.{Aimed}
 use Rattle.std.proofs.Common.{◌≡◌, ◌<◌, length, get_or, arith, sym, refl, subst}
 use Rattle.std.specs.Prelude.{slice_get, Some}
 use Rattle.pg_match.specs.declared.state.State.TheVariants.{Fail}
 use Rattle.pg_match.specs.Views.{members}
 use Rattle.pg_match.specs.StateSets.{listed}
-use Rattle.pg_match.proofs.StateSetLemmas.{read_listed, listed_in}
+use Rattle.pg_match.proofs.StateSetLemmas.{read_listed, listed_in, list_long}
 use Rattle.pg_match.proofs.ClosureLemmas.{stands}
-use Rattle.pg_match.proofs.StepLemmas.{aimed_over, aimed_next, aimed_none, aimed_refused}
+use Rattle.pg_match.proofs.StepLemmas.{aimed_over, aimed_next, aimed_none, aimed_refused, aimed_first}
 use Rattle.pg_match.proofs.plain.aim.Goals as goal
 use Rattle.pg_match.proofs.plain.aim.Goals.{in-Read+then-contains, in-Read+else-contains, in_default}
 
@@ -44,3 +45,28 @@ offset_bounds-states-state g c = omega arith
 
 pub insert-requires-clause-good : goal.insert-requires-clause-good
 insert-requires-clause-good g c = c.loop-k.invariant.good
+
+pub clear-requires : goal.clear-requires
+clear-requires g c = c.requires.next_good
+
+pub index-state-requires : goal.index-state-requires
+index-state-requires g c = let long = list_long (members c.args.current.now) c.requires.good in omega arith
+
+pub insert-requires-clause-within : goal.insert-requires-clause-within
+insert-requires-clause-within g c =
+    let lt : c.loop-k.k < c.args.current.now.len = omega arith in
+    let e = read_listed (members c.args.current.now) c.loop-k.k _ c.requires.good lt c.index-state.ensures in
+    let n = listed_in (members c.args.current.now) c.loop-k.k c.requires.good lt in
+    let to = rw c.in-Read.is at (c.requires.tidy c.index-state.result.now Fail (omega (arith, e, n))) in
+    omega (arith, to, c.loop-k.invariant.size)
+
+pub insert-requires-clause-some : goal.insert-requires-clause-some
+insert-requires-clause-some g c = omega arith
+
+pub loop-k-init : goal.loop-k-init
+loop-k-init g c = aimed_first _ _ _ _ c.clear.ensures.good c.clear.ensures.empty (omega arith)
+
+pub returns : goal.returns
+returns g c =
+    let end : c.loop-k.k ≡ c.args.current.now.len = omega arith in
+    subst (λ k. Aimed c.args.states.now c.args.byte (members c.args.current.now) (members c.loop-k.next) k) end c.loop-k.invariant

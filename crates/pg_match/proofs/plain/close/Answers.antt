@@ -1,7 +1,7 @@
 use Rattle.std.proofs.Common.{arith, subst}
 use Rattle.pg_match.specs.Steps.{Spread}
 use Rattle.pg_match.specs.Views.{members}
-use Rattle.pg_match.proofs.StateSetLemmas.{read_listed, listed_in}
+use Rattle.pg_match.proofs.StateSetLemmas.{read_listed, listed_in, list_long, few}
 use Rattle.pg_match.proofs.StepLemmas.{closing_first, closing_next, all_closed}
 use Rattle.pg_match.proofs.plain.close.Goals as goal
 
@@ -33,3 +33,14 @@ spread-requires-clause-good g c = c.loop-next.invariant.good
 
 pub spread-requires-clause-size : goal.spread-requires-clause-size
 spread-requires-clause-size g c = omega arith
+
+pub index-from-requires : goal.index-from-requires
+index-from-requires g c = let long = list_long (members c.loop-next.set) c.loop-next.invariant.good in omega arith
+
+pub overflow_add-next : goal.overflow_add-next
+overflow_add-next g c = let most = few (members c.loop-next.set) c.loop-next.invariant.good in omega arith
+
+pub loop-next-smaller : goal.loop-next-smaller
+loop-next-smaller g c =
+    let most = few (members c.loop-next.set) c.loop-next.invariant.good in
+    omega (arith, c.loop-next.invariant.size)

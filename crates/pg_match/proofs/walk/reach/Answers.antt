@@ -1,8 +1,8 @@
 use Rattle.std.proofs.Common.{arith, subst}
 use Rattle.pg_match.specs.Closures.{Followed}
 use Rattle.pg_match.specs.Views.{members}
-use Rattle.pg_match.proofs.StateSetLemmas.{read_listed, listed_in}
-use Rattle.pg_match.proofs.ClosureLemmas.{reaching_first, reaching_next}
+use Rattle.pg_match.proofs.StateSetLemmas.{read_listed, listed_in, list_long, few}
+use Rattle.pg_match.proofs.ClosureLemmas.{reaching_first, reaching_next, reached}
 use Rattle.pg_match.proofs.walk.reach.Goals as goal
 
 pub loop-next-init : goal.loop-next-init
@@ -48,3 +48,17 @@ follow-requires-clause-some g c = omega arith
 
 pub returns-clause-paths : goal.returns-clause-paths
 returns-clause-paths g c = c.loop-next.invariant.paths
+
+pub returns-clause-reached : goal.returns-clause-reached
+returns-clause-reached g c = reached _ _ _ _ _ _ _ _ c.loop-next.invariant c.loop-next-test.false
+
+pub index-from-requires : goal.index-from-requires
+index-from-requires g c = let long = list_long (members c.loop-next.set) c.loop-next.invariant.good in omega arith
+
+pub overflow_add-next : goal.overflow_add-next
+overflow_add-next g c = let most = few (members c.loop-next.set) c.loop-next.invariant.good in omega arith
+
+pub loop-next-smaller : goal.loop-next-smaller
+loop-next-smaller g c =
+    let most = few (members c.loop-next.set) c.loop-next.invariant.good in
+    omega (arith, c.loop-next.invariant.size)

@@ -25,3 +25,15 @@ reach-requires-clause-within g c = omega arith
 
 pub reach-requires-clause-some : goal.reach-requires-clause-some
 reach-requires-clause-some g c = omega arith
+
+pub reach-requires-clause-size : goal.reach-requires-clause-size
+reach-requires-clause-size g c = omega (arith, c.in_ok-set.ensures.size)
+
+pub reach-requires-clause-closed : goal.reach-requires-clause-closed
+reach-requires-clause-closed g c = λ q h. let z = c.in_ok-set.ensures.empty.1 q in absurd (omega arith)
+
+pub reach-requires-clause-ordered : goal.reach-requires-clause-ordered
+reach-requires-clause-ordered g c = λ j k le lt. let z = c.in_ok-set.ensures.empty.0 in absurd (omega arith)
+
+pub reach-requires-clause-below : goal.reach-requires-clause-below
+reach-requires-clause-below g c = λ q. let z = c.in_ok-set.ensures.empty.1 q in omega arith

@@ -4,8 +4,8 @@ use Rattle.std.specs.Prelude.{slice_get}
 use Rattle.pg_match.specs.declared.state.State.TheVariants.{Fail}
 use Rattle.pg_match.specs.StateSets.{listed}
 use Rattle.pg_match.specs.Views.{members}
-use Rattle.pg_match.proofs.StateSetLemmas.{read_thread, read_listed, listed_in}
-use Rattle.pg_match.proofs.ClosureLemmas.{stands, stepping_over, stepping_next, no_byte, byte_edge, byte_only, byte_none}
+use Rattle.pg_match.proofs.StateSetLemmas.{read_thread, read_listed, listed_in, list_long}
+use Rattle.pg_match.proofs.ClosureLemmas.{stands, stepping_over, stepping_next, no_byte, byte_edge, byte_only, byte_none, stepping_first, stepped}
 use Rattle.pg_match.proofs.walk.step.Goals as goal
 use Rattle.pg_match.proofs.walk.step.Goals.{then-mark-limit+in-Read+then-contains, then-mark-limit+in-Read+else-contains, then-mark-limit+in_default, else-mark-limit}
 
@@ -92,3 +92,22 @@ reach-requires-clause-closed g c = c.loop-k.invariant.closed
 
 pub reach-requires-clause-ordered : goal.reach-requires-clause-ordered
 reach-requires-clause-ordered g c = c.loop-k.invariant.ordered
+
+pub clear-requires : goal.clear-requires
+clear-requires g c = c.requires.next_good
+
+pub index-state-requires : goal.index-state-requires
+index-state-requires g c = let long = list_long (members c.args.current.now) c.requires.good in omega arith
+
+pub reach-requires-clause-within : goal.reach-requires-clause-within
+reach-requires-clause-within g c =
+    let lt : c.loop-k.k < c.args.current.now.len = omega arith in
+    let e = read_listed (members c.args.current.now) c.loop-k.k _ c.requires.good lt c.index-state.ensures in
+    let n = listed_in (members c.args.current.now) c.loop-k.k c.requires.good lt in
+    rw c.in-Read.is at (c.requires.tidy c.index-state.result.now Fail (omega (arith, e, n)))
+
+pub loop-k-init : goal.loop-k-init
+loop-k-init g c = stepping_first _ _ _ _ _ _ c.clear.ensures.good c.clear.ensures.empty (omega arith)
+
+pub returns : goal.returns
+returns g c = stepped _ _ _ _ _ _ c.loop-k.k c.loop-k.invariant (omega arith) c.requires.good

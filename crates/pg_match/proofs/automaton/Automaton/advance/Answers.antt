@@ -1,4 +1,4 @@
-use Rattle.std.proofs.Common.{arith}
+use Rattle.std.proofs.Common.{arith, refl, length, ◌≡◌}
 use Rattle.pg_match.proofs.automaton.Automaton.advance.Goals as goal
 
 pub limit-requires : goal.limit-requires
@@ -21,3 +21,17 @@ step-requires-clause-next_size g c = omega arith
 
 pub step-requires-clause-place : goal.step-requires-clause-place
 step-requires-clause-place g c = omega arith
+
+pub step-requires-clause-tidy : goal.step-requires-clause-tidy
+step-requires-clause-tidy g c = rw c.deref.ensures.value c.requires.runs.tidy
+
+pub returns-clause-stepped : goal.returns-clause-stepped
+returns-clause-stepped g c = rw c.swap.ensures.x_after (rw (c.deref.ensures.value, c.limit.ensures) at c.step.ensures)
+
+pub returns-clause-room : goal.returns-clause-room
+returns-clause-room g c =
+    let size : length c.step.new.next.marks.items ≡ length c.args.self.now.states.items = omega (arith, c.step.ensures.size, c.requires.room.now_size) in
+    record { now = rw c.swap.ensures.x_after c.step.ensures.good; next = rw c.swap.ensures.y_after c.requires.room.now; now_size = rw c.swap.ensures.x_after size; next_size = rw c.swap.ensures.y_after c.requires.room.now_size }
+
+pub returns-clause-visits : goal.returns-clause-visits
+returns-clause-visits g c = refl

@@ -1,4 +1,4 @@
-use Rattle.std.proofs.Common.{arith}
+use Rattle.std.proofs.Common.{arith, refl}
 use Rattle.pg_match.proofs.automaton.Automaton.begin.Goals as goal
 
 pub overflow_add-sets : goal.overflow_add-sets
@@ -18,3 +18,12 @@ close-requires-clause-good g c = c.insert.ensures.good
 
 pub close-requires-clause-size : goal.close-requires-clause-size
 close-requires-clause-size g c = omega arith
+
+pub clear-requires : goal.clear-requires
+clear-requires g c = c.requires.room.now
+
+pub close-requires-clause-tidy : goal.close-requires-clause-tidy
+close-requires-clause-tidy g c = rw c.deref.ensures.value c.requires.runs.tidy
+
+pub returns-clause-visits : goal.returns-clause-visits
+returns-clause-visits g c = refl

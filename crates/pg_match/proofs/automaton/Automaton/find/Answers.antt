@@ -1,6 +1,8 @@
-use Rattle.std.proofs.Common.{◌≡◌, ◌<◌, ◌≤◌, ◌+◌, ◌-◌, ◌*◌, ◌^◌, ◌∙◌, ℕ, length, arith, subst}
+use Rattle.std.proofs.lemmas.Bool.{cases_lt}
+use Rattle.pg_match.specs.StateSets.{mark}
+use Rattle.std.proofs.Common.{◌≡◌, ◌<◌, ◌≤◌, ◌+◌, ◌-◌, ◌*◌, ◌^◌, ◌∙◌, ℕ, length, arith, subst, inl, inr}
 use Rattle.std.proofs.Math.Nat.{mul-le-mul_left}
-use Rattle.pg_match.specs.Views.{nfa, buffers}
+use Rattle.pg_match.specs.Views.{nfa, buffers, members}
 use Rattle.pg_match.proofs.StateSetLemmas.{few}
 use Rattle.pg_match.proofs.SearchLemmas.{Searching, settled, searched, search_over}
 use Rattle.pg_match.proofs.automaton.Automaton.find.Goals as goal
@@ -132,3 +134,38 @@ settle-requires-clause-short g c = omega arith
 
 pub returns-clause-room : goal.returns-clause-room
 returns-clause-room g c = c.settle.ensures.room
+
+pub clear-requires : goal.clear-requires
+clear-requires g c = c.requires.room.now
+
+pub settle-best-requires-clause-closed : goal.settle-best-requires-clause-closed
+settle-best-requires-clause-closed g c = c.loop-place.invariant.search.alive.closed
+
+pub settle-best-requires-clause-ordered : goal.settle-best-requires-clause-ordered
+settle-best-requires-clause-ordered g c = c.loop-place.invariant.search.alive.ordered
+
+pub settle-best-requires-clause-room : goal.settle-best-requires-clause-room
+settle-best-requires-clause-room g c =
+    let s = c.loop-place.invariant.search in
+    record { now = s.alive.good; next = s.next; now_size = s.alive.size; next_size = s.next_size }
+
+pub settle-requires-clause-room : goal.settle-requires-clause-room
+settle-requires-clause-room g c =
+    let s = c.loop-place.invariant.search in
+    record { now = s.alive.good; next = s.next; now_size = s.alive.size; next_size = s.next_size }
+
+pub settle-best-requires-clause-below : goal.settle-best-requires-clause-below
+settle-best-requires-clause-below g c =
+    λ q. elim (cases_lt 0 (mark (members c.loop-place.sets.current) q)) [ | inl some ↦ let w = c.loop-place.invariant.search.alive.sound q some in
+    omega (arith, w.1, w.3) | inr none ↦ omega arith ]
+
+pub settle-requires-clause-ordered : goal.settle-requires-clause-ordered
+settle-requires-clause-ordered g c = c.loop-place.invariant.search.alive.ordered
+
+pub settle-requires-clause-below : goal.settle-requires-clause-below
+settle-requires-clause-below g c =
+    λ q. elim (cases_lt 0 (mark (members c.loop-place.sets.current) q)) [ | inl some ↦ let w = c.loop-place.invariant.search.alive.sound q some in
+    omega (arith, w.1, w.3) | inr none ↦ omega arith ]
+
+pub advance-requires-clause-ordered : goal.advance-requires-clause-ordered
+advance-requires-clause-ordered g c = c.settle-best.ensures.seeded.ordered

@@ -138,3 +138,16 @@ returns-in-Lost-clause-room g c = c.hits_at_end.ensures.room
 
 pub returns-in-Lost-clause-memory : goal.returns-in-Lost-clause-memory
 returns-in-Lost-clause-memory g c = c.learn.ensures.memory
+
+pub mark_end-requires-clause-row : goal.mark_end-requires-clause-row
+mark_end-requires-clause-row g c = omega (arith, c.in-Row.ensures.learned.0.known, c.learn.ensures.memory.shape.few)
+
+pub hits_at_end-answer-requires-clause-visits : goal.hits_at_end-answer-requires-clause-visits
+hits_at_end-answer-requires-clause-visits g c =
+    let fewer = few (members c.learn.new.sets.current) c.learn.ensures.room.now in
+    omega (arith, c.learn.ensures.visits, fewer, c.learn.ensures.room.now_size, c.args.self.now.states.ok.0)
+
+pub hits_at_end-requires-clause-visits : goal.hits_at_end-requires-clause-visits
+hits_at_end-requires-clause-visits g c =
+    let fewer = few (members c.learn.new.sets.current) c.learn.ensures.room.now in
+    omega (arith, c.learn.ensures.visits, fewer, c.learn.ensures.room.now_size, c.args.self.now.states.ok.0)

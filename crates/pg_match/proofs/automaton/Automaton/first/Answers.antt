@@ -38,3 +38,9 @@ begin-requires-clause-visits g c = omega arith
 
 pub returns-clause-room : goal.returns-clause-room
 returns-clause-room g c = c.begin.ensures.room
+
+pub add-requires-clause-good : goal.add-requires-clause-good
+add-requires-clause-good g c = c.begin.ensures.room.now
+
+pub returns-then-memory-gt0-clause-full : goal.returns-then-memory-gt0-clause-full
+returns-then-memory-gt0-clause-full g c = λ t. absurd (cc)

@@ -1,4 +1,4 @@
-use Rattle.std.proofs.Common.{◌∙◌, sym, arith}
+use Rattle.std.proofs.Common.{◌∙◌, sym, arith, refl, length, ap}
 use Rattle.std.proofs.lemmas.Bool.{eqb-true}
 use Rattle.pg_match.specs.Views.{nfa, members}
 use Rattle.pg_match.proofs.StepLemmas.{gone_seeded, gone_plain, aimed_at_none}
@@ -41,3 +41,36 @@ aim-requires-clause-next_size g c = omega arith
 
 pub insert-requires-clause-some : goal.insert-requires-clause-some
 insert-requires-clause-some g c = omega arith
+
+pub aim-requires-clause-tidy : goal.aim-requires-clause-tidy
+aim-requires-clause-tidy g c = rw c.deref.ensures.value c.requires.runs.tidy
+
+pub insert-requires-clause-good : goal.insert-requires-clause-good
+insert-requires-clause-good g c = rw c.swap.ensures.x_after c.aim.ensures.good
+
+pub insert-requires-clause-within : goal.insert-requires-clause-within
+insert-requires-clause-within g c = rw c.swap.ensures.x_after (omega (arith, c.requires.runs.start, c.aim.ensures.size))
+
+pub close-requires-clause-tidy : goal.close-requires-clause-tidy
+close-requires-clause-tidy g c = rw c.deref-2.ensures.value c.requires.runs.tidy
+
+pub close-requires-clause-good : goal.close-requires-clause-good
+close-requires-clause-good g c =
+    elim c.if-begins_after.branch [
+      | then-begins_after w ↦ rw w.sets-is w.insert.ensures.good
+      | else-begins_after w ↦ rw (w.sets-is, c.swap.ensures.x_after) c.aim.ensures.good
+    ]
+
+pub close-requires-clause-size : goal.close-requires-clause-size
+close-requires-clause-size g c =
+    elim c.if-begins_after.branch [
+      | then-begins_after w ↦ rw (w.sets-is, c.deref-2.ensures.value) (omega (arith, w.insert.ensures.size, ap (λ s. length (members s).marks) c.swap.ensures.x_after, c.aim.ensures.size))
+      | else-begins_after w ↦ rw (w.sets-is, c.deref-2.ensures.value, c.swap.ensures.x_after) (omega (arith, c.aim.ensures.size))
+    ]
+
+pub returns-clause-visits : goal.returns-clause-visits
+returns-clause-visits g c =
+    elim c.if-begins_after.branch [
+      | then-begins_after w ↦ rw w.sets-is refl
+      | else-begins_after w ↦ rw w.sets-is refl
+    ]

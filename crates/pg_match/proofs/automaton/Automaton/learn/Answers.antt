@@ -147,3 +147,20 @@ returns-clause-some g c = omega arith
 
 pub returns-clause-visits : goal.returns-clause-visits
 returns-clause-visits g c = omega arith
+
+pub load-requires-clause-shape : goal.load-requires-clause-shape
+load-requires-clause-shape g c = rw c.requires.room.now_size c.requires.memory.shape
+
+pub returns-then-hits_before-clause-room : goal.returns-then-hits_before-clause-room
+returns-then-hits_before-clause-room g c =
+    record { now = c.load.ensures.good; next = c.requires.room.next; now_size = omega (arith, c.load.ensures.size); next_size = c.requires.room.next_size }
+
+pub go-is_fresh-requires-clause-room : goal.go-is_fresh-requires-clause-room
+go-is_fresh-requires-clause-room g c =
+    record { now = c.load.ensures.good; next = c.requires.room.next; now_size = omega (arith, c.load.ensures.size); next_size = c.requires.room.next_size }
+
+pub keep-to-requires-clause-good : goal.keep-to-requires-clause-good
+keep-to-requires-clause-good g c = c.go-is_fresh.ensures.room.now
+
+pub mark-requires-clause-row : goal.mark-requires-clause-row
+mark-requires-clause-row g c = omega arith

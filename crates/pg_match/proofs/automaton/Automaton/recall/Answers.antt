@@ -260,3 +260,11 @@ returns-in-Lost-clause-exact g c = c.search_on-in-Lost.ensures.exact
 
 pub returns-in-Lost-clause-visits : goal.returns-in-Lost-clause-visits
 returns-in-Lost-clause-visits g c = omega arith
+
+pub returns-in-Lost-clause-memory : goal.returns-in-Lost-clause-memory
+returns-in-Lost-clause-memory g c = rw c.lose.ensures c.in-Lost.ensures.memory
+
+pub search_on-requires-clause-visits : goal.search_on-requires-clause-visits
+search_on-requires-clause-visits g c =
+    let full = c.first.ensures.full c.if-not-first.true in
+    omega (arith, full.0, c.requires.visits)

@@ -45,3 +45,9 @@ sow-requires-clause-below g c = c.requires.below
 
 pub sow-requires-clause-short : goal.sow-requires-clause-short
 sow-requires-clause-short g c = omega arith
+
+pub reach-requires-clause-tidy : goal.reach-requires-clause-tidy
+reach-requires-clause-tidy g c = rw c.deref.ensures.value c.requires.runs.tidy
+
+pub reach-requires-clause-closed : goal.reach-requires-clause-closed
+reach-requires-clause-closed g c = rw c.deref.ensures.value c.requires.closed

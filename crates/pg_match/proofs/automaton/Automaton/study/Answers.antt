@@ -170,3 +170,6 @@ learn-requires-clause-some g c = omega arith
 
 pub returns-in-Lost-clause-room : goal.returns-in-Lost-clause-room
 returns-in-Lost-clause-room g c = c.learn.ensures.room
+
+pub returns-in-Lost-clause-memory : goal.returns-in-Lost-clause-memory
+returns-in-Lost-clause-memory g c = rw c.lose.ensures c.in-Lost.ensures.memory

@@ -152,3 +152,19 @@ returns-then-next-lt256-clause-within g c = omega arith
 
 pub returns-then-next-lt256-clause-onward : goal.returns-then-next-lt256-clause-onward
 returns-then-next-lt256-clause-onward g c = omega arith
+
+pub loop-place-init : goal.loop-place-init
+loop-place-init g c =
+    record { within = omega arith; onward = omega arith; row = c.requires.row; stands = λ start le h. h }
+
+pub returns-after-loop-place-2-clause-row : goal.returns-after-loop-place-2-clause-row
+returns-after-loop-place-2-clause-row g c = c.loop-place-2.invariant.row
+
+pub returns-after-loop-place-2-clause-stands : goal.returns-after-loop-place-2-clause-stands
+returns-after-loop-place-2-clause-stands g c = c.loop-place-2.invariant.stands
+
+pub returns-then-next-lt256-clause-row : goal.returns-then-next-lt256-clause-row
+returns-then-next-lt256-clause-row g c = c.loop-place-2.invariant.row
+
+pub returns-then-next-lt256-clause-stands : goal.returns-then-next-lt256-clause-stands
+returns-then-next-lt256-clause-stands g c = c.loop-place-2.invariant.stands

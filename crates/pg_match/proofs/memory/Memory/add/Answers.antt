@@ -1,4 +1,5 @@
-use Rattle.std.proofs.Common.{◌≡◌, ◌+◌, arith, subst, refl}
+use Rattle.pg_match.proofs.StateSetLemmas.{list_long}
+use Rattle.std.proofs.Common.{◌≡◌, ◌+◌, arith, subst, refl, length, ap}
 use Rattle.std.proofs.lemmas.List.{get_or_read}
 use Rattle.pg_match.proofs.MemoryLemmas.{grown, Copying}
 use Rattle.pg_match.specs.Views.{members, remembered}
@@ -41,3 +42,36 @@ overflow_add-self-3 g c = omega arith
 
 pub overflow_add-self-4 : goal.overflow_add-self-4
 overflow_add-self-4 g c = omega arith
+
+pub returns-then-self-eq-SETS-clause-grown : goal.returns-then-self-eq-SETS-clause-grown
+returns-then-self-eq-SETS-clause-grown g c = λ t. absurd (cc)
+
+pub returns-then-self-eq-SETS-clause-full : goal.returns-then-self-eq-SETS-clause-full
+returns-then-self-eq-SETS-clause-full g c = λ t. refl
+
+pub returns-clause-full : goal.returns-clause-full
+returns-clause-full g c = λ t. absurd (cc)
+
+pub loop-k-init : goal.loop-k-init
+loop-k-init g c =
+    record { size = refl; before = λ j lt. refl; copied = λ j lt. absurd (omega arith); steps = refl; ends = refl; fresh = refl; cuts = refl; count = refl }
+
+pub overflow_sub-len : goal.overflow_sub-len
+overflow_sub-len g c =
+    let mem = remembered c.args.self.now in
+    let shape = c.requires.shape in
+    let start = get_or_read mem.cuts (mem.count + 1) c.index.result.now (omega (arith, shape.cuts_size, shape.few)) c.index.ensures 0 in
+    omega (arith, shape.room, c.len.ensures)
+
+pub index-requires-in-loop-k : goal.index-requires-in-loop-k
+index-requires-in-loop-k g c = let long = list_long (members c.args.set.now) c.requires.good in omega arith
+
+pub index_mut-requires-2 : goal.index_mut-requires-2
+index_mut-requires-2 g c =
+    let cuts : length c.loop-k.self.cuts.items ≡ length c.args.self.now.cuts.items = ap length c.loop-k.invariant.cuts in
+    omega (arith, c.loop-k.invariant.count, c.requires.shape.cuts_size, c.requires.shape.few)
+
+pub index_mut-requires-3 : goal.index_mut-requires-3
+index_mut-requires-3 g c =
+    let fresh : length c.loop-k.self.fresh.items ≡ length c.args.self.now.fresh.items = ap length c.loop-k.invariant.fresh in
+    omega (arith, c.loop-k.invariant.count, c.requires.shape.fresh_size, c.requires.shape.few)

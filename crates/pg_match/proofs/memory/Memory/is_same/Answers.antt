@@ -41,3 +41,29 @@ index-requires-2 g c = omega arith
 
 pub overflow_add-start-in-loop-k : goal.overflow_add-start-in-loop-k
 overflow_add-start-in-loop-k g c = omega arith
+
+pub returns-then-start-set : goal.returns-then-start-set
+returns-then-start-set g c = λ t. absurd (cc)
+
+pub returns-then-index : goal.returns-then-index
+returns-then-index g c = λ t. absurd (cc)
+
+pub loop-k-init : goal.loop-k-init
+loop-k-init g c = λ j lt. absurd (omega arith)
+
+pub overflow_add-start : goal.overflow_add-start
+overflow_add-start g c = let long = list_long (members c.args.set.now) c.requires.good in omega arith
+
+pub index-requires-in-loop-k : goal.index-requires-in-loop-k
+index-requires-in-loop-k g c =
+    let mem = remembered c.args.self.now in
+    let row = c.args.row in
+    let shape = c.requires.shape in
+    let start = get_or_read mem.cuts row c.index.result.now (omega (arith, shape.cuts_size, shape.few)) c.index.ensures 0 in
+    let end = get_or_read mem.cuts (row + 1) c.index-2.result.now (omega (arith, shape.cuts_size, shape.few)) c.index-2.ensures 0 in
+    let up = shape.upto (row + 1) (omega arith) in
+    let rm = shape.room in
+    omega (arith, c.if-start-set.false, shape.pool_size)
+
+pub index-requires-in-loop-k-2 : goal.index-requires-in-loop-k-2
+index-requires-in-loop-k-2 g c = let long = list_long (members c.args.set.now) c.requires.good in omega arith

@@ -68,3 +68,25 @@ returns-clause-good g c = c.loop-k.invariant.good
 
 pub returns-clause-size : goal.returns-clause-size
 returns-clause-size g c = omega arith
+
+pub insert-requires-clause-some : goal.insert-requires-clause-some
+insert-requires-clause-some g c = omega arith
+
+pub index-requires-in-loop-k : goal.index-requires-in-loop-k
+index-requires-in-loop-k g c =
+    let mem = remembered c.args.self.now in
+    let row = c.args.row in
+    let shape = c.requires.shape in
+    let start = get_or_read mem.cuts row c.index.result.now (omega (arith, shape.cuts_size, shape.few)) c.index.ensures 0 in
+    let end = get_or_read mem.cuts (row + 1) c.index-2.result.now (omega (arith, shape.cuts_size, shape.few)) c.index-2.ensures 0 in
+    let up = shape.upto (row + 1) (omega arith) in
+    let rm = shape.room in
+    omega (arith, shape.pool_size)
+
+pub loop-k-init : goal.loop-k-init
+loop-k-init g c =
+    let mem = remembered c.args.self.now in
+    let row = c.args.row in
+    let shape = c.requires.shape in
+    let start = get_or_read mem.cuts row c.index.result.now (omega (arith, shape.cuts_size, shape.few)) c.index.ensures 0 in
+    record { good = c.clear.ensures.good; size = omega arith; from = λ q h. let z = c.clear.ensures.empty.1 q in absurd (omega arith); all = λ j ge lt. absurd (omega (arith, start)) }

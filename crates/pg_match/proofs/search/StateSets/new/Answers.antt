@@ -6,3 +6,7 @@ returns-in_err-current g c = IfOk-from_err c.from_residual.result _ c.from_resid
 
 pub returns-in_err-next : goal.returns-in_err-next
 returns-in_err-next g c = IfOk-from_err c.from_residual-in_err-next.result _ c.from_residual-in_err-next.ensures.0
+
+pub returns : goal.returns
+returns g c =
+    record { now = c.in_ok-current.ensures.good; next = c.in_ok-next.ensures.good; now_size = c.in_ok-current.ensures.size; next_size = c.in_ok-next.ensures.size }

@@ -32,3 +32,13 @@ returns-clause-good g c =
 
 pub returns-clause-size : goal.returns-clause-size
 returns-clause-size g c = omega arith
+
+pub index-state-requires : goal.index-state-requires
+index-state-requires g c =
+    let n : length c.loop-k.self.order.items ≡ length c.args.self.now.order.items = ap length c.loop-k.invariant.order in
+    let long = list_long (members c.args.self.now) c.requires in
+    omega arith
+
+pub loop-k-init : goal.loop-k-init
+loop-k-init g c =
+    record { order = refl; same_len = refl; size = refl; left = λ q h. (h, λ j lt. absurd (omega arith)) }
