@@ -1,5 +1,5 @@
 -- A list of trees.
-use Rattle.std.proofs.Common.{◌≡◌, ◌≢◌, ℕ, zero, suc, ◌+◌, ◌-◌, ◌<◌, ◌≤◌, inl, inr, Bool, true≢false, not, eqb, ne_eqb, List, length, take, take_all, Some, refl, sym, ap, ◌∙◌, subst, arith, IsTrue, sum_by, Contains, All}
+use Rattle.std.proofs.Common.{[], ◌≡◌, ◌≢◌, ℕ, zero, suc, ◌+◌, ◌-◌, ◌<◌, ◌≤◌, inl, inr, Bool, true≢false, not, eqb, ne_eqb, List, length, take, take_all, Some, refl, sym, ap, ◌∙◌, subst, arith, IsTrue, sum_by, Contains, All}
 use Rattle.std.specs.Prelude.{slice_get}
 use Rattle.std.proofs.lemmas.Bool.{cases_eq}
 use Rattle.std.proofs.lemmas.List.Sums.{sum_by_more, sum_by-take-le}
@@ -72,6 +72,21 @@ more_size trees c r is =
     let within : c < length trees = slice_get_within trees c r is in
     sum_by_more size_of trees c r within
     ∙ ap (λ v. sum_by size_of (take c trees) + size_of v) (get_or_from_slice_get trees c r r is)
+
+pub begun : (t u : List State) (trees : List Pattern) (e : ℕ) → t ≡ [] → Pushed t u Accept e → HasFirst u trees 0 0
+begun t u trees e empty p =
+    let n : length t ≡ 0 = ap length empty in
+    let len = pushed_length t u Accept e p in
+    let first : e ≡ 0 = p.place ∙ n in
+    record {
+      tidy = pushed_tidy t u Accept e p (λ k d lt. absurd (omega arith)) tt;
+      start_in = omega arith;
+      accept = subst (λ v. slice_get u v ≡ Some Accept) first (pushed_is t u Accept e p);
+      only = λ q h. let lt = slice_get_within u q Accept h in omega arith;
+      size = omega arith;
+      none = λ z. refl;
+      some = λ k z. absurd (omega arith);
+    }
 
 pub building_one : (t u : List State) (trees : List Pattern) (c start e : ℕ) (r : Pattern) → c ≡ 0 → HasFirst t trees c start → Added t u r e 0
     → slice_get trees c ≡ Some r → HasFirst u trees (c + 1) e

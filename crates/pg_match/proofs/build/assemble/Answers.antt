@@ -5,7 +5,7 @@ use Rattle.std.proofs.lemmas.List.{length-map}
 use Rattle.std.proofs.lemmas.Option.{slice_get_read, slice_get-map}
 use Rattle.pg_syntax.specs.Trees.{pattern}
 use Rattle.pg_match.specs.Tables.{HasFirst}
-use Rattle.pg_match.proofs.BuildLemmas.{each_proper, room_for, building_one, building_more, built, runnable, any_some, some_any}
+use Rattle.pg_match.proofs.BuildLemmas.{each_proper, room_for, building_one, building_more, built, runnable, any_some, some_any, begun}
 use Rattle.pg_match.proofs.build.assemble.Goals as goal
 use Rattle.pg_match.proofs.build.assemble.Goals.{then-i-eq0, else-i-eq0+in_ok-start}
 
@@ -109,3 +109,12 @@ add-requires-clause-tidy g c = c.loop-i.invariant.tidy
 
 pub seeds-requires-clause-within : goal.seeds-requires-clause-within
 seeds-requires-clause-within g c = omega arith
+
+pub loop-i-init : goal.loop-i-init
+loop-i-init g c = begun _ _ _ _ c.new-states.ensures.items c.in_ok-push.ensures
+
+pub seeds-requires-clause-tidy : goal.seeds-requires-clause-tidy
+seeds-requires-clause-tidy g c = rw c.deref.ensures.value c.loop-i.invariant.tidy
+
+pub returns-clause-seeds : goal.returns-clause-seeds
+returns-clause-seeds g c = rw c.deref.ensures.value at c.in_ok-seeds.ensures

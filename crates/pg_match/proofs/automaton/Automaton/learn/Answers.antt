@@ -1,4 +1,6 @@
-use Rattle.std.proofs.Common.{◌≤◌, ◌∙◌, arith, sym, refl, inl, inr, true≢false}
+use Rattle.pg_match.proofs.StateSetLemmas.{few}
+use Rattle.std.proofs.lemmas.List.{get_or_read}
+use Rattle.std.proofs.Common.{◌≤◌, ◌∙◌, arith, sym, refl, inl, inr, true≢false, ◌*◌, ◌+◌, ◌≡◌, length}
 use Rattle.pg_match.specs.Memories.{In}
 use Rattle.pg_match.specs.Steps.{Has}
 use Rattle.pg_match.specs.Views.{nfa, members, remembered}
@@ -164,3 +166,14 @@ keep-to-requires-clause-good g c = c.go-is_fresh.ensures.room.now
 
 pub mark-requires-clause-row : goal.mark-requires-clause-row
 mark-requires-clause-row g c = omega arith
+
+pub returns-then-index-eq-HIT-clause-learned : goal.returns-then-index-eq-HIT-clause-learned
+returns-then-index-eq-HIT-clause-learned g c =
+    let mem = remembered c.args.memory.now in
+    let steps : length mem.steps ≡ 65792 = c.requires.memory.shape.steps_size in
+    let few : mem.count ≤ 256 = c.requires.memory.shape.few in
+    let read = get_or_read mem.steps (256 * c.args.row + c.args.byte) c.index.result.now (omega arith) c.index.ensures 0 in
+    elim (c.requires.memory.told c.args.row c.args.byte c.requires.known (omega arith)) [
+      | inl none ↦ absurd (omega arith)
+      | inr rest ↦ elim rest [ inl hit ↦ hit.1 | inr go ↦ absurd (omega (arith, go.1, go.2)) ]
+    ]

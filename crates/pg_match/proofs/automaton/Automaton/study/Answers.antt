@@ -1,4 +1,5 @@
-use Rattle.std.proofs.Common.{◌≡◌, ℕ, ◌+◌, ◌*◌, ◌^◌, ◌<◌, ◌≤◌, ◌∙◌, length, arith, subst}
+use Rattle.pg_match.proofs.automaton.Automaton.study.Goals.{then-from-eq0, else-from-eq0}
+use Rattle.std.proofs.Common.{◌≡◌, ℕ, ◌+◌, ◌*◌, ◌^◌, ◌<◌, ◌≤◌, ◌∙◌, length, arith, subst, refl}
 use Rattle.std.proofs.Math.Nat.{mul-le-mul_left}
 use Rattle.pg_match.specs.Views.{members}
 use Rattle.pg_match.proofs.StateSetLemmas.{few}
@@ -173,3 +174,24 @@ returns-in-Lost-clause-room g c = c.learn.ensures.room
 
 pub returns-in-Lost-clause-memory : goal.returns-in-Lost-clause-memory
 returns-in-Lost-clause-memory g c = rw c.lose.ensures c.in-Lost.ensures.memory
+
+pub overflow_mul-most : goal.overflow_mul-most
+overflow_mul-most g c =
+    let small = most_small (length c.args.line.now) (length c.args.self.now.states.items) c.len-size.result (c.len-size.ensures ∙ c.args.self.now.states.ok.0) c.requires.short (omega arith) in
+    omega arith
+
+pub loop-sets-init : goal.loop-sets-init
+loop-sets-init g c =
+    let first = c.first.ensures in
+    let some : 1 ≤ c.first.new.memory.count = first.some cc in
+    record {
+      room = first.room;
+      memory = first.memory;
+      some = some;
+      within = omega arith;
+      row = elim c.if-from-eq0.branch [
+        | then-from-eq0 w ↦ rw w.state-is (record { row = refl; known = some })
+        | else-from-eq0 w ↦ rw w.state-is (record { row = refl; known = omega arith })
+      ];
+      visits = visits_whole _ _ _ _ _ (c.len-size.ensures ∙ c.args.self.now.states.ok.0) c.if-sets-most.false first.visits;
+    }

@@ -6,3 +6,9 @@ next_piece-requires-clause-short g c = omega arith
 
 pub next_piece-requires-clause-from_in : goal.next_piece-requires-clause-from_in
 next_piece-requires-clause-from_in g c = omega arith
+
+pub next_piece-requires-clause-runs : goal.next_piece-requires-clause-runs
+next_piece-requires-clause-runs g c = rw c.deref-automaton.ensures c.self.invariant.0
+
+pub next_piece-requires-clause-seeds : goal.next_piece-requires-clause-seeds
+next_piece-requires-clause-seeds g c = rw c.deref-automaton.ensures c.self.invariant.1
