@@ -201,18 +201,38 @@ add-add-requires g t c κs within =
     let inv = c.loop-tree.invariant in
     let is = pattern-cat _ _ _ c.in-Cat.is in
     let proper = rw is at inv.proper in
-    let size = rw is at inv.size in
-    (search (rules, the_lemmas), (within, (rw c.deref.ensures proper.1, (rw c.deref.ensures (omega (arith, size, c.requires.fits)),
-    (inv.has.gap_in.next_in, inv.has.gap_in.tidy)))))
+    let size = rw is at inv.size in (
+      search (rules, the_lemmas),
+      (
+        within,
+        (
+          rw c.deref.ensures proper.1,
+          (
+            rw c.deref.ensures (omega (arith, size, c.requires.fits)),
+            (inv.has.gap_in.next_in, inv.has.gap_in.tidy),
+          ),
+        ),
+      ),
+    )
 
 pub add-open_choice-requires : goal.add-open_choice-requires
 add-open_choice-requires g t c κs within =
     let inv = c.loop-tree.invariant in
     let is = pattern-alt _ _ _ c.in-Alt.is in
     let proper = rw is at inv.proper in
-    let size = rw is at inv.size in
-    (search (rules, the_lemmas), (within, (rw c.deref-in-Alt.ensures proper.1, (rw c.deref-in-Alt.ensures (omega (arith, size, c.requires.fits)),
-    gap_any _ _ c.loop-tree.gap inv.has.gap_in))))
+    let size = rw is at inv.size in (
+      search (rules, the_lemmas),
+      (
+        within,
+        (
+          rw c.deref-in-Alt.ensures proper.1,
+          (
+            rw c.deref-in-Alt.ensures (omega (arith, size, c.requires.fits)),
+            gap_any _ _ c.loop-tree.gap inv.has.gap_in,
+          ),
+        ),
+      ),
+    )
 
 pub add-is_without_states-requires : goal.add-is_without_states-requires
 add-is_without_states-requires g t c = rw c.deref-in-Rep.ensures (rw (pattern-rep _ _ _ _ c.in-Rep.is) at c.loop-tree.invariant.proper)
@@ -222,9 +242,19 @@ add-open_repetition-requires g t c κs within =
     let inv = c.loop-tree.invariant in
     let is = pattern-rep _ _ _ _ c.in-Rep.is in
     let proper = rw is at inv.proper in
-    let size = rw is at inv.size in
-    (search (rules, the_lemmas), (within, (rw c.deref-in-Rep-2.ensures proper, (c.is_without_states.ensures.some c.if-is_without_states.false,
-    (rw c.deref-in-Rep-2.ensures (omega (arith, size, c.requires.fits)), gap_any _ _ c.loop-tree.gap inv.has.gap_in)))))
+    let size = rw is at inv.size in (
+      search (rules, the_lemmas),
+      (
+        within,
+        (
+          rw c.deref-in-Rep-2.ensures proper,
+          (
+            c.is_without_states.ensures.some c.if-is_without_states.false,
+            (rw c.deref-in-Rep-2.ensures (omega (arith, size, c.requires.fits)), gap_any _ _ c.loop-tree.gap inv.has.gap_in),
+          ),
+        ),
+      ),
+    )
 
 pub add-loop-tree-smaller-in-Cat : goal.add-loop-tree-smaller-in-Cat
 add-loop-tree-smaller-in-Cat g t c = search (rules, the_lemmas)

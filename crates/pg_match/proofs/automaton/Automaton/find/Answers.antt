@@ -156,16 +156,22 @@ settle-requires-clause-room g c =
 
 pub settle-best-requires-clause-below : goal.settle-best-requires-clause-below
 settle-best-requires-clause-below g c =
-    λ q. elim (cases_lt 0 (mark (members c.loop-place.sets.current) q)) [ | inl some ↦ let w = c.loop-place.invariant.search.alive.sound q some in
-    omega (arith, w.1, w.3) | inr none ↦ omega arith ]
+    λ q. elim (cases_lt 0 (mark (members c.loop-place.sets.current) q)) [
+      | inl some ↦ let w = c.loop-place.invariant.search.alive.sound q some in
+          omega (arith, w.1, w.3)
+      | inr none ↦ omega arith
+    ]
 
 pub settle-requires-clause-ordered : goal.settle-requires-clause-ordered
 settle-requires-clause-ordered g c = c.loop-place.invariant.search.alive.ordered
 
 pub settle-requires-clause-below : goal.settle-requires-clause-below
 settle-requires-clause-below g c =
-    λ q. elim (cases_lt 0 (mark (members c.loop-place.sets.current) q)) [ | inl some ↦ let w = c.loop-place.invariant.search.alive.sound q some in
-    omega (arith, w.1, w.3) | inr none ↦ omega arith ]
+    λ q. elim (cases_lt 0 (mark (members c.loop-place.sets.current) q)) [
+      | inl some ↦ let w = c.loop-place.invariant.search.alive.sound q some in
+          omega (arith, w.1, w.3)
+      | inr none ↦ omega arith
+    ]
 
 pub advance-requires-clause-ordered : goal.advance-requires-clause-ordered
 advance-requires-clause-ordered g c = c.settle-best.ensures.seeded.ordered

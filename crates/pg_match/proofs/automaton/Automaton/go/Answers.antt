@@ -74,3 +74,12 @@ returns-clause-visits g c =
       | then-begins_after w ↦ rw w.sets-is refl
       | else-begins_after w ↦ rw w.sets-is refl
     ]
+
+pub returns-clause-room : goal.returns-clause-room
+returns-clause-room g c =
+    let close = c.close.ensures in
+    let size = c.deref-2.ensures.value in
+    elim c.if-begins_after.branch [
+      | then-begins_after w ↦ record { now = close.good; next = rw (w.sets-is, c.swap.ensures.y_after) c.requires.room.now; now_size = rw (w.sets-is) at close.size ∙ w.insert.ensures.size ∙ ap (λ s. length (members s).marks) c.swap.ensures.x_after ∙ c.aim.ensures.size ∙ c.requires.room.now_size; next_size = rw (w.sets-is, c.swap.ensures.y_after) c.requires.room.now_size }
+      | else-begins_after w ↦ record { now = close.good; next = rw (w.sets-is, c.swap.ensures.y_after) c.requires.room.now; now_size = rw (w.sets-is) at close.size ∙ ap (λ s. length (members s).marks) c.swap.ensures.x_after ∙ c.aim.ensures.size ∙ c.requires.room.now_size; next_size = rw (w.sets-is, c.swap.ensures.y_after) c.requires.room.now_size }
+    ]

@@ -1,4 +1,4 @@
-use Rattle.std.proofs.Common.{arith, subst}
+use Rattle.std.proofs.Common.{arith, subst, refl}
 use Rattle.pg_match.specs.Memories.{Grown}
 use Rattle.pg_match.specs.Views.{nfa, members, remembered}
 use Rattle.pg_match.proofs.MemoryLemmas.{memory_grown}
@@ -13,3 +13,46 @@ returns-then-add-clause-memory g c =
     let grown = c.add.ensures.grown c.if-add.true in
     memory_grown (nfa c.args.self.now) old new s c.args.is_fresh c.requires.memory
     (subst (λ n. Grown n old new s c.args.is_fresh) c.requires.size grown) (λ z. absurd (omega arith))
+
+pub returns-then-known-ne0-clause-memory : goal.returns-then-known-ne0-clause-memory
+returns-then-known-ne0-clause-memory g c = c.requires.memory
+
+pub returns-then-known-ne0-clause-keeps : goal.returns-then-known-ne0-clause-keeps
+returns-then-known-ne0-clause-keeps g c = record { sets = λ r le q. (λ h. h, λ h. h); fresh = λ r le. refl; more = omega arith }
+
+pub returns-then-known-ne0-clause-known : goal.returns-then-known-ne0-clause-known
+returns-then-known-ne0-clause-known g c = c.find-known.ensures.known
+
+pub returns-then-known-ne0-clause-same : goal.returns-then-known-ne0-clause-same
+returns-then-known-ne0-clause-same g c = c.find-known.ensures.same
+
+pub returns-then-known-ne0-clause-fresh : goal.returns-then-known-ne0-clause-fresh
+returns-then-known-ne0-clause-fresh g c = c.find-known.ensures.fresh
+
+pub returns-then-add-clause-keeps : goal.returns-then-add-clause-keeps
+returns-then-add-clause-keeps g c = (c.add.ensures.grown c.if-add.true).keeps
+
+pub returns-then-add-clause-known : goal.returns-then-add-clause-known
+returns-then-add-clause-known g c = omega arith
+
+pub returns-then-add-clause-same : goal.returns-then-add-clause-same
+returns-then-add-clause-same g c = λ h. (c.add.ensures.grown c.if-add.true).here
+
+pub returns-then-add-clause-fresh : goal.returns-then-add-clause-fresh
+returns-then-add-clause-fresh g c = λ h. (c.add.ensures.grown c.if-add.true).fresh_here
+
+pub returns-else-add-clause-memory : goal.returns-else-add-clause-memory
+returns-else-add-clause-memory g c = rw (c.add.ensures.full c.if-add.false) c.requires.memory
+
+pub returns-else-add-clause-keeps : goal.returns-else-add-clause-keeps
+returns-else-add-clause-keeps g c =
+    rw (c.add.ensures.full c.if-add.false) (record { sets = λ r le q. (λ h. h, λ h. h); fresh = λ r le. refl; more = omega arith })
+
+pub returns-else-add-clause-known : goal.returns-else-add-clause-known
+returns-else-add-clause-known g c = omega arith
+
+pub returns-else-add-clause-same : goal.returns-else-add-clause-same
+returns-else-add-clause-same g c = λ h. absurd (omega arith)
+
+pub returns-else-add-clause-fresh : goal.returns-else-add-clause-fresh
+returns-else-add-clause-fresh g c = λ h. absurd (omega arith)

@@ -1,4 +1,3 @@
-use Rattle.pg_match.proofs.StateSetLemmas.{few}
 use Rattle.std.proofs.lemmas.List.{get_or_read}
 use Rattle.std.proofs.Common.{◌≤◌, ◌∙◌, arith, sym, refl, inl, inr, true≢false, ◌*◌, ◌+◌, ◌≡◌, length}
 use Rattle.pg_match.specs.Memories.{In}

@@ -42,3 +42,15 @@ index-state-requires g c =
 pub loop-k-init : goal.loop-k-init
 loop-k-init g c =
     record { order = refl; same_len = refl; size = refl; left = λ q h. (h, λ j lt. absurd (omega arith)) }
+
+pub returns-clause-empty : goal.returns-clause-empty
+returns-clause-empty g c = (
+  refl,
+  λ q. elim (cases_lt 0 (mark (members c.loop-k.self) q)) [
+    | inl some ↦
+        let w = c.loop-k.invariant.left q some in
+        let f = c.requires.found q w.0 in
+        absurd (w.1 f.0 (omega (arith, f.1)) f.2)
+    | inr none ↦ omega arith
+  ],
+)
