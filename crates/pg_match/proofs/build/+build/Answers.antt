@@ -170,28 +170,35 @@ add-loop-tree-init g t c =
     }
 
 pub add-finish-requires-clause-room : goal.add-finish-requires-clause-room
-add-finish-requires-clause-room g t c = omega (arith, rw (pattern-empty _ c.in-Empty.is) at c.loop-tree.invariant.size, c.requires.fits)
+add-finish-requires-clause-room g t c =
+    omega (arith, rw (pattern-empty _ c.in-Empty.is) at c.loop-tree.invariant.size, c.requires.fits)
 
 pub add-finish-requires-clause-hole_in : goal.add-finish-requires-clause-hole_in
 add-finish-requires-clause-hole_in g t c = hole_any _ _ c.loop-tree.gap.hole c.loop-tree.invariant.has.gap_in.hole_in
 
 pub add-finish-requires-in-Set-clause-room : goal.add-finish-requires-in-Set-clause-room
-add-finish-requires-in-Set-clause-room g t c = omega (arith, rw (pattern-set _ _ c.in-Set.is) at c.loop-tree.invariant.size, c.requires.fits)
+add-finish-requires-in-Set-clause-room g t c =
+    omega (arith, rw (pattern-set _ _ c.in-Set.is) at c.loop-tree.invariant.size, c.requires.fits)
 
 pub add-finish-requires-in-Set-clause-hole_in : goal.add-finish-requires-in-Set-clause-hole_in
-add-finish-requires-in-Set-clause-hole_in g t c = hole_any _ _ c.loop-tree.gap.hole c.loop-tree.invariant.has.gap_in.hole_in
+add-finish-requires-in-Set-clause-hole_in g t c =
+    hole_any _ _ c.loop-tree.gap.hole c.loop-tree.invariant.has.gap_in.hole_in
 
 pub add-finish-requires-in-Begin-clause-room : goal.add-finish-requires-in-Begin-clause-room
-add-finish-requires-in-Begin-clause-room g t c = omega (arith, rw (pattern-begin _ c.in-Begin.is) at c.loop-tree.invariant.size, c.requires.fits)
+add-finish-requires-in-Begin-clause-room g t c =
+    omega (arith, rw (pattern-begin _ c.in-Begin.is) at c.loop-tree.invariant.size, c.requires.fits)
 
 pub add-finish-requires-in-Begin-clause-hole_in : goal.add-finish-requires-in-Begin-clause-hole_in
-add-finish-requires-in-Begin-clause-hole_in g t c = hole_any _ _ c.loop-tree.gap.hole c.loop-tree.invariant.has.gap_in.hole_in
+add-finish-requires-in-Begin-clause-hole_in g t c =
+    hole_any _ _ c.loop-tree.gap.hole c.loop-tree.invariant.has.gap_in.hole_in
 
 pub add-finish-requires-in-End-clause-room : goal.add-finish-requires-in-End-clause-room
-add-finish-requires-in-End-clause-room g t c = omega (arith, rw (pattern-end _ c.in-End.is) at c.loop-tree.invariant.size, c.requires.fits)
+add-finish-requires-in-End-clause-room g t c =
+    omega (arith, rw (pattern-end _ c.in-End.is) at c.loop-tree.invariant.size, c.requires.fits)
 
 pub add-finish-requires-in-End-clause-hole_in : goal.add-finish-requires-in-End-clause-hole_in
-add-finish-requires-in-End-clause-hole_in g t c = hole_any _ _ c.loop-tree.gap.hole c.loop-tree.invariant.has.gap_in.hole_in
+add-finish-requires-in-End-clause-hole_in g t c =
+    hole_any _ _ c.loop-tree.gap.hole c.loop-tree.invariant.has.gap_in.hole_in
 
 pub add-fill-entry-requires : goal.add-fill-entry-requires
 add-fill-entry-requires g t c = hole_any _ _ c.loop-tree.gap.hole c.loop-tree.invariant.has.gap_in.hole_in
@@ -235,7 +242,8 @@ add-open_choice-requires g t c κs within =
     )
 
 pub add-is_without_states-requires : goal.add-is_without_states-requires
-add-is_without_states-requires g t c = rw c.deref-in-Rep.ensures (rw (pattern-rep _ _ _ _ c.in-Rep.is) at c.loop-tree.invariant.proper)
+add-is_without_states-requires g t c =
+    rw c.deref-in-Rep.ensures (rw (pattern-rep _ _ _ _ c.in-Rep.is) at c.loop-tree.invariant.proper)
 
 pub add-open_repetition-requires : goal.add-open_repetition-requires
 add-open_repetition-requires g t c κs within =
@@ -250,7 +258,10 @@ add-open_repetition-requires g t c κs within =
           rw c.deref-in-Rep-2.ensures proper,
           (
             c.is_without_states.ensures.some c.if-is_without_states.false,
-            (rw c.deref-in-Rep-2.ensures (omega (arith, size, c.requires.fits)), gap_any _ _ c.loop-tree.gap inv.has.gap_in),
+            (
+              rw c.deref-in-Rep-2.ensures (omega (arith, size, c.requires.fits)),
+              gap_any _ _ c.loop-tree.gap inv.has.gap_in,
+            ),
           ),
         ),
       ),
@@ -269,10 +280,12 @@ pub add-returns-in_err-gap-in-Cat : goal.add-returns-in_err-gap-in-Cat
 add-returns-in_err-gap-in-Cat g t c = IfOk-from_err c.from_residual.result _ c.from_residual.ensures.0
 
 pub add-returns-in_err-gap-in-Alt : goal.add-returns-in_err-gap-in-Alt
-add-returns-in_err-gap-in-Alt g t c = IfOk-from_err c.from_residual-in_err-gap-in-Alt.result _ c.from_residual-in_err-gap-in-Alt.ensures.0
+add-returns-in_err-gap-in-Alt g t c =
+    IfOk-from_err c.from_residual-in_err-gap-in-Alt.result _ c.from_residual-in_err-gap-in-Alt.ensures.0
 
 pub add-returns-in_err-gap-in-Rep : goal.add-returns-in_err-gap-in-Rep
-add-returns-in_err-gap-in-Rep g t c = IfOk-from_err c.from_residual-in_err-gap-in-Rep.result _ c.from_residual-in_err-gap-in-Rep.ensures.0
+add-returns-in_err-gap-in-Rep g t c =
+    IfOk-from_err c.from_residual-in_err-gap-in-Rep.result _ c.from_residual-in_err-gap-in-Rep.ensures.0
 
 pub add_copies-loop-i-init : goal.add_copies-loop-i-init
 add_copies-loop-i-init g t c =
@@ -288,8 +301,20 @@ add_copies-loop-i-init g t c =
 pub add_copies-add-requires : goal.add_copies-add-requires
 add_copies-add-requires g t c κs within =
     let inv = c.loop-i.invariant in
-    let all = shared c.loop-i.i (c.args.count - c.loop-i.i - 1) c.args.count (size_of (pattern c.args.inner.now)) (omega arith) in
-    ((omega (arith, c.decreases)), (within, (c.requires.proper, (omega (arith, all, inv.size, c.requires.fits), (inv.inside, inv.tidy)))))
+    let all = shared c.loop-i.i (c.args.count - c.loop-i.i - 1) c.args.count (size_of (pattern c.args.inner.now))
+    (omega arith) in (
+      (omega (arith, c.decreases)),
+      (
+        within,
+        (
+          c.requires.proper,
+          (
+            omega (arith, all, inv.size, c.requires.fits),
+            (inv.inside, inv.tidy),
+          ),
+        ),
+      ),
+    )
 
 pub add_copies-returns-in_err-entry : goal.add_copies-returns-in_err-entry
 add_copies-returns-in_err-entry g t c = IfOk-from_err c.from_residual.result _ c.from_residual.ensures.0
@@ -314,19 +339,33 @@ add_optional-loop-i-init g t c =
 pub add_optional-add-requires : goal.add_optional-add-requires
 add_optional-add-requires g t c κs within =
     let inv = c.loop-i.invariant in
-    let all = shared c.loop-i.i (c.args.count - c.loop-i.i - 1) c.args.count (size_of (pattern c.args.inner.now)) (omega arith) in
-    ((omega (arith, c.decreases)), (within, (c.requires.proper, (omega (arith, all, inv.size, c.requires.fits), (inv.inside, inv.tidy)))))
+    let all = shared c.loop-i.i (c.args.count - c.loop-i.i - 1) c.args.count (size_of (pattern c.args.inner.now))
+    (omega arith) in (
+      (omega (arith, c.decreases)),
+      (
+        within,
+        (
+          c.requires.proper,
+          (
+            omega (arith, all, inv.size, c.requires.fits),
+            (inv.inside, inv.tidy),
+          ),
+        ),
+      ),
+    )
 
 pub add_optional-push-requires : goal.add_optional-push-requires
 add_optional-push-requires g t c =
-    let all = shared c.loop-i.i (c.args.count - c.loop-i.i - 1) c.args.count (size_of (pattern c.args.inner.now)) (omega arith) in
+    let all = shared c.loop-i.i (c.args.count - c.loop-i.i - 1) c.args.count (size_of (pattern c.args.inner.now))
+    (omega arith) in
     omega (arith, all, c.loop-i.invariant.size, c.in_ok-first.ensures.size, c.requires.fits)
 
 pub add_optional-returns-in_err-first : goal.add_optional-returns-in_err-first
 add_optional-returns-in_err-first g t c = IfOk-from_err c.from_residual.result _ c.from_residual.ensures.0
 
 pub add_optional-returns-in_err-entry : goal.add_optional-returns-in_err-entry
-add_optional-returns-in_err-entry g t c = IfOk-from_err c.from_residual-in_err-entry.result _ c.from_residual-in_err-entry.ensures.0
+add_optional-returns-in_err-entry g t c =
+    IfOk-from_err c.from_residual-in_err-entry.result _ c.from_residual-in_err-entry.ensures.0
 
 pub add_optional-loop-i-smaller : goal.add_optional-loop-i-smaller
 add_optional-loop-i-smaller g t c = omega arith
@@ -335,7 +374,22 @@ pub add_optional-returns : goal.add_optional-returns
 add_optional-returns g t c = let end : c.args.count ≡ c.loop-i.i = omega arith in rw end c.loop-i.invariant
 
 pub open_choice-add-requires : goal.open_choice-add-requires
-open_choice-add-requires g t c κs within = ((omega (arith, c.decreases)), (within, (c.requires.proper, (omega arith, (c.requires.gap_in.next_in, c.requires.gap_in.tidy)))))
+open_choice-add-requires g t c κs within = (
+  (omega (arith, c.decreases)),
+  (
+    within,
+    (
+      c.requires.proper,
+      (
+        omega arith,
+        (
+          c.requires.gap_in.next_in,
+          c.requires.gap_in.tidy,
+        ),
+      ),
+    ),
+  ),
+)
 
 pub open_choice-returns-in_err-other : goal.open_choice-returns-in_err-other
 open_choice-returns-in_err-other g t c = IfOk-from_err c.from_residual.result _ c.from_residual.ensures.0
@@ -344,7 +398,8 @@ pub open_choice-push-requires : goal.open_choice-push-requires
 open_choice-push-requires g t c = omega (arith, c.in_ok-other.ensures.size)
 
 pub open_choice-returns-in_err-place : goal.open_choice-returns-in_err-place
-open_choice-returns-in_err-place g t c = IfOk-from_err c.from_residual-in_err-place.result _ c.from_residual-in_err-place.ensures.0
+open_choice-returns-in_err-place g t c =
+    IfOk-from_err c.from_residual-in_err-place.result _ c.from_residual-in_err-place.ensures.0
 
 pub open_choice-open_hole-requires : goal.open_choice-open_hole-requires
 open_choice-open_hole-requires g t c =
@@ -363,18 +418,40 @@ pub open_repetition-add_copies-requires : goal.open_repetition-add_copies-requir
 open_repetition-add_copies-requires g t c κs within =
     let push = c.in_ok-turn-in-None.ensures in
     let len = pushed_length _ _ _ _ push in
-    let room = rw c.in-None.is at c.requires.fits in
-    ((omega (arith, c.decreases)), (within, (c.requires.proper.0, (omega (arith, len, room), (omega (arith, len, push.place), pushed_tidy _ _ _ _ push c.requires.gap_in.tidy tt)))))
+    let room = rw c.in-None.is at c.requires.fits in (
+      (omega (arith, c.decreases)),
+      (
+        within,
+        (
+          c.requires.proper.0,
+          (
+            omega (arith, len, room),
+            (
+              omega (
+                arith,
+                len,
+                push.place,
+              ),
+              pushed_tidy _ _ _ _ push c.requires.gap_in.tidy tt,
+            ),
+          ),
+        ),
+      ),
+    )
 
 pub open_repetition-returns-in_err-copies-in-None : goal.open_repetition-returns-in_err-copies-in-None
-open_repetition-returns-in_err-copies-in-None g t c = IfOk-from_err c.from_residual-in_err-copies-in-None.result _ c.from_residual-in_err-copies-in-None.ensures.0
+open_repetition-returns-in_err-copies-in-None g t c =
+    IfOk-from_err c.from_residual-in_err-copies-in-None.result _ c.from_residual-in_err-copies-in-None.ensures.0
 
 pub open_repetition-open_hole-requires : goal.open_repetition-open_hole-requires
 open_repetition-open_hole-requires g t c =
     let push = c.in_ok-turn-in-None.ensures in
     let copies = c.in_ok-copies-in-None.ensures in
     hole_kept _ _ _ c.args.gap.hole copies.keeps (omega (arith, copies.size))
-    (hole_kept _ _ _ c.args.gap.hole (pushed_keeps _ _ _ _ push) (omega (arith, pushed_length _ _ _ _ push)) c.requires.gap_in.hole_in)
+    (hole_kept _ _ _ c.args.gap.hole (pushed_keeps _ _ _ _ push) (omega (
+      arith,
+      pushed_length _ _ _ _ push,
+    )) c.requires.gap_in.hole_in)
 
 pub open_repetition-overflow_sub-most : goal.open_repetition-overflow_sub-most
 open_repetition-overflow_sub-most g t c = omega arith
@@ -385,23 +462,39 @@ open_repetition-overflow_sub-most-in-Some g t c = omega arith
 pub open_repetition-add_optional-requires : goal.open_repetition-add_optional-requires
 open_repetition-add_optional-requires g t c κs within =
     let room = rw c.in-Some.is at c.requires.fits in
-    let all = shared c.args.least (c.in-Some.most - c.args.least - 1) c.in-Some.most (size_of (pattern c.args.inner.now)) (omega arith) in
-    ((omega (arith, c.decreases)), (within, (c.requires.proper.0, (omega (arith, all, room), (c.requires.gap_in.next_in, c.requires.gap_in.tidy)))))
+    let all = shared c.args.least (c.in-Some.most - c.args.least - 1) c.in-Some.most (size_of (pattern
+    c.args.inner.now)) (omega arith) in (
+      (omega (arith, c.decreases)),
+      (
+        within,
+        (
+          c.requires.proper.0,
+          (
+            omega (arith, all, room),
+            (c.requires.gap_in.next_in, c.requires.gap_in.tidy),
+          ),
+        ),
+      ),
+    )
 
 pub open_repetition-returns-in_err-others-in-Some : goal.open_repetition-returns-in_err-others-in-Some
-open_repetition-returns-in_err-others-in-Some g t c = IfOk-from_err c.from_residual-in_err-others-in-Some.result _ c.from_residual-in_err-others-in-Some.ensures.0
+open_repetition-returns-in_err-others-in-Some g t c =
+    IfOk-from_err c.from_residual-in_err-others-in-Some.result _ c.from_residual-in_err-others-in-Some.ensures.0
 
 pub open_repetition-push-requires-in-Some : goal.open_repetition-push-requires-in-Some
 open_repetition-push-requires-in-Some g t c =
     let room = rw c.in-Some.is at c.requires.fits in
-    let all = shared c.args.least (c.in-Some.most - c.args.least - 1) c.in-Some.most (size_of (pattern c.args.inner.now)) (omega arith) in
+    let all = shared c.args.least (c.in-Some.most - c.args.least - 1) c.in-Some.most (size_of (pattern
+    c.args.inner.now)) (omega arith) in
     omega (arith, all, room, c.in_ok-others-in-Some.ensures.size)
 
 pub open_repetition-returns-in_err-place-in-Some : goal.open_repetition-returns-in_err-place-in-Some
-open_repetition-returns-in_err-place-in-Some g t c = IfOk-from_err c.from_residual-in_err-place-in-Some.result _ c.from_residual-in_err-place-in-Some.ensures.0
+open_repetition-returns-in_err-place-in-Some g t c =
+    IfOk-from_err c.from_residual-in_err-place-in-Some.result _ c.from_residual-in_err-place-in-Some.ensures.0
 
 pub open_repetition-returns-in_err-copies-in-Some : goal.open_repetition-returns-in_err-copies-in-Some
-open_repetition-returns-in_err-copies-in-Some g t c = IfOk-from_err c.from_residual-in_err-copies-in-Some.result _ c.from_residual-in_err-copies-in-Some.ensures.0
+open_repetition-returns-in_err-copies-in-Some g t c =
+    IfOk-from_err c.from_residual-in_err-copies-in-Some.result _ c.from_residual-in_err-copies-in-Some.ensures.0
 
 pub open_repetition-overflow_sub-count : goal.open_repetition-overflow_sub-count
 open_repetition-overflow_sub-count g t c = omega (arith, rw c.in-Some-2.is at c.requires.some)
@@ -410,8 +503,23 @@ pub open_repetition-add_copies-requires-in-Some-2 : goal.open_repetition-add_cop
 open_repetition-add_copies-requires-in-Some-2 g t c κs within =
     let some = rw c.in-Some-2.is at c.requires.some in
     let room = rw c.in-Some-2.is at c.requires.fits in
-    let all = shared 0 (c.in-Some-2.count - 1) c.in-Some-2.count (size_of (pattern c.args.inner.now)) (omega (arith, some)) in
-    ((omega (arith, c.decreases)), (within, (c.requires.proper.0, (omega (arith, all, room), (c.requires.gap_in.next_in, c.requires.gap_in.tidy)))))
+    let all = shared 0 (c.in-Some-2.count - 1) c.in-Some-2.count (size_of (pattern c.args.inner.now)) (omega (
+      arith,
+      some,
+    )) in (
+      (omega (arith, c.decreases)),
+      (
+        within,
+        (
+          c.requires.proper.0,
+          (
+            omega (arith, all, room),
+            (c.requires.gap_in.next_in, c.requires.gap_in.tidy),
+          ),
+        ),
+      ),
+    )
 
 pub open_repetition-returns-in_err-next-in-Some-2 : goal.open_repetition-returns-in_err-next-in-Some-2
-open_repetition-returns-in_err-next-in-Some-2 g t c = IfOk-from_err c.from_residual-in_err-next-in-Some-2.result _ c.from_residual-in_err-next-in-Some-2.ensures.0
+open_repetition-returns-in_err-next-in-Some-2 g t c =
+    IfOk-from_err c.from_residual-in_err-next-in-Some-2.result _ c.from_residual-in_err-next-in-Some-2.ensures.0

@@ -72,31 +72,40 @@ pub bounds-trees-i : goal.bounds-trees-i
 bounds-trees-i g c = omega arith
 
 pub returns-in_err-entry-clause-runs : goal.returns-in_err-entry-clause-runs
-returns-in_err-entry-clause-runs g c = IfOk-from_err c.from_residual-in_err-entry.result _ c.from_residual-in_err-entry.ensures.0
+returns-in_err-entry-clause-runs g c =
+    IfOk-from_err c.from_residual-in_err-entry.result _ c.from_residual-in_err-entry.ensures.0
 
 pub returns-in_err-entry-clause-seeds : goal.returns-in_err-entry-clause-seeds
-returns-in_err-entry-clause-seeds g c = IfOk-from_err c.from_residual-in_err-entry.result _ c.from_residual-in_err-entry.ensures.0
+returns-in_err-entry-clause-seeds g c =
+    IfOk-from_err c.from_residual-in_err-entry.result _ c.from_residual-in_err-entry.ensures.0
 
 pub returns-in_err-entry-clause-built : goal.returns-in_err-entry-clause-built
-returns-in_err-entry-clause-built g c = IfOk-from_err c.from_residual-in_err-entry.result _ c.from_residual-in_err-entry.ensures.0
+returns-in_err-entry-clause-built g c =
+    IfOk-from_err c.from_residual-in_err-entry.result _ c.from_residual-in_err-entry.ensures.0
 
 pub returns-in_err-start-clause-runs : goal.returns-in_err-start-clause-runs
-returns-in_err-start-clause-runs g c = IfOk-from_err c.from_residual-in_err-start.result _ c.from_residual-in_err-start.ensures.0
+returns-in_err-start-clause-runs g c =
+    IfOk-from_err c.from_residual-in_err-start.result _ c.from_residual-in_err-start.ensures.0
 
 pub returns-in_err-start-clause-seeds : goal.returns-in_err-start-clause-seeds
-returns-in_err-start-clause-seeds g c = IfOk-from_err c.from_residual-in_err-start.result _ c.from_residual-in_err-start.ensures.0
+returns-in_err-start-clause-seeds g c =
+    IfOk-from_err c.from_residual-in_err-start.result _ c.from_residual-in_err-start.ensures.0
 
 pub returns-in_err-start-clause-built : goal.returns-in_err-start-clause-built
-returns-in_err-start-clause-built g c = IfOk-from_err c.from_residual-in_err-start.result _ c.from_residual-in_err-start.ensures.0
+returns-in_err-start-clause-built g c =
+    IfOk-from_err c.from_residual-in_err-start.result _ c.from_residual-in_err-start.ensures.0
 
 pub returns-in_err-seeds-clause-runs : goal.returns-in_err-seeds-clause-runs
-returns-in_err-seeds-clause-runs g c = IfOk-from_err c.from_residual-in_err-seeds.result _ c.from_residual-in_err-seeds.ensures.0
+returns-in_err-seeds-clause-runs g c =
+    IfOk-from_err c.from_residual-in_err-seeds.result _ c.from_residual-in_err-seeds.ensures.0
 
 pub returns-in_err-seeds-clause-seeds : goal.returns-in_err-seeds-clause-seeds
-returns-in_err-seeds-clause-seeds g c = IfOk-from_err c.from_residual-in_err-seeds.result _ c.from_residual-in_err-seeds.ensures.0
+returns-in_err-seeds-clause-seeds g c =
+    IfOk-from_err c.from_residual-in_err-seeds.result _ c.from_residual-in_err-seeds.ensures.0
 
 pub returns-in_err-seeds-clause-built : goal.returns-in_err-seeds-clause-built
-returns-in_err-seeds-clause-built g c = IfOk-from_err c.from_residual-in_err-seeds.result _ c.from_residual-in_err-seeds.ensures.0
+returns-in_err-seeds-clause-built g c =
+    IfOk-from_err c.from_residual-in_err-seeds.result _ c.from_residual-in_err-seeds.ensures.0
 
 pub push-requires : goal.push-requires
 push-requires g c = omega arith

@@ -6,7 +6,8 @@ pub returns-in_err-automaton : goal.returns-in_err-automaton
 returns-in_err-automaton g c = IfOk-from_err c.from_residual.result _ c.from_residual.ensures.0
 
 pub returns-in_err-automaton-2 : goal.returns-in_err-automaton-2
-returns-in_err-automaton-2 g c = IfOk-from_err c.from_residual-in_err-automaton-2.result _ c.from_residual-in_err-automaton-2.ensures.0
+returns-in_err-automaton-2 g c =
+    IfOk-from_err c.from_residual-in_err-automaton-2.result _ c.from_residual-in_err-automaton-2.ensures.0
 
 pub assemble-requires-clause-proper : goal.assemble-requires-clause-proper
 assemble-requires-clause-proper g c = c.requires.proper

@@ -69,4 +69,5 @@ loop-k-init g c = aimed_first _ _ _ _ c.clear.ensures.good c.clear.ensures.empty
 pub returns : goal.returns
 returns g c =
     let end : c.loop-k.k ≡ c.args.current.now.len = omega arith in
-    subst (λ k. Aimed c.args.states.now c.args.byte (members c.args.current.now) (members c.loop-k.next) k) end c.loop-k.invariant
+    subst (λ k. Aimed c.args.states.now c.args.byte (members c.args.current.now) (members c.loop-k.next) k) end
+    c.loop-k.invariant

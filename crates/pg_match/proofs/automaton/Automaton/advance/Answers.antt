@@ -30,8 +30,19 @@ returns-clause-stepped g c = rw c.swap.ensures.x_after (rw (c.deref.ensures.valu
 
 pub returns-clause-room : goal.returns-clause-room
 returns-clause-room g c =
-    let size : length c.step.new.next.marks.items ≡ length c.args.self.now.states.items = omega (arith, c.step.ensures.size, c.requires.room.now_size) in
-    record { now = rw c.swap.ensures.x_after c.step.ensures.good; next = rw c.swap.ensures.y_after c.requires.room.now; now_size = rw c.swap.ensures.x_after size; next_size = rw c.swap.ensures.y_after c.requires.room.now_size }
+    let size : length c.step.new.next.marks.items ≡ length c.args.self.now.states.items = omega (
+      arith,
+      c.step.ensures.size,
+      c.requires.room.now_size,
+    ) in
+    record {
+      now = rw c.swap.ensures.x_after c.step.ensures.good;
+      next = rw c.swap.ensures.y_after
+          c.requires.room.now;
+      now_size = rw c.swap.ensures.x_after size;
+      next_size = rw c.swap.ensures.y_after
+          c.requires.room.now_size;
+    }
 
 pub returns-clause-visits : goal.returns-clause-visits
 returns-clause-visits g c = refl

@@ -64,8 +64,16 @@ close-requires-clause-good g c =
 pub close-requires-clause-size : goal.close-requires-clause-size
 close-requires-clause-size g c =
     elim c.if-begins_after.branch [
-      | then-begins_after w ↦ rw (w.sets-is, c.deref-2.ensures.value) (omega (arith, w.insert.ensures.size, ap (λ s. length (members s).marks) c.swap.ensures.x_after, c.aim.ensures.size))
-      | else-begins_after w ↦ rw (w.sets-is, c.deref-2.ensures.value, c.swap.ensures.x_after) (omega (arith, c.aim.ensures.size))
+      | then-begins_after w ↦ rw (w.sets-is, c.deref-2.ensures.value) (omega (
+        arith,
+        w.insert.ensures.size,
+        ap (λ s. length (members s).marks) c.swap.ensures.x_after,
+        c.aim.ensures.size,
+      ))
+      | else-begins_after w ↦ rw (w.sets-is, c.deref-2.ensures.value, c.swap.ensures.x_after) (omega (
+        arith,
+        c.aim.ensures.size,
+      ))
     ]
 
 pub returns-clause-visits : goal.returns-clause-visits
@@ -80,6 +88,25 @@ returns-clause-room g c =
     let close = c.close.ensures in
     let size = c.deref-2.ensures.value in
     elim c.if-begins_after.branch [
-      | then-begins_after w ↦ record { now = close.good; next = rw (w.sets-is, c.swap.ensures.y_after) c.requires.room.now; now_size = rw (w.sets-is) at close.size ∙ w.insert.ensures.size ∙ ap (λ s. length (members s).marks) c.swap.ensures.x_after ∙ c.aim.ensures.size ∙ c.requires.room.now_size; next_size = rw (w.sets-is, c.swap.ensures.y_after) c.requires.room.now_size }
-      | else-begins_after w ↦ record { now = close.good; next = rw (w.sets-is, c.swap.ensures.y_after) c.requires.room.now; now_size = rw (w.sets-is) at close.size ∙ ap (λ s. length (members s).marks) c.swap.ensures.x_after ∙ c.aim.ensures.size ∙ c.requires.room.now_size; next_size = rw (w.sets-is, c.swap.ensures.y_after) c.requires.room.now_size }
+      | then-begins_after w ↦ record {
+        now = close.good;
+        next = rw (
+          w.sets-is,
+          c.swap.ensures.y_after,
+        ) c.requires.room.now;
+        now_size = rw (w.sets-is) at close.size ∙
+            w.insert.ensures.size ∙ ap (λ s. length (members s).marks) c.swap.ensures.x_after ∙ c.aim.ensures.size ∙
+            c.requires.room.now_size;
+        next_size = rw (w.sets-is, c.swap.ensures.y_after) c.requires.room.now_size;
+      }
+      | else-begins_after w ↦ record {
+        now = close.good;
+        next = rw (
+          w.sets-is,
+          c.swap.ensures.y_after,
+        ) c.requires.room.now;
+        now_size = rw (w.sets-is) at close.size ∙ ap (λ s. length
+            (members s).marks) c.swap.ensures.x_after ∙ c.aim.ensures.size ∙ c.requires.room.now_size;
+        next_size = rw (w.sets-is, c.swap.ensures.y_after) c.requires.room.now_size;
+      }
     ]

@@ -18,7 +18,8 @@ pub returns-then-known-ne0-clause-memory : goal.returns-then-known-ne0-clause-me
 returns-then-known-ne0-clause-memory g c = c.requires.memory
 
 pub returns-then-known-ne0-clause-keeps : goal.returns-then-known-ne0-clause-keeps
-returns-then-known-ne0-clause-keeps g c = record { sets = λ r le q. (λ h. h, λ h. h); fresh = λ r le. refl; more = omega arith }
+returns-then-known-ne0-clause-keeps g c =
+    record { sets = λ r le q. (λ h. h, λ h. h); fresh = λ r le. refl; more = omega arith }
 
 pub returns-then-known-ne0-clause-known : goal.returns-then-known-ne0-clause-known
 returns-then-known-ne0-clause-known g c = c.find-known.ensures.known
@@ -46,7 +47,11 @@ returns-else-add-clause-memory g c = rw (c.add.ensures.full c.if-add.false) c.re
 
 pub returns-else-add-clause-keeps : goal.returns-else-add-clause-keeps
 returns-else-add-clause-keeps g c =
-    rw (c.add.ensures.full c.if-add.false) (record { sets = λ r le q. (λ h. h, λ h. h); fresh = λ r le. refl; more = omega arith })
+    rw (c.add.ensures.full c.if-add.false) (record {
+      sets = λ r le q. (λ h. h, λ h. h);
+      fresh = λ r le. refl;
+      more = omega arith;
+    })
 
 pub returns-else-add-clause-known : goal.returns-else-add-clause-known
 returns-else-add-clause-known g c = omega arith

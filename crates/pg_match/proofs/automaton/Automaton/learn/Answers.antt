@@ -154,11 +154,21 @@ load-requires-clause-shape g c = rw c.requires.room.now_size c.requires.memory.s
 
 pub returns-then-hits_before-clause-room : goal.returns-then-hits_before-clause-room
 returns-then-hits_before-clause-room g c =
-    record { now = c.load.ensures.good; next = c.requires.room.next; now_size = omega (arith, c.load.ensures.size); next_size = c.requires.room.next_size }
+    record {
+      now = c.load.ensures.good;
+      next = c.requires.room.next;
+      now_size = omega (arith, c.load.ensures.size);
+      next_size = c.requires.room.next_size;
+    }
 
 pub go-is_fresh-requires-clause-room : goal.go-is_fresh-requires-clause-room
 go-is_fresh-requires-clause-room g c =
-    record { now = c.load.ensures.good; next = c.requires.room.next; now_size = omega (arith, c.load.ensures.size); next_size = c.requires.room.next_size }
+    record {
+      now = c.load.ensures.good;
+      next = c.requires.room.next;
+      now_size = omega (arith, c.load.ensures.size);
+      next_size = c.requires.room.next_size;
+    }
 
 pub keep-to-requires-clause-good : goal.keep-to-requires-clause-good
 keep-to-requires-clause-good g c = c.go-is_fresh.ensures.room.now
@@ -171,7 +181,8 @@ returns-then-index-eq-HIT-clause-learned g c =
     let mem = remembered c.args.memory.now in
     let steps : length mem.steps ≡ 65792 = c.requires.memory.shape.steps_size in
     let few : mem.count ≤ 256 = c.requires.memory.shape.few in
-    let read = get_or_read mem.steps (256 * c.args.row + c.args.byte) c.index.result.now (omega arith) c.index.ensures 0 in
+    let read = get_or_read mem.steps (256 * c.args.row + c.args.byte) c.index.result.now (omega arith)
+    c.index.ensures 0 in
     elim (c.requires.memory.told c.args.row c.args.byte c.requires.known (omega arith)) [
       | inl none ↦ absurd (omega arith)
       | inr rest ↦ elim rest [ inl hit ↦ hit.1 | inr go ↦ absurd (omega (arith, go.1, go.2)) ]

@@ -79,24 +79,34 @@ pub go-requires-clause-visits : goal.go-requires-clause-visits
 go-requires-clause-visits g c =
     let inv = c.loop-place.invariant in
     let fewer = few (members c.loop-place.sets.current) inv.room.now in
-    let v = visits_small c.loop-place.place (length c.args.self.now.states.items) c.loop-place.sets.visits (omega (arith, inv.visits, fewer, inv.room.now_size)) (omega arith) (omega (arith, c.args.self.now.states.ok.0)) in
+    let v = visits_small c.loop-place.place (length c.args.self.now.states.items) c.loop-place.sets.visits (omega
+    (arith, inv.visits, fewer, inv.room.now_size)) (omega arith) (omega (arith, c.args.self.now.states.ok.0)) in
     omega arith
 
 pub hits_at_end-requires-clause-visits : goal.hits_at_end-requires-clause-visits
 hits_at_end-requires-clause-visits g c =
     let inv = c.loop-place.invariant in
     let fewer = few (members c.loop-place.sets.current) inv.room.now in
-    let v = visits_small c.loop-place.place (length c.args.self.now.states.items) c.loop-place.sets.visits (omega (arith, inv.visits, fewer, inv.room.now_size)) (omega arith) (omega (arith, c.args.self.now.states.ok.0)) in
+    let v = visits_small c.loop-place.place (length c.args.self.now.states.items) c.loop-place.sets.visits (omega
+    (arith, inv.visits, fewer, inv.room.now_size)) (omega arith) (omega (arith, c.args.self.now.states.ok.0)) in
     omega arith
 
 pub returns-then-hits_before-clause-visits : goal.returns-then-hits_before-clause-visits
 returns-then-hits_before-clause-visits g c =
     let inv = c.loop-place.invariant in
     let fewer = few (members c.loop-place.sets.current) inv.room.now in
-    visits_later c.loop-place.place (length c.args.line.now) (length c.args.self.now.states.items) c.loop-place.sets.visits (omega (arith, inv.visits, fewer, inv.room.now_size)) (omega arith)
+    visits_later c.loop-place.place (length c.args.line.now) (length c.args.self.now.states.items)
+    c.loop-place.sets.visits (omega (arith, inv.visits, fewer, inv.room.now_size)) (omega arith)
 
 pub returns-clause-visits : goal.returns-clause-visits
 returns-clause-visits g c =
     let end = c.hits_at_end.ensures in
     let fewer = few (members c.hits_at_end.new.sets.current) end.room.now in
-    visits_later c.loop-place.place (length c.args.line.now) (length c.args.self.now.states.items) c.hits_at_end.new.sets.visits (omega (arith, c.loop-place.invariant.visits, fewer, end.visits, end.room.now_size)) (omega arith)
+    visits_later c.loop-place.place (length c.args.line.now) (length c.args.self.now.states.items)
+    c.hits_at_end.new.sets.visits (omega (
+      arith,
+      c.loop-place.invariant.visits,
+      fewer,
+      end.visits,
+      end.room.now_size,
+    )) (omega arith)

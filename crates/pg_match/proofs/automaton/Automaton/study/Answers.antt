@@ -177,7 +177,8 @@ returns-in-Lost-clause-memory g c = rw c.lose.ensures c.in-Lost.ensures.memory
 
 pub overflow_mul-most : goal.overflow_mul-most
 overflow_mul-most g c =
-    let small = most_small (length c.args.line.now) (length c.args.self.now.states.items) c.len-size.result (c.len-size.ensures ∙ c.args.self.now.states.ok.0) c.requires.short (omega arith) in
+    let small = most_small (length c.args.line.now) (length c.args.self.now.states.items) c.len-size.result
+    (c.len-size.ensures ∙ c.args.self.now.states.ok.0) c.requires.short (omega arith) in
     omega arith
 
 pub loop-sets-init : goal.loop-sets-init
@@ -193,5 +194,6 @@ loop-sets-init g c =
         | then-from-eq0 w ↦ rw w.state-is (record { row = refl; known = some })
         | else-from-eq0 w ↦ rw w.state-is (record { row = refl; known = omega arith })
       ];
-      visits = visits_whole _ _ _ _ _ (c.len-size.ensures ∙ c.args.self.now.states.ok.0) c.if-sets-most.false first.visits;
+      visits = visits_whole _ _ _ _ _ (c.len-size.ensures ∙ c.args.self.now.states.ok.0) c.if-sets-most.false
+          first.visits;
     }

@@ -54,7 +54,16 @@ returns-clause-full g c = λ t. absurd (cc)
 
 pub loop-k-init : goal.loop-k-init
 loop-k-init g c =
-    record { size = refl; before = λ j lt. refl; copied = λ j lt. absurd (omega arith); steps = refl; ends = refl; fresh = refl; cuts = refl; count = refl }
+    record {
+      size = refl;
+      before = λ j lt. refl;
+      copied = λ j lt. absurd (omega arith);
+      steps = refl;
+      ends = refl;
+      fresh = refl;
+      cuts = refl;
+      count = refl;
+    }
 
 pub overflow_sub-len : goal.overflow_sub-len
 overflow_sub-len g c =
@@ -68,10 +77,12 @@ index-requires-in-loop-k g c = let long = list_long (members c.args.set.now) c.r
 
 pub index_mut-requires-2 : goal.index_mut-requires-2
 index_mut-requires-2 g c =
-    let cuts : length c.loop-k.self.cuts.items ≡ length c.args.self.now.cuts.items = ap length c.loop-k.invariant.cuts in
+    let cuts : length c.loop-k.self.cuts.items ≡ length c.args.self.now.cuts.items = ap length
+    c.loop-k.invariant.cuts in
     omega (arith, c.loop-k.invariant.count, c.requires.shape.cuts_size, c.requires.shape.few)
 
 pub index_mut-requires-3 : goal.index_mut-requires-3
 index_mut-requires-3 g c =
-    let fresh : length c.loop-k.self.fresh.items ≡ length c.args.self.now.fresh.items = ap length c.loop-k.invariant.fresh in
+    let fresh : length c.loop-k.self.fresh.items ≡ length c.args.self.now.fresh.items = ap length
+    c.loop-k.invariant.fresh in
     omega (arith, c.loop-k.invariant.count, c.requires.shape.fresh_size, c.requires.shape.few)

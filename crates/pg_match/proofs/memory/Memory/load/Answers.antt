@@ -89,4 +89,10 @@ loop-k-init g c =
     let row = c.args.row in
     let shape = c.requires.shape in
     let start = get_or_read mem.cuts row c.index.result.now (omega (arith, shape.cuts_size, shape.few)) c.index.ensures 0 in
-    record { good = c.clear.ensures.good; size = omega arith; from = λ q h. let z = c.clear.ensures.empty.1 q in absurd (omega arith); all = λ j ge lt. absurd (omega (arith, start)) }
+    record {
+      good = c.clear.ensures.good;
+      size = omega arith;
+      from = λ q h. let z = c.clear.ensures.empty.1 q in
+          absurd (omega arith);
+      all = λ j ge lt. absurd (omega (arith, start));
+    }

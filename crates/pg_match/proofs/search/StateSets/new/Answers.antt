@@ -9,4 +9,9 @@ returns-in_err-next g c = IfOk-from_err c.from_residual-in_err-next.result _ c.f
 
 pub returns : goal.returns
 returns g c =
-    record { now = c.in_ok-current.ensures.good; next = c.in_ok-next.ensures.good; now_size = c.in_ok-current.ensures.size; next_size = c.in_ok-next.ensures.size }
+    record {
+      now = c.in_ok-current.ensures.good;
+      next = c.in_ok-next.ensures.good;
+      now_size = c.in_ok-current.ensures.size;
+      next_size = c.in_ok-next.ensures.size;
+    }

@@ -35,7 +35,8 @@ returns-clause-size g c = omega arith
 
 pub index-state-requires : goal.index-state-requires
 index-state-requires g c =
-    let n : length c.loop-k.self.order.items ≡ length c.args.self.now.order.items = ap length c.loop-k.invariant.order in
+    let n : length c.loop-k.self.order.items ≡ length c.args.self.now.order.items = ap length
+    c.loop-k.invariant.order in
     let long = list_long (members c.args.self.now) c.requires in
     omega arith
 
