@@ -138,11 +138,7 @@ impl<A: Allocator + Copy> Engine<A> {
     }
 
     /// Searches the open file's next block, and gives the sequencer its result. No block waits. Answers the block.
-    fn take<G: Gate>(
-        &mut self,
-        gate: &G,
-        block: Block<A>,
-    ) -> Result<Arc<Block<A>, A>, AllocError>
+    fn take<G: Gate>(&mut self, gate: &G, block: Block<A>) -> Result<Arc<Block<A>, A>, AllocError>
         requires at_once { self.old.spread ≡ false }
         requires ready { (aim : Aim) × (steps : List Step) × (out : Stream)
             × IsReady self.old aim steps out (Announces block) }
