@@ -20,7 +20,8 @@ all: toolchain
 	@echo "pargrep: built $(program)"
 
 # The gate. `rt ci` proves every crate from nothing, tries the wrong bodies, runs the tests and builds the program; then
-# the command lines in tests/rows are run on the program. The last line counts both.
+# the command lines in tests/rows are run on the program. The last line counts both. The further wrong bodies under
+# crates/*/refused are looked up in the code.
 check: toolchain
 	@$(PYTHON) tests/gate.py $(RT) ci
 

@@ -1,5 +1,6 @@
 #!/usr/bin/env python3
-"""The gate: runs a command that ends with 'N passed, M failed', then the rows, and closes with such a line over both.
+"""The gate: runs a command that ends with 'N passed, M failed', then the rows, looks up the wrong bodies that it doesn't
+try, and closes with such a line over all.
 
 The rows run on the program that the command has built just now, also where the command has failed.
 """
@@ -87,9 +88,12 @@ def main():
     name = " ".join(command)
     proofs = figures_of(command, name)
     rows = figures_of([sys.executable, str(HERE / "run_rows.py")], "the rows")
-    for what, (passed, failed) in ((name, proofs), ("the rows", rows)):
+    edits = figures_of([sys.executable, str(HERE / "refuse.py"), "--read"], "the further wrong bodies")
+    parts = ((name, proofs), ("the rows", rows), ("the further wrong bodies, looked up", edits))
+    for what, (passed, failed) in parts:
         say(f"gate: {what}: {passed} passed, {failed} failed")
-    failed = proofs[1] + rows[1]
+    failed = sum(figures[1] for _, figures in parts)
+    # An edit that is only looked up shows nothing of the program, so it is no check that has passed.
     say(f"{proofs[0] + rows[0]} passed, {failed} failed")
     return 1 if failed else 0
 

@@ -1,5 +1,5 @@
 #!/usr/bin/env python3
-"""Tries wrong bodies in groups: `tests/refuse.py [--all] [--keep FOLDER] [NAME..]`
+"""Tries wrong bodies in groups: `tests/refuse.py [--all] [--keep FOLDER] [--read] [NAME..]`
 
 An edit, `crates/CRATE/refused/NAME.edit`, turns a function into a wrong one, in the format of the edits of
 `must-fail/`. The edits of a crate that touch different functions are applied at once to a copy of the crate, which is
@@ -12,6 +12,9 @@ A NAME is a crate or an edit, `late-double-taken` or `pg_seq/late-double-taken`;
 `must-fail/` are tried too, and with --keep what each check said is kept in FOLDER. The command of the toolchain is
 `rt`, or what RT names. A crate that was not proved yet is proved first. The last line is `N refused, M not`; the
 status is 0 only where M is 0 and N is not.
+
+With --read nothing is checked: each edit is only looked up in the code, which tells those that a change has made stale.
+The last line is `N passed, M failed` then.
 """
 
 import argparse
@@ -406,6 +409,18 @@ def named(edit):
     return edit.crate, edit.path.stem, edit.label()
 
 
+def read_edits(crate, edits):
+    """Looks up the edits of a crate in its code, tells those that can't be applied, and answers how many can't."""
+    stale = 0
+    for edit in edits:
+        try:
+            place_edit(edit, crate.folder())
+        except (BadEdit, OSError, UnicodeDecodeError) as error:
+            print(f"{edit.label()}: BAD EDIT: {error}", flush=True)
+            stale += 1
+    return stale
+
+
 def processor_seconds():
     used = resource.getrusage(resource.RUSAGE_CHILDREN)
     return used.ru_utime + used.ru_stime
@@ -428,11 +443,17 @@ def main():
     reader = argparse.ArgumentParser(description=__doc__, formatter_class=argparse.RawDescriptionHelpFormatter)
     reader.add_argument("--all", action="store_true", help="the edits of must-fail/ too")
     reader.add_argument("--keep", metavar="FOLDER", help="keeps what each check said in FOLDER")
+    reader.add_argument("--read", action="store_true", help="only looks the edits up in the code")
     reader.add_argument("names", nargs="*", metavar="NAME", help="a crate or an edit")
     words = reader.parse_args()
     crates = read_crates()
+    wanted = wanted_edits(words.names, ["refused", *["must-fail"] * words.all])
+    if words.read:
+        stale = sum(read_edits(crates[name], edits) for name, edits in wanted.items())
+        print(f"{sum(map(len, wanted.values())) - stale} passed, {stale} failed")
+        return 1 if stale else 0
     refused = missed = 0
-    for name, edits in wanted_edits(words.names, ["refused", *["must-fail"] * words.all]).items():
+    for name, edits in wanted.items():
         before = processor_seconds()
         for edit, well, text in try_crate(crates[name], edits, keeper(words.keep)):
             print(f"{edit.label()}: {text}", flush=True)
