@@ -1,4 +1,4 @@
-use Rattle.std.proofs.Common.{inl, inr, sym, ◌∙◌, true≢false, arith}
+use Rattle.std.proofs.Common.{inl, inr, sym, ◌∙◌, true≢false}
 use Rattle.pg_match.proofs.ClosureLemmas.{stands}
 use Rattle.pg_match.proofs.StepLemmas.{jump_spread, begin_spread, end_spread, split_spread, none_spread}
 use Rattle.pg_match.specs.declared.state.State.TheVariants.{Fail, Accept, Read}
@@ -36,54 +36,3 @@ returns-in-Read g c =
         | inr a ↦ none_spread _ _ _ _ _ Accept (stands _ _ _ within a) (λ r e. e) good
       ]
     ]
-
-pub offset_bounds-states-state : goal.offset_bounds-states-state
-offset_bounds-states-state g c = omega arith
-
-pub bounds : goal.bounds
-bounds g c = omega arith
-
-pub bounds-states-state : goal.bounds-states-state
-bounds-states-state g c = omega arith
-
-pub bounds-states : goal.bounds-states
-bounds-states g c = omega arith
-
-pub bounds-states-in-AtEnd-1 : goal.bounds-states-in-AtEnd-1
-bounds-states-in-AtEnd-1 g c = omega arith
-
-pub bounds-states-in-Split-1 : goal.bounds-states-in-Split-1
-bounds-states-in-Split-1 g c = omega arith
-
-pub bounds-states-in-Split-2 : goal.bounds-states-in-Split-2
-bounds-states-in-Split-2 g c = omega arith
-
-pub insert-requires-clause-good : goal.insert-requires-clause-good
-insert-requires-clause-good g c = c.requires.good
-
-pub insert-requires-clause-some : goal.insert-requires-clause-some
-insert-requires-clause-some g c = omega arith
-
-pub insert-requires-then-first-clause-good : goal.insert-requires-then-first-clause-good
-insert-requires-then-first-clause-good g c = c.requires.good
-
-pub insert-requires-then-first-clause-some : goal.insert-requires-then-first-clause-some
-insert-requires-then-first-clause-some g c = omega arith
-
-pub insert-requires-then-last-clause-good : goal.insert-requires-then-last-clause-good
-insert-requires-then-last-clause-good g c = c.requires.good
-
-pub insert-requires-then-last-clause-some : goal.insert-requires-then-last-clause-some
-insert-requires-then-last-clause-some g c = omega arith
-
-pub insert-requires-in-Split-clause-good : goal.insert-requires-in-Split-clause-good
-insert-requires-in-Split-clause-good g c = c.requires.good
-
-pub insert-requires-in-Split-clause-some : goal.insert-requires-in-Split-clause-some
-insert-requires-in-Split-clause-some g c = omega arith
-
-pub insert-requires-in-Split-2-clause-good : goal.insert-requires-in-Split-2-clause-good
-insert-requires-in-Split-2-clause-good g c = c.insert-in-Split.ensures.good
-
-pub insert-requires-in-Split-2-clause-some : goal.insert-requires-in-Split-2-clause-some
-insert-requires-in-Split-2-clause-some g c = omega arith

@@ -1,4 +1,4 @@
-use Rattle.std.proofs.Common.{ap, subst, sym, true, arith}
+use Rattle.std.proofs.Common.{ap, subst, sym, true}
 use Rattle.pg_match.specs.Memories.{Grown, IsShape}
 use Rattle.pg_match.specs.Views.{nfa, members, remembered}
 use Rattle.pg_match.proofs.MemoryLemmas.{memory_added}
@@ -20,27 +20,3 @@ returns-clause-memory g c =
     memory_added (nfa c.args.self.now) old new s true c.add.result (c.refresh.ensures (nfa c.args.self.now) c.requires.memory)
     (λ t. subst (λ n. Grown n old new s true) c.begin.ensures.room.now_size (c.add.ensures.grown t)) (λ f. ap remembered (c.add.ensures.full f))
     (λ z. c.begin.ensures.starts)
-
-pub returns-then-memory-gt0-clause-room : goal.returns-then-memory-gt0-clause-room
-returns-then-memory-gt0-clause-room g c = c.requires.room
-
-pub returns-then-memory-gt0-clause-visits : goal.returns-then-memory-gt0-clause-visits
-returns-then-memory-gt0-clause-visits g c = omega arith
-
-pub begin-requires-clause-runs : goal.begin-requires-clause-runs
-begin-requires-clause-runs g c = c.requires.runs
-
-pub begin-requires-clause-room : goal.begin-requires-clause-room
-begin-requires-clause-room g c = c.requires.room
-
-pub begin-requires-clause-visits : goal.begin-requires-clause-visits
-begin-requires-clause-visits g c = omega arith
-
-pub returns-clause-room : goal.returns-clause-room
-returns-clause-room g c = c.begin.ensures.room
-
-pub add-requires-clause-good : goal.add-requires-clause-good
-add-requires-clause-good g c = c.begin.ensures.room.now
-
-pub returns-then-memory-gt0-clause-full : goal.returns-then-memory-gt0-clause-full
-returns-then-memory-gt0-clause-full g c = λ t. absurd (cc)

@@ -87,36 +87,3 @@ returns-in-Some-false g c = λ run.
     let end : p + 1 ≡ length l = omega (arith, c.loop-place-test.false) in
     let so = c.in-Some-false.ensures l c.args.from p s.stands (slice_get-get_or l p 0 lt) end s.near in
     true≢false (sym (so.1 run) ∙ c.in-Some-false.field-0-test)
-
-pub overflow_add-place : goal.overflow_add-place
-overflow_add-place g c = omega arith
-
-pub bounds-line-place : goal.bounds-line-place
-bounds-line-place g c = omega arith
-
-pub overflow_add-state : goal.overflow_add-state
-overflow_add-state g c = omega arith
-
-pub index-next-requires : goal.index-next-requires
-index-next-requires g c = omega arith
-
-pub overflow_add-place-in-loop-place : goal.overflow_add-place-in-loop-place
-overflow_add-place-in-loop-place g c = omega arith
-
-pub loop-place-smaller-then-index : goal.loop-place-smaller-then-index
-loop-place-smaller-then-index g c = omega arith
-
-pub loop-place-smaller : goal.loop-place-smaller
-loop-place-smaller g c = omega arith
-
-pub bounds-line-place-2 : goal.bounds-line-place-2
-bounds-line-place-2 g c = omega arith
-
-pub recall_end-requires-clause-runs : goal.recall_end-requires-clause-runs
-recall_end-requires-clause-runs g c = c.requires.runs
-
-pub recall_end-requires-clause-memory : goal.recall_end-requires-clause-memory
-recall_end-requires-clause-memory g c = c.requires.memory
-
-pub recall_end-requires-clause-row : goal.recall_end-requires-clause-row
-recall_end-requires-clause-row g c = c.loop-place.invariant.row

@@ -24,18 +24,3 @@ loop-k-preserved g c =
     let read = get_or_read seeds c.loop-k.k _ lt c.index-state.ensures 0 in
     sown_next c.args.self.now.states.items seeds _ _ _ _ c.loop-k.k c.loop-k.invariant
     (subst (λ q. Inserted (members c.loop-k.set) (members c.insert.new.self) q (c.args.place + 1)) read c.insert.ensures)
-
-pub overflow_cast-mark : goal.overflow_cast-mark
-overflow_cast-mark g c = omega arith
-
-pub overflow_add-mark : goal.overflow_add-mark
-overflow_add-mark g c = omega arith
-
-pub index-state-requires : goal.index-state-requires
-index-state-requires g c = omega arith
-
-pub insert-requires-clause-good : goal.insert-requires-clause-good
-insert-requires-clause-good g c = c.loop-k.invariant.good
-
-pub insert-requires-clause-some : goal.insert-requires-clause-some
-insert-requires-clause-some g c = omega arith

@@ -29,29 +29,3 @@ returns-clause-good g c =
           absurd (w.1 f.0 (omega (arith, f.1)) f.2)
       | inr none ↦ omega arith
     ])
-
-pub returns-clause-size : goal.returns-clause-size
-returns-clause-size g c = omega arith
-
-pub index-state-requires : goal.index-state-requires
-index-state-requires g c =
-    let n : length c.loop-k.self.order.items ≡ length c.args.self.now.order.items = ap length
-    c.loop-k.invariant.order in
-    let long = list_long (members c.args.self.now) c.requires in
-    omega arith
-
-pub loop-k-init : goal.loop-k-init
-loop-k-init g c =
-    record { order = refl; same_len = refl; size = refl; left = λ q h. (h, λ j lt. absurd (omega arith)) }
-
-pub returns-clause-empty : goal.returns-clause-empty
-returns-clause-empty g c = (
-  refl,
-  λ q. elim (cases_lt 0 (mark (members c.loop-k.self) q)) [
-    | inl some ↦
-        let w = c.loop-k.invariant.left q some in
-        let f = c.requires.found q w.0 in
-        absurd (w.1 f.0 (omega (arith, f.1)) f.2)
-    | inr none ↦ omega arith
-  ],
-)
