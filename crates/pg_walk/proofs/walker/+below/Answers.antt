@@ -4,7 +4,7 @@ use Rattle.std.specs.Ordering.{nat_cmp}
 use Rattle.std.specs.Cmp.Lexicographic.{slice_cmp}
 use Rattle.std.specs.String.{string_bytes}
 use Rattle.std.proofs.lemmas.List.{length-map, get_or-map, take_all}
-use Rattle.std.proofs.lemmas.Result.{on_ok_weaker}
+use Rattle.std.proofs.lemmas.Result.{on_ok_weaker, IfOk-from_err}
 use Rattle.pg_walk.specs.Answers.{content_of}
 use Rattle.pg_walk.specs.Items.{File, Fault, found}
 use Rattle.pg_walk.specs.Places.{child}
@@ -98,3 +98,33 @@ inside-returns g t c = λ tells.
     let all : take c.loop-name.name-index (map string_bytes names) ≡ map string_bytes names = take_all _ _ (simp length-map (omega arith)) in
     let P : List (List ℕ) → Type 0 = λ xs. Adds (SomeGive a c.args.depth (string_bytes c.args.path) f xs) (map found c.args.items.now.items) (map found c.loop-name.items.items) in
     some_all a c.args.depth (string_bytes c.args.path) f (map string_bytes names) content same _ _ (subst P all (c.loop-name.invariant tells f content))
+
+pub entry-look-requires-text-path : goal.entry-look-requires-text-path
+entry-look-requires-text-path g t c κs within = c.as_str.utf8
+
+pub inside-list-requires-text-path : goal.inside-list-requires-text-path
+inside-list-requires-text-path g t c κs within = c.as_str.utf8
+
+pub inside-from_str-requires-text-s : goal.inside-from_str-requires-text-s
+inside-from_str-requires-text-s g t c κs within = c.as_str-then-listing.utf8
+
+pub inside-returns-in_err-path : goal.inside-returns-in_err-path
+inside-returns-in_err-path g t c = λ _. IfOk-from_err c.from_residual.result _ c.from_residual.ensures.0
+
+pub inside-returns-in_err-add : goal.inside-returns-in_err-add
+inside-returns-in_err-add g t c = λ _. IfOk-from_err c.from_residual-in_err-add.result _ c.from_residual-in_err-add.ensures.0
+
+pub inside-offset_bounds-name-items-name-index : goal.inside-offset_bounds-name-items-name-index
+inside-offset_bounds-name-items-name-index g t c = c.loop-name.auto.name-index-end
+
+pub inside-entry_path-requires-text-directory : goal.inside-entry_path-requires-text-directory
+inside-entry_path-requires-text-directory g t c κs within = c.as_str-in-loop-name.utf8
+
+pub inside-entry_path-requires-text-name : goal.inside-entry_path-requires-text-name
+inside-entry_path-requires-text-name g t c κs within = c.as_str-in-loop-name-2.utf8
+
+pub inside-returns-in_err-below : goal.inside-returns-in_err-below
+inside-returns-in_err-below g t c = λ _. IfOk-from_err c.from_residual-in_err-below.result _ c.from_residual-in_err-below.ensures.0
+
+pub inside-returns-in_err-entry : goal.inside-returns-in_err-entry
+inside-returns-in_err-entry g t c = λ _. IfOk-from_err c.from_residual-in_err-entry.result _ c.from_residual-in_err-entry.ensures.0
