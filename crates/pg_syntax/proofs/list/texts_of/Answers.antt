@@ -1,7 +1,10 @@
-use Rattle.std.proofs.Common.{◌++◌, map, take, sym, ap, ◌∙◌}
+use Rattle.std.proofs.Common.{◌++◌, map, take, sym, ap, ◌∙◌, arith}
+use Rattle.std.proofs.lemmas.List.{take_all}
+use Rattle.std.proofs.lemmas.Result.{IfOk-from_err}
 use Rattle.pg_syntax.specs.Memory.{patterns_of}
 use Rattle.pg_syntax.specs.PatternLists.{patterns, patterns_in}
 use Rattle.pg_syntax.proofs.ListLemmas.{patterns-push, take-push, map-push}
+use Rattle.pg_syntax.specs.Slices.{bytes_of}
 use Rattle.pg_syntax.proofs.list.texts_of.Goals as goal
 
 pub loop-list-preserved : goal.loop-list-preserved
@@ -11,3 +14,17 @@ loop-list-preserved g c =
     let list = c.list-item.result in
     let one_more = ap (λ xs. patterns (map patterns_of xs)) (take-push lists i list c.loop-list-test.true (sym c.list-item.is)) ∙ (ap patterns (map-push patterns_of (take i lists) list) ∙ patterns-push (map patterns_of (take i lists)) (patterns_of list)) in
     c.in_ok-push_texts.ensures ∙ (ap (λ t. t ++ patterns_in (patterns_of list)) c.loop-list.invariant ∙ sym one_more)
+
+pub loop-list-init : goal.loop-list-init
+loop-list-init g c = ap bytes_of c.new-texts.ensures.items
+
+pub offset_bounds-lists-list-index : goal.offset_bounds-lists-list-index
+offset_bounds-lists-list-index g c = c.loop-list.auto.list-index-end
+
+pub returns-in_err-push_texts : goal.returns-in_err-push_texts
+returns-in_err-push_texts g c = IfOk-from_err c.from_residual.result _ c.from_residual.ensures.0
+
+pub returns : goal.returns
+returns g c =
+    c.loop-list.invariant
+    ∙ ap (λ lists. patterns (map patterns_of lists)) (take_all c.loop-list.list-index c.args.lists.now (omega arith))

@@ -8,3 +8,9 @@ returns-clause-spelled g c = c.build.ensures.spelled
 
 pub returns-clause-refused : goal.returns-clause-refused
 returns-clause-refused g c = c.build.ensures.refused
+
+pub build-requires-clause-some : goal.build-requires-clause-some
+build-requires-clause-some g c = c.requires.some
+
+pub build-requires-clause-short : goal.build-requires-clause-short
+build-requires-clause-short g c = c.requires.short
