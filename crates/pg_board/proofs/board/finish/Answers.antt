@@ -1,4 +1,4 @@
-use Rattle.std.proofs.Common.{◌≡◌, ◌≤◌, min, sym, ap, ◌∙◌, arith, subst}
+use Rattle.std.proofs.Common.{◌≡◌, ◌<◌, ◌≤◌, min, sym, ap, ◌∙◌, arith, subst}
 use Rattle.pg_board.specs.declared.draws.BoardSize.{BoardSize}
 use Rattle.pg_board.specs.Counts.{once_below}
 use Rattle.pg_board.proofs.BoardLemmas.{Ends, ends}
@@ -22,3 +22,7 @@ returns-then-found-from-clause-spent g c = λ some_spent. let k : c.args.size.li
 
 pub returns-else-found-from-clause-drawn : goal.returns-else-found-from-clause-drawn
 returns-else-found-from-clause-drawn g c = let m : min c.word-found.result c.args.size.limit ≡ c.args.size.limit = omega arith in λ x. (ends_high g c).0 x ∙ ap (once_below x) m
+
+pub returns-then-found-from-clause-limit : goal.returns-then-found-from-clause-limit
+returns-then-found-from-clause-limit g c =
+    let below : c.word-found.result < c.args.size.limit = rw c.from.ensures at c.if-found-from.true in omega arith

@@ -1,4 +1,4 @@
-use Rattle.std.proofs.Common.{◌≡◌, List, All, [], ◌∷◌, ◌++◌, map, append_assoc, ap, ◌∙◌, sym, subst}
+use Rattle.std.proofs.Common.{◌≡◌, List, All, [], ◌∷◌, ◌++◌, map, append_assoc, append-nil, refl, ap, ◌∙◌, sym, subst}
 use Rattle.std.proofs.lemmas.List.{map-append}
 use Rattle.crossbeam_queue.specs.SegTies.{SegId, IsSegPassOf}
 use Rattle.pg_board.specs.declared.puts.PassView.{PassView}
@@ -39,4 +39,17 @@ loop-pass-preserved g c =
       all = all_front IsOf rest pass (subst (λ (l : List (PutView T A)). All IsOf l) e i.all);
       lists = ap (λ (l : List (List T)). map put rest ++ l) lists ∙ sym (append_assoc (map put rest) (pass.put ∷ []) (lists_of was)) ∙ ap (λ (l : List (List T)). l ++ lists_of was) (sym (map-append put rest (pass ∷ [])))
           ∙ ap (λ (l : List (PutView T A)). map put l ++ lists_of was) (sym e) ∙ i.lists;
+    }
+
+pub loop-pass-init : goal.loop-pass-init
+loop-pass-init g c =
+    let put : PutView g.row.T.Denot g.row.A.Denot → List g.row.T.Denot = λ p. p.put in
+    let all : List (PutView g.row.T.Denot g.row.A.Denot) = c.args.passes.items in
+    record {
+      ticket = c.requires.ticket.0;
+      takers = c.requires.ticket.1;
+      made = refl;
+      taken = refl;
+      all = c.requires.all;
+      lists = ap (λ (ps : List (Puts g.row.T.Denot)). map put all ++ lists_of ps) c.requires.ticket.2 ∙ append-nil (map put all);
     }

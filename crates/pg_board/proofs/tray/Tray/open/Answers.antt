@@ -1,4 +1,5 @@
 use Rattle.std.proofs.Common.{◌≡◌, ℕ, ◌+◌, List, [], ◌∷◌, ◌++◌, replicate, vec_len, ap, ◌∙◌, sym, arith}
+use Rattle.std.proofs.lemmas.Result.{IfOk-from_err}
 use Rattle.crossbeam_queue.specs.SegTies.{SegId}
 use Rattle.pg_board.specs.declared.puts.PassView.{PassView}
 use Rattle.pg_board.specs.Tray.{PutView, put_view}
@@ -30,3 +31,29 @@ loop-number-preserved g c =
       room = (let k = i.room in let l = pushed.capacity in omega arith);
       items = pushed.items ∙ ap (λ (v : PutView T A). c.loop-number.passes.items ++ v ∷ []) same ∙ ap (λ (l : List (PutView T A)). l ++ fresh ∷ []) i.items ∙ copies_more n fresh ∙ ap (λ (k : ℕ). replicate k fresh) (sym pushed.len);
     }
+
+pub returns-in_err-passes-clause-passes : goal.returns-in_err-passes-clause-passes
+returns-in_err-passes-clause-passes g c = IfOk-from_err c.from_residual.result _ c.from_residual.ensures.0
+
+pub returns-in_err-passes-clause-take : goal.returns-in_err-passes-clause-take
+returns-in_err-passes-clause-take g c = IfOk-from_err c.from_residual.result _ c.from_residual.ensures.0
+
+pub returns-in_err-queue-clause-passes : goal.returns-in_err-queue-clause-passes
+returns-in_err-queue-clause-passes g c = IfOk-from_err c.from_residual-in_err-queue.result _ c.from_residual-in_err-queue.ensures.0
+
+pub returns-in_err-queue-clause-take : goal.returns-in_err-queue-clause-take
+returns-in_err-queue-clause-take g c = IfOk-from_err c.from_residual-in_err-queue.result _ c.from_residual-in_err-queue.ensures.0
+
+pub another-new-requires-clause-queue : goal.another-new-requires-clause-queue
+another-new-requires-clause-queue g c = c.loop-number.invariant.ticket
+
+pub invariant_of-result : goal.invariant_of-result
+invariant_of-result g c =
+    let i = c.loop-number.invariant in (i.ticket.1, i.ticket.2, i.takers, i.passes)
+
+pub returns-clause-passes : goal.returns-clause-passes
+returns-clause-passes g c =
+    let i = c.loop-number.invariant in
+    let all : vec_len c.loop-number.passes ≡ c.args.workers = (let k = i.count in omega arith) in
+    let fresh : PutView g.row.T.Denot g.row.A.Denot = put_view c.in_ok-queue.queue [] in
+    i.items ∙ ap (λ (k : ℕ). replicate k fresh) all
