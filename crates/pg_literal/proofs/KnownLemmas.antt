@@ -121,6 +121,15 @@ pub alt_unspelled : (fold : Bool) (p q : Pattern) (text : List ℕ) → Spells F
 unfolding Shape
 alt_unspelled fold p q text spells = shape spells
 
+-- nor an anchor
+pub begin_unspelled : (fold : Bool) (text : List ℕ) → Spells Fixed fold text Begin → ⊥
+unfolding Shape
+begin_unspelled fold text spells = shape spells
+
+pub end_unspelled : (fold : Bool) (text : List ℕ) → Spells Fixed fold text End → ⊥
+unfolding Shape
+end_unspelled fold text spells = shape spells
+
 module _ {A : Type 0} (fold : Bool) where
   -- the empty pattern
   pub extends_empty : (rest : Known A) → Extends fold Empty rest rest

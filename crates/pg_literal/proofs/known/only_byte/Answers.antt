@@ -22,3 +22,6 @@ returns-else-contains-as_searched c =
     let all = below_more _ _ c.loop-other.invariant here in
     alone_found fold set c.in_ok-first_byte.field-0 byte c.in_ok-first_byte.ensures c.as_searched-byte.ensures
     (omega arith) (λ k less. all k (omega arith))
+
+pub returns-in_err-first_byte : goal.returns-in_err-first_byte
+returns-in_err-first_byte c = rw c.from_residual.ensures (λ b alone. c.in_err-first_byte.ensures b alone.0)

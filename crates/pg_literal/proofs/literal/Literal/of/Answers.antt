@@ -1,4 +1,5 @@
 use Rattle.std.proofs.Common.{◌<◌, ℕ, List, [], length, get_or, map, subst, arith, rules}
+use Rattle.std.proofs.lemmas.Result.{IfOk-from_err}
 use Rattle.std.proofs.lemmas.List.{length-map, take_all}
 use Rattle.pg_syntax.specs.Trees.{pattern}
 use Rattle.pg_literal.specs.Literals.{as_searched, AreTexts}
@@ -58,3 +59,21 @@ returns-clause-fixed g c = λ texts spelled few any.
     let size = zip_length _ texts (map pattern trees) spelled in
     subst P (take_all c.loop-tree.tree-index texts
     (omega (arith, size, length-map trees (pattern {A = g.row.A.Denot})))) are
+
+pub returns-in_err-found-clause-few : goal.returns-in_err-found-clause-few
+returns-in_err-found-clause-few g c = IfOk-from_err c.from_residual.result _ c.from_residual.ensures.0
+
+pub returns-in_err-found-clause-needed : goal.returns-in_err-found-clause-needed
+returns-in_err-found-clause-needed g c = IfOk-from_err c.from_residual.result _ c.from_residual.ensures.0
+
+pub returns-in_err-found-clause-enough : goal.returns-in_err-found-clause-enough
+returns-in_err-found-clause-enough g c = IfOk-from_err c.from_residual.result _ c.from_residual.ensures.0
+
+pub returns-in_err-found-clause-fixed : goal.returns-in_err-found-clause-fixed
+returns-in_err-found-clause-fixed g c = IfOk-from_err c.from_residual.result _ c.from_residual.ensures.0
+
+pub push_literals-requires : goal.push_literals-requires
+push_literals-requires g c = record { few = c.loop-tree.invariant.few }
+
+pub returns-clause-few : goal.returns-clause-few
+returns-clause-few g c = c.loop-tree.invariant.few
