@@ -1,8 +1,10 @@
 -- A buffer, some of whose bytes count.
-use Rattle.std.proofs.Common.{◌≡◌, ℕ, ◌+◌, ◌-◌, ◌≤◌, Bool, true, false, cond, List, Vec, [], ◌++◌, length, take, drop}
-use Rattle.std.proofs.Common.{sym, ap, ◌∙◌, arith, length-append, length-drop}
+use Rattle.std.proofs.Common.{◌≡◌, ℕ, ◌+◌, ◌-◌, ◌<◌, ◌≤◌, Bool, true, false, cond, List, Vec, [], ◌++◌, length, take, drop}
+use Rattle.std.proofs.Common.{sym, ap, ◌∙◌, arith, append_assoc, length-append, length-drop, Result, Ok, Err, is_ok}
 use Rattle.std.proofs.lemmas.List.{take-append-le, length-take-le, append-nil, nil_from_length, take_all}
-use Rattle.std.proofs.Math.Seq.{take-length, drop-append_seam}
+use Rattle.std.proofs.lemmas.List.{take-take, length-take}
+use Rattle.std.specs.Prelude.{IfOk, OnOk}
+use Rattle.std.proofs.Math.Seq.{take-length, take-append_seam, drop-append_seam}
 use Rattle.std.specs.Vec.{with_items_from}
 
 -- as many as there were behind the place are all that stands there
@@ -46,3 +48,35 @@ piece_is f n xs ys e =
 -- of nothing there is one beginning
 pub none_held : (n : ℕ) (xs ys : List ℕ) → n ≡ 0 → take n xs ≡ take n ys
 none_held n xs ys e = ap (λ k. take k xs) e ∙ ap (λ k. take k ys) (sym e)
+
+-- what is written over the front of a buffer stands there
+pub front_written : {A : Type 0} (v : Vec ℕ A) (xs ws : List ℕ) → ws ≡ xs → length xs ≤ v.len
+    → take (length xs) (take v.len ((ws ++ drop (length ws) v.items)
+    ++ drop (length (ws ++ drop (length ws) v.items)) v.items)) ≡ xs
+front_written v xs ws e h =
+    let all = ws ++ drop (length ws) v.items in
+    let n : length xs ≡ length ws = sym (ap length e) in
+    let behind = drop (length ws) v.items ++ drop (length all) v.items in
+    take-take (length xs) v.len (all ++ drop (length all) v.items) h
+    ∙ (ap (take (length xs)) (append_assoc ws (drop (length ws) v.items) (drop (length all) v.items))
+    ∙ (ap (λ k. take k (ws ++ behind)) n ∙ (take-append_seam ws behind ∙ e)))
+
+pub long_enough : (xs ys : List ℕ) → take (length ys) xs ≡ ys → length ys ≤ length xs
+long_enough xs ys e = omega (arith, ap length e, length-take (length ys) xs)
+
+-- room behind a block, where the buffer grew
+pub room_made : {T E : Type 0} (r : Result T E) (filled m n len : ℕ) (xs : List ℕ) → n ≡ length xs → filled < m
+    → n ≡ cond (is_ok r) m len → OnOk r (0 < length (drop filled xs))
+room_made (Ok x) filled m n len xs long h e = omega (arith, length-drop filled xs)
+room_made (Err x) filled m n len xs long h e = tt
+
+-- a copy begins with what was copied
+pub all_begins : {A E : Type 0} (r : Result (Vec ℕ A) E) (xs : List ℕ) → IfOk r (λ v. v.items ≡ xs)
+    → IfOk r (λ v. take (length xs) v.items ≡ xs)
+all_begins (Ok v) xs e = ap (take (length xs)) e ∙ take-length xs
+all_begins (Err e) xs h = tt
+
+pub all_within : {A E : Type 0} (r : Result (Vec ℕ A) E) (xs : List ℕ) → IfOk r (λ v. v.items ≡ xs)
+    → IfOk r (λ v. length xs ≤ length v.items)
+all_within (Ok v) xs e = omega (arith, ap length e)
+all_within (Err e) xs h = tt

@@ -5,7 +5,7 @@ use Rattle.std.proofs.Common.{Decides}
 use Rattle.std.specs.Option.{IfSome, option_to_list}
 use Rattle.std.proofs.lemmas.Bool.{false≢true, cases_Bool}
 use Rattle.std.proofs.lemmas.List.{append-nil, take-append-drop, drop-drop}
-use Rattle.pg_lines.specs.Blocks.{BlockData, joined, IsFinished, IsUnfinished, AreNumbered, Cuts}
+use Rattle.pg_lines.specs.Blocks.{BlockData, joined, IsFinished, IsUnfinished, IsCut, AreNumbered, Cuts}
 use Rattle.pg_lines.specs.Long.{has_long, open_from, CutsOff}
 use Rattle.pg_lines.specs.Cutter.{Fed, Stands, IsDrained, fed, handed, IsNextBlock, AreAllBlocks, HasLongLine, held}
 use Rattle.pg_lines.specs.declared.cutter.Cutter.{Cutter}
@@ -46,6 +46,16 @@ finished_some cutter past s d ne =
       numbered = numbered_more past.file 0 past.taken b h.1 (sym s.file) n;
       cut = inr (record { front = past.taken; last = b; joins = refl; cuts = h.0; some = ne });
     }
+
+pub finished_none : {A : Type 0} (cutter : Cutter A) (past : Fed) → Stands cutter past → IsDrained cutter
+    → held cutter ≡ [] → AreAllBlocks (handed past None)
+finished_none cutter past s d none =
+    let h = drained cutter past s d in
+    let all = sym (append-nil past.taken) in
+    let C : List ℕ → Type 0 = λ xs. Cuts past.end past.size past.bytes past.taken xs in
+    let N : List BlockData → Type 0 = λ bs. AreNumbered past.file 0 bs in
+    let I : List BlockData → Type 0 = λ bs. IsCut past.end past.size past.bytes bs in
+    record { numbered = subst N all h.1; cut = subst I all (inl (subst C none h.0)) }
 
 pub next_if_some : {A : Type 0} (cutter : Cutter A) (r : Option BlockData) (rest : List BlockData)
     → cutter.ready.items ≡ option_to_list r ++ rest

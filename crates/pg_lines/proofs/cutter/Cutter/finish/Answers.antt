@@ -1,9 +1,16 @@
 use Rattle.std.proofs.Common.{◌≡◌, ◌≢◌, ℕ, List, [], Some, length, ap, sym, ◌∙◌, subst}
-use Rattle.std.proofs.lemmas.Bool.{eqb-false}
+use Rattle.std.proofs.lemmas.Bool.{eqb-true, eqb-false}
+use Rattle.std.proofs.lemmas.List.{nil_from_length}
 use Rattle.pg_lines.specs.Blocks.{BlockData}
 use Rattle.pg_lines.specs.Cutter.{handed, held, AreAllBlocks}
-use Rattle.pg_lines.proofs.CutterLemmas.{finished_some}
+use Rattle.pg_lines.proofs.CutterLemmas.{finished_some, finished_none}
 use Rattle.pg_lines.proofs.cutter.Cutter.finish.Goals as goal
+
+pub returns-then-is_empty : goal.returns-then-is_empty
+returns-then-is_empty g c = λ past s.
+    let rest = c.truncate.new.self in
+    let none : length rest.items ≡ 0 = sym rest.ok.0 ∙ eqb-true rest.len 0 (cc) in
+    finished_none c.args.self past s c.requires (sym c.truncate.ensures.items ∙ nil_from_length rest.items none)
 
 pub returns : goal.returns
 returns g c = λ past s.

@@ -1,6 +1,6 @@
-use Rattle.std.proofs.Common.{◌≤◌, ℕ, List, length, sym, subst, arith, refl, is_ok}
+use Rattle.std.proofs.Common.{◌≤◌, ℕ, List, length, sym, subst, arith, refl, is_ok, length-drop}
 use Rattle.pg_lines.specs.Blocks.{IsUnfinished}
-use Rattle.pg_lines.proofs.BufferLemmas.{front_grown, length_grown}
+use Rattle.pg_lines.proofs.BufferLemmas.{front_grown, length_grown, room_made}
 use Rattle.pg_lines.proofs.RoomLemmas.{held_stays}
 use Rattle.pg_lines.proofs.cutter.Cutter.make_room.Goals as goal
 
@@ -36,3 +36,17 @@ returns-clause-keeps g c =
       stands = λ past s. held_stays self _ past (kept.stands past s) refl refl refl refl refl refl refl refl same;
       drained = λ d. kept.drained d;
     }
+
+pub returns-then-len-clause-some : goal.returns-then-len-clause-some
+returns-then-len-clause-some g c =
+    let self = c.take_spare.new.self in
+    omega (arith, length-drop self.filled self.rest.items, self.rest.ok.0, c.buffer_len-len.ensures, c.if-len.true, c.len-2.ensures)
+
+pub returns-clause-some : goal.returns-clause-some
+returns-clause-some g c =
+    let new = c.resize.new.self in
+    room_made c.resize.result c.take_spare.new.self.filled c.buffer_len-len.result new.len _ new.items new.ok.0 c.buffer_len-len.ensures
+    c.resize.ensures.len
+
+pub returns-then-len-clause-keeps : goal.returns-then-len-clause-keeps
+returns-then-len-clause-keeps g c = c.take_spare.ensures

@@ -1,0 +1,26 @@
+use Rattle.std.proofs.Common.{List, [], arith, rules, refl, sym, subst, ap, length}
+use Rattle.pg_lines.specs.Blocks.{BlockData, Cuts, AreNumbered}
+use Rattle.pg_lines.proofs.cutter.Cutter.new.Goals as goal
+
+pub returns-clause-stands : goal.returns-clause-stands
+returns-clause-stands g c =
+    let none = sym c.new.ensures.items in
+    let C : List BlockData → Type 0 = λ bs. Cuts c.args.end c.args.size [] bs [] in
+    let N : List BlockData → Type 0 = λ bs. AreNumbered c.args.file 0 bs in
+    record {
+      terminator = refl;
+      file = refl;
+      size = refl;
+      longest = refl;
+      cut =
+          subst C none
+          (record { whole = refl; finished = tt; unfinished = λ n low high _. absurd (omega (arith, c.requires.size)) });
+      numbered = subst N none tt;
+      next = ap length none;
+      total = refl;
+      short = search rules;
+      line = refl;
+    }
+
+pub returns-clause-drained : goal.returns-clause-drained
+returns-clause-drained g c = c.new.ensures.items

@@ -1,0 +1,31 @@
+use Rattle.pg_lines.proofs.search.selected_runs.Goals as goal
+
+pub runs_between_hits-requires-clause-compiled : goal.runs_between_hits-requires-clause-compiled
+runs_between_hits-requires-clause-compiled g c = c.requires.compiled
+
+pub runs_between_hits-requires-clause-inverted : goal.runs_between_hits-requires-clause-inverted
+runs_between_hits-requires-clause-inverted g c = cc
+
+pub runs_between_hits-requires-clause-needles : goal.runs_between_hits-requires-clause-needles
+runs_between_hits-requires-clause-needles g c = c.requires.needles
+
+pub runs_between_hits-requires-clause-fits : goal.runs_between_hits-requires-clause-fits
+runs_between_hits-requires-clause-fits g c = c.requires.fits
+
+pub runs_between_hits-requires-clause-short : goal.runs_between_hits-requires-clause-short
+runs_between_hits-requires-clause-short g c = c.requires.short
+
+pub runs_of_hits-requires-clause-compiled : goal.runs_of_hits-requires-clause-compiled
+runs_of_hits-requires-clause-compiled g c = c.requires.compiled
+
+pub runs_of_hits-requires-clause-upright : goal.runs_of_hits-requires-clause-upright
+runs_of_hits-requires-clause-upright g c = cc
+
+pub runs_of_hits-requires-clause-needles : goal.runs_of_hits-requires-clause-needles
+runs_of_hits-requires-clause-needles g c = c.requires.needles
+
+pub runs_of_hits-requires-clause-fits : goal.runs_of_hits-requires-clause-fits
+runs_of_hits-requires-clause-fits g c = c.requires.fits
+
+pub runs_of_hits-requires-clause-short : goal.runs_of_hits-requires-clause-short
+runs_of_hits-requires-clause-short g c = c.requires.short
