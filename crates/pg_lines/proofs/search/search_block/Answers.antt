@@ -1,0 +1,42 @@
+use Rattle.std.proofs.Common.{◌∙◌, List, ℕ, length, ap, subst}
+use Rattle.std.specs.Arc.{arc_value}
+use Rattle.pg_lines.specs.Blocks.{BlockData}
+use Rattle.pg_lines.specs.Queries.{Compiled}
+use Rattle.pg_lines.specs.Search.{SearchText, terminator_of}
+use Rattle.pg_lines.specs.Lines.{lines}
+use Rattle.pg_lines.specs.Runs.{HasRuns}
+use Rattle.pg_lines.specs.BlockParts.{HasParts}
+use Rattle.pg_lines.specs.Searched.{Searched}
+use Rattle.pg_lines.proofs.search.search_block.Goals as goal
+
+pub new-requires-clause-runs : goal.new-requires-clause-runs
+new-requires-clause-runs g c =
+    let text = ap (λ (q : Compiled). q.text) c.deref-searched.ensures in
+    let bytes = c.as_slice.ensures.value ∙ ap (λ (b : BlockData). b.bytes) (c.lines.view_is ∙ c.deref-lines.ensures) in
+    let runs = c.in_ok-found.found.runs.items in
+    let P : SearchText → Type 0 = λ t. HasRuns t c.as_slice.result.now runs in
+    let Q : List ℕ → Type 0 = λ xs. HasRuns (arc_value c.in_ok-query.query).text xs runs in
+    subst Q bytes (subst P text c.in_ok-found.ensures.runs)
+
+pub new-requires-clause-parts : goal.new-requires-clause-parts
+new-requires-clause-parts g c =
+    let text = ap (λ (q : Compiled). q.text) c.deref-searched.ensures in
+    let bytes = c.as_slice.ensures.value ∙ ap (λ (b : BlockData). b.bytes) (c.lines.view_is ∙ c.deref-lines.ensures) in
+    let parts = c.in_ok-found.found.parts.items in
+    let P : SearchText → Type 0 = λ t. HasParts t c.as_slice.result.now parts in
+    let Q : List ℕ → Type 0 = λ xs. HasParts (arc_value c.in_ok-query.query).text xs parts in
+    subst Q bytes (subst P text c.in_ok-found.ensures.parts)
+
+pub new-requires-clause-lines : goal.new-requires-clause-lines
+new-requires-clause-lines g c =
+    let text = ap (λ (q : Compiled). q.text) c.deref-searched.ensures in
+    let bytes = c.as_slice.ensures.value ∙ ap (λ (b : BlockData). b.bytes) (c.lines.view_is ∙ c.deref-lines.ensures) in
+    let count = λ (t : SearchText) (xs : List ℕ). length (lines (terminator_of t) xs) in
+    c.in_ok-found.ensures.lines ∙ (ap (λ t. count t c.as_slice.result.now) text
+    ∙ ap (count (arc_value c.in_ok-query.query).text) bytes)
+
+pub returns-clause-found : goal.returns-clause-found
+returns-clause-found g c =
+    let block = arc_value c.args.block in
+    let with : Compiled → Searched = λ q. record { query = q.text; block = block } in
+    c.new.ensures ∙ ap with c.in_ok-query.ensures
