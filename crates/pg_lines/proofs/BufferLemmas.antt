@@ -1,5 +1,6 @@
 -- A buffer, some of whose bytes count.
-use Rattle.std.proofs.Common.{◌≡◌, ℕ, ◌+◌, ◌-◌, ◌<◌, ◌≤◌, Bool, true, false, cond, List, Vec, [], ◌++◌, length, take, drop}
+use Rattle.std.proofs.Common.{◌≡◌, ℕ, ◌+◌, ◌-◌, ◌<◌, ◌≤◌, Bool, true, false, cond, List, Vec, [], ◌++◌, length, take}
+use Rattle.std.proofs.Common.{drop}
 use Rattle.std.proofs.Common.{sym, ap, ◌∙◌, arith, append_assoc, length-append, length-drop, Result, Ok, Err, is_ok}
 use Rattle.std.proofs.lemmas.List.{take-append-le, length-take-le, append-nil, nil_from_length, take_all}
 use Rattle.std.proofs.lemmas.List.{take-take, length-take}

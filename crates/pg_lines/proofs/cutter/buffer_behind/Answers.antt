@@ -13,8 +13,9 @@ returns-then-len-bytes-clause-begins g c =
 pub returns-clause-begins : goal.returns-clause-begins
 returns-clause-begins g c =
     let v = c.replace-buffer.result in
+    let len = ap (λ (b : Vec ℕ g.row.A.Denot). b.len) c.replace-buffer.ensures.value in
     front_written v c.args.bytes.now c.copy_from_slice.new.self c.copy_from_slice.ensures.after
-    (omega (arith, c.if-len-bytes.false, c.len.ensures, ap (λ (b : Vec ℕ g.row.A.Denot). b.len) c.replace-buffer.ensures.value))
+    (omega (arith, c.if-len-bytes.false, c.len.ensures, len))
 
 pub returns-clause-within : goal.returns-clause-within
 returns-clause-within g c = long_enough _ c.args.bytes.now (returns-clause-begins g c)

@@ -1,3 +1,4 @@
+use Rattle.std.proofs.lemmas.Result.{IfOk-from_err}
 use Rattle.std.proofs.Common.{◌≡◌, ◌∙◌, ◌+◌, ◌-◌, ◌++◌, ◌∷◌, [], sym, ap, arith, refl, List, ℕ, take, drop, length}
 use Rattle.std.proofs.Common.{length-drop, subst}
 use Rattle.std.proofs.lemmas.List.{take_rest, length_push}
@@ -47,3 +48,31 @@ returns-clause-cut g c =
       finished = c.loop-len.invariant.finished;
       unfinished = subst P (take_rest c.args.bytes.now c.loop-len.at) c.in_default.ensures.none;
     }
+
+pub returns-in_err-block-clause-within : goal.returns-in_err-block-clause-within
+returns-in_err-block-clause-within g c = IfOk-from_err c.from_residual.result _ c.from_residual.ensures.0
+
+pub returns-in_err-block-clause-few : goal.returns-in_err-block-clause-few
+returns-in_err-block-clause-few g c = IfOk-from_err c.from_residual.result _ c.from_residual.ensures.0
+
+pub returns-in_err-block-clause-cut : goal.returns-in_err-block-clause-cut
+returns-in_err-block-clause-cut g c = IfOk-from_err c.from_residual.result _ c.from_residual.ensures.0
+
+pub returns-in_err-block-clause-numbered : goal.returns-in_err-block-clause-numbered
+returns-in_err-block-clause-numbered g c = IfOk-from_err c.from_residual.result _ c.from_residual.ensures.0
+
+pub returns-in_err-push_back-clause-within : goal.returns-in_err-push_back-clause-within
+returns-in_err-push_back-clause-within g c =
+    IfOk-from_err c.from_residual-in_err-push_back.result _ c.from_residual-in_err-push_back.ensures.0
+
+pub returns-in_err-push_back-clause-few : goal.returns-in_err-push_back-clause-few
+returns-in_err-push_back-clause-few g c =
+    IfOk-from_err c.from_residual-in_err-push_back.result _ c.from_residual-in_err-push_back.ensures.0
+
+pub returns-in_err-push_back-clause-cut : goal.returns-in_err-push_back-clause-cut
+returns-in_err-push_back-clause-cut g c =
+    IfOk-from_err c.from_residual-in_err-push_back.result _ c.from_residual-in_err-push_back.ensures.0
+
+pub returns-in_err-push_back-clause-numbered : goal.returns-in_err-push_back-clause-numbered
+returns-in_err-push_back-clause-numbered g c =
+    IfOk-from_err c.from_residual-in_err-push_back.result _ c.from_residual-in_err-push_back.ensures.0

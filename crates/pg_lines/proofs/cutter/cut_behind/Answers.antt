@@ -20,3 +20,21 @@ returns-in_ok-extend_from_slice-in-None-clause-ok g c =
     subst Q (sym c.in_ok-extend_from_slice-in-None.ensures.items)
     (cuts_none k.end k.size k.file c.args.number rest piece ready
     (subst P c.as_slice.ensures.value c.in-None.ensures.none))
+
+pub first_cut-requires-clause-size : goal.first_cut-requires-clause-size
+first_cut-requires-clause-size g c = c.requires.size.0
+
+pub cut_off-requires-clause-size : goal.cut_off-requires-clause-size
+cut_off-requires-clause-size g c = c.requires.size
+
+pub cut_off-requires-clause-number : goal.cut_off-requires-clause-number
+cut_off-requires-clause-number g c = c.requires.number
+
+pub returns-in-Some-clause-ok : goal.returns-in-Some-clause-ok
+returns-in-Some-clause-ok g c = c.cut_off.ensures.ok
+
+pub returns-in-Some-clause-few : goal.returns-in-Some-clause-few
+returns-in-Some-clause-few g c = c.cut_off.ensures.few
+
+pub returns-in-Some-clause-err : goal.returns-in-Some-clause-err
+returns-in-Some-clause-err g c = c.cut_off.ensures.err

@@ -1,4 +1,7 @@
+use Rattle.pg_lines.proofs.RoomLemmas.{on_err}
+use Rattle.std.proofs.lemmas.Result.{IfOk-from_err}
 use Rattle.std.proofs.Common.{◌≡◌, ◌+◌, ◌++◌, ◌∷◌, [], ℕ, List, Vec, is_ok, cond, length, drop, sym, ap, ◌∙◌, subst}
+use Rattle.std.proofs.Common.{refl}
 use Rattle.std.proofs.lemmas.List.{take_rest}
 use Rattle.pg_lines.specs.Blocks.{BlockData, Cuts}
 use Rattle.pg_lines.specs.Long.{CutsOff}
@@ -34,3 +37,45 @@ returns-clause-ok g c =
     subst N (sym count)
     (cuts_first k.end k.size k.file number c.args.len at rest piece b.bytes rest' blocks ready ready'
     c.requires.finished cuts c.in_ok-blocks.ensures.numbered first left appended)
+
+pub returns-in_err-blocks-clause-ok : goal.returns-in_err-blocks-clause-ok
+returns-in_err-blocks-clause-ok g c = IfOk-from_err c.from_residual.result _ c.from_residual.ensures.0
+
+pub returns-in_err-blocks-clause-few : goal.returns-in_err-blocks-clause-few
+returns-in_err-blocks-clause-few g c = IfOk-from_err c.from_residual.result _ c.from_residual.ensures.0
+
+pub returns-in_err-left-clause-ok : goal.returns-in_err-left-clause-ok
+returns-in_err-left-clause-ok g c =
+    IfOk-from_err c.from_residual-in_err-left.result _ c.from_residual-in_err-left.ensures.0
+
+pub returns-in_err-left-clause-few : goal.returns-in_err-left-clause-few
+returns-in_err-left-clause-few g c =
+    IfOk-from_err c.from_residual-in_err-left.result _ c.from_residual-in_err-left.ensures.0
+
+pub returns-in_err-reserve-clause-ok : goal.returns-in_err-reserve-clause-ok
+returns-in_err-reserve-clause-ok g c =
+    IfOk-from_err c.from_residual-in_err-reserve.result _ c.from_residual-in_err-reserve.ensures.0
+
+pub returns-in_err-reserve-clause-few : goal.returns-in_err-reserve-clause-few
+returns-in_err-reserve-clause-few g c =
+    IfOk-from_err c.from_residual-in_err-reserve.result _ c.from_residual-in_err-reserve.ensures.0
+
+pub returns-in_err-extend_from_slice-clause-ok : goal.returns-in_err-extend_from_slice-clause-ok
+returns-in_err-extend_from_slice-clause-ok g c =
+    IfOk-from_err c.from_residual-in_err-extend_from_slice.result _ c.from_residual-in_err-extend_from_slice.ensures.0
+
+pub returns-in_err-extend_from_slice-clause-few : goal.returns-in_err-extend_from_slice-clause-few
+returns-in_err-extend_from_slice-clause-few g c =
+    IfOk-from_err c.from_residual-in_err-extend_from_slice.result _ c.from_residual-in_err-extend_from_slice.ensures.0
+
+pub cut_all-requires-clause-size : goal.cut_all-requires-clause-size
+cut_all-requires-clause-size g c = c.requires.size.0
+
+pub block_room-requires : goal.block_room-requires
+block_room-requires g c = c.requires.size.1
+
+pub returns-in_err-blocks-clause-err : goal.returns-in_err-blocks-clause-err
+returns-in_err-blocks-clause-err g c = on_err _ c.from_residual.result (refl, refl)
+
+pub returns-in_err-left-clause-err : goal.returns-in_err-left-clause-err
+returns-in_err-left-clause-err g c = on_err _ c.from_residual-in_err-left.result (refl, refl)

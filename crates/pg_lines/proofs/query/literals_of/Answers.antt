@@ -1,3 +1,4 @@
+use Rattle.std.proofs.lemmas.Result.{IfOk-from_err}
 use Rattle.std.proofs.Common.{◌≡◌, ◌<◌, List, length, map, ap, subst, rules}
 use Rattle.std.specs.List.{All}
 use Rattle.pg_syntax.specs.Trees.{pattern}
@@ -24,3 +25,6 @@ returns-then-are_within_lines g c =
     let alone = subst Alone c.deref.ensures.value (subst (λ e. All (λ l. IsLine e l.text.items) c.deref.result.now)
     c.terminator.ensures none) in
     literals_are text trees c.requires.trees literals alone says.0 says.1
+
+pub returns-in_err-literals : goal.returns-in_err-literals
+returns-in_err-literals g c = IfOk-from_err c.from_residual.result _ c.from_residual.ensures.0

@@ -1,4 +1,6 @@
-use Rattle.std.proofs.Common.{◌≡◌, ℕ, ◌+◌, Bool, true, false, List, length, slice_range, cond, ap, sym, ◌∙◌, subst, arith, refl}
+use Rattle.std.proofs.lemmas.Result.{IfOk-from_err}
+use Rattle.std.proofs.Common.{◌≡◌, ℕ, ◌+◌, Bool, true, false, List, length, slice_range, cond, ap, sym, ◌∙◌, subst}
+use Rattle.std.proofs.Common.{arith, refl}
 use Rattle.pg_lines.specs.Lines.{lines}
 use Rattle.pg_lines.specs.Search.{search_of, uninverted, terminator_of}
 use Rattle.pg_lines.specs.Runs.{AreRuns}
@@ -83,3 +85,24 @@ returns-clause-lines g c =
     (c.loop-line.invariant.passed own.0 own.1) last between.span.0 between.span.1 between.first
     (counted bytes at (length bytes) last.count c.terminator-end.result (terminator_of text) c.terminator-end.ensures
     between.count))
+
+pub returns-in_err-push_run-clause-runs : goal.returns-in_err-push_run-clause-runs
+returns-in_err-push_run-clause-runs g c = IfOk-from_err c.from_residual.result _ c.from_residual.ensures.0
+
+pub returns-in_err-push_run-clause-parts : goal.returns-in_err-push_run-clause-parts
+returns-in_err-push_run-clause-parts g c = IfOk-from_err c.from_residual.result _ c.from_residual.ensures.0
+
+pub returns-in_err-push_run-clause-lines : goal.returns-in_err-push_run-clause-lines
+returns-in_err-push_run-clause-lines g c = IfOk-from_err c.from_residual.result _ c.from_residual.ensures.0
+
+pub returns-in_err-push_run-2-clause-runs : goal.returns-in_err-push_run-2-clause-runs
+returns-in_err-push_run-2-clause-runs g c =
+    IfOk-from_err c.from_residual-in_err-push_run-2.result _ c.from_residual-in_err-push_run-2.ensures.0
+
+pub returns-in_err-push_run-2-clause-parts : goal.returns-in_err-push_run-2-clause-parts
+returns-in_err-push_run-2-clause-parts g c =
+    IfOk-from_err c.from_residual-in_err-push_run-2.result _ c.from_residual-in_err-push_run-2.ensures.0
+
+pub returns-in_err-push_run-2-clause-lines : goal.returns-in_err-push_run-2-clause-lines
+returns-in_err-push_run-2-clause-lines g c =
+    IfOk-from_err c.from_residual-in_err-push_run-2.result _ c.from_residual-in_err-push_run-2.ensures.0

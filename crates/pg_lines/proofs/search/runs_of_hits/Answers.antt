@@ -1,4 +1,6 @@
-use Rattle.std.proofs.Common.{◌≡◌, ◌+◌, ◌-◌, ℕ, Bool, false, List, ◌++◌, [], cond, length, drop, map, sym, ap, ◌∙◌, subst, arith}
+use Rattle.std.proofs.lemmas.Result.{IfOk-from_err}
+use Rattle.std.proofs.Common.{◌≡◌, ◌+◌, ◌-◌, ℕ, Bool, false, List, ◌++◌, [], cond, length, drop, map, sym, ap, ◌∙◌}
+use Rattle.std.proofs.Common.{subst, arith}
 use Rattle.std.proofs.Common.{refl}
 use Rattle.std.proofs.lemmas.List.{take_rest}
 use Rattle.pg_lines.specs.Lines.{lines, AreShort}
@@ -140,3 +142,36 @@ returns-clause-lines g c =
     ∙ (ap (λ xs. length (lines c.terminator-end.result xs)) (take_rest bytes run.span.end)
     ∙ ap (λ t. length (lines t (drop run.span.end bytes))) c.terminator-end.ensures) in
     omega (arith, all, rest)
+
+pub returns-in_err-run-clause-runs : goal.returns-in_err-run-clause-runs
+returns-in_err-run-clause-runs g c = IfOk-from_err c.from_residual.result _ c.from_residual.ensures.0
+
+pub returns-in_err-run-clause-parts : goal.returns-in_err-run-clause-parts
+returns-in_err-run-clause-parts g c = IfOk-from_err c.from_residual.result _ c.from_residual.ensures.0
+
+pub returns-in_err-run-clause-lines : goal.returns-in_err-run-clause-lines
+returns-in_err-run-clause-lines g c = IfOk-from_err c.from_residual.result _ c.from_residual.ensures.0
+
+pub returns-in_err-push_line_parts-clause-runs : goal.returns-in_err-push_line_parts-clause-runs
+returns-in_err-push_line_parts-clause-runs g c =
+    IfOk-from_err c.from_residual-in_err-push_line_parts.result _ c.from_residual-in_err-push_line_parts.ensures.0
+
+pub returns-in_err-push_line_parts-clause-parts : goal.returns-in_err-push_line_parts-clause-parts
+returns-in_err-push_line_parts-clause-parts g c =
+    IfOk-from_err c.from_residual-in_err-push_line_parts.result _ c.from_residual-in_err-push_line_parts.ensures.0
+
+pub returns-in_err-push_line_parts-clause-lines : goal.returns-in_err-push_line_parts-clause-lines
+returns-in_err-push_line_parts-clause-lines g c =
+    IfOk-from_err c.from_residual-in_err-push_line_parts.result _ c.from_residual-in_err-push_line_parts.ensures.0
+
+pub returns-in_err-push_run-clause-runs : goal.returns-in_err-push_run-clause-runs
+returns-in_err-push_run-clause-runs g c =
+    IfOk-from_err c.from_residual-in_err-push_run.result _ c.from_residual-in_err-push_run.ensures.0
+
+pub returns-in_err-push_run-clause-parts : goal.returns-in_err-push_run-clause-parts
+returns-in_err-push_run-clause-parts g c =
+    IfOk-from_err c.from_residual-in_err-push_run.result _ c.from_residual-in_err-push_run.ensures.0
+
+pub returns-in_err-push_run-clause-lines : goal.returns-in_err-push_run-clause-lines
+returns-in_err-push_run-clause-lines g c =
+    IfOk-from_err c.from_residual-in_err-push_run.result _ c.from_residual-in_err-push_run.ensures.0

@@ -1,3 +1,4 @@
+use Rattle.std.proofs.lemmas.Result.{IfOk-from_err}
 use Rattle.std.proofs.Common.{map, arith}
 use Rattle.std.proofs.lemmas.List.{length-map}
 use Rattle.pg_lines.specs.Literals.{data_of}
@@ -13,3 +14,21 @@ selected_runs-requires-clause-needles g c =
     needles c.requires.literals
     (λ some. c.requires.searched (omega (arith, some, length-map literals (data_of {A = g.row.A.Denot}))))
     says.searched says.literals says.ahead
+
+pub returns-in_err-needles-clause-runs : goal.returns-in_err-needles-clause-runs
+returns-in_err-needles-clause-runs g c = IfOk-from_err c.from_residual.result _ c.from_residual.ensures.0
+
+pub returns-in_err-needles-clause-parts : goal.returns-in_err-needles-clause-parts
+returns-in_err-needles-clause-parts g c = IfOk-from_err c.from_residual.result _ c.from_residual.ensures.0
+
+pub returns-in_err-needles-clause-lines : goal.returns-in_err-needles-clause-lines
+returns-in_err-needles-clause-lines g c = IfOk-from_err c.from_residual.result _ c.from_residual.ensures.0
+
+pub returns-clause-runs : goal.returns-clause-runs
+returns-clause-runs g c = c.selected_runs.ensures.runs
+
+pub returns-clause-parts : goal.returns-clause-parts
+returns-clause-parts g c = c.selected_runs.ensures.parts
+
+pub returns-clause-lines : goal.returns-clause-lines
+returns-clause-lines g c = c.selected_runs.ensures.lines

@@ -40,13 +40,14 @@ returns-clause-keeps g c =
 pub returns-then-len-clause-some : goal.returns-then-len-clause-some
 returns-then-len-clause-some g c =
     let self = c.take_spare.new.self in
-    omega (arith, length-drop self.filled self.rest.items, self.rest.ok.0, c.buffer_len-len.ensures, c.if-len.true, c.len-2.ensures)
+    let behind = length-drop self.filled self.rest.items in
+    omega (arith, behind, self.rest.ok.0, c.buffer_len-len.ensures, c.if-len.true, c.len-2.ensures)
 
 pub returns-clause-some : goal.returns-clause-some
 returns-clause-some g c =
     let new = c.resize.new.self in
-    room_made c.resize.result c.take_spare.new.self.filled c.buffer_len-len.result new.len _ new.items new.ok.0 c.buffer_len-len.ensures
-    c.resize.ensures.len
+    room_made c.resize.result c.take_spare.new.self.filled c.buffer_len-len.result new.len _ new.items new.ok.0
+    c.buffer_len-len.ensures c.resize.ensures.len
 
 pub returns-then-len-clause-keeps : goal.returns-then-len-clause-keeps
 returns-then-len-clause-keeps g c = c.take_spare.ensures

@@ -14,7 +14,7 @@ returns-clause-stands g c =
       longest = refl;
       cut =
           subst C none
-          (record { whole = refl; finished = tt; unfinished = λ n low high _. absurd (omega (arith, c.requires.size)) });
+          (record { whole = refl; finished = tt; unfinished = λ n low high _. absurd (omega arith) });
       numbered = subst N none tt;
       next = ap length none;
       total = refl;

@@ -1,4 +1,4 @@
-use Rattle.std.proofs.Common.{Bool, cond, ap, sym, ◌∙◌}
+use Rattle.std.proofs.Common.{cond, ap, sym, ◌∙◌}
 use Rattle.pg_lines.specs.Search.{terminator_of}
 use Rattle.pg_lines.proofs.query.QueryText.terminator.Goals as goal
 
