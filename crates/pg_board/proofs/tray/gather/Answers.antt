@@ -51,5 +51,6 @@ loop-pass-init g c =
       made = refl;
       taken = refl;
       all = c.requires.all;
-      lists = ap (λ (ps : List (Puts g.row.T.Denot)). map put all ++ lists_of ps) c.requires.ticket.2 ∙ append-nil (map put all);
+      lists = ap (λ (ps : List (Puts g.row.T.Denot)). map put all ++ lists_of ps) c.requires.ticket.2
+          ∙ append-nil (map put all);
     }

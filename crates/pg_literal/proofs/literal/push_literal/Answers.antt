@@ -23,7 +23,9 @@ pub returns-in_err-known-clause-fixed : goal.returns-in_err-known-clause-fixed
 returns-in_err-known-clause-fixed g c = λ _ _ _ _. IfOk-from_err c.from_residual.result _ c.from_residual.ensures.0
 
 pub returns-in_err-push-in-Some-clause-adds : goal.returns-in_err-push-in-Some-clause-adds
-returns-in_err-push-in-Some-clause-adds g c = IfOk-from_err c.from_residual-in_err-push-in-Some.result _ c.from_residual-in_err-push-in-Some.ensures.0
+returns-in_err-push-in-Some-clause-adds g c =
+    IfOk-from_err c.from_residual-in_err-push-in-Some.result _ c.from_residual-in_err-push-in-Some.ensures.0
 
 pub returns-in_err-push-in-Some-clause-fixed : goal.returns-in_err-push-in-Some-clause-fixed
-returns-in_err-push-in-Some-clause-fixed g c = λ _ _ _ _. IfOk-from_err c.from_residual-in_err-push-in-Some.result _ c.from_residual-in_err-push-in-Some.ensures.0
+returns-in_err-push-in-Some-clause-fixed g c =
+    λ _ _ _ _. IfOk-from_err c.from_residual-in_err-push-in-Some.result _ c.from_residual-in_err-push-in-Some.ensures.0

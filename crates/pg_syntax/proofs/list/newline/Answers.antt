@@ -5,5 +5,5 @@ use Rattle.pg_syntax.proofs.list.newline.Goals as goal
 
 pub returns : goal.returns
 returns c =
-    position_from_yields_List (λ byte. byte == 10) _ _ _ c.position.ensures.ran (YieldsList-from_slice c.args.text.now cc)
-    (λ x b q k. search (rules, tests))
+    position_from_yields_List (λ byte. byte == 10) _ _ _ c.position.ensures.ran
+    (YieldsList-from_slice c.args.text.now cc) (λ x b q k. search (rules, tests))

@@ -112,7 +112,8 @@ pub inside-returns-in_err-path : goal.inside-returns-in_err-path
 inside-returns-in_err-path g t c = λ _. IfOk-from_err c.from_residual.result _ c.from_residual.ensures.0
 
 pub inside-returns-in_err-add : goal.inside-returns-in_err-add
-inside-returns-in_err-add g t c = λ _. IfOk-from_err c.from_residual-in_err-add.result _ c.from_residual-in_err-add.ensures.0
+inside-returns-in_err-add g t c =
+    λ _. IfOk-from_err c.from_residual-in_err-add.result _ c.from_residual-in_err-add.ensures.0
 
 pub inside-offset_bounds-name-items-name-index : goal.inside-offset_bounds-name-items-name-index
 inside-offset_bounds-name-items-name-index g t c = c.loop-name.auto.name-index-end
@@ -124,7 +125,9 @@ pub inside-entry_path-requires-text-name : goal.inside-entry_path-requires-text-
 inside-entry_path-requires-text-name g t c κs within = c.as_str-in-loop-name-2.utf8
 
 pub inside-returns-in_err-below : goal.inside-returns-in_err-below
-inside-returns-in_err-below g t c = λ _. IfOk-from_err c.from_residual-in_err-below.result _ c.from_residual-in_err-below.ensures.0
+inside-returns-in_err-below g t c =
+    λ _. IfOk-from_err c.from_residual-in_err-below.result _ c.from_residual-in_err-below.ensures.0
 
 pub inside-returns-in_err-entry : goal.inside-returns-in_err-entry
-inside-returns-in_err-entry g t c = λ _. IfOk-from_err c.from_residual-in_err-entry.result _ c.from_residual-in_err-entry.ensures.0
+inside-returns-in_err-entry g t c =
+    λ _. IfOk-from_err c.from_residual-in_err-entry.result _ c.from_residual-in_err-entry.ensures.0

@@ -13,10 +13,12 @@ pub returns-in_err-word-clause-seats : goal.returns-in_err-word-clause-seats
 returns-in_err-word-clause-seats g c = IfOk-from_err c.from_residual.result _ c.from_residual.ensures.0
 
 pub returns-in_err-all-clause-board : goal.returns-in_err-all-clause-board
-returns-in_err-all-clause-board g c = IfOk-from_err c.from_residual-in_err-all.result _ c.from_residual-in_err-all.ensures.0
+returns-in_err-all-clause-board g c =
+    IfOk-from_err c.from_residual-in_err-all.result _ c.from_residual-in_err-all.ensures.0
 
 pub returns-in_err-all-clause-seats : goal.returns-in_err-all-clause-seats
-returns-in_err-all-clause-seats g c = IfOk-from_err c.from_residual-in_err-all.result _ c.from_residual-in_err-all.ensures.0
+returns-in_err-all-clause-seats g c =
+    IfOk-from_err c.from_residual-in_err-all.result _ c.from_residual-in_err-all.ensures.0
 
 pub returns-clause-board : goal.returns-clause-board
 returns-clause-board g c = (refl, refl)

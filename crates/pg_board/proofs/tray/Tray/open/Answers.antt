@@ -39,10 +39,12 @@ pub returns-in_err-passes-clause-take : goal.returns-in_err-passes-clause-take
 returns-in_err-passes-clause-take g c = IfOk-from_err c.from_residual.result _ c.from_residual.ensures.0
 
 pub returns-in_err-queue-clause-passes : goal.returns-in_err-queue-clause-passes
-returns-in_err-queue-clause-passes g c = IfOk-from_err c.from_residual-in_err-queue.result _ c.from_residual-in_err-queue.ensures.0
+returns-in_err-queue-clause-passes g c =
+    IfOk-from_err c.from_residual-in_err-queue.result _ c.from_residual-in_err-queue.ensures.0
 
 pub returns-in_err-queue-clause-take : goal.returns-in_err-queue-clause-take
-returns-in_err-queue-clause-take g c = IfOk-from_err c.from_residual-in_err-queue.result _ c.from_residual-in_err-queue.ensures.0
+returns-in_err-queue-clause-take g c =
+    IfOk-from_err c.from_residual-in_err-queue.result _ c.from_residual-in_err-queue.ensures.0
 
 pub another-new-requires-clause-queue : goal.another-new-requires-clause-queue
 another-new-requires-clause-queue g c = c.loop-number.invariant.ticket
