@@ -21,6 +21,7 @@ use Rattle.pg_rows.specs.Progress.{Tells, TellsNone, TellsBlock}
 use Rattle.pg_seq.specs.declared.ahead.Ahead.{Ahead}
 use Rattle.pg_seq.specs.declared.opening.Opening.{Opening}
 use Rattle.pg_seq.specs.declared.slot.Slot.{Slot}
+use Rattle.pg_seq.specs.declared.reorder_buffer.ReorderBuffer.{ReorderBuffer}
 use Rattle.pg_seq.specs.declared.assembler.Assembler.{Assembler}
 use Rattle.pg_seq.specs.Plan.{Step, Opens, Announces, Ends, IsPlan, IsShaped, is_open, announced, entries_of}
 use Rattle.pg_seq.specs.History.{Past, plan, taken_of, is_taken, all_taken, front, front_after, front_of}
@@ -392,3 +393,8 @@ front_enough s past h a f =
     ∙ ap (λ t. cond (is_quiet format.mode) (list_any (has_selected q) (entries_of (front_of past))) t)
     (ap (λ b. b && trail_suffices format.mode format trail) (sym f.inside)
     ∙ sym (suffices_by_cursor q format h.room (front_of past) lawful))
+
+-- a block whose result has come is held
+pub result_within : {A : Type 0} (buffer : ReorderBuffer A) (count : ℕ) (found : Searched)
+    → HasResult buffer count found → count < length buffer.slots.items
+result_within buffer count found h = omega (arith, length-drop count buffer.slots.items, ap length h.slots)

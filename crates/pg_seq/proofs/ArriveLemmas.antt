@@ -5,6 +5,7 @@ use Rattle.std.proofs.Common.{◌∙◌, subst, arith, inl, inr}
 use Rattle.std.specs.List.{AllByRecursion, list_any}
 use Rattle.std.specs.Str.{bytes_eq}
 use Rattle.std.proofs.lemmas.Bool.{false≢true, eq-eqb}
+use Rattle.std.proofs.lemmas.Option.{slice_get_read}
 use Rattle.std.proofs.lemmas.Slice.Eq.{bytes_eq-Decides}
 use Rattle.pg_lines.specs.Search.{Search}
 use Rattle.pg_lines.specs.Searched.{Searched}
@@ -49,17 +50,55 @@ own_key keys b =
     ap (λ t. (t && eqb b.number b.number) || is_taken keys b) (eq-eqb b.file b.file refl)
     ∙ ap (λ t. t || is_taken keys b) (eq-eqb b.number b.number refl)
 
+place_at : (starts : List ℕ) (n m f f' k k' : ℕ) → n ≡ m → f ≡ f' → k ≡ k'
+    → place_of starts n f k ≡ place_of starts m f' k'
+place_at starts n m f f' k k' total file number =
+    ap (λ t. place_of starts t f k) total
+    ∙ (ap (λ t. place_of starts m t k) file ∙ ap (λ t. place_of starts m f' t) number)
+
 -- a place is one number
 pub place_same : (starts : List ℕ) (n m f f' k k' x y : ℕ) → Some x ≡ place_of starts n f k → n ≡ m → f ≡ f'
     → k ≡ k' → place_of starts m f' k' ≡ Some y → x ≡ y
 place_same starts n m f f' k k' x y here total file number there =
-    some_number (here ∙ (ap (λ t. place_of starts t f k) total
-    ∙ (ap (λ t. place_of starts m t k) file ∙ (ap (λ t. place_of starts m f' t) number ∙ there))))
+    some_number (here ∙ (place_at starts n m f f' k k' total file number ∙ there))
   where
     some_number : Some x ≡ Some y → x ≡ y
     some_number e = cc
 
+pub no_place : (starts : List ℕ) (n m f f' k k' y : ℕ) → None ≡ place_of starts n f k → n ≡ m → f ≡ f' → k ≡ k'
+    → place_of starts m f' k' ≡ Some y → ⊥
+no_place starts n m f f' k k' y here total file number there =
+    no_number (here ∙ (place_at starts n m f f' k k' total file number ∙ there))
+  where
+    no_number : None ≡ Some y → ⊥
+    no_number e = cc
+
 module _ {A : Type 0} where
+  -- an arrival by its place
+  pub arrival_by : (starts : List ℕ) (slots : List (Slot A)) (n f k : ℕ) (b : BlockData) (o : Option ℕ)
+      → o ≡ place_of starts n f k → n ≡ length slots → f ≡ b.file → k ≡ b.number
+      → arrival_at_slot (at_place slots o) b ≡ arrival_among starts slots b
+  arrival_by starts slots n f k b o e total file number =
+      ap (λ p. arrival_at_slot (at_place slots p) b)
+      (e ∙ place_at starts n (length slots) f b.file k b.number total file number)
+
+  pub gone_double : (gone slots : List (Slot A)) (k : ℕ) (b : BlockData)
+      → AllByRecursion (λ x. has_result x ≡ true) gone → k < length gone
+      → Double ≡ arrival_at_slot (slice_get (gone ++ slots) k) b
+  gone_double [] slots k b h below = absurd (omega arith)
+  gone_double (x ∷ gone) slots zero b h below =
+      sym (ap (λ t. cond t Double (if_same (bytes_eq b.bytes (slot_block x).bytes))) h.0)
+  gone_double (x ∷ gone) slots (suc k) b h below = gone_double gone slots k b h.1 (omega arith)
+
+  pub slot_behind : (gone slots : List (Slot A)) (k n : ℕ) (slot : Slot A) → n ≡ length gone + k → k < length slots
+      → slot ≡ get_or slots k slot → Some slot ≡ slice_get (gone ++ slots) n
+  slot_behind [] slots k n slot e below is =
+      let same : k ≡ n = omega (arith, e) in
+      sym (slice_get_read slots (length slots) k slot refl below is) ∙ ap (slice_get slots) same
+  slot_behind (x ∷ gone) slots k n slot e below is =
+      let more : suc (length gone + k) ≡ n = omega (arith, e) in
+      slot_behind gone slots k (length gone + k) slot refl below is ∙ ap (slice_get (x ∷ (gone ++ slots))) more
+
   pub with_set : (slots : List (Slot A)) (k : ℕ) (slot : Slot A) (r : Searched) → k < length slots
       → slot ≡ get_or slots k slot → set slots k (record { block = slot.block; result = Some r })
       ≡ with_result slots k r

@@ -11,6 +11,7 @@ pub mod CountLemmas
 pub mod ArriveLemmas
 pub mod ComingLemmas
 pub mod StandLemmas
+pub mod LastLemmas
 pub mod DrainSteps
 pub mod EnoughLemmas
 pub mod AheadLemmas

@@ -1,7 +1,7 @@
 use Rattle.std.proofs.Common.{sym, subst, ◌||◌, not, ap, refl, arith}
 use Rattle.pg_rows.specs.declared.format.Format.{Format}
 use Rattle.pg_rows.specs.Progress.{TellsBlock}
-use Rattle.pg_seq.proofs.AheadLemmas.{no_block, block_of, block_fits, block_next}
+use Rattle.pg_seq.proofs.AheadLemmas.{no_block, block_of, block_fits, block_next, result_within}
 use Rattle.pg_seq.proofs.assembler.Assembler.block_ahead.Goals as goal
 
 pub returns-in_default-clause-further : goal.returns-in_default-clause-further
@@ -29,3 +29,12 @@ returns-clause-further g c = λ past h i.
     (let P : Format → Type 0 = λ f. TellsBlock a.progress f c.runs-runs.result.now c.lines.result c.after.result in
     subst P (sym h.format) c.after.ensures.tells)
     (ap (λ t. a.selected || not t) c.is_empty.ensures)
+
+pub overflow_add-result : goal.overflow_add-result
+overflow_add-result g c =
+    let buffer = c.args.self.now.buffer in
+    omega (arith, result_within buffer _ _ c.in-Some.ensures, buffer.slots.ok.0)
+
+pub returns-clause-fewer : goal.returns-clause-fewer
+returns-clause-fewer g c =
+    omega (arith, result_within c.args.self.now.buffer _ _ c.in-Some.ensures)

@@ -22,3 +22,14 @@ returns g c = λ past h.
     c.is_enough.ensures trail (subst T h.format f.progress)
     ∙ (ap (λ (x : Format). cond (is_quiet x.mode) a.selected (a.inside && trail_suffices x.mode x trail)) (sym h.format)
     ∙ front_enough s past h a f)
+
+pub next_ahead-requires : goal.next_ahead-requires
+next_ahead-requires g c =
+    let past = c.requires in
+    (past.0, past.1, c.loop-next.invariant past.0 past.1)
+
+pub loop-next-smaller : goal.loop-next-smaller
+loop-next-smaller g c = c.in-Some.ensures.fewer
+
+pub loop-next-preserved : goal.loop-next-preserved
+loop-next-preserved g c = λ past h. c.in-Some.ensures.further past h (c.loop-next.invariant past h)

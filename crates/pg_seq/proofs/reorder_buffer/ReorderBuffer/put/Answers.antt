@@ -1,6 +1,8 @@
 use Rattle.std.proofs.Common.{◌≡◌, ◌∙◌, ◌-◌, ap, refl, arith, length-append}
+use Rattle.std.proofs.Math.ListN.{length-set}
 use Rattle.pg_lines.specs.Blocks.{BlockData}
-use Rattle.pg_seq.proofs.ArriveLemmas.{with_behind, with_past, place_same}
+use Rattle.pg_seq.specs.declared.slot.Slot.{Slot}
+use Rattle.pg_seq.proofs.ArriveLemmas.{with_behind, with_past, place_same, no_place}
 use Rattle.pg_seq.proofs.reorder_buffer.ReorderBuffer.put.Goals as goal
 
 pub returns-then-at-len : goal.returns-then-at-len
@@ -41,3 +43,40 @@ returns-else-at-len g c =
       handed = refl;
       selected = refl;
     }
+
+pub returns-in_default : goal.returns-in_default
+returns-in_default g c =
+    let s = c.args.self.now in
+    let block = c.block-2.view_is ∙ (c.deref-block.ensures ∙ c.block.ensures) in
+    record {
+      starts = refl;
+      slots = λ gone k count behind is. absurd (no_place s.starts.items _ _ _ _ _ _ k c.in_default.ensures
+          (omega (arith, length-append gone s.slots.items, count)) (ap (λ (b : BlockData). b.file) block)
+          (ap (λ (b : BlockData). b.number) block) is);
+      handed = refl;
+      selected = refl;
+    }
+
+pub returns-then-place-self : goal.returns-then-place-self
+returns-then-place-self g c =
+    let s = c.args.self.now in
+    let block = c.block-2.view_is ∙ (c.deref-block.ensures ∙ c.block.ensures) in
+    record {
+      starts = refl;
+      slots = λ gone k count behind is.
+          let same : c.in-Some.place ≡ k = place_same s.starts.items _ _ _ _ _ _ c.in-Some.place k c.in-Some.ensures
+          (omega (arith, length-append gone s.slots.items, count)) (ap (λ (b : BlockData). b.file) block)
+          (ap (λ (b : BlockData). b.number) block) is in
+          absurd (omega (arith, same, behind, c.if-place-self.true));
+      handed = refl;
+      selected = refl;
+    }
+
+pub overflow_sub-at : goal.overflow_sub-at
+overflow_sub-at g c = c.if-place-self.false
+
+pub index_mut-requires : goal.index_mut-requires
+index_mut-requires g c = omega (arith, c.if-at-len.true, c.len.ensures)
+
+pub invariant_of-self : goal.invariant_of-self
+invariant_of-self g c = record { small = omega (arith, c.args.self.now.small, length-set {A = Slot g.row.A.Denot}) }
