@@ -1,0 +1,12 @@
+use Rattle.std.proofs.Common.{ap, map, arith}
+use Rattle.pg_files.specs.MemStore.{stored}
+use Rattle.pg_files.proofs.mem_store.MemStore.new.Goals as goal
+
+pub invariant_of-result : goal.invariant_of-result
+invariant_of-result c = record { some_bytes = omega arith }
+
+pub returns-clause-files : goal.returns-clause-files
+returns-clause-files c = ap (map stored) c.new.ensures.items
+
+pub returns-clause-past : goal.returns-clause-past
+returns-clause-past c = c.new-2.ensures
