@@ -16,3 +16,9 @@ returns-clause-same_list g c =
     (read_behind c.read.new.into (asked_for c.args.self.now.asked (map found c.args.self.now.items.items))
     (g.S.Store.past c.args.self.now.store) (g.S.Store.past c.read.new.self) c.read.result c.requires.reading
     c.read.ensures.given)
+
+pub read-requires : goal.read-requires
+read-requires g c = c.requires.room
+
+pub returns-clause-size : goal.returns-clause-size
+returns-clause-size g c = c.read.ensures.size

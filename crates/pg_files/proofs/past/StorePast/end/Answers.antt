@@ -1,0 +1,5 @@
+use Rattle.std.proofs.Common.{rules}
+use Rattle.pg_files.proofs.past.StorePast.end.Goals as goal
+
+pub returns : goal.returns
+returns c = search rules
