@@ -10,8 +10,7 @@ returns-then-not-self g c = λ past h.
 
 pub returns-else-not-self : goal.returns-else-not-self
 returns-else-not-self g c = λ past h.
-    let not_ended = sym (ap not c.if-not-self.false) in
-    (
+    let not_ended = sym (ap not c.if-not-self.false) in (
       λ e. absurd (false≢true (not_ended ∙ e)),
       λ p. absurd (false≢true (sym p.0 ∙ (h.running ∙ c.if-not-self.false))),
     )

@@ -1,4 +1,4 @@
-use Rattle.std.proofs.Common.{◌≡◌, ◌-◌, ◌∙◌, ◌++◌, None, Some, ap, sym, arith, length-append}
+use Rattle.std.proofs.Common.{◌-◌, ◌∙◌, ◌++◌, None, Some, ap, sym, arith, length-append}
 use Rattle.std.proofs.lemmas.Option.{slice_get_past}
 use Rattle.pg_lines.specs.Blocks.{BlockData}
 use Rattle.pg_seq.specs.Slots.{arrival_at_slot}
@@ -29,8 +29,15 @@ returns-then-at-len g c = λ gone are.
     let s = c.args.self.now in
     let b = c.args.block.now in
     sym (ap (λ o. arrival_at_slot o b) (slice_get_past (gone ++ s.slots.items) c.in-Some.place
-    (omega (arith, length-append gone s.slots.items, are.count, c.if-place-self.false, c.if-at-len.true, c.len.ensures,
-    s.slots.ok.0))))
+    (omega (
+      arith,
+      length-append gone s.slots.items,
+      are.count,
+      c.if-place-self.false,
+      c.if-at-len.true,
+      c.len.ensures,
+      s.slots.ok.0,
+    ))))
     ∙ arrival_by s.starts.items (gone ++ s.slots.items) _ _ _ b (Some c.in-Some.place) c.in-Some.ensures
     (omega (arith, length-append gone s.slots.items, are.count))
     (ap (λ (b : BlockData). b.file) c.block.view_is) (ap (λ (b : BlockData). b.number) c.block.view_is)
