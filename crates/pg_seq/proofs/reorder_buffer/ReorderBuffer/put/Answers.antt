@@ -80,3 +80,9 @@ index_mut-requires g c = omega (arith, c.if-at-len.true, c.len.ensures)
 
 pub invariant_of-self : goal.invariant_of-self
 invariant_of-self g c = record { small = omega (arith, c.args.self.now.small, length-set {A = Slot g.row.A.Denot}) }
+
+pub overflow_cast-len : goal.overflow_cast-len
+overflow_cast-len g c = omega arith
+
+pub overflow_cast-at : goal.overflow_cast-at
+overflow_cast-at g c = omega arith
