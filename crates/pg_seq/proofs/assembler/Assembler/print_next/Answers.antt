@@ -105,3 +105,21 @@ returns-in-Some-pop_first-clause-ok g c = λ past h f.
   where
     heads : {X : Type 0} {x y : X} {xs ys : List X} → x ∷ xs ≡ y ∷ ys → x ≡ y
     heads e = cc
+
+pub returns-in_err-printed-clause-failure : goal.returns-in_err-printed-clause-failure
+returns-in_err-printed-clause-failure g c = on_err _ c.from_residual.result c.in_err-printed.ensures.failure
+
+pub returns-in_err-printed-clause-never_falls : goal.returns-in_err-printed-clause-never_falls
+returns-in_err-printed-clause-never_falls g c = c.in_err-printed.ensures.never_falls
+
+pub returns-in-Some-pop_first-clause-no_failure : goal.returns-in-Some-pop_first-clause-no_failure
+returns-in-Some-pop_first-clause-no_failure g c = c.in_ok-printed.ensures.no_failure
+
+pub returns-in-Some-pop_first-clause-never_falls : goal.returns-in-Some-pop_first-clause-never_falls
+returns-in-Some-pop_first-clause-never_falls g c = c.in_ok-printed.ensures.never_falls
+
+pub returns-in_default-pop_first-clause-no_failure : goal.returns-in_default-pop_first-clause-no_failure
+returns-in_default-pop_first-clause-no_failure g c = c.in_ok-printed.ensures.no_failure
+
+pub returns-in_default-pop_first-clause-never_falls : goal.returns-in_default-pop_first-clause-never_falls
+returns-in_default-pop_first-clause-never_falls g c = c.in_ok-printed.ensures.never_falls
