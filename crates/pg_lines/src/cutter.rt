@@ -472,8 +472,8 @@ impl<A: Allocator + Copy> Cutter<A> {
         self.rest.slice_mut(filled..)
     }
 
-    /// Takes the first `count` bytes of the room as the next bytes of the file, as `feed` takes a piece. An `Err`
-    /// changes nothing, and the bytes still stand in the room.
+    /// Takes the first `count` bytes of the room, which has so many, as the next bytes of the file, as `feed` takes a
+    /// piece. An `Err` changes nothing, and the bytes still stand in the room.
     ///
     /// # Errors
     ///
