@@ -25,6 +25,9 @@ module _ {A : Type 0} (P : A → Type 0) where
   all_front (y ∷ ys) x h zero d l = h zero d (omega arith)
   all_front (y ∷ ys) x h (suc k) d l = all_front ys x (λ k d l. h (suc k) d (omega arith)) k d (omega arith)
 
+  pub all_none : All P []
+  all_none k d l = absurd (omega arith)
+
   pub all_copies : (n : ℕ) (x : A) → P x → All P (replicate n x)
   all_copies zero x p k d l = absurd (omega arith)
   all_copies (suc n) x p zero d l = p

@@ -13,6 +13,7 @@ use Rattle.pg_seq.specs.declared.answers.SinkFault.{SinkFault}
 use Rattle.pg_board.specs.Merge.{IsMerge}
 use Rattle.pg_round.specs.Receipts.{arrivals, received, IsSafe, HasReceived, HasFailed, HasBroken, HasWritten, HasDelivered, HasRound, TookIn}
 use Rattle.pg_round.specs.Results.{HasAll}
+use Rattle.pg_round.specs.declared.searching.RoundFault.TheVariants.{OutOfMemory, Sink as SinkFails}
 
 plan_kept : (rs : List Searched) (es : List Event) → plan_of (arrivals rs es) ≡ plan_of es
 plan_kept [] es = refl
@@ -102,6 +103,13 @@ on_err P (Err e) p = p
 -- an error is this one, whatever value there would be else
 pub same_fault : {T U E : Type 0} (x y : E) → IsErrOf {T = T} (Err x) y → IsErrOf {T = U} (Err x) y
 same_fault x y is = let e : x ≡ y = cc in ap Err e
+
+-- a value is no fault, and want of memory is not a sink's
+pub no_fault : {T E R : Type 0} (x : T) (e : E) → IsErrOf (Ok x) e → R
+no_fault x e is = absurd (cc is)
+
+pub no_sink_fault : {T R : Type 0} → IsErrOf {T = T} (Err OutOfMemory) SinkFails → R
+no_sink_fault is = absurd (cc is)
 
 pub map_ok : {T E : Type 0} (P Q : Type 0) (r : Result T E) → (P → Q) → OnOk r P → OnOk r Q
 map_ok P Q (Ok x) f p = f p

@@ -1,8 +1,9 @@
 //! What each one who searches does.
-ghost use Rattle.std.specs.Prelude.{◌≡◌, true, IfOk, OnOk, OnErr};
+ghost use Rattle.std.specs.Prelude.{◌≡◌, ◌<◌, true, IfOk, OnOk, OnErr};
 ghost use Rattle.std.specs.Arc.{arc_value};
 ghost use Rattle.pg_match.specs.Machines.{Fits};
 ghost use Rattle.pg_lines.specs.Search.{SearchText};
+ghost use Rattle.pg_round.specs.Results.{IsResultOf};
 ghost use Rattle.pg_round.specs.Workers.{task_of, IsReady, GrowAlike, GrowShort, HasWorked};
 
 use crate::gate::Gate;
@@ -18,6 +19,28 @@ pub(crate) struct Worker<A: Allocator = Global> {
     pub(crate) seat: Seat,
     pub(crate) pass: PutPass<BlockResult<A>, A>,
     pub(crate) scratch: Scratch<A>,
+}
+
+/// Searches the block of a number, between the gate's calls.
+fn search_number<A: Allocator + Copy, G: Gate>(
+    alloc: A,
+    round: Round<'_, A>,
+    scratch: &mut Scratch<A>,
+    number: u32,
+    gate: &G,
+) -> Result<BlockResult<A>, AllocError>
+    requires ready { IsReady (task_of round) }
+    requires number { number < round.board.now.limit }
+    requires fits { Fits scratch.old (arc_value round.query.now).machine }
+    ensures fits { Fits scratch.new (arc_value round.entry.query.now).machine }
+    ensures found { IfOk result
+        (IsResultOf (arc_value round.entry.query.now).text round.entry.blocks.now number) }
+{
+    let block = Arc::try_clone(&round.blocks[number as usize])?;
+    gate.before(number);
+    let found = search_block(alloc, round.query, scratch, block);
+    gate.after(number);
+    found
 }
 
 /// Draws numbers until none is left, searches the block of each, and puts its result.
@@ -48,11 +71,8 @@ pub fn work<R: Wait, A: Allocator + Copy, G: Gate>(
         let Some(number) = round.board.draw(seat) else {
             return Ok(());
         };
-        let block = Arc::try_clone(&round.blocks[number as usize])?;
-        gate.before(number);
-        let found = search_block(alloc, round.query, scratch, block);
-        gate.after(number);
-        let Ok(()) = round.tray.put(rt, pass, found?) else {
+        let found = search_number(alloc, round, scratch, number, gate)?;
+        let Ok(()) = round.tray.put(rt, pass, found) else {
             return Err(AllocError);
         };
     }

@@ -1,4 +1,5 @@
-use Rattle.std.proofs.Common.{◌≡◌, List, ap, subst, arith}
+use Rattle.std.proofs.lemmas.Result.{IfOk-from_err}
+use Rattle.std.proofs.Common.{◌≡◌, List, ap, subst, arith, refl, sym}
 use Rattle.std.specs.Arc.{arc_value}
 use Rattle.pg_lines.specs.Searched.{Searched}
 use Rattle.pg_board.specs.Merge.{IsMerge}
@@ -24,3 +25,36 @@ returns-clause-all g c = λ rs merge n low.
     let upto : c.close-drawn.result.upto ≡ c.args.board.limit = c.close-drawn.ensures.spent c.in_ok-seats.ensures.spent in
     covers t n ss ps c.close-drawn.result.upto rs c.in_ok-seats.ensures.works (c.close-drawn.ensures.drawn n) (let r = c.requires.spent.1 in omega arith)
     (subst (λ (ls : List (List Searched)). IsMerge ls rs) (ap (λ (d : DeliveredView Searched). d.lists) c.close.ensures) merge)
+
+pub part-requires-clause-worked : goal.part-requires-clause-worked
+part-requires-clause-worked g c = c.requires.worked
+
+pub part-requires-clause-spent : goal.part-requires-clause-spent
+part-requires-clause-spent g c = c.requires.spent.0
+
+pub part-requires-clause-fits : goal.part-requires-clause-fits
+part-requires-clause-fits g c = c.requires.fits
+
+pub returns-in_err-seats-clause-taken : goal.returns-in_err-seats-clause-taken
+returns-in_err-seats-clause-taken g c = IfOk-from_err c.from_residual.result _ c.from_residual.ensures.0
+
+pub returns-in_err-seats-clause-all : goal.returns-in_err-seats-clause-all
+returns-in_err-seats-clause-all g c = IfOk-from_err c.from_residual.result _ c.from_residual.ensures.0
+
+pub returns-in_err-seats-clause-fits : goal.returns-in_err-seats-clause-fits
+returns-in_err-seats-clause-fits g c = IfOk-from_err c.from_residual.result _ c.from_residual.ensures.0
+
+pub returns-in_err-seats-clause-count : goal.returns-in_err-seats-clause-count
+returns-in_err-seats-clause-count g c = IfOk-from_err c.from_residual.result _ c.from_residual.ensures.0
+
+pub close-requires-clause-take : goal.close-requires-clause-take
+close-requires-clause-take g c = c.requires.all.2
+
+pub returns-clause-taken : goal.returns-clause-taken
+returns-clause-taken g c = ap (λ (d : DeliveredView Searched). d.out) c.close.ensures
+
+pub returns-clause-fits : goal.returns-clause-fits
+returns-clause-fits g c = c.in_ok-seats.ensures.fits
+
+pub returns-clause-count : goal.returns-clause-count
+returns-clause-count g c = c.in_ok-seats.ensures.count

@@ -96,3 +96,6 @@ returns g c =
       fits = i.fits;
       count = (let a = i.back in omega arith);
     }
+
+pub loop-worker-smaller : goal.loop-worker-smaller
+loop-worker-smaller g c = let b = c.in-Some.ensures.cases in omega arith

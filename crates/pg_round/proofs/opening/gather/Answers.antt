@@ -1,3 +1,4 @@
+use Rattle.std.proofs.lemmas.Result.{IfOk-from_err}
 use Rattle.std.proofs.Common.{◌≡◌, List, All, [], ◌∷◌, ◌++◌, false, sym, subst, arith}
 use Rattle.std.specs.Arc.{arc_value}
 use Rattle.pg_match.specs.Machines.{Fits, Room}
@@ -6,7 +7,7 @@ use Rattle.pg_board.specs.Board.{SeatView, seat_view}
 use Rattle.pg_board.specs.Tray.{PutView, put_view}
 use Rattle.pg_round.specs.declared.worker.Worker.{Worker}
 use Rattle.pg_round.specs.Workers.{task_of, HasWorked}
-use Rattle.pg_round.proofs.ListLemmas.{all_more, all_last, all_front}
+use Rattle.pg_round.proofs.ListLemmas.{all_more, all_last, all_front, all_none}
 use Rattle.pg_round.proofs.GrowLemmas.{fresh_work}
 use Rattle.pg_round.proofs.opening.gather.Goals as goal
 
@@ -35,3 +36,45 @@ loop-seat-preserved g c =
       room = (let a = i.room in let l = pushed.capacity in omega arith);
       worked = subst (λ (l : List (Worker A)). All P l) (sym pushed.items) (all_more P c.loop-seat.workers.items record { seat = c.in-Some.seat; pass = c.in-Some-pop.pass; scratch = c.in-Some-pop-2.scratch } i.worked new);
     }
+
+pub returns-in_err-workers-clause-workers : goal.returns-in_err-workers-clause-workers
+returns-in_err-workers-clause-workers g c = IfOk-from_err c.from_residual.result _ c.from_residual.ensures.0
+
+pub returns-in_err-workers-clause-scratches : goal.returns-in_err-workers-clause-scratches
+returns-in_err-workers-clause-scratches g c = IfOk-from_err c.from_residual.result _ c.from_residual.ensures.0
+
+pub loop-seat-init : goal.loop-seat-init
+loop-seat-init g c =
+    let A : Type 0 = g.row.A.Denot in
+    let P : Worker A → Type 0 = HasWorked (task_of c.args.round) in
+    let r = c.requires in
+    let s = c.in_ok-workers.ensures in let a = s.len in let d = s.exact in let l = c.len.ensures in
+    record {
+      seats = r.seats;
+      passes = r.passes.0;
+      fits = r.scratches.0;
+      same = r.passes.1;
+      count = omega arith;
+      left = omega arith;
+      enough = r.scratches.1;
+      room = omega arith;
+      worked = subst (λ (l : List (Worker A)). All P l) (sym s.items) (all_none P);
+    }
+
+pub push_reserved-requires : goal.push_reserved-requires
+push_reserved-requires g c =
+    let i = c.loop-seat.invariant in let a = i.count in let b = c.in-Some.ensures.cases in let d = i.room in
+    omega arith
+
+pub loop-seat-smaller : goal.loop-seat-smaller
+loop-seat-smaller g c = let b = c.in-Some.ensures.cases in omega arith
+
+pub returns-clause-workers : goal.returns-clause-workers
+returns-clause-workers g c =
+    let i = c.loop-seat.invariant in
+    (i.worked, (let a = i.count in let n = c.in_default.ensures.cases in omega arith))
+
+pub returns-clause-scratches : goal.returns-clause-scratches
+returns-clause-scratches g c =
+    let i = c.loop-seat.invariant in
+    (i.fits, (let a = i.count in let l = i.left in let n = c.in_default.ensures.cases in omega arith))

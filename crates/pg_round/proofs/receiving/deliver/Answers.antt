@@ -1,3 +1,4 @@
+use Rattle.std.proofs.lemmas.Result.{IfOk-from_err, IfOk-equal}
 use Rattle.std.proofs.Common.{List, ap, ◌∙◌, subst}
 use Rattle.pg_lines.specs.Searched.{Searched}
 use Rattle.pg_board.specs.Merge.{IsMerge}
@@ -50,3 +51,15 @@ returns-in-None-next-clause-err g c = λ past st n s.
     let h = i.4 past st n s in
     broken_done (g.S.Collector.stands c.loop.collector) past h.0 c.drain.result b m a f f' f'' h.2 i.3
     (λ p k no e. drain_err (g.S.Collector.stands c.drain.new.self) p c.drain.result m a f' f'' no (c.drain.ensures.safe p k) c.drain.ensures.cause (c.drain.ensures.drained p k)) n
+
+pub receive-requires : goal.receive-requires
+receive-requires g c = record { sees = c.requires.sees }
+
+pub returns-in_err-receive-in-Some-next-clause-ok : goal.returns-in_err-receive-in-Some-next-clause-ok
+returns-in_err-receive-in-Some-next-clause-ok g c = λ past st n s. IfOk-from_err c.from_residual.result _ c.from_residual.ensures.0
+
+pub returns-in_err-receive-in-Some-next-clause-calm : goal.returns-in_err-receive-in-Some-next-clause-calm
+returns-in_err-receive-in-Some-next-clause-calm g c = IfOk-from_err c.from_residual.result _ c.from_residual.ensures.0
+
+pub returns-in-None-next-clause-calm : goal.returns-in-None-next-clause-calm
+returns-in-None-next-clause-calm g c = IfOk-equal c.drain.result _ _ _ c.drain.ensures.no_failure c.loop.invariant.3

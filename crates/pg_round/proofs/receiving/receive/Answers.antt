@@ -21,3 +21,6 @@ returns-clause-err g c = λ past st n.
     let p = arrived past c.args.found in
     let h = subst (λ (r : Searched). g.S.Collector.stands c.arrive.new.self (arrived past r)) (c.requires.sees c.args.found) (c.arrive.ensures.stands past st) in
     drain_err stands p c.drain.result (g.W.Sink.taken c.args.out.now) (g.W.Sink.taken c.drain.new.out) (g.W.Sink.failures c.args.out.now) (g.W.Sink.failures c.drain.new.out) n (c.drain.ensures.safe p h) c.drain.ensures.cause (c.drain.ensures.drained p h)
+
+pub returns-clause-calm : goal.returns-clause-calm
+returns-clause-calm g c = c.drain.ensures.no_failure

@@ -96,3 +96,12 @@ returns-in_err-receive-in-Some-take g c =
       ready = i.ready;
       read = i.read;
     })
+
+pub take-requires : goal.take-requires
+take-requires g c = c.loop.invariant.tray
+
+pub receive-requires : goal.receive-requires
+receive-requires g c = record { sees = c.requires.sees }
+
+pub step-requires : goal.step-requires
+step-requires g c = c.loop.invariant.ready

@@ -4,7 +4,7 @@ use Rattle.pg_round.specs.declared.searching.RoundFault.TheVariants.{Sink as Sin
 use Rattle.pg_round.specs.declared.worker.Worker.{Worker}
 use Rattle.pg_round.specs.Workers.{task_of, HasWorked}
 use Rattle.pg_round.proofs.ListLemmas.{all_last, all_front}
-use Rattle.pg_round.proofs.ReceiptLemmas.{failed_after, same_fault}
+use Rattle.pg_round.proofs.ReceiptLemmas.{failed_after, same_fault, no_fault, no_sink_fault}
 use Rattle.pg_round.proofs.searching.search_all.Goals as goal
 
 pub search_beside-requires-clause-worked : goal.search_beside-requires-clause-worked
@@ -45,7 +45,7 @@ returns-in_err-all g c =
       err = λ past st n s. failed_after (g.S.Collector.stands c.search_beside.new.collector) past
           c.search_beside.new.take.taken (g.W.Sink.taken c.args.out.now) (g.W.Sink.taken c.search_beside.new.out)
           (e.ok past st n s);
-      cause = λ past st n s is. absurd (cc is);
+      cause = λ past st n s is. no_sink_fault is;
       calm = tt;
       ready = e.ready;
       read = e.read;
@@ -67,7 +67,7 @@ pub returns-clause-err : goal.returns-clause-err
 returns-clause-err g c = λ past st n s. tt
 
 pub returns-clause-cause : goal.returns-clause-cause
-returns-clause-cause g c = λ past st n s is. absurd (cc is)
+returns-clause-cause g c = λ past st n s is. no_fault _ _ is
 
 pub returns-clause-calm : goal.returns-clause-calm
 returns-clause-calm g c = c.in_ok-back.ensures.calm
@@ -77,3 +77,21 @@ returns-clause-ready g c = c.in_ok-back.ensures.ready
 
 pub returns-clause-read : goal.returns-clause-read
 returns-clause-read g c = c.in_ok-back.ensures.read
+
+pub search_beside-requires-clause-ready : goal.search_beside-requires-clause-ready
+search_beside-requires-clause-ready g c κs within = c.requires.ready
+
+pub search_beside-requires-clause-sees : goal.search_beside-requires-clause-sees
+search_beside-requires-clause-sees g c κs within = c.requires.sees
+
+pub search_beside-requires-clause-take : goal.search_beside-requires-clause-take
+search_beside-requires-clause-take g c κs within = c.requires.take
+
+pub search_beside-requires-clause-reader : goal.search_beside-requires-clause-reader
+search_beside-requires-clause-reader g c κs within = c.requires.reader
+
+pub search_rest-requires-clause-ready : goal.search_rest-requires-clause-ready
+search_rest-requires-clause-ready g c = c.requires.ready
+
+pub returns-clause-spent : goal.returns-clause-spent
+returns-clause-spent g c = c.in_ok-all.ensures.spent

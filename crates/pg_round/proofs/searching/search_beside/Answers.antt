@@ -3,7 +3,7 @@ use Rattle.std.proofs.lemmas.Result.{IfOk-at_ok, err_from_is_err_and}
 use Rattle.pg_lines.specs.Searched.{Searched}
 use Rattle.pg_round.specs.Receipts.{HasReceived}
 use Rattle.pg_round.specs.Reading.{HasGoneOn}
-use Rattle.pg_round.proofs.ReceiptLemmas.{received_none, failed_after, took_ok, took_err}
+use Rattle.pg_round.proofs.ReceiptLemmas.{received_none, failed_after, took_ok, took_err, no_fault, no_sink_fault}
 use Rattle.pg_round.proofs.searching.search_beside.Goals as goal
 
 pub returns-then-is_empty : goal.returns-then-is_empty
@@ -15,7 +15,7 @@ returns-then-is_empty g c =
       ok = λ past st n s. subst (λ (l : List Searched). HasReceived stands past l w w) (sym c.requires.take.1)
           (received_none stands past w st s);
       err = λ past st n s. tt;
-      cause = λ past st n s is. absurd (cc is);
+      cause = λ past st n s is. no_fault _ _ is;
       calm = refl;
       ready = c.requires.reader;
       read = λ r f h. h;
@@ -60,7 +60,7 @@ returns-in_err-back g c =
           failed_after last past c.stream-back.new.take.taken b a
           (took_ok c.stream-back.result.1 c.in_ok-taken.field-0 stands last c.stream-back.new.take.taken b a f f' e.took
           c.in_ok-taken.was past st n s);
-      cause = λ past st n s is. absurd (cc is);
+      cause = λ past st n s is. no_sink_fault is;
       calm = tt;
       ready = e.ready;
       read = λ r f h. e.read r f h;
@@ -84,7 +84,7 @@ pub returns-clause-err : goal.returns-clause-err
 returns-clause-err g c = λ past st n s. tt
 
 pub returns-clause-cause : goal.returns-clause-cause
-returns-clause-cause g c = λ past st n s is. absurd (cc is)
+returns-clause-cause g c = λ past st n s is. no_fault _ _ is
 
 pub returns-clause-ready : goal.returns-clause-ready
 returns-clause-ready g c = c.stream-back.ensures.ready
@@ -92,3 +92,21 @@ returns-clause-ready g c = c.stream-back.ensures.ready
 pub returns-clause-read : goal.returns-clause-read
 unfolding HasGoneOn
 returns-clause-read g c = λ r f h. c.stream-back.ensures.read r f h
+
+pub stream-back-requires-clause-ready : goal.stream-back-requires-clause-ready
+stream-back-requires-clause-ready g c κs within = c.requires.ready
+
+pub stream-back-requires-clause-worked : goal.stream-back-requires-clause-worked
+stream-back-requires-clause-worked g c κs within = c.requires.worked
+
+pub stream-back-requires-clause-sees : goal.stream-back-requires-clause-sees
+stream-back-requires-clause-sees g c κs within = c.requires.sees
+
+pub stream-back-requires-clause-take : goal.stream-back-requires-clause-take
+stream-back-requires-clause-take g c κs within = c.requires.take
+
+pub stream-back-requires-clause-reader : goal.stream-back-requires-clause-reader
+stream-back-requires-clause-reader g c κs within = c.requires.reader
+
+pub returns-clause-calm : goal.returns-clause-calm
+returns-clause-calm g c = IfOk-at_ok _ c.in_ok-taken.was c.stream-back.ensures.calm

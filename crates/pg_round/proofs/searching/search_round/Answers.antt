@@ -1,17 +1,22 @@
-use Rattle.std.proofs.Common.{◌∙◌, List, ap, sym, subst, arith}
+use Rattle.std.proofs.Common.{◌∙◌, List, ap, sym, subst, arith, ℕ, ◌≡◌, ◌+◌, ◌<◌, ◌≤◌}
 use Rattle.std.specs.Arc.{arc_value}
 use Rattle.std.proofs.lemmas.Result.{err_from_is_err_and}
 use Rattle.pg_lines.specs.Searched.{Searched}
 use Rattle.pg_round.specs.Receipts.{HasDelivered}
 use Rattle.pg_round.specs.declared.searching.RoundFault.TheVariants.{Sink as SinkFails}
-use Rattle.pg_round.proofs.ReceiptLemmas.{broken_more, failed_none, failed_after, round_done, same_fault}
+use Rattle.pg_round.proofs.ReceiptLemmas.{broken_more, failed_none, failed_after, round_done, same_fault, no_fault, no_sink_fault}
 use Rattle.pg_round.proofs.searching.search_round.Goals as goal
+
+-- what was lent is back
+scratches_back : (left count old opened back new : ℕ) → opened ≡ count → left + count ≡ old → back ≡ opened
+    → new ≡ left + back → new ≡ old
+scratches_back left count old opened back new o l b n = omega arith
 
 pub open_round-requires-clause-few : goal.open_round-requires-clause-few
 open_round-requires-clause-few g c =
     let n = c.count_workers-count.ensures in
     let l = c.len.ensures in
-    (n.0, n.1, omega arith, c.requires.few.2)
+    (n.0, n.1, subst (λ k. c.count_workers-count.result ≤ k) l n.2, c.requires.few.2)
 
 pub open_round-requires-clause-fits : goal.open_round-requires-clause-fits
 open_round-requires-clause-fits g c = c.requires.fits
@@ -43,7 +48,7 @@ returns-in_err-board g c =
     rw (p.1, p.2) (record {
       ok = λ past st n s. tt;
       err = λ past st n s. failed_none past (g.W.Sink.taken c.args.out.now) s;
-      cause = λ past st n s is. absurd (cc is);
+      cause = λ past st n s is. no_sink_fault is;
       calm = tt;
       ready = c.requires.reader;
       read = λ r f h. h;
@@ -73,7 +78,7 @@ returns-in_err-delivered g c =
       err = λ past st n s. failed_after (g.S.Collector.stands c.search_all.new.collector) past
           c.search_all.new.take.taken (g.W.Sink.taken c.args.out.now) (g.W.Sink.taken c.search_all.new.out)
           (e.ok past st n s);
-      cause = λ past st n s is. absurd (cc is);
+      cause = λ past st n s is. no_sink_fault is;
       calm = tt;
       ready = e.ready;
       read = e.read;
@@ -116,9 +121,34 @@ returns g c =
           (λ p h f i. subst (λ (l : List Searched). HasDelivered last p left.lists l m a)
           c.in_ok-delivered.ensures.taken (c.in_ok-deliver.ensures.ok p h f i)) n;
       err = λ past st n s. tt;
-      cause = λ past st n s is. absurd (cc is);
+      cause = λ past st n s is. no_fault _ _ is;
       calm = c.in_ok-deliver.ensures.calm ∙ e.calm;
       ready = e.ready;
       read = e.read;
-      scratches = (omega arith, c.in_ok-delivered.ensures.fits);
+      scratches = (scratches_back _ _ _ _ _ _ opened lent back given, c.in_ok-delivered.ensures.fits);
     }
+
+pub count_workers-count-requires : goal.count_workers-count-requires
+count_workers-count-requires g c =
+    let n = c.requires.few in
+    let l = c.len.ensures in
+    (subst (λ k. 0 < k) (sym l) n.0, subst (λ k. k ≤ 65) (sym l) n.1, n.2, n.3)
+
+pub search_all-requires-clause-ready : goal.search_all-requires-clause-ready
+search_all-requires-clause-ready g c κs within = (sym c.in_ok-board.ensures.board.0, c.requires.short)
+
+pub search_all-requires-clause-worked : goal.search_all-requires-clause-worked
+search_all-requires-clause-worked g c κs within =
+    let w = c.in_ok-board.ensures.workers in let n = c.count_workers-count.ensures in
+    (w.1, subst (λ k. 0 < k) (sym w.0) n.0)
+
+pub search_all-requires-clause-sees : goal.search_all-requires-clause-sees
+search_all-requires-clause-sees g c κs within = c.requires.sees
+
+pub search_all-requires-clause-take : goal.search_all-requires-clause-take
+search_all-requires-clause-take g c κs within =
+    let t = c.in_ok-board.ensures.take in
+    (ap (λ t. t.tray) t, ap (λ t. t.taken) t)
+
+pub search_all-requires-clause-reader : goal.search_all-requires-clause-reader
+search_all-requires-clause-reader g c κs within = c.requires.reader

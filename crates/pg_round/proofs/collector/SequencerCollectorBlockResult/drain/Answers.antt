@@ -6,3 +6,15 @@ use Rattle.pg_round.proofs.collector.SequencerCollectorBlockResult.drain.Goals a
 
 pub returns-clause-safe : goal.returns-clause-safe
 returns-clause-safe g c = λ past st. handed_safe past st.room (shape_of (terminator past.query) (plan past) st.lawful)
+
+pub returns-clause-drained : goal.returns-clause-drained
+returns-clause-drained g c = c.drain.ensures.drained
+
+pub returns-clause-cause : goal.returns-clause-cause
+returns-clause-cause g c = c.drain.ensures.cause
+
+pub returns-clause-no_failure : goal.returns-clause-no_failure
+returns-clause-no_failure g c = c.drain.ensures.no_failure
+
+pub returns-clause-never_falls : goal.returns-clause-never_falls
+returns-clause-never_falls g c = c.drain.ensures.never_falls
