@@ -37,6 +37,9 @@ module _ {A : Type 0} (P : A → Type 0) where
   any_last [] x p = (0, x, (omega arith), refl, p)
   any_last (y ∷ ys) x p = let r = any_last ys x p in (suc r.0, r.1, (let l = r.2 in omega arith), r.3, r.4)
 
+  pub any_pushed : (xs ys : List A) (x : A) → ys ≡ xs ++ x ∷ [] → P x → Any P ys
+  any_pushed xs ys x e p = subst (λ (l : List A). Any P l) (sym e) (any_last xs x p)
+
   any_behind : (y : A) (ys : List A) (x : A) → Any P ys ⊎ P x → Any P (y ∷ ys) ⊎ P x
   any_behind y ys x (inl h) = inl (suc h.0, h.1, (let l = h.2 in omega arith), h.3, h.4)
   any_behind y ys x (inr p) = inr p

@@ -1,8 +1,8 @@
 use Rattle.std.proofs.lemmas.Result.{IfOk-from_err}
-use Rattle.std.proofs.Common.{◌≡◌, true, List, All, Any, sym, subst}
+use Rattle.std.proofs.Common.{rules, ◌≡◌, true, List, All, Any, sym, subst}
 use Rattle.pg_round.specs.declared.worker.Worker.{Worker}
 use Rattle.pg_round.specs.Workers.{task_of, HasWorked}
-use Rattle.pg_round.proofs.ListLemmas.{all_more, any_last}
+use Rattle.pg_round.proofs.ListLemmas.{all_more, any_pushed}
 use Rattle.pg_round.proofs.searching.search_rest.Goals as goal
 
 pub returns-clause-worked : goal.returns-clause-worked
@@ -13,7 +13,7 @@ returns-clause-worked g c =
 pub returns-clause-spent : goal.returns-clause-spent
 returns-clause-spent g c =
     let P : Worker g.row.A.Denot → Type 0 = λ w. w.seat.spent ≡ true in
-    subst (λ (l : List (Worker g.row.A.Denot)). Any P l) (sym c.in_ok-push.ensures.items) (any_last P c.args.back.items c.in_ok-worker.worker c.in_ok-worker.ensures.spent)
+    any_pushed P _ _ _ c.in_ok-push.ensures.items (search rules)
 
 pub search-requires-clause-ready : goal.search-requires-clause-ready
 search-requires-clause-ready g c = c.requires.ready

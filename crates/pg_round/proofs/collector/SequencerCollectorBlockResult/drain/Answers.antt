@@ -1,3 +1,4 @@
+use Rattle.std.proofs.Common.{rules}
 use Rattle.pg_lines.specs.Search.{terminator}
 use Rattle.pg_seq.specs.History.{plan}
 use Rattle.pg_seq.proofs.BeginLemmas.{shape_of}
@@ -8,7 +9,7 @@ pub returns-clause-safe : goal.returns-clause-safe
 returns-clause-safe g c = λ past st. handed_safe past st.room (shape_of (terminator past.query) (plan past) st.lawful)
 
 pub returns-clause-drained : goal.returns-clause-drained
-returns-clause-drained g c = c.drain.ensures.drained
+returns-clause-drained g c = search rules
 
 pub returns-clause-cause : goal.returns-clause-cause
 returns-clause-cause g c = c.drain.ensures.cause
