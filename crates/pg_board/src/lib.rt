@@ -11,6 +11,7 @@ mod board;
 mod delivered;
 mod draws;
 mod laws;
+mod locks;
 mod pass;
 mod puts;
 mod seat;
@@ -19,9 +20,7 @@ mod tray;
 pub use board::{Board, Drawn};
 pub use delivered::Delivered;
 pub use laws::{draws_are_complete, merges_are_whole};
+pub use locks::trays_have_no_lock;
 pub use pass::{PutPass, TakePass};
 pub use seat::Seat;
 pub use tray::Tray;
-
-#[cfg(test)]
-mod tests;
