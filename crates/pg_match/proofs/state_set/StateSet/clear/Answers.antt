@@ -29,3 +29,10 @@ returns-clause-good g c =
           absurd (w.1 f.0 (omega (arith, f.1)) f.2)
       | inr none ↦ omega arith
     ])
+
+pub loop-k-init : goal.loop-k-init
+loop-k-init g c =
+    record { order = refl; same_len = refl; size = refl; left = λ q some. (some, λ j lt. absurd (omega arith)) }
+
+pub returns-clause-size : goal.returns-clause-size
+returns-clause-size g c = c.loop-k.invariant.size
