@@ -14,7 +14,8 @@ use Rattle.pg_lines.proofs.cutter.Cutter.feed.Goals as goal
 pub returns-in_default-clause-line : goal.returns-in_default-clause-line
 returns-in_default-clause-line g c = λ past s.
     let decides = piece_decides c.args.self.now past c.args.piece.now s in
-    (λ e. (file_fits s.total refl c.args.self.now.few c.if-piece-self.false, decides.0 (chosen_none _ _ c.in_default.ensures.value)), λ h. refl)
+    let fits = file_fits s.total refl c.args.self.now.few c.if-piece-self.false in
+    (λ e. (fits, decides.0 (chosen_none _ _ c.in_default.ensures.value)), λ h. refl)
 
 pub cut_behind-requires-clause-unfinished : goal.cut_behind-requires-clause-unfinished
 cut_behind-requires-clause-unfinished g c =
@@ -125,7 +126,9 @@ returns-then-piece-self-clause-line g c =
     )
 
 pub returns-in_default-clause-file : goal.returns-in_default-clause-file
-returns-in_default-clause-file g c = λ past s. (λ e. absurd (line_not_file e), λ h. absurd (not_over (file_fits s.total refl c.args.self.now.few c.if-piece-self.false) h))
+returns-in_default-clause-file g c = λ past s.
+    let fits = file_fits s.total refl c.args.self.now.few c.if-piece-self.false in
+    (λ e. absurd (line_not_file e), λ h. absurd (not_over fits h))
 
 pub line_after-requires : goal.line_after-requires
 line_after-requires g c = c.args.self.now.line_fits
@@ -161,4 +164,6 @@ pub returns-clause-err : goal.returns-clause-err
 returns-clause-err g c = λ past s. tt
 
 pub returns-clause-file : goal.returns-clause-file
-returns-clause-file g c = λ past s. (λ e. absurd (taken_not_refused e), λ h. absurd (not_over (file_fits s.total refl c.args.self.now.few c.if-piece-self.false) h))
+returns-clause-file g c = λ past s.
+    let fits = file_fits s.total refl c.args.self.now.few c.if-piece-self.false in
+    (λ e. absurd (taken_not_refused e), λ h. absurd (not_over fits h))

@@ -1,5 +1,5 @@
-use Rattle.std.proofs.Common.{◌≡◌, ◌≤◌, ◌+◌, ℕ, List, Option, Some, None, cond, subst, sym, ap, arith, refl, length, take}
-use Rattle.std.proofs.Common.{drop}
+use Rattle.std.proofs.Common.{◌≡◌, ◌≤◌, ◌+◌, ℕ, List, Option, Some, None, cond, subst, sym, ap, arith, refl}
+use Rattle.std.proofs.Common.{length, take, drop}
 use Rattle.std.proofs.lemmas.Result.{err_from_is_err_and, IfOk-from_err}
 use Rattle.std.proofs.lemmas.List.{length-take-le}
 use Rattle.pg_lines.specs.Blocks.{IsUnfinished}
@@ -117,7 +117,8 @@ pub returns-in_default-clause-file : goal.returns-in_default-clause-file
 returns-in_default-clause-file g c =
     λ past s.
     let size = length-take-le c.args.count (room_of c.args.self.now) c.requires in
-    (λ e. absurd (line_not_file e), λ h. absurd (not_over (file_fits s.total size c.args.self.now.few c.if-count-self.false) h))
+    let fits = file_fits s.total size c.args.self.now.few c.if-count-self.false in
+    (λ e. absurd (line_not_file e), λ h. absurd (not_over fits h))
 
 pub line_after-requires : goal.line_after-requires
 line_after-requires g c = c.args.self.now.line_fits
@@ -175,7 +176,9 @@ returns-in_err-blocks-clause-file g c =
     )
 
 pub returns-in_err-blocks-clause-same : goal.returns-in_err-blocks-clause-same
-returns-in_err-blocks-clause-same g c = on_err _ c.from_residual.result (ap (drop c.args.self.now.filled) c.in_err-blocks.ensures.err.0)
+returns-in_err-blocks-clause-same g c =
+    let room = ap (drop c.args.self.now.filled) c.in_err-blocks.ensures.err.0 in
+    on_err _ c.from_residual.result room
 
 pub overflow_add-self : goal.overflow_add-self
 overflow_add-self g c = omega (arith, c.in_ok-blocks.ensures.few, c.args.self.now.numbers, c.args.self.now.few)
@@ -203,7 +206,8 @@ pub returns-clause-file : goal.returns-clause-file
 returns-clause-file g c =
     λ past s.
     let size = length-take-le c.args.count (room_of c.args.self.now) c.requires in
-    (λ e. absurd (taken_not_refused e), λ h. absurd (not_over (file_fits s.total size c.args.self.now.few c.if-count-self.false) h))
+    let fits = file_fits s.total size c.args.self.now.few c.if-count-self.false in
+    (λ e. absurd (taken_not_refused e), λ h. absurd (not_over fits h))
 
 pub returns-clause-same : goal.returns-clause-same
 returns-clause-same g c = tt
