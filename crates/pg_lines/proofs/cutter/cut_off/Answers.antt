@@ -75,3 +75,10 @@ returns-in_err-blocks-clause-err g c = on_err _ c.from_residual.result (refl, re
 
 pub returns-in_err-left-clause-err : goal.returns-in_err-left-clause-err
 returns-in_err-left-clause-err g c = on_err _ c.from_residual-in_err-left.result (refl, refl)
+
+pub returns-in_err-reserve-clause-err : goal.returns-in_err-reserve-clause-err
+returns-in_err-reserve-clause-err g c =
+    on_err _ c.from_residual-in_err-reserve.result (refl, c.in_err-reserve.ensures.items)
+
+pub returns-clause-err : goal.returns-clause-err
+returns-clause-err g c = tt
