@@ -1,5 +1,5 @@
 use Rattle.std.proofs.lemmas.Result.{IfOk-from_err}
-use Rattle.std.proofs.Common.{◌≡◌, ◌∙◌, List, ℕ, length, ap, sym, subst}
+use Rattle.std.proofs.Common.{◌∙◌, List, ℕ, length, ap, sym, subst}
 use Rattle.std.specs.Arc.{arc_value}
 use Rattle.pg_lines.specs.Blocks.{BlockData}
 use Rattle.pg_lines.specs.Queries.{Compiled}
