@@ -175,3 +175,27 @@ cuts_first end size file number len at rest piece first left blocks ready ready'
       added = ready-is ∙ append_assoc ready (b ∷ []) blocks;
       counted = omega arith;
     }
+
+-- a cutter that handed out its next block, if there was one, is the same but for its blocks
+pub handed_stands : {A : Type 0} (old new : Cutter A) (past : Fed) (r : Option BlockData) → Stands old past
+    → new.file ≡ old.file → new.size ≡ old.size → new.longest ≡ old.longest → new.end ≡ old.end
+    → new.number ≡ old.number → new.total ≡ old.total → new.line ≡ old.line → held new ≡ held old
+    → old.ready.items ≡ option_to_list r ++ new.ready.items → Stands new (handed past r)
+handed_stands old new past r s file size longest end number total line same ready =
+    let all : past.taken ++ old.ready.items ≡ (past.taken ++ option_to_list r) ++ new.ready.items =
+    ap (λ bs. past.taken ++ bs) ready ∙ sym (append_assoc past.taken (option_to_list r) new.ready.items) in
+    let C : List BlockData → Type 0 = λ bs. Cuts past.end past.size past.bytes bs (held old) in
+    let D : List ℕ → Type 0 =
+    λ xs. Cuts past.end past.size past.bytes ((past.taken ++ option_to_list r) ++ new.ready.items) xs in
+    record {
+      terminator = s.terminator ∙ sym end;
+      file = s.file ∙ sym file;
+      size = s.size ∙ sym size;
+      longest = s.longest ∙ sym longest;
+      cut = subst D (sym same) (subst C all s.cut);
+      numbered = subst (λ bs. AreNumbered past.file 0 bs) all s.numbered;
+      next = number ∙ (s.next ∙ ap length all);
+      total = total ∙ s.total;
+      short = s.short;
+      line = line ∙ s.line;
+    }

@@ -7,6 +7,7 @@ pub mod RoomLemmas
 pub mod BetweenLemmas
 pub mod CandidateLemmas
 pub mod Examples
+pub mod FaultLemmas
 pub mod GatherLemmas
 pub mod HitLemmas
 pub mod LaneLemmas

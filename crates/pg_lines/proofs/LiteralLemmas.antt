@@ -44,3 +44,11 @@ literals_are {A} text trees spelled literals alone needed enough =
           (λ l. IsEnough text (data_of l)) (λ l says yes trees' spelled' line held.
           subst (Hit line) (same_trees text trees trees' spelled spelled') (says yes line held)) literals enough);
     }
+
+-- no literal tells nothing
+pub no_literals : (text : SearchText) → AreLiterals text []
+no_literals text = record {
+  lines = λ k d low. absurd (omega arith);
+  needed = λ some. absurd (omega arith);
+  enough = λ k d low. absurd (omega arith);
+}

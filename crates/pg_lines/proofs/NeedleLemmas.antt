@@ -327,3 +327,17 @@ literals_set [] i n d below same = absurd (omega arith)
 literals_set (m ∷ needles) zero n d below same = ap (λ l. l ∷ map literal_of needles) same
 literals_set (m ∷ needles) (suc i) n d below same =
     ap (λ ls. literal_of m ∷ ls) (literals_set needles i n d (omega arith) same)
+
+-- needles of the same literals that were found anew
+pub needles_moved : {A : Type 0} (text : SearchText) (bytes : List ℕ) (at : ℕ) (old new : Needles A)
+    → AreNeedles text bytes at old → 0 < length old.needles.items → new.searched ≡ old.searched
+    → map literal_of new.needles.items ≡ map literal_of old.needles.items
+    → All (IsAhead new.searched.now at) new.needles.items → AreNeedles text bytes at new
+needles_moved text bytes at old new needles some searched literals ahead = record {
+  literals = subst (λ ls. AreLiterals text ls) (sym literals) needles.literals;
+  searched = λ _. ap (λ xs. xs.now) searched ∙ needles.searched some;
+  ahead = ahead;
+}
+
+pub as_many : (new old : List Needle) → map literal_of new ≡ map literal_of old → length new ≡ length old
+as_many new old same = sym (length-map new literal_of) ∙ (ap length same ∙ length-map old literal_of)

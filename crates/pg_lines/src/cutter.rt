@@ -4,6 +4,7 @@ ghost use Rattle.std.specs.Prelude.{IsErrOf, Some, None, Option, length, take, d
 ghost use Rattle.pg_lines.specs.Blocks.{IsFinished, IsUnfinished, Cuts, AreNumbered};
 ghost use Rattle.pg_lines.specs.Long.{has_long, open_from, CutsOff};
 ghost use Rattle.pg_lines.specs.declared.cutter.CutFault.TheVariants.{OutOfMemory};
+ghost use Rattle.std.specs.VecDeque.{deque_len, deque_capacity};
 
 use crate::block::Block;
 use memchr::{memchr, memrchr};
@@ -150,6 +151,30 @@ fn line_after(line: u32, longest: u32, end: u8, piece: &[u8]) -> Option<u32>
     }
 }
 
+/// Moves the block whose bytes `rest` has to the ready ones, and those behind it, where there is room for them all.
+/// Then `rest` has the bytes that are left.
+fn hand_over<A: Allocator + Copy>(
+    file: u32,
+    number: u64,
+    rest: &mut Vec<u8, A>,
+    left: Vec<u8, A>,
+    ready: &mut VecDeque<Block<A>, A>,
+    blocks: &mut VecDeque<Block<A>, A>,
+)
+    requires { deque_len ready.old + (deque_len blocks.old + 1) ≤ deque_capacity ready.old }
+    ensures left { rest.new ≡ left }
+    ensures ready { ready.new.items
+        ≡ (ready.old.items ++ record { file = file; number = number; bytes = rest.old.items } ∷ [])
+        ++ blocks.old.items }
+{
+    ready.push_back_reserved(Block {
+        file,
+        number,
+        bytes: mem::replace(rest, left),
+    });
+    ready.append(blocks).unwrap();
+}
+
 /// Cuts the blocks off that a piece finishes behind `rest`, and leaves there what is behind them.
 /// The first `len` bytes of the piece finish the first of them, whose size is as `Cutter::new` has it. An `Err` leaves
 /// both lists as they were.
@@ -176,12 +201,7 @@ fn cut_off<A: Allocator + Copy>(
     let count = blocks.len() as u64 + 1;
     ready.reserve(blocks.len() + 1)?;
     rest.extend_from_slice(&piece[..len])?;
-    ready.push_back_reserved(Block {
-        file: cutting.file,
-        number,
-        bytes: mem::replace(rest, left),
-    });
-    ready.append(&mut blocks).unwrap();
+    hand_over(cutting.file, number, rest, left, ready, &mut blocks);
     Ok(count)
 }
 
@@ -286,12 +306,7 @@ fn cut_open<A: Allocator + Copy>(
     let left = buffer_behind(alloc, spare, behind)?;
     let cut = (blocks.len() as u64 + 1, behind.len());
     rest.truncate(filled + len);
-    ready.push_back_reserved(Block {
-        file: cutting.file,
-        number,
-        bytes: mem::replace(rest, left),
-    });
-    ready.append(&mut blocks).unwrap();
+    hand_over(cutting.file, number, rest, left, ready, &mut blocks);
     Ok(cut)
 }
 

@@ -45,6 +45,32 @@ pub record Copying (old new : Remembered) (s : Members) (start k : ℕ) : Type 0
   pub cuts : new.cuts ≡ old.cuts
   pub count : new.count ≡ old.count
 
+-- one more state is copied
+pub copied_more : (old mid new : Remembered) (s : Members) (start k v : ℕ) → Copying old mid s start k
+    → start + k < length old.pool → v ≡ listed s k → new.pool ≡ set mid.pool (start + k) v → new.steps ≡ mid.steps
+    → new.ends ≡ mid.ends → new.fresh ≡ mid.fresh → new.cuts ≡ mid.cuts → new.count ≡ mid.count
+    → Copying old new s start (k + 1)
+copied_more old mid new s start k v c low is pool steps ends fresh cuts count =
+    let size = c.size in
+    let place = start + k in
+    record {
+      size = omega (arith, ap length pool, length-set {A = ℕ}, size);
+      before = λ j lt. ap (λ xs. slice_index xs j) pool
+          ∙ (get_or-set_other mid.pool place j v 0 (omega arith) ∙ c.before j lt);
+      copied = λ j lt. elim (cases_eq j k) [
+        | inl same ↦ ap (λ xs. slice_index xs (start + j)) pool
+            ∙ (ap (λ i. slice_index (set mid.pool place v) (start + i)) same
+            ∙ (get_or-set_same mid.pool place v 0 (omega arith) ∙ (is ∙ ap (λ i. listed s i) (sym same))))
+        | inr other ↦ ap (λ xs. slice_index xs (start + j)) pool
+            ∙ (get_or-set_other mid.pool place (start + j) v 0 (omega arith) ∙ c.copied j (omega arith))
+      ];
+      steps = steps ∙ c.steps;
+      ends = ends ∙ c.ends;
+      fresh = fresh ∙ c.fresh;
+      cuts = cuts ∙ c.cuts;
+      count = count ∙ c.count;
+    }
+
 -- what the table reads
 pub same_list : (mem : Remembered) (r start : ℕ) (s : Members) → IsGood s → start ≡ cut mem r → start + s.len ≡ cut mem (r + 1)
     → ((j : ℕ) → j < s.len → get_or mem.pool (start + j) 0 ≡ get_or s.order j 0) → Same (Has s) (In mem r)

@@ -78,7 +78,10 @@ impl<A: Allocator> Automaton<A> {
     {
         let size = self.states.len() as u128;
         let most = line.len() as u128 * size;
-        if sets.visits > most || !self.first(sets, memory) {
+        if sets.visits > most {
+            return;
+        }
+        if !self.first(sets, memory) {
             return;
         }
         let mut state = if from == 0 { 256 } else { 0 };

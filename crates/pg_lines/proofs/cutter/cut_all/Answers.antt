@@ -76,3 +76,15 @@ returns-in_err-push_back-clause-cut g c =
 pub returns-in_err-push_back-clause-numbered : goal.returns-in_err-push_back-clause-numbered
 returns-in_err-push_back-clause-numbered g c =
     IfOk-from_err c.from_residual-in_err-push_back.result _ c.from_residual-in_err-push_back.ensures.0
+
+pub first_cut-requires-clause-size : goal.first_cut-requires-clause-size
+first_cut-requires-clause-size g c = c.requires.size
+
+pub returns-clause-within : goal.returns-clause-within
+returns-clause-within g c = c.loop-len.invariant.within
+
+pub returns-clause-few : goal.returns-clause-few
+returns-clause-few g c = c.loop-len.invariant.few
+
+pub returns-clause-numbered : goal.returns-clause-numbered
+returns-clause-numbered g c = c.loop-len.invariant.numbered

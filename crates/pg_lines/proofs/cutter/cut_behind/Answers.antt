@@ -1,5 +1,6 @@
-use Rattle.std.proofs.Common.{◌++◌, ℕ, List, sym, subst}
-use Rattle.pg_lines.specs.Blocks.{IsUnfinished}
+use Rattle.std.proofs.lemmas.Result.{IfOk-from_err}
+use Rattle.std.proofs.Common.{◌++◌, ℕ, List, take, sym, subst}
+use Rattle.pg_lines.specs.Blocks.{IsFinished, IsUnfinished}
 use Rattle.pg_lines.specs.Long.{CutsOff}
 use Rattle.pg_lines.proofs.CutterLemmas.{cuts_none}
 use Rattle.pg_lines.proofs.cutter.cut_behind.Goals as goal
@@ -38,3 +39,20 @@ returns-in-Some-clause-few g c = c.cut_off.ensures.few
 
 pub returns-in-Some-clause-err : goal.returns-in-Some-clause-err
 returns-in-Some-clause-err g c = c.cut_off.ensures.err
+
+pub cut_off-requires-clause-len : goal.cut_off-requires-clause-len
+cut_off-requires-clause-len g c = c.in-Some.ensures.within
+
+pub cut_off-requires-clause-finished : goal.cut_off-requires-clause-finished
+cut_off-requires-clause-finished g c =
+    let k = c.args.cutting in
+    let P : List ℕ → Type 0 = λ xs. IsFinished k.end k.size (xs ++ take c.in-Some.len c.args.piece.now) in
+    subst P c.as_slice.ensures.value c.in-Some.ensures.some
+
+pub returns-in_err-extend_from_slice-in-None-clause-ok : goal.returns-in_err-extend_from_slice-in-None-clause-ok
+returns-in_err-extend_from_slice-in-None-clause-ok g c =
+    IfOk-from_err c.from_residual.result _ c.from_residual.ensures.0
+
+pub returns-in_err-extend_from_slice-in-None-clause-few : goal.returns-in_err-extend_from_slice-in-None-clause-few
+returns-in_err-extend_from_slice-in-None-clause-few g c =
+    IfOk-from_err c.from_residual.result _ c.from_residual.ensures.0

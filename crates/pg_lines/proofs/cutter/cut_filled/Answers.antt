@@ -1,6 +1,6 @@
 use Rattle.std.proofs.Common.{◌≡◌, ◌++◌, ℕ, List, take, drop, sym, ap, ◌∙◌, subst}
 use Rattle.std.proofs.Math.Seq.{take-add}
-use Rattle.pg_lines.specs.Blocks.{IsUnfinished}
+use Rattle.pg_lines.specs.Blocks.{IsFinished, IsUnfinished}
 use Rattle.pg_lines.specs.Long.{CutsOff}
 use Rattle.pg_lines.proofs.CutterLemmas.{cuts_none}
 use Rattle.pg_lines.proofs.cutter.cut_filled.Goals as goal
@@ -55,3 +55,16 @@ returns-in-Some-clause-few g c = c.cut_open.ensures.few
 
 pub returns-in-Some-clause-err : goal.returns-in-Some-clause-err
 returns-in-Some-clause-err g c = c.cut_open.ensures.err
+
+pub cut_open-requires-clause-finished : goal.cut_open-requires-clause-finished
+cut_open-requires-clause-finished g c =
+    let k = c.args.cutting in
+    let all = c.args.rest.now.items in
+    let len = c.in-Some.len in
+    let front = c.split_at.ensures.front ∙ ap (take c.args.filled) c.as_slice.ensures.value in
+    let back = c.split_at.ensures.back ∙ ap (drop c.args.filled) c.as_slice.ensures.value in
+    let P : List ℕ → Type 0 =
+    λ xs. IsFinished k.end k.size (xs ++ take len (take c.args.count c.split_at.result.1.now)) in
+    let Q : List ℕ → Type 0 =
+    λ xs. IsFinished k.end k.size (take c.args.filled all ++ take len (take c.args.count xs)) in
+    subst Q back (subst P front c.in-Some.ensures.some)

@@ -1,6 +1,6 @@
 use Rattle.pg_lines.proofs.RoomLemmas.{on_err}
 use Rattle.std.proofs.lemmas.Result.{IfOk-from_err}
-use Rattle.std.proofs.Common.{◌≡◌, ◌+◌, ◌++◌, ◌∷◌, [], ℕ, List, Vec, is_ok, cond, length, drop, sym, ap, ◌∙◌, subst}
+use Rattle.std.proofs.Common.{◌≡◌, ◌+◌, ◌++◌, ◌∷◌, [], ℕ, List, Vec, length, drop, sym, ap, ◌∙◌, subst}
 use Rattle.std.proofs.Common.{refl}
 use Rattle.std.proofs.lemmas.List.{take_rest}
 use Rattle.pg_lines.specs.Blocks.{BlockData, Cuts}
@@ -20,18 +20,14 @@ returns-clause-ok g c =
     let at = c.in_ok-blocks.at in
     let P : List ℕ → Type 0 = λ xs. Cuts k.end k.size xs blocks (drop at xs) in
     let cuts = subst P (take_rest piece c.args.len) c.in_ok-blocks.ensures.cut in
-    let first = ap items c.replace.ensures.value ∙ c.in_ok-extend_from_slice.ensures.items in
-    let left = ap items c.replace.ensures.after ∙ (c.in_ok-left.ensures ∙ take_rest piece (c.args.len + at)) in
-    let b : BlockData = record { file = k.file; number = number; bytes = c.replace.result.items } in
-    let pushed =
-    c.push_back_reserved.ensures.items ∙ ap (λ (bs : List BlockData). bs ++ b ∷ []) c.in_ok-reserve.ensures.items in
-    let with_first = c.push_back_reserved.new.self.items in
+    let first = c.in_ok-extend_from_slice.ensures.items in
+    let left = ap items c.hand_over.ensures.left ∙ (c.in_ok-left.ensures ∙ take_rest piece (c.args.len + at)) in
+    let b : BlockData =
+    record { file = k.file; number = number; bytes = c.extend_from_slice.new.self.items } in
     let appended =
-    c.append.ensures.items
-    ∙ (ap (λ r. cond (is_ok r) (with_first ++ blocks) with_first) c.unwrap.ensures
-    ∙ ap (λ (bs : List BlockData). bs ++ blocks) pushed) in
-    let ready' = c.append.new.self.items in
-    let rest' = c.replace.new.dest.items in
+    c.hand_over.ensures.ready ∙ ap (λ (bs : List BlockData). (bs ++ b ∷ []) ++ blocks) c.in_ok-reserve.ensures.items in
+    let ready' = c.hand_over.new.ready.items in
+    let rest' = c.hand_over.new.rest.items in
     let count : c.len.result ≡ length blocks = c.len.ensures ∙ c.in_ok-blocks.blocks.ok.0 in
     let N : ℕ → Type 0 = λ n. CutsOff k.end k.size k.file number (rest ++ piece) ready ready' rest' (n + 1) in
     subst N (sym count)
@@ -79,3 +75,10 @@ returns-in_err-blocks-clause-err g c = on_err _ c.from_residual.result (refl, re
 
 pub returns-in_err-left-clause-err : goal.returns-in_err-left-clause-err
 returns-in_err-left-clause-err g c = on_err _ c.from_residual-in_err-left.result (refl, refl)
+
+pub returns-in_err-reserve-clause-err : goal.returns-in_err-reserve-clause-err
+returns-in_err-reserve-clause-err g c =
+    on_err _ c.from_residual-in_err-reserve.result (refl, c.in_err-reserve.ensures.items)
+
+pub returns-clause-err : goal.returns-clause-err
+returns-clause-err g c = tt

@@ -1,6 +1,6 @@
 use Rattle.pg_lines.proofs.RoomLemmas.{on_err}
 use Rattle.std.proofs.lemmas.Result.{IfOk-from_err}
-use Rattle.std.proofs.Common.{◌≡◌, ◌+◌, ◌-◌, ◌++◌, ◌∷◌, [], ℕ, List, Vec, is_ok, cond, length, take, drop, sym, ap}
+use Rattle.std.proofs.Common.{◌≡◌, ◌+◌, ◌-◌, ◌++◌, ◌∷◌, [], ℕ, List, Vec, length, take, drop, sym, ap}
 use Rattle.std.proofs.Common.{◌∙◌, refl}
 use Rattle.std.proofs.Common.{subst}
 use Rattle.std.proofs.lemmas.List.{take_rest, take-take}
@@ -30,23 +30,17 @@ returns-clause-ok g c =
     let Q : List ℕ → Type 0 = λ xs. Cuts k.end k.size (drop len xs) blocks (drop at (drop len xs)) in
     let cuts = subst Q given-is (subst P (take_rest given len) c.in_ok-blocks.ensures.cut) in
     let front : take len behind ≡ take len piece = sym (take-take len c.args.count behind c.requires.len.1) in
-    let first : c.replace.result.items ≡ rest ++ take len piece =
-    ap items c.replace.ensures.value
-    ∙ (c.truncate.ensures.items ∙ (take-add c.args.filled len all ∙ ap (λ xs. rest ++ xs) front)) in
+    let first : c.truncate.new.self.items ≡ rest ++ take len piece =
+    c.truncate.ensures.items ∙ (take-add c.args.filled len all ∙ ap (λ xs. rest ++ xs) front) in
     let tail = take (length given - (len + at)) (drop (len + at) given) in
-    let rest' = take (length tail) c.replace.new.dest.items in
+    let rest' = take (length tail) c.hand_over.new.rest.items in
     let left : rest' ≡ drop (len + at) piece =
-    ap (take (length tail)) (ap items c.replace.ensures.after)
+    ap (take (length tail)) (ap items c.hand_over.ensures.left)
     ∙ (c.in_ok-left.ensures.begins ∙ (take_rest given (len + at) ∙ ap (drop (len + at)) given-is)) in
-    let b : BlockData = record { file = k.file; number = number; bytes = c.replace.result.items } in
-    let pushed =
-    c.push_back_reserved.ensures.items ∙ ap (λ (bs : List BlockData). bs ++ b ∷ []) c.in_ok-reserve.ensures.items in
-    let with_first = c.push_back_reserved.new.self.items in
+    let b : BlockData = record { file = k.file; number = number; bytes = c.truncate.new.self.items } in
     let appended =
-    c.append.ensures.items
-    ∙ (ap (λ r. cond (is_ok r) (with_first ++ blocks) with_first) c.unwrap.ensures
-    ∙ ap (λ (bs : List BlockData). bs ++ blocks) pushed) in
-    let ready' = c.append.new.self.items in
+    c.hand_over.ensures.ready ∙ ap (λ (bs : List BlockData). (bs ++ b ∷ []) ++ blocks) c.in_ok-reserve.ensures.items in
+    let ready' = c.hand_over.new.ready.items in
     let count : c.len-2.result ≡ length blocks = c.len-2.ensures ∙ c.in_ok-blocks.blocks.ok.0 in
     let N : ℕ → Type 0 = λ n. CutsOff k.end k.size k.file number (rest ++ piece) ready ready' rest' (n + 1) in
     subst N (sym count)
@@ -91,3 +85,13 @@ cut_all-requires-clause-size g c = c.requires.size.0
 
 pub returns-in_err-blocks-clause-err : goal.returns-in_err-blocks-clause-err
 returns-in_err-blocks-clause-err g c = on_err _ c.from_residual.result (refl, refl)
+
+pub returns-in_err-reserve-clause-err : goal.returns-in_err-reserve-clause-err
+returns-in_err-reserve-clause-err g c =
+    on_err _ c.from_residual-in_err-reserve.result (refl, c.in_err-reserve.ensures.items)
+
+pub returns-in_err-left-clause-err : goal.returns-in_err-left-clause-err
+returns-in_err-left-clause-err g c = on_err _ c.from_residual-in_err-left.result (refl, c.in_ok-reserve.ensures.items)
+
+pub returns-clause-err : goal.returns-clause-err
+returns-clause-err g c = tt

@@ -23,3 +23,18 @@ returns-else-options-clause-parts g c = λ trees spelled text one chosen.
           let unasked : c.options.inside.pieces ≡ false = w.if-options.false in
           kept_none c.args.found.now.items (map put (parts q text)) q.text.pieces (inl (sym pieces ∙ unasked))
     ]
+
+pub push_parts-requires-clause-fits : goal.push_parts-requires-clause-fits
+push_parts-requires-clause-fits g c = c.requires.fits
+
+pub of-requires-clause-ordered : goal.of-requires-clause-ordered
+of-requires-clause-ordered g c = c.requires.ordered
+
+pub of-requires-clause-within : goal.of-requires-clause-within
+of-requires-clause-within g c = c.requires.within
+
+pub returns-then-not-options-clause-fits : goal.returns-then-not-options-clause-fits
+returns-then-not-options-clause-fits g c = c.push_parts.ensures.fits
+
+pub returns-else-options-clause-fits : goal.returns-else-options-clause-fits
+returns-else-options-clause-fits g c = c.requires.fits

@@ -1,12 +1,13 @@
 use Rattle.std.proofs.lemmas.Result.{IfOk-from_err}
-use Rattle.std.proofs.Common.{◌≡◌, ◌<◌, List, length, map, ap, subst, rules}
+use Rattle.std.proofs.Common.{◌≡◌, ◌<◌, List, length, map, sym, ap, subst, rules}
 use Rattle.std.specs.List.{All}
 use Rattle.pg_syntax.specs.Trees.{pattern}
 use Rattle.pg_literal.specs.Literals as P
 use Rattle.pg_literal.specs.declared.literal.Literal.{Literal}
+use Rattle.pg_lines.specs.Literals.{AreLiterals, data_of}
 use Rattle.pg_lines.specs.Lines.{IsLine}
 use Rattle.pg_lines.specs.Search.{SearchText, Bounds, terminator_of}
-use Rattle.pg_lines.proofs.LiteralLemmas.{literals_are}
+use Rattle.pg_lines.proofs.LiteralLemmas.{literals_are, no_literals}
 use Rattle.pg_lines.proofs.query.literals_of.Goals as goal
 
 pub returns-then-are_within_lines : goal.returns-then-are_within_lines
@@ -28,3 +29,8 @@ returns-then-are_within_lines g c =
 
 pub returns-in_err-literals : goal.returns-in_err-literals
 returns-in_err-literals g c = IfOk-from_err c.from_residual.result _ c.from_residual.ensures.0
+
+pub returns-else-are_within_lines : goal.returns-else-are_within_lines
+returns-else-are_within_lines g c =
+    let P : List (Literal g.row.A.Denot) → Type 0 = λ ls. AreLiterals c.args.text.now (map data_of ls) in
+    subst P (sym c.new.ensures.items) (no_literals c.args.text.now)

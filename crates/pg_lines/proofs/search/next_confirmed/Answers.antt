@@ -126,3 +126,39 @@ returns-clause-none g c = λ trees spelled.
     if_none : (P Q : Type 0) (o : Option Span) → (P → Q) → IfNone o P → IfNone o Q
     if_none P Q None more h = more h
     if_none P Q (Some x) more h = h
+
+pub next_line-requires-clause-at : goal.next_line-requires-clause-at
+next_line-requires-clause-at g c = c.loop-in_vain.invariant.within
+
+pub next_line-requires-clause-needles : goal.next_line-requires-clause-needles
+next_line-requires-clause-needles g c = c.loop-in_vain.invariant.needles
+
+pub next_line-requires-clause-some : goal.next_line-requires-clause-some
+next_line-requires-clause-some g c = c.loop-in_vain.invariant.some
+
+pub returns-in_default-clause-needles : goal.returns-in_default-clause-needles
+returns-in_default-clause-needles g c = tt
+
+pub returns-in_default-clause-fits : goal.returns-in_default-clause-fits
+returns-in_default-clause-fits g c = c.loop-in_vain.invariant.fits
+
+pub returns-in_default-clause-within : goal.returns-in_default-clause-within
+returns-in_default-clause-within g c = tt
+
+pub returns-in_default-clause-some : goal.returns-in_default-clause-some
+returns-in_default-clause-some g c = λ trees spelled. tt
+
+pub has_hit-requires-clause-fits : goal.has_hit-requires-clause-fits
+has_hit-requires-clause-fits g c = c.loop-in_vain.invariant.fits
+
+pub next_matched-requires-clause-at : goal.next_matched-requires-clause-at
+next_matched-requires-clause-at g c = c.loop-in_vain.invariant.within
+
+pub next_matched-requires-clause-fits : goal.next_matched-requires-clause-fits
+next_matched-requires-clause-fits g c = c.loop-in_vain.invariant.fits
+
+pub next_matched-requires-clause-short : goal.next_matched-requires-clause-short
+next_matched-requires-clause-short g c = c.loop-in_vain.invariant.short
+
+pub returns-clause-fits : goal.returns-clause-fits
+returns-clause-fits g c = c.next_matched.ensures.fits

@@ -56,3 +56,12 @@ loop-start-preserved g c =
           (i.unselected trees spelled) (sym (c.has_hit.ensures.hit trees spelled) ∙ c.if-has_hit.false);
       short = (scanned_short (terminator_of text) _ rest s stop next c.terminator-end.ensures e.line i.short goes).1;
     }
+
+pub has_hit-requires-clause-fits : goal.has_hit-requires-clause-fits
+has_hit-requires-clause-fits g c = c.loop-start.invariant.fits
+
+pub returns-then-has_hit-clause-fits : goal.returns-then-has_hit-clause-fits
+returns-then-has_hit-clause-fits g c = c.has_hit.ensures.fits
+
+pub returns-clause-fits : goal.returns-clause-fits
+returns-clause-fits g c = c.loop-start.invariant.fits

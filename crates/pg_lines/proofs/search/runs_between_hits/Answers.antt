@@ -106,3 +106,30 @@ returns-in_err-push_run-2-clause-parts g c =
 pub returns-in_err-push_run-2-clause-lines : goal.returns-in_err-push_run-2-clause-lines
 returns-in_err-push_run-2-clause-lines g c =
     IfOk-from_err c.from_residual-in_err-push_run-2.result _ c.from_residual-in_err-push_run-2.ensures.0
+
+pub next_hit-requires-clause-at : goal.next_hit-requires-clause-at
+next_hit-requires-clause-at g c = c.loop-line.invariant.within
+
+pub next_hit-requires-clause-needles : goal.next_hit-requires-clause-needles
+next_hit-requires-clause-needles g c = c.loop-line.invariant.needles
+
+pub next_hit-requires-clause-fits : goal.next_hit-requires-clause-fits
+next_hit-requires-clause-fits g c = c.loop-line.invariant.fits
+
+pub next_hit-requires-clause-short : goal.next_hit-requires-clause-short
+next_hit-requires-clause-short g c = c.loop-line.invariant.short
+
+pub run_between-run-requires-clause-few : goal.run_between-run-requires-clause-few
+run_between-run-requires-clause-few g c = c.loop-line.invariant.few
+
+pub run_between-last-requires-clause-few : goal.run_between-last-requires-clause-few
+run_between-last-requires-clause-few g c = c.loop-line.invariant.few
+
+pub returns-in_err-push_run-clause-fits : goal.returns-in_err-push_run-clause-fits
+returns-in_err-push_run-clause-fits g c = c.in-Some.ensures.fits
+
+pub returns-in_err-push_run-2-clause-fits : goal.returns-in_err-push_run-2-clause-fits
+returns-in_err-push_run-2-clause-fits g c = c.in_default.ensures.fits
+
+pub returns-clause-fits : goal.returns-clause-fits
+returns-clause-fits g c = c.in_default.ensures.fits

@@ -175,3 +175,39 @@ returns-in_err-push_run-clause-parts g c =
 pub returns-in_err-push_run-clause-lines : goal.returns-in_err-push_run-clause-lines
 returns-in_err-push_run-clause-lines g c =
     IfOk-from_err c.from_residual-in_err-push_run.result _ c.from_residual-in_err-push_run.ensures.0
+
+pub next_hit-requires-clause-at : goal.next_hit-requires-clause-at
+next_hit-requires-clause-at g c = c.loop-line.invariant.within
+
+pub next_hit-requires-clause-needles : goal.next_hit-requires-clause-needles
+next_hit-requires-clause-needles g c = c.loop-line.invariant.needles
+
+pub next_hit-requires-clause-fits : goal.next_hit-requires-clause-fits
+next_hit-requires-clause-fits g c = c.loop-line.invariant.fits
+
+pub next_hit-requires-clause-short : goal.next_hit-requires-clause-short
+next_hit-requires-clause-short g c = c.loop-line.invariant.short
+
+pub with_line-requires-clause-few : goal.with_line-requires-clause-few
+with_line-requires-clause-few g c = c.loop-line.invariant.few
+
+pub with_line-requires-clause-within : goal.with_line-requires-clause-within
+with_line-requires-clause-within g c = c.in-Some.ensures.within
+
+pub returns-in_err-run-clause-fits : goal.returns-in_err-run-clause-fits
+returns-in_err-run-clause-fits g c = c.in-Some.ensures.fits
+
+pub push_line_parts-requires-clause-fits : goal.push_line_parts-requires-clause-fits
+push_line_parts-requires-clause-fits g c = c.in-Some.ensures.fits
+
+pub push_line_parts-requires-clause-within : goal.push_line_parts-requires-clause-within
+push_line_parts-requires-clause-within g c = c.in-Some.ensures.within.2
+
+pub returns-in_err-push_line_parts-clause-fits : goal.returns-in_err-push_line_parts-clause-fits
+returns-in_err-push_line_parts-clause-fits g c = c.in_err-push_line_parts.ensures.fits
+
+pub returns-in_err-push_run-clause-fits : goal.returns-in_err-push_run-clause-fits
+returns-in_err-push_run-clause-fits g c = c.in_default.ensures.fits
+
+pub returns-clause-fits : goal.returns-clause-fits
+returns-clause-fits g c = c.in_default.ensures.fits

@@ -32,3 +32,18 @@ returns-clause-parts g c = c.selected_runs.ensures.parts
 
 pub returns-clause-lines : goal.returns-clause-lines
 returns-clause-lines g c = c.selected_runs.ensures.lines
+
+pub returns-in_err-needles-clause-fits : goal.returns-in_err-needles-clause-fits
+returns-in_err-needles-clause-fits g c = c.requires.fits
+
+pub selected_runs-requires-clause-compiled : goal.selected_runs-requires-clause-compiled
+selected_runs-requires-clause-compiled g c = c.requires.compiled
+
+pub selected_runs-requires-clause-fits : goal.selected_runs-requires-clause-fits
+selected_runs-requires-clause-fits g c = c.requires.fits
+
+pub selected_runs-requires-clause-short : goal.selected_runs-requires-clause-short
+selected_runs-requires-clause-short g c = c.requires.short
+
+pub returns-clause-fits : goal.returns-clause-fits
+returns-clause-fits g c = c.selected_runs.ensures.fits

@@ -27,3 +27,36 @@ returns-else-text-clause-parts g c = c.search_by-else-text.ensures.parts
 
 pub returns-else-text-clause-lines : goal.returns-else-text-clause-lines
 returns-else-text-clause-lines g c = c.search_by-else-text.ensures.lines
+
+pub returns-in_err-lowered-clause-fits : goal.returns-in_err-lowered-clause-fits
+returns-in_err-lowered-clause-fits g c = c.requires.fits
+
+pub search_by-requires-clause-compiled : goal.search_by-requires-clause-compiled
+search_by-requires-clause-compiled g c = c.literals-literals.ensures.compiled
+
+pub search_by-requires-clause-literals : goal.search_by-requires-clause-literals
+search_by-requires-clause-literals g c = c.literals-literals.ensures.literals
+
+pub search_by-requires-clause-fits : goal.search_by-requires-clause-fits
+search_by-requires-clause-fits g c = c.requires.fits
+
+pub search_by-requires-clause-short : goal.search_by-requires-clause-short
+search_by-requires-clause-short g c = c.requires.short
+
+pub search_by-requires-else-text-clause-compiled : goal.search_by-requires-else-text-clause-compiled
+search_by-requires-else-text-clause-compiled g c = c.literals-literals.ensures.compiled
+
+pub search_by-requires-else-text-clause-literals : goal.search_by-requires-else-text-clause-literals
+search_by-requires-else-text-clause-literals g c = c.literals-literals.ensures.literals
+
+pub search_by-requires-else-text-clause-fits : goal.search_by-requires-else-text-clause-fits
+search_by-requires-else-text-clause-fits g c = c.requires.fits
+
+pub search_by-requires-else-text-clause-short : goal.search_by-requires-else-text-clause-short
+search_by-requires-else-text-clause-short g c = c.requires.short
+
+pub returns-in_ok-lowered-clause-fits : goal.returns-in_ok-lowered-clause-fits
+returns-in_ok-lowered-clause-fits g c = c.search_by.ensures.fits
+
+pub returns-else-text-clause-fits : goal.returns-else-text-clause-fits
+returns-else-text-clause-fits g c = c.search_by-else-text.ensures.fits

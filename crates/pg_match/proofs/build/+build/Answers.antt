@@ -1,38 +1,52 @@
 use Rattle.std.proofs.lemmas.Result.{IfOk-from_err}
-use Rattle.std.proofs.Common.{◌≡◌, ◌+◌, ◌-◌, ◌*◌, ◌<◌, ◌≤◌, length, arith, refl, rules}
+use Rattle.std.proofs.Common.{◌≡◌, ◌≢◌, ℕ, ◌+◌, ◌-◌, ◌*◌, ◌<◌, ◌≤◌, length, arith, refl, rules}
+use Rattle.pg_bytes.specs.declared.byte_set.ByteSet.{ByteSet}
 use Rattle.pg_syntax.specs.Patterns.{Empty, Set, Begin, End, Rep}
 use Rattle.pg_syntax.specs.Trees.{pattern}
 use Rattle.pg_syntax.specs.declared.tree.Tree.{the_lemmas}
 use Rattle.pg_match.specs.Sizes.{size_of}
-use Rattle.pg_match.specs.declared.state.State.TheVariants.{Jump, Read, AtBegin, AtEnd}
+use Rattle.pg_match.specs.declared.state.State.TheVariants.{Accept, Jump, Read, AtBegin, AtEnd}
 use Rattle.pg_match.proofs.PatternLemmas.{pattern-empty, pattern-set, pattern-begin, pattern-end, pattern-cat, pattern-alt, pattern-rep}
 use Rattle.pg_match.proofs.TableLemmas.{pushed_length, pushed_keeps, pushed_tidy, copy_added, option_added, rest_added}
 use Rattle.pg_match.proofs.GapLemmas.{hole_kept, hole_any, gap_any, has_cat, completes_cat, completes_narrowed, finished, finished_leaf, nothing_added, narrowed_at, choice_narrowed, loop_narrowed, shared, hole_behind_options, option_narrowed, copies_narrowed}
 use Rattle.pg_match.proofs.build.+build.Goals as goal
 
+-- the states of leaves aren't the last one
+jump_apart : (n : ℕ) → Jump n ≢ Accept
+jump_apart n e = cc
+
+read_apart : (set : ByteSet) (n : ℕ) → Read set n ≢ Accept
+read_apart set n e = cc
+
+begin_apart : (n : ℕ) → AtBegin n ≢ Accept
+begin_apart n e = cc
+
+end_apart : (n : ℕ) → AtEnd n ≢ Accept
+end_apart n e = cc
+
 pub add-returns-in-Empty : goal.add-returns-in-Empty
 add-returns-in-Empty g t c =
     let inv = c.loop-tree.invariant in
     finished_leaf _ _ _ _ _ _ Empty (Jump _) _ c.finish.result inv.has inv.completes inv.size (pattern-empty _ c.in-Empty.is)
-    inv.has.gap_in.next_in (λ u e h. h) refl (λ z. cc) c.finish.ensures
+    inv.has.gap_in.next_in (λ u e h. h) refl (jump_apart _) c.finish.ensures
 
 pub add-returns-in-Set : goal.add-returns-in-Set
 add-returns-in-Set g t c =
     let inv = c.loop-tree.invariant in
     finished_leaf _ _ _ _ _ _ (Set _) (Read _ _) _ c.finish-in-Set.result inv.has inv.completes inv.size (pattern-set _ _ c.in-Set.is)
-    inv.has.gap_in.next_in (λ u e h. (_, refl, h)) refl (λ z. cc) c.finish-in-Set.ensures
+    inv.has.gap_in.next_in (λ u e h. (_, refl, h)) refl (read_apart _ _) c.finish-in-Set.ensures
 
 pub add-returns-in-Begin : goal.add-returns-in-Begin
 add-returns-in-Begin g t c =
     let inv = c.loop-tree.invariant in
     finished_leaf _ _ _ _ _ _ Begin (AtBegin _) _ c.finish-in-Begin.result inv.has inv.completes inv.size (pattern-begin _ c.in-Begin.is)
-    inv.has.gap_in.next_in (λ u e h. h) refl (λ z. cc) c.finish-in-Begin.ensures
+    inv.has.gap_in.next_in (λ u e h. h) refl (begin_apart _) c.finish-in-Begin.ensures
 
 pub add-returns-in-End : goal.add-returns-in-End
 add-returns-in-End g t c =
     let inv = c.loop-tree.invariant in
     finished_leaf _ _ _ _ _ _ End (AtEnd _) _ c.finish-in-End.result inv.has inv.completes inv.size (pattern-end _ c.in-End.is)
-    inv.has.gap_in.next_in (λ u e h. h) refl (λ z. cc) c.finish-in-End.ensures
+    inv.has.gap_in.next_in (λ u e h. h) refl (end_apart _) c.finish-in-End.ensures
 
 pub add-loop-tree-preserved-in-Cat : goal.add-loop-tree-preserved-in-Cat
 add-loop-tree-preserved-in-Cat g t c =

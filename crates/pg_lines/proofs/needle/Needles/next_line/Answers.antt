@@ -1,11 +1,11 @@
-use Rattle.std.proofs.Common.{◌-◌, List, length, take, drop, sym, ap, ◌∙◌, subst, arith}
+use Rattle.std.proofs.Common.{◌-◌, List, length, take, drop, sym, ap, ◌∙◌, subst, arith, refl}
 use Rattle.std.specs.List.{All}
 use Rattle.std.proofs.lemmas.Bool.{eqb-false}
 use Rattle.std.proofs.lemmas.List.{take_rest}
 use Rattle.pg_lines.specs.Lines.{IsLine}
 use Rattle.pg_lines.specs.Literals.{LiteralData}
 use Rattle.pg_lines.specs.Search.{terminator_of}
-use Rattle.pg_lines.proofs.NeedleLemmas.{nowhere_further, next_found, plain_end}
+use Rattle.pg_lines.proofs.NeedleLemmas.{nowhere_further, next_found, plain_end, needles_moved, as_many}
 use Rattle.pg_lines.proofs.needle.Needles.next_line.Goals as goal
 
 pub returns-in_default-clause-none : goal.returns-in_default-clause-none
@@ -55,3 +55,45 @@ returns-clause-some g c =
     c.in-Some.ensures.stands c.in-Some.ensures.least begin.low begin.clear begin.whole c.end_of_line.ensures
     (omega (arith, ne)) in
     line.0
+
+pub returns-then-is_empty-clause-needles : goal.returns-then-is_empty-clause-needles
+returns-then-is_empty-clause-needles g c = c.requires.needles
+
+pub returns-then-is_empty-clause-count : goal.returns-then-is_empty-clause-count
+returns-then-is_empty-clause-count g c = refl
+
+pub returns-then-is_empty-clause-within : goal.returns-then-is_empty-clause-within
+returns-then-is_empty-clause-within g c = tt
+
+pub returns-then-is_empty-clause-some : goal.returns-then-is_empty-clause-some
+returns-then-is_empty-clause-some g c = tt
+
+pub advance-requires-clause-ahead : goal.advance-requires-clause-ahead
+advance-requires-clause-ahead g c = c.requires.needles.ahead
+
+pub returns-in_default-clause-needles : goal.returns-in_default-clause-needles
+returns-in_default-clause-needles g c =
+    needles_moved c.args.query.now.text c.args.bytes.now c.args.at c.args.self.now c.advance.new.self c.requires.needles
+    c.requires.some c.advance.ensures.searched c.advance.ensures.literals c.advance.ensures.ahead
+
+pub returns-in_default-clause-count : goal.returns-in_default-clause-count
+returns-in_default-clause-count g c =
+    as_many c.advance.new.self.needles.items c.args.self.now.needles.items c.advance.ensures.literals
+
+pub returns-in_default-clause-within : goal.returns-in_default-clause-within
+returns-in_default-clause-within g c = tt
+
+pub returns-in_default-clause-some : goal.returns-in_default-clause-some
+returns-in_default-clause-some g c = tt
+
+pub returns-clause-needles : goal.returns-clause-needles
+returns-clause-needles g c =
+    needles_moved c.args.query.now.text c.args.bytes.now c.args.at c.args.self.now c.advance.new.self c.requires.needles
+    c.requires.some c.advance.ensures.searched c.advance.ensures.literals c.advance.ensures.ahead
+
+pub returns-clause-count : goal.returns-clause-count
+returns-clause-count g c =
+    as_many c.advance.new.self.needles.items c.args.self.now.needles.items c.advance.ensures.literals
+
+pub returns-clause-none : goal.returns-clause-none
+returns-clause-none g c = tt

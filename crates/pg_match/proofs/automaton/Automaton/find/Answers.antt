@@ -1,10 +1,12 @@
 use Rattle.std.proofs.lemmas.Bool.{cases_lt}
 use Rattle.pg_match.specs.StateSets.{mark}
+use Rattle.pg_match.specs.Bounds.{MayBegin, MayEnd}
+use Rattle.pg_match.specs.Searches.{IsBest}
 use Rattle.std.proofs.Common.{◌≡◌, ◌<◌, ◌≤◌, ◌+◌, ◌-◌, ◌*◌, ◌^◌, ◌∙◌, ℕ, length, arith, subst, inl, inr}
 use Rattle.std.proofs.Math.Nat.{mul-le-mul_left}
 use Rattle.pg_match.specs.Views.{nfa, buffers, members}
 use Rattle.pg_match.proofs.StateSetLemmas.{few}
-use Rattle.pg_match.proofs.SearchLemmas.{Searching, settled, searched, search_over}
+use Rattle.pg_match.proofs.SearchLemmas.{Searching, settled, searched, search_over, alive_first, limit_small}
 use Rattle.pg_match.proofs.automaton.Automaton.find.Goals as goal
 
 visits_small : (p from n v : ℕ) → v ≤ (p - from) * n → p ≤ 2 ^ 30 → n < 2 ^ 64 → v < 2 ^ 100
@@ -175,3 +177,33 @@ settle-requires-clause-below g c =
 
 pub advance-requires-clause-ordered : goal.advance-requires-clause-ordered
 advance-requires-clause-ordered g c = c.settle-best.ensures.seeded.ordered
+
+pub loop-place-init : goal.loop-place-init
+loop-place-init g c =
+    let m = nfa c.args.self.now in
+    let l = c.args.line.now in
+    let room = c.requires.room in
+    let clear = c.clear.ensures in
+    record {
+      search = record {
+        alive = alive_first m.states l m.start (MayBegin m.bounds l) (MayEnd m.bounds l) c.args.from _ _ clear.good
+            clear.empty (clear.size ∙ room.now_size);
+        next = room.next;
+        next_size = room.next_size;
+        so_far = λ s j ge lt past run. absurd (omega arith);
+      };
+      visits = omega arith;
+    }
+
+pub advance-requires-clause-limit : goal.advance-requires-clause-limit
+advance-requires-clause-limit g c =
+    let m = nfa c.args.self.now in
+    let l = c.args.line.now in
+    let p = c.loop-place.place in
+    let u = buffers c.settle-best.new.sets in
+    let B = MayBegin m.bounds l in
+    let E = MayEnd m.bounds l in
+    let both = settled m l c.args.from p (buffers c.loop-place.sets) u c.loop-place.best c.requires.runs c.loop-place.invariant.search (omega arith) c.settle-best.ensures.seeded in
+    let best : IsBest m.states l m.start B E c.args.from (p + 1) c.settle-best.result =
+    rw c.settle-best.ensures.judged both.1 in
+    limit_small m.states l m.start B E c.args.from (p + 1) c.settle-best.result best (omega arith)

@@ -1,8 +1,21 @@
-use Rattle.std.proofs.Common.{ap, subst, sym, true}
+use Rattle.std.proofs.Common.{◌≡◌, ◌+◌, ◌<◌, ◌≤◌, ◌^◌, ℕ, ap, subst, sym, arith, true, true≢false}
+use Rattle.pg_match.proofs.StateSetLemmas.{few}
 use Rattle.pg_match.specs.Memories.{Grown, IsShape}
 use Rattle.pg_match.specs.Views.{nfa, members, remembered}
 use Rattle.pg_match.proofs.MemoryLemmas.{memory_added}
 use Rattle.pg_match.proofs.automaton.Automaton.first.Goals as goal
+
+at_most : (v n : ℕ) → v ≤ v + n
+at_most v n = omega arith
+
+below_more : (v : ℕ) → v < 2 ^ 98 → v < 2 ^ 100
+below_more v small = omega arith
+
+visited : (old new len n : ℕ) → new ≡ old + len → len ≤ n → new ≤ old + n
+visited old new len n more fits = omega arith
+
+counted : (n m : ℕ) → n ≡ m + 1 → 1 ≤ n
+counted n m more = omega arith
 
 pub returns-then-memory-gt0-clause-memory : goal.returns-then-memory-gt0-clause-memory
 returns-then-memory-gt0-clause-memory g c = c.refresh.ensures (nfa c.args.self.now) c.requires.memory
@@ -20,3 +33,42 @@ returns-clause-memory g c =
     memory_added (nfa c.args.self.now) old new s true c.add.result (c.refresh.ensures (nfa c.args.self.now) c.requires.memory)
     (λ t. subst (λ n. Grown n old new s true) c.begin.ensures.room.now_size (c.add.ensures.grown t)) (λ f. ap remembered (c.add.ensures.full f))
     (λ z. c.begin.ensures.starts)
+
+pub returns-then-memory-gt0-clause-room : goal.returns-then-memory-gt0-clause-room
+returns-then-memory-gt0-clause-room g c = c.requires.room
+
+pub returns-then-memory-gt0-clause-visits : goal.returns-then-memory-gt0-clause-visits
+returns-then-memory-gt0-clause-visits g c = at_most c.args.sets.now.visits _
+
+pub returns-then-memory-gt0-clause-some : goal.returns-then-memory-gt0-clause-some
+returns-then-memory-gt0-clause-some g c = λ _. c.if-memory-gt0.true
+
+pub returns-then-memory-gt0-clause-full : goal.returns-then-memory-gt0-clause-full
+returns-then-memory-gt0-clause-full g c = λ h. absurd (true≢false h)
+
+pub begin-requires-clause-runs : goal.begin-requires-clause-runs
+begin-requires-clause-runs g c = c.requires.runs
+
+pub begin-requires-clause-room : goal.begin-requires-clause-room
+begin-requires-clause-room g c = c.requires.room
+
+pub begin-requires-clause-visits : goal.begin-requires-clause-visits
+begin-requires-clause-visits g c = below_more c.args.sets.now.visits c.requires.visits
+
+pub add-requires-clause-good : goal.add-requires-clause-good
+add-requires-clause-good g c = c.begin.ensures.room.now
+
+pub returns-clause-room : goal.returns-clause-room
+returns-clause-room g c = c.begin.ensures.room
+
+pub returns-clause-visits : goal.returns-clause-visits
+returns-clause-visits g c =
+    let s = members c.begin.new.sets.current in
+    let fits = subst (λ n. s.len ≤ n) c.begin.ensures.room.now_size (few s c.begin.ensures.room.now) in
+    visited c.args.sets.now.visits c.begin.new.sets.visits s.len _ c.begin.ensures.visits fits
+
+pub returns-clause-some : goal.returns-clause-some
+returns-clause-some g c = λ t. counted _ _ (c.add.ensures.grown t).count
+
+pub returns-clause-full : goal.returns-clause-full
+returns-clause-full g c = λ _. (c.begin.ensures.visits, c.begin.ensures.starts)

@@ -15,3 +15,9 @@ returns-clause-answer g c =
     let inside : 0 < length u.marks = omega arith in
     answered_end m c.args.is_empty (members c.args.sets.now.current) u c.requires.runs closed c.index.result.now
     (get_or_read u.marks 0 c.index.result.now inside c.index.ensures 0)
+
+pub close-requires-clause-good : goal.close-requires-clause-good
+close-requires-clause-good g c = c.requires.room.now
+
+pub close-requires-clause-tidy : goal.close-requires-clause-tidy
+close-requires-clause-tidy g c = rw c.deref.ensures.value c.requires.runs.tidy

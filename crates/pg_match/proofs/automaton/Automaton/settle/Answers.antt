@@ -1,4 +1,3 @@
-use Rattle.std.proofs.Common.{arith}
 use Rattle.pg_match.proofs.automaton.Automaton.settle.Goals as goal
 
 pub fill-requires-clause-runs : goal.fill-requires-clause-runs
@@ -20,13 +19,13 @@ pub fill-requires-clause-below : goal.fill-requires-clause-below
 fill-requires-clause-below g c = c.requires.below
 
 pub fill-requires-clause-place : goal.fill-requires-clause-place
-fill-requires-clause-place g c = omega arith
+fill-requires-clause-place g c = c.requires.place
 
 pub fill-requires-clause-short : goal.fill-requires-clause-short
-fill-requires-clause-short g c = omega arith
+fill-requires-clause-short g c = c.requires.short
 
 pub fill-requires-clause-visits : goal.fill-requires-clause-visits
-fill-requires-clause-visits g c = omega arith
+fill-requires-clause-visits g c = c.requires.visits
 
 pub ending-mark-requires-clause-runs : goal.ending-mark-requires-clause-runs
 ending-mark-requires-clause-runs g c = c.requires.runs
@@ -35,10 +34,10 @@ pub ending-mark-requires-clause-seeds : goal.ending-mark-requires-clause-seeds
 ending-mark-requires-clause-seeds g c = c.requires.seeds
 
 pub ending-mark-requires-clause-size : goal.ending-mark-requires-clause-size
-ending-mark-requires-clause-size g c = omega arith
+ending-mark-requires-clause-size g c = c.fill.ensures.room.now_size
 
 pub ending-mark-requires-clause-place : goal.ending-mark-requires-clause-place
-ending-mark-requires-clause-place g c = omega arith
+ending-mark-requires-clause-place g c = c.requires.place
 
 pub returns-clause-room : goal.returns-clause-room
 returns-clause-room g c = c.fill.ensures.room

@@ -197,3 +197,12 @@ loop-sets-init g c =
       visits = visits_whole _ _ _ _ _ (c.len-size.ensures ∙ c.args.self.now.states.ok.0) c.if-sets-most.false
           first.visits;
     }
+
+pub returns-then-sets-most-clause-room : goal.returns-then-sets-most-clause-room
+returns-then-sets-most-clause-room g c = c.requires.room
+
+pub returns-then-sets-most-clause-memory : goal.returns-then-sets-most-clause-memory
+returns-then-sets-most-clause-memory g c = c.requires.memory
+
+pub returns-then-sets-most-clause-visits : goal.returns-then-sets-most-clause-visits
+returns-then-sets-most-clause-visits g c = c.requires.visits

@@ -68,3 +68,78 @@ loop-place-2-preserved g c =
     c.requires.runs c.requires.memory (omega (arith, c.type_inv.line p)) (slice_get-get_or l p 0 (omega arith)) more
     (get_or_read mem.steps _ c.index-next.result.now (in_table m mem at (get_or l p 0) c.requires.memory w0.row (omega (arith, c.type_inv.line p))) c.index-next.ensures 0)
     c.if-next-lt256.false w0
+
+pub loop-place-init : goal.loop-place-init
+loop-place-init g c =
+    record { within = c.requires.from_in; onward = omega arith; row = c.requires.row; stands = λ start le stands. stands }
+
+pub returns-after-loop-place-2-clause-within : goal.returns-after-loop-place-2-clause-within
+returns-after-loop-place-2-clause-within g c = c.loop-place-2.invariant.within
+
+pub returns-after-loop-place-2-clause-onward : goal.returns-after-loop-place-2-clause-onward
+returns-after-loop-place-2-clause-onward g c = c.loop-place-2.invariant.onward
+
+pub returns-after-loop-place-2-clause-row : goal.returns-after-loop-place-2-clause-row
+returns-after-loop-place-2-clause-row g c = c.loop-place-2.invariant.row
+
+pub returns-after-loop-place-2-clause-stands : goal.returns-after-loop-place-2-clause-stands
+returns-after-loop-place-2-clause-stands g c = c.loop-place-2.invariant.stands
+
+pub returns-then-next-lt256-clause-within : goal.returns-then-next-lt256-clause-within
+returns-then-next-lt256-clause-within g c = c.loop-place-2.invariant.within
+
+pub returns-then-next-lt256-clause-onward : goal.returns-then-next-lt256-clause-onward
+returns-then-next-lt256-clause-onward g c = c.loop-place-2.invariant.onward
+
+pub returns-then-next-lt256-clause-row : goal.returns-then-next-lt256-clause-row
+returns-then-next-lt256-clause-row g c = c.loop-place-2.invariant.row
+
+pub returns-then-next-lt256-clause-stands : goal.returns-then-next-lt256-clause-stands
+returns-then-next-lt256-clause-stands g c = c.loop-place-2.invariant.stands
+
+pub index-one-requires : goal.index-one-requires
+index-one-requires g c =
+    let size = c.args.memory.now.steps.ok.0 in
+    let m = nfa c.args.self.now in
+    let mem = remembered c.args.memory.now in
+    let l = c.args.line.now in
+    let p = c.loop-place.place in
+    let w0 = c.loop-place.invariant in
+    let inside = in_table m mem c.loop-place.at (get_or l p 0) c.requires.memory w0.row (omega (arith, c.type_inv.line p)) in
+    omega arith
+
+pub index-two-requires : goal.index-two-requires
+index-two-requires g c =
+    let size = c.args.memory.now.steps.ok.0 in
+    let m = nfa c.args.self.now in
+    let mem = remembered c.args.memory.now in
+    let l = c.args.line.now in
+    let p = c.loop-place.place in
+    let w0 = c.loop-place.invariant in
+    let more : p + 4 < length l = omega (arith, c.loop-place-test.true) in
+    let w1 = walking_next m mem l c.args.from c.args.state p (p + 1) c.loop-place.at c.index-one.result.now (get_or l p 0) (omega arith)
+    c.requires.runs c.requires.memory (omega (arith, c.type_inv.line p)) (slice_get-get_or l p 0 (omega arith)) (omega arith)
+    (get_or_read mem.steps _ c.index-one.result.now (in_table m mem c.loop-place.at (get_or l p 0) c.requires.memory w0.row (omega (arith, c.type_inv.line p))) c.index-one.ensures 0)
+    c.if-one-lt256.false w0 in
+    let inside = in_table m mem c.index-one.result.now (get_or l (p + 1) 0) c.requires.memory w1.row (omega (arith, c.type_inv.line (p + 1))) in
+    omega arith
+
+pub index-three-requires : goal.index-three-requires
+index-three-requires g c =
+    let size = c.args.memory.now.steps.ok.0 in
+    let m = nfa c.args.self.now in
+    let mem = remembered c.args.memory.now in
+    let l = c.args.line.now in
+    let p = c.loop-place.place in
+    let w0 = c.loop-place.invariant in
+    let more : p + 4 < length l = omega (arith, c.loop-place-test.true) in
+    let w1 = walking_next m mem l c.args.from c.args.state p (p + 1) c.loop-place.at c.index-one.result.now (get_or l p 0) (omega arith)
+    c.requires.runs c.requires.memory (omega (arith, c.type_inv.line p)) (slice_get-get_or l p 0 (omega arith)) (omega arith)
+    (get_or_read mem.steps _ c.index-one.result.now (in_table m mem c.loop-place.at (get_or l p 0) c.requires.memory w0.row (omega (arith, c.type_inv.line p))) c.index-one.ensures 0)
+    c.if-one-lt256.false w0 in
+    let w2 = walking_next m mem l c.args.from c.args.state (p + 1) (p + 2) c.index-one.result.now c.index-two.result.now (get_or l (p + 1) 0) (omega arith)
+    c.requires.runs c.requires.memory (omega (arith, c.type_inv.line (p + 1))) (slice_get-get_or l (p + 1) 0 (omega arith)) (omega arith)
+    (get_or_read mem.steps _ c.index-two.result.now (in_table m mem c.index-one.result.now (get_or l (p + 1) 0) c.requires.memory w1.row (omega (arith, c.type_inv.line (p + 1)))) c.index-two.ensures 0)
+    c.if-two-lt256.false w1 in
+    let inside = in_table m mem c.index-two.result.now (get_or l (p + 2) 0) c.requires.memory w2.row (omega (arith, c.type_inv.line (p + 2))) in
+    omega arith

@@ -1,7 +1,7 @@
 use Rattle.pg_match.proofs.StateSetLemmas.{list_long}
-use Rattle.std.proofs.Common.{◌≡◌, ◌+◌, arith, subst, refl, length, ap}
+use Rattle.std.proofs.Common.{◌≡◌, ◌<◌, ◌+◌, arith, subst, refl, length, ap}
 use Rattle.std.proofs.lemmas.List.{get_or_read}
-use Rattle.pg_match.proofs.MemoryLemmas.{grown, Copying}
+use Rattle.pg_match.proofs.MemoryLemmas.{grown, Copying, copied_more}
 use Rattle.pg_match.specs.Views.{members, remembered}
 use Rattle.pg_match.proofs.memory.Memory.add.Goals as goal
 
@@ -86,3 +86,15 @@ index_mut-requires-3 g c =
     let fresh : length c.loop-k.self.fresh.items ≡ length c.args.self.now.fresh.items = ap length
     c.loop-k.invariant.fresh in
     omega (arith, c.loop-k.invariant.count, c.requires.shape.fresh_size, c.requires.shape.few)
+
+pub loop-k-preserved : goal.loop-k-preserved
+loop-k-preserved g c =
+    let mem = remembered c.args.self.now in
+    let s = members c.args.set.now in
+    let k = c.loop-k.k in
+    let start = c.index.result.now in
+    let long = list_long s c.requires.good in
+    let fit : start + k < length mem.pool = let e = c.len.ensures in omega (arith, c.if-len-start.false, e) in
+    let read = get_or_read s.order k c.index-in-loop-k.result.now (omega (arith, long)) c.index-in-loop-k.ensures 0 in
+    copied_more mem (remembered c.loop-k.self) _ s start k c.index-in-loop-k.result.now c.loop-k.invariant fit read
+    refl refl refl refl refl refl

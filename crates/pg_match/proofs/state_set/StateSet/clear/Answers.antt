@@ -29,3 +29,28 @@ returns-clause-good g c =
           absurd (w.1 f.0 (omega (arith, f.1)) f.2)
       | inr none ↦ omega arith
     ])
+
+pub loop-k-init : goal.loop-k-init
+loop-k-init g c =
+    record { order = refl; same_len = refl; size = refl; left = λ q some. (some, λ j lt. absurd (omega arith)) }
+
+pub returns-clause-size : goal.returns-clause-size
+returns-clause-size g c = c.loop-k.invariant.size
+
+pub index-state-requires : goal.index-state-requires
+index-state-requires g c =
+    let old = members c.args.self.now in
+    let n : length c.loop-k.self.order.items ≡ length old.order = ap length c.loop-k.invariant.order in
+    omega (arith, n, list_long old c.requires)
+
+pub returns-clause-empty : goal.returns-clause-empty
+returns-clause-empty g c = (
+  refl,
+  λ q. elim (cases_lt 0 (mark (members c.loop-k.self) q)) [
+    | inl some ↦
+        let w = c.loop-k.invariant.left q some in
+        let f = c.requires.found q w.0 in
+        absurd (w.1 f.0 (omega (arith, f.1)) f.2)
+    | inr none ↦ omega arith
+  ],
+)
