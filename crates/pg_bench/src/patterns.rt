@@ -46,23 +46,30 @@ fn long_pattern(alloc: Global, part: &str) -> Result<Vec<u8>, AllocError> {
     Ok(text)
 }
 
+/// In how many microseconds a pattern is read, and in how many its automaton is built.
+fn times_of(rt: &impl Clock, alloc: Global, text: &[u8]) -> Result<(u128, u128)> {
+    let start = Instant::now(rt)?;
+    let Ok(tree) = parse_ere(alloc, text, false) else {
+        bail!("no pattern");
+    };
+    let middle = Instant::now(rt)?;
+    let Ok(_machine) = Machine::build(alloc, &[tree], Bounds::Any) else {
+        bail!("no machine");
+    };
+    let end = Instant::now(rt)?;
+    let read = middle.saturating_duration_since(start);
+    let built = end.saturating_duration_since(middle);
+    Ok((read.as_micros(), built.as_micros()))
+}
+
 /// Prints the best times in which a pattern is read and its automaton built.
 fn report_long(rt: &(impl Clock + Print), alloc: Global, part: &str) -> Result<()> {
     let text = long_pattern(alloc, part)?;
-    let mut read = u128::MAX;
-    let mut built = u128::MAX;
+    let (mut read, mut built) = (u128::MAX, u128::MAX);
     for _ in 0..ROUNDS {
-        let start = Instant::now(rt)?;
-        let Ok(tree) = parse_ere(alloc, &text, false) else {
-            bail!("no pattern: {part}");
-        };
-        let middle = Instant::now(rt)?;
-        let Ok(_machine) = Machine::build(alloc, &[tree], Bounds::Any) else {
-            bail!("no machine: {part}");
-        };
-        let end = Instant::now(rt)?;
-        read = read.min(middle.saturating_duration_since(start).as_micros());
-        built = built.min(end.saturating_duration_since(middle).as_micros());
+        let (first, second) = times_of(rt, alloc, &text)?;
+        read = read.min(first);
+        built = built.min(second);
     }
     let count = text.len();
     println!(rt; "{part:6} over and over, {count} bytes: read in {read} µs, built in {built} µs")?;

@@ -7,7 +7,9 @@ mod patterns;
 mod program;
 mod query;
 mod search;
+mod words;
 
 pub use fault::{FAULT_STATUS, Fault, report};
 pub use program::{command, run};
 pub use search::{Told, answer};
+pub use words::words_of;

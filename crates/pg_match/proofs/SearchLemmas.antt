@@ -136,15 +136,15 @@ module _ (t : List State) (l : List ℕ) where
     }
 
     -- the start of the match that ends at p, if there is one: no run to p starts earlier
-    pub none_earlier : (p : ℕ) (now : Members) (best : Option (ℕ × ℕ)) → Alive t l x B from (p + 1) p now best
-        → ((q : ℕ) → slice_get t q ≡ Some Accept → q ≡ 0) → (s n : ℕ) → from ≤ s → s ≤ p → B s → Early best s → Runs t l n x s p
+    pub none_earlier : (p : ℕ) (now : Members) (best : Option (ℕ × ℕ)) → Alive t l x B from p p now best
+        → ((q : ℕ) → slice_get t q ≡ Some Accept → q ≡ 0) → (s n : ℕ) → from ≤ s → s < p → B s → Early best s → Runs t l n x s p
         → (0 < mark now 0) × (mark now 0 ≤ s + 1)
-    none_earlier p now best a only s n ge le begins early run =
-        let b = a.complete s n p ge (omega arith) begins early run (omega arith) in
+    none_earlier p now best a only s n ge lt begins early run =
+        let b = a.complete s n p ge lt begins early run (omega arith) in
         let e = ends_here p now a.closed only b.1 b.0 b.2 b.4 in
         (e.0, omega (arith, e.1, b.3))
 
-    pub run_here : (p : ℕ) (now : Members) (best : Option (ℕ × ℕ)) → Alive t l x B from (p + 1) p now best → slice_get t 0 ≡ Some Accept
+    pub run_here : (p : ℕ) (now : Members) (best : Option (ℕ × ℕ)) → Alive t l x B from p p now best → slice_get t 0 ≡ Some Accept
         → (s : ℕ) → mark now 0 ≡ s + 1 → (from ≤ s) × B s × ((n : ℕ) × Runs t l n x s p)
     run_here p now best a accept s e =
         let b = a.sound 0 (omega arith) in
@@ -154,7 +154,7 @@ module _ (t : List State) (l : List ℕ) where
     -- what is found at p, as the code tells it: the start, plus one, or 0
     pub record Found (p start : ℕ) (best : Option (ℕ × ℕ)) : Type 0 where
       pub run : (s : ℕ) → start ≡ s + 1 → (from ≤ s) × RunsFrom t l x B E s p
-      pub least : (s : ℕ) → from ≤ s → s ≤ p → Early best s → RunsFrom t l x B E s p → (0 < start) × (start ≤ s + 1)
+      pub least : (s : ℕ) → from ≤ s → s < p → Early best s → RunsFrom t l x B E s p → (0 < start) × (start ≤ s + 1)
 
     winner_early : (s p v : ℕ) (best : Option (ℕ × ℕ)) → Early (winner p s best) v → Early best v
     winner_early s p v None h = tt
@@ -196,7 +196,7 @@ module _ (t : List State) (l : List ℕ) where
     -- a span that ends at p and starts no later wins
     new_best : (p s : ℕ) (best : Option (ℕ × ℕ)) → IsBest t l x B E from p best → from ≤ s → s < p → Early best s
         → RunsFrom t l x B E s p
-        → ((v : ℕ) → from ≤ v → v ≤ p → Early best v → RunsFrom t l x B E v p → s ≤ v) → IsBest t l x B E from (p + 1) (Some (s, p))
+        → ((v : ℕ) → from ≤ v → v < p → Early best v → RunsFrom t l x B E v p → s ≤ v) → IsBest t l x B E from (p + 1) (Some (s, p))
     new_best p s None b ge lt early run least = (
       ge,
       lt,
@@ -247,29 +247,35 @@ module _ (t : List State) (l : List ℕ) where
             let past = ltb-false s p e in
             still_best p best b (λ v ge less early run. let z = f.least v ge (omega arith) early run in omega (arith, z.1))
 
-    -- nothing is left that may still win
-    pub over : (p upto : ℕ) (now : Members) (c : ℕ × ℕ) (end : ℕ) → IsBest t l x B E from p (Some c) → Alive t l x B from p p now (Some c)
-        → now.len ≡ 0 → p ≤ end → IsBest t l x B E from end (Some c)
-    over p upto now c end b a none le = (
+    -- a run ends where it is, once matches end at its state
+    stays : (m q i j : ℕ) → slice_get t q ≡ Some Accept → Runs t l m q i j → i ≡ j
+    stays zero q i j accept run = run.1
+    stays (suc m) q i j accept run = absurd (subst (λ o. Edge o l i run.0 run.1) accept run.2)
+
+    -- no state is left but the one where matches end
+    pub over : (p : ℕ) (now : Members) (c : ℕ × ℕ) (end : ℕ) → IsBest t l x B E from (p + 1) (Some c)
+        → Alive t l x B from (p + 1) p now (Some c) → slice_get t 0 ≡ Some Accept → ((q : ℕ) → 0 < mark now q → q ≡ 0)
+        → p + 1 ≤ end → IsBest t l x B E from end (Some c)
+    over p now c end b a accept last le = (
       b.0,
       b.1,
       omega (arith, b.2),
       b.3,
-      λ s j ge lt less run. elim (cases_lt j p) [
+      λ s j ge lt less run. elim (cases_lt j (p + 1)) [
         | inl before ↦ b.4 s j ge lt before run
         | inr after ↦ elim (cases_lt c.0 s) [
           | inl later ↦ (omega arith, λ e. absurd (omega arith))
           | inr early ↦
-              let w = a.complete s run.2.0 j ge (omega (arith, b.1, b.2)) run.0 early run.2.1 after in
-              let f = a.good.found w.0 w.2 in
-              absurd (omega (arith, f.1))
+              let w = a.complete s run.2.0 j ge (omega (arith, b.1, b.2)) run.0 early run.2.1 (omega arith) in
+              let ends = subst (λ q. slice_get t q ≡ Some Accept) (sym (last w.0 w.2)) accept in
+              absurd (omega (arith, stays w.1 w.0 p j ends w.4))
         ]
       ],
     )
 
 -- what `settle` judges is what is found
 pub found_here : (m : Nfa) (l : List ℕ) (from p : ℕ) (now : Members) (best : Option (ℕ × ℕ)) → IsRunnable m
-    → Alive m.states l m.start (MayBegin m.bounds l) from (p + 1) p now best
+    → Alive m.states l m.start (MayBegin m.bounds l) from p p now best
     → Found m.states l m.start (MayBegin m.bounds l) (MayEnd m.bounds l) from p (ending m l p now) best
 found_here m l from p now best is a = go (may_end m.bounds l p) refl
   where
@@ -278,7 +284,8 @@ found_here m l from p now best is a = go (may_end m.bounds l p) refl
     go true e = record {
       run = λ s here. let r = run_here m.states l m.start (MayBegin m.bounds l) (MayEnd m.bounds l) from p now best a is.accept s here in
           (r.0, (r.1, (end_decided m.bounds l p).0 e, r.2));
-      least = λ s ge le early run. none_earlier m.states l m.start (MayBegin m.bounds l) (MayEnd m.bounds l) from p now best a is.only s run.2.0 ge le run.0 early run.2.1;
+      least = λ s ge lt early run. none_earlier m.states l m.start (MayBegin m.bounds l) (MayEnd m.bounds l) from p now best
+          a is.only s run.2.0 ge lt run.0 early run.2.1;
     }
     go false e = record {
       run = λ s here. absurd (omega arith);
@@ -298,26 +305,36 @@ pub record Searching (m : Nfa) (l : List ℕ) (from p : ℕ) (s : Buffers) (best
   pub next_size : length s.next.marks ≡ length m.states
   pub so_far : IsBest m.states l m.start (MayBegin m.bounds l) (MayEnd m.bounds l) from p best
 
-not_late : (t : List State) (l : List ℕ) (x : ℕ) (B E : ℕ → Type 0) (from p : ℕ) (best : Option (ℕ × ℕ)) → IsBest t l x B E from p best
-    → is_none best ≡ false → Early best p → ⊥
+not_late : (t : List State) (l : List ℕ) (x : ℕ) (B E : ℕ → Type 0) (from p : ℕ) (best : Option (ℕ × ℕ))
+    → IsBest t l x B E from (p + 1) best → is_none best ≡ false → Early best p → ⊥
 not_late t l x B E from p None b none early = true≢false none
 not_late t l x B E from p (Some c) b none early = omega (arith, b.1, b.2)
 
 module _ (m : Nfa) (l : List ℕ) (from p : ℕ) (s u : Buffers) (best : Option (ℕ × ℕ)) (is : IsRunnable m)
     (g : Searching m l from p s best) (le : from ≤ p) where
-  -- after the set of p is complete
-  pub settled : Seeded m.states l m.start (MayBegin m.bounds l) p (is_none best) s.current u.current
-      → Alive m.states l m.start (MayBegin m.bounds l) from (p + 1) p u.current (judged p (ending m l p u.current) best)
-      × IsBest m.states l m.start (MayBegin m.bounds l) (MayEnd m.bounds l) from (p + 1) (judged p (ending m l p u.current) best)
-  settled seeded =
+  -- what holds once the set of p is complete, and the match that ends there is judged
+  abbrev Settled : Option (ℕ × ℕ) → Type 0
+  Settled after = Alive m.states l m.start (MayBegin m.bounds l) from (p + 1) p u.current after
+      × IsBest m.states l m.start (MayBegin m.bounds l) (MayEnd m.bounds l) from (p + 1) after
+
+  abbrev SeededFor : Option (ℕ × ℕ) → Type 0
+  SeededFor after = Seeded m.states l m.start (MayBegin m.bounds l) p (is_none after) s.current u.current
+
+  settled_here : SeededFor (judged p (ending m l p s.current) best) → Settled (judged p (ending m l p s.current) best)
+  settled_here seeded =
       let t = m.states in
       let B = MayBegin m.bounds l in
       let E = MayEnd m.bounds l in
-      let a = alive_seeded t l m.start B E from p s.current u.current (is_none best) best g.alive seeded le (not_late t l m.start B E from p best g.so_far) in (
-        alive_judged t l m.start B E from p (p + 1) u.current best (judged p (ending m l p u.current) best) a
-            (λ v early. judged_early t l m.start B E from p (ending m l p u.current) v best early),
-        best_judged t l m.start B E from p (ending m l p u.current) best g.so_far (found_here m l from p u.current best is a),
-      )
+      let start = ending m l p s.current in
+      let after = judged p start best in
+      let b = best_judged t l m.start B E from p start best g.so_far (found_here m l from p s.current best is g.alive) in
+      let a = alive_judged t l m.start B E from p p s.current best after g.alive
+      (λ v early. judged_early t l m.start B E from p start v best early) in
+      let late = not_late t l m.start B E from p after b in
+      (alive_seeded t l m.start B E from p s.current u.current (is_none after) after a seeded le late, b)
+
+  pub settled : (after : Option (ℕ × ℕ)) → after ≡ judged p (ending m l p s.current) best → SeededFor after → Settled after
+  settled after same = subst (λ b. SeededFor b → Settled b) (sym same) settled_here
 
 wide : (t : List State) (l : List ℕ) (x : ℕ) (B E : ℕ → Type 0) (from p : ℕ) (best : Option (ℕ × ℕ)) → p < 2 ^ 31
     → (s : ℕ) → s ≤ p → Early best s → s + 1 ≤ limit_of best
@@ -337,12 +354,14 @@ searched m l from p s u best short a b step fits = record {
 }
 
 -- a span was found, and nothing is left that may win over it
-pub search_over : (m : Nfa) (l : List ℕ) (from p : ℕ) (s : Buffers) (best : Option (ℕ × ℕ)) → Searching m l from p s best
-    → s.current.len ≡ 0 → p ≤ length l + 1 → is_some best ≡ true
+pub search_over : (m : Nfa) (l : List ℕ) (from p : ℕ) (now : Members) (best : Option (ℕ × ℕ)) → IsRunnable m
+    → Alive m.states l m.start (MayBegin m.bounds l) from (p + 1) p now best
+    → IsBest m.states l m.start (MayBegin m.bounds l) (MayEnd m.bounds l) from (p + 1) best
+    → ((q : ℕ) → 0 < mark now q → q ≡ 0) → p ≤ length l → is_some best ≡ true
     → IsBest m.states l m.start (MayBegin m.bounds l) (MayEnd m.bounds l) from (length l + 1) best
-search_over m l from p s None g none le some = absurd (true≢false (sym some))
-search_over m l from p s (Some c) g none le some =
-    over m.states l m.start (MayBegin m.bounds l) (MayEnd m.bounds l) from p p s.current c (length l + 1) g.so_far g.alive none le
+search_over m l from p now None is a b last le some = absurd (true≢false (sym some))
+search_over m l from p now (Some c) is a b last le some =
+    over m.states l m.start (MayBegin m.bounds l) (MayEnd m.bounds l) from p now c (length l + 1) b a is.accept last (omega arith)
 
 module _ (m : Nfa) (trees : List Pattern) (l : List ℕ) (a : Agrees m trees) where
   hit_runs : (i j : ℕ) → Hit trees m.bounds l i j → RunsFrom m.states l m.start (MayBegin m.bounds l) (MayEnd m.bounds l) i j

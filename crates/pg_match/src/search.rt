@@ -144,7 +144,8 @@ impl<A: Allocator> Automaton<A> {
         sets.visits += sets.current.len as u128;
     }
 
-    /// Completes the set of a place, and judges the match that ends there.
+    /// Judges the match that ends at a place, and completes the place's set. A start there is of no use once there is
+    /// a best span, which starts earlier.
     #[inline(always)]
     fn settle(
         &self,
@@ -163,14 +164,14 @@ impl<A: Allocator> Automaton<A> {
         requires short { length line.now ≤ 2 ^ 30 }
         requires visits { sets.old.visits < 2 ^ 100 }
         ensures seeded { Seeded self.now.states.items line.now self.now.start (MayBegin self.now.bounds line.now) place
-            (is_none best) (members sets.old.current) (members sets.new.current) }
+            (is_none result) (members sets.old.current) (members sets.new.current) }
         ensures room { HaveRoom (buffers sets.new) (length self.now.states.items) }
-        ensures judged { result ≡ judged place (ending (nfa self.now) line.now place (members sets.new.current)) best }
+        ensures judged { result ≡ judged place (ending (nfa self.now) line.now place (members sets.old.current)) best }
         ensures visits { sets.new.visits ≡ sets.old.visits + sets.new.current.len }
     {
+        let best = judge(place, self.ending(&sets.current, line, place), best);
         self.fill(sets, line, place, best.is_none());
-        let mark = self.ending(&sets.current, line, place);
-        judge(place, mark, best)
+        best
     }
 
     /// The mark of the match that ends at `place`, or 0.
@@ -242,10 +243,10 @@ impl<A: Allocator> Automaton<A> {
         let mut best = None;
         for place in from..line.len() {
             best = self.settle(sets, line, place, best);
-            self.advance(sets, line, place, best);
-            if best.is_some() && sets.current.len == 0 {
+            if best.is_some() && sets.current.is_over() {
                 return best;
             }
+            self.advance(sets, line, place, best);
         }
         self.settle(sets, line, line.len(), best)
     }

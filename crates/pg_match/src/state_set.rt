@@ -1,6 +1,6 @@
 //! The set of states of one place of a line.
-ghost use Rattle.std.specs.Prelude.{◌≡◌, ◌<◌, IfOk, length};
-ghost use Rattle.pg_match.specs.StateSets.{IsGood, Inserted, IsEmpty};
+ghost use Rattle.std.specs.Prelude.{◌≡◌, ◌<◌, ℕ, IfOk, IsTrue, length};
+ghost use Rattle.pg_match.specs.StateSets.{IsGood, Inserted, IsEmpty, mark};
 
 use std::alloc::{AllocError, Allocator, Global};
 
@@ -48,6 +48,15 @@ impl<A: Allocator> StateSet<A> {
             self.marks[state as usize] = 0;
         }
         self.len = 0;
+    }
+
+    /// Whether there is no state but the first one, where matches end.
+    #[inline(always)]
+    pub fn is_over(&self) -> bool
+        requires { IsGood (members self.now) }
+        ensures { IsTrue result → (q : ℕ) → 0 < mark (members self.now) q → q ≡ 0 }
+    {
+        self.len == 0 || self.len == 1 && self.order[0] == 0
     }
 
     /// Adds a state with a mark, unless it is there.

@@ -31,12 +31,12 @@ settle-requires-clause-visits g c =
     visits_small c.loop-place.place c.args.from (length c.args.self.now.states.items) _ c.loop-place.invariant.visits
     (omega arith) (omega arith)
 
-pub returns-then-sets-eq0-clause-visits : goal.returns-then-sets-eq0-clause-visits
-returns-then-sets-eq0-clause-visits g c =
+pub returns-then-is_over-clause-visits : goal.returns-then-is_over-clause-visits
+returns-then-is_over-clause-visits g c =
     let u = (buffers c.settle-best.new.sets).current in
     let room = c.settle-best.ensures.room in
     visits_last c.loop-place.place _ c.args.from _ _ _ u.len (omega arith) c.loop-place.invariant.visits
-    (c.advance.ensures.visits ∙ c.settle-best.ensures.visits) (subst (λ n. u.len ≤ n) room.now_size (few u room.now))
+    c.settle-best.ensures.visits (subst (λ n. u.len ≤ n) room.now_size (few u room.now))
 
 pub returns-clause-visits : goal.returns-clause-visits
 returns-clause-visits g c =
@@ -54,7 +54,9 @@ loop-place-preserved g c =
     let v = buffers c.advance.new.sets in
     let short : p < 2 ^ 31 = omega arith in
     let n : ℕ = length m.states in
-    let both = settled m l c.args.from p (buffers c.loop-place.sets) u c.loop-place.best c.requires.runs c.loop-place.invariant.search (omega arith) c.settle-best.ensures.seeded in
+    let both = settled m l c.args.from p (buffers c.loop-place.sets) u c.loop-place.best c.requires.runs
+    c.loop-place.invariant.search (omega arith) c.settle-best.result c.settle-best.ensures.judged
+    c.settle-best.ensures.seeded in
     let size = few u.current c.settle-best.ensures.room.now in
     let size2 = c.settle-best.ensures.room.now_size in
     let fewer : u.current.len ≤ n = omega (arith, size, size2) in
@@ -62,7 +64,7 @@ loop-place-preserved g c =
     let bound : (p + 1 - c.args.from) * n ≡ (p - c.args.from) * n + n = rw turns (omega arith) in
     record {
       search = searched m l c.args.from p u v c.settle-best.result short
-          (rw c.settle-best.ensures.judged both.0) (rw c.settle-best.ensures.judged both.1) c.advance.ensures.stepped c.advance.ensures.room;
+          both.0 both.1 c.advance.ensures.stepped c.advance.ensures.room;
       visits = omega (arith, bound, fewer, c.loop-place.invariant.visits);
     }
 
@@ -79,21 +81,21 @@ returns-clause-best g c =
     let l = c.args.line.now in
     let end : c.loop-place.place ≡ length l = omega arith in
     let search = subst (λ p. Searching m l c.args.from p (buffers c.loop-place.sets) c.loop-place.best) end c.loop-place.invariant.search in
-    let both = settled m l c.args.from (length l) (buffers c.loop-place.sets) (buffers c.settle.new.sets) c.loop-place.best c.requires.runs search c.requires.from_in c.settle.ensures.seeded in
-    rw c.settle.ensures.judged both.1
+    let both = settled m l c.args.from (length l) (buffers c.loop-place.sets) (buffers c.settle.new.sets) c.loop-place.best
+    c.requires.runs search c.requires.from_in c.settle.result c.settle.ensures.judged c.settle.ensures.seeded in
+    both.1
 
-pub returns-then-sets-eq0-clause-best : goal.returns-then-sets-eq0-clause-best
-returns-then-sets-eq0-clause-best g c =
+pub returns-then-is_over-clause-best : goal.returns-then-is_over-clause-best
+returns-then-is_over-clause-best g c =
     let m = nfa c.args.self.now in
     let l = c.args.line.now in
     let p = c.loop-place.place in
     let u = buffers c.settle-best.new.sets in
-    let v = buffers c.advance.new.sets in
-    let short : p < 2 ^ 31 = omega arith in
-    let both = settled m l c.args.from p (buffers c.loop-place.sets) u c.loop-place.best c.requires.runs c.loop-place.invariant.search (omega arith) c.settle-best.ensures.seeded in
-    let search = searched m l c.args.from p u v c.settle-best.result short
-    (rw c.settle-best.ensures.judged both.0) (rw c.settle-best.ensures.judged both.1) c.advance.ensures.stepped c.advance.ensures.room in
-    search_over m l c.args.from (p + 1) v c.settle-best.result search (omega arith) (omega arith) (cc)
+    let both = settled m l c.args.from p (buffers c.loop-place.sets) u c.loop-place.best c.requires.runs
+    c.loop-place.invariant.search (omega arith) c.settle-best.result c.settle-best.ensures.judged
+    c.settle-best.ensures.seeded in
+    search_over m l c.args.from p u.current c.settle-best.result c.requires.runs both.0 both.1 (c.is_over.ensures (cc))
+    (omega arith) (cc)
 
 pub settle-best-requires-clause-runs : goal.settle-best-requires-clause-runs
 settle-best-requires-clause-runs g c = c.requires.runs
@@ -119,8 +121,8 @@ advance-requires-clause-room g c = c.settle-best.ensures.room
 pub advance-requires-clause-place : goal.advance-requires-clause-place
 advance-requires-clause-place g c = omega arith
 
-pub returns-then-sets-eq0-clause-room : goal.returns-then-sets-eq0-clause-room
-returns-then-sets-eq0-clause-room g c = c.advance.ensures.room
+pub returns-then-is_over-clause-room : goal.returns-then-is_over-clause-room
+returns-then-is_over-clause-room g c = c.settle-best.ensures.room
 
 pub settle-requires-clause-runs : goal.settle-requires-clause-runs
 settle-requires-clause-runs g c = c.requires.runs

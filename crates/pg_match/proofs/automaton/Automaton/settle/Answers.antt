@@ -27,17 +27,17 @@ fill-requires-clause-short g c = c.requires.short
 pub fill-requires-clause-visits : goal.fill-requires-clause-visits
 fill-requires-clause-visits g c = c.requires.visits
 
-pub ending-mark-requires-clause-runs : goal.ending-mark-requires-clause-runs
-ending-mark-requires-clause-runs g c = c.requires.runs
+pub ending-requires-clause-runs : goal.ending-requires-clause-runs
+ending-requires-clause-runs g c = c.requires.runs
 
-pub ending-mark-requires-clause-seeds : goal.ending-mark-requires-clause-seeds
-ending-mark-requires-clause-seeds g c = c.requires.seeds
+pub ending-requires-clause-seeds : goal.ending-requires-clause-seeds
+ending-requires-clause-seeds g c = c.requires.seeds
 
-pub ending-mark-requires-clause-size : goal.ending-mark-requires-clause-size
-ending-mark-requires-clause-size g c = c.fill.ensures.room.now_size
+pub ending-requires-clause-size : goal.ending-requires-clause-size
+ending-requires-clause-size g c = c.requires.room.now_size
 
-pub ending-mark-requires-clause-place : goal.ending-mark-requires-clause-place
-ending-mark-requires-clause-place g c = c.requires.place
+pub ending-requires-clause-place : goal.ending-requires-clause-place
+ending-requires-clause-place g c = c.requires.place
 
 pub returns-clause-room : goal.returns-clause-room
 returns-clause-room g c = c.fill.ensures.room
