@@ -1,7 +1,6 @@
 use Rattle.std.proofs.lemmas.Bool.{cases_lt}
 use Rattle.pg_match.specs.StateSets.{mark}
 use Rattle.pg_match.specs.Bounds.{MayBegin, MayEnd}
-use Rattle.pg_match.specs.Searches.{IsBest}
 use Rattle.std.proofs.Common.{◌≡◌, ◌<◌, ◌≤◌, ◌+◌, ◌-◌, ◌*◌, ◌^◌, ◌∙◌, ℕ, length, arith, subst, inl, inr}
 use Rattle.std.proofs.Math.Nat.{mul-le-mul_left}
 use Rattle.pg_match.specs.Views.{nfa, buffers, members}
@@ -205,7 +204,7 @@ advance-requires-clause-limit g c =
     let u = buffers c.settle-best.new.sets in
     let B = MayBegin m.bounds l in
     let E = MayEnd m.bounds l in
-    let both = settled m l c.args.from p (buffers c.loop-place.sets) u c.loop-place.best c.requires.runs c.loop-place.invariant.search (omega arith) c.settle-best.ensures.seeded in
-    let best : IsBest m.states l m.start B E c.args.from (p + 1) c.settle-best.result =
-    rw c.settle-best.ensures.judged both.1 in
-    limit_small m.states l m.start B E c.args.from (p + 1) c.settle-best.result best (omega arith)
+    let both = settled m l c.args.from p (buffers c.loop-place.sets) u c.loop-place.best c.requires.runs
+    c.loop-place.invariant.search (omega arith) c.settle-best.result c.settle-best.ensures.judged
+    c.settle-best.ensures.seeded in
+    limit_small m.states l m.start B E c.args.from (p + 1) c.settle-best.result both.1 (omega arith)
