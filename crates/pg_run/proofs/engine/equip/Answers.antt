@@ -24,3 +24,18 @@ returns-in_err-scratch-clause-enough g c = ok_of_err c.from_residual.result _ c.
 pub returns-in_err-push-clause-enough : goal.returns-in_err-push-clause-enough
 returns-in_err-push-clause-enough g c =
     ok_of_err c.from_residual-in_err-push.result _ c.from_residual-in_err-push.ensures.0
+
+pub returns-in_err-scratch-clause-few : goal.returns-in_err-scratch-clause-few
+returns-in_err-scratch-clause-few g c = c.loop-alloc.invariant.0
+
+pub returns-in_err-scratch-clause-fits : goal.returns-in_err-scratch-clause-fits
+returns-in_err-scratch-clause-fits g c = c.loop-alloc.invariant.1
+
+pub loop-alloc-init : goal.loop-alloc-init
+loop-alloc-init g c = (c.requires.few.1, c.requires.fits)
+
+pub returns-clause-few : goal.returns-clause-few
+returns-clause-few g c = c.loop-alloc.invariant.0
+
+pub returns-clause-fits : goal.returns-clause-fits
+returns-clause-fits g c = c.loop-alloc.invariant.1

@@ -37,3 +37,15 @@ returns-clause-err g c = λ aim h.
     if_err_too c.search_round.result _ _
     (λ fault k. rest_breaks h _ _ _ fault (on.cuts aim h.steps (recut h.cuts _ refl refl)) k)
     (c.search_round.ensures.err aim h.steps h.holds)
+
+pub returns-then-not-is_full-clause-done : goal.returns-then-not-is_full-clause-done
+returns-then-not-is_full-clause-done g c = refl
+
+pub returns-then-not-is_full-clause-before : goal.returns-then-not-is_full-clause-before
+returns-then-not-is_full-clause-before g c = refl
+
+pub returns-then-not-is_full-clause-same_list : goal.returns-then-not-is_full-clause-same_list
+returns-then-not-is_full-clause-same_list g c = refl
+
+pub returns-then-not-is_full-clause-ok : goal.returns-then-not-is_full-clause-ok
+returns-then-not-is_full-clause-ok g c = λ aim h. h

@@ -24,3 +24,9 @@ returns-in-Some-clause-err g c = λ aim given h.
 pub returns-in-None-clause-ok : goal.returns-in-None-clause-ok
 returns-in-None-clause-ok g c = λ aim given h.
     none_last h c.args.failed c.requires.ended (c.in-None.ensures h.cuts.fed h.cuts.cut)
+
+pub finish-requires : goal.finish-requires
+finish-requires g c = c.requires.in_file.2
+
+pub search-requires-clause-room : goal.search-requires-clause-room
+search-requires-clause-room g c = c.requires.room

@@ -15,3 +15,6 @@ returns-then-may_wait-clause-err g c = λ aim given h.
     let out' = stream (g.W.Sink.taken c.flush.new.out) (g.W.Sink.failures c.flush.new.out) in
     if_err_too c.flush.result (Broke aim h.steps out') (Breaks aim given out')
     (λ fault. rest_breaks h c.args.reader.now given out' fault h.cuts) (c.flush.ensures.err aim h.steps h.holds)
+
+pub returns-clause-ok : goal.returns-clause-ok
+returns-clause-ok g c = λ aim given h. h

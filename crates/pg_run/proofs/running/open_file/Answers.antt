@@ -27,3 +27,6 @@ pub returns-in_err-cutter-clause-ok : goal.returns-in_err-cutter-clause-ok
 returns-in_err-cutter-clause-ok g c =
     λ aim given out between.
     ok_of_err c.from_residual.result _ c.from_residual.ensures.0
+
+pub open-requires-clause-few : goal.open-requires-clause-few
+open-requires-clause-few g c = c.requires.few

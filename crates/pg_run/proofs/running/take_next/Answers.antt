@@ -153,3 +153,6 @@ returns-in_err-miss-in-Miss-clause-err g c = λ aim rests.
     c.from_residual-in_err-miss-in-Miss.ensures.1
     (subst P (sym (is ∙ ap (λ n. NoFile n c.in-Miss.cause ∷ given) (sym named)))
     (c.in_err-miss-in-Miss.ensures.err aim given out rests))
+
+pub next-requires : goal.next-requires
+next-requires g c = c.requires.done

@@ -43,3 +43,23 @@ pub returns-in_err-push : goal.returns-in_err-push
 returns-in_err-push g c =
     λ aim steps out ready.
     ok_of_err c.from_residual-in_err-push.result _ c.from_residual-in_err-push.ensures.0
+
+pub invariant_of-self : goal.invariant_of-self
+invariant_of-self g c = let s = c.args.self.now in record {
+  fits = s.fits;
+  all_fit = s.all_fit;
+  few_scratches = s.few_scratches;
+  endless = s.endless;
+  at_once = s.at_once;
+  few = s.few;
+}
+
+pub invariant_of-self-in-Break-branch-3 : goal.invariant_of-self-in-Break-branch-3
+invariant_of-self-in-Break-branch-3 g c = let s = c.args.self.now in record {
+  fits = s.fits;
+  all_fit = s.all_fit;
+  few_scratches = s.few_scratches;
+  endless = s.endless;
+  at_once = s.at_once;
+  few = s.few;
+}

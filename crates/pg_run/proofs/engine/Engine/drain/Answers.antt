@@ -1,4 +1,4 @@
-use Rattle.std.proofs.Common.{ap, map}
+use Rattle.std.proofs.Common.{ap, map, refl}
 use Rattle.std.specs.Arc.{arc_value}
 use Rattle.pg_run.specs.Holding.{Broke, stream, past_of, format_of}
 use Rattle.pg_run.specs.declared.fault.RunFault.TheVariants.{Sink}
@@ -24,3 +24,25 @@ returns-in_err-drain-clause-ok g c = λ aim steps h. ok_of_err c.from_residual.r
 
 pub returns-clause-err : goal.returns-clause-err
 returns-clause-err g c = λ aim steps h. tt
+
+pub invariant_of-self : goal.invariant_of-self
+invariant_of-self g c = let s = c.args.self.now in record {
+  fits = s.fits;
+  all_fit = s.all_fit;
+  few_scratches = s.few_scratches;
+  endless = s.endless;
+  at_once = s.at_once;
+  few = s.few;
+}
+
+pub returns-in_err-drain-clause-kept : goal.returns-in_err-drain-clause-kept
+returns-in_err-drain-clause-kept g c = (refl, refl)
+
+pub returns-in_err-drain-clause-none : goal.returns-in_err-drain-clause-none
+returns-in_err-drain-clause-none g c = c.requires.none
+
+pub returns-clause-kept : goal.returns-clause-kept
+returns-clause-kept g c = (refl, refl)
+
+pub returns-clause-none : goal.returns-clause-none
+returns-clause-none g c = c.requires.none

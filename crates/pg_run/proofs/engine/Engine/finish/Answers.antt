@@ -51,3 +51,6 @@ returns-clause-calm g c = λ aim steps h. (c.in_ok-flush.ensures.ok aim steps h)
 
 pub returns-clause-err : goal.returns-clause-err
 returns-clause-err g c = λ aim steps h. tt
+
+pub flush-requires-clause-holds : goal.flush-requires-clause-holds
+flush-requires-clause-holds g c κs within = let h = c.requires.holds in (h.0, h.1, h.2)

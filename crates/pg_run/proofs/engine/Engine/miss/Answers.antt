@@ -9,3 +9,13 @@ returns g c = λ aim steps out ready.
     let h = ready.0 in
     on_ok c.miss.result _ _ (λ k. holds_step h _ (Misses c.args.name.now) ready.1 h.same h.set h.count h.blocks k)
     (c.miss.ensures.ok (past_of aim.query (format_of aim) h.events h.written) h.stands)
+
+pub invariant_of-self : goal.invariant_of-self
+invariant_of-self g c = let s = c.args.self.now in record {
+  fits = s.fits;
+  all_fit = s.all_fit;
+  few_scratches = s.few_scratches;
+  endless = s.endless;
+  at_once = s.at_once;
+  few = s.few;
+}

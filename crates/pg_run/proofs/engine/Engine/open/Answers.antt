@@ -22,3 +22,23 @@ returns-in_err-open-clause-cutter g c =
 
 pub returns-in_err-open-clause-drained : goal.returns-in_err-open-clause-drained
 returns-in_err-open-clause-drained g c = IfOk-from_err c.from_residual.result _ c.from_residual.ensures.0
+
+pub invariant_of-self : goal.invariant_of-self
+invariant_of-self g c = let s = c.args.self.now in record {
+  fits = s.fits;
+  all_fit = s.all_fit;
+  few_scratches = s.few_scratches;
+  endless = s.endless;
+  at_once = s.at_once;
+  few = s.few;
+}
+
+pub invariant_of-self-2 : goal.invariant_of-self-2
+invariant_of-self-2 g c = let s = c.args.self.now in record {
+  fits = s.fits;
+  all_fit = s.all_fit;
+  few_scratches = s.few_scratches;
+  endless = s.endless;
+  at_once = s.at_once;
+  few = s.few;
+}

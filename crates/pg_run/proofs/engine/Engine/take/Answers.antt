@@ -82,3 +82,49 @@ returns-in_err-announce-clause-ok g c =
 
 pub returns-clause-none : goal.returns-clause-none
 returns-clause-none g c = c.args.self.now.at_once c.requires.at_once
+
+pub invariant_of-self : goal.invariant_of-self
+invariant_of-self g c = let s = c.args.self.now in record {
+  fits = c.search_block-answer.ensures.fits;
+  all_fit = s.all_fit;
+  few_scratches = s.few_scratches;
+  endless = s.endless;
+  at_once = s.at_once;
+  few = s.few;
+}
+
+pub invariant_of-self-in-Break-branch-4 : goal.invariant_of-self-in-Break-branch-4
+invariant_of-self-in-Break-branch-4 g c = let s = c.args.self.now in record {
+  fits = c.search_block-answer.ensures.fits;
+  all_fit = s.all_fit;
+  few_scratches = s.few_scratches;
+  endless = s.endless;
+  at_once = s.at_once;
+  few = s.few;
+}
+
+pub invariant_of-self-in-Break-branch-5 : goal.invariant_of-self-in-Break-branch-5
+invariant_of-self-in-Break-branch-5 g c = let s = c.args.self.now in record {
+  fits = c.search_block-answer.ensures.fits;
+  all_fit = s.all_fit;
+  few_scratches = s.few_scratches;
+  endless = s.endless;
+  at_once = s.at_once;
+  few = s.few;
+}
+
+pub invariant_of-self-2 : goal.invariant_of-self-2
+invariant_of-self-2 g c = let s = c.args.self.now in record {
+  fits = c.search_block-answer.ensures.fits;
+  all_fit = s.all_fit;
+  few_scratches = s.few_scratches;
+  endless = s.endless;
+  at_once = s.at_once;
+  few = s.few;
+}
+
+pub search_block-answer-requires-clause-fits : goal.search_block-answer-requires-clause-fits
+search_block-answer-requires-clause-fits g c = c.args.self.now.fits
+
+pub returns-in_err-kept-clause-none : goal.returns-in_err-kept-clause-none
+returns-in_err-kept-clause-none g c = c.args.self.now.at_once c.requires.at_once

@@ -1,4 +1,4 @@
-use Rattle.std.proofs.Common.{◌∙◌, refl}
+use Rattle.std.proofs.Common.{◌∙◌, refl, sym}
 use Rattle.pg_run.proofs.ReadingLemmas.{recut}
 use Rattle.pg_run.proofs.reader.FileReaderReader.step.Goals as goal
 
@@ -21,3 +21,9 @@ returns-clause-reaches g c = λ reader files before.
       same_list = on.same_list ∙ before.same_list;
       cuts = λ aim steps h. on.cuts aim steps (recut (before.cuts aim steps h) _ refl refl);
     }
+
+pub returns-then-self-eq0-clause-ready : goal.returns-then-self-eq0-clause-ready
+returns-then-self-eq0-clause-ready g c = c.requires
+
+pub returns-then-self-eq0-clause-reaches : goal.returns-then-self-eq0-clause-reaches
+returns-then-self-eq0-clause-reaches g c = λ reader files before. before

@@ -1,0 +1,5 @@
+use Rattle.std.proofs.Common.{refl}
+use Rattle.pg_run.proofs.fault.RunFaultFromAllocError.from.Goals as goal
+
+pub returns : goal.returns
+returns c = refl
