@@ -75,25 +75,43 @@ fn show_taken(rt: &impl Abort, cutter: &mut Cutter, way: Way, piece: &[u8], out:
     }
 }
 
-/// Shows what a cutter gives of a file in pieces, where spaces part them.
-fn show_cut(
+/// Shows what a cutter gives of pieces, where spaces part them.
+fn show_pieces(
     rt: &impl Abort,
     alloc: Global,
-    cutter: Cutter,
+    cutter: &mut Cutter,
     way: Way,
     pieces: &str,
     out: &mut String,
 )
-    requires { IsDrained cutter }
+    requires { IsDrained cutter.old }
+    ensures { IsDrained cutter.new }
 {
-    let mut cutter = cutter;
     for piece in pieces.split(' ') {
         let piece = bytes_of(rt, alloc, piece);
-        show_taken(rt, &mut cutter, way, &piece, out);
+        show_taken(rt, cutter, way, &piece, out);
     }
+}
+
+/// Shows the last block.
+fn show_last(rt: &impl Abort, cutter: Cutter, out: &mut String)
+    requires { IsDrained cutter }
+{
     if let Some(block) = cutter.finish() {
         show_block(rt, &block, out);
     }
+}
+
+/// Shows what a cutter gives of a file in pieces, where spaces part them.
+fn show_cut(rt: &impl Abort, alloc: Global, end: u8, way: Way, pieces: &str, out: &mut String) {
+    let mut cutter = Cutter::new(alloc, 7, 3, 4, end);
+    show_pieces(rt, alloc, &mut cutter, way, pieces, out);
+    show_last(rt, cutter, out);
+}
+
+/// The one byte of a field.
+fn byte_of(rt: &impl Abort, alloc: Global, field: &str) -> u8 {
+    *bytes_of(rt, alloc, field).first().expect(rt, "a byte")
 }
 
 pub(crate) fn blocks_of(
@@ -104,10 +122,7 @@ pub(crate) fn blocks_of(
     pieces: &str,
 ) -> String {
     let mut out = String::new(alloc);
-    let end = bytes_of(rt, alloc, end);
-    let end = end.first().expect(rt, "a terminator");
-    let cutter = Cutter::new(alloc, 7, 3, 4, *end);
-    show_cut(rt, alloc, cutter, way, pieces, &mut out);
+    show_cut(rt, alloc, byte_of(rt, alloc, end), way, pieces, &mut out);
     String::from_str(alloc, out.as_str().trim_end()).expect(rt, "memory")
 }
 
@@ -117,15 +132,27 @@ fn a_file_is_cut_at_its_terminator(rt: HostRuntime) {
     assert_rows(&rt, rt.alloc(), Question::Blocks(Way::Filled), CUT);
 }
 
-/// Whether a file of two blocks comes by way of the room, at a second call where a request for memory is refused.
+/// Whether a cutter takes a file of two blocks by way of the room, at a second call where a request for memory is
+/// refused.
+fn is_taken<A: Allocator + Copy>(cutter: &mut Cutter<A>, heap: &Refusing) -> bool {
+    match fill(cutter, b"a\nb") {
+        Ok(()) => !heap.has_refused(),
+        Err(_) => heap.has_refused() && fill(cutter, b"a\nb").is_ok(),
+    }
+}
+
+/// Whether a cutter gives the first block of that file.
+fn gives_first<A: Allocator + Copy>(cutter: &mut Cutter<A>) -> bool {
+    match cutter.take() {
+        Some(block) => block.bytes.as_slice() == b"a\n".as_slice(),
+        None => false,
+    }
+}
+
+/// Whether that file comes, and its first block is given.
 fn is_filled(heap: &Refusing) -> bool {
     let mut cutter = Cutter::new(heap, 0, 2, 100, b'\n');
-    let is_taken = match fill(&mut cutter, b"a\nb") {
-        Ok(()) => !heap.has_refused(),
-        Err(_) => heap.has_refused() && fill(&mut cutter, b"a\nb").is_ok(),
-    };
-    let block = cutter.take();
-    is_taken && block.is_some_and(|block| block.bytes.as_slice() == b"a\n".as_slice())
+    is_taken(&mut cutter, heap) && gives_first(&mut cutter)
 }
 
 #[test]
@@ -141,15 +168,21 @@ fn each_request_of_a_room_may_be_refused(rt: HostRuntime) {
     panic!(rt; "more than 100 requests")
 }
 
-/// Makes room once a block was taken, whose memory is given back before. Answers how many requests that makes.
-fn requests_of_room(heap: &Refusing) -> Result<u64, CutFault> {
-    let mut cutter = Cutter::new(heap, 0, 2, 100, b'\n');
-    fill(&mut cutter, b"a\n")?;
-    let before = heap.requests();
+/// Makes room once a block was taken, whose memory is given back before.
+fn make_room_again<A: Allocator + Copy>(cutter: &mut Cutter<A>) -> Result<(), CutFault> {
     if let Some(block) = cutter.take() {
         cutter.give_back(block.bytes);
     }
     cutter.make_room()?;
+    Ok(())
+}
+
+/// How many requests that makes.
+fn requests_of_room(heap: &Refusing) -> Result<u64, CutFault> {
+    let mut cutter = Cutter::new(heap, 0, 2, 100, b'\n');
+    fill(&mut cutter, b"a\n")?;
+    let before = heap.requests();
+    make_room_again(&mut cutter)?;
     Ok(heap.requests().wrapping_sub(before))
 }
 

@@ -1,10 +1,15 @@
-//! Tests of the crates below the search: sets of bytes, expressions, automata, and lines.
+//! Tests of the crates below the search: sets of bytes, expressions, automata, and lines; walks, over trees in memory
+//! and over the system's; and what threads share: boards, trays, and the allocator that refuses requests.
 #![tactic(auto)]
 
+#[cfg(test)]
+mod board;
 #[cfg(test)]
 mod bytes;
 #[cfg(test)]
 mod cutter;
+#[cfg(test)]
+mod disk;
 #[cfg(test)]
 mod lines;
 #[cfg(test)]
@@ -12,8 +17,14 @@ mod literal;
 #[cfg(test)]
 mod machine;
 #[cfg(test)]
+mod memory;
+#[cfg(test)]
+mod requests;
+#[cfg(test)]
 mod rows;
 #[cfg(test)]
 mod sets;
 #[cfg(test)]
 mod syntax;
+#[cfg(test)]
+mod tray;

@@ -1,5 +1,5 @@
 //! The search of a block.
-ghost use Rattle.std.specs.Prelude.{◌≤◌, ◌<◌, length, IfOk};
+ghost use Rattle.std.specs.Prelude.{◌≡◌, ◌≤◌, ◌<◌, length, IfOk};
 ghost use Rattle.std.specs.Arc.{arc_value};
 ghost use Rattle.pg_match.specs.Machines.{Fits};
 ghost use Rattle.pg_lines.specs.Lines.{AreShort};
@@ -15,90 +15,107 @@ use std::alloc::{AllocError, Allocator, Global};
 use std::process::Abort;
 use std::sync::Arc;
 
-/// What a query is compiled from: the letters say the kind (`E`, `F`, or none of both), the options, and by `f` that
-/// the pattern is of a file.
+fn has(letters: &str, letter: u8) -> bool {
+    letters.as_bytes().contains(&letter)
+}
+
+/// The one list of a query, by `f` one of a file.
+fn lists_of<A: Allocator + Copy>(
+    alloc: A,
+    letters: &str,
+    pattern: &[u8],
+) -> Result<Vec<PatternList<A>, A>, AllocError> {
+    let pattern = Vec::from_slice(alloc, pattern)?;
+    let list = if has(letters, b'f') {
+        PatternList::Lines(pattern)
+    } else {
+        PatternList::Text(pattern)
+    };
+    let mut lists = Vec::new(alloc);
+    lists.push(list)?;
+    Ok(lists)
+}
+
+/// The kind of a query: `E`, `F`, or none of both.
+fn kind_of(letters: &str) -> Kind {
+    if has(letters, b'F') {
+        Kind::Fixed
+    } else if has(letters, b'E') {
+        Kind::Extended
+    } else {
+        Kind::Basic
+    }
+}
+
+/// What a query is compiled from: the letters say the kind, the options, and whether the pattern is of a file.
 fn text_of<A: Allocator + Copy>(
     alloc: A,
     letters: &str,
     pattern: &[u8],
 ) -> Result<QueryText<A>, AllocError> {
-    let has = |letter: u8| letters.as_bytes().contains(&letter);
-    let mut lists = Vec::new(alloc);
-    let pattern = Vec::from_slice(alloc, pattern)?;
-    lists.push(if has(b'f') {
-        PatternList::Lines(pattern)
-    } else {
-        PatternList::Text(pattern)
-    })?;
-    let kind = if has(b'F') {
-        Kind::Fixed
-    } else if has(b'E') {
-        Kind::Extended
-    } else {
-        Kind::Basic
-    };
+    let lists = lists_of(alloc, letters, pattern)?;
     Ok(QueryText {
-        kind,
+        kind: kind_of(letters),
         lists,
-        fold: has(b'i'),
-        whole: has(b'x'),
-        word: has(b'w'),
-        invert: has(b'v'),
-        pieces: has(b'o'),
-        zero: has(b'z'),
+        fold: has(letters, b'i'),
+        whole: has(letters, b'x'),
+        word: has(letters, b'w'),
+        invert: has(letters, b'v'),
+        pieces: has(letters, b'o'),
+        zero: has(letters, b'z'),
     })
 }
 
-/// A query, a scratch for it, and block 5 of file 7.
-#[derive(Drop)]
-struct Prepared<A: Allocator> {
-    query: Arc<Query<A>, A>,
-    scratch: Scratch<A>,
-    block: Arc<Block<A>, A>,
+/// A query with the options of these letters.
+fn compile<A: Allocator + Copy>(
+    alloc: A,
+    letters: &str,
+    pattern: &[u8],
+) -> Result<Arc<Query<A>, A>, QueryFault> {
+    let query = Query::compile(alloc, text_of(alloc, letters, pattern)?)?;
+    match Arc::new(alloc, query) {
+        Ok(query) => Ok(query),
+        Err(_) => Err(QueryFault::OutOfMemory),
+    }
 }
 
-/// A search of a block with these bytes, at most 100.
-fn prepare<A: Allocator + Copy>(
-    alloc: A,
-    query: Query<A>,
-    bytes: &[u8],
-) -> Result<Prepared<A>, AllocError>
-    requires { length bytes.now ≤ 100 }
-    ensures fits { IfOk result (λ p. Fits p.scratch (arc_value p.query).machine) }
-    ensures short { IfOk result
-        (λ p. AreShort (terminator_of (arc_value p.query).text) (arc_value p.block).bytes) }
+/// Block 5 of file 7, with these bytes.
+fn block_of<A: Allocator + Copy>(alloc: A, bytes: &[u8]) -> Result<Arc<Block<A>, A>, AllocError>
+    ensures { IfOk result (λ block. (arc_value block).bytes ≡ bytes.now) }
 {
-    let query = Arc::new(alloc, query)?;
     let block = Block {
         file: 7,
         number: 5,
         bytes: Vec::from_slice(alloc, bytes)?,
     };
     let block = Arc::new(alloc, block)?;
-    let searched: &Query<A> = &query;
-    let scratch = Scratch::new(alloc, searched.machine())?;
-    Ok(Prepared {
-        query,
-        scratch,
-        block,
-    })
+    Ok(block)
 }
 
-/// What a search finds.
+/// Makes what a search needs, and drops it.
+fn only_prepare<A: Allocator + Copy>(
+    alloc: A,
+    query: &Arc<Query<A>, A>,
+    bytes: &[u8],
+) -> Result<(), AllocError> {
+    let _block = block_of(alloc, bytes)?;
+    let searched: &Query<A> = query;
+    let _scratch = Scratch::new(alloc, searched.machine())?;
+    Ok(())
+}
+
+/// What a search finds in a block with these bytes, at most 100.
 fn search_for<A: Allocator + Copy>(
     alloc: A,
-    prepared: Prepared<A>,
+    query: &Arc<Query<A>, A>,
+    bytes: &[u8],
 ) -> Result<BlockResult<A>, AllocError>
-    requires fits { Fits prepared.scratch (arc_value prepared.query).machine }
-    requires short { AreShort (terminator_of (arc_value prepared.query).text) (arc_value prepared.block).bytes }
+    requires { length bytes.now ≤ 100 }
 {
-    let Prepared {
-        query,
-        scratch,
-        block,
-    } = prepared;
-    let mut scratch = scratch;
-    search_block(alloc, &query, &mut scratch, block)
+    let block = block_of(alloc, bytes)?;
+    let searched: &Query<A> = query;
+    let mut scratch = Scratch::new(alloc, searched.machine())?;
+    search_block(alloc, query, &mut scratch, block)
 }
 
 /// Shows the runs of selected lines, each as its span, the lines before it and its own lines.
@@ -125,12 +142,12 @@ fn show_parts<A: Allocator>(found: &BlockResult<A>, out: &mut String) -> Result<
 }
 
 /// Shows how many lines a result has, its runs, and the matched parts.
-fn shown<A: Allocator>(rt: &impl Abort, alloc: Global, found: &BlockResult<A>) -> String {
+fn shown<A: Allocator>(alloc: Global, found: &BlockResult<A>) -> Result<String, AllocError> {
     let count = found.lines();
-    let mut out = format!(in alloc; "{count}:").expect(rt, "memory");
-    show_runs(found, &mut out).expect(rt, "memory");
-    show_parts(found, &mut out).expect(rt, "memory");
-    out
+    let mut out = format!(in alloc; "{count}:")?;
+    show_runs(found, &mut out)?;
+    show_parts(found, &mut out)?;
+    Ok(out)
 }
 
 /// The letters of the options and a pattern, a block, and what `shown` shows of it; or the fault of the pattern.
@@ -185,35 +202,59 @@ E (a{255}){255}a{255}a{255} on b => 1:
 E (a{255}){255}a{255}a{255}a on b => pattern too large",
 ];
 
+/// What is found in a block with these bytes, at most 100, as `shown` shows it.
+fn shown_search<A: Allocator + Copy>(
+    alloc: Global,
+    heap: A,
+    letters: &str,
+    pattern: &[u8],
+    bytes: &[u8],
+) -> Result<String, QueryFault>
+    requires { length bytes.now ≤ 100 }
+{
+    let query = compile(heap, letters, pattern)?;
+    let found = search_for(heap, &query, bytes)?;
+    let shown = shown(alloc, &found)?;
+    Ok(shown)
+}
+
+/// The pattern and the block of which a row tells.
+#[derive(Drop)]
+struct Asked {
+    pattern: Vec<u8>,
+    bytes: Vec<u8>,
+    ghost few: { length bytes.items ≤ 100 },
+}
+
+fn asked_by(rt: &impl Abort, alloc: Global, asked: &str) -> Asked {
+    let (pattern, block) = cut(asked, " on ");
+    let pattern = bytes_of(rt, alloc, pattern);
+    let bytes = few_bytes(rt, alloc, block);
+    Asked { pattern, bytes }
+}
+
+/// The same, where the letters say the options.
+fn search_as_asked<A: Allocator + Copy>(
+    alloc: Global,
+    heap: A,
+    letters: &str,
+    asked: &Asked,
+) -> Result<String, QueryFault> {
+    shown_search(alloc, heap, letters, &asked.pattern, &asked.bytes)
+}
+
 /// What is found, as `shown` shows it, or the fault of the query.
 pub(crate) fn found(rt: &impl Abort, alloc: Global, letters: &str, asked: &str) -> String {
-    let (pattern, block) = cut(asked, " on ");
-    let block = few_bytes(rt, alloc, block);
-    let text = text_of(alloc, letters, &bytes_of(rt, alloc, pattern)).expect(rt, "memory");
-    match Query::compile(alloc, text) {
-        Ok(query) => shown_search(rt, alloc, alloc, query, &block).expect(rt, "memory"),
+    let asked = asked_by(rt, alloc, asked);
+    match search_as_asked(alloc, alloc, letters, &asked) {
+        Ok(shown) => shown,
         Err(fault) => format!(in alloc; "{fault}").expect(rt, "memory"),
     }
 }
 
-/// What a search finds in a block with these bytes, at most 100, as `shown` shows it.
-fn shown_search<A: Allocator + Copy>(
-    rt: &impl Abort,
-    alloc: Global,
-    heap: A,
-    query: Query<A>,
-    bytes: &[u8],
-) -> Result<String, AllocError>
-    requires { length bytes.now ≤ 100 }
-{
-    let prepared = prepare(heap, query, bytes).expect(rt, "memory");
-    let found = search_for(heap, prepared)?;
-    Ok(shown(rt, alloc, &found))
-}
-
 #[test]
 fn lines_are_selected(rt: HostRuntime) {
-    for rows in FOUND {
+    for rows in FOUND.iter() {
         assert_rows(&rt, rt.alloc(), Question::Found, rows);
     }
 }
@@ -233,8 +274,7 @@ fn long_block(alloc: Global, size: usize) -> Result<Vec<u8>, AllocError> {
 fn found_in_long(rt: &impl Abort, alloc: Global, size: usize) -> String {
     let bytes = long_block(alloc, size).expect(rt, "memory");
     assert!(rt; bytes.len() <= 100);
-    let query = query_of(rt, alloc, "Fo", b"b");
-    shown_search(rt, alloc, alloc, query, &bytes).expect(rt, "memory")
+    shown_search(alloc, alloc, "Fo", b"b", &bytes).expect(rt, "a result")
 }
 
 /// What is wanted of such a search, for a size below 100.
@@ -257,49 +297,12 @@ fn long_blocks_are_counted(rt: HostRuntime) {
     }
 }
 
-/// A search of which a row tells.
-#[derive(Drop)]
-struct Asked<'a> {
-    letters: &'a str,
-    pattern: Vec<u8>,
-    bytes: Vec<u8>,
-    ghost few: { length bytes.items ≤ 100 },
-}
-
-fn asked_by<'a>(rt: &impl Abort, alloc: Global, asked: &'a str) -> Asked<'a> {
-    let (query, block) = cut(asked, " on ");
-    let (letters, pattern) = cut(query, " ");
-    let pattern = bytes_of(rt, alloc, pattern);
-    let bytes = few_bytes(rt, alloc, block);
-    Asked {
-        letters,
-        pattern,
-        bytes,
-    }
-}
-
-/// Makes what a search needs, and drops it.
-fn only_prepare<A: Allocator + Copy>(rt: &impl Abort, heap: A, asked: &Asked<'_>) {
-    let query = query_of(rt, heap, asked.letters, &asked.pattern);
-    let _prepared = prepare(heap, query, &asked.bytes).expect(rt, "memory");
-}
-
-/// What the search finds, as `shown` shows it.
-fn search_as_asked<A: Allocator + Copy>(
-    rt: &impl Abort,
-    alloc: Global,
-    heap: A,
-    asked: &Asked<'_>,
-) -> Result<String, AllocError> {
-    let query = query_of(rt, heap, asked.letters, &asked.pattern);
-    shown_search(rt, alloc, heap, query, &asked.bytes)
-}
-
 /// How many requests for memory are made before a search.
-fn requests_before(rt: &impl Abort, alloc: Global, asked: &Asked<'_>) -> u64 {
+fn requests_before(alloc: Global, letters: &str, asked: &Asked) -> Result<u64, QueryFault> {
     let heap = Refusing::new(alloc, 1000);
-    only_prepare(rt, &heap, asked);
-    heap.requests()
+    let query = compile(&heap, letters, &asked.pattern)?;
+    only_prepare(&heap, &query, &asked.bytes)?;
+    Ok(heap.requests())
 }
 
 /// Searches where the requests for memory that the search makes pass up to one, which is refused, and sees that the
@@ -307,12 +310,13 @@ fn requests_before(rt: &impl Abort, alloc: Global, asked: &Asked<'_>) -> u64 {
 fn search_refused(
     rt: &impl Abort,
     alloc: Global,
-    asked: &Asked<'_>,
+    letters: &str,
+    asked: &Asked,
     passes: u64,
 ) -> Option<String> {
-    let before = requests_before(rt, alloc, asked);
+    let before = requests_before(alloc, letters, asked).expect(rt, "memory");
     let heap = Refusing::new(alloc, before.wrapping_add(passes));
-    let found = search_as_asked(rt, alloc, &heap, asked).ok();
+    let found = search_as_asked(alloc, &heap, letters, asked).ok();
     assert!(rt; found.is_none() == heap.has_refused());
     found
 }
@@ -324,17 +328,27 @@ const LARGE: &str =
 3 Fo b on bbbbb%0Ax%0Ab => 3: 0-6=0+1 8-9=2+1 0:0-1 0:1-2 0:2-3 0:3-4 0:4-5 2:8-9
 3 Eo b|c on bcbcb%0Ax%0Ab => 3: 0-6=0+1 8-9=2+1 0:0-1 0:1-2 0:2-3 0:3-4 0:4-5 2:8-9";
 
-/// What is found where each request for memory of a search has been refused in turn, at most 20.
-pub(crate) fn refused(rt: &impl Abort, alloc: Global, least: &str, asked: &str) -> String {
-    let asked = asked_by(rt, alloc, asked);
-    let least: u64 = least.parse().expect(rt, "a number");
+/// What is found where each request for memory of a search has been refused in turn, at least so many and at most 20.
+fn refuse_each(rt: &impl Abort, alloc: Global, letters: &str, asked: &Asked, least: u64) -> String {
     for passes in 0..20u64 {
-        if let Some(shown) = search_refused(rt, alloc, &asked, passes) {
+        if let Some(shown) = search_refused(rt, alloc, letters, asked, passes) {
             assert!(rt; passes >= least);
             return shown;
         }
     }
     panic!(rt; "20 requests or more")
+}
+
+pub(crate) fn refused(rt: &impl Abort, alloc: Global, least: &str, asked: &str) -> String {
+    let (letters, asked) = cut(asked, " ");
+    let asked = asked_by(rt, alloc, asked);
+    refuse_each(
+        rt,
+        alloc,
+        letters,
+        &asked,
+        least.parse().expect(rt, "a number"),
+    )
 }
 
 #[test]
@@ -343,17 +357,8 @@ fn memory_may_be_refused(rt: HostRuntime) {
 }
 
 /// A query with the options of these letters.
-fn query_of<A: Allocator + Copy>(
-    rt: &impl Abort,
-    alloc: A,
-    letters: &str,
-    pattern: &[u8],
-) -> Query<A> {
-    let text = text_of(alloc, letters, pattern).expect(rt, "memory");
-    match Query::compile(alloc, text) {
-        Ok(query) => query,
-        Err(_) => panic!(rt; "no query"),
-    }
+fn query_of(rt: &impl Abort, alloc: Global, letters: &str, pattern: &[u8]) -> Arc<Query> {
+    compile(alloc, letters, pattern).expect(rt, "a query")
 }
 
 /// Whether a block is of file 7 and has a number and bytes.
@@ -361,21 +366,26 @@ fn is_block(block: &Block, number: u64, bytes: &[u8]) -> bool {
     block.file == 7 && block.number == number && block.bytes.as_slice() == bytes
 }
 
+/// Whether a result is of the search for `b` in a block.
+fn is_of(rt: &impl Abort, alloc: Global, found: &BlockResult, bytes: &[u8]) -> bool {
+    let query: &Query = found.query();
+    let other = query_of(rt, alloc, "F", b"b");
+    is_block(found.block(), 5, bytes) && *query == *other
+}
+
 /// What a search for `b` finds in a block.
 fn found_in(rt: &impl Abort, alloc: Global, bytes: &[u8]) -> BlockResult
     requires { length bytes.now ≤ 100 }
 {
     let query = query_of(rt, alloc, "F", b"b");
-    let prepared = prepare(alloc, query, bytes).expect(rt, "memory");
-    search_for(alloc, prepared).expect(rt, "memory")
+    search_for(alloc, &query, bytes).expect(rt, "memory")
 }
 
 #[test]
 fn a_result_has_its_block_and_query(rt: HostRuntime) {
-    let found = found_in(&rt, rt.alloc(), b"abc\nxyz\nb");
-    assert!(rt; is_block(found.block(), 5, b"abc\nxyz\nb"));
-    let query: &Query = found.query();
-    assert!(rt; *query == query_of(&rt, rt.alloc(), "F", b"b"));
+    let bytes: &[u8] = b"abc\nxyz\nb";
+    let found = found_in(&rt, rt.alloc(), bytes);
+    assert!(rt; is_of(&rt, rt.alloc(), &found, bytes));
 }
 
 /// Two queries, each by its letters and a text, and whether they are the same, as are the texts that they are of.
@@ -391,7 +401,7 @@ F:ab Fz:ab => false
 F:ab Ff:ab => false";
 
 /// The query of letters and a text behind a colon.
-fn query_by(rt: &impl Abort, alloc: Global, asked: &str) -> Query {
+fn query_by(rt: &impl Abort, alloc: Global, asked: &str) -> Arc<Query> {
     let (letters, text) = cut(asked, ":");
     query_of(rt, alloc, letters, text.as_bytes())
 }

@@ -2,8 +2,8 @@
 use crate::machine::bounds_of;
 use crate::rows::{Question, assert_rows, bytes_of, show_bytes};
 use pg_literal::Literal;
-use pg_syntax::parse_ere;
-use std::alloc::Global;
+use pg_syntax::{Tree, parse_ere};
+use std::alloc::{AllocError, Global};
 use std::process::Abort;
 
 /// Bounds, with `fold-` before them where case is folded, extended expressions, which `;` parts, and their literals,
@@ -95,48 +95,65 @@ fold-any Foo|BAR;Baz => only:bar;only:foo;only:baz
 fold-word Foo|^BAR$ => bar;foo",
 ];
 
+/// The tree of an expression.
+fn tree_of(rt: &impl Abort, alloc: Global, pattern: &str, fold: bool) -> Tree {
+    parse_ere(alloc, &bytes_of(rt, alloc, pattern), fold).expect(rt, "an expression")
+}
+
+/// The trees of expressions.
+fn trees_of(
+    rt: &impl Abort,
+    alloc: Global,
+    text: &str,
+    fold: bool,
+) -> Result<Vec<Tree>, AllocError> {
+    let mut trees = Vec::new(alloc);
+    for pattern in text.split(';') {
+        trees.push(tree_of(rt, alloc, pattern, fold))?;
+    }
+    Ok(trees)
+}
+
 /// The literals of expressions.
 pub(crate) fn literal_of(rt: &impl Abort, alloc: Global, kind: &str, text: &str) -> String {
     let (fold, bounds) = match kind.strip_prefix("fold-") {
         Some(bounds) => (true, bounds),
         None => (false, kind),
     };
-    let mut trees = Vec::new(alloc);
-    for pattern in text.split(';') {
-        let tree = parse_ere(alloc, &bytes_of(rt, alloc, pattern), fold).expect(
-            rt,
-            "no expression",
-        );
-        trees.push(tree).expect(rt, "memory");
-    }
+    let trees = trees_of(rt, alloc, text, fold).expect(rt, "memory");
     let literals = Literal::of(alloc, &trees, bounds_of(bounds), fold).expect(rt, "memory");
-    shown_of(rt, alloc, &literals)
+    shown_of(alloc, &literals).expect(rt, "memory")
 }
 
-fn shown_of(rt: &impl Abort, alloc: Global, literals: &[Literal]) -> String {
+fn shown_of(alloc: Global, literals: &[Literal]) -> Result<String, AllocError> {
     let mut shown = String::new(alloc);
-    for literal in literals {
-        if !shown.is_empty() {
-            shown.push_str(";").expect(rt, "memory");
-        }
-        show(rt, literal, &mut shown);
-    }
-    if literals.is_empty() {
-        shown.push_str("none").expect(rt, "memory");
-    }
-    shown
+    show_all(literals, &mut shown)?;
+    Ok(shown)
 }
 
-fn show(rt: &impl Abort, literal: &Literal, out: &mut String) {
-    if literal.is_enough {
-        out.push_str("only:").expect(rt, "memory");
+fn show_all(literals: &[Literal], out: &mut String) -> Result<(), AllocError> {
+    if literals.is_empty() {
+        return out.push_str("none");
     }
-    show_bytes(&literal.text, out).expect(rt, "memory");
+    for literal in literals {
+        if !out.is_empty() {
+            out.push(';')?;
+        }
+        show(literal, out)?;
+    }
+    Ok(())
+}
+
+fn show(literal: &Literal, out: &mut String) -> Result<(), AllocError> {
+    if literal.is_enough {
+        out.push_str("only:")?;
+    }
+    show_bytes(&literal.text, out)
 }
 
 #[test]
 fn literals(rt: HostRuntime) {
-    for rows in LITERALS {
+    for rows in LITERALS.iter() {
         assert_rows(&rt, rt.alloc(), Question::Literal, rows);
     }
 }

@@ -98,46 +98,122 @@ any x*$ on y/yx//x/yxy => +++++
 any ^$ on a//b/ab/ => -+--+
 whole a*b on b/ab/aab/abx/xab//b/ab => +++---++
 word foo on foo/xfoo/foo_/a foo b/foofoo/foo-/foo/xfoo => +--+-++-
-word x* on a/-//xx/ax/x => -+++-+";
+word x* on a/-//xx/ax/x => -+++-+
+two  on  => +
+none  on  => -";
 
-/// Shows whether a line is selected, or its matched parts. The scratch is the machine's.
+/// A machine, and a scratch for it, of the patterns that a word tells of: bounds, and a text that is an extended
+/// expression, or `fixed`, `two` or `none`.
+fn machine_of(rt: &impl Abort, alloc: Global, word: &str, text: &[u8]) -> Search
+    ensures { Fits result.scratch result.machine }
+{
+    match word {
+        "fixed" => fixed_string(rt, alloc, text),
+        "two" => alternatives(rt, alloc),
+        "none" => search_of(rt, alloc, &[], Bounds::Any),
+        bounds => machine(rt, alloc, text, bounds_of(bounds)),
+    }
+}
+
+/// What a row asks of a machine.
+fn asked_machine(
+    rt: &impl Abort,
+    alloc: Global,
+    question: Question,
+    word: &str,
+    text: &str,
+) -> Search
+    ensures { Fits result.scratch result.machine }
+{
+    machine_of(rt, alloc, word, &field_of(rt, alloc, question, text))
+}
+
+/// The bytes of a field, which stands in parts where visits are asked.
+fn field_of(rt: &impl Abort, alloc: Global, question: Question, field: &str) -> Vec<u8> {
+    match question {
+        Question::Visits => repeated(rt, alloc, field),
+        _ => bytes_of(rt, alloc, field),
+    }
+}
+
+/// The bytes of a line.
+fn line_of(rt: &impl Abort, alloc: Global, question: Question, field: &str) -> Vec<u8>
+    ensures { length result.items ≤ 10000 }
+{
+    let line = field_of(rt, alloc, question, field);
+    assert!(rt; line.len() <= 10_000);
+    line
+}
+
+/// Shows whether a line is selected, or its matched parts, or what the searches visit. The scratch is the machine's,
+/// and the line has at most 2^30 bytes.
+fn show_answer(
+    rt: &impl Abort,
+    question: Question,
+    search: &mut Search,
+    line: &[u8],
+    most: &str,
+    out: &mut String,
+) -> Result<(), AllocError>
+    requires fits { Fits search.old.scratch search.old.machine }
+    requires short { length line.now ≤ 2 ^ 30 }
+    ensures { Fits search.new.scratch search.new.machine }
+{
+    match question {
+        Question::Selected => {
+            let is_selected = search.machine.selects(&mut search.scratch, line);
+            out.push(if is_selected { '+' } else { '-' })
+        }
+        Question::Parts => show_parts(search, line, out),
+        _ => show_visits(search, line, most.parse().expect(rt, "a number"), out),
+    }
+}
+
+/// Shows the answer for a line, and for visits behind ` within ` how many there may be.
 fn show_line(
     rt: &impl Abort,
     alloc: Global,
+    question: Question,
     search: &mut Search,
     line: &str,
-    in_parts: bool,
     out: &mut String,
 )
     requires { Fits search.old.scratch search.old.machine }
     ensures { Fits search.new.scratch search.new.machine }
 {
-    let line = few_bytes(rt, alloc, line);
-    if in_parts {
-        show_parts(rt, search, &line, out);
-    } else {
-        let is_selected = search.machine.selects(&mut search.scratch, &line);
-        out.push(if is_selected { '+' } else { '-' })
-            .expect(rt, "memory");
-    }
+    let (line, most) = cut(line, " within ");
+    let line = line_of(rt, alloc, question, line);
+    show_answer(rt, question, search, &line, most, out).expect(rt, "memory")
 }
 
-/// Shows of each line whether it is selected, or its matched parts.
+/// Shows the answers for lines, where slashes part them.
+fn show_lines(
+    rt: &impl Abort,
+    alloc: Global,
+    question: Question,
+    search: &mut Search,
+    lines: &str,
+) -> String
+    requires { Fits search.old.scratch search.old.machine }
+{
+    let mut out = String::new(alloc);
+    for line in lines.split('/') {
+        show_line(rt, alloc, question, search, line, &mut out);
+    }
+    out
+}
+
+/// Shows of each line whether it is selected, or its matched parts, or what the searches visit.
 pub(crate) fn searched(
     rt: &impl Abort,
     alloc: Global,
-    bounds: &str,
+    question: Question,
+    word: &str,
     asked: &str,
-    in_parts: bool,
 ) -> String {
     let (text, lines) = cut(asked, " on ");
-    let text = bytes_of(rt, alloc, text);
-    let mut search = machine(rt, alloc, &text, bounds_of(bounds));
-    let mut out = String::new(alloc);
-    for line in lines.split('/') {
-        show_line(rt, alloc, &mut search, line, in_parts, &mut out);
-    }
-    out
+    let mut search = asked_machine(rt, alloc, question, word, text);
+    show_lines(rt, alloc, question, &mut search, lines)
 }
 
 #[test]
@@ -147,7 +223,7 @@ fn lines_are_selected(rt: HostRuntime) {
 
 /// Shows the matched parts of a line, from left to right, as -o does, and a slash. The scratch is the machine's, and
 /// the line has at most 2^30 bytes.
-fn show_parts(rt: &impl Abort, search: &mut Search, line: &[u8], out: &mut String)
+fn show_parts(search: &mut Search, line: &[u8], out: &mut String) -> Result<(), AllocError>
     requires fits { Fits search.old.scratch search.old.machine }
     requires short { length line.now ≤ 2 ^ 30 }
     ensures { Fits search.new.scratch search.new.machine }
@@ -162,10 +238,10 @@ fn show_parts(rt: &impl Abort, search: &mut Search, line: &[u8], out: &mut Strin
             break;
         };
         let space = if place > 0 { " " } else { "" };
-        write!(out, "{space}{start}-{end}").expect(rt, "memory");
+        write!(out, "{space}{start}-{end}")?;
         place = end;
     }
-    out.push('/').expect(rt, "memory");
+    out.push('/')
 }
 
 /// Bounds, an extended expression, and lines that are searched one after the other with one scratch; the matched parts
@@ -188,35 +264,33 @@ any a+b|cd on xxaab ab cd/none/ab/cdcd/xab => 2-5 6-8 9-11//0-2/0-2 2-4/1-3/
 any a*b on aaab/xb/aaa/ab => 0-4/1-2//0-2/
 any ^a|b on aab/ba/aa => 0-1 2-3/0-1/0-1/
 word fo+ on foo xfoo foo_ fo/foo/foo => 0-3 14-16/0-3/0-3/
-whole a|ab on a/ab/abb/ab => 0-1/0-2//0-2/";
+whole a|ab on a/ab/abb/ab => 0-1/0-2//0-2/
+two  on cabb => 1-3 3-4/";
 
 #[test]
 fn parts_of_lines(rt: HostRuntime) {
     assert_rows(&rt, rt.alloc(), Question::Parts, PARTS);
 }
 
-/// What searches of a line give.
-#[derive(Clone, Copy)]
-struct Found {
-    selected: bool,
-    part: Option<(usize, usize)>,
-    /// The most states that a search visited.
-    visits: u128,
-}
-
-/// Whether a line is selected, its first matched part, and what the searches visit. The scratch is the machine's.
-fn find_in(search: &mut Search, line: &[u8]) -> Found
+/// Shows whether a line is selected, and its first matched part, where the searches visit no more states than they
+/// may. The scratch is the machine's, and the line has at most 2^30 bytes.
+fn show_visits(
+    search: &mut Search,
+    line: &[u8],
+    most: u128,
+    out: &mut String,
+) -> Result<(), AllocError>
     requires fits { Fits search.old.scratch search.old.machine }
     requires short { length line.now ≤ 2 ^ 30 }
+    ensures { Fits search.new.scratch search.new.machine }
 {
-    let selected = search.machine.selects(&mut search.scratch, line);
+    let is_selected = search.machine.selects(&mut search.scratch, line);
     let visits = search.scratch.visits();
     let part = search.machine.next_piece(&mut search.scratch, line, 0);
-    Found {
-        selected,
-        part,
-        visits: visits.max(search.scratch.visits()),
+    if visits.max(search.scratch.visits()) > most {
+        out.push_str("too many visits: ")?;
     }
+    write!(out, "({is_selected}, {part:?})")
 }
 
 /// Bounds, an extended expression in parts, and a line in parts; whether it is selected, its first matched part, and
@@ -229,23 +303,8 @@ word a|a-b:1 on -bc:1 within 24 => (false, None)
 word :1 on a:1 within 4 => (false, None)
 word :1 on -:1 within 4 => (true, None)
 word :1 on :1 within 2 => (true, None)
-any ((((a{0}){255}){255}){255}){255}:1 on b:1 within 2 => (true, None)";
-
-/// What searches of a line give, where they visit no more states than they may.
-pub(crate) fn visits_of(rt: &impl Abort, alloc: Global, bounds: &str, asked: &str) -> String {
-    let (asked, most) = cut(asked, " within ");
-    let (text, line) = cut(asked, " on ");
-    let line = repeated(rt, alloc, line);
-    assert!(rt; line.len() <= 10_000);
-    let mut search = machine(rt, alloc, &repeated(rt, alloc, text), bounds_of(bounds));
-    let found = find_in(&mut search, &line);
-    assert!(rt;
-        found.visits <= most.parse().expect(rt, "a number"),
-        "{asked}"
-    );
-    let shown = (found.selected, found.part);
-    format!(in alloc; "{shown:?}").expect(rt, "memory")
-}
+any ((((a{0}){255}){255}){255}){255}:1 on b:1 within 2 => (true, None)
+none :1 on a:1 within 2 => (false, None)";
 
 #[test]
 fn visits(rt: HostRuntime) {
@@ -262,7 +321,8 @@ any a{0}:1 {2}:1364 on aa:1 within 196608 => (true, None)
 any a:1 +:15 on baab:1 within 327680 => (true, Some((1, 3)))
 any (:100 b:1 |a)*:100 on cabc:1 within 327680 => (true, Some((1, 3)))
 any (a|:100 b:1 )*:100 on cabc:1 within 327680 => (true, Some((1, 3)))
-any (a|b:100 c:1 ){0,1}:100 on cabbc:1 within 393216 => (true, Some((1, 2)))";
+any (a|b:100 c:1 ){0,1}:100 on cabbc:1 within 393216 => (true, Some((1, 2)))
+fixed a:4096 on a:4096 within 268500992 => (true, Some((0, 4096)))";
 
 #[test]
 fn deep_trees(rt: HostRuntime) {
@@ -286,77 +346,42 @@ fn letters(alloc: Global, seed: u64) -> Result<Vec<u8>, AllocError>
     Ok(line)
 }
 
-/// The whole line is matched exactly where its tenth byte from the end is an `a`. The automaton of the expression
-/// stands in any of 1,024 sets of states, more than are remembered.
+/// Whether a line is matched exactly where its tenth byte from the end is an `a`. The scratch is the machine's.
+fn is_tenth_asked(search: &mut Search, line: &[u8]) -> bool
+    requires fits { Fits search.old.scratch search.old.machine }
+    requires line { length line.now ≡ 60 }
+    ensures { Fits search.new.scratch search.new.machine }
+{
+    let wanted = line[50] == b'a';
+    let is_selected = search.machine.selects(&mut search.scratch, line);
+    let part = search.machine.next_piece(&mut search.scratch, line, 0);
+    is_selected == wanted && part.is_some() == wanted
+}
+
+/// The same of a line of some letters.
+fn is_right_for(rt: &impl Abort, alloc: Global, search: &mut Search, seed: u64) -> bool
+    requires { Fits search.old.scratch search.old.machine }
+    ensures { Fits search.new.scratch search.new.machine }
+{
+    let line = letters(alloc, seed).expect(rt, "memory");
+    is_tenth_asked(search, &line)
+}
+
+/// The automaton of the expression stands in any of 1,024 sets of states, more than are remembered.
 #[test]
 fn more_sets_than_are_remembered(rt: HostRuntime) {
     let mut search = machine(&rt, rt.alloc(), b"(a|b)*a(a|b){9}", Bounds::Whole);
     for seed in 0..100 {
-        let line = letters(rt.alloc(), seed).expect(&rt, "memory");
-        let wanted = line[50] == b'a';
-        assert!(rt; search.machine.selects(&mut search.scratch, &line) == wanted);
-        let part = search.machine.next_piece(&mut search.scratch, &line, 0);
-        assert!(rt; part.is_some() == wanted);
+        assert!(rt; is_right_for(&rt, rt.alloc(), &mut search, seed));
     }
 }
 
-/// Whether a machine of a fixed string, which is its line, selects it.
-fn selects_itself(rt: &impl Abort, alloc: Global, line: &[u8]) -> bool
-    requires { length line.now ≤ 2 ^ 30 }
+/// A machine of a fixed string, and a scratch for it.
+fn fixed_string(rt: &impl Abort, alloc: Global, text: &[u8]) -> Search
+    ensures { Fits result.scratch result.machine }
 {
-    let tree = fixed(alloc, line, false).expect(rt, "a pattern");
-    let mut search = search_of(rt, alloc, &[tree], Bounds::Whole);
-    search.machine.selects(&mut search.scratch, line)
-}
-
-#[test]
-fn the_longest_string(rt: HostRuntime) {
-    let line = repeated(&rt, rt.alloc(), "a:4096");
-    assert!(rt; line.len() <= 10_000);
-    assert!(rt; selects_itself(&rt, rt.alloc(), &line));
-}
-
-/// Extended expressions that ask for more than 65,536 states.
-const TOO_LARGE: &str = "((a{0,255}){0,255})*
-(a{255}){255}a{255}a{255}a
-(((a{255}){255}){255}){255}";
-
-/// Why there is no machine of an extended expression.
-fn fault_of(rt: &impl Abort, alloc: Global, text: &str) -> Option<BuildFault> {
-    let trees = [extended(rt, alloc, text.as_bytes())];
-    Machine::build(alloc, &trees, Bounds::Any).err()
-}
-
-#[test]
-fn large_patterns_are_refused(rt: HostRuntime) {
-    for text in TOO_LARGE.lines() {
-        let fault = fault_of(&rt, rt.alloc(), text);
-        assert!(rt; fault == Some(BuildFault::TooManyStates), "{text}");
-    }
-}
-
-/// Whether a scratch for `a|b` fits its machine, and the machine of an expression.
-fn fits(rt: &impl Abort, alloc: Global, text: &[u8], bounds: Bounds) -> bool {
-    let one = machine(rt, alloc, b"a|b", Bounds::Any);
-    let other = machine(rt, alloc, text, bounds);
-    one.scratch.fits(&one.machine) && one.scratch.fits(&other.machine)
-}
-
-#[test]
-fn scratches_fit_their_machine(rt: HostRuntime) {
-    assert!(rt; fits(&rt, rt.alloc(), b"a|b", Bounds::Any));
-    assert!(rt; !fits(&rt, rt.alloc(), b"a|b", Bounds::Whole));
-    assert!(rt; !fits(&rt, rt.alloc(), b"a|c", Bounds::Any));
-    next_piece_is_one();
-}
-
-#[test]
-fn no_pattern_selects_nothing(rt: HostRuntime) {
-    let none: [Tree; 0] = [];
-    let mut search = search_of(&rt, rt.alloc(), &none, Bounds::Any);
-    assert!(rt; !search.machine.selects(&mut search.scratch, b""));
-    let found = find_in(&mut search, b"a");
-    assert!(rt; !found.selected && found.part.is_none());
+    let tree = fixed(alloc, text, false).expect(rt, "a pattern");
+    search_of(rt, alloc, &[tree], Bounds::Whole)
 }
 
 /// A machine of the basic expressions `ab` and `b*`, and a scratch for it.
@@ -368,36 +393,90 @@ fn alternatives(rt: &impl Abort, alloc: Global) -> Search
     search_of(rt, alloc, &[one, other], Bounds::Any)
 }
 
+/// Extended expressions that ask for more than 65,536 states.
+const TOO_LARGE: &str = "((a{0,255}){0,255})*
+(a{255}){255}a{255}a{255}a
+(((a{255}){255}){255}){255}";
+
+/// Whether there is no machine of an extended expression, for it has too many states.
+fn is_too_large(rt: &impl Abort, alloc: Global, text: &str) -> bool {
+    let trees = [extended(rt, alloc, text.as_bytes())];
+    let built = Machine::build(alloc, &trees, Bounds::Any);
+    matches!(built, Err(BuildFault::TooManyStates))
+}
+
 #[test]
-fn patterns_are_alternatives(rt: HostRuntime) {
-    let mut search = alternatives(&rt, rt.alloc());
-    assert!(rt; search.machine.selects(&mut search.scratch, b""));
-    let mut out = String::new(rt.alloc());
-    show_parts(&rt, &mut search, b"cabb", &mut out);
-    assert_eq!(rt; out.as_str(), "1-3 3-4/");
+fn large_patterns_are_refused(rt: HostRuntime) {
+    for text in TOO_LARGE.lines() {
+        assert!(rt; is_too_large(&rt, rt.alloc(), text));
+    }
+}
+
+/// Bounds, an extended expression, and whether a scratch for `a|b` anywhere fits the machine of it.
+const SCRATCHES: &str = "any a|b => true
+whole a|b => false
+any a|c => false";
+
+/// Whether a scratch fits the machine of an expression.
+fn fits(rt: &impl Abort, alloc: Global, scratch: &Scratch, bounds: &str, text: &str) -> bool {
+    let other = machine(rt, alloc, text.as_bytes(), bounds_of(bounds));
+    scratch.fits(&other.machine)
+}
+
+/// Whether a scratch for `a|b` fits its machine, and the machine of an expression.
+pub(crate) fn fits_both(rt: &impl Abort, alloc: Global, bounds: &str, text: &str) -> bool {
+    let one = machine(rt, alloc, b"a|b", Bounds::Any);
+    one.scratch.fits(&one.machine) && fits(rt, alloc, &one.scratch, bounds, text)
+}
+
+#[test]
+fn scratches_fit_their_machine(rt: HostRuntime) {
+    assert_rows(&rt, rt.alloc(), Question::Scratch, SCRATCHES);
+    next_piece_is_one();
 }
 
 /// How many requests a scratch makes for what it only remembers.
 const DISPENSABLE: u64 = 5;
+
+/// Makes a scratch for a machine, and searches a line.
+fn select_once<A: Allocator + Copy>(alloc: A, machine: &Machine<A>) -> Result<bool, AllocError> {
+    let mut scratch = Scratch::new(alloc, machine)?;
+    Ok(machine.selects(&mut scratch, b"xaab"))
+}
 
 /// Builds a machine of proper trees and a scratch on one allocator, and searches a line.
 fn search_once<A: Allocator + Copy>(alloc: A, trees: &[Tree<A>]) -> Result<bool, BuildFault>
     requires { All IsProper (map pattern trees.now) }
 {
     let machine = Machine::build(alloc, trees, Bounds::Any)?;
-    let mut scratch = Scratch::new(alloc, &machine)?;
-    Ok(machine.selects(&mut scratch, b"xaab"))
+    match select_once(alloc, &machine) {
+        Ok(is_selected) => Ok(is_selected),
+        Err(AllocError) => Err(BuildFault::OutOfMemory),
+    }
+}
+
+/// How many requests for memory an expression makes.
+fn requests_of_tree(rt: &impl Abort, alloc: Global) -> u64 {
+    let heap = Refusing::new(alloc, 40);
+    let _tree = extended(rt, &heap, b"(a|b*)c?b");
+    heap.requests()
 }
 
 /// What such a search gives where the requests that the machine makes pass up to one, which is refused, and whether
 /// there was such a one.
 fn search_refused(rt: &impl Abort, alloc: Global, passes: u64) -> (Result<bool, BuildFault>, bool) {
-    let heap = Refusing::new(alloc, 40);
-    let _tree = extended(rt, &heap, b"(a|b*)c?b");
-    let heap = Refusing::new(alloc, heap.requests().wrapping_add(passes));
+    let heap = Refusing::new(alloc, requests_of_tree(rt, alloc).wrapping_add(passes));
     let tree = extended(rt, &heap, b"(a|b*)c?b");
     let found = search_once(&heap, &[tree]);
     (found, heap.has_refused())
+}
+
+/// Whether a search goes through without a refusal, or else the line is found all the same or there is no memory.
+fn is_answer(found: Result<bool, BuildFault>, is_refused: bool) -> bool {
+    match found {
+        Ok(is_selected) => is_selected,
+        Err(fault) => is_refused && fault == BuildFault::OutOfMemory,
+    }
 }
 
 #[test]
@@ -405,15 +484,14 @@ fn memory_may_be_refused(rt: HostRuntime) {
     let mut without = 0u64;
     for passes in 0..100u64 {
         let (found, is_refused) = search_refused(&rt, rt.alloc(), passes);
+        assert!(rt; is_answer(found, is_refused), "at {passes}");
         if !is_refused {
-            assert!(rt; found == Ok(true));
             assert!(rt; without == DISPENSABLE && passes > DISPENSABLE);
             return;
         }
-        without = if found == Ok(true) {
+        without = if found.is_ok() {
             without.wrapping_add(1)
         } else {
-            assert!(rt; found == Err(BuildFault::OutOfMemory), "at {passes}");
             0
         };
     }

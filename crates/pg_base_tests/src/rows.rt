@@ -74,12 +74,23 @@ pub(crate) enum Question {
     Selected,
     Parts,
     Visits,
+    Scratch,
     Expression,
     LargeText,
     DeepTree,
     TreeAround,
     PatternList,
     SameLists,
+}
+
+/// Whether what is asked of a kind holds.
+fn holds(rt: &impl Abort, alloc: Global, question: Question, kind: &str, asked: &str) -> bool {
+    match question {
+        Question::Scratch => machine::fits_both(rt, alloc, kind, asked),
+        Question::DeepTree => syntax::deep_tree(rt, alloc, kind, asked),
+        Question::TreeAround => syntax::is_proper(rt, alloc, kind),
+        _ => syntax::same_lists(rt, alloc, kind, asked),
+    }
 }
 
 fn answer(rt: &impl Abort, alloc: Global, question: Question, kind: &str, asked: &str) -> String {
@@ -91,16 +102,26 @@ fn answer(rt: &impl Abort, alloc: Global, question: Question, kind: &str, asked:
         Question::Refused => lines::refused(rt, alloc, kind, asked),
         Question::SameQueries => lines::compared(rt, alloc, kind, asked),
         Question::Literal => literal::literal_of(rt, alloc, kind, asked),
-        Question::Selected => machine::searched(rt, alloc, kind, asked, false),
-        Question::Parts => machine::searched(rt, alloc, kind, asked, true),
-        Question::Visits => machine::visits_of(rt, alloc, kind, asked),
+        Question::Selected | Question::Parts | Question::Visits => {
+            machine::searched(rt, alloc, question, kind, asked)
+        }
         Question::Expression => syntax::expression(rt, alloc, kind, asked),
         Question::LargeText => syntax::large_text(rt, alloc, kind, asked),
-        Question::DeepTree => syntax::deep_tree(rt, alloc, kind, asked),
-        Question::TreeAround => syntax::is_proper(rt, alloc, kind),
         Question::PatternList => syntax::pattern_list(rt, alloc, kind, asked),
-        Question::SameLists => syntax::same_lists(rt, alloc, kind, asked),
+        _ => {
+            let text = if holds(rt, alloc, question, kind, asked) {
+                "true"
+            } else {
+                "false"
+            };
+            String::from_str(alloc, text).expect(rt, "memory")
+        }
     }
+}
+
+/// Compares an answer with what is wanted of a kind in a row.
+pub(crate) fn assert_text(rt: &impl Abort, got: &str, want: &str, kind: &str, row: &str) {
+    assert_eq!(rt; got, want, "{kind}: {row}");
 }
 
 /// Compares the answer to what is asked of a kind with what is wanted.
@@ -108,7 +129,7 @@ fn assert_answer(rt: &impl Abort, alloc: Global, question: Question, kind: &str,
     let (asked, want) = halves(row);
     let (_, asked) = cut(asked, " ");
     let got = answer(rt, alloc, question, kind, asked);
-    assert_eq!(rt; got.as_str(), want, "{kind}: {row}");
+    assert_text(rt, got.as_str(), want, kind, row);
 }
 
 /// Compares what a row wants with the answer to it. What it asks of begins with a word in which commas part kinds: the

@@ -16,6 +16,17 @@ fn only_member(set: &ByteSet) -> Option<u8> {
     only.filter(|byte| byte.is_ascii_graphic())
 }
 
+/// Shows a byte of a set where a range begins or ends with it.
+fn show_byte(set: &ByteSet, byte: u8, begins: bool, out: &mut String) -> Result<(), AllocError> {
+    let ends = byte == 255 || !set.contains(byte.wrapping_add(1));
+    if begins {
+        write!(out, "{byte}")?;
+    } else if ends {
+        write!(out, "-{byte}")?;
+    }
+    if ends { out.push(',') } else { Ok(()) }
+}
+
 /// Shows one printable byte as itself, and other sets by their ranges.
 pub(crate) fn show_set(set: &ByteSet, out: &mut String) -> Result<(), AllocError> {
     if let Some(byte) = only_member(set) {
@@ -25,15 +36,8 @@ pub(crate) fn show_set(set: &ByteSet, out: &mut String) -> Result<(), AllocError
     let mut before = false;
     for byte in 0..=255u8 {
         let is_in = set.contains(byte);
-        let behind = byte < 255 && set.contains(byte.wrapping_add(1));
-        if is_in && !before {
-            write!(out, "{byte}")?;
-        }
-        if is_in && before && !behind {
-            write!(out, "-{byte}")?;
-        }
-        if is_in && !behind {
-            out.push(',')?;
+        if is_in {
+            show_byte(set, byte, !before, out)?;
         }
         before = is_in;
     }

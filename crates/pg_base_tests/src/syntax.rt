@@ -180,7 +180,7 @@ pub(crate) fn expression(rt: &impl Abort, alloc: Global, parser: &str, text: &st
 
 #[test]
 fn expressions(rt: HostRuntime) {
-    for rows in EXPRESSIONS {
+    for rows in EXPRESSIONS.iter() {
         assert_rows(&rt, rt.alloc(), Question::Expression, rows);
     }
 }
@@ -195,15 +195,12 @@ fn large_texts(rt: HostRuntime) {
     assert_rows(&rt, rt.alloc(), Question::LargeText, LARGE);
 }
 
-fn show_proper(rt: &impl Abort, alloc: Global, tree: &Tree) -> String {
-    let is_proper = tree.is_proper();
-    format!(in alloc; "{is_proper}").expect(rt, "memory")
-}
-
-pub(crate) fn deep_tree(rt: &impl Abort, alloc: Global, parser: &str, parts: &str) -> String {
+/// Whether a tree as deep as a text can make it is proper.
+pub(crate) fn deep_tree(rt: &impl Abort, alloc: Global, parser: &str, parts: &str) -> bool {
     let text = repeated(rt, alloc, parts);
-    let tree = parsed(alloc, parser, &text).expect(rt, "a tree");
-    show_proper(rt, alloc, &tree)
+    parsed(alloc, parser, &text)
+        .expect(rt, "a tree")
+        .is_proper()
 }
 
 /// Trees as deep as a text can make them are walked and dropped.
@@ -235,9 +232,8 @@ fn tree_around(alloc: Global, place: &str) -> Result<Tree, AllocError> {
     })
 }
 
-pub(crate) fn is_proper(rt: &impl Abort, alloc: Global, place: &str) -> String {
-    let tree = tree_around(alloc, place).expect(rt, "memory");
-    show_proper(rt, alloc, &tree)
+pub(crate) fn is_proper(rt: &impl Abort, alloc: Global, place: &str) -> bool {
+    tree_around(alloc, place).expect(rt, "memory").is_proper()
 }
 
 #[test]
@@ -245,17 +241,20 @@ fn improper_trees(rt: HostRuntime) {
     assert_rows(&rt, rt.alloc(), Question::TreeAround, TREES);
 }
 
+fn show_fault(fault: ListFault, out: &mut String) -> Result<(), AllocError> {
+    let ListFault { pattern, fault } = fault;
+    let SyntaxFault { kind, at } = fault;
+    write!(out, "pattern {pattern}: {kind:?} at {at}")
+}
+
 /// Shows the trees of a list, each with a semicolon behind it, or the fault.
-fn shown_list(rt: &impl Abort, alloc: Global, kind: Kind, lists: &[PatternList]) -> String {
+fn shown_list(alloc: Global, kind: Kind, lists: &[PatternList]) -> Result<String, AllocError> {
     let mut out = String::new(alloc);
     match parse_list(alloc, kind, lists, false) {
-        Ok(trees) => show_all(&trees, &mut out).expect(rt, "memory"),
-        Err(ListFault { pattern, fault }) => {
-            let SyntaxFault { kind, at } = fault;
-            write!(out, "pattern {pattern}: {kind:?} at {at}").expect(rt, "memory");
-        }
+        Ok(trees) => show_all(&trees, &mut out)?,
+        Err(fault) => show_fault(fault, &mut out)?,
     }
-    out
+    Ok(out)
 }
 
 fn show_all(trees: &[Tree], out: &mut String) -> Result<(), AllocError> {
@@ -310,7 +309,7 @@ fn kind_of(name: &str) -> Kind {
 
 pub(crate) fn pattern_list(rt: &impl Abort, alloc: Global, kind: &str, words: &str) -> String {
     let lists = lists_of(rt, alloc, words).expect(rt, "memory");
-    shown_list(rt, alloc, kind_of(kind), &lists)
+    shown_list(alloc, kind_of(kind), &lists).expect(rt, "memory")
 }
 
 #[test]
@@ -325,9 +324,8 @@ text:a text:b => false
 text:a file:a => false";
 
 /// Whether two lists are the same.
-pub(crate) fn same_lists(rt: &impl Abort, alloc: Global, one: &str, other: &str) -> String {
-    let are_same = list_of(rt, alloc, one) == list_of(rt, alloc, other);
-    format!(in alloc; "{are_same}").expect(rt, "memory")
+pub(crate) fn same_lists(rt: &impl Abort, alloc: Global, one: &str, other: &str) -> bool {
+    list_of(rt, alloc, one) == list_of(rt, alloc, other)
 }
 
 #[test]
@@ -370,15 +368,19 @@ const KINDS: [FaultKind; 14] = [
     FaultKind::OutOfMemory,
 ];
 
+fn show_kind(kind: FaultKind, out: &mut String) -> Result<(), AllocError> {
+    let fault = ListFault {
+        pattern: 3,
+        fault: SyntaxFault { kind, at: 7 },
+    };
+    writeln!(out, "{kind:?}: {fault}")
+}
+
 #[test]
 fn texts_of_faults(rt: HostRuntime) {
     let mut out = String::new(rt.alloc());
-    for kind in KINDS {
-        let fault = ListFault {
-            pattern: 3,
-            fault: SyntaxFault { kind, at: 7 },
-        };
-        writeln!(out, "{kind:?}: {fault}").expect(&rt, "memory");
+    for kind in KINDS.iter() {
+        show_kind(*kind, &mut out).expect(&rt, "memory");
     }
     assert!(rt; out.as_str() == FAULTS);
 }

@@ -1,5 +1,5 @@
 use Rattle.pg_match.specs.Machines.{Fits}
-use Rattle.pg_base_tests.proofs.machine.searched.Given as goal
+use Rattle.pg_base_tests.proofs.machine.show_lines.Given as goal
 
 abbrev pub invariant-loop-line : goal.invariant-loop-line
 invariant-loop-line g l =

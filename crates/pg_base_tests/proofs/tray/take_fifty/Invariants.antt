@@ -1,5 +1,5 @@
 use Rattle.std.proofs.Common.{◌≡◌}
-use Rattle.pg_parts_tests.proofs.tray.take_fifty.Given as goal
+use Rattle.pg_base_tests.proofs.tray.take_fifty.Given as goal
 
 abbrev pub invariant-loop : goal.invariant-loop
 invariant-loop g l = record {

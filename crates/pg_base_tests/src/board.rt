@@ -8,17 +8,30 @@ use std::sync::atomic::{AtomicU64, Ordering};
 use std::thread;
 use std::thread::Threads;
 
+/// Whether a draw gives what is wanted.
+fn draws(board: &Board, seat: &mut Seat, want: Option<u32>) -> bool
+    requires { seat.old.board ≡ board.now }
+    ensures { seat.new.board ≡ board.now }
+{
+    board.draw(seat) == want
+}
+
+/// Whether a seat draws 0 and 1, and is spent then.
+fn is_spent_behind_two(board: &Board, seat: &mut Seat) -> bool
+    requires { seat.old.board ≡ board.now }
+    ensures { seat.new.board ≡ board.now }
+{
+    draws(board, seat, Some(0))
+        && draws(board, seat, Some(1))
+        && draws(board, seat, None)
+        && draws(board, seat, None)
+}
+
 #[test]
 fn a_spent_seat_stays_spent(rt: HostRuntime) {
     let (board, mut seats) = Board::open(rt.alloc(), 2, 1).expect(&rt, "memory");
-    let seat = &mut seats[0];
-    let answers = [
-        board.draw(seat),
-        board.draw(seat),
-        board.draw(seat),
-        board.draw(seat),
-    ];
-    assert!(rt; answers == [Some(0), Some(1), None, None]);
+    let is_spent = is_spent_behind_two(&board, &mut seats[0]);
+    assert!(rt; is_spent);
     assert!(rt; board.close(seats) == Drawn { upto: 2 });
 }
 
@@ -78,16 +91,28 @@ fn are_ones(counters: &[AtomicU64], count: u32) -> bool {
     counters.len() == count as usize
 }
 
+/// Whether four threads draw each number below a limit once.
+fn draw_each_once<R: Threads + Sync>(
+    rt: &R,
+    alloc: Global,
+    limit: u32,
+    seats: u32,
+    most: u64,
+) -> bool
+    requires { (0 < seats) × (seats ≤ 65) }
+{
+    match four_draw(rt, alloc, limit, seats, most) {
+        Ok((drawn, times)) => drawn == Drawn { upto: limit } && are_ones(&times, limit),
+        Err(AllocError) => false,
+    }
+}
+
 #[test]
 fn four_threads_draw_each_number_once(rt: HostRuntime) {
-    for (limit, seats, most) in [(1000u32, 4, u64::MAX), (65, 65, 1), (0, 3, 1), (3, 65, 2)] {
-        let drawn = four_draw(&rt, rt.alloc(), limit, seats, most);
-        let (drawn, times) = drawn.expect(&rt, "memory");
-        assert!(rt;
-            drawn == Drawn { upto: limit } && are_ones(&times, limit),
-            "of {limit}"
-        );
-    }
+    assert!(rt; draw_each_once(&rt, rt.alloc(), 1000, 4, u64::MAX));
+    assert!(rt; draw_each_once(&rt, rt.alloc(), 65, 65, 1));
+    assert!(rt; draw_each_once(&rt, rt.alloc(), 0, 3, 1));
+    assert!(rt; draw_each_once(&rt, rt.alloc(), 3, 65, 2));
 }
 
 /// Opens a board of two numbers, draws one, and closes it. Answers what was drawn, up to where, and how many requests

@@ -1,5 +1,6 @@
 //! The system's tree, over directories that a test makes, and over a runtime that stands in for the system.
-use crate::memory::{halves, walked};
+use crate::memory::walked;
+use crate::rows::{assert_text, cut, halves};
 use pg_walk::{DiskTree, FileTree, LookFault};
 use refusing::Refusing;
 use std::alloc::{AllocError, Allocator, Global};
@@ -20,21 +21,34 @@ fn new_root(rt: &HostRuntime, name: &str) -> io::Result<String> {
 /// The stack of the thread that walks, in bytes: 4 KiB for each level of directories.
 const SMALL_STACK: usize = 0x10_0000;
 
-/// Makes directories below the root that are one level too deep, and answers the path of the deepest that a walk names.
-fn make_deep(rt: &HostRuntime, root: &str) -> io::Result<String> {
-    let mut deepest = String::from_str(rt.alloc(), root)?;
+/// The path of the deepest directory that a walk over a root names.
+fn deepest_of(alloc: Global, root: &str) -> Result<String, AllocError> {
+    let mut deepest = String::from_str(alloc, root)?;
     for _ in 0..257u32 {
         deepest.push_str("/e")?;
     }
-    fs::create_dir_all(rt, format!(in rt.alloc(); "{deepest}/e")?)?;
     Ok(deepest)
+}
+
+/// Makes the directories below a root down to this one, and one level more, which is too deep.
+fn make_deep(rt: &HostRuntime, root: &str) -> io::Result<()> {
+    let deepest = deepest_of(rt.alloc(), root)?;
+    fs::create_dir_all(rt, format!(in rt.alloc(); "{deepest}/e")?)
+}
+
+/// Whether a walk over the root gave that directory.
+fn is_walked_deep(alloc: Global, got: &str, root: &str) -> bool {
+    match deepest_of(alloc, root) {
+        Ok(deepest) => got.strip_suffix(":TooDeep") == Some(deepest.as_str()),
+        Err(AllocError) => false,
+    }
 }
 
 #[test]
 fn a_small_stack_holds_all_levels(rt: HostRuntime) {
     let alloc = rt.alloc();
     let root = new_root(&rt, "deep").expect(&rt, "a path");
-    let deepest = make_deep(&rt, root.as_str()).expect(&rt, "directories");
+    make_deep(&rt, root.as_str()).expect(&rt, "directories");
     let operand = root.clone().expect(&rt, "memory");
     let thread = thread::Builder::new()
         .stack_size(SMALL_STACK)
@@ -46,13 +60,19 @@ fn a_small_stack_holds_all_levels(rt: HostRuntime) {
         .join(&rt)
         .expect(&rt, "memory");
     fs::remove_dir_all(&rt, root.as_str()).expect(&rt, "a directory");
-    assert!(rt; got.as_str().strip_suffix(":TooDeep") == Some(deepest.as_str()));
+    assert!(rt; is_walked_deep(alloc, got.as_str(), root.as_str()));
+}
+
+/// Whether a directory has a name that can't be told, and how many others, or the fault.
+fn listed<T: FileTree>(alloc: Global, tree: &T, path: &str) -> Result<(bool, usize), LookFault> {
+    let listing = tree.entries(alloc, path)?;
+    Ok((listing.nameless, listing.names.len()))
 }
 
 #[test]
 fn a_device_has_no_entries(rt: HostRuntime) {
-    let listed = DiskTree::new(&rt).entries(rt.alloc(), "/dev/null");
-    assert!(rt; matches!(listed, Err(LookFault::Failed)));
+    let listed = listed(rt.alloc(), &DiskTree::new(&rt), "/dev/null");
+    assert!(rt; listed == Err(LookFault::Failed));
 }
 
 /// A runtime that stands in for the system, with a directory `d/`.
@@ -173,7 +193,7 @@ b|?| 255 true => d:CannotList";
 /// The stand-in of which a row tells.
 fn stand_in(rt: &impl Abort, asked: &'static str) -> StandIn {
     let (names, faults) = asked.split_once(' ').unwrap_or((asked, ""));
-    let (unknown, fails) = faults.split_once(' ').unwrap_or((faults, ""));
+    let (unknown, fails) = cut(faults, " ");
     StandIn {
         names,
         unknown: unknown.parse().expect(rt, "a byte"),
@@ -181,12 +201,17 @@ fn stand_in(rt: &impl Abort, asked: &'static str) -> StandIn {
     }
 }
 
+/// A walk over a directory gives what a row wants.
+fn assert_names(rt: &impl Abort, alloc: Global, row: &'static str) {
+    let (asked, want) = halves(row);
+    let got = walked_over(alloc, stand_in(rt, asked), "d").expect(rt, "memory");
+    assert_text(rt, got.as_str(), want, asked, row);
+}
+
 #[test]
 fn names_that_are_not_utf8(rt: HostRuntime) {
     for row in NAMES.lines() {
-        let (asked, want) = halves(row);
-        let got = walked_over(rt.alloc(), stand_in(&rt, asked), "d").expect(&rt, "memory");
-        assert!(rt; got.as_str() == want, "{row}");
+        assert_names(&rt, rt.alloc(), row);
     }
 }
 
@@ -197,11 +222,18 @@ const SOME: StandIn = StandIn {
     fails: false,
 };
 
+/// Whether a walk gives what is wanted, or `None` for want of memory.
+fn is_walked_over(alloc: Global, operand: &str, want: Option<&str>) -> bool {
+    match walked_over(alloc, SOME, operand) {
+        Ok(got) => Some(got.as_str()) == want,
+        Err(AllocError) => want.is_none(),
+    }
+}
+
 #[test]
 fn a_directory_that_cannot_be_opened(rt: HostRuntime) {
-    let got = walked_over(rt.alloc(), SOME, "locked").expect(&rt, "memory");
-    assert!(rt; got.as_str() == "locked:CannotList");
-    assert!(rt; walked_over(rt.alloc(), SOME, "full").is_err());
+    assert!(rt; is_walked_over(rt.alloc(), "locked", Some("locked:CannotList")));
+    assert!(rt; is_walked_over(rt.alloc(), "full", None));
 }
 
 /// Lists that directory where the request behind so many others is refused. Answers whether it has a name that can't

@@ -106,14 +106,16 @@ fn make_pair<A: Allocator + Copy>(alloc: A) -> Result<Pair<A>, AllocError> {
     Ok(pair)
 }
 
+fn is_pair<A: Allocator + Copy>(pair: &Pair<A>) -> bool {
+    pair.letters.as_slice() == b"a".as_slice() && pair.numbers.as_slice() == [1].as_slice()
+}
+
 /// Makes a pair where the request behind so many others is refused. Answers whether the pair is right, or `None` for
 /// want of memory, and whether a request was refused.
 fn pair_refused(alloc: Global, passes: u64) -> (Option<bool>, bool) {
     let heap = Refusing::new(alloc, passes);
     let is_right = match make_pair(&heap) {
-        Ok(pair) => Some(
-            pair.letters.as_slice() == b"a".as_slice() && pair.numbers.as_slice() == [1].as_slice(),
-        ),
+        Ok(pair) => Some(is_pair(&pair)),
         Err(AllocError) => None,
     };
     (is_right, heap.has_refused())
@@ -135,17 +137,23 @@ fn make_pairs<R: Threads, A: Allocator + Copy + Send + Sync>(
     Ok(one?.letters.len().wrapping_add(other?.numbers.len()))
 }
 
+/// Makes two pairs at once where the request behind so many others is refused. Answers how many values they have, how
+/// many requests were made, and whether one was refused.
+fn pairs_refused<R: Threads>(rt: &R, alloc: Global, passes: u64) -> (Option<usize>, u64, bool) {
+    let heap = Refusing::new(alloc, passes);
+    let made = make_pairs(rt, &heap).ok();
+    (made, heap.requests(), heap.has_refused())
+}
+
 #[test]
 fn each_request_of_two_threads_may_be_refused(rt: HostRuntime) {
     for passes in 0..100u64 {
-        let heap = Refusing::new(rt.alloc(), passes);
-        let made = make_pairs(&rt, &heap);
-        if !heap.has_refused() {
-            assert!(rt; matches!(made, Ok(2)));
-            assert!(rt; heap.requests() == 4 && passes == 4);
+        let (made, requests, has_refused) = pairs_refused(&rt, rt.alloc(), passes);
+        if !has_refused {
+            assert!(rt; made == Some(2) && requests == 4 && passes == 4);
             return;
         }
-        assert!(rt; made.is_err(), "at {passes}");
+        assert!(rt; made.is_none(), "at {passes}");
     }
     panic!(rt; "more than 100 requests")
 }

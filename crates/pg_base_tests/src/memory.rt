@@ -1,37 +1,52 @@
 //! Walks over trees in memory.
+use crate::rows::{assert_text, halves};
 use pg_walk::{FileKind, FileTree, Item, Listing, LookFault, MemTree, Node, walk};
 use refusing::Refusing;
 use std::alloc::{AllocError, Allocator, Global};
 use std::cell::Cell;
 use std::process::Abort;
-use std::test::Fail;
+
+/// A directory that has a name which can't be told.
+fn nameless(alloc: Global, names: &[&str]) -> Result<Node, AllocError> {
+    let directory = Node::directory(alloc, names)?;
+    Ok(Node {
+        listing: directory.listing.map(|listing| Listing {
+            nameless: true,
+            ..listing
+        }),
+        ..directory
+    })
+}
+
+/// A link to a directory.
+fn link(alloc: Global, names: &[&str]) -> Result<Node, AllocError> {
+    let directory = Node::directory(alloc, names)?;
+    Ok(Node {
+        kind: Some(FileKind::Link),
+        ..directory
+    })
+}
+
+fn dead_link() -> Node {
+    Node {
+        kind: Some(FileKind::Link),
+        target: None,
+        listing: None,
+    }
+}
 
 /// What stands at a path, by a word of the trees below, and the names that are listed there.
 fn node_of(alloc: Global, kind: &str, names: &[&str]) -> Result<Node, AllocError> {
-    let directory = Node::directory(alloc, names)?;
-    Ok(match kind {
-        "file" => Node::new(FileKind::Regular),
-        "device" => Node::new(FileKind::Other),
-        "directory" => directory,
-        "nameless" => Node {
-            listing: directory.listing.map(|listing| Listing {
-                nameless: true,
-                ..listing
-            }),
-            ..directory
-        },
-        "unlisted" => Node::new(FileKind::Directory),
-        "link-to-directory" => Node {
-            kind: Some(FileKind::Link),
-            ..directory
-        },
-        "link-to-itself" => Node::new(FileKind::Link),
-        _ => Node {
-            kind: Some(FileKind::Link),
-            target: None,
-            listing: None,
-        },
-    })
+    match kind {
+        "file" => Ok(Node::new(FileKind::Regular)),
+        "device" => Ok(Node::new(FileKind::Other)),
+        "directory" => Node::directory(alloc, names),
+        "nameless" => nameless(alloc, names),
+        "unlisted" => Ok(Node::new(FileKind::Directory)),
+        "link-to-directory" => link(alloc, names),
+        "link-to-itself" => Ok(Node::new(FileKind::Link)),
+        _ => Ok(dead_link()),
+    }
 }
 
 /// Adds a node by a line: a path, a word for what stands there, and the names that are listed there.
@@ -62,28 +77,33 @@ fn texts(alloc: Global, line: &str) -> Result<Vec<String>, AllocError> {
     Ok(texts)
 }
 
-/// The items behind one another: the path of a file, or the path of a fault and its cause.
-fn shown<A: Allocator>(alloc: Global, items: &[Item<A>]) -> Result<String, AllocError> {
-    let mut out = String::new(alloc);
+/// Shows the path of a file, or the path of a fault and its cause.
+fn show_item<A: Allocator>(item: &Item<A>, out: &mut String) -> Result<(), AllocError> {
+    match item {
+        Item::File(path) => out.push_str(path.as_str()),
+        Item::Fault(path, cause) => {
+            let path = path.as_str();
+            write!(out, "{path}:{cause:?}")
+        }
+    }
+}
+
+/// Shows the items behind one another.
+fn show_items<A: Allocator>(items: &[Item<A>], out: &mut String) -> Result<(), AllocError> {
     for item in items {
         if !out.is_empty() {
             out.push(' ')?;
         }
-        match item {
-            Item::File(path) => out.push_str(path.as_str())?,
-            Item::Fault(path, cause) => {
-                let path = path.as_str();
-                write!(out, "{path}:{cause:?}")?;
-            }
-        }
+        show_item(item, out)?;
     }
-    Ok(out)
+    Ok(())
 }
 
-/// What a row asks, and behind `=>` what is wanted of it.
-pub(crate) fn halves(row: &str) -> (&str, &str) {
-    let (asked, want) = row.split_once(" =>").unwrap_or((row, ""));
-    (asked, want.trim_start())
+/// The items behind one another: the path of a file, or the path of a fault and its cause.
+fn shown<A: Allocator>(alloc: Global, items: &[Item<A>]) -> Result<String, AllocError> {
+    let mut out = String::new(alloc);
+    show_items(items, &mut out)?;
+    Ok(out)
 }
 
 /// Walks over operands, and shows the items.
@@ -207,20 +227,25 @@ fn assert_walk(rt: &impl Abort, alloc: Global, tree: &MemTree, row: &str) {
     let (asked, want) = halves(row);
     let operands = asked.get(4..).unwrap_or("");
     let got = walked(alloc, tree, operands, asked.starts_with("walk")).expect(rt, "memory");
-    assert_eq!(rt; got.as_str(), want, "{row}");
+    assert_text(rt, got.as_str(), want, asked, row);
+}
+
+/// Adds a node, or walks, as a line says; behind an empty one another tree begins.
+fn walk_on(rt: &impl Abort, alloc: Global, tree: &mut MemTree, line: &str) {
+    if line.contains("=>") {
+        assert_walk(rt, alloc, tree, line);
+    } else if line.is_empty() {
+        *tree = MemTree::new(alloc);
+    } else {
+        add_node(alloc, tree, line).expect(rt, "memory");
+    }
 }
 
 #[test]
 fn walks(rt: HostRuntime) {
     let mut tree = MemTree::new(rt.alloc());
     for line in WALKS.lines() {
-        if line.contains("=>") {
-            assert_walk(&rt, rt.alloc(), &tree, line);
-        } else if line.is_empty() {
-            tree = MemTree::new(rt.alloc());
-        } else {
-            add_node(rt.alloc(), &mut tree, line).expect(&rt, "memory");
-        }
+        walk_on(&rt, rt.alloc(), &mut tree, line);
     }
 }
 
@@ -249,16 +274,29 @@ fn deep_tree(alloc: Global) -> Result<MemTree, AllocError> {
     Ok(tree)
 }
 
+/// A walk over them.
+fn walked_deep(alloc: Global) -> Result<String, AllocError> {
+    let tree = deep_tree(alloc)?;
+    walked(alloc, &tree, "d", true)
+}
+
+/// What comes first of it.
+fn deepest_items(alloc: Global) -> Result<String, AllocError> {
+    let deepest = path_of_level(alloc, 256)?;
+    format!(in alloc; "{deepest}/e:TooDeep {deepest}/f")
+}
+
+/// Whether a walk begins so, and behind the deepest level each level's file follows, from the deepest to the operand's
+/// own.
+fn is_deep(got: &str, first: &str) -> bool {
+    got.starts_with(first) && got.split(' ').count() == 258 && got.ends_with(" d/e/f d/f")
+}
+
 #[test]
-fn directories_down_to_256_levels(rt: HostRuntime) -> Result<(), Fail> {
-    let got = walked(rt.alloc(), &deep_tree(rt.alloc())?, "d", true)?;
-    let deepest = path_of_level(rt.alloc(), 256)?;
-    let want = format!(in rt.alloc(); "{deepest}/e:TooDeep {deepest}/f")?;
-    assert!(rt; got.as_str().starts_with(want.as_str()));
-    // Behind the deepest level each level's file follows, from the deepest to the operand's own.
-    assert!(rt; got.as_str().split(' ').count() == 258);
-    assert!(rt; got.as_str().ends_with(" d/e/f d/f"));
-    Ok(())
+fn directories_down_to_256_levels(rt: HostRuntime) {
+    let got = walked_deep(rt.alloc()).expect(&rt, "memory");
+    let first = deepest_items(rt.alloc()).expect(&rt, "memory");
+    assert!(rt; is_deep(got.as_str(), first.as_str()));
 }
 
 /// A tree of which one answer fails: the one that comes behind `passes` others.
@@ -333,12 +371,19 @@ fn walked_failing(
     walked(alloc, &failing, "d f", true)
 }
 
+/// Whether a walk gives what is wanted where the answer behind so many others fails.
+fn is_walked(alloc: Global, tree: &MemTree, passes: u32, want: &str) -> bool {
+    match walked_failing(alloc, tree, passes, LookFault::Failed) {
+        Ok(got) => got.as_str() == want,
+        Err(AllocError) => false,
+    }
+}
+
 #[test]
 fn each_answer_may_fail(rt: HostRuntime) {
     let tree = tree_of(rt.alloc(), FAILING).expect(&rt, "memory");
     for (passes, want) in (0u32..).zip(FAILED.lines()) {
-        let got = walked_failing(rt.alloc(), &tree, passes, LookFault::Failed);
-        assert!(rt; got.expect(&rt, "memory").as_str() == want, "at {passes}");
+        assert!(rt; is_walked(rt.alloc(), &tree, passes, want), "at {passes}");
         let got = walked_failing(rt.alloc(), &tree, passes, LookFault::OutOfMemory);
         assert!(rt; got.is_err() == (passes < 8), "out of memory at {passes}");
     }
@@ -354,20 +399,28 @@ d/b unlisted";
 const ALLOWED: &str =
     "d/a:BadName d/a/x d/b:CannotList d/a:BadName d/a/x d/b:CannotList - gone:CannotOpen";
 
-/// Walks where the request behind so many others is refused. Answers the items, or `None` for want of memory, and
-/// whether a request was refused.
+/// Whether these are the items.
+fn are_allowed<A: Allocator>(alloc: Global, items: &[Item<A>]) -> bool {
+    match shown(alloc, items) {
+        Ok(shown) => shown.as_str() == ALLOWED,
+        Err(AllocError) => false,
+    }
+}
+
+/// Walks where the request behind so many others is refused. Answers whether the items are right, or `None` for want
+/// of memory, and whether a request was refused.
 fn walk_refused(
     alloc: Global,
     tree: &MemTree,
     operands: &[String],
     passes: u64,
-) -> Result<(Option<String>, bool), AllocError> {
+) -> (Option<bool>, bool) {
     let heap = Refusing::new(alloc, passes);
     let got = match walk(&heap, tree, operands, true) {
-        Ok(items) => Some(shown(alloc, items.as_slice())?),
+        Ok(items) => Some(are_allowed(alloc, items.as_slice())),
         Err(AllocError) => None,
     };
-    Ok((got, heap.has_refused()))
+    (got, heap.has_refused())
 }
 
 #[test]
@@ -375,11 +428,10 @@ fn each_request_of_a_walk_may_be_refused(rt: HostRuntime) {
     let tree = tree_of(rt.alloc(), REFUSED).expect(&rt, "memory");
     let operands = texts(rt.alloc(), "d d - gone").expect(&rt, "memory");
     for passes in 0..200u64 {
-        let walked = walk_refused(rt.alloc(), &tree, operands.as_slice(), passes);
-        let (got, is_refused) = walked.expect(&rt, "memory");
+        let (got, is_refused) = walk_refused(rt.alloc(), &tree, operands.as_slice(), passes);
         assert!(rt; got.is_none() == is_refused, "at {passes}");
-        if let Some(got) = got {
-            assert!(rt; got.as_str() == ALLOWED && passes > 20);
+        if let Some(is_right) = got {
+            assert!(rt; is_right && passes > 20);
             return;
         }
     }
@@ -392,31 +444,36 @@ fn add_directory<A: Allocator + Copy>(alloc: A, tree: &mut MemTree<A>) -> Result
     tree.add("d/a", Node::new(FileKind::Regular))
 }
 
-/// Adds that directory to a new tree where the request behind so many others is refused. Answers what a walk over it
-/// gives, or `None` for want of memory; then whether a request was refused, and what `d/a` is.
-fn add_refused(
-    alloc: Global,
-    passes: u64,
-) -> Result<(Option<String>, bool, Result<FileKind, LookFault>), AllocError> {
+/// Whether a walk finds that directory where it was added, and else nothing stands at `d/a`.
+fn is_as_added<A: Allocator + Copy>(alloc: Global, tree: &MemTree<A>, is_added: bool) -> bool {
+    if !is_added {
+        return tree.kind("d/a", false) == Err(LookFault::Failed);
+    }
+    match walked(alloc, tree, "d", true) {
+        Ok(got) => got.as_str() == "d/a",
+        Err(AllocError) => false,
+    }
+}
+
+/// Adds that directory to a new tree where the request behind so many others is refused. Answers whether it was added,
+/// whether the tree is right then, and whether a request was refused.
+fn add_refused(alloc: Global, passes: u64) -> (bool, bool, bool) {
     let heap = Refusing::new(alloc, passes);
     let mut tree = MemTree::new(&heap);
-    let got = match add_directory(&heap, &mut tree) {
-        Ok(()) => Some(walked(alloc, &tree, "d", true)?),
-        Err(AllocError) => None,
-    };
-    Ok((got, heap.has_refused(), tree.kind("d/a", false)))
+    let is_added = add_directory(&heap, &mut tree).is_ok();
+    let is_right = is_as_added(alloc, &tree, is_added);
+    (is_added, is_right, heap.has_refused())
 }
 
 #[test]
 fn each_request_of_a_tree_in_memory_may_be_refused(rt: HostRuntime) {
     for passes in 0..100u64 {
-        let (got, is_refused, kind) = add_refused(rt.alloc(), passes).expect(&rt, "memory");
-        assert!(rt; got.is_none() == is_refused, "at {passes}");
-        if let Some(got) = got {
-            assert!(rt; got.as_str() == "d/a" && passes > 3);
+        let (is_added, is_right, is_refused) = add_refused(rt.alloc(), passes);
+        assert!(rt; is_right && is_added != is_refused, "at {passes}");
+        if is_added {
+            assert!(rt; passes > 3);
             return;
         }
-        assert!(rt; kind == Err(LookFault::Failed));
     }
     panic!(rt; "more than 100 requests")
 }
