@@ -1,6 +1,8 @@
 -- The table of the sets that are remembered.
 use Rattle.std.proofs.Common.{◌≡◌, ◌≢◌, ℕ, zero, suc, ◌+◌, ◌-◌, ◌*◌, ◌/◌, ◌^◌, ◌<◌, ◌≤◌, ◌⊎◌, ◌↔◌, inl, inr, List, length, get_or, set, replicate, Bool, true, false, true≢false, Option, Some, None, refl, sym, ap, ◌∙◌, subst, arith, IsTrue, length-set, get_or-set_same, get_or-set_other}
 use Rattle.std.specs.Prelude.{IfSome, slice_index, slice_get}
+use Rattle.std.proofs.lemmas.List.{get_or_read}
+use Rattle.std.proofs.lemmas.Option.{slice_get-get_or}
 use Rattle.std.proofs.lemmas.Bool.{cases_eq, cases_lt}
 use Rattle.std.proofs.Math.Nat.{mul-le-mul_left}
 use Rattle.pg_match.specs.Automata.{Nfa, IsRunnable}
@@ -409,6 +411,16 @@ walking_next m mem l from state p u at v b e is_m is lt byte more read big w =
       stands = λ start le s.
           stands_step m mem l start p u at v b e is_m is w.row lt byte (omega arith) (omega arith) read big (w.stands start le s);
     }
+
+-- the same, as the table and the line are read
+pub walking_read : (m : Nfa) (mem : Remembered) (l : List ℕ) (from state p u at v : ℕ) → u ≡ p + 1 → IsRunnable m
+    → IsMemoryOf m mem → get_or l p 0 < 256 → u < length l → v ≡ get_or mem.steps (at + get_or l p 0) v → 256 ≤ v
+    → Walking m mem l from state p at → Walking m mem l from state u v
+walking_read m mem l from state p u at v e is_m is lt more read big w =
+    let b = get_or l p 0 in
+    let inside = in_table m mem at b is w.row lt in
+    walking_next m mem l from state p u at v b e is_m is lt (slice_get-get_or l p 0 w.within) more
+    (get_or_read mem.steps _ v inside read 0) big w
 
 pub visits_small : (p n v : ℕ) → v ≤ (p + 1) * n → p ≤ 2 ^ 30 → n < 2 ^ 64 → v < 2 ^ 98
 visits_small p n v le short few = let less : n ≤ 2 ^ 64 = omega arith in omega (arith, mul-le-mul_left (p + 1) less)

@@ -137,14 +137,16 @@ module _ (t : List State) (l : List ℕ) where
 
     -- the start of the match that ends at p, if there is one: no run to p starts earlier
     pub none_earlier : (p : ℕ) (now : Members) (best : Option (ℕ × ℕ)) → Alive t l x B from p p now best
-        → ((q : ℕ) → slice_get t q ≡ Some Accept → q ≡ 0) → (s n : ℕ) → from ≤ s → s < p → B s → Early best s → Runs t l n x s p
+        → ((q : ℕ) → slice_get t q ≡ Some Accept → q ≡ 0) → (s n : ℕ) → from ≤ s → s < p → B s → Early best s
+        → Runs t l n x s p
         → (0 < mark now 0) × (mark now 0 ≤ s + 1)
     none_earlier p now best a only s n ge lt begins early run =
         let b = a.complete s n p ge lt begins early run (omega arith) in
         let e = ends_here p now a.closed only b.1 b.0 b.2 b.4 in
         (e.0, omega (arith, e.1, b.3))
 
-    pub run_here : (p : ℕ) (now : Members) (best : Option (ℕ × ℕ)) → Alive t l x B from p p now best → slice_get t 0 ≡ Some Accept
+    pub run_here : (p : ℕ) (now : Members) (best : Option (ℕ × ℕ)) → Alive t l x B from p p now best
+        → slice_get t 0 ≡ Some Accept
         → (s : ℕ) → mark now 0 ≡ s + 1 → (from ≤ s) × B s × ((n : ℕ) × Runs t l n x s p)
     run_here p now best a accept s e =
         let b = a.sound 0 (omega arith) in
@@ -196,7 +198,8 @@ module _ (t : List State) (l : List ℕ) where
     -- a span that ends at p and starts no later wins
     new_best : (p s : ℕ) (best : Option (ℕ × ℕ)) → IsBest t l x B E from p best → from ≤ s → s < p → Early best s
         → RunsFrom t l x B E s p
-        → ((v : ℕ) → from ≤ v → v < p → Early best v → RunsFrom t l x B E v p → s ≤ v) → IsBest t l x B E from (p + 1) (Some (s, p))
+        → ((v : ℕ) → from ≤ v → v < p → Early best v → RunsFrom t l x B E v p → s ≤ v)
+        → IsBest t l x B E from (p + 1) (Some (s, p))
     new_best p s None b ge lt early run least = (
       ge,
       lt,
@@ -284,7 +287,8 @@ found_here m l from p now best is a = go (may_end m.bounds l p) refl
     go true e = record {
       run = λ s here. let r = run_here m.states l m.start (MayBegin m.bounds l) (MayEnd m.bounds l) from p now best a is.accept s here in
           (r.0, (r.1, (end_decided m.bounds l p).0 e, r.2));
-      least = λ s ge lt early run. none_earlier m.states l m.start (MayBegin m.bounds l) (MayEnd m.bounds l) from p now best
+      least = λ s ge lt early run. none_earlier m.states l m.start (MayBegin m.bounds l) (MayEnd m.bounds l) from p
+          now best
           a is.only s run.2.0 ge lt run.0 early run.2.1;
     }
     go false e = record {
@@ -327,13 +331,15 @@ module _ (m : Nfa) (l : List ℕ) (from p : ℕ) (s u : Buffers) (best : Option 
       let E = MayEnd m.bounds l in
       let start = ending m l p s.current in
       let after = judged p start best in
-      let b = best_judged t l m.start B E from p start best g.so_far (found_here m l from p s.current best is g.alive) in
+      let b = best_judged t l m.start B E from p start best g.so_far
+      (found_here m l from p s.current best is g.alive) in
       let a = alive_judged t l m.start B E from p p s.current best after g.alive
       (λ v early. judged_early t l m.start B E from p start v best early) in
       let late = not_late t l m.start B E from p after b in
       (alive_seeded t l m.start B E from p s.current u.current (is_none after) after a seeded le late, b)
 
-  pub settled : (after : Option (ℕ × ℕ)) → after ≡ judged p (ending m l p s.current) best → SeededFor after → Settled after
+  pub settled : (after : Option (ℕ × ℕ)) → after ≡ judged p (ending m l p s.current) best → SeededFor after
+      → Settled after
   settled after same = subst (λ b. SeededFor b → Settled b) (sym same) settled_here
 
 wide : (t : List State) (l : List ℕ) (x : ℕ) (B E : ℕ → Type 0) (from p : ℕ) (best : Option (ℕ × ℕ)) → p < 2 ^ 31
@@ -361,7 +367,8 @@ pub search_over : (m : Nfa) (l : List ℕ) (from p : ℕ) (now : Members) (best 
     → IsBest m.states l m.start (MayBegin m.bounds l) (MayEnd m.bounds l) from (length l + 1) best
 search_over m l from p now None is a b last le some = absurd (true≢false (sym some))
 search_over m l from p now (Some c) is a b last le some =
-    over m.states l m.start (MayBegin m.bounds l) (MayEnd m.bounds l) from p now c (length l + 1) b a is.accept last (omega arith)
+    over m.states l m.start (MayBegin m.bounds l) (MayEnd m.bounds l) from p now c (length l + 1) b a is.accept last
+    (omega arith)
 
 module _ (m : Nfa) (trees : List Pattern) (l : List ℕ) (a : Agrees m trees) where
   hit_runs : (i j : ℕ) → Hit trees m.bounds l i j → RunsFrom m.states l m.start (MayBegin m.bounds l) (MayEnd m.bounds l) i j

@@ -63,25 +63,33 @@ pub returns-in_err-board-clause-scratches : goal.returns-in_err-board-clause-scr
 returns-in_err-board-clause-scratches g c = IfOk-from_err c.from_residual.result _ c.from_residual.ensures.0
 
 pub returns-in_err-tray-clause-board : goal.returns-in_err-tray-clause-board
-returns-in_err-tray-clause-board g c = IfOk-from_err c.from_residual-in_err-tray.result _ c.from_residual-in_err-tray.ensures.0
+returns-in_err-tray-clause-board g c =
+    IfOk-from_err c.from_residual-in_err-tray.result _ c.from_residual-in_err-tray.ensures.0
 
 pub returns-in_err-tray-clause-take : goal.returns-in_err-tray-clause-take
-returns-in_err-tray-clause-take g c = IfOk-from_err c.from_residual-in_err-tray.result _ c.from_residual-in_err-tray.ensures.0
+returns-in_err-tray-clause-take g c =
+    IfOk-from_err c.from_residual-in_err-tray.result _ c.from_residual-in_err-tray.ensures.0
 
 pub returns-in_err-tray-clause-workers : goal.returns-in_err-tray-clause-workers
-returns-in_err-tray-clause-workers g c = IfOk-from_err c.from_residual-in_err-tray.result _ c.from_residual-in_err-tray.ensures.0
+returns-in_err-tray-clause-workers g c =
+    IfOk-from_err c.from_residual-in_err-tray.result _ c.from_residual-in_err-tray.ensures.0
 
 pub returns-in_err-tray-clause-scratches : goal.returns-in_err-tray-clause-scratches
-returns-in_err-tray-clause-scratches g c = IfOk-from_err c.from_residual-in_err-tray.result _ c.from_residual-in_err-tray.ensures.0
+returns-in_err-tray-clause-scratches g c =
+    IfOk-from_err c.from_residual-in_err-tray.result _ c.from_residual-in_err-tray.ensures.0
 
 pub returns-in_err-workers-clause-board : goal.returns-in_err-workers-clause-board
-returns-in_err-workers-clause-board g c = IfOk-from_err c.from_residual-in_err-workers.result _ c.from_residual-in_err-workers.ensures.0
+returns-in_err-workers-clause-board g c =
+    IfOk-from_err c.from_residual-in_err-workers.result _ c.from_residual-in_err-workers.ensures.0
 
 pub returns-in_err-workers-clause-take : goal.returns-in_err-workers-clause-take
-returns-in_err-workers-clause-take g c = IfOk-from_err c.from_residual-in_err-workers.result _ c.from_residual-in_err-workers.ensures.0
+returns-in_err-workers-clause-take g c =
+    IfOk-from_err c.from_residual-in_err-workers.result _ c.from_residual-in_err-workers.ensures.0
 
 pub returns-in_err-workers-clause-workers : goal.returns-in_err-workers-clause-workers
-returns-in_err-workers-clause-workers g c = IfOk-from_err c.from_residual-in_err-workers.result _ c.from_residual-in_err-workers.ensures.0
+returns-in_err-workers-clause-workers g c =
+    IfOk-from_err c.from_residual-in_err-workers.result _ c.from_residual-in_err-workers.ensures.0
 
 pub returns-in_err-workers-clause-scratches : goal.returns-in_err-workers-clause-scratches
-returns-in_err-workers-clause-scratches g c = IfOk-from_err c.from_residual-in_err-workers.result _ c.from_residual-in_err-workers.ensures.0
+returns-in_err-workers-clause-scratches g c =
+    IfOk-from_err c.from_residual-in_err-workers.result _ c.from_residual-in_err-workers.ensures.0

@@ -56,7 +56,8 @@ pub receive-requires : goal.receive-requires
 receive-requires g c = record { sees = c.requires.sees }
 
 pub returns-in_err-receive-in-Some-next-clause-ok : goal.returns-in_err-receive-in-Some-next-clause-ok
-returns-in_err-receive-in-Some-next-clause-ok g c = λ past st n s. IfOk-from_err c.from_residual.result _ c.from_residual.ensures.0
+returns-in_err-receive-in-Some-next-clause-ok g c =
+    λ past st n s. IfOk-from_err c.from_residual.result _ c.from_residual.ensures.0
 
 pub returns-in_err-receive-in-Some-next-clause-calm : goal.returns-in_err-receive-in-Some-next-clause-calm
 returns-in_err-receive-in-Some-next-clause-calm g c = IfOk-from_err c.from_residual.result _ c.from_residual.ensures.0

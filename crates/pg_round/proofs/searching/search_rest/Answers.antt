@@ -28,7 +28,9 @@ pub returns-in_err-worker-clause-spent : goal.returns-in_err-worker-clause-spent
 returns-in_err-worker-clause-spent g c = IfOk-from_err c.from_residual.result _ c.from_residual.ensures.0
 
 pub returns-in_err-push-clause-worked : goal.returns-in_err-push-clause-worked
-returns-in_err-push-clause-worked g c = IfOk-from_err c.from_residual-in_err-push.result _ c.from_residual-in_err-push.ensures.0
+returns-in_err-push-clause-worked g c =
+    IfOk-from_err c.from_residual-in_err-push.result _ c.from_residual-in_err-push.ensures.0
 
 pub returns-in_err-push-clause-spent : goal.returns-in_err-push-clause-spent
-returns-in_err-push-clause-spent g c = IfOk-from_err c.from_residual-in_err-push.result _ c.from_residual-in_err-push.ensures.0
+returns-in_err-push-clause-spent g c =
+    IfOk-from_err c.from_residual-in_err-push.result _ c.from_residual-in_err-push.ensures.0

@@ -4,7 +4,8 @@ use Rattle.std.proofs.lemmas.Result.{err_from_is_err_and}
 use Rattle.pg_lines.specs.Searched.{Searched}
 use Rattle.pg_round.specs.Receipts.{HasDelivered}
 use Rattle.pg_round.specs.declared.searching.RoundFault.TheVariants.{Sink as SinkFails}
-use Rattle.pg_round.proofs.ReceiptLemmas.{broken_more, failed_none, failed_after, round_done, same_fault, no_fault, no_sink_fault}
+use Rattle.pg_round.proofs.ReceiptLemmas.{broken_more, failed_none, failed_after}
+use Rattle.pg_round.proofs.ReceiptLemmas.{round_done, same_fault, no_fault, no_sink_fault}
 use Rattle.pg_round.proofs.searching.search_round.Goals as goal
 
 -- what was lent is back

@@ -1,9 +1,54 @@
 use Rattle.std.proofs.Common.{◌<◌, ◌+◌, length, get_or, arith}
-use Rattle.std.proofs.lemmas.List.{get_or_read}
-use Rattle.std.proofs.lemmas.Option.{slice_get-get_or}
 use Rattle.pg_match.specs.Views.{nfa, remembered}
-use Rattle.pg_match.proofs.MemoryLemmas.{walking_next, in_table}
+use Rattle.pg_match.proofs.MemoryLemmas.{walking_read, in_table}
 use Rattle.pg_match.proofs.automaton.Automaton.walk.Goals as goal
+
+pub index-one-requires : goal.index-one-requires
+index-one-requires g c =
+    let size = c.args.memory.now.steps.ok.0 in
+    let m = nfa c.args.self.now in
+    let mem = remembered c.args.memory.now in
+    let l = c.args.line.now in
+    let p = c.loop-place.place in
+    let w0 = c.loop-place.invariant in
+    let inside = in_table m mem c.loop-place.at (get_or l p 0) c.requires.memory w0.row
+    (omega (arith, c.type_inv.line p)) in
+    omega arith
+
+pub index-two-requires : goal.index-two-requires
+index-two-requires g c =
+    let size = c.args.memory.now.steps.ok.0 in
+    let m = nfa c.args.self.now in
+    let mem = remembered c.args.memory.now in
+    let l = c.args.line.now in
+    let p = c.loop-place.place in
+    let w0 = c.loop-place.invariant in
+    let more : p + 4 < length l = omega (arith, c.loop-place-test.true) in
+    let w1 = walking_read m mem l c.args.from c.args.state p (p + 1) c.loop-place.at
+    c.index-one.result.now (omega arith) c.requires.runs c.requires.memory (omega (arith, c.type_inv.line p))
+    (omega arith) c.index-one.ensures c.if-one-lt256.false w0 in
+    let inside = in_table m mem c.index-one.result.now (get_or l (p + 1) 0) c.requires.memory w1.row
+    (omega (arith, c.type_inv.line (p + 1))) in
+    omega arith
+
+pub index-three-requires : goal.index-three-requires
+index-three-requires g c =
+    let size = c.args.memory.now.steps.ok.0 in
+    let m = nfa c.args.self.now in
+    let mem = remembered c.args.memory.now in
+    let l = c.args.line.now in
+    let p = c.loop-place.place in
+    let w0 = c.loop-place.invariant in
+    let more : p + 4 < length l = omega (arith, c.loop-place-test.true) in
+    let w1 = walking_read m mem l c.args.from c.args.state p (p + 1) c.loop-place.at
+    c.index-one.result.now (omega arith) c.requires.runs c.requires.memory (omega (arith, c.type_inv.line p))
+    (omega arith) c.index-one.ensures c.if-one-lt256.false w0 in
+    let w2 = walking_read m mem l c.args.from c.args.state (p + 1) (p + 2) c.index-one.result.now
+    c.index-two.result.now (omega arith) c.requires.runs c.requires.memory (omega (arith, c.type_inv.line (p + 1)))
+    (omega arith) c.index-two.ensures c.if-two-lt256.false w1 in
+    let inside = in_table m mem c.index-two.result.now (get_or l (p + 2) 0) c.requires.memory w2.row
+    (omega (arith, c.type_inv.line (p + 2))) in
+    omega arith
 
 pub index-four-requires : goal.index-four-requires
 index-four-requires g c =
@@ -14,19 +59,17 @@ index-four-requires g c =
     let p = c.loop-place.place in
     let w0 = c.loop-place.invariant in
     let more : p + 4 < length l = omega (arith, c.loop-place-test.true) in
-    let w1 = walking_next m mem l c.args.from c.args.state p (p + 1) c.loop-place.at c.index-one.result.now (get_or l p 0) (omega arith)
-    c.requires.runs c.requires.memory (omega (arith, c.type_inv.line p)) (slice_get-get_or l p 0 (omega arith)) (omega arith)
-    (get_or_read mem.steps _ c.index-one.result.now (in_table m mem c.loop-place.at (get_or l p 0) c.requires.memory w0.row (omega (arith, c.type_inv.line p))) c.index-one.ensures 0)
-    c.if-one-lt256.false w0 in
-    let w2 = walking_next m mem l c.args.from c.args.state (p + 1) (p + 2) c.index-one.result.now c.index-two.result.now (get_or l (p + 1) 0) (omega arith)
-    c.requires.runs c.requires.memory (omega (arith, c.type_inv.line (p + 1))) (slice_get-get_or l (p + 1) 0 (omega arith)) (omega arith)
-    (get_or_read mem.steps _ c.index-two.result.now (in_table m mem c.index-one.result.now (get_or l (p + 1) 0) c.requires.memory w1.row (omega (arith, c.type_inv.line (p + 1)))) c.index-two.ensures 0)
-    c.if-two-lt256.false w1 in
-    let w3 = walking_next m mem l c.args.from c.args.state (p + 2) (p + 3) c.index-two.result.now c.index-three.result.now (get_or l (p + 2) 0) (omega arith)
-    c.requires.runs c.requires.memory (omega (arith, c.type_inv.line (p + 2))) (slice_get-get_or l (p + 2) 0 (omega arith)) (omega arith)
-    (get_or_read mem.steps _ c.index-three.result.now (in_table m mem c.index-two.result.now (get_or l (p + 2) 0) c.requires.memory w2.row (omega (arith, c.type_inv.line (p + 2)))) c.index-three.ensures 0)
-    c.if-three-lt256.false w2 in
-    let inside = in_table m mem c.index-three.result.now (get_or l (p + 3) 0) c.requires.memory w3.row (omega (arith, c.type_inv.line (p + 3))) in
+    let w1 = walking_read m mem l c.args.from c.args.state p (p + 1) c.loop-place.at
+    c.index-one.result.now (omega arith) c.requires.runs c.requires.memory (omega (arith, c.type_inv.line p))
+    (omega arith) c.index-one.ensures c.if-one-lt256.false w0 in
+    let w2 = walking_read m mem l c.args.from c.args.state (p + 1) (p + 2) c.index-one.result.now
+    c.index-two.result.now (omega arith) c.requires.runs c.requires.memory (omega (arith, c.type_inv.line (p + 1)))
+    (omega arith) c.index-two.ensures c.if-two-lt256.false w1 in
+    let w3 = walking_read m mem l c.args.from c.args.state (p + 2) (p + 3) c.index-two.result.now
+    c.index-three.result.now (omega arith) c.requires.runs c.requires.memory (omega (arith, c.type_inv.line (p + 2)))
+    (omega arith) c.index-three.ensures c.if-three-lt256.false w2 in
+    let inside = in_table m mem c.index-three.result.now (get_or l (p + 3) 0) c.requires.memory w3.row
+    (omega (arith, c.type_inv.line (p + 3))) in
     omega arith
 
 pub loop-place-preserved : goal.loop-place-preserved
@@ -37,41 +80,31 @@ loop-place-preserved g c =
     let p = c.loop-place.place in
     let w0 = c.loop-place.invariant in
     let more : p + 4 < length l = omega (arith, c.loop-place-test.true) in
-    let w1 = walking_next m mem l c.args.from c.args.state p (p + 1) c.loop-place.at c.index-one.result.now (get_or l p 0) (omega arith)
-    c.requires.runs c.requires.memory (omega (arith, c.type_inv.line p)) (slice_get-get_or l p 0 (omega arith)) (omega arith)
-    (get_or_read mem.steps _ c.index-one.result.now (in_table m mem c.loop-place.at (get_or l p 0) c.requires.memory w0.row (omega (arith, c.type_inv.line p))) c.index-one.ensures 0)
-    c.if-one-lt256.false w0 in
-    let w2 = walking_next m mem l c.args.from c.args.state (p + 1) (p + 2) c.index-one.result.now c.index-two.result.now (get_or l (p + 1) 0) (omega arith)
-    c.requires.runs c.requires.memory (omega (arith, c.type_inv.line (p + 1))) (slice_get-get_or l (p + 1) 0 (omega arith)) (omega arith)
-    (get_or_read mem.steps _ c.index-two.result.now (in_table m mem c.index-one.result.now (get_or l (p + 1) 0) c.requires.memory w1.row (omega (arith, c.type_inv.line (p + 1)))) c.index-two.ensures 0)
-    c.if-two-lt256.false w1 in
-    let w3 = walking_next m mem l c.args.from c.args.state (p + 2) (p + 3) c.index-two.result.now c.index-three.result.now (get_or l (p + 2) 0) (omega arith)
-    c.requires.runs c.requires.memory (omega (arith, c.type_inv.line (p + 2))) (slice_get-get_or l (p + 2) 0 (omega arith)) (omega arith)
-    (get_or_read mem.steps _ c.index-three.result.now (in_table m mem c.index-two.result.now (get_or l (p + 2) 0) c.requires.memory w2.row (omega (arith, c.type_inv.line (p + 2)))) c.index-three.ensures 0)
-    c.if-three-lt256.false w2 in
-    let w4 = walking_next m mem l c.args.from c.args.state (p + 3) (p + 4) c.index-three.result.now c.index-four.result.now (get_or l (p + 3) 0) (omega arith)
-    c.requires.runs c.requires.memory (omega (arith, c.type_inv.line (p + 3))) (slice_get-get_or l (p + 3) 0 (omega arith)) (omega arith)
-    (get_or_read mem.steps _ c.index-four.result.now (in_table m mem c.index-three.result.now (get_or l (p + 3) 0) c.requires.memory w3.row (omega (arith, c.type_inv.line (p + 3)))) c.index-four.ensures 0)
-    c.if-four-lt256.false w3 in
+    let w1 = walking_read m mem l c.args.from c.args.state p (p + 1) c.loop-place.at
+    c.index-one.result.now (omega arith) c.requires.runs c.requires.memory (omega (arith, c.type_inv.line p))
+    (omega arith) c.index-one.ensures c.if-one-lt256.false w0 in
+    let w2 = walking_read m mem l c.args.from c.args.state (p + 1) (p + 2) c.index-one.result.now
+    c.index-two.result.now (omega arith) c.requires.runs c.requires.memory (omega (arith, c.type_inv.line (p + 1)))
+    (omega arith) c.index-two.ensures c.if-two-lt256.false w1 in
+    let w3 = walking_read m mem l c.args.from c.args.state (p + 2) (p + 3) c.index-two.result.now
+    c.index-three.result.now (omega arith) c.requires.runs c.requires.memory (omega (arith, c.type_inv.line (p + 2)))
+    (omega arith) c.index-three.ensures c.if-three-lt256.false w2 in
+    let w4 = walking_read m mem l c.args.from c.args.state (p + 3) (p + 4) c.index-three.result.now
+    c.index-four.result.now (omega arith) c.requires.runs c.requires.memory (omega (arith, c.type_inv.line (p + 3)))
+    (omega arith) c.index-four.ensures c.if-four-lt256.false w3 in
     w4
 
 pub loop-place-2-preserved : goal.loop-place-2-preserved
 loop-place-2-preserved g c =
-    let m = nfa c.args.self.now in
-    let mem = remembered c.args.memory.now in
-    let l = c.args.line.now in
     let p = c.loop-place-2.place in
-    let at = c.loop-place-2.at in
-    let w0 = c.loop-place-2.invariant in
-    let more : p + 1 < length l = omega (arith, c.loop-place-2-test.true) in
-    walking_next m mem l c.args.from c.args.state p (p + 1) at c.index-next.result.now (get_or l p 0) (omega arith)
-    c.requires.runs c.requires.memory (omega (arith, c.type_inv.line p)) (slice_get-get_or l p 0 (omega arith)) more
-    (get_or_read mem.steps _ c.index-next.result.now (in_table m mem at (get_or l p 0) c.requires.memory w0.row (omega (arith, c.type_inv.line p))) c.index-next.ensures 0)
-    c.if-next-lt256.false w0
+    let more : p + 1 < length c.args.line.now = omega (arith, c.loop-place-2-test.true) in
+    walking_read (nfa c.args.self.now) (remembered c.args.memory.now) c.args.line.now c.args.from c.args.state p (p + 1)
+    c.loop-place-2.at c.index-next.result.now (omega arith) c.requires.runs c.requires.memory
+    (omega (arith, c.type_inv.line p)) more c.index-next.ensures c.if-next-lt256.false c.loop-place-2.invariant
 
 pub loop-place-init : goal.loop-place-init
 loop-place-init g c =
-    record { within = c.requires.from_in; onward = omega arith; row = c.requires.row; stands = λ start le stands. stands }
+    record { within = c.requires.from_in; onward = omega arith; row = c.requires.row; stands = λ start le s. s }
 
 pub returns-after-loop-place-2-clause-within : goal.returns-after-loop-place-2-clause-within
 returns-after-loop-place-2-clause-within g c = c.loop-place-2.invariant.within
@@ -96,50 +129,3 @@ returns-then-next-lt256-clause-row g c = c.loop-place-2.invariant.row
 
 pub returns-then-next-lt256-clause-stands : goal.returns-then-next-lt256-clause-stands
 returns-then-next-lt256-clause-stands g c = c.loop-place-2.invariant.stands
-
-pub index-one-requires : goal.index-one-requires
-index-one-requires g c =
-    let size = c.args.memory.now.steps.ok.0 in
-    let m = nfa c.args.self.now in
-    let mem = remembered c.args.memory.now in
-    let l = c.args.line.now in
-    let p = c.loop-place.place in
-    let w0 = c.loop-place.invariant in
-    let inside = in_table m mem c.loop-place.at (get_or l p 0) c.requires.memory w0.row (omega (arith, c.type_inv.line p)) in
-    omega arith
-
-pub index-two-requires : goal.index-two-requires
-index-two-requires g c =
-    let size = c.args.memory.now.steps.ok.0 in
-    let m = nfa c.args.self.now in
-    let mem = remembered c.args.memory.now in
-    let l = c.args.line.now in
-    let p = c.loop-place.place in
-    let w0 = c.loop-place.invariant in
-    let more : p + 4 < length l = omega (arith, c.loop-place-test.true) in
-    let w1 = walking_next m mem l c.args.from c.args.state p (p + 1) c.loop-place.at c.index-one.result.now (get_or l p 0) (omega arith)
-    c.requires.runs c.requires.memory (omega (arith, c.type_inv.line p)) (slice_get-get_or l p 0 (omega arith)) (omega arith)
-    (get_or_read mem.steps _ c.index-one.result.now (in_table m mem c.loop-place.at (get_or l p 0) c.requires.memory w0.row (omega (arith, c.type_inv.line p))) c.index-one.ensures 0)
-    c.if-one-lt256.false w0 in
-    let inside = in_table m mem c.index-one.result.now (get_or l (p + 1) 0) c.requires.memory w1.row (omega (arith, c.type_inv.line (p + 1))) in
-    omega arith
-
-pub index-three-requires : goal.index-three-requires
-index-three-requires g c =
-    let size = c.args.memory.now.steps.ok.0 in
-    let m = nfa c.args.self.now in
-    let mem = remembered c.args.memory.now in
-    let l = c.args.line.now in
-    let p = c.loop-place.place in
-    let w0 = c.loop-place.invariant in
-    let more : p + 4 < length l = omega (arith, c.loop-place-test.true) in
-    let w1 = walking_next m mem l c.args.from c.args.state p (p + 1) c.loop-place.at c.index-one.result.now (get_or l p 0) (omega arith)
-    c.requires.runs c.requires.memory (omega (arith, c.type_inv.line p)) (slice_get-get_or l p 0 (omega arith)) (omega arith)
-    (get_or_read mem.steps _ c.index-one.result.now (in_table m mem c.loop-place.at (get_or l p 0) c.requires.memory w0.row (omega (arith, c.type_inv.line p))) c.index-one.ensures 0)
-    c.if-one-lt256.false w0 in
-    let w2 = walking_next m mem l c.args.from c.args.state (p + 1) (p + 2) c.index-one.result.now c.index-two.result.now (get_or l (p + 1) 0) (omega arith)
-    c.requires.runs c.requires.memory (omega (arith, c.type_inv.line (p + 1))) (slice_get-get_or l (p + 1) 0 (omega arith)) (omega arith)
-    (get_or_read mem.steps _ c.index-two.result.now (in_table m mem c.index-one.result.now (get_or l (p + 1) 0) c.requires.memory w1.row (omega (arith, c.type_inv.line (p + 1)))) c.index-two.ensures 0)
-    c.if-two-lt256.false w1 in
-    let inside = in_table m mem c.index-two.result.now (get_or l (p + 2) 0) c.requires.memory w2.row (omega (arith, c.type_inv.line (p + 2))) in
-    omega arith
