@@ -8,7 +8,7 @@ use std::sync::atomic::{AtomicU64, Ordering};
 use std::thread;
 use std::thread::Threads;
 
-/// Whether a draw gives what is wanted.
+/// Whether a draw gives what is wanted. The seat is the board's.
 fn draws(board: &Board, seat: &mut Seat, want: Option<u32>) -> bool
     requires { seat.old.board ≡ board.now }
     ensures { seat.new.board ≡ board.now }
@@ -16,7 +16,7 @@ fn draws(board: &Board, seat: &mut Seat, want: Option<u32>) -> bool
     board.draw(seat) == want
 }
 
-/// Whether a seat draws 0 and 1, and is spent then.
+/// Whether a seat draws 0 and 1, and is spent then. The seat is the board's.
 fn is_spent_behind_two(board: &Board, seat: &mut Seat) -> bool
     requires { seat.old.board ≡ board.now }
     ensures { seat.new.board ≡ board.now }
@@ -91,7 +91,7 @@ fn are_ones(counters: &[AtomicU64], count: u32) -> bool {
     counters.len() == count as usize
 }
 
-/// Whether four threads draw each number below a limit once.
+/// Whether four threads draw each number below a limit once, from a board of 1 to 65 seats.
 fn draw_each_once<R: Threads + Sync>(
     rt: &R,
     alloc: Global,

@@ -75,7 +75,7 @@ fn show_taken(rt: &impl Abort, cutter: &mut Cutter, way: Way, piece: &[u8], out:
     }
 }
 
-/// Shows what a cutter gives of pieces, where spaces part them.
+/// Shows what a cutter, from which no block waits to be taken, gives of pieces, where spaces part them.
 fn show_pieces(
     rt: &impl Abort,
     alloc: Global,
@@ -93,7 +93,7 @@ fn show_pieces(
     }
 }
 
-/// Shows the last block.
+/// Shows the last block of a cutter from which no other waits to be taken.
 fn show_last(rt: &impl Abort, cutter: Cutter, out: &mut String)
     requires { IsDrained cutter }
 {

@@ -169,7 +169,7 @@ fn show_answer(
     }
 }
 
-/// Shows the answer for a line, and for visits behind ` within ` how many there may be.
+/// Shows the answer for a line, and for visits behind ` within ` how many there may be. The scratch is the machine's.
 fn show_line(
     rt: &impl Abort,
     alloc: Global,
@@ -186,7 +186,7 @@ fn show_line(
     show_answer(rt, question, search, &line, most, out).expect(rt, "memory")
 }
 
-/// Shows the answers for lines, where slashes part them.
+/// Shows the answers for lines, where slashes part them. The scratch is the machine's.
 fn show_lines(
     rt: &impl Abort,
     alloc: Global,
@@ -346,7 +346,8 @@ fn letters(alloc: Global, seed: u64) -> Result<Vec<u8>, AllocError>
     Ok(line)
 }
 
-/// Whether a line is matched exactly where its tenth byte from the end is an `a`. The scratch is the machine's.
+/// Whether a line of 60 bytes is matched exactly where its tenth byte from the end is an `a`. The scratch is the
+/// machine's.
 fn is_tenth_asked(search: &mut Search, line: &[u8]) -> bool
     requires fits { Fits search.old.scratch search.old.machine }
     requires line { length line.now ≡ 60 }
@@ -358,7 +359,7 @@ fn is_tenth_asked(search: &mut Search, line: &[u8]) -> bool
     is_selected == wanted && part.is_some() == wanted
 }
 
-/// The same of a line of some letters.
+/// The same of a line of some letters. The scratch is the machine's.
 fn is_right_for(rt: &impl Abort, alloc: Global, search: &mut Search, seed: u64) -> bool
     requires { Fits search.old.scratch search.old.machine }
     ensures { Fits search.new.scratch search.new.machine }

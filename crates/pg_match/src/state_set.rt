@@ -50,7 +50,7 @@ impl<A: Allocator> StateSet<A> {
         self.len = 0;
     }
 
-    /// Whether there is no state but the first one, where matches end.
+    /// Whether there is no state but number 0, where matches end.
     #[inline(always)]
     pub fn is_over(&self) -> bool
         requires { IsGood (members self.now) }

@@ -21,7 +21,8 @@ pub(crate) struct Worker<A: Allocator = Global> {
     pub(crate) scratch: Scratch<A>,
 }
 
-/// Searches the block of a number, between the gate's calls.
+/// Searches the block of a number below the board's limit, between the gate's calls. The scratch is for the round's
+/// query.
 fn search_number<A: Allocator + Copy, G: Gate>(
     alloc: A,
     round: Round<'_, A>,
