@@ -1,7 +1,7 @@
 //! The character classes of the C locale.
-ghost use Rattle.std.specs.Prelude.{◌≡◌, ◌&&◌, not, option_map};
+ghost use Rattle.std.specs.Prelude.{◌≡◌, ◌&&◌, None, codes, not, option_map};
 ghost use Rattle.pg_bytes.specs.Sets.{between, union, one};
-ghost use Rattle.pg_bytes.specs.Classes.{class, alpha, digit, alnum, graph, punct, xdigit, blank, space, cntrl};
+ghost use Rattle.pg_bytes.specs.Classes.{class, named, alpha, digit, alnum, graph, print, punct, xdigit, blank, space, cntrl};
 ghost use Rattle.pg_bytes.specs.ByteSets.{bytes};
 
 use crate::byte_set::ByteSet;
@@ -66,6 +66,34 @@ fn cntrl() -> ByteSet
     ByteSet::between(0, 31).union(one(127))
 }
 
+/// The class of a name where it isn't one of letters and digits alone: `blank`, `space`, `cntrl`, `graph`, `print` or
+/// `punct`. `None` for every other name.
+fn class_beyond_alnum(name: &[u8]) -> Option<ByteSet>
+    ensures { option_map bytes result ≡
+        named name.now (codes "blank") blank
+        (named name.now (codes "space") space
+        (named name.now (codes "cntrl") cntrl
+        (named name.now (codes "graph") graph
+        (named name.now (codes "print") print
+        (named name.now (codes "punct") punct None))))) }
+{
+    if name == b"blank".as_slice() {
+        Some(blank())
+    } else if name == b"space".as_slice() {
+        Some(space())
+    } else if name == b"cntrl".as_slice() {
+        Some(cntrl())
+    } else if name == b"graph".as_slice() {
+        Some(ByteSet::between(b'!', b'~'))
+    } else if name == b"print".as_slice() {
+        Some(ByteSet::between(b' ', b'~'))
+    } else if name == b"punct".as_slice() {
+        Some(punct())
+    } else {
+        None
+    }
+}
+
 /// The character class of a name in the C locale (XBD 7.3.1, 9.3.5): `upper`, `lower`, `alpha`,
 /// `digit`, `alnum`, `xdigit`, `blank`, `space`, `cntrl`, `graph`, `print` or `punct`. `None` for
 /// every other name; names are compared byte for byte.
@@ -84,19 +112,7 @@ pub fn class(name: &[u8]) -> Option<ByteSet>
         Some(alnum())
     } else if name == b"xdigit".as_slice() {
         Some(xdigit())
-    } else if name == b"blank".as_slice() {
-        Some(blank())
-    } else if name == b"space".as_slice() {
-        Some(space())
-    } else if name == b"cntrl".as_slice() {
-        Some(cntrl())
-    } else if name == b"graph".as_slice() {
-        Some(ByteSet::between(b'!', b'~'))
-    } else if name == b"print".as_slice() {
-        Some(ByteSet::between(b' ', b'~'))
-    } else if name == b"punct".as_slice() {
-        Some(punct())
     } else {
-        None
+        class_beyond_alnum(name)
     }
 }

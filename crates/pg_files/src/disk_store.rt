@@ -19,7 +19,7 @@ enum Source<I: Read + Drop, F: Read + OpenFile + Drop> {
 }
 
 /// What tells a file from all others that are there.
-#[derive(Clone, Copy, Debug, PartialEq, Eq)]
+#[derive(Clone, Copy, PartialEq, Eq)]
 struct FileId {
     device: u64,
     number: u64,

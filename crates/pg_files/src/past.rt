@@ -9,7 +9,7 @@ use pg_walk::Cause;
 use std::marker::Model;
 
 /// How far a path was read.
-#[derive(Clone, Copy, Debug)]
+#[derive(Clone, Copy)]
 pub(crate) enum Reading {
     /// It gave no file.
     Refused(Cause),

@@ -30,7 +30,7 @@ const CONTEXT_MARK: u8 = b'-';
 
 /// Where a printer stands in a block: the lines before `at`, of which there are `seen`, were passed
 /// or kept.
-#[derive(Clone, Copy, Debug)]
+#[derive(Clone, Copy)]
 struct Place {
     progress: Progress,
     at: usize,
@@ -38,7 +38,7 @@ struct Place {
 }
 
 /// What the first lines of a run of selected lines leave, where they are kept.
-#[derive(Clone, Copy, Debug)]
+#[derive(Clone, Copy)]
 struct Step {
     /// What is remembered behind the lines before the run.
     passed: Progress,

@@ -10,7 +10,7 @@ use std::alloc::{AllocError, Allocator, Global};
 use std::mem;
 
 /// What the last read came to.
-#[derive(Clone, Copy, Debug, PartialEq, Eq)]
+#[derive(Clone, Copy, PartialEq, Eq)]
 pub(crate) enum Came {
     /// More bytes, or nothing was read yet.
     More,

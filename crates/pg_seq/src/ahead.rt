@@ -5,7 +5,7 @@ ghost use Rattle.pg_rows.specs.Output.{is_quiet};
 use pg_rows::{Format, Mode, Progress};
 
 /// How far the rows could be written by the results that have come.
-#[derive(Clone, Copy, Debug)]
+#[derive(Clone, Copy)]
 pub(crate) struct Ahead {
     /// How many of the blocks that wait would be handed out.
     pub(crate) blocks: usize,

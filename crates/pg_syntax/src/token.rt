@@ -2,7 +2,7 @@
 use pg_bytes::ByteSet;
 
 /// Which of the two syntaxes of expressions a text is read in (XBD 9.3, 9.4).
-#[derive(Clone, Copy, Debug, PartialEq, Eq)]
+#[derive(Clone, Copy)]
 pub(crate) enum Syntax {
     Basic,
     Extended,
