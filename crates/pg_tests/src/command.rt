@@ -12,7 +12,7 @@ use std::sync::Wait;
 use std::thread::Threads;
 use std::time::Clock;
 
-/// The most bytes that a test writes to a stream.
+/// The most bytes of a stream that has no limit of its own.
 const ROOM: usize = 100;
 
 /// What standard input and the file `broken` hold.
@@ -21,21 +21,52 @@ const INPUT: &[u8] = b"abc\nxyz\nb";
 /// Their lines that hold `b`.
 const OUTPUT: &[u8] = b"abc\nb\n";
 
-/// The most bytes of a read, of a write, and of all that is written to each stream.
+/// The most bytes of a read, of a write, and of all that is written to each stream; how files end; and what comes of
+/// that: the answer, and how many bytes of the output are written.
 #[derive(Clone, Copy)]
-struct Limits {
+struct Case {
     read: usize,
     write: usize,
     out: usize,
     err: usize,
+    ending: Ending,
+    answer: Result<u8, Told>,
+    written: usize,
 }
 
-const UNLIMITED: Limits = Limits {
-    read: ROOM,
-    write: ROOM,
-    out: ROOM,
-    err: ROOM,
-};
+/// The limit of a digit, ten for `a`, and else one that isn't met.
+fn limit_of(letter: u8) -> usize {
+    match letter {
+        b'0'..=b'9' => usize::from(letter - b'0'),
+        b'a' => 10,
+        _ => ROOM,
+    }
+}
+
+/// The case of seven letters: the limits of a read, of a write and of both streams, `F` where reading fails behind the
+/// bytes, the status, or `!` where a fault was told instead, and how many bytes are written.
+fn case_of(rt: &impl Abort, letters: &str) -> Case {
+    let [read, write, out, err, ending, answer, written] = letters.as_bytes() else {
+        panic!(rt; "seven letters: {letters}");
+    };
+    Case {
+        read: limit_of(*read),
+        write: limit_of(*write),
+        out: limit_of(*out),
+        err: limit_of(*err),
+        ending: if *ending == b'F' {
+            Ending::Fails
+        } else {
+            Ending::Ends
+        },
+        answer: if *answer == b'!' {
+            Err(Told)
+        } else {
+            Ok(answer.wrapping_sub(b'0'))
+        },
+        written: limit_of(*written),
+    }
+}
 
 /// What a command line wrote and answered.
 #[derive(Drop)]
@@ -43,6 +74,16 @@ struct Outcome {
     answer: Result<u8, Told>,
     out: MemSink,
     err: MemSink,
+}
+
+impl Outcome {
+    /// Whether it is that of a case in which this is told.
+    fn is_of(&self, case: Case, told: &str) -> bool {
+        self.answer == case.answer
+            && self.out.bytes().len() == case.written
+            && OUTPUT.starts_with(self.out.bytes())
+            && self.err.bytes() == told.as_bytes()
+    }
 }
 
 /// The words of a text, which blanks set apart.
@@ -70,51 +111,52 @@ fn run(
     rt: &(impl Abort + Threads + Wait + Clock + Sync),
     alloc: Global,
     text: &str,
-    ending: Ending,
-    limits: Limits,
-) -> Outcome
-    requires { 1 ≤ limits.read }
-{
+    case: Case,
+) -> Outcome {
     let words = words_of(alloc, text).expect(rt, "memory");
     let mut tree = MemTree::new(alloc);
     tree.add("broken", Node::new(FileKind::Regular))
         .expect(rt, "memory");
-    let store = store_of(alloc, ending, limits.read).expect(rt, "memory");
+    let store = store_of(alloc, case.ending, case.read.max(1)).expect(rt, "memory");
     let mut files = Listed::new(alloc, store);
-    let mut out = MemSink::new(alloc, limits.out).expect(rt, "memory");
-    out.set_write_limit(limits.write);
-    let mut err = MemSink::new(alloc, limits.err).expect(rt, "memory");
+    let mut out = MemSink::new(alloc, case.out).expect(rt, "memory");
+    out.set_write_limit(case.write);
+    let mut err = MemSink::new(alloc, case.err).expect(rt, "memory");
     let answer = command(rt, alloc, &words, &tree, &mut files, &mut out, &mut err);
     Outcome { answer, out, err }
 }
 
-/// Whether a command line has this answer, and has written and told these.
-fn is_outcome(found: &Outcome, answer: Result<u8, Told>, out: &[u8], told: &str) -> bool {
-    found.answer == answer && found.out.bytes() == out && found.err.bytes() == told.as_bytes()
-}
-
-/// Command lines that differ in the size of blocks.
-const BLOCKS: &str = "\
--F b - --block 1
--F b - --block 2
--F b - --block 3
--F b - --block 4
--F b - --block 9
--F b - --block 10
--F b - --block 65536
--F b - --block 16777216";
+/// Cases, set apart by commas, command lines that they are tried on, and what is told: blocks of any size where reads
+/// and writes are short; files whose reading fails behind their bytes, to be searched and with patterns; an output that
+/// takes some bytes, and the fault that can be told or not.
+const CASES: &str = "\
+11--E06,22--E06,33--E06,99--E06,aa--E06 -F b - --block 1=|\
+11--E06,22--E06,33--E06,99--E06,aa--E06 -F b - --block 2=|\
+11--E06,22--E06,33--E06,99--E06,aa--E06 -F b - --block 3=|\
+11--E06,22--E06,33--E06,99--E06,aa--E06 -F b - --block 4=|\
+11--E06,22--E06,33--E06,99--E06,aa--E06 -F b - --block 9=|\
+11--E06,22--E06,33--E06,99--E06,aa--E06 -F b - --block 10=|\
+11--E06,22--E06,33--E06,99--E06,aa--E06 -F b - --block 65536=|\
+11--E06,22--E06,33--E06,99--E06,aa--E06 -F b - --block 16777216=|\
+----F26 -F b broken=pargrep: broken: read failed\n|\
+----F26 -F b -=pargrep: (standard input): read failed\n|\
+----F!0 -F -f broken -=pargrep: broken: read failed\n|\
+----F!0 -f - broken=pargrep: (standard input): read failed\n|\
+----F!0 -e ( -E -f broken -=pargrep: broken: read failed\n|\
+--0-E!0,--1-E!1,--2-E!2,--3-E!3,--4-E!4,--5-E!5 -F b -=pargrep: write failed\n|\
+-10-E!0,-11-E!1,-12-E!2,-13-E!3,-14-E!4,-15-E!5 -F b -=pargrep: write failed\n|\
+-00-E!0,-01-E!0,-02-E!0,-03-E!0,-04-E!0,-05-E!0 -F b -=pargrep: write failed\n|\
+--00E!0,--10E!1,--20E!2,--30E!3,--40E!4,--50E!5 -F b -=";
 
 #[test]
-fn few_bytes_at_a_time(rt: HostRuntime) {
-    for text in BLOCKS.lines() {
-        for limit in [1, 2, 3, 9, 10] {
-            let limits = Limits {
-                read: limit,
-                write: limit,
-                ..UNLIMITED
-            };
-            let found = run(&rt, rt.alloc(), text, Ending::Ends, limits);
-            assert!(rt; is_outcome(&found, Ok(0), OUTPUT, ""), "{text}");
+fn streams_with_limits_that_fail(rt: HostRuntime) {
+    for row in CASES.split('|') {
+        let (asked, told) = row.split_once('=').unwrap_or(("", ""));
+        let (cases, text) = asked.split_once(' ').unwrap_or(("", ""));
+        for letters in cases.split(',') {
+            let case = case_of(&rt, letters);
+            let found = run(&rt, rt.alloc(), text, case);
+            assert!(rt; found.is_of(case, told), "{letters} {text}");
         }
     }
 }
@@ -155,89 +197,6 @@ fn the_last_block_size_counts(rt: HostRuntime) {
         let (size, text) = line.split_once(' ').unwrap_or(("", ""));
         let block = block_of(rt.alloc(), text).expect(&rt, "memory");
         assert!(rt; block.is_some() && block == size.parse().ok(), "{line}");
-    }
-}
-
-/// Command lines that name a file whose reading fails behind its bytes, and what is told.
-const BROKEN: &str = "\
--F b broken=pargrep: broken: read failed\n|\
--F b -=pargrep: (standard input): read failed\n";
-
-/// A command line whose reading fails answers and writes these, and tells what its row says.
-fn assert_fails(
-    rt: &(impl Abort + Threads + Wait + Clock + Sync),
-    alloc: Global,
-    row: &str,
-    answer: Result<u8, Told>,
-    out: &[u8],
-) {
-    let (text, told) = row.split_once('=').unwrap_or(("", ""));
-    let found = run(rt, alloc, text, Ending::Fails, UNLIMITED);
-    assert!(rt; is_outcome(&found, answer, out, told), "{row}");
-}
-
-#[test]
-fn reading_fails_in_mid_stream(rt: HostRuntime) {
-    for row in BROKEN.split('|') {
-        assert_fails(&rt, rt.alloc(), row, Ok(2), OUTPUT);
-    }
-}
-
-/// Command lines that take patterns from a file whose reading fails, and what is told.
-const BROKEN_PATTERNS: &str = "\
--F -f broken -=pargrep: broken: read failed\n|\
--f - broken=pargrep: (standard input): read failed\n|\
--e ( -E -f broken -=pargrep: broken: read failed\n";
-
-#[test]
-fn reading_patterns_fails(rt: HostRuntime) {
-    for row in BROKEN_PATTERNS.split('|') {
-        assert_fails(&rt, rt.alloc(), row, Err(Told), b"");
-    }
-}
-
-/// Whether a search fails, and tells it, where so many bytes are written in all, and `write` of them at a time.
-fn fails_at(
-    rt: &(impl Abort + Threads + Wait + Clock + Sync),
-    alloc: Global,
-    room: usize,
-    write: usize,
-) -> bool {
-    let limits = Limits {
-        write,
-        out: room,
-        ..UNLIMITED
-    };
-    let found = run(rt, alloc, "-F b -", Ending::Ends, limits);
-    let written = if write == 0 {
-        0
-    } else {
-        room.min(OUTPUT.len())
-    };
-    let told = "pargrep: write failed\n";
-    is_outcome(&found, Err(Told), &OUTPUT[..written], told)
-}
-
-#[test]
-fn an_output_that_fails(rt: HostRuntime) {
-    for room in 0..OUTPUT.len() {
-        for write in [ROOM, 1, 0] {
-            let right = fails_at(&rt, rt.alloc(), room, write);
-            assert!(rt; right, "{room} and {write}");
-        }
-    }
-}
-
-#[test]
-fn both_streams_fail(rt: HostRuntime) {
-    for room in 0..OUTPUT.len() {
-        let limits = Limits {
-            out: room,
-            err: 0,
-            ..UNLIMITED
-        };
-        let found = run(&rt, rt.alloc(), "-F b -", Ending::Ends, limits);
-        assert!(rt; is_outcome(&found, Err(Told), &OUTPUT[..room], ""));
     }
 }
 
