@@ -1,7 +1,7 @@
 //! Runs that read a file on while threads search what was read of it.
 ghost use Rattle.std.specs.Prelude.{IfOk, ◌≡◌, false};
 
-use crate::runs::{Outcome, run_over, setup};
+use crate::runs::{run_over, setup, sink};
 use pg_files::{Ending, Listed, MemStore, OpenFault, ReadFault, Store};
 use pg_run::{Gate, RunFault};
 use pg_walk::Item;
@@ -87,31 +87,65 @@ impl<'n> Gate for AfterReading<'n> {
 }
 
 /// A file, how long a search waits for its second read, and what a run over it does.
-#[derive(Drop)]
-struct Case<'c> {
-    file: &'c [u8],
+#[derive(Clone, Copy)]
+struct Case {
+    file: &'static [u8],
     ending: Ending,
     may_wait: bool,
     patience: u32,
     status: Result<u8, RunFault>,
-    output: &'c [u8],
-    told: &'c [u8],
+    output: &'static [u8],
+    told: &'static [u8],
     given_up: u64,
 }
 
-/// Whether a run answers, writes and tells what is expected.
-fn is_expected(found: &Outcome, case: &Case<'_>) -> bool {
-    found.status == case.status
-        && found.out.bytes() == case.output
-        && found.told.bytes() == case.told
-}
+/// Three files that are read on while they are searched, of which the next read gives the rest, or fails, or meets a line
+/// that is too long; the last two come behind the rows. And one whose reading may wait, which isn't read on.
+const CASES: [Case; 4] = [
+    Case {
+        file: b"x1\nx2\nx3\nx4\nx5",
+        ending: Ending::Ends,
+        may_wait: false,
+        patience: 10_000_000,
+        status: Ok(0),
+        output: b"x1\nx2\nx3\nx4\nx5\n",
+        told: b"",
+        given_up: 0,
+    },
+    Case {
+        file: b"x1\nx2\n",
+        ending: Ending::Fails,
+        may_wait: false,
+        patience: 10_000_000,
+        status: Ok(2),
+        output: b"x1\nx2\n",
+        told: b"pargrep: f: read failed\n",
+        given_up: 0,
+    },
+    Case {
+        file: b"x1\nx2\nxxxxxx",
+        ending: Ending::Ends,
+        may_wait: false,
+        patience: 10_000_000,
+        status: Err(RunFault::TooLong),
+        output: b"x1\nx2\n",
+        told: b"",
+        given_up: 0,
+    },
+    Case {
+        file: b"x1\nx2\n",
+        ending: Ending::Ends,
+        may_wait: true,
+        patience: 1_000,
+        status: Ok(0),
+        output: b"x1\nx2\n",
+        told: b"",
+        given_up: 2,
+    },
+];
 
 /// Whether a run for the letter x does what is expected, in rounds of two lines, with lines of at most four bytes.
-fn reads_on<R: Abort + Threads + Wait + Clock + Sync>(
-    rt: &R,
-    alloc: Global,
-    case: &Case<'_>,
-) -> bool {
+fn reads_on<R: Abort + Threads + Wait + Clock + Sync>(rt: &R, alloc: Global, case: &Case) -> bool {
     let reads = AtomicU64::new(0);
     let gate = AfterReading {
         reads: &reads,
@@ -121,68 +155,19 @@ fn reads_on<R: Abort + Threads + Wait + Clock + Sync>(
     };
     let files = file_of(alloc, case.file, case.ending, case.may_wait, &reads);
     let mut files = files.expect(rt, "memory");
+    let mut out = sink(rt, alloc);
     let mut setup = setup(2, 2);
     setup.line = 4;
-    let found = run_over(rt, alloc, setup, &mut files, &gate);
-    is_expected(&found, case) && gate.given_up.load(Ordering::SeqCst) == case.given_up
+    let found = run_over(rt, alloc, setup, &mut files, &mut out, &gate);
+    found.status == case.status
+        && out.bytes() == case.output
+        && found.told.bytes() == case.told
+        && gate.given_up.load(Ordering::SeqCst) == case.given_up
 }
 
 #[test]
 fn a_file_is_read_on_while_it_is_searched(rt: HostRuntime) {
-    let case = Case {
-        file: b"x1\nx2\nx3\nx4\nx5",
-        ending: Ending::Ends,
-        may_wait: false,
-        patience: 10_000_000,
-        status: Ok(0),
-        output: b"x1\nx2\nx3\nx4\nx5\n",
-        told: b"",
-        given_up: 0,
-    };
-    assert!(rt; reads_on(&rt, rt.alloc(), &case));
-}
-
-#[test]
-fn a_read_that_fails_comes_behind_the_rows(rt: HostRuntime) {
-    let case = Case {
-        file: b"x1\nx2\n",
-        ending: Ending::Fails,
-        may_wait: false,
-        patience: 10_000_000,
-        status: Ok(2),
-        output: b"x1\nx2\n",
-        told: b"pargrep: f: read failed\n",
-        given_up: 0,
-    };
-    assert!(rt; reads_on(&rt, rt.alloc(), &case));
-}
-
-#[test]
-fn a_line_that_is_too_long_comes_behind_the_rows(rt: HostRuntime) {
-    let case = Case {
-        file: b"x1\nx2\nxxxxxx",
-        ending: Ending::Ends,
-        may_wait: false,
-        patience: 10_000_000,
-        status: Err(RunFault::TooLong),
-        output: b"x1\nx2\n",
-        told: b"",
-        given_up: 0,
-    };
-    assert!(rt; reads_on(&rt, rt.alloc(), &case));
-}
-
-#[test]
-fn a_file_that_may_wait_is_not_read_on(rt: HostRuntime) {
-    let case = Case {
-        file: b"x1\nx2\n",
-        ending: Ending::Ends,
-        may_wait: true,
-        patience: 1_000,
-        status: Ok(0),
-        output: b"x1\nx2\n",
-        told: b"",
-        given_up: 2,
-    };
-    assert!(rt; reads_on(&rt, rt.alloc(), &case));
+    for (number, case) in CASES.iter().enumerate() {
+        assert!(rt; reads_on(&rt, rt.alloc(), case), "case {number}");
+    }
 }

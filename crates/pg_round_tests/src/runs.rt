@@ -51,48 +51,37 @@ fn file_of(alloc: Global, bytes: &[u8]) -> Result<Listed<MemStore>, AllocError>
 }
 
 /// A sink that takes at most 100 bytes.
-fn sink(rt: &impl Abort, alloc: Global) -> MemSink {
+pub(crate) fn sink(rt: &impl Abort, alloc: Global) -> MemSink {
     MemSink::new(alloc, 100).expect(rt, "memory")
 }
 
-/// What a run for the letter x answers.
-fn answer<R: Threads + Wait + Clock + Sync, F: Files, W: Sink, G: Gate + Sync>(
+/// What a run answered and told.
+#[derive(Drop)]
+pub(crate) struct Outcome {
+    pub(crate) status: Result<u8, RunFault>,
+    pub(crate) told: MemSink,
+}
+
+/// What a run for the letter x does beside what it writes.
+pub(crate) fn run_over<
+    R: Abort + Threads + Wait + Clock + Sync,
+    F: Files,
+    W: Sink,
+    G: Gate + Sync,
+>(
     rt: &R,
     alloc: Global,
     setup: Setup,
     files: &mut F,
     out: &mut W,
-    told: &mut MemSink,
-    gate: &G,
-) -> Result<u8, RunFault>
-    requires { F.past files.old ≡ nothing_given }
-{
-    let text = text(alloc)?;
-    run(rt, alloc, text, setup, files, out, told, gate)
-}
-
-/// What a run answered, wrote and told.
-#[derive(Drop)]
-pub(crate) struct Outcome {
-    pub(crate) status: Result<u8, RunFault>,
-    pub(crate) out: MemSink,
-    pub(crate) told: MemSink,
-}
-
-/// What a run for the letter x does.
-pub(crate) fn run_over<R: Abort + Threads + Wait + Clock + Sync, F: Files, G: Gate + Sync>(
-    rt: &R,
-    alloc: Global,
-    setup: Setup,
-    files: &mut F,
     gate: &G,
 ) -> Outcome
     requires { F.past files.old ≡ nothing_given }
 {
-    let mut out = sink(rt, alloc);
+    let text = text(alloc).expect(rt, "memory");
     let mut told = sink(rt, alloc);
-    let status = answer(rt, alloc, setup, files, &mut out, &mut told, gate);
-    Outcome { status, out, told }
+    let status = run(rt, alloc, text, setup, files, out, &mut told, gate);
+    Outcome { status, told }
 }
 
 /// Whether a run for the letter x over a file writes this and tells nothing.
@@ -105,8 +94,9 @@ fn writes<R: Abort + Threads + Wait + Clock + Sync, G: Gate + Sync>(
     gate: &G,
 ) -> bool {
     let mut files = file_of(alloc, file).expect(rt, "memory");
-    let found = run_over(rt, alloc, setup, &mut files, gate);
-    found.status == Ok(0) && found.out.bytes() == output && found.told.bytes().is_empty()
+    let mut out = sink(rt, alloc);
+    let found = run_over(rt, alloc, setup, &mut files, &mut out, gate);
+    found.status == Ok(0) && out.bytes() == output && found.told.bytes().is_empty()
 }
 
 #[test]
@@ -207,17 +197,8 @@ fn writes_watched<R: Abort + Threads + Wait + Clock + Sync>(
         inner: sink(rt, alloc),
         taken: gate.taken,
     };
-    let mut told = sink(rt, alloc);
-    let status = answer(
-        rt,
-        alloc,
-        setup(2, 2),
-        &mut files,
-        &mut out,
-        &mut told,
-        gate,
-    );
-    status == Ok(0) && out.inner.bytes() == b"x1\nx2\n".as_slice()
+    let found = run_over(rt, alloc, setup(2, 2), &mut files, &mut out, gate);
+    found.status == Ok(0) && out.inner.bytes() == b"x1\nx2\n".as_slice()
 }
 
 #[test]

@@ -86,9 +86,8 @@ impl<'a> Case<'a> {
         self
     }
 
-    /// The first bytes of `FILE`, behind which a read fails.
-    fn broken(mut self, file: &'a [u8]) -> Case<'a> {
-        self.file = file;
+    /// A file behind whose bytes a read fails.
+    fn broken(mut self) -> Case<'a> {
         self.ending = Ending::Fails;
         self
     }
@@ -178,293 +177,320 @@ fn run_case<R: Abort + Threads + Wait + Clock + Sync, A: Allocator + Copy + Send
     }
 }
 
-/// Whether a run answers, writes and tells these.
-fn runs<R: Abort + Threads + Wait + Clock + Sync>(
+/// What is varied in the runs of a row.
+#[derive(Clone, Copy)]
+enum Varied {
+    /// The size of blocks and of reads, and the number of threads.
+    Blocks,
+    /// How many bytes the output takes, in all and in a write.
+    Writes,
+    /// The size of blocks and the number of threads, where reading fails behind the file.
+    Reads,
+}
+
+/// A search, and what comes of it whatever is varied.
+#[derive(Clone, Copy)]
+struct Row<'a> {
+    varied: Varied,
+    format: Format,
+    pattern: &'a [u8],
+    file: &'a [u8],
+    status: u8,
+    output: &'a [u8],
+    ghost some_limit: { HasRoom format },
+}
+
+/// A case, and what comes of it.
+#[derive(Clone, Copy)]
+struct Expected<'a> {
+    case: Case<'a>,
+    answer: Result<u8, RunFault>,
+    output: &'a [u8],
+    told: &'static str,
+}
+
+impl Expected<'_> {
+    fn is(&self, found: &Outcome) -> bool {
+        found.answer == self.answer
+            && found.out.bytes() == self.output
+            && found.faults.bytes() == self.told.as_bytes()
+    }
+}
+
+impl<'a> Row<'a> {
+    fn case(self) -> Case<'a> {
+        Case::new(self.format).with(self.pattern, self.file)
+    }
+
+    /// All is written in a case, and this is told.
+    fn expected(self, case: Case<'a>, told: &'static str) -> Expected<'a> {
+        Expected {
+            case,
+            answer: Ok(self.status),
+            output: self.output,
+            told,
+        }
+    }
+
+    /// Blocks and reads of some sizes, by one thread, and blocks by three.
+    fn push_blocks(self, cases: &mut Vec<Expected<'a>>) -> Result<(), AllocError> {
+        for block in 1..=64u32 {
+            for read_limit in [1, 2, 5, 100] {
+                let case = self.case().cut(block, read_limit);
+                cases.push(self.expected(case, ""))?;
+            }
+            let case = self.case().cut(block, 100).spread(2);
+            cases.push(self.expected(case, ""))?;
+        }
+        Ok(())
+    }
+
+    /// An output that takes less fails once it is full, and one that takes a byte at a time goes through.
+    fn push_writes(self, cases: &mut Vec<Expected<'a>>) -> Result<(), AllocError> {
+        for block in 1..=10u32 {
+            for limit in 0..self.output.len() {
+                let case = self.case().cut(block, 100);
+                cases.push(Expected {
+                    case: case.into_room(limit, usize::MAX),
+                    answer: Err(RunFault::Sink),
+                    output: &self.output[..limit],
+                    told: "",
+                })?;
+            }
+            let case = self.case().cut(block, 100).spread(2);
+            cases.push(self.expected(case.into_room(self.output.len(), 1), ""))?;
+        }
+        Ok(())
+    }
+
+    /// Reading fails behind the file, in blocks of some sizes, by one thread and by three.
+    fn push_reads(self, cases: &mut Vec<Expected<'a>>) -> Result<(), AllocError> {
+        for block in 1..=10u32 {
+            for workers in [0, 2] {
+                let case = self.case().broken().cut(block, 2).spread(workers);
+                cases.push(self.expected(case, "pargrep: f: read failed\n"))?;
+            }
+        }
+        Ok(())
+    }
+
+    fn cases(self, alloc: Global) -> Result<Vec<Expected<'a>>, AllocError> {
+        let mut cases = Vec::new(alloc);
+        match self.varied {
+            Varied::Blocks => self.push_blocks(&mut cases)?,
+            Varied::Writes => self.push_writes(&mut cases)?,
+            Varied::Reads => self.push_reads(&mut cases)?,
+        }
+        Ok(cases)
+    }
+}
+
+/// All cases end as expected.
+fn assert_all<R: Abort + Threads + Wait + Clock + Sync>(
     rt: &R,
     alloc: Global,
-    case: Case<'_>,
-    answer: Result<u8, RunFault>,
-    output: &[u8],
-    told: &str,
-) -> bool {
-    let found = run_case(rt, alloc, alloc, case);
-    found.answer == answer && found.out.bytes() == output && found.faults.bytes() == told.as_bytes()
-}
-
-/// A run writes these bytes and has this status in blocks of this size, whatever that of the reads, by one thread and
-/// by three.
-fn assert_blocks(
-    rt: &(impl Abort + Threads + Wait + Clock + Sync),
-    alloc: Global,
-    case: Case<'_>,
-    block: u32,
-    output: &[u8],
-    status: u8,
-)
-    requires { (1 ≤ block) × (block ≤ 64) }
-{
-    for read_limit in [1, 2, 5, 100] {
-        let case = case.cut(block, read_limit);
-        let right = runs(rt, alloc, case, Ok(status), output, "");
-        assert!(rt; right, "in blocks of {block}");
-    }
-    let case = case.cut(block, 100).spread(2);
-    let right = runs(rt, alloc, case, Ok(status), output, "");
-    assert!(rt; right, "in blocks of {block}, by threads");
-}
-
-/// The same, whatever the size of its blocks.
-fn assert_run(
-    rt: &(impl Abort + Threads + Wait + Clock + Sync),
-    alloc: Global,
-    case: Case<'_>,
-    output: &[u8],
-    status: u8,
+    cases: &[Expected<'_>],
 ) {
-    for block in 1..=64u32 {
-        assert_blocks(rt, alloc, case, block, output, status);
+    for (number, expected) in cases.iter().enumerate() {
+        let found = run_case(rt, alloc, alloc, expected.case);
+        assert!(rt; expected.is(&found), "case {number}");
     }
 }
 
-/// A pattern, the letters of a format, a file, the status, and behind a colon the output. In files and output `/`
-/// stands for a newline.
-const RUNS: &str = "b ------ abc/xyz/b 0:abc/b/
-q ------ abc/xyz/b 1:
-b ------  1:
- ------  1:
- ------ // 0://
- ------ abc/xyz/b 0:abc/xyz/b/
-yz ------ abc/xyz 0:xyz/
-ab ------ a/b/ 1:
-b Hn---- abc/xyz/b 0:f:1:abc/f:3:b/
- Hn---- // 0:f:1:/f:2:/
-q Hn---- abc/xyz/b 1:
-b H-c--- abc/xyz/b 0:f:2/
-q H-c--- abc/xyz/b 1:f:0/
- H-c---  1:f:0/";
+/// What is varied, a pattern, the letters of a format, a file, the status, and behind a colon the output. In files and
+/// output `/` stands for a newline.
+const RUNS: &str = "\
+blocks b ------ abc/xyz/b 0:abc/b/
+blocks q ------ abc/xyz/b 1:
+blocks b ------  1:
+blocks  ------  1:
+blocks  ------ // 0://
+blocks  ------ abc/xyz/b 0:abc/xyz/b/
+blocks yz ------ abc/xyz 0:xyz/
+blocks ab ------ a/b/ 1:
+blocks b Hn---- abc/xyz/b 0:f:1:abc/f:3:b/
+blocks  Hn---- // 0:f:1:/f:2:/
+blocks q Hn---- abc/xyz/b 1:
+blocks b H-c--- abc/xyz/b 0:f:2/
+blocks q H-c--- abc/xyz/b 1:f:0/
+blocks  H-c---  1:f:0/
+writes b ------ abc/xyz/b 0:abc/b/
+writes b Hn---- abc/xyz/b 0:f:1:abc/f:3:b/
+writes b H-c--- abc/xyz/b 0:f:2/
+reads b ------  2:
+reads b ------ a 2:
+reads b ------ ab 2:ab/
+reads b ------ abc/ 2:abc/
+reads b ------ abc/xyz/ 2:abc/
+reads b ------ abc/xyz/b 2:abc/b/
+reads b H-c---  2:f:0/
+reads b H-c--- ab 2:f:1/
+reads b H-c--- abc/xyz/ 2:f:1/
+reads b H-c--- abc/xyz/b 2:f:2/";
 
-/// A run is as a row says.
-fn assert_row(rt: &(impl Abort + Threads + Wait + Clock + Sync), alloc: Global, row: &str) {
-    let (pattern, rest) = cut(row, " ");
-    let (letters, rest) = cut(rest, " ");
-    let (file, answer) = cut(rest, " ");
-    let (status, output) = cut(answer, ":");
-    let status: u8 = status.parse().expect(rt, "a status");
-    let file = with_newlines(alloc, file).expect(rt, "memory");
-    let output = with_newlines(alloc, output).expect(rt, "memory");
-    let case = Case::new(format_of(rt, letters)).with(pattern.as_bytes(), file.as_bytes());
-    assert_run(rt, alloc, case, output.as_bytes(), status)
+/// A row of `RUNS`.
+#[derive(Drop)]
+struct Parsed<'t> {
+    varied: Varied,
+    format: Format,
+    pattern: &'t str,
+    file: String,
+    status: u8,
+    output: String,
+    ghost some_limit: { HasRoom format },
+}
+
+impl<'t> Parsed<'t> {
+    fn of(rt: &impl Abort, alloc: Global, text: &'t str) -> Parsed<'t> {
+        let (varied, rest) = cut(text, " ");
+        let (pattern, rest) = cut(rest, " ");
+        let (letters, rest) = cut(rest, " ");
+        let (file, answer) = cut(rest, " ");
+        let (status, output) = cut(answer, ":");
+        Parsed {
+            varied: match varied {
+                "blocks" => Varied::Blocks,
+                "writes" => Varied::Writes,
+                _ => Varied::Reads,
+            },
+            format: format_of(rt, letters),
+            pattern,
+            file: with_newlines(alloc, file).expect(rt, "memory"),
+            status: status.parse().expect(rt, "a status"),
+            output: with_newlines(alloc, output).expect(rt, "memory"),
+        }
+    }
+
+    fn row(&self) -> Row<'_> {
+        Row {
+            varied: self.varied,
+            format: self.format,
+            pattern: self.pattern.as_bytes(),
+            file: self.file.as_bytes(),
+            status: self.status,
+            output: self.output.as_bytes(),
+        }
+    }
 }
 
 #[test]
-fn small_files(rt: HostRuntime) {
-    for row in RUNS.lines() {
-        assert_row(&rt, rt.alloc(), row);
+fn runs_end_as_rows_say(rt: HostRuntime) {
+    for text in RUNS.lines() {
+        let parsed = Parsed::of(&rt, rt.alloc(), text);
+        let cases = parsed.row().cases(rt.alloc()).expect(&rt, "memory");
+        assert_all(&rt, rt.alloc(), &cases);
     }
 }
+
+/// Patterns and outputs for a file of bytes that are no text.
+const BINARY: [(&'static [u8], &'static [u8]); 2] = [
+    (b"\0", b"a\0\xff\n\0\n\xff\0\n"),
+    (b"\xff\x80", b"\xff\x80\n"),
+];
 
 #[test]
 fn any_byte_is_searched_for(rt: HostRuntime) {
-    let file = b"a\0\xff\n\0\n\xff\x80\n\xff\0";
-    let case = Case::new(PLAIN).with(b"\0", file);
-    assert_run(&rt, rt.alloc(), case, b"a\0\xff\n\0\n\xff\0\n", 0);
-    let case = Case::new(PLAIN).with(b"\xff\x80", file);
-    assert_run(&rt, rt.alloc(), case, b"\xff\x80\n", 0);
-}
-
-/// The letters of a format, the output for `FILE`, and how much of it is written before the last request for memory:
-/// the first line, and nothing of a count, which is written at the end.
-const OUTPUTS: &str = "------ abc/b/ 4
-Hn---- f:1:abc/f:3:b/ 8
-H-c--- f:2/ 0";
-
-/// A run whose sink takes less than the output fails once the sink is full, and one whose sink takes a byte at a time
-/// goes through.
-fn assert_sinks(
-    rt: &(impl Abort + Threads + Wait + Clock + Sync),
-    alloc: Global,
-    format: Format,
-    output: &[u8],
-)
-    requires { HasRoom format }
-{
-    for block in 1..=10u32 {
-        let case = Case::new(format).cut(block, 100);
-        for limit in 0..output.len() {
-            let case = case.into_room(limit, usize::MAX);
-            let failed = Err(RunFault::Sink);
-            let right = runs(rt, alloc, case, failed, &output[..limit], "");
-            assert!(rt; right);
-        }
-        let case = case.into_room(output.len(), 1).spread(2);
-        let right = runs(rt, alloc, case, Ok(0), output, "");
-        assert!(rt; right);
-    }
-}
-
-/// Each write of a run may fail, as a row of `OUTPUTS` says.
-fn assert_writes(rt: &(impl Abort + Threads + Wait + Clock + Sync), alloc: Global, row: &str) {
-    let (letters, rest) = cut(row, " ");
-    let (output, _) = cut(rest, " ");
-    let output = with_newlines(alloc, output).expect(rt, "memory");
-    assert_sinks(rt, alloc, format_of(rt, letters), output.as_bytes())
-}
-
-#[test]
-fn each_write_may_fail(rt: HostRuntime) {
-    for row in OUTPUTS.lines() {
-        assert_writes(&rt, rt.alloc(), row);
-    }
-}
-
-/// The letters of a format, how many bytes of `FILE` are read, and what is written of them.
-const BROKEN: &str = "------ 0
------- 1
------- 2 ab/
------- 4 abc/
------- 8 abc/
------- 9 abc/b/
-H-c--- 0 f:0/
-H-c--- 2 f:1/
-H-c--- 8 f:1/
-H-c--- 9 f:2/";
-
-/// A run whose reading fails writes this, whatever the size of its blocks, and tells it.
-fn assert_fails(
-    rt: &(impl Abort + Threads + Wait + Clock + Sync),
-    alloc: Global,
-    case: Case<'_>,
-    output: &[u8],
-    row: &str,
-) {
-    for block in 1..=10u32 {
-        for workers in [0, 2] {
-            let case = case.cut(block, 2).spread(workers);
-            let right = runs(rt, alloc, case, Ok(2), output, "pargrep: f: read failed\n");
-            assert!(rt; right, "{row}, by {workers}");
-        }
-    }
-}
-
-/// A run whose reading fails is as a row says.
-fn assert_broken(rt: &(impl Abort + Threads + Wait + Clock + Sync), alloc: Global, row: &str) {
-    let (letters, rest) = cut(row, " ");
-    let (count, output) = cut(rest, " ");
-    let count: usize = count.parse().expect(rt, "a number");
-    assert!(rt; count <= 9);
-    let output = with_newlines(alloc, output).expect(rt, "memory");
-    let case = Case::new(format_of(rt, letters)).broken(&FILE[..count]);
-    assert_fails(rt, alloc, case, output.as_bytes(), row)
-}
-
-#[test]
-fn each_read_may_fail(rt: HostRuntime) {
-    for row in BROKEN.lines() {
-        assert_broken(&rt, rt.alloc(), row);
+    for (pattern, output) in BINARY {
+        let row = Row {
+            varied: Varied::Blocks,
+            format: PLAIN,
+            pattern,
+            file: b"a\0\xff\n\0\n\xff\x80\n\xff\0",
+            status: 0,
+            output,
+        };
+        assert_all(
+            &rt,
+            rt.alloc(),
+            &row.cases(rt.alloc()).expect(&rt, "memory"),
+        );
     }
 }
 
 /// What is told of the names behind the file.
 const TOLD: &[u8] = b"pargrep: g: cannot open\npargrep: d: cannot list\n";
 
-/// A run whose memory refuses a request has written and told beginnings, and one whose memory refuses none all of it.
-/// The answer is whether that is so, and how much was written.
-fn run_refused<R: Abort + Threads + Wait + Clock + Sync>(
-    rt: &R,
-    alloc: Global,
-    heap: &Refusing,
-    case: Case<'_>,
-    output: &[u8],
-) -> (bool, usize) {
-    let found = run_case(rt, alloc, heap, case.among_others());
+/// Whether a run whose memory refuses a request has written and told beginnings, and one whose memory refuses none all
+/// of it.
+fn is_refused_rightly(found: &Outcome, heap: &Refusing, output: &[u8]) -> bool {
     let written = found.out.bytes();
-    let right = if found.answer == Ok(2) {
+    if found.answer == Ok(2) {
         written == output && found.faults.bytes() == TOLD
     } else {
         heap.has_refused()
             && found.answer == Err(RunFault::OutOfMemory)
             && output.starts_with(written)
             && TOLD.starts_with(found.faults.bytes())
-    };
-    (right, written.len())
+    }
 }
 
-/// Each request for memory of a run is refused in turn. Where the last one is, at least so many bytes were written.
-/// A run by threads may make them in any order.
-fn assert_refusals(
-    rt: &(impl Abort + Threads + Wait + Clock + Sync),
+/// Each request for memory of a run is refused in turn. The answer is how many bytes were written where the last one
+/// is.
+fn assert_refusals<R: Abort + Threads + Wait + Clock + Sync>(
+    rt: &R,
     alloc: Global,
     case: Case<'_>,
     output: &[u8],
-    early: usize,
-) {
+) -> usize {
     let mut longest = 0;
     for passes in 0..1000u64 {
         let heap = Refusing::new(alloc, passes);
-        let (right, written) = run_refused(rt, alloc, &heap, case, output);
-        assert!(rt; right, "at {passes}");
+        let found = run_case(rt, alloc, &heap, case);
+        assert!(rt; is_refused_rightly(&found, &heap, output), "at {passes}");
         if !heap.has_refused() {
-            assert!(rt; early <= longest);
-            return;
+            return longest;
         }
-        longest = written;
+        longest = found.out.bytes().len();
     }
     panic!(rt; "more than 1000 requests")
 }
 
-/// Each request for memory of a run is refused in turn, as a row of `OUTPUTS` says.
-fn assert_refused(rt: &(impl Abort + Threads + Wait + Clock + Sync), alloc: Global, row: &str) {
-    let (letters, rest) = cut(row, " ");
-    let (output, early) = cut(rest, " ");
-    let early: usize = early.parse().expect(rt, "a number");
-    let output = with_newlines(alloc, output).expect(rt, "memory");
-    let case = Case::new(format_of(rt, letters)).cut(1, 3);
-    assert_refusals(rt, alloc, case, output.as_bytes(), early);
-    assert_refusals(rt, alloc, case.spread(2), output.as_bytes(), 0)
-}
+/// The letters of a format, how much of the output for `FILE` is written at least before the last request for memory is
+/// made, which is the first line, and nothing of a count, which is written at the end; and the output.
+const REFUSED: &str = "------ 4 abc\nb\n|Hn---- 8 f:1:abc\nf:3:b\n|H-c--- 0 f:2\n";
 
 #[test]
 fn each_request_may_be_refused(rt: HostRuntime) {
-    for row in OUTPUTS.lines() {
-        assert_refused(&rt, rt.alloc(), row);
+    for row in REFUSED.split('|') {
+        let (letters, rest) = cut(row, " ");
+        let (early, output) = cut(rest, " ");
+        let case = Case::new(format_of(&rt, letters)).cut(1, 3).among_others();
+        let early: usize = early.parse().expect(&rt, "a number");
+        let written = assert_refusals(&rt, rt.alloc(), case, output.as_bytes());
+        assert!(rt; early <= written, "{row}");
+        // Threads may make their requests in any order.
+        assert_refusals(&rt, rt.alloc(), case.spread(2), output.as_bytes());
     }
 }
 
-/// What a search for `b` answers over a file of so many letters `a`.
-fn answer_to_long(
-    rt: &(impl Abort + Threads + Wait + Clock + Sync),
-    alloc: Global,
-    length: usize,
-) -> Result<u8, RunFault> {
-    let file = vec![in alloc; b'a'; length].expect(rt, "memory");
-    let found = run_case(rt, alloc, alloc, Case::new(PLAIN).with(b"b", &file));
-    found.answer
-}
-
-#[test]
-fn long_lines_end_a_run(rt: HostRuntime) {
-    assert!(rt; answer_to_long(&rt, rt.alloc(), 100) == Ok(1));
-    assert!(rt; answer_to_long(&rt, rt.alloc(), 101) == Err(RunFault::TooLong));
-}
-
-/// Whether a run over a file writes the row of its first line, and breaks off at its second one, which is too long.
-fn writes_before_it_breaks<R: Abort + Threads + Wait + Clock + Sync>(
-    rt: &R,
-    alloc: Global,
-    file: &[u8],
+/// The search for `b` in a file of which a line may be too long.
+fn ends_with<'a>(
+    file: &'a [u8],
     workers: u32,
-) -> bool
+    answer: Result<u8, RunFault>,
+    output: &'a [u8],
+) -> Expected<'a>
     requires { workers ≤ 64 }
 {
-    let case = Case::new(PLAIN).with(b"b", file).spread(workers);
-    runs(rt, alloc, case, Err(RunFault::TooLong), b"b\n", "")
+    Expected {
+        case: Case::new(PLAIN).with(b"b", file).spread(workers),
+        answer,
+        output,
+        told: "",
+    }
 }
 
 #[test]
-fn rows_before_a_long_line_are_written(rt: HostRuntime) {
+fn long_lines_end_a_run_behind_its_rows(rt: HostRuntime) {
     let mut file = [b'a'; 103];
     file[0] = b'b';
     file[1] = b'\n';
-    assert!(rt; writes_before_it_breaks(&rt, rt.alloc(), &file, 0));
-    assert!(rt; writes_before_it_breaks(&rt, rt.alloc(), &file, 2));
+    let too_long = Err(RunFault::TooLong);
+    let cases = [
+        ends_with(&file[3..], 0, Ok(1), b""),
+        ends_with(&file[2..], 0, too_long, b""),
+        ends_with(&file, 0, too_long, b"b\n"),
+        ends_with(&file, 2, too_long, b"b\n"),
+    ];
+    assert_all(&rt, rt.alloc(), &cases);
 }
