@@ -150,22 +150,9 @@ fn gives_first<A: Allocator + Copy>(cutter: &mut Cutter<A>) -> bool {
 }
 
 /// Whether that file comes, and its first block is given.
-fn is_filled(heap: &Refusing) -> bool {
+pub(crate) fn is_filled(heap: &Refusing) -> bool {
     let mut cutter = Cutter::new(heap, 0, 2, 100, b'\n');
     is_taken(&mut cutter, heap) && gives_first(&mut cutter)
-}
-
-#[test]
-fn each_request_of_a_room_may_be_refused(rt: HostRuntime) {
-    for passes in 0..100u64 {
-        let heap = Refusing::new(rt.alloc(), passes);
-        assert!(rt; is_filled(&heap), "at {passes}");
-        if !heap.has_refused() {
-            assert!(rt; passes > 1);
-            return;
-        }
-    }
-    panic!(rt; "more than 100 requests")
 }
 
 /// Makes room once a block was taken, whose memory is given back before.

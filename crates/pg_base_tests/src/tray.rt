@@ -4,7 +4,6 @@ ghost use Rattle.std.specs.Prelude.{◌≡◌};
 use pg_board::{Delivered, PutPass, TakePass, Tray};
 use refusing::Refusing;
 use std::alloc::{AllocError, Allocator, Global};
-use std::process::Abort;
 use std::sync::{Arc, Wait};
 use std::thread;
 use std::thread::Threads;
@@ -166,31 +165,19 @@ fn is_all(found: &[Found]) -> bool {
     next == [100, 100]
 }
 
-/// Room for 50 values.
-fn room(rt: &impl Abort, alloc: Global) -> Vec<Found> {
-    Vec::with_capacity(alloc, 50).expect(rt, "memory")
-}
-
-#[test]
-fn two_threads_put_and_one_takes(rt: HostRuntime) {
-    let all = deliver(&rt, room(&rt, rt.alloc()), rt.alloc()).expect(&rt, "memory");
-    assert!(rt; is_all(all.as_slice()));
-}
-
-#[test]
-fn each_request_of_the_threads_may_be_refused(rt: HostRuntime) {
-    for passes in 0..100u64 {
-        let heap = Refusing::new(rt.alloc(), passes);
-        let is_right = match deliver(&rt, room(&rt, rt.alloc()), &heap) {
-            Ok(all) => is_all(all.as_slice()),
-            Err(AllocError) => heap.has_refused(),
-        };
-        assert!(rt; is_right, "at {passes}");
-        if !heap.has_refused() {
-            return;
-        }
+/// Whether the 200 values come from a tray on a heap that may refuse a request.
+pub(crate) fn is_delivered<R: Threads + Wait + Sync>(
+    rt: &R,
+    alloc: Global,
+    heap: &Refusing,
+) -> bool {
+    let Ok(room) = Vec::with_capacity(alloc, 50) else {
+        return false;
+    };
+    match deliver(rt, room, heap) {
+        Ok(all) => is_all(all.as_slice()),
+        Err(AllocError) => heap.has_refused(),
     }
-    panic!(rt; "more than 100 requests")
 }
 
 /// Puts 100 numbers, each once more where it comes back. Answers how many came back as they were.
@@ -262,21 +249,12 @@ fn is_right(seen: Seen, has_refused: bool) -> bool {
         && seen.requests == 0
 }
 
-#[test]
-fn each_request_of_a_tray_may_be_refused(rt: HostRuntime) {
-    for requests in 0..100u64 {
-        let heap = Refusing::new(rt.alloc(), requests);
-        match put_into_tray(&rt, &heap, &heap) {
-            Ok(seen) => {
-                assert!(rt; is_right(seen, heap.has_refused()), "at {requests}");
-                if seen.refused == 0 {
-                    return;
-                }
-            }
-            Err(AllocError) => assert!(rt; heap.has_refused(), "at {requests}"),
-        }
+/// Whether that is seen of a tray on a heap that may refuse a request.
+pub(crate) fn is_handed_out<R: Wait>(rt: &R, heap: &Refusing) -> bool {
+    match put_into_tray(rt, heap, heap) {
+        Ok(seen) => is_right(seen, heap.has_refused()),
+        Err(AllocError) => heap.has_refused(),
     }
-    panic!(rt; "more than 100 requests")
 }
 
 /// Whether a value is shared while it lies in a tray, which is closed at last, or just dropped.
@@ -286,23 +264,25 @@ fn is_shared_in_tray<R: Wait>(
     shared: &mut Arc<u32>,
     closes: bool,
 ) -> Result<bool, AllocError> {
+    let value = Arc::try_clone(shared)?;
     let (tray, mut passes, take) = Tray::open(alloc, 1)?;
-    let is_put = tray
-        .put(rt, &mut passes[0], Arc::try_clone(shared)?)
-        .is_ok();
-    let is_shared = is_put && Arc::get_mut(shared).is_none();
+    let put = tray.put(rt, &mut passes[0], value);
+    let is_shared = put.is_ok() && Arc::get_mut(shared).is_none();
     if closes {
         drop(tray.close(passes, take));
     }
     Ok(is_shared)
 }
 
+/// Whether a value is shared while it lies in a tray, and no longer.
+fn is_dropped<R: Wait>(rt: &R, alloc: Global, closes: bool) -> Result<bool, AllocError> {
+    let mut shared = Arc::new(alloc, 5u32)?;
+    let is_shared = is_shared_in_tray(rt, alloc, &mut shared, closes)?;
+    Ok(is_shared && Arc::get_mut(&mut shared).is_some())
+}
+
 #[test]
 fn values_that_are_left_are_dropped(rt: HostRuntime) {
-    let mut shared = Arc::new(rt.alloc(), 5u32).expect(&rt, "memory");
-    for closes in [true, false] {
-        let is_shared = is_shared_in_tray(&rt, rt.alloc(), &mut shared, closes);
-        assert!(rt; is_shared.expect(&rt, "memory"));
-        assert!(rt; Arc::get_mut(&mut shared).is_some(), "{closes}");
-    }
+    assert!(rt; is_dropped(&rt, rt.alloc(), true) == Ok(true));
+    assert!(rt; is_dropped(&rt, rt.alloc(), false) == Ok(true));
 }
