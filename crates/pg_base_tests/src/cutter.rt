@@ -132,48 +132,35 @@ fn a_file_is_cut_at_its_terminator(rt: HostRuntime) {
     assert_rows(&rt, rt.alloc(), Question::Blocks(Way::Filled), CUT);
 }
 
-/// Whether a cutter takes a file of two blocks by way of the room, at a second call where a request for memory is
-/// refused.
-fn is_taken<A: Allocator + Copy>(cutter: &mut Cutter<A>, heap: &Refusing) -> bool {
-    match fill(cutter, b"a\nb") {
-        Ok(()) => !heap.has_refused(),
-        Err(_) => heap.has_refused() && fill(cutter, b"a\nb").is_ok(),
+/// Whether a cutter takes a file by way of the room, at a second call where a request for memory is refused.
+fn is_taken<A: Allocator + Copy>(cutter: &mut Cutter<A>, heap: &Refusing, file: &[u8]) -> bool {
+    let was_refused = heap.has_refused();
+    match fill(cutter, file) {
+        Ok(()) => heap.has_refused() == was_refused,
+        Err(_) => !was_refused && heap.has_refused() && fill(cutter, file).is_ok(),
     }
 }
 
-/// Whether a cutter gives the first block of that file.
-fn gives_first<A: Allocator + Copy>(cutter: &mut Cutter<A>) -> bool {
-    match cutter.take() {
-        Some(block) => block.bytes.as_slice() == b"a\n".as_slice(),
-        None => false,
-    }
+/// Whether a cutter gives `a` and its terminator as the first block, and makes room once the block's memory was given
+/// back, by at most so many requests.
+fn gives_first<A: Allocator + Copy>(cutter: &mut Cutter<A>, heap: &Refusing, most: u64) -> bool {
+    let requests = heap.requests();
+    let Some(block) = cutter.take() else {
+        return false;
+    };
+    let is_first = block.bytes.as_slice() == b"a\n".as_slice();
+    cutter.give_back(block.bytes);
+    let has_room = cutter.make_room().is_ok() || heap.has_refused();
+    is_first && has_room && heap.requests().wrapping_sub(requests) <= most
 }
 
-/// Whether that file comes, and its first block is given.
+/// Whether a file comes and its first block is given.
+fn is_cut(heap: &Refusing, file: &[u8], most: u64) -> bool {
+    let mut cutter = Cutter::new(heap, 0, 2, 100, b'\n');
+    is_taken(&mut cutter, heap, file) && gives_first(&mut cutter, heap, most)
+}
+
+/// Whether a file of two blocks comes, and one of a block, whose memory is used again.
 pub(crate) fn is_filled(heap: &Refusing) -> bool {
-    let mut cutter = Cutter::new(heap, 0, 2, 100, b'\n');
-    is_taken(&mut cutter, heap) && gives_first(&mut cutter)
-}
-
-/// Makes room once a block was taken, whose memory is given back before.
-fn make_room_again<A: Allocator + Copy>(cutter: &mut Cutter<A>) -> Result<(), CutFault> {
-    if let Some(block) = cutter.take() {
-        cutter.give_back(block.bytes);
-    }
-    cutter.make_room()?;
-    Ok(())
-}
-
-/// How many requests that makes.
-fn requests_of_room(heap: &Refusing) -> Result<u64, CutFault> {
-    let mut cutter = Cutter::new(heap, 0, 2, 100, b'\n');
-    fill(&mut cutter, b"a\n")?;
-    let before = heap.requests();
-    make_room_again(&mut cutter)?;
-    Ok(heap.requests().wrapping_sub(before))
-}
-
-#[test]
-fn memory_that_was_given_back_is_used_again(rt: HostRuntime) {
-    assert!(rt; requests_of_room(&Refusing::new(rt.alloc(), 100)) == Ok(0));
+    is_cut(heap, b"a\nb", u64::MAX) && is_cut(heap, b"a\n", 0)
 }

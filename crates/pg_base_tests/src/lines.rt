@@ -108,14 +108,14 @@ fn search_for<A: Allocator + Copy>(
 
 /// Searches, each by the letters of its options, a pattern and a block; and how much is found: how many lines there
 /// are, runs of selected lines, and matched parts. Lines that aren't matched have no parts.
-const SEARCHES: [(&'static str, &'static str, &'static str, [usize; 3]); 7] = [
-    ("F", "b", "b\nx\nb\nx\nb\nx\nb\nx\nb", [9, 5, 0]),
-    ("Ev", "x", "b\nx\nb\nx\nb\nx\nb\nx\nb", [9, 5, 0]),
-    ("Fo", "b", "bbbbb\nx\nb", [3, 2, 6]),
-    ("Eo", "b|c", "bcbcb\nx\nb", [3, 2, 6]),
-    ("Fov", "b", "ab\nxyz\n", [2, 1, 0]),
-    ("Fov", "", "a\n", [1, 0, 0]),
-    ("Eov", "b*", "abb\n", [1, 0, 0]),
+const SEARCHES: [(&'static str, &'static [u8], &'static [u8], [usize; 3]); 7] = [
+    ("F", b"b", b"b\nx\nb\nx\nb\nx\nb\nx\nb", [9, 5, 0]),
+    ("Ev", b"x", b"b\nx\nb\nx\nb\nx\nb\nx\nb", [9, 5, 0]),
+    ("Fo", b"b", b"bbbbb\nx\nb", [3, 2, 6]),
+    ("Eo", b"b|c", b"bcbcb\nx\nb", [3, 2, 6]),
+    ("Fov", b"b", b"ab\nxyz\n", [2, 1, 0]),
+    ("Fov", b"", b"a\n", [1, 0, 0]),
+    ("Eov", b"b*", b"abb\n", [1, 0, 0]),
 ];
 
 /// Whether a block is of file 7 and has a number and bytes.
@@ -129,32 +129,48 @@ fn is_of<A: Allocator + Copy>(found: &BlockResult<A>, query: &Query<A>, bytes: &
     is_block(found.block(), 5, bytes) && *searched == *query
 }
 
-/// How much a search finds in a block of at most 100 bytes, or `None` where the result is of another one.
-fn found<A: Allocator + Copy>(
+/// How many lines there are, runs of selected lines, and matched parts.
+fn counts<A: Allocator>(found: &BlockResult<A>) -> [usize; 3] {
+    [found.lines(), found.runs().len(), found.parts().len()]
+}
+
+/// Whether a search of a block of at most 100 bytes finds so much.
+fn is_found<A: Allocator + Copy>(
     alloc: A,
     letters: &str,
     pattern: &[u8],
     bytes: &[u8],
-) -> Result<Option<[usize; 3]>, QueryFault>
+    want: [usize; 3],
+) -> Result<bool, QueryFault>
     requires { length bytes.now ≤ 100 }
 {
     let query = compile(alloc, letters, pattern)?;
     let found = search_for(alloc, &query, bytes)?;
-    let counts = [found.lines(), found.runs().len(), found.parts().len()];
-    Ok(is_of(&found, &query, bytes).then_some(counts))
+    Ok(counts(&found) == want && is_of(&found, &query, bytes))
+}
+
+/// Whether a search finds so much, or wants memory where a request is refused.
+fn is_right(
+    heap: &Refusing,
+    letters: &str,
+    pattern: &[u8],
+    bytes: &[u8],
+    want: [usize; 3],
+) -> bool {
+    if bytes.len() > 100 {
+        return false;
+    }
+    match is_found(heap, letters, pattern, bytes, want) {
+        Ok(is_found) => is_found,
+        Err(fault) => heap.has_refused() && fault == QueryFault::OutOfMemory,
+    }
 }
 
 /// Whether each search finds what it should, or wants memory where a request is refused.
 pub(crate) fn are_found(heap: &Refusing) -> bool {
     for (letters, pattern, text, want) in SEARCHES {
-        let bytes = text.as_bytes();
-        if bytes.len() > 100 {
+        if !is_right(heap, letters, pattern, text, want) {
             return false;
-        }
-        match found(heap, letters, pattern.as_bytes(), bytes) {
-            Ok(got) if got == Some(want) => {}
-            Ok(_) => return false,
-            Err(fault) => return heap.has_refused() && fault == QueryFault::OutOfMemory,
         }
     }
     true
@@ -205,9 +221,8 @@ fn queries_are_compared_by_content(rt: HostRuntime) {
 
 #[test]
 fn faults_are_shown(rt: HostRuntime) {
-    let long = CutFault::LineTooLong;
     let file = CutFault::FileTooLong;
     let memory = QueryFault::OutOfMemory;
-    let texts = format!(in rt.alloc(); "{long}, {file}, {memory}").expect(&rt, "memory");
-    assert!(rt; texts.as_str() == "line too long, file too long, out of memory");
+    let texts = format!(in rt.alloc(); "{file}, {memory}").expect(&rt, "memory");
+    assert!(rt; texts.as_str() == "file too long, out of memory");
 }

@@ -68,40 +68,32 @@ fn line_of(rt: &impl Abort, alloc: Global, parts: &str) -> Vec<u8>
 
 /// Shows whether a line is selected, and its first matched part, where the searches visit no more states than they
 /// may. The scratch is the machine's, and the line has at most 2^30 bytes.
-fn show_visits(
+fn shown_visits(
+    alloc: Global,
     search: &mut Search,
     line: &[u8],
     most: u128,
-    out: &mut String,
-) -> Result<(), AllocError>
+) -> Result<String, AllocError>
     requires fits { Fits search.old.scratch search.old.machine }
     requires short { length line.now ≤ 2 ^ 30 }
-    ensures { Fits search.new.scratch search.new.machine }
 {
     let is_selected = search.machine.selects(&mut search.scratch, line);
     let visits = search.scratch.visits();
     let part = search.machine.next_piece(&mut search.scratch, line, 0);
     if visits.max(search.scratch.visits()) > most {
-        out.push_str("too many visits: ")?;
+        return String::from_str(alloc, "too many visits");
     }
-    write!(out, "({is_selected}, {part:?})")
+    format!(in alloc; "({is_selected}, {part:?})")
 }
 
 /// Shows what a search of a line visits, as a row asks.
 pub(crate) fn searched(rt: &impl Abort, alloc: Global, word: &str, asked: &str) -> String {
     let (text, rest) = cut(asked, " on ");
     let (line, most) = cut(rest, " within ");
-    let mut search = machine_of(rt, alloc, word, &repeated(rt, alloc, text));
+    let most: u128 = most.parse().expect(rt, "a number");
     let line = line_of(rt, alloc, line);
-    let mut out = String::new(alloc);
-    show_visits(
-        &mut search,
-        &line,
-        most.parse().expect(rt, "a number"),
-        &mut out,
-    )
-    .expect(rt, "memory");
-    out
+    let mut search = machine_of(rt, alloc, word, &repeated(rt, alloc, text));
+    shown_visits(alloc, &mut search, &line, most).expect(rt, "memory")
 }
 
 /// Bounds, an extended expression in parts, and a line in parts; whether it is selected, its first matched part, and
@@ -154,13 +146,20 @@ fn fits(rt: &impl Abort, alloc: Global, scratch: &Scratch, text: &[u8], bounds: 
     scratch.fits(&other.machine)
 }
 
+/// Machines by bounds and an extended expression, and whether a scratch for `a|b` anywhere fits them.
+const FITTING: [(Bounds, &'static [u8], bool); 3] = [
+    (Bounds::Any, b"a|b", true),
+    (Bounds::Whole, b"a|b", false),
+    (Bounds::Any, b"a|c", false),
+];
+
 #[test]
 fn scratches_fit_their_machine(rt: HostRuntime) {
     let one = machine(&rt, rt.alloc(), b"a|b", Bounds::Any);
     assert!(rt; one.scratch.fits(&one.machine));
-    assert!(rt; fits(&rt, rt.alloc(), &one.scratch, b"a|b", Bounds::Any));
-    assert!(rt; !fits(&rt, rt.alloc(), &one.scratch, b"a|b", Bounds::Whole));
-    assert!(rt; !fits(&rt, rt.alloc(), &one.scratch, b"a|c", Bounds::Any));
+    for (bounds, text, want) in FITTING {
+        assert!(rt; fits(&rt, rt.alloc(), &one.scratch, text, bounds) == want);
+    }
     next_piece_is_one();
 }
 

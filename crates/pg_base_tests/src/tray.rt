@@ -8,45 +8,32 @@ use std::sync::{Arc, Wait};
 use std::thread;
 use std::thread::Threads;
 
-#[test]
-fn what_is_put_is_taken(rt: HostRuntime) {
-    let (tray, mut passes, mut take) = Tray::open(rt.alloc(), 1).expect(&rt, "memory");
-    let put = tray.put(&rt, &mut passes[0], 7u32);
-    let taken = [tray.take(&rt, &mut take), tray.take(&rt, &mut take)];
-    let left = tray.close(passes, take).next(&rt);
-    assert!(rt; put.is_ok() && taken == [Some(7), None] && left.is_none());
-}
-
-/// What is put under the passes of a tray, in order, where one value is taken in between.
-fn put_and_left<R: Wait>(
+/// Whether values are put into a tray; what is taken: one at once, then nothing, then one of four others; and what is
+/// left: these, and then nothing.
+fn taken_and_left<R: Wait>(
     rt: &R,
     alloc: Global,
-) -> Result<([Result<(), u32>; 4], [Option<u32>; 5]), AllocError> {
+) -> Result<(bool, [Option<u32>; 3], [Option<u32>; 4]), AllocError> {
     let (tray, mut passes, mut take) = Tray::open(alloc, 3)?;
-    let put = [
-        tray.put(rt, &mut passes[0], 10u32),
-        tray.put(rt, &mut passes[2], 30),
-        tray.put(rt, &mut passes[0], 11),
-        tray.put(rt, &mut passes[1], 20),
-    ];
+    let is_put = tray.put(rt, &mut passes[0], 7u32).is_ok();
+    let first = tray.take(rt, &mut take);
+    let none = tray.take(rt, &mut take);
+    let are_put = tray.put(rt, &mut passes[0], 10).is_ok()
+        & tray.put(rt, &mut passes[2], 30).is_ok()
+        & tray.put(rt, &mut passes[0], 11).is_ok()
+        & tray.put(rt, &mut passes[1], 20).is_ok();
     let taken = tray.take(rt, &mut take);
     passes.reverse();
     let mut left = tray.close(passes, take);
-    let seen = [
-        taken,
-        left.next(rt),
-        left.next(rt),
-        left.next(rt),
-        left.next(rt),
-    ];
-    Ok((put, seen))
+    let last = [left.next(rt), left.next(rt), left.next(rt), left.next(rt)];
+    Ok((is_put & are_put, [first, none, taken], last))
 }
 
 #[test]
-fn what_is_left_is_handed_out(rt: HostRuntime) {
-    let (put, seen) = put_and_left(&rt, rt.alloc()).expect(&rt, "memory");
-    assert!(rt; put == [Ok(()), Ok(()), Ok(()), Ok(())]);
-    assert!(rt; seen == [Some(10), Some(30), Some(11), Some(20), None]);
+fn what_is_put_is_taken_or_left(rt: HostRuntime) {
+    let (are_put, taken, left) = taken_and_left(&rt, rt.alloc()).expect(&rt, "memory");
+    assert!(rt; are_put && taken == [Some(7), None, Some(10)]);
+    assert!(rt; left == [Some(30), Some(11), Some(20), None]);
 }
 
 /// What a worker found, as its first, second and so on.
@@ -257,7 +244,8 @@ pub(crate) fn is_handed_out<R: Wait>(rt: &R, heap: &Refusing) -> bool {
     }
 }
 
-/// Whether a value is shared while it lies in a tray, which is closed at last, or just dropped.
+/// Whether a value is shared while it lies in a tray, which is closed at last, or just dropped. One that isn't put is
+/// dropped, and not shared.
 fn is_shared_in_tray<R: Wait>(
     rt: &R,
     alloc: Global,
@@ -266,8 +254,8 @@ fn is_shared_in_tray<R: Wait>(
 ) -> Result<bool, AllocError> {
     let value = Arc::try_clone(shared)?;
     let (tray, mut passes, take) = Tray::open(alloc, 1)?;
-    let put = tray.put(rt, &mut passes[0], value);
-    let is_shared = put.is_ok() && Arc::get_mut(shared).is_none();
+    drop(tray.put(rt, &mut passes[0], value));
+    let is_shared = Arc::get_mut(shared).is_none();
     if closes {
         drop(tray.close(passes, take));
     }
@@ -283,6 +271,6 @@ fn is_dropped<R: Wait>(rt: &R, alloc: Global, closes: bool) -> Result<bool, Allo
 
 #[test]
 fn values_that_are_left_are_dropped(rt: HostRuntime) {
-    assert!(rt; is_dropped(&rt, rt.alloc(), true) == Ok(true));
-    assert!(rt; is_dropped(&rt, rt.alloc(), false) == Ok(true));
+    assert!(rt; is_dropped(&rt, rt.alloc(), true).unwrap_or(false));
+    assert!(rt; is_dropped(&rt, rt.alloc(), false).unwrap_or(false));
 }
