@@ -20,38 +20,10 @@ fn has_only(set: &ByteSet, bytes: &[u8]) -> bool {
 #[test]
 fn sets_have_their_bytes(rt: HostRuntime) {
     let set = some_set();
+    let closed = set.close_case();
     assert!(rt; has_only(&set, &[0, 63, 64, 97, 250, 251, 252, 253, 254, 255]));
-    assert!(rt;
-        has_only(
-            &set.close_case(),
-            &[0, 63, 64, 65, 97, 250, 251, 252, 253, 254, 255]
-        )
-    );
-    assert!(rt; has_only(&ByteSet::empty(), &[]));
-}
-
-#[test]
-fn sets_are_compared_by_their_bytes(rt: HostRuntime) {
-    let set = some_set();
-    let other = set.complement();
-    assert!(rt; set.union(other) == ByteSet::empty().complement());
-    assert!(rt; other.complement() == set);
-    assert!(rt; set.close_case() != set);
-}
-
-/// Whether a byte's set, closed, has the letters that are the byte in either case, and no others.
-fn closes_by_case(byte: u8) -> bool {
-    let mut set = ByteSet::empty();
-    set.insert(byte);
-    has_only(
-        &set.close_case(),
-        &[byte.to_ascii_lowercase(), byte.to_ascii_uppercase()],
-    )
-}
-
-#[test]
-fn each_letter_has_another_case(rt: HostRuntime) {
-    for byte in 0..=255u8 {
-        assert!(rt; closes_by_case(byte));
-    }
+    assert!(rt; has_only(&closed, &[0, 63, 64, 65, 97, 250, 251, 252, 253, 254, 255]));
+    assert!(rt; set != closed);
+    assert!(rt; set.union(set.complement()) == ByteSet::empty().complement());
+    assert!(rt; set.complement().complement() == set);
 }

@@ -45,9 +45,8 @@ const CUT: &str = "%0A a%0Abc%0A%0Ad => 7.0:a%0Abc%0A 7.1:%0Ad
 fn show_block(rt: &impl Abort, block: &Block, out: &mut String) {
     let file = block.file;
     let number = block.number;
-    write!(out, "{file}.{number}:").expect(rt, "memory");
+    write!(out, " {file}.{number}:").expect(rt, "memory");
     show_bytes(block.bytes.as_slice(), out).expect(rt, "memory");
-    out.push(' ').expect(rt, "memory");
 }
 
 /// Takes a piece of at most 4,096 bytes by way of the cutter's room.
@@ -68,7 +67,7 @@ fn show_taken(rt: &impl Abort, cutter: &mut Cutter, way: Way, piece: &[u8], out:
         Way::Filled => fill(cutter, piece),
     };
     if let Err(fault) = taken {
-        write!(out, "({fault}) ").expect(rt, "memory");
+        write!(out, " ({fault})").expect(rt, "memory");
     }
     while let Some(block) = cutter.take() {
         show_block(rt, &block, out);
@@ -93,27 +92,7 @@ fn show_pieces(
     }
 }
 
-/// Shows the last block of a cutter from which no other waits to be taken.
-fn show_last(rt: &impl Abort, cutter: Cutter, out: &mut String)
-    requires { IsDrained cutter }
-{
-    if let Some(block) = cutter.finish() {
-        show_block(rt, &block, out);
-    }
-}
-
 /// Shows what a cutter gives of a file in pieces, where spaces part them.
-fn show_cut(rt: &impl Abort, alloc: Global, end: u8, way: Way, pieces: &str, out: &mut String) {
-    let mut cutter = Cutter::new(alloc, 7, 3, 4, end);
-    show_pieces(rt, alloc, &mut cutter, way, pieces, out);
-    show_last(rt, cutter, out);
-}
-
-/// The one byte of a field.
-fn byte_of(rt: &impl Abort, alloc: Global, field: &str) -> u8 {
-    *bytes_of(rt, alloc, field).first().expect(rt, "a byte")
-}
-
 pub(crate) fn blocks_of(
     rt: &impl Abort,
     alloc: Global,
@@ -121,9 +100,14 @@ pub(crate) fn blocks_of(
     end: &str,
     pieces: &str,
 ) -> String {
+    let end = *bytes_of(rt, alloc, end).first().expect(rt, "a byte");
     let mut out = String::new(alloc);
-    show_cut(rt, alloc, byte_of(rt, alloc, end), way, pieces, &mut out);
-    String::from_str(alloc, out.as_str().trim_end()).expect(rt, "memory")
+    let mut cutter = Cutter::new(alloc, 7, 3, 4, end);
+    show_pieces(rt, alloc, &mut cutter, way, pieces, &mut out);
+    if let Some(block) = cutter.finish() {
+        show_block(rt, &block, &mut out);
+    }
+    out
 }
 
 #[test]

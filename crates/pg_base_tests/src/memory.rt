@@ -75,32 +75,26 @@ fn texts(alloc: Global, line: &str) -> Result<Vec<String>, AllocError> {
     Ok(texts)
 }
 
-/// Shows the path of a file, or the path of a fault and its cause.
+/// Shows a blank and the path of a file, or the path of a fault and its cause.
 fn show_item<A: Allocator>(item: &Item<A>, out: &mut String) -> Result<(), AllocError> {
     match item {
-        Item::File(path) => out.push_str(path.as_str()),
+        Item::File(path) => {
+            let path = path.as_str();
+            write!(out, " {path}")
+        }
         Item::Fault(path, cause) => {
             let path = path.as_str();
-            write!(out, "{path}:{cause:?}")
+            write!(out, " {path}:{cause:?}")
         }
     }
 }
 
 /// Shows the items behind one another.
-fn show_items<A: Allocator>(items: &[Item<A>], out: &mut String) -> Result<(), AllocError> {
-    for item in items {
-        if !out.is_empty() {
-            out.push(' ')?;
-        }
-        show_item(item, out)?;
-    }
-    Ok(())
-}
-
-/// The items behind one another: the path of a file, or the path of a fault and its cause.
 fn shown<A: Allocator>(alloc: Global, items: &[Item<A>]) -> Result<String, AllocError> {
     let mut out = String::new(alloc);
-    show_items(items, &mut out)?;
+    for item in items {
+        show_item(item, &mut out)?;
+    }
     Ok(out)
 }
 
@@ -351,7 +345,7 @@ const ALLOWED: &str =
 /// Whether these are the items.
 fn are_allowed<A: Allocator>(alloc: Global, items: &[Item<A>]) -> bool {
     match shown(alloc, items) {
-        Ok(shown) => shown.as_str() == ALLOWED,
+        Ok(shown) => shown.trim_start() == ALLOWED,
         Err(AllocError) => false,
     }
 }
@@ -378,20 +372,13 @@ fn add_directory<A: Allocator + Copy>(alloc: A, tree: &mut MemTree<A>) -> Result
     tree.add("d/a", Node::new(FileKind::Regular))
 }
 
-/// Whether a walk finds that directory where it was added, and else nothing stands at `d/a`.
-fn is_as_added<A: Allocator + Copy>(alloc: Global, tree: &MemTree<A>, is_added: bool) -> bool {
-    if !is_added {
-        return tree.kind("d/a", false) == Err(LookFault::Failed);
-    }
-    match walked(alloc, tree, "d", true) {
-        Ok(got) => got.as_str() == "d/a",
-        Err(AllocError) => false,
-    }
-}
-
-/// Whether that directory is added to a new tree where no request is refused, and the tree is right then.
-pub(crate) fn is_added(alloc: Global, heap: &Refusing) -> bool {
+/// Whether that directory is added to a new tree where no request is refused, and else nothing stands at `d/a`.
+pub(crate) fn is_added(heap: &Refusing) -> bool {
     let mut tree = MemTree::new(heap);
     let is_added = add_directory(heap, &mut tree).is_ok();
-    is_added != heap.has_refused() && is_as_added(alloc, &tree, is_added)
+    let is_right = match tree.kind("d/a", false) {
+        Ok(kind) => is_added && kind == FileKind::Regular,
+        Err(fault) => !is_added && fault == LookFault::Failed,
+    };
+    is_right && is_added != heap.has_refused()
 }

@@ -28,7 +28,7 @@ fn holds<R: Threads + Wait + Sync>(rt: &R, alloc: Global, heap: &Refusing, trial
         "room" => cutter::is_filled(heap),
         "listing" => disk::is_listed(heap),
         "walk" => memory::is_walked(alloc, heap),
-        "tree in memory" => memory::is_added(alloc, heap),
+        "tree in memory" => memory::is_added(heap),
         "machine" => machine::is_selected(heap),
         _ => lines::are_found(heap),
     }

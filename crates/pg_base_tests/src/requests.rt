@@ -23,11 +23,6 @@ fn is_refused_once(alloc: Global) -> bool {
     is_full && heap.has_refused() && bytes.push(b'b').is_ok() && heap.requests() == 3
 }
 
-#[test]
-fn a_push_is_refused_once(rt: HostRuntime) {
-    assert!(rt; is_refused_once(rt.alloc()));
-}
-
 /// Whether pushes are refused for good behind the first request.
 fn is_refused_for_good(alloc: Global) -> bool {
     let heap = Refusing::lasting(alloc, 1);
@@ -37,7 +32,8 @@ fn is_refused_for_good(alloc: Global) -> bool {
 }
 
 #[test]
-fn pushes_are_refused_for_good(rt: HostRuntime) {
+fn pushes_are_refused_once_or_for_good(rt: HostRuntime) {
+    assert!(rt; is_refused_once(rt.alloc()));
     assert!(rt; is_refused_for_good(rt.alloc()));
 }
 
@@ -54,19 +50,16 @@ fn make_four<R: Threads, A: Allocator + Copy + Send + Sync>(rt: &R, alloc: A) ->
     one.is_ok() && other.is_ok()
 }
 
-/// Whether they make them all only where no request is refused. There are four.
-fn are_counted<R: Threads>(rt: &R, alloc: Global, passes: u64) -> bool {
-    let heap = Refusing::new(alloc, passes);
-    let is_made = make_four(rt, &heap);
-    let is_refused = heap.has_refused();
-    is_made != is_refused && is_made == (passes == 4) && (is_refused || heap.requests() == 4)
+/// How many requests two threads made of which one or more were refused.
+fn requests_refused<R: Threads>(rt: &R, heap: &Refusing) -> Option<u64> {
+    let is_refused = !make_four(rt, heap) && heap.has_refused();
+    is_refused.then_some(heap.requests())
 }
 
 #[test]
 fn requests_of_two_threads_are_counted(rt: HostRuntime) {
-    for passes in 0..=4u64 {
-        assert!(rt; are_counted(&rt, rt.alloc(), passes));
-    }
-    let heap = Refusing::lasting(rt.alloc(), 0);
-    assert!(rt; !make_four(&rt, &heap) && heap.has_refused() && heap.requests() == 2);
+    let last = Refusing::new(rt.alloc(), 3);
+    assert!(rt; requests_refused(&rt, &last) == Some(4));
+    let all = Refusing::lasting(rt.alloc(), 0);
+    assert!(rt; requests_refused(&rt, &all) == Some(2));
 }

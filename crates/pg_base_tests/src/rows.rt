@@ -60,45 +60,32 @@ pub(crate) enum Question {
     DeepTree,
 }
 
-fn truth(holds: bool) -> &'static str {
-    if holds { "true" } else { "false" }
-}
-
+/// The answer to what is asked of a kind.
 fn answer(rt: &impl Abort, alloc: Global, question: Question, kind: &str, asked: &str) -> String {
     let text = match question {
         Question::Blocks(way) => return cutter::blocks_of(rt, alloc, way, kind, asked),
         Question::Literal => return literal::literal_of(rt, alloc, kind, asked),
         Question::Visits => return machine::searched(rt, alloc, kind, asked),
         Question::SameQueries => lines::compared(rt, alloc, kind, asked),
-        Question::DeepTree => truth(syntax::deep_tree(rt, alloc, kind, asked)),
+        Question::DeepTree => syntax::deep_tree(rt, alloc, kind, asked),
     };
     String::from_str(alloc, text).expect(rt, "memory")
 }
 
-/// Compares an answer with what is wanted in a row.
+/// Compares an answer with what is wanted in a row. Blanks in front of it don't count.
 pub(crate) fn assert_text(rt: &impl Abort, got: &str, want: &str, row: &str) {
-    assert!(rt; got == want, "{got} of {row}");
+    assert!(rt; got.trim_start() == want, "{got} of {row}");
 }
 
-/// Compares the answer to what is asked of a kind with what is wanted.
-fn assert_answer(rt: &impl Abort, alloc: Global, question: Question, kind: &str, row: &str) {
+/// Compares what a row wants with the answer to it. What it asks of begins with a word for the kind.
+fn assert_row(rt: &impl Abort, alloc: Global, question: Question, row: &str) {
     let (asked, want) = halves(row);
-    let (_, asked) = cut(asked, " ");
+    let (kind, asked) = cut(asked, " ");
     let got = answer(rt, alloc, question, kind, asked);
     assert_text(rt, got.as_str(), want, row);
 }
 
-/// Compares what a row wants with the answer to it. What it asks of begins with a word in which commas part kinds: the
-/// rest is asked of each of them.
-fn assert_row(rt: &impl Abort, alloc: Global, question: Question, row: &str) {
-    let (asked, _) = halves(row);
-    let (kinds, _) = cut(asked, " ");
-    for kind in kinds.split(',') {
-        assert_answer(rt, alloc, question, kind, row);
-    }
-}
-
-/// Compares what each row wants with the answer to it, as `assert_row` does.
+/// Compares what each row wants with the answer to it.
 pub(crate) fn assert_rows(rt: &impl Abort, alloc: Global, question: Question, rows: &str) {
     for row in rows.lines() {
         assert_row(rt, alloc, question, row);

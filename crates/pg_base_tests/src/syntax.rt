@@ -1,31 +1,31 @@
 //! Trees of expressions.
 use crate::rows::{Question, assert_rows, repeated};
-use pg_syntax::{SyntaxFault, Tree, fixed, parse_bre, parse_ere};
+use pg_syntax::{fixed, parse_bre, parse_ere};
 use std::alloc::Global;
 use std::process::Abort;
 
-/// Parsers, a text of which they make a tree as deep as a text can make it, and whether the tree is proper.
-const DEEP: &str = r"basic,fixed a:4096 => true
-basic,fixed *:4096 => true
-basic,fixed %0A:4096 => true
-basic,fixed .:4096 => true
-extended a:1 |a:2047 => true";
+/// Parsers, a text of which they make a tree as deep as a text can make it, and what tree that is.
+const DEEP: &str = r"basic a:4096 => proper
+fixed a:4096 => proper
+basic *:4096 => proper
+fixed *:4096 => proper
+basic %0A:4096 => proper
+fixed %0A:4096 => proper
+basic .:4096 => proper
+fixed .:4096 => proper
+extended a:1 |a:2047 => proper";
 
-/// What a parser answers: `basic`, `extended`, or `fixed`, which folds case.
-fn parsed(alloc: Global, parser: &str, text: &[u8]) -> Result<Tree, SyntaxFault> {
-    match parser {
-        "basic" => parse_bre(alloc, text, false),
-        "extended" => parse_ere(alloc, text, false),
-        _ => fixed(alloc, text, true),
-    }
-}
-
-/// Whether a tree as deep as a text can make it is proper.
-pub(crate) fn deep_tree(rt: &impl Abort, alloc: Global, parser: &str, parts: &str) -> bool {
+/// What tree a parser makes: `basic`, `extended`, or `fixed`, which folds case.
+pub(crate) fn deep_tree(rt: &impl Abort, alloc: Global, parser: &str, parts: &str) -> &'static str {
     let text = repeated(rt, alloc, parts);
-    match parsed(alloc, parser, &text) {
-        Ok(tree) => tree.is_proper(),
-        Err(_) => false,
+    let parsed = match parser {
+        "basic" => parse_bre(alloc, &text, false),
+        "extended" => parse_ere(alloc, &text, false),
+        _ => fixed(alloc, &text, true),
+    };
+    match parsed {
+        Ok(tree) if tree.is_proper() => "proper",
+        _ => "not proper",
     }
 }
 

@@ -197,49 +197,26 @@ fn is_rest<R: Wait, A: Allocator>(rt: &R, left: Delivered<u32, A>) -> bool {
     left.next(rt) == None
 }
 
-/// What is seen of a tray where a request for memory is refused.
-#[derive(Clone, Copy)]
-struct Seen {
-    /// How many values came back.
-    refused: u32,
-    taken: Option<u32>,
-    /// Whether the other values are left, in their order.
-    is_rest: bool,
-    /// How many requests the taking, the closing and the handing out made.
-    requests: u64,
-}
-
-/// Puts 100 numbers into a tray, takes one, and closes it. `alloc` is the heap that counts the requests.
+/// Puts 100 numbers into a tray, takes one, and closes it. Answers whether a number came back where a request was
+/// refused, the first one was taken, the others were left, and only putting made requests. `alloc` is the heap.
 fn put_into_tray<R: Wait, A: Allocator + Copy>(
     rt: &R,
     alloc: A,
     heap: &Refusing,
-) -> Result<Seen, AllocError> {
+) -> Result<bool, AllocError> {
     let (tray, mut passes, mut take) = Tray::open(alloc, 2)?;
     let refused = put_numbers(rt, &tray, &mut passes[1]);
     let made = heap.requests();
     let taken = tray.take(rt, &mut take);
     let is_rest = is_rest(rt, tray.close(passes, take));
-    Ok(Seen {
-        refused,
-        taken,
-        is_rest,
-        requests: heap.requests().wrapping_sub(made),
-    })
+    let is_counted = refused == u32::from(heap.has_refused()) && heap.requests() == made;
+    Ok(is_rest && is_counted && taken == Some(0))
 }
 
-/// Whether a value came back where a request was refused, the first one was taken, and the others are left.
-fn is_right(seen: Seen, has_refused: bool) -> bool {
-    seen.refused == u32::from(has_refused)
-        && seen.taken == Some(0)
-        && seen.is_rest
-        && seen.requests == 0
-}
-
-/// Whether that is seen of a tray on a heap that may refuse a request.
+/// Whether that is so on a heap that may refuse a request.
 pub(crate) fn is_handed_out<R: Wait>(rt: &R, heap: &Refusing) -> bool {
     match put_into_tray(rt, heap, heap) {
-        Ok(seen) => is_right(seen, heap.has_refused()),
+        Ok(is_right) => is_right,
         Err(AllocError) => heap.has_refused(),
     }
 }
