@@ -118,20 +118,22 @@ const SEARCHES: [(&'static str, &'static [u8], &'static [u8], [usize; 3]); 7] = 
     ("Eov", b"b*", b"abb\n", [1, 0, 0]),
 ];
 
-/// Whether a block is of file 7 and has a number and bytes.
-fn is_block<A: Allocator>(block: &Block<A>, number: u64, bytes: &[u8]) -> bool {
-    block.file == 7 && block.number == number && block.bytes.as_slice() == bytes
+/// Whether a block has these bytes, and is block 5 of file 7.
+fn is_block<A: Allocator>(block: &Block<A>, bytes: &[u8]) -> bool {
+    block.file == 7 && block.number == 5 && block.bytes.as_slice() == bytes
 }
 
-/// Whether a result is of a query and a block with these bytes.
-fn is_of<A: Allocator + Copy>(found: &BlockResult<A>, query: &Query<A>, bytes: &[u8]) -> bool {
+/// Whether a result is of a query and a block with these bytes, and finds so much.
+fn is_of<A: Allocator + Copy>(
+    found: &BlockResult<A>,
+    query: &Query<A>,
+    bytes: &[u8],
+    want: [usize; 3],
+) -> bool {
     let searched: &Query<A> = found.query();
-    is_block(found.block(), 5, bytes) && *searched == *query
-}
-
-/// How many lines there are, runs of selected lines, and matched parts.
-fn counts<A: Allocator>(found: &BlockResult<A>) -> [usize; 3] {
-    [found.lines(), found.runs().len(), found.parts().len()]
+    is_block(found.block(), bytes)
+        && *searched == *query
+        && [found.lines(), found.runs().len(), found.parts().len()] == want
 }
 
 /// Whether a search of a block of at most 100 bytes finds so much.
@@ -146,7 +148,7 @@ fn is_found<A: Allocator + Copy>(
 {
     let query = compile(alloc, letters, pattern)?;
     let found = search_for(alloc, &query, bytes)?;
-    Ok(counts(&found) == want && is_of(&found, &query, bytes))
+    Ok(is_of(&found, &query, bytes, want))
 }
 
 /// Whether a search finds so much, or wants memory where a request is refused.

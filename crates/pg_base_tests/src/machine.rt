@@ -112,6 +112,7 @@ none :1 on a:1 within 2 => (false, None)";
 #[test]
 fn visits(rt: HostRuntime) {
     assert_rows(&rt, rt.alloc(), Question::Visits, VISITS);
+    next_piece_is_one();
 }
 
 /// The same of trees that are deep or large. No machine has more than 65,536 states.
@@ -140,17 +141,10 @@ fn fixed_string(rt: &impl Abort, alloc: Global, text: &[u8]) -> Search
     search_of(rt, alloc, &[tree], Bounds::Whole)
 }
 
-#[test]
-fn a_scratch_fits_its_machine(rt: HostRuntime) {
-    let one = machine(&rt, rt.alloc(), b"a|b", Bounds::Any);
-    assert!(rt; one.scratch.fits(&one.machine));
-    next_piece_is_one();
-}
-
-/// Makes a scratch for a machine, and searches a line.
+/// Makes a scratch, and answers whether it fits its machine, which selects a line.
 fn select_once<A: Allocator + Copy>(alloc: A, machine: &Machine<A>) -> Result<bool, AllocError> {
     let mut scratch = Scratch::new(alloc, machine)?;
-    Ok(machine.selects(&mut scratch, b"xaab"))
+    Ok(scratch.fits(machine) && machine.selects(&mut scratch, b"xaab"))
 }
 
 /// Whether a machine of proper trees selects the line, or `None` for want of memory.
