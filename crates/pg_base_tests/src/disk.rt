@@ -160,7 +160,8 @@ impl Files for StandIn {
     }
 }
 
-/// What a directory reads as, the byte for `?`, whether its end can't be read, an operand, and what a walk over it gives.
+/// What a directory reads as, the byte for `?`, whether its end can't be read, an operand, and what a walk over it
+/// gives.
 const NAMES: &str = ".|..| 255 false d =>
 b|.|..|a| 255 false d => d/a d/b
 b|?|...|a| 255 false d => d:BadName d/... d/a d/b

@@ -16,7 +16,7 @@ const TRIALS: [(&'static str, u64); 9] = [
     ("walk", 21),
     ("tree in memory", 4),
     ("machine", 14),
-    ("search", 80),
+    ("search", 38),
 ];
 
 /// Whether a trial goes through without a refusal, or else gives what is right then.
