@@ -10,6 +10,7 @@ use pg_lines::{
     Block, BlockResult, CutFault, Kind, PatternList, Query, QueryFault, QueryText, Scratch,
     search_block,
 };
+use pg_syntax::{FaultKind, ListFault, SyntaxFault};
 use refusing::Refusing;
 use std::alloc::{AllocError, Allocator, Global};
 use std::process::Abort;
@@ -221,10 +222,20 @@ fn queries_are_compared_by_content(rt: HostRuntime) {
     assert_rows(&rt, rt.alloc(), Question::SameQueries, QUERIES);
 }
 
+/// A fault of the third pattern.
+const FAULT: ListFault = ListFault {
+    pattern: 3,
+    fault: SyntaxFault {
+        kind: FaultKind::OutOfMemory,
+        at: 7,
+    },
+};
+
 #[test]
 fn faults_are_shown(rt: HostRuntime) {
+    let kind = FAULT.fault.kind;
     let file = CutFault::FileTooLong;
     let memory = QueryFault::OutOfMemory;
-    let texts = format!(in rt.alloc(); "{file}, {memory}").expect(&rt, "memory");
-    assert!(rt; texts.as_str() == "file too long, out of memory");
+    let texts = format!(in rt.alloc(); "{kind:?}: {FAULT}, {file}, {memory}").expect(&rt, "memory");
+    assert!(rt; texts.as_str() == "OutOfMemory: out of memory, file too long, out of memory");
 }
