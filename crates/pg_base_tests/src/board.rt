@@ -8,23 +8,15 @@ use std::sync::atomic::{AtomicU64, Ordering};
 use std::thread;
 use std::thread::Threads;
 
-/// Whether a draw gives what is wanted. The seat is the board's.
-fn draws(board: &Board, seat: &mut Seat, want: Option<u32>) -> bool
-    requires { seat.old.board ≡ board.now }
-    ensures { seat.new.board ≡ board.now }
-{
-    board.draw(seat) == want
-}
-
 /// Whether a seat draws 0 and 1, and is spent then. The seat is the board's.
 fn is_spent_behind_two(board: &Board, seat: &mut Seat) -> bool
     requires { seat.old.board ≡ board.now }
     ensures { seat.new.board ≡ board.now }
 {
-    draws(board, seat, Some(0))
-        && draws(board, seat, Some(1))
-        && draws(board, seat, None)
-        && draws(board, seat, None)
+    board.draw(seat) == Some(0)
+        && board.draw(seat) == Some(1)
+        && board.draw(seat).is_none()
+        && board.draw(seat).is_none()
 }
 
 #[test]
@@ -128,16 +120,10 @@ fn draw_one<A: Allocator + Copy>(
     Ok((drawn, all, heap.requests().wrapping_sub(requests)))
 }
 
-#[test]
-fn each_request_of_a_board_may_be_refused(rt: HostRuntime) {
-    for passes in 0..100u64 {
-        let heap = Refusing::new(rt.alloc(), passes);
-        let drawn = draw_one(&heap, &heap);
-        assert!(rt; drawn.is_err() == heap.has_refused(), "at {passes}");
-        if let Ok(drawn) = drawn {
-            assert!(rt; drawn == (Some(0), Drawn { upto: 1 }, 0));
-            return;
-        }
+/// Whether that draws 0 and makes no request behind the opening, or else the opening was refused.
+pub(crate) fn is_drawn(heap: &Refusing) -> bool {
+    match draw_one(heap, heap) {
+        Ok(drawn) => !heap.has_refused() && drawn == (Some(0), Drawn { upto: 1 }, 0),
+        Err(AllocError) => heap.has_refused(),
     }
-    panic!(rt; "more than 100 requests")
 }

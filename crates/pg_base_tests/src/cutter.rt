@@ -45,9 +45,8 @@ const CUT: &str = "%0A a%0Abc%0A%0Ad => 7.0:a%0Abc%0A 7.1:%0Ad
 fn show_block(rt: &impl Abort, block: &Block, out: &mut String) {
     let file = block.file;
     let number = block.number;
-    write!(out, "{file}.{number}:").expect(rt, "memory");
+    write!(out, " {file}.{number}:").expect(rt, "memory");
     show_bytes(block.bytes.as_slice(), out).expect(rt, "memory");
-    out.push(' ').expect(rt, "memory");
 }
 
 /// Takes a piece of at most 4,096 bytes by way of the cutter's room.
@@ -68,7 +67,7 @@ fn show_taken(rt: &impl Abort, cutter: &mut Cutter, way: Way, piece: &[u8], out:
         Way::Filled => fill(cutter, piece),
     };
     if let Err(fault) = taken {
-        write!(out, "({fault}) ").expect(rt, "memory");
+        write!(out, " ({fault})").expect(rt, "memory");
     }
     while let Some(block) = cutter.take() {
         show_block(rt, &block, out);
@@ -93,27 +92,7 @@ fn show_pieces(
     }
 }
 
-/// Shows the last block of a cutter from which no other waits to be taken.
-fn show_last(rt: &impl Abort, cutter: Cutter, out: &mut String)
-    requires { IsDrained cutter }
-{
-    if let Some(block) = cutter.finish() {
-        show_block(rt, &block, out);
-    }
-}
-
 /// Shows what a cutter gives of a file in pieces, where spaces part them.
-fn show_cut(rt: &impl Abort, alloc: Global, end: u8, way: Way, pieces: &str, out: &mut String) {
-    let mut cutter = Cutter::new(alloc, 7, 3, 4, end);
-    show_pieces(rt, alloc, &mut cutter, way, pieces, out);
-    show_last(rt, cutter, out);
-}
-
-/// The one byte of a field.
-fn byte_of(rt: &impl Abort, alloc: Global, field: &str) -> u8 {
-    *bytes_of(rt, alloc, field).first().expect(rt, "a byte")
-}
-
 pub(crate) fn blocks_of(
     rt: &impl Abort,
     alloc: Global,
@@ -121,9 +100,14 @@ pub(crate) fn blocks_of(
     end: &str,
     pieces: &str,
 ) -> String {
+    let end = *bytes_of(rt, alloc, end).first().expect(rt, "a byte");
     let mut out = String::new(alloc);
-    show_cut(rt, alloc, byte_of(rt, alloc, end), way, pieces, &mut out);
-    String::from_str(alloc, out.as_str().trim_end()).expect(rt, "memory")
+    let mut cutter = Cutter::new(alloc, 7, 3, 4, end);
+    show_pieces(rt, alloc, &mut cutter, way, pieces, &mut out);
+    if let Some(block) = cutter.finish() {
+        show_block(rt, &block, &mut out);
+    }
+    out
 }
 
 #[test]
@@ -132,61 +116,35 @@ fn a_file_is_cut_at_its_terminator(rt: HostRuntime) {
     assert_rows(&rt, rt.alloc(), Question::Blocks(Way::Filled), CUT);
 }
 
-/// Whether a cutter takes a file of two blocks by way of the room, at a second call where a request for memory is
-/// refused.
-fn is_taken<A: Allocator + Copy>(cutter: &mut Cutter<A>, heap: &Refusing) -> bool {
-    match fill(cutter, b"a\nb") {
-        Ok(()) => !heap.has_refused(),
-        Err(_) => heap.has_refused() && fill(cutter, b"a\nb").is_ok(),
+/// Whether a cutter takes a file by way of the room, at a second call where a request for memory is refused.
+fn is_taken<A: Allocator + Copy>(cutter: &mut Cutter<A>, heap: &Refusing, file: &[u8]) -> bool {
+    let was_refused = heap.has_refused();
+    match fill(cutter, file) {
+        Ok(()) => heap.has_refused() == was_refused,
+        Err(_) => !was_refused && heap.has_refused() && fill(cutter, file).is_ok(),
     }
 }
 
-/// Whether a cutter gives the first block of that file.
-fn gives_first<A: Allocator + Copy>(cutter: &mut Cutter<A>) -> bool {
-    match cutter.take() {
-        Some(block) => block.bytes.as_slice() == b"a\n".as_slice(),
-        None => false,
-    }
+/// Whether a cutter gives `a` and its terminator as the first block, and makes room once the block's memory was given
+/// back, by at most so many requests.
+fn gives_first<A: Allocator + Copy>(cutter: &mut Cutter<A>, heap: &Refusing, most: u64) -> bool {
+    let requests = heap.requests();
+    let Some(block) = cutter.take() else {
+        return false;
+    };
+    let is_first = block.bytes.as_slice() == b"a\n".as_slice();
+    cutter.give_back(block.bytes);
+    let has_room = cutter.make_room().is_ok() || heap.has_refused();
+    is_first && has_room && heap.requests().wrapping_sub(requests) <= most
 }
 
-/// Whether that file comes, and its first block is given.
-fn is_filled(heap: &Refusing) -> bool {
+/// Whether a file comes and its first block is given.
+fn is_cut(heap: &Refusing, file: &[u8], most: u64) -> bool {
     let mut cutter = Cutter::new(heap, 0, 2, 100, b'\n');
-    is_taken(&mut cutter, heap) && gives_first(&mut cutter)
+    is_taken(&mut cutter, heap, file) && gives_first(&mut cutter, heap, most)
 }
 
-#[test]
-fn each_request_of_a_room_may_be_refused(rt: HostRuntime) {
-    for passes in 0..100u64 {
-        let heap = Refusing::new(rt.alloc(), passes);
-        assert!(rt; is_filled(&heap), "at {passes}");
-        if !heap.has_refused() {
-            assert!(rt; passes > 1);
-            return;
-        }
-    }
-    panic!(rt; "more than 100 requests")
-}
-
-/// Makes room once a block was taken, whose memory is given back before.
-fn make_room_again<A: Allocator + Copy>(cutter: &mut Cutter<A>) -> Result<(), CutFault> {
-    if let Some(block) = cutter.take() {
-        cutter.give_back(block.bytes);
-    }
-    cutter.make_room()?;
-    Ok(())
-}
-
-/// How many requests that makes.
-fn requests_of_room(heap: &Refusing) -> Result<u64, CutFault> {
-    let mut cutter = Cutter::new(heap, 0, 2, 100, b'\n');
-    fill(&mut cutter, b"a\n")?;
-    let before = heap.requests();
-    make_room_again(&mut cutter)?;
-    Ok(heap.requests().wrapping_sub(before))
-}
-
-#[test]
-fn memory_that_was_given_back_is_used_again(rt: HostRuntime) {
-    assert!(rt; requests_of_room(&Refusing::new(rt.alloc(), 100)) == Ok(0));
+/// Whether a file of two blocks comes, and one of a block, whose memory is used again.
+pub(crate) fn is_filled(heap: &Refusing) -> bool {
+    is_cut(heap, b"a\nb", u64::MAX) && is_cut(heap, b"a\n", 0)
 }

@@ -1,6 +1,6 @@
 //! The system's tree, over directories that a test makes, and over a runtime that stands in for the system.
-use crate::memory::walked;
-use crate::rows::{assert_text, cut, halves};
+use crate::memory::{assert_walked, walked};
+use crate::rows::{cut, halves};
 use pg_walk::{DiskTree, FileTree, LookFault};
 use refusing::Refusing;
 use std::alloc::{AllocError, Allocator, Global};
@@ -8,47 +8,36 @@ use std::fs::{File, Metadata, OpenOptions};
 use std::io::{ErrorKind, Read};
 use std::process::Abort;
 use std::rt::Files;
-use std::{env, fs, io, process, thread};
-
-/// The path of a new directory's place, which is the test's own.
-fn new_root(rt: &HostRuntime, name: &str) -> io::Result<String> {
-    let temporary = env::temp_dir(rt)?;
-    let parent = temporary.as_str();
-    let number = process::id(rt.process());
-    Ok(format!(in rt.alloc(); "{parent}/pg_walk-{name}-{number}")?)
-}
+use std::{fs, io, process, thread};
 
 /// The stack of the thread that walks, in bytes: 4 KiB for each level of directories.
 const SMALL_STACK: usize = 0x10_0000;
 
-/// The path of the deepest directory that a walk over a root names.
-fn deepest_of(alloc: Global, root: &str) -> Result<String, AllocError> {
-    let mut deepest = String::from_str(alloc, root)?;
-    for _ in 0..257u32 {
+/// Makes a new directory, which is the test's own, and directories below it down to a level that is too deep, and one
+/// level more. Answers the path of the first.
+fn make_deep(rt: &HostRuntime) -> io::Result<String> {
+    let number = process::id(rt.process());
+    let root = format!(in rt.alloc(); "/tmp/pg_walk-{number}")?;
+    let mut deepest = root.clone()?;
+    for _ in 0..258u32 {
         deepest.push_str("/e")?;
     }
-    Ok(deepest)
+    fs::create_dir_all(rt, deepest)?;
+    Ok(root)
 }
 
-/// Makes the directories below a root down to this one, and one level more, which is too deep.
-fn make_deep(rt: &HostRuntime, root: &str) -> io::Result<()> {
-    let deepest = deepest_of(rt.alloc(), root)?;
-    fs::create_dir_all(rt, format!(in rt.alloc(); "{deepest}/e")?)
-}
-
-/// Whether a walk over the root gave that directory.
-fn is_walked_deep(alloc: Global, got: &str, root: &str) -> bool {
-    match deepest_of(alloc, root) {
-        Ok(deepest) => got.strip_suffix(":TooDeep") == Some(deepest.as_str()),
-        Err(AllocError) => false,
+/// Whether a walk over the root tells alone of the directory 257 levels below it.
+fn is_walked_deep(got: &str, root: &str) -> bool {
+    match got.trim_start().strip_prefix(root) {
+        Some(below) => below.len() == 522 && below.ends_with("/e:TooDeep"),
+        None => false,
     }
 }
 
 #[test]
 fn a_small_stack_holds_all_levels(rt: HostRuntime) {
     let alloc = rt.alloc();
-    let root = new_root(&rt, "deep").expect(&rt, "a path");
-    make_deep(&rt, root.as_str()).expect(&rt, "directories");
+    let root = make_deep(&rt).expect(&rt, "directories");
     let operand = root.clone().expect(&rt, "memory");
     let thread = thread::Builder::new()
         .stack_size(SMALL_STACK)
@@ -60,19 +49,13 @@ fn a_small_stack_holds_all_levels(rt: HostRuntime) {
         .join(&rt)
         .expect(&rt, "memory");
     fs::remove_dir_all(&rt, root.as_str()).expect(&rt, "a directory");
-    assert!(rt; is_walked_deep(alloc, got.as_str(), root.as_str()));
-}
-
-/// Whether a directory has a name that can't be told, and how many others, or the fault.
-fn listed<T: FileTree>(alloc: Global, tree: &T, path: &str) -> Result<(bool, usize), LookFault> {
-    let listing = tree.entries(alloc, path)?;
-    Ok((listing.nameless, listing.names.len()))
+    assert!(rt; is_walked_deep(got.as_str(), root.as_str()));
 }
 
 #[test]
 fn a_device_has_no_entries(rt: HostRuntime) {
-    let listed = listed(rt.alloc(), &DiskTree::new(&rt), "/dev/null");
-    assert!(rt; listed == Err(LookFault::Failed));
+    let listed = DiskTree::new(&rt).entries(rt.alloc(), "/dev/null");
+    assert!(rt; matches!(listed, Err(LookFault::Failed)));
 }
 
 /// A runtime that stands in for the system, with a directory `d/`.
@@ -177,22 +160,19 @@ impl Files for StandIn {
     }
 }
 
-/// Walks over an operand in a stand-in's tree, and shows the items.
-fn walked_over<R: Files + Drop>(alloc: Global, rt: R, operand: &str) -> Result<String, AllocError> {
-    walked(alloc, &DiskTree::new(rt), operand, true)
-}
-
-/// What a directory reads as, the byte for `?`, whether its end can't be read, and what a walk over it gives.
-const NAMES: &str = ".|..| 255 false =>
-b|.|..|a| 255 false => d/a d/b
-b|?|...|a| 255 false => d:BadName d/... d/a d/b
-b|?b| 195 false => d:BadName d/b
-b|?| 97 false => d/a d/b
-b|?| 255 true => d:CannotList";
+/// What a directory reads as, the byte for `?`, whether its end can't be read, an operand, and what a walk over it
+/// gives.
+const NAMES: &str = ".|..| 255 false d =>
+b|.|..|a| 255 false d => d/a d/b
+b|?|...|a| 255 false d => d:BadName d/... d/a d/b
+b|?b| 195 false d => d:BadName d/b
+b|?| 97 false d => d/a d/b
+b|?| 255 true d => d:CannotList
+b|?|a| 255 false locked => locked:CannotList
+b|?|a| 255 false full => out of memory";
 
 /// The stand-in of which a row tells.
-fn stand_in(rt: &impl Abort, asked: &'static str) -> StandIn {
-    let (names, faults) = asked.split_once(' ').unwrap_or((asked, ""));
+fn stand_in(rt: &impl Abort, names: &'static str, faults: &str) -> StandIn {
     let (unknown, fails) = cut(faults, " ");
     StandIn {
         names,
@@ -201,11 +181,18 @@ fn stand_in(rt: &impl Abort, asked: &'static str) -> StandIn {
     }
 }
 
+/// Walks over an operand in a stand-in's tree, and shows the items.
+fn walked_over<R: Files + Drop>(alloc: Global, rt: R, operand: &str) -> Result<String, AllocError> {
+    walked(alloc, &DiskTree::new(rt), operand, true)
+}
+
 /// A walk over a directory gives what a row wants.
 fn assert_names(rt: &impl Abort, alloc: Global, row: &'static str) {
     let (asked, want) = halves(row);
-    let got = walked_over(alloc, stand_in(rt, asked), "d").expect(rt, "memory");
-    assert_text(rt, got.as_str(), want, asked, row);
+    let (names, rest) = asked.split_once(' ').unwrap_or((asked, ""));
+    let (faults, operand) = rest.rsplit_once(' ').unwrap_or((rest, ""));
+    let got = walked_over(alloc, stand_in(rt, names, faults), operand);
+    assert_walked(rt, got, want, row);
 }
 
 #[test]
@@ -222,40 +209,10 @@ const SOME: StandIn = StandIn {
     fails: false,
 };
 
-/// Whether a walk gives what is wanted, or `None` for want of memory.
-fn is_walked_over(alloc: Global, operand: &str, want: Option<&str>) -> bool {
-    match walked_over(alloc, SOME, operand) {
-        Ok(got) => Some(got.as_str()) == want,
-        Err(AllocError) => want.is_none(),
+/// Whether a listing of that directory has its names, or wants memory where a request is refused.
+pub(crate) fn is_listed(heap: &Refusing) -> bool {
+    match DiskTree::new(SOME).entries(heap, "d") {
+        Ok(listing) => !heap.has_refused() && listing.nameless && listing.names.len() == 2,
+        Err(fault) => heap.has_refused() && fault == LookFault::OutOfMemory,
     }
-}
-
-#[test]
-fn a_directory_that_cannot_be_opened(rt: HostRuntime) {
-    assert!(rt; is_walked_over(rt.alloc(), "locked", Some("locked:CannotList")));
-    assert!(rt; is_walked_over(rt.alloc(), "full", None));
-}
-
-/// Lists that directory where the request behind so many others is refused. Answers whether it has a name that can't
-/// be told, and how many others, or the fault; and whether a request was refused.
-fn list_refused(alloc: Global, passes: u64) -> (Result<(bool, usize), LookFault>, bool) {
-    let heap = Refusing::new(alloc, passes);
-    let listed = match DiskTree::new(SOME).entries(&heap, "d") {
-        Ok(listing) => Ok((listing.nameless, listing.names.len())),
-        Err(fault) => Err(fault),
-    };
-    (listed, heap.has_refused())
-}
-
-#[test]
-fn each_request_of_a_listing_may_be_refused(rt: HostRuntime) {
-    for passes in 0..100u64 {
-        let (listed, is_refused) = list_refused(rt.alloc(), passes);
-        if !is_refused {
-            assert!(rt; listed == Ok((true, 2)) && passes > 3);
-            return;
-        }
-        assert!(rt; listed == Err(LookFault::OutOfMemory), "at {passes}");
-    }
-    panic!(rt; "more than 100 requests")
 }

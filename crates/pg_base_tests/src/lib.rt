@@ -19,11 +19,11 @@ mod machine;
 #[cfg(test)]
 mod memory;
 #[cfg(test)]
+mod refused;
+#[cfg(test)]
 mod requests;
 #[cfg(test)]
 mod rows;
-#[cfg(test)]
-mod sets;
 #[cfg(test)]
 mod syntax;
 #[cfg(test)]

@@ -1,5 +1,5 @@
 //! Walks over trees in memory.
-use crate::rows::{assert_text, halves};
+use crate::rows::{assert_text, cut, halves};
 use pg_walk::{FileKind, FileTree, Item, Listing, LookFault, MemTree, Node, walk};
 use refusing::Refusing;
 use std::alloc::{AllocError, Allocator, Global};
@@ -69,41 +69,46 @@ fn tree_of(alloc: Global, text: &str) -> Result<MemTree, AllocError> {
 
 fn texts(alloc: Global, line: &str) -> Result<Vec<String>, AllocError> {
     let mut texts = Vec::new(alloc);
-    for word in line.split(' ') {
-        if !word.is_empty() {
-            texts.push(String::from_str(alloc, word)?)?;
-        }
+    for word in line.split_whitespace() {
+        texts.push(String::from_str(alloc, word)?)?;
     }
     Ok(texts)
 }
 
-/// Shows the path of a file, or the path of a fault and its cause.
+/// Shows a blank and the path of a file, or the path of a fault and its cause.
 fn show_item<A: Allocator>(item: &Item<A>, out: &mut String) -> Result<(), AllocError> {
     match item {
-        Item::File(path) => out.push_str(path.as_str()),
+        Item::File(path) => {
+            let path = path.as_str();
+            write!(out, " {path}")
+        }
         Item::Fault(path, cause) => {
             let path = path.as_str();
-            write!(out, "{path}:{cause:?}")
+            write!(out, " {path}:{cause:?}")
         }
     }
 }
 
 /// Shows the items behind one another.
-fn show_items<A: Allocator>(items: &[Item<A>], out: &mut String) -> Result<(), AllocError> {
-    for item in items {
-        if !out.is_empty() {
-            out.push(' ')?;
-        }
-        show_item(item, out)?;
-    }
-    Ok(())
-}
-
-/// The items behind one another: the path of a file, or the path of a fault and its cause.
 fn shown<A: Allocator>(alloc: Global, items: &[Item<A>]) -> Result<String, AllocError> {
     let mut out = String::new(alloc);
-    show_items(items, &mut out)?;
+    for item in items {
+        show_item(item, &mut out)?;
+    }
     Ok(out)
+}
+
+/// Compares what is shown of a walk, or that it wants memory, with what a row wants.
+pub(crate) fn assert_walked(
+    rt: &impl Abort,
+    got: Result<String, AllocError>,
+    want: &str,
+    row: &str,
+) {
+    match got {
+        Ok(got) => assert_text(rt, got.as_str(), want, row),
+        Err(AllocError) => assert_text(rt, "out of memory", want, row),
+    }
 }
 
 /// Walks over operands, and shows the items.
@@ -118,8 +123,45 @@ pub(crate) fn walked<T: FileTree>(
     shown(alloc, items.as_slice())
 }
 
+/// A tree of which one answer fails: the one that comes behind `passes` others.
+#[derive(Drop)]
+struct Failing<'a> {
+    tree: &'a MemTree,
+    passes: u32,
+    fault: LookFault,
+    asked: Cell<u32>,
+}
+
+impl Failing<'_> {
+    fn check(&self) -> Result<(), LookFault> {
+        let asked = self.asked.get();
+        self.asked.set(asked.wrapping_add(1));
+        if asked == self.passes {
+            return Err(self.fault);
+        }
+        Ok(())
+    }
+}
+
+impl FileTree for Failing<'_> {
+    ghost tells = { λ _. ⊥ };
+
+    ghost answers = { λ t. ⟦<MemTree as FileTree>⟧.answers t.tree.now };
+
+    fn kind(&self, path: &str, follow: bool) -> Result<FileKind, LookFault> {
+        self.check()?;
+        self.tree.kind(path, follow)
+    }
+
+    fn entries<A: Allocator + Copy>(&self, alloc: A, path: &str) -> Result<Listing<A>, LookFault> {
+        self.check()?;
+        self.tree.entries(alloc, path)
+    }
+}
+
 /// Trees, with an empty line between them, and behind each what walks over its operands give: `walk` with all that is
-/// below them, `look` without.
+/// below them, `look` without; `fail` where the answer of the tree behind so many others fails, and `full` where there
+/// is no memory for it.
 const WALKS: &str = "d directory z a.txt a
 d/a directory b
 d/a/b file
@@ -220,14 +262,55 @@ d/x/up link-to-directory k n u x g i z
 d/g link-to-nothing
 d/z nameless
 walk d => d:BadName d/i:CannotOpen d/u:CannotList d/z:BadName
-walk d/u d/k d/z/ => d/u:CannotList d/k/y d/z/:CannotOpen";
+walk d/u d/k d/z/ => d/u:CannotList d/k/y d/z/:CannotOpen
 
-/// Walks as a row says.
+d directory c b a
+d/a nameless x
+d/a/x file
+d/b link-to-directory
+d/c file
+f file
+fail-0 d f => d:CannotOpen f
+fail-1 d f => d:CannotList f
+fail-2 d f => d/a:CannotOpen d/c f
+fail-3 d f => d/a:CannotList d/c f
+fail-4 d f => d/a:BadName d/a/x:CannotOpen d/c f
+fail-5 d f => d/a:BadName d/a/x d/b:CannotOpen d/c f
+fail-6 d f => d/a:BadName d/a/x d/c:CannotOpen f
+fail-7 d f => d/a:BadName d/a/x d/c f:CannotOpen
+fail-8 d f => d/a:BadName d/a/x d/c f
+full-0 d f => out of memory
+full-1 d f => out of memory
+full-2 d f => out of memory
+full-3 d f => out of memory
+full-4 d f => out of memory
+full-5 d f => out of memory
+full-6 d f => out of memory
+full-7 d f => out of memory
+full-8 d f => d/a:BadName d/a/x d/c f";
+
+/// Walks over a tree of which an answer fails, as a row asks.
+fn walk_as_asked(alloc: Global, tree: &MemTree, asked: &str) -> Result<String, AllocError> {
+    let (how, operands) = cut(asked, " ");
+    let (how, passes) = cut(how, "-");
+    let failing = Failing {
+        tree,
+        passes: passes.parse().unwrap_or(u32::MAX),
+        fault: if how == "full" {
+            LookFault::OutOfMemory
+        } else {
+            LookFault::Failed
+        },
+        asked: Cell::new(0),
+    };
+    walked(alloc, &failing, operands, how != "look")
+}
+
+/// Compares what a walk gives, or that it wants memory, with what a row wants.
 fn assert_walk(rt: &impl Abort, alloc: Global, tree: &MemTree, row: &str) {
     let (asked, want) = halves(row);
-    let operands = asked.get(4..).unwrap_or("");
-    let got = walked(alloc, tree, operands, asked.starts_with("walk")).expect(rt, "memory");
-    assert_text(rt, got.as_str(), want, asked, row);
+    let got = walk_as_asked(alloc, tree, asked);
+    assert_walked(rt, got, want, row);
 }
 
 /// Adds a node, or walks, as a line says; behind an empty one another tree begins.
@@ -249,146 +332,6 @@ fn walks(rt: HostRuntime) {
     }
 }
 
-/// Adds a directory with an entry `e`, and a file `f` in it.
-fn add_level(alloc: Global, tree: &mut MemTree, path: &str) -> Result<(), AllocError> {
-    tree.add(path, Node::directory(alloc, &["e", "f"])?)?;
-    let file = format!(in alloc; "{path}/f")?;
-    tree.add(file.as_str(), Node::new(FileKind::Regular))
-}
-
-/// The path of the directory that is so many levels below `d`.
-fn path_of_level(alloc: Global, level: u32) -> Result<String, AllocError> {
-    let mut path = String::from_str(alloc, "d")?;
-    for _ in 0..level {
-        path.push_str("/e")?;
-    }
-    Ok(path)
-}
-
-/// Directories that are one level too deep.
-fn deep_tree(alloc: Global) -> Result<MemTree, AllocError> {
-    let mut tree = MemTree::new(alloc);
-    for level in 0..=257u32 {
-        add_level(alloc, &mut tree, path_of_level(alloc, level)?.as_str())?;
-    }
-    Ok(tree)
-}
-
-/// A walk over them.
-fn walked_deep(alloc: Global) -> Result<String, AllocError> {
-    let tree = deep_tree(alloc)?;
-    walked(alloc, &tree, "d", true)
-}
-
-/// What comes first of it.
-fn deepest_items(alloc: Global) -> Result<String, AllocError> {
-    let deepest = path_of_level(alloc, 256)?;
-    format!(in alloc; "{deepest}/e:TooDeep {deepest}/f")
-}
-
-/// Whether a walk begins so, and behind the deepest level each level's file follows, from the deepest to the operand's
-/// own.
-fn is_deep(got: &str, first: &str) -> bool {
-    got.starts_with(first) && got.split(' ').count() == 258 && got.ends_with(" d/e/f d/f")
-}
-
-#[test]
-fn directories_down_to_256_levels(rt: HostRuntime) {
-    let got = walked_deep(rt.alloc()).expect(&rt, "memory");
-    let first = deepest_items(rt.alloc()).expect(&rt, "memory");
-    assert!(rt; is_deep(got.as_str(), first.as_str()));
-}
-
-/// A tree of which one answer fails: the one that comes behind `passes` others.
-#[derive(Drop)]
-struct Failing<'a> {
-    tree: &'a MemTree,
-    passes: u32,
-    fault: LookFault,
-    asked: Cell<u32>,
-}
-
-impl Failing<'_> {
-    fn check(&self) -> Result<(), LookFault> {
-        let asked = self.asked.get();
-        self.asked.set(asked.wrapping_add(1));
-        if asked == self.passes {
-            return Err(self.fault);
-        }
-        Ok(())
-    }
-}
-
-impl FileTree for Failing<'_> {
-    ghost tells = { λ _. ⊥ };
-
-    ghost answers = { λ t. ⟦<MemTree as FileTree>⟧.answers t.tree.now };
-
-    fn kind(&self, path: &str, follow: bool) -> Result<FileKind, LookFault> {
-        self.check()?;
-        self.tree.kind(path, follow)
-    }
-
-    fn entries<A: Allocator + Copy>(&self, alloc: A, path: &str) -> Result<Listing<A>, LookFault> {
-        self.check()?;
-        self.tree.entries(alloc, path)
-    }
-}
-
-/// A tree, of which one answer fails in turn.
-const FAILING: &str = "d directory c b a
-d/a nameless x
-d/a/x file
-d/b link-to-directory
-d/c file
-f file";
-
-/// What a walk over `d` and `f` gives where the first answer fails, where the second one does, and so on, and at last
-/// where none fails.
-const FAILED: &str = "d:CannotOpen f
-d:CannotList f
-d/a:CannotOpen d/c f
-d/a:CannotList d/c f
-d/a:BadName d/a/x:CannotOpen d/c f
-d/a:BadName d/a/x d/b:CannotOpen d/c f
-d/a:BadName d/a/x d/c:CannotOpen f
-d/a:BadName d/a/x d/c f:CannotOpen
-d/a:BadName d/a/x d/c f";
-
-/// Walks over `d` and `f` where the answer behind so many others fails.
-fn walked_failing(
-    alloc: Global,
-    tree: &MemTree,
-    passes: u32,
-    fault: LookFault,
-) -> Result<String, AllocError> {
-    let failing = Failing {
-        tree,
-        passes,
-        fault,
-        asked: Cell::new(0),
-    };
-    walked(alloc, &failing, "d f", true)
-}
-
-/// Whether a walk gives what is wanted where the answer behind so many others fails.
-fn is_walked(alloc: Global, tree: &MemTree, passes: u32, want: &str) -> bool {
-    match walked_failing(alloc, tree, passes, LookFault::Failed) {
-        Ok(got) => got.as_str() == want,
-        Err(AllocError) => false,
-    }
-}
-
-#[test]
-fn each_answer_may_fail(rt: HostRuntime) {
-    let tree = tree_of(rt.alloc(), FAILING).expect(&rt, "memory");
-    for (passes, want) in (0u32..).zip(FAILED.lines()) {
-        assert!(rt; is_walked(rt.alloc(), &tree, passes, want), "at {passes}");
-        let got = walked_failing(rt.alloc(), &tree, passes, LookFault::OutOfMemory);
-        assert!(rt; got.is_err() == (passes < 8), "out of memory at {passes}");
-    }
-}
-
 /// A tree that is walked while requests for memory are refused.
 const REFUSED: &str = "d directory b a
 d/a nameless x
@@ -402,40 +345,25 @@ const ALLOWED: &str =
 /// Whether these are the items.
 fn are_allowed<A: Allocator>(alloc: Global, items: &[Item<A>]) -> bool {
     match shown(alloc, items) {
-        Ok(shown) => shown.as_str() == ALLOWED,
+        Ok(shown) => shown.trim_start() == ALLOWED,
         Err(AllocError) => false,
     }
 }
 
-/// Walks where the request behind so many others is refused. Answers whether the items are right, or `None` for want
-/// of memory, and whether a request was refused.
-fn walk_refused(
-    alloc: Global,
-    tree: &MemTree,
-    operands: &[String],
-    passes: u64,
-) -> (Option<bool>, bool) {
-    let heap = Refusing::new(alloc, passes);
-    let got = match walk(&heap, tree, operands, true) {
-        Ok(items) => Some(are_allowed(alloc, items.as_slice())),
-        Err(AllocError) => None,
-    };
-    (got, heap.has_refused())
+/// The tree that is walked while requests are refused, and the operands.
+fn some_walk(alloc: Global) -> Result<(MemTree, Vec<String>), AllocError> {
+    Ok((tree_of(alloc, REFUSED)?, texts(alloc, "d d - gone")?))
 }
 
-#[test]
-fn each_request_of_a_walk_may_be_refused(rt: HostRuntime) {
-    let tree = tree_of(rt.alloc(), REFUSED).expect(&rt, "memory");
-    let operands = texts(rt.alloc(), "d d - gone").expect(&rt, "memory");
-    for passes in 0..200u64 {
-        let (got, is_refused) = walk_refused(rt.alloc(), &tree, operands.as_slice(), passes);
-        assert!(rt; got.is_none() == is_refused, "at {passes}");
-        if let Some(is_right) = got {
-            assert!(rt; is_right && passes > 20);
-            return;
-        }
+/// Whether a walk gives what it should, or wants memory where a request is refused.
+pub(crate) fn is_walked(alloc: Global, heap: &Refusing) -> bool {
+    let Ok((tree, operands)) = some_walk(alloc) else {
+        return false;
+    };
+    match walk(heap, &tree, operands.as_slice(), true) {
+        Ok(items) => !heap.has_refused() && are_allowed(alloc, items.as_slice()),
+        Err(AllocError) => heap.has_refused(),
     }
-    panic!(rt; "more than 200 requests")
 }
 
 /// Adds a directory with one entry, `d` with `a`.
@@ -444,36 +372,13 @@ fn add_directory<A: Allocator + Copy>(alloc: A, tree: &mut MemTree<A>) -> Result
     tree.add("d/a", Node::new(FileKind::Regular))
 }
 
-/// Whether a walk finds that directory where it was added, and else nothing stands at `d/a`.
-fn is_as_added<A: Allocator + Copy>(alloc: Global, tree: &MemTree<A>, is_added: bool) -> bool {
-    if !is_added {
-        return tree.kind("d/a", false) == Err(LookFault::Failed);
-    }
-    match walked(alloc, tree, "d", true) {
-        Ok(got) => got.as_str() == "d/a",
-        Err(AllocError) => false,
-    }
-}
-
-/// Adds that directory to a new tree where the request behind so many others is refused. Answers whether it was added,
-/// whether the tree is right then, and whether a request was refused.
-fn add_refused(alloc: Global, passes: u64) -> (bool, bool, bool) {
-    let heap = Refusing::new(alloc, passes);
-    let mut tree = MemTree::new(&heap);
-    let is_added = add_directory(&heap, &mut tree).is_ok();
-    let is_right = is_as_added(alloc, &tree, is_added);
-    (is_added, is_right, heap.has_refused())
-}
-
-#[test]
-fn each_request_of_a_tree_in_memory_may_be_refused(rt: HostRuntime) {
-    for passes in 0..100u64 {
-        let (is_added, is_right, is_refused) = add_refused(rt.alloc(), passes);
-        assert!(rt; is_right && is_added != is_refused, "at {passes}");
-        if is_added {
-            assert!(rt; passes > 3);
-            return;
-        }
-    }
-    panic!(rt; "more than 100 requests")
+/// Whether that directory is added to a new tree where no request is refused, and else nothing stands at `d/a`.
+pub(crate) fn is_added(heap: &Refusing) -> bool {
+    let mut tree = MemTree::new(heap);
+    let is_added = add_directory(heap, &mut tree).is_ok();
+    let is_right = match tree.kind("d/a", false) {
+        Ok(kind) => is_added && kind == FileKind::Regular,
+        Err(fault) => !is_added && fault == LookFault::Failed,
+    };
+    is_right && is_added != heap.has_refused()
 }

@@ -1,9 +1,7 @@
 //! Rows of tests. A row is a line of a text, so that a further row costs no proof. Many rows stand in several texts,
 //! for a long text takes longer than its parts.
-ghost use Rattle.std.specs.Prelude.{◌≤◌, length};
-
 use crate::cutter::Way;
-use crate::{bytes, cutter, lines, literal, machine, syntax};
+use crate::{cutter, lines, literal, machine, syntax};
 use percent_encoding::{CONTROLS, percent_decode, percent_encode};
 use std::alloc::{AllocError, Global};
 use std::process::Abort;
@@ -14,15 +12,6 @@ pub(crate) fn bytes_of(rt: &impl Abort, alloc: Global, field: &str) -> Vec<u8> {
     percent_decode(field.as_bytes())
         .append_to(&mut bytes)
         .expect(rt, "memory");
-    bytes
-}
-
-/// The bytes of a field that has at most 100.
-pub(crate) fn few_bytes(rt: &impl Abort, alloc: Global, field: &str) -> Vec<u8>
-    ensures { length result.items ≤ 100 }
-{
-    let bytes = bytes_of(rt, alloc, field);
-    assert!(rt; bytes.len() <= 100);
     bytes
 }
 
@@ -64,85 +53,39 @@ pub(crate) fn halves(row: &str) -> (&str, &str) {
 /// What the rows of a test ask.
 #[derive(Clone, Copy)]
 pub(crate) enum Question {
-    Class,
-    Set,
     Blocks(Way),
-    Found,
-    Refused,
     SameQueries,
     Literal,
-    Selected,
-    Parts,
     Visits,
-    Scratch,
-    Expression,
-    LargeText,
     DeepTree,
-    TreeAround,
-    PatternList,
-    SameLists,
 }
 
-/// Whether what is asked of a kind holds.
-fn holds(rt: &impl Abort, alloc: Global, question: Question, kind: &str, asked: &str) -> bool {
-    match question {
-        Question::Scratch => machine::fits_both(rt, alloc, kind, asked),
-        Question::DeepTree => syntax::deep_tree(rt, alloc, kind, asked),
-        Question::TreeAround => syntax::is_proper(rt, alloc, kind),
-        _ => syntax::same_lists(rt, alloc, kind, asked),
-    }
-}
-
+/// The answer to what is asked of a kind.
 fn answer(rt: &impl Abort, alloc: Global, question: Question, kind: &str, asked: &str) -> String {
-    match question {
-        Question::Class => bytes::class_of(rt, alloc, kind),
-        Question::Set => bytes::changed(rt, alloc, kind),
-        Question::Blocks(way) => cutter::blocks_of(rt, alloc, way, kind, asked),
-        Question::Found => lines::found(rt, alloc, kind, asked),
-        Question::Refused => lines::refused(rt, alloc, kind, asked),
+    let text = match question {
+        Question::Blocks(way) => return cutter::blocks_of(rt, alloc, way, kind, asked),
+        Question::Literal => return literal::literal_of(rt, alloc, kind, asked),
+        Question::Visits => return machine::searched(rt, alloc, kind, asked),
         Question::SameQueries => lines::compared(rt, alloc, kind, asked),
-        Question::Literal => literal::literal_of(rt, alloc, kind, asked),
-        Question::Selected | Question::Parts | Question::Visits => {
-            machine::searched(rt, alloc, question, kind, asked)
-        }
-        Question::Expression => syntax::expression(rt, alloc, kind, asked),
-        Question::LargeText => syntax::large_text(rt, alloc, kind, asked),
-        Question::PatternList => syntax::pattern_list(rt, alloc, kind, asked),
-        _ => {
-            let text = if holds(rt, alloc, question, kind, asked) {
-                "true"
-            } else {
-                "false"
-            };
-            String::from_str(alloc, text).expect(rt, "memory")
-        }
-    }
+        Question::DeepTree => syntax::deep_tree(rt, alloc, kind, asked),
+    };
+    String::from_str(alloc, text).expect(rt, "memory")
 }
 
-/// Compares an answer with what is wanted of a kind in a row.
-pub(crate) fn assert_text(rt: &impl Abort, got: &str, want: &str, kind: &str, row: &str) {
-    assert_eq!(rt; got, want, "{kind}: {row}");
+/// Compares an answer with what is wanted in a row. Blanks in front of it don't count.
+pub(crate) fn assert_text(rt: &impl Abort, got: &str, want: &str, row: &str) {
+    assert!(rt; got.trim_start() == want, "{got} of {row}");
 }
 
-/// Compares the answer to what is asked of a kind with what is wanted.
-fn assert_answer(rt: &impl Abort, alloc: Global, question: Question, kind: &str, row: &str) {
-    let (asked, want) = halves(row);
-    let (_, asked) = cut(asked, " ");
-    let got = answer(rt, alloc, question, kind, asked);
-    assert_text(rt, got.as_str(), want, kind, row);
-}
-
-/// Compares what a row wants with the answer to it. What it asks of begins with a word in which commas part kinds: the
-/// rest is asked of each of them.
+/// Compares what a row wants with the answer to it. What it asks of begins with a word for the kind.
 fn assert_row(rt: &impl Abort, alloc: Global, question: Question, row: &str) {
-    let (asked, _) = halves(row);
-    let (kinds, _) = cut(asked, " ");
-    for kind in kinds.split(',') {
-        assert_answer(rt, alloc, question, kind, row);
-    }
+    let (asked, want) = halves(row);
+    let (kind, asked) = cut(asked, " ");
+    let got = answer(rt, alloc, question, kind, asked);
+    assert_text(rt, got.as_str(), want, row);
 }
 
-/// Compares what each row wants with the answer to it, as `assert_row` does.
+/// Compares what each row wants with the answer to it.
 pub(crate) fn assert_rows(rt: &impl Abort, alloc: Global, question: Question, rows: &str) {
     for row in rows.lines() {
         assert_row(rt, alloc, question, row);

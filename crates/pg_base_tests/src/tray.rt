@@ -4,50 +4,36 @@ ghost use Rattle.std.specs.Prelude.{◌≡◌};
 use pg_board::{Delivered, PutPass, TakePass, Tray};
 use refusing::Refusing;
 use std::alloc::{AllocError, Allocator, Global};
-use std::process::Abort;
 use std::sync::{Arc, Wait};
 use std::thread;
 use std::thread::Threads;
 
-#[test]
-fn what_is_put_is_taken(rt: HostRuntime) {
-    let (tray, mut passes, mut take) = Tray::open(rt.alloc(), 1).expect(&rt, "memory");
-    let put = tray.put(&rt, &mut passes[0], 7u32);
-    let taken = [tray.take(&rt, &mut take), tray.take(&rt, &mut take)];
-    let left = tray.close(passes, take).next(&rt);
-    assert!(rt; put.is_ok() && taken == [Some(7), None] && left.is_none());
-}
-
-/// What is put under the passes of a tray, in order, where one value is taken in between.
-fn put_and_left<R: Wait>(
+/// Whether values are put into a tray; what is taken: one at once, then nothing, then one of four others; and what is
+/// left: these, and then nothing.
+fn taken_and_left<R: Wait>(
     rt: &R,
     alloc: Global,
-) -> Result<([Result<(), u32>; 4], [Option<u32>; 5]), AllocError> {
+) -> Result<(bool, [Option<u32>; 3], [Option<u32>; 4]), AllocError> {
     let (tray, mut passes, mut take) = Tray::open(alloc, 3)?;
-    let put = [
-        tray.put(rt, &mut passes[0], 10u32),
-        tray.put(rt, &mut passes[2], 30),
-        tray.put(rt, &mut passes[0], 11),
-        tray.put(rt, &mut passes[1], 20),
-    ];
+    let is_put = tray.put(rt, &mut passes[0], 7u32).is_ok();
+    let first = tray.take(rt, &mut take);
+    let none = tray.take(rt, &mut take);
+    let are_put = tray.put(rt, &mut passes[0], 10).is_ok()
+        & tray.put(rt, &mut passes[2], 30).is_ok()
+        & tray.put(rt, &mut passes[0], 11).is_ok()
+        & tray.put(rt, &mut passes[1], 20).is_ok();
     let taken = tray.take(rt, &mut take);
     passes.reverse();
     let mut left = tray.close(passes, take);
-    let seen = [
-        taken,
-        left.next(rt),
-        left.next(rt),
-        left.next(rt),
-        left.next(rt),
-    ];
-    Ok((put, seen))
+    let last = [left.next(rt), left.next(rt), left.next(rt), left.next(rt)];
+    Ok((is_put & are_put, [first, none, taken], last))
 }
 
 #[test]
-fn what_is_left_is_handed_out(rt: HostRuntime) {
-    let (put, seen) = put_and_left(&rt, rt.alloc()).expect(&rt, "memory");
-    assert!(rt; put == [Ok(()), Ok(()), Ok(()), Ok(())]);
-    assert!(rt; seen == [Some(10), Some(30), Some(11), Some(20), None]);
+fn what_is_put_is_taken_or_left(rt: HostRuntime) {
+    let (are_put, taken, left) = taken_and_left(&rt, rt.alloc()).expect(&rt, "memory");
+    assert!(rt; are_put && taken == [Some(7), None, Some(10)]);
+    assert!(rt; left == [Some(30), Some(11), Some(20), None]);
 }
 
 /// What a worker found, as its first, second and so on.
@@ -166,31 +152,19 @@ fn is_all(found: &[Found]) -> bool {
     next == [100, 100]
 }
 
-/// Room for 50 values.
-fn room(rt: &impl Abort, alloc: Global) -> Vec<Found> {
-    Vec::with_capacity(alloc, 50).expect(rt, "memory")
-}
-
-#[test]
-fn two_threads_put_and_one_takes(rt: HostRuntime) {
-    let all = deliver(&rt, room(&rt, rt.alloc()), rt.alloc()).expect(&rt, "memory");
-    assert!(rt; is_all(all.as_slice()));
-}
-
-#[test]
-fn each_request_of_the_threads_may_be_refused(rt: HostRuntime) {
-    for passes in 0..100u64 {
-        let heap = Refusing::new(rt.alloc(), passes);
-        let is_right = match deliver(&rt, room(&rt, rt.alloc()), &heap) {
-            Ok(all) => is_all(all.as_slice()),
-            Err(AllocError) => heap.has_refused(),
-        };
-        assert!(rt; is_right, "at {passes}");
-        if !heap.has_refused() {
-            return;
-        }
+/// Whether the 200 values come from a tray on a heap that may refuse a request.
+pub(crate) fn is_delivered<R: Threads + Wait + Sync>(
+    rt: &R,
+    alloc: Global,
+    heap: &Refusing,
+) -> bool {
+    let Ok(room) = Vec::with_capacity(alloc, 50) else {
+        return false;
+    };
+    match deliver(rt, room, heap) {
+        Ok(all) => is_all(all.as_slice()),
+        Err(AllocError) => heap.has_refused(),
     }
-    panic!(rt; "more than 100 requests")
 }
 
 /// Puts 100 numbers, each once more where it comes back. Answers how many came back as they were.
@@ -223,86 +197,57 @@ fn is_rest<R: Wait, A: Allocator>(rt: &R, left: Delivered<u32, A>) -> bool {
     left.next(rt) == None
 }
 
-/// What is seen of a tray where a request for memory is refused.
-#[derive(Clone, Copy)]
-struct Seen {
-    /// How many values came back.
-    refused: u32,
-    taken: Option<u32>,
-    /// Whether the other values are left, in their order.
-    is_rest: bool,
-    /// How many requests the taking, the closing and the handing out made.
-    requests: u64,
-}
-
-/// Puts 100 numbers into a tray, takes one, and closes it. `alloc` is the heap that counts the requests.
+/// Puts 100 numbers into a tray, takes one, and closes it. Answers whether a number came back where a request was
+/// refused, the first one was taken, the others were left, and only putting made requests. `alloc` is the heap.
 fn put_into_tray<R: Wait, A: Allocator + Copy>(
     rt: &R,
     alloc: A,
     heap: &Refusing,
-) -> Result<Seen, AllocError> {
+) -> Result<bool, AllocError> {
     let (tray, mut passes, mut take) = Tray::open(alloc, 2)?;
     let refused = put_numbers(rt, &tray, &mut passes[1]);
     let made = heap.requests();
     let taken = tray.take(rt, &mut take);
     let is_rest = is_rest(rt, tray.close(passes, take));
-    Ok(Seen {
-        refused,
-        taken,
-        is_rest,
-        requests: heap.requests().wrapping_sub(made),
-    })
+    let is_counted = refused == u32::from(heap.has_refused()) && heap.requests() == made;
+    Ok(is_rest && is_counted && taken == Some(0))
 }
 
-/// Whether a value came back where a request was refused, the first one was taken, and the others are left.
-fn is_right(seen: Seen, has_refused: bool) -> bool {
-    seen.refused == u32::from(has_refused)
-        && seen.taken == Some(0)
-        && seen.is_rest
-        && seen.requests == 0
-}
-
-#[test]
-fn each_request_of_a_tray_may_be_refused(rt: HostRuntime) {
-    for requests in 0..100u64 {
-        let heap = Refusing::new(rt.alloc(), requests);
-        match put_into_tray(&rt, &heap, &heap) {
-            Ok(seen) => {
-                assert!(rt; is_right(seen, heap.has_refused()), "at {requests}");
-                if seen.refused == 0 {
-                    return;
-                }
-            }
-            Err(AllocError) => assert!(rt; heap.has_refused(), "at {requests}"),
-        }
+/// Whether that is so on a heap that may refuse a request.
+pub(crate) fn is_handed_out<R: Wait>(rt: &R, heap: &Refusing) -> bool {
+    match put_into_tray(rt, heap, heap) {
+        Ok(is_right) => is_right,
+        Err(AllocError) => heap.has_refused(),
     }
-    panic!(rt; "more than 100 requests")
 }
 
-/// Whether a value is shared while it lies in a tray, which is closed at last, or just dropped.
+/// Whether a value is shared while it lies in a tray, which is closed at last, or just dropped. One that isn't put is
+/// dropped, and not shared.
 fn is_shared_in_tray<R: Wait>(
     rt: &R,
     alloc: Global,
     shared: &mut Arc<u32>,
     closes: bool,
 ) -> Result<bool, AllocError> {
+    let value = Arc::try_clone(shared)?;
     let (tray, mut passes, take) = Tray::open(alloc, 1)?;
-    let is_put = tray
-        .put(rt, &mut passes[0], Arc::try_clone(shared)?)
-        .is_ok();
-    let is_shared = is_put && Arc::get_mut(shared).is_none();
+    drop(tray.put(rt, &mut passes[0], value));
+    let is_shared = Arc::get_mut(shared).is_none();
     if closes {
         drop(tray.close(passes, take));
     }
     Ok(is_shared)
 }
 
+/// Whether a value is shared while it lies in a tray, and no longer.
+fn is_dropped<R: Wait>(rt: &R, alloc: Global, closes: bool) -> Result<bool, AllocError> {
+    let mut shared = Arc::new(alloc, 5u32)?;
+    let is_shared = is_shared_in_tray(rt, alloc, &mut shared, closes)?;
+    Ok(is_shared && Arc::get_mut(&mut shared).is_some())
+}
+
 #[test]
 fn values_that_are_left_are_dropped(rt: HostRuntime) {
-    let mut shared = Arc::new(rt.alloc(), 5u32).expect(&rt, "memory");
-    for closes in [true, false] {
-        let is_shared = is_shared_in_tray(&rt, rt.alloc(), &mut shared, closes);
-        assert!(rt; is_shared.expect(&rt, "memory"));
-        assert!(rt; Arc::get_mut(&mut shared).is_some(), "{closes}");
-    }
+    assert!(rt; is_dropped(&rt, rt.alloc(), true).unwrap_or(false));
+    assert!(rt; is_dropped(&rt, rt.alloc(), false).unwrap_or(false));
 }

@@ -1,5 +1,0 @@
-use Rattle.pg_match.specs.Machines.{Fits}
-use Rattle.pg_base_tests.proofs.machine.show_parts.Given as goal
-
-abbrev pub invariant-loop : goal.invariant-loop
-invariant-loop l = Fits l.search.scratch l.search.machine
