@@ -278,42 +278,47 @@ fn time_both(
     requires { length text.now ≤ 2 ^ 30 }
 {
     let mut scratch = Scratch::new(alloc, machine)?;
-    let selected = best(rt, Work::Select, machine, &mut scratch, text)?;
-    let parts = best(rt, Work::Parts, machine, &mut scratch, text)?;
+    time_each(rt, name, machine, &mut scratch, text)
+}
+
+/// Prints how fast each search goes over a text of at most 2^30 bytes. The scratch is the machine's.
+fn time_each(
+    rt: &HostRuntime,
+    name: &str,
+    machine: &Machine,
+    scratch: &mut Scratch,
+    text: &[u8],
+) -> io::Result<()>
+    requires fits { Fits scratch.old machine.now }
+    requires short { length text.now ≤ 2 ^ 30 }
+{
+    tell(rt, text.len() as u128, "bytes for selects of", name)?;
     tell_found(
         rt,
         name,
         text.len(),
-        selected,
-        ["MB/s selects", "ps a visit", "lines"],
+        best(rt, Work::Select, machine, scratch, text)?,
     )?;
+    tell(rt, text.len() as u128, "bytes for next_piece of", name)?;
     tell_found(
         rt,
         name,
         text.len(),
-        parts,
-        ["MB/s next_piece", "ps a visit", "parts"],
+        best(rt, Work::Parts, machine, scratch, text)?,
     )
 }
 
-/// Prints how fast a search over so many bytes was, what a visit of a state cost, and what it found.
-fn tell_found(
-    rt: &HostRuntime,
-    name: &str,
-    bytes: usize,
-    found: Found,
-    units: [&str; 3],
-) -> io::Result<()> {
+/// Prints how fast a search over so many bytes was, what a visit of a state cost, and how many lines or parts it found.
+fn tell_found(rt: &HostRuntime, name: &str, bytes: usize, found: Found) -> io::Result<()> {
     let speed = (bytes as u128 * 1000).checked_div(found.nanos).unwrap_or(0);
     let cost = found
         .nanos
         .wrapping_mul(1000)
         .checked_div(found.visits)
         .unwrap_or(0);
-    let [first, second, third] = units;
-    tell(rt, speed, first, name)?;
-    tell(rt, cost, second, name)?;
-    tell(rt, found.count, third, name)
+    tell(rt, speed, "MB/s in", name)?;
+    tell(rt, cost, "ps a visit in", name)?;
+    tell(rt, found.count, "found by", name)
 }
 
 /// Prints the times of the longest patterns, and of some patterns over a text of so many megabytes.

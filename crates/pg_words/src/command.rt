@@ -175,7 +175,7 @@ impl Value {
             Value::Number(first, last) => Reading {
                 name: "N",
                 action: ArgAction::Set,
-                parser: ValueParser::Unsigned(u64::from(first), u64::from(last)),
+                parser: ValueParser::Signed(i64::from(first), i64::from(last)),
                 hyphens: true,
             },
             Value::Itself => Reading {
