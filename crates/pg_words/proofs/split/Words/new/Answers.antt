@@ -25,9 +25,9 @@ loop-word-preserved c =
     let i = c.loop-word.word-index in
     let word = c.word-item.result in
     one_more (map (λ part. part.now) c.loop-word.parts.items) (map (λ part. part.now) c.push_pieces.new.parts.items)
-        (cut (map string_bytes words)) _ (map string_bytes (drop (i + 1) words)) (map string_bytes (drop i words))
-        c.loop-word.place c.place_behind-place.result (string_bytes word)
-        c.as_str.result.now c.as_str-in-loop-word.result.now
-        (next_word string_bytes words i word c.loop-word-test.true c.word-item.is)
-        c.as_str.ensures.value c.as_str-in-loop-word.ensures.value c.pieces_of.ensures
-        c.in_ok-push_pieces.ensures c.place_behind-place.ensures c.loop-word.invariant
+    (cut (map string_bytes words)) _ (map string_bytes (drop (i + 1) words)) (map string_bytes (drop i words))
+    c.loop-word.place c.place_behind-place.result (string_bytes word)
+    c.as_str.result.now c.as_str-in-loop-word.result.now
+    (next_word string_bytes words i word c.loop-word-test.true c.word-item.is)
+    c.as_str.ensures.value c.as_str-in-loop-word.ensures.value c.pieces_of.ensures
+    c.in_ok-push_pieces.ensures c.place_behind-place.ensures c.loop-word.invariant
