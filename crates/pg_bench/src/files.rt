@@ -1,22 +1,35 @@
 //! The walk over directories.
-use anyhow::Result;
 use pg_walk::{DiskTree, Item, walk};
 use std::alloc::Global;
-use std::io::{self, BufWriter, Write};
+use std::io::{self, Write};
 
 /// Writes the files that a walk over the operands gives, one a line, and the names of faults to standard error.
-pub fn list_files(rt: &HostRuntime, alloc: Global, operands: &[String]) -> Result<()> {
+pub fn list_files(rt: &HostRuntime, alloc: Global, operands: &[String]) -> io::Result<()> {
     let items = walk(alloc, &DiskTree::new(rt), operands, true)?;
-    let mut out = BufWriter::new(alloc, io::writer(rt))?;
-    for item in &items {
+    write_items(rt, alloc, items.as_slice())
+}
+
+/// Writes the files among the items at once, as a program does that holds its output back.
+fn write_items(rt: &HostRuntime, alloc: Global, items: &[Item]) -> io::Result<()> {
+    let mut lines = Vec::new(alloc);
+    put_items(rt, &mut lines, items)?;
+    io::writer(rt).write_all(lines.as_slice())
+}
+
+/// Adds the lines of files, and tells faults.
+fn put_items(rt: &HostRuntime, lines: &mut Vec<u8>, items: &[Item]) -> io::Result<()> {
+    for item in items {
         match item {
-            Item::File(path) => {
-                out.write_all(path.as_bytes())?;
-                out.write_all(b"\n")?;
-            }
+            Item::File(path) => put_line(lines, path.as_str())?,
             Item::Fault(path, _) => eprintln!(rt; "{path}")?,
         }
     }
-    out.flush()?;
+    Ok(())
+}
+
+/// Adds a line.
+fn put_line(lines: &mut Vec<u8>, line: &str) -> io::Result<()> {
+    lines.extend_from_slice(line.as_bytes())?;
+    lines.push(b'\n')?;
     Ok(())
 }

@@ -2,9 +2,15 @@
 use Rattle.std.specs.Prelude.{ℕ, ◌+◌, ◌==◌, nat_eq, nat_lt, Bool, ◌&&◌, ◌||◌, not, if◌then◌else◌}
 use Rattle.std.specs.Prelude.{List, [], ◌∷◌, ◌++◌, length, slice_index, take, drop, codes}
 use Rattle.std.specs.List.{list_any, position_or_len}
+use Rattle.std.specs.Option.{option_map, option_to_list}
 use lib.Pointwise.{pointwise}
+use Rattle.pg_words.specs.declared.split.Pieces.{Pieces}
 use Rattle.pg_words.specs.declared.split.Place.{Place}
 use Rattle.pg_words.specs.declared.split.Place.TheVariants.{Free, Value, Operand}
+
+-- the words that a word was cut into
+abbrev pub texts_of : Pieces → List (List ℕ)
+texts_of pieces = pieces.first.now ∷ option_to_list (option_map (λ value. value.now) pieces.value)
 
 -- a hyphen begins the word, and no second one follows
 abbrev pub is_bundle : List ℕ → Bool

@@ -1,6 +1,7 @@
 //! The options as `clap` knows them.
 
 use crate::options::Options;
+use clap::builder::ValueParser;
 use clap::{Arg, ArgAction, ArgMatches, Command};
 use std::alloc::{AllocError, Global};
 
@@ -21,134 +22,170 @@ enum Value {
     Text(&'static str),
     /// A number from the first to the second one. The last number counts.
     Number(u32, u32),
+    /// The operand itself. Operands collect, and none of them is a word of options.
+    Itself,
 }
 
-/// An option: its letter, its name, and what stands behind it.
-struct Opt(Option<char>, &'static str, Value);
+/// What a value is to `clap`: its name in faults, what a use does, what it has to be, and whether it may look like an
+/// option. The name and the hyphen have no effect where there is no value.
+#[derive(Clone, Copy)]
+struct Reading {
+    name: &'static str,
+    action: ArgAction,
+    parser: ValueParser<'static>,
+    hyphens: bool,
+}
 
-/// The options but for -q. Of names that are equally close to a wrong one `clap` proposes the last. -G is read by
-/// nobody: it asks for what is taken without -E and -F, and has no effect beside them. Nor is -a, for every file is
-/// text.
-static OPTIONS: [Opt; 28] = [
-    Opt(Some('E'), "extended-regexp", Value::Nothing),
-    Opt(Some('F'), "fixed-strings", Value::Nothing),
-    Opt(Some('G'), "basic-regexp", Value::Nothing),
-    Opt(Some('i'), "ignore-case", Value::Nothing),
-    Opt(Some('v'), "invert-match", Value::Nothing),
-    Opt(Some('w'), "word-regexp", Value::Nothing),
-    Opt(Some('x'), "line-regexp", Value::Nothing),
-    Opt(Some('z'), "null-data", Value::Nothing),
-    Opt(Some('e'), "regexp", Value::Text("TEXT")),
-    Opt(Some('f'), "file", Value::Text("FILE")),
-    Opt(Some('o'), "only-matching", Value::Nothing),
-    Opt(Some('c'), "count", Value::Nothing),
-    Opt(Some('l'), "files-with-matches", Value::Nothing),
-    Opt(Some('n'), "line-number", Value::Nothing),
-    Opt(Some('H'), "with-filename", Value::Nothing),
-    Opt(Some('h'), "no-filename", Value::Nothing),
-    Opt(Some('m'), "max-count", Value::Number(1, u32::MAX)),
-    Opt(Some('A'), "after-context", Value::Number(0, u32::MAX)),
-    Opt(Some('B'), "before-context", Value::Number(0, MAX_BEFORE)),
-    Opt(Some('C'), "context", Value::Number(0, MAX_BEFORE)),
-    Opt(Some('r'), "recursive", Value::Nothing),
-    Opt(Some('s'), "no-messages", Value::Nothing),
-    Opt(Some('a'), "text", Value::Nothing),
-    Opt(None, "workers", Value::Number(1, MAX_WORKERS)),
-    Opt(None, "block", Value::Number(1, MAX_BLOCK)),
-    Opt(None, "round", Value::Number(1, MAX_ROUND)),
-    Opt(None, "help", Value::Nothing),
-    Opt(Some('V'), "version", Value::Nothing),
+/// What an option goes by.
+#[derive(Clone, Copy)]
+enum Names {
+    /// A letter and the long name, and further long names.
+    Letter(char, &'static [&'static str]),
+    /// The long name.
+    Long,
+    /// Its place, as an operand.
+    Place,
+}
+
+/// An option: what it goes by, its long name, and what stands behind it.
+struct Opt(Names, &'static str, Value);
+
+/// The options, and the operands: PATTERN, where neither -e nor -f is given, and each FILE. Of names that are equally
+/// close to a wrong one `clap` proposes the last. -G is read by nobody: it asks for what is taken without -E and -F,
+/// and has no effect beside them. Nor is -a, for every file is text.
+static OPTIONS: [Opt; 30] = [
+    Opt(Names::Letter('q', &["silent"]), "quiet", Value::Nothing),
+    Opt(Names::Letter('E', &[]), "extended-regexp", Value::Nothing),
+    Opt(Names::Letter('F', &[]), "fixed-strings", Value::Nothing),
+    Opt(Names::Letter('G', &[]), "basic-regexp", Value::Nothing),
+    Opt(Names::Letter('i', &[]), "ignore-case", Value::Nothing),
+    Opt(Names::Letter('v', &[]), "invert-match", Value::Nothing),
+    Opt(Names::Letter('w', &[]), "word-regexp", Value::Nothing),
+    Opt(Names::Letter('x', &[]), "line-regexp", Value::Nothing),
+    Opt(Names::Letter('z', &[]), "null-data", Value::Nothing),
+    Opt(Names::Letter('e', &[]), "regexp", Value::Text("TEXT")),
+    Opt(Names::Letter('f', &[]), "file", Value::Text("FILE")),
+    Opt(Names::Letter('o', &[]), "only-matching", Value::Nothing),
+    Opt(Names::Letter('c', &[]), "count", Value::Nothing),
+    Opt(
+        Names::Letter('l', &[]),
+        "files-with-matches",
+        Value::Nothing,
+    ),
+    Opt(Names::Letter('n', &[]), "line-number", Value::Nothing),
+    Opt(Names::Letter('H', &[]), "with-filename", Value::Nothing),
+    Opt(Names::Letter('h', &[]), "no-filename", Value::Nothing),
+    Opt(
+        Names::Letter('m', &[]),
+        "max-count",
+        Value::Number(1, u32::MAX),
+    ),
+    Opt(
+        Names::Letter('A', &[]),
+        "after-context",
+        Value::Number(0, u32::MAX),
+    ),
+    Opt(
+        Names::Letter('B', &[]),
+        "before-context",
+        Value::Number(0, MAX_BEFORE),
+    ),
+    Opt(
+        Names::Letter('C', &[]),
+        "context",
+        Value::Number(0, MAX_BEFORE),
+    ),
+    Opt(Names::Letter('r', &[]), "recursive", Value::Nothing),
+    Opt(Names::Letter('s', &[]), "no-messages", Value::Nothing),
+    Opt(Names::Letter('a', &[]), "text", Value::Nothing),
+    Opt(Names::Long, "workers", Value::Number(1, MAX_WORKERS)),
+    Opt(Names::Long, "block", Value::Number(1, MAX_BLOCK)),
+    Opt(Names::Long, "round", Value::Number(1, MAX_ROUND)),
+    Opt(Names::Long, "help", Value::Nothing),
+    Opt(Names::Letter('V', &[]), "version", Value::Nothing),
+    Opt(Names::Place, "operands", Value::Itself),
 ];
 
 /// The options and operands of a search.
 pub fn search_command<'a>(alloc: Global) -> Result<Command<'a>, AllocError> {
-    let args = search_args(alloc)?;
+    let mut args = Vec::new(alloc);
+    add_options(alloc, &mut args)?;
+    bare_command(alloc).args(args)
+}
+
+/// The command without options.
+fn bare_command<'a>(alloc: Global) -> Command<'a> {
     Command::new(alloc, "pargrep")
         .override_usage("pargrep [OPTION ...] [PATTERN] [FILE ...]")
         .no_binary_name(true)
         .disable_help_flag(true)
-        .disable_version_flag(true)
         .args_override_self(true)
-        .args(args)
 }
 
-/// The options, and behind them the operands.
-fn search_args<'a>(alloc: Global) -> Result<Vec<Arg<'a>>, AllocError> {
-    let mut args = Vec::new(alloc);
-    args.push(quiet(alloc)?)?;
-    add_options(alloc, &mut args, &OPTIONS)?;
-    args.push(operands(alloc))?;
-    Ok(args)
-}
-
-/// Adds options, in their order.
-fn add_options<'a>(
-    alloc: Global,
-    args: &mut Vec<Arg<'a>>,
-    options: &[Opt],
-) -> Result<(), AllocError> {
-    for option in options {
-        args.push(option.arg(alloc))?;
+/// Adds the options, in their order.
+fn add_options<'a>(alloc: Global, args: &mut Vec<Arg<'a>>) -> Result<(), AllocError> {
+    for option in &OPTIONS {
+        args.push(option.arg(alloc)?)?;
     }
     Ok(())
 }
 
-/// -q, which has two names.
-fn quiet<'a>(alloc: Global) -> Result<Arg<'a>, AllocError> {
-    Opt(Some('q'), "quiet", Value::Nothing)
-        .arg(alloc)
-        .alias("silent")
-}
-
 impl Opt {
-    fn arg<'a>(&self, alloc: Global) -> Arg<'a> {
-        let Opt(letter, name, value) = self;
-        let arg = value.behind(Arg::new(alloc, name).long(name));
-        match letter {
-            Some(letter) => arg.short(*letter),
-            None => arg,
+    /// The option as `clap` knows it.
+    fn arg<'a>(&self, alloc: Global) -> Result<Arg<'a>, AllocError> {
+        let Opt(names, name, value) = self;
+        match names {
+            Names::Letter(letter, others) => value
+                .named(alloc, name)
+                .long(name)
+                .short(*letter)
+                .aliases(others),
+            Names::Long => Ok(value.named(alloc, name).long(name)),
+            Names::Place => Ok(value.named(alloc, name)),
         }
     }
 }
 
 impl Value {
-    /// An option with this behind it.
-    fn behind<'a>(self, arg: Arg<'a>) -> Arg<'a> {
+    /// What is found by this name, and has this behind it.
+    fn named<'a>(self, alloc: Global, name: &'a str) -> Arg<'a> {
+        let reading = self.reading();
+        Arg::new(alloc, name)
+            .value_name(reading.name)
+            .action(reading.action)
+            .value_parser(reading.parser)
+            .allow_hyphen_values(reading.hyphens)
+    }
+
+    /// What it is to `clap`.
+    fn reading(self) -> Reading {
         match self {
-            Value::Nothing => arg.action(ArgAction::SetTrue),
-            Value::Text(name) => with_texts(arg, name),
-            Value::Number(first, last) => with_number(arg, first, last),
+            Value::Nothing => Reading {
+                name: "",
+                action: ArgAction::SetTrue,
+                parser: ValueParser::Bool,
+                hyphens: false,
+            },
+            Value::Text(name) => Reading {
+                name,
+                action: ArgAction::Append,
+                parser: ValueParser::String,
+                hyphens: true,
+            },
+            Value::Number(first, last) => Reading {
+                name: "N",
+                action: ArgAction::Set,
+                parser: ValueParser::Signed(i64::from(first), i64::from(last)),
+                hyphens: true,
+            },
+            Value::Itself => Reading {
+                name: "FILE",
+                action: ArgAction::Append,
+                parser: ValueParser::String,
+                hyphens: false,
+            },
         }
     }
-}
-
-/// An option with texts behind it, which collect.
-fn with_texts<'a>(arg: Arg<'a>, name: &'a str) -> Arg<'a> {
-    arg.value_name(name)
-        .action(ArgAction::Append)
-        .allow_hyphen_values(true)
-}
-
-/// An option with a number behind it.
-fn with_number(arg: Arg<'_>, first: u32, last: u32) -> Arg<'_> {
-    arg.value_name("N")
-        .action(ArgAction::Set)
-        .allow_hyphen_values(true)
-        .value_parser(clap::value_parser!(u32).range(i64::from(first)..=i64::from(last)))
-}
-
-/// PATTERN, where neither -e nor -f is given, and each FILE.
-fn operands<'a>(alloc: Global) -> Arg<'a> {
-    Arg::new(alloc, "operands")
-        .value_name("FILE")
-        .num_args(1..)
-        .action(ArgAction::Append)
-}
-
-/// The number that an option gives for lines before a selected one. `clap` has refused those that are too large.
-fn lines_before(found: &ArgMatches<'_>, name: &str) -> Option<u16> {
-    let lines: u32 = found.get_one(name)?;
-    Some(u16::try_from(lines).unwrap_or(u16::MAX))
 }
 
 /// The options that exclude one another, want operands or decide how rows look.
@@ -167,7 +204,7 @@ pub fn options_of(found: &ArgMatches<'_>) -> Options {
         recursive: found.get_flag("recursive"),
         limit: found.get_one("max-count"),
         after: found.get_one("after-context"),
-        before: lines_before(found, "before-context"),
-        around: lines_before(found, "context"),
+        before: found.get_one("before-context"),
+        around: found.get_one("context"),
     }
 }

@@ -6,7 +6,7 @@ use pg_rows::{Format, Mode};
 use pg_syntax::Kind;
 
 /// When rows and counts begin with the file's name.
-#[derive(Clone, Copy, Debug, PartialEq, Eq)]
+#[derive(Clone, Copy)]
 pub enum Naming {
     /// With -H: always.
     Always,
@@ -17,7 +17,7 @@ pub enum Naming {
 }
 
 /// The options that exclude one another, want operands or decide how rows look, as they are given.
-#[derive(Clone, Copy, Debug)]
+#[derive(Clone, Copy)]
 pub struct Options {
     /// -E: extended expressions.
     pub extended: bool,

@@ -1,9 +1,8 @@
 //! Words of a command line, cut so that each value of an option's letter stands alone.
-ghost use Rattle.std.specs.Prelude.{◌≡◌, ◌∷◌, ◌++◌, ◌≤◌, ◌<◌, ◌-◌, ◌==◌, if◌then◌else◌, false, true};
-ghost use Rattle.std.specs.Prelude.{IfOk, map, length, slice_index};
+ghost use Rattle.std.specs.Prelude.{◌≡◌, ◌++◌, ◌≤◌, ◌<◌, ◌-◌, false, true, IfOk, OnOk, map, length, slice_index};
 ghost use Rattle.std.specs.String.{string_bytes};
 ghost use Rattle.pg_words.specs.Split.{bundle_pieces, cut, has_value, is_bundle, is_mark, pieces, place_behind};
-ghost use Rattle.pg_words.specs.Split.{value_start, wants_value};
+ghost use Rattle.pg_words.specs.Split.{texts_of, value_start, wants_value};
 
 use std::alloc::{AllocError, Global};
 
@@ -28,6 +27,15 @@ enum Place {
     Operand,
 }
 
+/// The words that a word is cut into.
+#[derive(Clone, Copy)]
+struct Pieces<'a> {
+    /// The word, or an option whose value stands behind it in the word.
+    first: &'a str,
+    /// That value.
+    value: Option<&'a str>,
+}
+
 impl<'a> Words<'a> {
     /// Cuts the words.
     ///
@@ -40,7 +48,8 @@ impl<'a> Words<'a> {
         let mut parts = Vec::with_capacity(alloc, words.len())?;
         let mut place = Place::Free;
         for word in words {
-            place = push_word(&mut parts, word.as_str(), place)?;
+            push_pieces(&mut parts, pieces_of(place, word.as_str()))?;
+            place = place_behind(place, word.as_str());
         }
         Ok(Words { parts })
     }
@@ -53,26 +62,70 @@ impl<'a> Words<'a> {
     }
 }
 
-/// Adds a word, and says what the next one is.
-fn push_word<'a>(parts: &mut Vec<&'a str>, word: &'a str, place: Place) -> Result<Place, AllocError>
-    ensures added { IfOk result (λ _. map (λ part. part.now) parts.new.items
-        ≡ map (λ part. part.now) parts.old.items ++ pieces place word.entry.now) }
-    ensures behind { IfOk result (λ next. next ≡ place_behind place word.entry.now) }
+/// Adds the words that a word is cut into.
+fn push_pieces<'a>(parts: &mut Vec<&'a str>, pieces: Pieces<'a>) -> Result<(), AllocError>
+    ensures { OnOk result (map (λ part. part.now) parts.new.items
+        ≡ map (λ part. part.now) parts.old.items ++ texts_of pieces.entry) }
+{
+    parts.push(pieces.first)?;
+    if let Some(value) = pieces.value {
+        parts.push(value)?;
+    }
+    Ok(())
+}
+
+/// What a word is cut into.
+fn pieces_of(place: Place, word: &str) -> Pieces<'_>
+    ensures { texts_of result ≡ pieces place word.now }
 {
     match place {
-        Place::Value => {
-            parts.push(word)?;
-            Ok(Place::Free)
-        }
-        Place::Operand => {
-            parts.push(word)?;
-            Ok(Place::Operand)
-        }
-        Place::Free if is_bundle(word) => push_bundle(parts, word),
-        Place::Free => {
-            parts.push(word)?;
-            Ok(place_behind_word(word))
-        }
+        Place::Free if is_bundle(word) => bundle_pieces(word),
+        _ => Pieces {
+            first: word,
+            value: None,
+        },
+    }
+}
+
+/// A bundle of options and its value, where it holds one. Before the letter of the value stand options without one, or
+/// `clap` refuses the word.
+fn bundle_pieces(word: &str) -> Pieces<'_>
+    ensures { texts_of result ≡ bundle_pieces word.now }
+{
+    let start = value_start(word);
+    if start < word.len() {
+        let (option, value) = word.split_at(start);
+        return Pieces {
+            first: option,
+            value: Some(value),
+        };
+    }
+    Pieces {
+        first: word,
+        value: None,
+    }
+}
+
+/// What the next word is.
+fn place_behind(place: Place, word: &str) -> Place
+    ensures { result ≡ place_behind place word.now }
+{
+    match place {
+        Place::Value => Place::Free,
+        Place::Operand => Place::Operand,
+        Place::Free if is_bundle(word) => place_behind_bundle(word),
+        Place::Free => place_behind_word(word),
+    }
+}
+
+/// What the next word is behind a bundle.
+fn place_behind_bundle(word: &str) -> Place
+    ensures { is_bundle word.now ≡ true → result ≡ place_behind Place.Free word.now }
+{
+    if value_start(word) == word.len() {
+        Place::Value
+    } else {
+        Place::Free
     }
 }
 
@@ -87,29 +140,6 @@ fn place_behind_word(word: &str) -> Place
     } else {
         Place::Free
     }
-}
-
-/// Adds a bundle of options and its value, where it holds one. Before the letter of the value stand
-/// options without one, or `clap` refuses the word.
-fn push_bundle<'a>(parts: &mut Vec<&'a str>, word: &'a str) -> Result<Place, AllocError>
-    ensures added { IfOk result (λ _. map (λ part. part.now) parts.new.items
-        ≡ map (λ part. part.now) parts.old.items ++ bundle_pieces word.entry.now) }
-    ensures behind { IfOk result (λ next.
-        next ≡ (if value_start word.entry.now == length word.entry.now then Place.Value else Place.Free)) }
-{
-    let start = value_start(word);
-    if start < word.len() {
-        let (bundle, value) = word.split_at(start);
-        parts.push(bundle)?;
-        parts.push(value)?;
-        return Ok(Place::Free);
-    }
-    parts.push(word)?;
-    Ok(if start == word.len() {
-        Place::Value
-    } else {
-        Place::Free
-    })
 }
 
 /// Whether a hyphen begins the word, and no second one follows.

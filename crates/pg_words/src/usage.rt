@@ -7,7 +7,7 @@ use crate::options::Options;
 
 /// What is wrong with words that are the command's. Of several faults the one that stands first here
 /// is told.
-#[derive(Clone, Copy, Debug, PartialEq, Eq)]
+#[derive(Clone, Copy, Debug)]
 pub enum UsageFault {
     /// More than one of -c, -l and -q is given.
     SeveralModes,

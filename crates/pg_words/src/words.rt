@@ -4,7 +4,7 @@ ghost use Rattle.pg_words.specs.declared.words.WordsFault.TheVariants.{OutOfMemo
 
 use crate::command::{MAX_BLOCK, MAX_ROUND, MAX_WORKERS, options_of, search_command};
 use crate::help::{HELP, VERSION};
-use crate::operands::{Operands, place_operands, searched_files};
+use crate::operands::{Sources, place_operands, searched_files};
 use crate::options::Options;
 use crate::request::Request;
 use crate::split::Words;
@@ -86,16 +86,19 @@ pub fn read_words<'a>(alloc: Global, words: &'a Words<'_>) -> Result<Task<'a>, W
     let command = search_command(alloc)?;
     match command.try_get_matches_from(words.as_slice()) {
         Ok(found) => task_of(alloc, &found),
-        Err(error) => Err(refusal(alloc, &error)?),
+        Err(error) => Err(refusal(alloc, &error)),
     }
 }
 
 /// What `clap` said.
-fn refusal(alloc: Global, error: &Error) -> Result<WordsFault, AllocError> {
+fn refusal(alloc: Global, error: &Error) -> WordsFault {
     if error.kind() == ErrorKind::OutOfMemory {
-        return Ok(WordsFault::OutOfMemory);
+        return WordsFault::OutOfMemory;
     }
-    Ok(WordsFault::Refused(error.to_string(alloc)?))
+    match error.to_string(alloc) {
+        Ok(text) => WordsFault::Refused(text),
+        Err(_) => WordsFault::OutOfMemory,
+    }
 }
 
 /// --help before --version, and both before a search.
@@ -106,21 +109,36 @@ fn task_of<'a>(alloc: Global, found: &ArgMatches<'a>) -> Result<Task<'a>, WordsF
     if found.get_flag("version") {
         return Ok(Task::Version(String::from_str(alloc, VERSION)?));
     }
-    let request = request_of(alloc, found)?;
-    Ok(Task::Search(request))
+    search_of(alloc, found, &options_of(found), sources_of(found))
+}
+
+/// What the words name.
+fn sources_of<'w, 'a: 'w>(found: &'w ArgMatches<'a>) -> Sources<'w, 'a> {
+    place_operands(
+        values_of(found, "regexp"),
+        values_of(found, "file"),
+        values_of(found, "operands"),
+    )
+}
+
+/// The values of an option, in their order, or the operands.
+fn values_of<'w, 'a: 'w>(found: &'w ArgMatches<'a>, name: &str) -> &'w [&'a str] {
+    found.get_strs(name).unwrap_or_default()
 }
 
 /// The search that the words ask for. `clap` has refused numbers out of range.
-fn request_of<'a>(alloc: Global, found: &ArgMatches<'a>) -> Result<Request<'a>, WordsFault> {
-    let has_patterns = found.contains_id("regexp") || found.contains_id("file");
-    let words = found.get_strs("operands").unwrap_or(&[]);
-    let Operands { pattern, files } = place_operands(has_patterns, words);
-    let texts = texts_of(alloc, found, pattern)?;
-    let pattern_files = values_of(alloc, found, "file")?;
-    let options = options_of(found);
-    check_usage(&options, texts.as_slice(), pattern_files.as_slice(), files)?;
-    let files = searched_files(alloc, files)?;
-    Ok(build_request(found, &options, texts, pattern_files, files))
+fn search_of<'a>(
+    alloc: Global,
+    found: &ArgMatches<'a>,
+    options: &Options,
+    sources: Sources<'_, 'a>,
+) -> Result<Task<'a>, WordsFault> {
+    check_usage(options, sources.texts, sources.pattern_files, sources.files)?;
+    let texts = Vec::from_slice(alloc, sources.texts)?;
+    let pattern_files = Vec::from_slice(alloc, sources.pattern_files)?;
+    let files = searched_files(alloc, sources.files)?;
+    let request = build_request(found, options, texts, pattern_files, files);
+    Ok(Task::Search(request))
 }
 
 /// The search with these options, texts and files of patterns, and files that are searched.
@@ -158,29 +176,4 @@ fn build_request<'a>(
 /// The number that an option gives, and this one where it isn't given.
 fn number_of(found: &ArgMatches<'_>, name: &str, default: u32) -> u32 {
     found.get_one::<u32>(name).unwrap_or(default)
-}
-
-/// The -e texts in their order, and behind them PATTERN, where there is one.
-fn texts_of<'a>(
-    alloc: Global,
-    found: &ArgMatches<'a>,
-    pattern: Option<&'a str>,
-) -> Result<Vec<&'a str>, AllocError> {
-    let mut texts = values_of(alloc, found, "regexp")?;
-    if let Some(pattern) = pattern {
-        texts.push(pattern)?;
-    }
-    Ok(texts)
-}
-
-/// The values of an option, in their order.
-fn values_of<'a>(
-    alloc: Global,
-    found: &ArgMatches<'a>,
-    name: &str,
-) -> Result<Vec<&'a str>, AllocError> {
-    match found.get_strs(name) {
-        Some(values) => Vec::from_slice(alloc, values),
-        None => Ok(Vec::new(alloc)),
-    }
 }

@@ -2,4 +2,4 @@ use Rattle.pg_match.specs.Machines.{Fits}
 use Rattle.pg_bench.proofs.patterns.best.Given as goal
 
 abbrev pub invariant-loop : goal.invariant-loop
-invariant-loop g l = Fits l.scratch l.machine
+invariant-loop l = Fits l.scratch l.machine

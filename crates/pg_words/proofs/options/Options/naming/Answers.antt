@@ -1,4 +1,4 @@
-use Rattle.std.proofs.Common.{if◌then◌else◌, Bool, ap, sym, ◌∙◌}
+use Rattle.std.proofs.Common.{if◌then◌else◌, ap, sym}
 use Rattle.pg_words.specs.declared.options.Naming.TheVariants.{Always, Never, BySeveral}
 use Rattle.pg_words.proofs.options.Options.naming.Goals as goal
 

@@ -1,7 +1,7 @@
 use Rattle.std.proofs.Common.{◌≡◌, ◌-◌, ◌+◌, ℕ, arith, subst}
 use Rattle.std.specs.Str.{IsCharBoundary}
 use Rattle.std.proofs.lemmas.Str.{IsCharBoundary-after_ascii}
-use Rattle.pg_words.proofs.split.push_bundle.Goals as goal
+use Rattle.pg_words.proofs.split.bundle_pieces.Goals as goal
 
 -- the letter before the cut is ASCII
 pub split_at-requires : goal.split_at-requires
