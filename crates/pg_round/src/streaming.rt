@@ -1,5 +1,5 @@
 //! The workers of a round, beside the thread that takes what they put.
-ghost use Rattle.std.specs.Prelude.{◌≡◌, ◌+◌, [], false, All, vec_len, IfOk, IfSome, IsSome, OnOk, OnErr};
+ghost use Rattle.std.specs.Prelude.{◌≡◌, ◌+◌, ◌<◌, [], false, All, vec_len, IfOk, IfSome, IsSome, OnOk, OnErr};
 ghost use Rattle.std.specs.Arc.{arc_value};
 ghost use Rattle.pg_lines.specs.Searched.{Searched};
 ghost use Rattle.pg_round.specs.Workers.{task, task_of, IsReady, HasWorked};
@@ -11,7 +11,7 @@ use crate::gate::Gate;
 use crate::reader::Reader;
 use crate::receiving::{Signs, take_all};
 use crate::round::Round;
-use crate::starting::{join_all, start_all};
+use crate::starting::{Back, join_all, start_all};
 use crate::worker::{Worker, search};
 use pg_board::{Board, TakePass, Tray};
 use pg_lines::{Block, BlockResult, Query};
@@ -24,10 +24,7 @@ use std::thread;
 use std::thread::{Scope, Threads, join_mut};
 use std::time::Clock;
 
-/// All workers of a round, once they have ended.
-pub(crate) type Back<A> = Result<Vec<Worker<A>, A>, AllocError>;
-
-/// One worker works in this thread, and the others in threads of their own. All are back when it returns.
+/// The second worker works in this thread, and those behind it in threads of their own. All are back when it returns.
 fn work_together<
     's,
     'e: 's,
@@ -44,18 +41,13 @@ fn work_together<
     refused: &'e AtomicBool,
 ) -> Back<A>
     requires ready { IsReady (task_of round) }
-    requires worked { All (HasWorked (task_of round)) workers.items }
+    requires worked { All (HasWorked (task_of round)) workers.items × (1 < vec_len workers) }
     ensures { IfOk result (λ back. (vec_len back ≡ vec_len workers)
         × All (HasWorked (task_of round.entry)) back.items) }
 {
-    let Some(worker) = workers.pop() else {
-        return Ok(workers);
-    };
-    let started = start_all(scope, rt, alloc, round, workers, gate, refused)?;
-    let worker = search(rt, alloc, round, worker, gate)?;
-    let mut back = join_all(rt, alloc, round, started)?;
-    back.push(worker)?;
-    Ok(back)
+    let started = start_all(scope, rt, alloc, round, &mut workers, gate, refused)?;
+    search(rt, alloc, round, &mut workers[1], gate)?;
+    join_all(rt, round, started, workers)
 }
 
 /// Has the workers search in a scope of their own.
@@ -71,7 +63,8 @@ fn run_workers<R: Threads + Wait + Sync, A: Allocator + Copy + Send + Sync, G: G
     signs: &Signs,
 ) -> Back<A>
     requires ready { IsReady (task (arc_value query.now) blocks.now board.now tray.now) }
-    requires worked { All (HasWorked (task (arc_value query.now) blocks.now board.now tray.now)) workers.items }
+    requires worked { All (HasWorked (task (arc_value query.now) blocks.now board.now tray.now)) workers.items
+        × (1 < vec_len workers) }
     ensures { IfOk result (λ back. (vec_len back ≡ vec_len workers)
         × All (HasWorked (task (arc_value query.now) blocks.now board.now tray.now)) back.items) }
 {
@@ -82,7 +75,8 @@ fn run_workers<R: Threads + Wait + Sync, A: Allocator + Copy + Send + Sync, G: G
         rt,
         |scope| -> Back<A>
             requires { IsReady (task (arc_value query.now) blocks.now board.now tray.now)
-                × All (HasWorked (task (arc_value query.now) blocks.now board.now tray.now)) workers.items }
+                × All (HasWorked (task (arc_value query.now) blocks.now board.now tray.now)) workers.items
+                × (1 < vec_len workers) }
             ensures { IfOk result (λ back. (vec_len back ≡ vec_len workers)
                 × All (HasWorked (task (arc_value query.entry.now) blocks.entry.now board.entry.now tray.entry.now))
                 back.items) }
@@ -125,7 +119,8 @@ pub(crate) fn stream<
     gate: &G,
 ) -> (Back<A>, Result<(), SinkFault>)
     requires ready { IsReady (task (arc_value query.now) blocks.now board.now tray.now) }
-    requires worked { All (HasWorked (task (arc_value query.now) blocks.now board.now tray.now)) workers.items }
+    requires worked { All (HasWorked (task (arc_value query.now) blocks.now board.now tray.now)) workers.items
+        × (1 < vec_len workers) }
     requires sees { (found : Searched) → S.searched found ≡ found }
     requires take { (take.old.tray ≡ tray.now) × (take.old.taken ≡ []) }
     requires reader { D.ready reader.old from.old }
@@ -155,7 +150,8 @@ pub(crate) fn stream<
     { take_all(rt, tray, take, collector, out, reader, from, &signs) };
     let mut working = || -> Back<A>
         requires jobs { IsSome jobs × IfSome jobs (λ workers.
-            All (HasWorked (task (arc_value query.now) blocks.now board.now tray.now)) workers.items) }
+            All (HasWorked (task (arc_value query.now) blocks.now board.now tray.now)) workers.items
+            × (1 < vec_len workers)) }
         requires ready { IsReady (task (arc_value query.now) blocks.now board.now tray.now) }
         ensures { IfOk result (λ back. IfSome jobs.entry (λ workers. vec_len back ≡ vec_len workers)
             × All (HasWorked (task (arc_value query.entry.now) blocks.entry.now board.entry.now tray.entry.now))
