@@ -110,14 +110,8 @@ fn search_beside<
     if workers.len() < 2 {
         return Ok(workers);
     }
-    let Round {
-        query,
-        blocks,
-        board,
-        tray,
-    } = round;
     let (back, taken) = stream(
-        rt, alloc, query, blocks, board, tray, workers, take, collector, out, reader, from, gate,
+        rt, alloc, &round, round.tray, workers, take, collector, out, reader, from, gate,
     );
     taken?;
     let back = back?;
