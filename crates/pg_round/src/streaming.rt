@@ -17,8 +17,8 @@ use pg_lines::BlockResult;
 use pg_rows::Sink;
 use pg_seq::SinkFault;
 use std::alloc::{AllocError, Allocator};
-use std::sync::atomic::{AtomicBool, Ordering};
 use std::sync::Wait;
+use std::sync::atomic::{AtomicBool, Ordering};
 use std::thread;
 use std::thread::{Scope, Threads, join_mut};
 use std::time::Clock;
@@ -76,9 +76,7 @@ fn run_workers<R: Threads + Wait + Sync, A: Allocator + Copy + Send + Sync, G: G
             ensures { IfOk result (λ back. (vec_len back ≡ vec_len workers)
                 × All (HasWorked (task_of round.entry))
                 back.items) }
-        {
-            work_together(scope, rt, alloc, round, workers, gate, refused)
-        },
+        { work_together(scope, rt, alloc, round, workers, gate, refused) },
     );
     signs.ended.store(true, Ordering::SeqCst);
     back

@@ -1,6 +1,6 @@
 use Rattle.std.proofs.lemmas.Result.{IfOk-from_err, IfOk-weaker}
 use Rattle.std.proofs.lemmas.List.Elements.{All-set}
-use Rattle.std.proofs.Common.{List, All, arith, vec_len, ◌≡◌, ◌+◌, ◌∙◌}
+use Rattle.std.proofs.Common.{arith, vec_len, ◌≡◌, ◌+◌, ◌∙◌}
 use Rattle.pg_round.specs.declared.worker.Worker.{Worker}
 use Rattle.pg_round.specs.Workers.{task_of, HasWorked}
 use Rattle.pg_round.proofs.ListLemmas.{all_at}
