@@ -1,5 +1,5 @@
 -- Lists that gain or lose their last member, and what holds of all members.
-use Rattle.std.proofs.Common.{◌≡◌, ◌⊎◌, inl, inr, ℕ, zero, suc, ◌<◌, List, [], ◌∷◌, ◌++◌, All, Any, length, get_or, replicate, sym, refl, ap, subst, arith}
+use Rattle.std.proofs.Common.{◌≡◌, ◌⊎◌, inl, inr, ℕ, zero, suc, ◌<◌, List, [], ◌∷◌, ◌++◌, All, Any, length, get_or, set, replicate, sym, refl, ap, subst, arith}
 use Rattle.std.specs.Prelude.{slice_get, Some}
 use Rattle.std.proofs.lemmas.List.Elements.{All-append}
 
@@ -25,6 +25,9 @@ module _ {A : Type 0} (P : A → Type 0) where
   all_front (y ∷ ys) x h zero d l = h zero d (omega arith)
   all_front (y ∷ ys) x h (suc k) d l = all_front ys x (λ k d l. h (suc k) d (omega arith)) k d (omega arith)
 
+  pub all_at : (xs : List A) (i : ℕ) (x : A) → All P xs → i < length xs → x ≡ get_or xs i x → P x
+  all_at xs i x h l e = subst P (sym e) (h i x l)
+
   pub all_none : All P []
   all_none k d l = absurd (omega arith)
 
@@ -39,6 +42,10 @@ module _ {A : Type 0} (P : A → Type 0) where
 
   pub any_pushed : (xs ys : List A) (x : A) → ys ≡ xs ++ x ∷ [] → P x → Any P ys
   any_pushed xs ys x e p = subst (λ (l : List A). Any P l) (sym e) (any_last xs x p)
+
+  pub any_first : (xs : List A) (x : A) → 0 < length xs → P x → Any P (set xs 0 x)
+  any_first [] x l p = absurd (omega arith)
+  any_first (y ∷ ys) x l p = (0, x, (omega arith), refl, p)
 
   any_behind : (y : A) (ys : List A) (x : A) → Any P ys ⊎ P x → Any P (y ∷ ys) ⊎ P x
   any_behind y ys x (inl h) = inl (suc h.0, h.1, (let l = h.2 in omega arith), h.3, h.4)

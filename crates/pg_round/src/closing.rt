@@ -36,11 +36,7 @@ fn part<A: Allocator + Copy>(
     let mut seats = Vec::with_capacity(alloc, workers.len())?;
     let mut passes = Vec::with_capacity(alloc, workers.len())?;
     while let Some(worker) = workers.pop() {
-        let Worker {
-            seat,
-            pass,
-            scratch,
-        } = worker;
+        let (seat, pass, scratch) = worker.apart();
         seats.push_reserved(seat);
         passes.push_reserved(pass);
         scratches.push(scratch)?;

@@ -22,7 +22,7 @@ pub trait Reader<F> {
 }
 
 /// A reader that has nothing to do, whatever it is given.
-#[derive(Clone, Copy, Debug, Drop)]
+#[derive(Clone, Copy, Drop)]
 pub struct NothingToRead;
 
 impl<F> Reader<F> for NothingToRead {

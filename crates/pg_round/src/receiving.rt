@@ -55,6 +55,24 @@ fn pause<R: Clock>(rt: &R, looks: u32) {
     }
 }
 
+/// Whether nothing more is to be taken after so many looks: all workers have ended, or their thread doesn't begin.
+fn is_over(signs: &Signs, ended: bool, looks: u32) -> bool {
+    ended || (looks >= PATIENCE && !signs.begun.load(Ordering::SeqCst))
+}
+
+/// Has the reader make a step, and pauses where it has nothing to do. Counts such looks.
+fn read_on<R: Clock, D: Reader<F>, F>(rt: &R, reader: &mut D, from: &mut F, looks: u32) -> u32
+    requires { D.ready reader.old from.old }
+    ensures ready { D.ready reader.new from.new }
+    ensures read { (r : D) → (f : F) → D.reaches r f reader.old from.old → D.reaches r f reader.new from.new }
+{
+    if reader.step(from) {
+        return looks;
+    }
+    pause(rt, looks);
+    looks.saturating_add(1)
+}
+
 /// Takes one result in, and writes what may be handed out.
 fn receive<A: Allocator, S: Collector<BlockResult<A>>, W: Sink>(
     collector: &mut S,
@@ -113,13 +131,10 @@ pub(crate) fn take_all<
                 looks = 0;
             }
             None => {
-                if ended || (looks >= PATIENCE && !signs.begun.load(Ordering::SeqCst)) {
+                if is_over(signs, ended, looks) {
                     return Ok(());
                 }
-                if !reader.step(from) {
-                    pause(rt, looks);
-                    looks = looks.saturating_add(1);
-                }
+                looks = read_on(rt, reader, from, looks);
             }
         }
     }

@@ -1,16 +1,29 @@
 //! What all who search a round share.
+ghost use Rattle.std.specs.Prelude.{◌≡◌};
+
 use pg_board::{Board, Tray};
 use pg_lines::{Block, BlockResult, Query};
-use std::alloc::{Allocator, Global};
+use std::alloc::{AllocError, Allocator, Global};
 use std::sync::Arc;
 
 /// What all who search a round share.
 ///
 /// Block k of the round has the number k, which is drawn from the board. The tray takes the results.
-#[derive(Clone, Copy)]
 pub struct Round<'a, A: Allocator = Global> {
     pub query: &'a Arc<Query<A>, A>,
     pub blocks: &'a [Arc<Block<A>, A>],
     pub board: &'a Board<A>,
     pub tray: &'a Tray<BlockResult<A>, A>,
+}
+
+impl<A: Allocator> Copy for Round<'_, A> {}
+
+impl<A: Allocator> Clone for Round<'_, A> {
+    ghost is_clone = { λ round copy. copy ≡ round };
+
+    ghost is_infallible = { λ _. Unit {0} };
+
+    fn clone(&self) -> Result<Self, AllocError> {
+        Ok(*self)
+    }
 }

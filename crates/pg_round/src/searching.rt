@@ -68,7 +68,7 @@ fn count_workers(blocks: usize, scratches: usize, threads: u32) -> u32
     scratches.min(blocks + 1).min(threads as usize + 1) as u32
 }
 
-/// Has the workers search, if there are any, and meanwhile takes what they put and has the reader go on.
+/// Has the workers but the first search, if there are any, and meanwhile takes what they put and has the reader go on.
 fn search_beside<
     R: Threads + Wait + Clock + Sync,
     A: Allocator + Copy + Send + Sync,
@@ -107,44 +107,19 @@ fn search_beside<
     ensures ready { D.ready reader.new from.new }
     ensures read { (r : D) → (f : F) → D.reaches r f reader.old from.old → D.reaches r f reader.new from.new }
 {
-    if workers.is_empty() {
+    if workers.len() < 2 {
         return Ok(workers);
     }
-    let Round {
-        query,
-        blocks,
-        board,
-        tray,
-    } = round;
     let (back, taken) = stream(
-        rt, alloc, query, blocks, board, tray, workers, take, collector, out, reader, from, gate,
+        rt, alloc, &round, round.tray, workers, take, collector, out, reader, from, gate,
     );
     taken?;
     let back = back?;
     Ok(back)
 }
 
-/// Searches what was left, by a worker who then stands among the others.
-fn search_rest<R: Wait, A: Allocator + Copy, G: Gate>(
-    rt: &R,
-    alloc: A,
-    round: Round<'_, A>,
-    worker: Worker<A>,
-    mut back: Vec<Worker<A>, A>,
-    gate: &G,
-) -> Result<Vec<Worker<A>, A>, AllocError>
-    requires ready { IsReady (task_of round) }
-    requires worked { All (HasWorked (task_of round)) back.items × HasWorked (task_of round) worker }
-    ensures worked { IfOk result (λ all. (vec_len all ≡ vec_len back + 1)
-        × All (HasWorked (task_of round.entry)) all.items) }
-    ensures spent { IfOk result (λ all. Any (λ w. w.seat.spent ≡ true) all.items) }
-{
-    let worker = search(rt, alloc, round, worker, gate)?;
-    back.push(worker)?;
-    Ok(back)
-}
-
-/// Searches all blocks, and takes some of the results. Meanwhile the reader goes on.
+/// Searches all blocks, and takes some of the results. Meanwhile the reader goes on. What was left is searched in this
+/// thread, by the first worker.
 fn search_all<
     R: Threads + Wait + Clock + Sync,
     A: Allocator + Copy + Send + Sync,
@@ -157,7 +132,7 @@ fn search_all<
     rt: &R,
     alloc: A,
     round: Round<'_, A>,
-    mut workers: Vec<Worker<A>, A>,
+    workers: Vec<Worker<A>, A>,
     take: &mut TakePass<BlockResult<A>, A>,
     collector: &mut S,
     out: &mut W,
@@ -184,14 +159,11 @@ fn search_all<
     ensures ready { D.ready reader.new from.new }
     ensures read { (r : D) → (f : F) → D.reaches r f reader.old from.old → D.reaches r f reader.new from.new }
 {
-    let Some(worker) = workers.pop() else {
-        unreachable!()
-    };
-    let back = search_beside(
+    let mut workers = search_beside(
         rt, alloc, round, workers, take, collector, out, reader, from, gate,
     )?;
-    let all = search_rest(rt, alloc, round, worker, back, gate)?;
-    Ok(all)
+    search(rt, alloc, round, &mut workers[0], gate)?;
+    Ok(workers)
 }
 
 /// Searches all blocks of a round, and hands out what may be.

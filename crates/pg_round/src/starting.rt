@@ -1,5 +1,5 @@
 //! How workers are started and brought back.
-ghost use Rattle.std.specs.Prelude.{◌≡◌, ◌+◌, ◌≤◌, [], All, vec_len, IfOk, OnOk};
+ghost use Rattle.std.specs.Prelude.{◌≡◌, ◌+◌, ◌<◌, ◌≤◌, [], All, vec_len, IfOk, OnOk};
 ghost use Rattle.std.specs.Arc.{arc_value};
 ghost use Rattle.pg_round.specs.Workers.{task, task_of, IsReady, HasWorked, IsStarted};
 
@@ -25,12 +25,15 @@ pub(crate) enum Started<'a, A: Allocator = Global> {
     Ended(Result<Worker<A>, AllocError>),
 }
 
+/// All workers of a round, once they have ended.
+pub(crate) type Back<A> = Result<Vec<Worker<A>, A>, AllocError>;
+
 /// Searches, unless a thread was refused: then the worker comes back as it is.
 fn search_unless<R: Wait, A: Allocator + Copy, G: Gate>(
     rt: &R,
     alloc: A,
     round: Round<'_, A>,
-    worker: Worker<A>,
+    mut worker: Worker<A>,
     gate: &G,
     refused: &AtomicBool,
 ) -> Result<Worker<A>, AllocError>
@@ -41,7 +44,8 @@ fn search_unless<R: Wait, A: Allocator + Copy, G: Gate>(
     if refused.load(Ordering::SeqCst) {
         return Ok(worker);
     }
-    search(rt, alloc, round, worker, gate)
+    search(rt, alloc, round, &mut worker, gate)?;
+    Ok(worker)
 }
 
 /// Starts a worker in a thread of its own. Where none can be made, the worker comes back as it is.
@@ -90,7 +94,7 @@ fn start<'s, 'e: 's, R: Threads + Wait + Sync, A: Allocator + Copy + Send + Sync
     }
 }
 
-/// Starts each worker in a thread of its own.
+/// Starts each worker but the first two in a thread of its own.
 pub(crate) fn start_all<
     's,
     'e: 's,
@@ -102,51 +106,61 @@ pub(crate) fn start_all<
     rt: &'e R,
     alloc: A,
     round: Round<'e, A>,
-    mut workers: Vec<Worker<A>, A>,
+    workers: &mut Vec<Worker<A>, A>,
     gate: &'e G,
     refused: &'e AtomicBool,
 ) -> Result<Vec<Started<'e, A>, A>, AllocError>
     requires ready { IsReady (task_of round) }
-    requires worked { All (HasWorked (task_of round)) workers.items }
-    ensures { IfOk result (λ all. (vec_len all ≡ vec_len workers) × All (IsStarted round.entry) all.items) }
+    requires worked { All (HasWorked (task_of round)) workers.old.items × (1 < vec_len workers.old) }
+    ensures worked { OnOk result (All (HasWorked (task_of round.entry)) workers.new.items
+        × (vec_len workers.new ≡ 2)) }
+    ensures started { IfOk result (λ all. (vec_len all + 2 ≡ vec_len workers.old)
+        × All (IsStarted round.entry) all.items) }
 {
     let mut all = Vec::with_capacity(alloc, workers.len())?;
-    while let Some(worker) = workers.pop() {
+    while workers.len() > 2 {
+        let Some(worker) = workers.pop() else {
+            unreachable!()
+        };
         all.push_reserved(start(scope, rt, alloc, round, worker, gate, refused));
     }
     Ok(all)
 }
 
-/// Waits for a worker to end.
+/// Waits for a worker to end, who then stands behind these.
 fn bring_back<'e, A: Allocator>(
     rt: &impl Threads,
     round: Round<'e, A>,
     started: Started<'e, A>,
-) -> Result<Worker<A>, AllocError>
-    requires { IsStarted round started }
-    ensures { IfOk result (HasWorked (task_of round.entry)) }
+    workers: &mut Vec<Worker<A>, A>,
+) -> Result<(), AllocError>
+    requires started { IsStarted round started }
+    requires worked { All (HasWorked (task_of round)) workers.old.items }
+    ensures { OnOk result ((vec_len workers.new ≡ vec_len workers.old + 1)
+        × All (HasWorked (task_of round.entry)) workers.new.items) }
 {
-    match started {
+    let outcome = match started {
         Started::Running(handle) => handle.join(rt),
         Started::Ended(outcome) => outcome,
-    }
+    };
+    workers.push(outcome?)?;
+    Ok(())
 }
 
-/// Waits for all workers to end.
-pub(crate) fn join_all<'e, R: Threads, A: Allocator + Copy>(
+/// Waits for all workers to end, who then stand behind these.
+pub(crate) fn join_all<'e, R: Threads, A: Allocator>(
     rt: &R,
-    alloc: A,
     round: Round<'e, A>,
     mut all: Vec<Started<'e, A>, A>,
-) -> Result<Vec<Worker<A>, A>, AllocError>
-    requires { All (IsStarted round) all.items }
-    ensures { IfOk result (λ back. (vec_len back ≡ vec_len all.entry)
+    mut workers: Vec<Worker<A>, A>,
+) -> Back<A>
+    requires started { All (IsStarted round) all.items }
+    requires worked { All (HasWorked (task_of round)) workers.items }
+    ensures { IfOk result (λ back. (vec_len back ≡ vec_len workers + vec_len all.entry)
         × All (HasWorked (task_of round.entry)) back.items) }
 {
-    let mut workers = Vec::with_capacity(alloc, all.len())?;
     while let Some(started) = all.pop() {
-        let worker = bring_back(rt, round, started)?;
-        workers.push_reserved(worker);
+        bring_back(rt, round, started, &mut workers)?;
     }
     Ok(workers)
 }

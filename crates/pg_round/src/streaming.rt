@@ -1,8 +1,7 @@
 //! The workers of a round, beside the thread that takes what they put.
-ghost use Rattle.std.specs.Prelude.{◌≡◌, ◌+◌, [], false, All, vec_len, IfOk, IfSome, IsSome, OnOk, OnErr};
-ghost use Rattle.std.specs.Arc.{arc_value};
+ghost use Rattle.std.specs.Prelude.{◌≡◌, ◌+◌, ◌<◌, [], false, All, vec_len, IfOk, IfSome, IsSome, OnOk, OnErr};
 ghost use Rattle.pg_lines.specs.Searched.{Searched};
-ghost use Rattle.pg_round.specs.Workers.{task, task_of, IsReady, HasWorked};
+ghost use Rattle.pg_round.specs.Workers.{task_of, IsReady, HasWorked};
 ghost use Rattle.pg_round.specs.Receipts.{TookIn};
 ghost use Rattle.pg_round.specs.Reading.{HasGoneOn};
 
@@ -11,23 +10,20 @@ use crate::gate::Gate;
 use crate::reader::Reader;
 use crate::receiving::{Signs, take_all};
 use crate::round::Round;
-use crate::starting::{join_all, start_all};
+use crate::starting::{Back, join_all, start_all};
 use crate::worker::{Worker, search};
-use pg_board::{Board, TakePass, Tray};
-use pg_lines::{Block, BlockResult, Query};
+use pg_board::{TakePass, Tray};
+use pg_lines::BlockResult;
 use pg_rows::Sink;
 use pg_seq::SinkFault;
 use std::alloc::{AllocError, Allocator};
+use std::sync::Wait;
 use std::sync::atomic::{AtomicBool, Ordering};
-use std::sync::{Arc, Wait};
 use std::thread;
 use std::thread::{Scope, Threads, join_mut};
 use std::time::Clock;
 
-/// All workers of a round, once they have ended.
-pub(crate) type Back<A> = Result<Vec<Worker<A>, A>, AllocError>;
-
-/// One worker works in this thread, and the others in threads of their own. All are back when it returns.
+/// The second worker works in this thread, and those behind it in threads of their own. All are back when it returns.
 fn work_together<
     's,
     'e: 's,
@@ -44,36 +40,29 @@ fn work_together<
     refused: &'e AtomicBool,
 ) -> Back<A>
     requires ready { IsReady (task_of round) }
-    requires worked { All (HasWorked (task_of round)) workers.items }
+    requires worked { All (HasWorked (task_of round)) workers.items × (1 < vec_len workers) }
     ensures { IfOk result (λ back. (vec_len back ≡ vec_len workers)
         × All (HasWorked (task_of round.entry)) back.items) }
 {
-    let Some(worker) = workers.pop() else {
-        return Ok(workers);
-    };
-    let started = start_all(scope, rt, alloc, round, workers, gate, refused)?;
-    let worker = search(rt, alloc, round, worker, gate)?;
-    let mut back = join_all(rt, alloc, round, started)?;
-    back.push(worker)?;
-    Ok(back)
+    let started = start_all(scope, rt, alloc, round, &mut workers, gate, refused)?;
+    search(rt, alloc, round, &mut workers[1], gate)?;
+    join_all(rt, round, started, workers)
 }
 
 /// Has the workers search in a scope of their own.
 fn run_workers<R: Threads + Wait + Sync, A: Allocator + Copy + Send + Sync, G: Gate + Sync>(
     rt: &R,
     alloc: A,
-    query: &Arc<Query<A>, A>,
-    blocks: &[Arc<Block<A>, A>],
-    board: &Board<A>,
-    tray: &Tray<BlockResult<A>, A>,
+    round: Round<'_, A>,
     workers: Vec<Worker<A>, A>,
     gate: &G,
     signs: &Signs,
 ) -> Back<A>
-    requires ready { IsReady (task (arc_value query.now) blocks.now board.now tray.now) }
-    requires worked { All (HasWorked (task (arc_value query.now) blocks.now board.now tray.now)) workers.items }
+    requires ready { IsReady (task_of round) }
+    requires worked { All (HasWorked (task_of round)) workers.items
+        × (1 < vec_len workers) }
     ensures { IfOk result (λ back. (vec_len back ≡ vec_len workers)
-        × All (HasWorked (task (arc_value query.now) blocks.now board.now tray.now)) back.items) }
+        × All (HasWorked (task_of round.entry)) back.items) }
 {
     signs.begun.store(true, Ordering::SeqCst);
     let refused = &signs.refused;
@@ -81,20 +70,13 @@ fn run_workers<R: Threads + Wait + Sync, A: Allocator + Copy + Send + Sync, G: G
         thread::scope_env(),
         rt,
         |scope| -> Back<A>
-            requires { IsReady (task (arc_value query.now) blocks.now board.now tray.now)
-                × All (HasWorked (task (arc_value query.now) blocks.now board.now tray.now)) workers.items }
+            requires { IsReady (task_of round)
+                × All (HasWorked (task_of round)) workers.items
+                × (1 < vec_len workers) }
             ensures { IfOk result (λ back. (vec_len back ≡ vec_len workers)
-                × All (HasWorked (task (arc_value query.entry.now) blocks.entry.now board.entry.now tray.entry.now))
+                × All (HasWorked (task_of round.entry))
                 back.items) }
-        {
-            let round = Round {
-                query,
-                blocks,
-                board,
-                tray,
-            };
-            work_together(scope, rt, alloc, round, workers, gate, refused)
-        },
+        { work_together(scope, rt, alloc, round, workers, gate, refused) },
     );
     signs.ended.store(true, Ordering::SeqCst);
     back
@@ -112,9 +94,7 @@ pub(crate) fn stream<
 >(
     rt: &R,
     alloc: A,
-    query: &Arc<Query<A>, A>,
-    blocks: &[Arc<Block<A>, A>],
-    board: &Board<A>,
+    round: &Round<'_, A>,
     tray: &Tray<BlockResult<A>, A>,
     workers: Vec<Worker<A>, A>,
     take: &mut TakePass<BlockResult<A>, A>,
@@ -124,13 +104,14 @@ pub(crate) fn stream<
     from: &mut F,
     gate: &G,
 ) -> (Back<A>, Result<(), SinkFault>)
-    requires ready { IsReady (task (arc_value query.now) blocks.now board.now tray.now) }
-    requires worked { All (HasWorked (task (arc_value query.now) blocks.now board.now tray.now)) workers.items }
+    requires ready { IsReady (task_of round.now) }
+    requires worked { All (HasWorked (task_of round.now)) workers.items
+        × (1 < vec_len workers) }
     requires sees { (found : Searched) → S.searched found ≡ found }
     requires take { (take.old.tray ≡ tray.now) × (take.old.taken ≡ []) }
     requires reader { D.ready reader.old from.old }
     ensures worked { IfOk result.0 (λ back. (vec_len back ≡ vec_len workers)
-        × All (HasWorked (task (arc_value query.now) blocks.now board.now tray.now)) back.items) }
+        × All (HasWorked (task_of round.now)) back.items) }
     ensures same { (take.new.tray ≡ tray.now) × (take.new.workers ≡ take.old.workers) }
     ensures took { TookIn result.1 (S.stands collector.old) (S.stands collector.new) take.new.taken
         (W.taken out.old) (W.taken out.new) (W.failures out.old) (W.failures out.new) }
@@ -155,16 +136,16 @@ pub(crate) fn stream<
     { take_all(rt, tray, take, collector, out, reader, from, &signs) };
     let mut working = || -> Back<A>
         requires jobs { IsSome jobs × IfSome jobs (λ workers.
-            All (HasWorked (task (arc_value query.now) blocks.now board.now tray.now)) workers.items) }
-        requires ready { IsReady (task (arc_value query.now) blocks.now board.now tray.now) }
+            All (HasWorked (task_of round.now)) workers.items
+            × (1 < vec_len workers)) }
+        requires ready { IsReady (task_of round.now) }
         ensures { IfOk result (λ back. IfSome jobs.entry (λ workers. vec_len back ≡ vec_len workers)
-            × All (HasWorked (task (arc_value query.entry.now) blocks.entry.now board.entry.now tray.entry.now))
-            back.items) }
+            × All (HasWorked (task_of round.entry.now)) back.items) }
     {
         let Some(workers) = jobs.take() else {
             unreachable!()
         };
-        run_workers(rt, alloc, query, blocks, board, tray, workers, gate, &signs)
+        run_workers(rt, alloc, *round, workers, gate, &signs)
     };
     join_mut(rt, &mut working, &mut taking)
 }

@@ -14,11 +14,34 @@ use std::alloc::{AllocError, Allocator, Global};
 use std::sync::{Arc, Wait};
 
 /// Who searches: the right to draw numbers, the right to put results, and the room to search with.
-#[derive(Drop)]
 pub(crate) struct Worker<A: Allocator = Global> {
     pub(crate) seat: Seat,
     pub(crate) pass: PutPass<BlockResult<A>, A>,
     pub(crate) scratch: Scratch<A>,
+}
+
+impl<A: Allocator> Worker<A> {
+    /// The parts of a worker.
+    pub(crate) fn apart(self) -> (Seat, PutPass<BlockResult<A>, A>, Scratch<A>)
+        ensures { self ≡ record { seat = result.0; pass = result.1; scratch = result.2 } }
+    {
+        let Worker {
+            seat,
+            pass,
+            scratch,
+        } = self;
+        (seat, pass, scratch)
+    }
+}
+
+impl<A: Allocator> Drop for Worker<A> {
+    fn drop(self) {
+        let Worker {
+            seat: _,
+            pass: _,
+            scratch: _,
+        } = self;
+    }
 }
 
 /// Searches the block of a number below the board's limit, between the gate's calls. The scratch is for the round's
@@ -80,28 +103,23 @@ pub fn work<R: Wait, A: Allocator + Copy, G: Gate>(
     unreachable!()
 }
 
-/// Searches until no number is left, and brings the worker back, whose seat is spent.
+/// Searches until no number is left, and the worker's seat is spent.
 pub(crate) fn search<R: Wait, A: Allocator + Copy, G: Gate>(
     rt: &R,
     alloc: A,
     round: Round<'_, A>,
-    worker: Worker<A>,
+    worker: &mut Worker<A>,
     gate: &G,
-) -> Result<Worker<A>, AllocError>
+) -> Result<(), AllocError>
     requires ready { IsReady (task_of round) }
-    requires worked { HasWorked (task_of round) worker }
-    ensures worked { IfOk result (HasWorked (task_of round.entry)) }
-    ensures spent { IfOk result (λ back. back.seat.spent ≡ true) }
+    requires worked { HasWorked (task_of round) worker.old }
+    ensures worked { OnOk result (HasWorked (task_of round.entry) worker.new) }
+    ensures spent { OnOk result (worker.new.seat.spent ≡ true) }
 {
     let Worker {
-        mut seat,
-        mut pass,
-        mut scratch,
-    } = worker;
-    work(rt, alloc, round, &mut scratch, &mut seat, &mut pass, gate)?;
-    Ok(Worker {
         seat,
         pass,
         scratch,
-    })
+    } = worker;
+    work(rt, alloc, round, scratch, seat, pass, gate)
 }

@@ -1,5 +1,5 @@
 use Rattle.std.proofs.lemmas.Result.{IfOk-from_err}
-use Rattle.std.proofs.Common.{◌≡◌, List, ap, subst, arith, refl, sym}
+use Rattle.std.proofs.Common.{◌≡◌, List, ap, subst, arith}
 use Rattle.std.specs.Arc.{arc_value}
 use Rattle.pg_lines.specs.Searched.{Searched}
 use Rattle.pg_board.specs.Merge.{IsMerge}

@@ -35,21 +35,6 @@ loop-preserved-in-Some-take g c =
       read = i.read;
     }
 
-pub loop-preserved-then-not-step : goal.loop-preserved-then-not-step
-loop-preserved-then-not-step g c =
-    let i = c.loop.invariant in
-    let took = c.in-None-take.ensures in
-    record {
-      more = (tt, tt);
-      tray = took.tray.0;
-      workers = took.tray.1 ∙ i.workers;
-      failures = i.failures;
-      got = λ past st n s. subst (λ (l : List Searched). HasReceived (g.S.Collector.stands c.loop.collector) past l
-          (g.W.Sink.taken c.args.out.now) (g.W.Sink.taken c.loop.out)) (sym took.none) (i.got past st n s);
-      ready = c.step.ensures.ready;
-      read = λ r f h. c.step.ensures.reaches r f (i.read r f h);
-    }
-
 pub loop-preserved : goal.loop-preserved
 loop-preserved g c =
     let i = c.loop.invariant in
@@ -61,12 +46,12 @@ loop-preserved g c =
       failures = i.failures;
       got = λ past st n s. subst (λ (l : List Searched). HasReceived (g.S.Collector.stands c.loop.collector) past l
           (g.W.Sink.taken c.args.out.now) (g.W.Sink.taken c.loop.out)) (sym took.none) (i.got past st n s);
-      ready = c.step.ensures.ready;
-      read = λ r f h. c.step.ensures.reaches r f (i.read r f h);
+      ready = c.read_on-looks.ensures.ready;
+      read = λ r f h. c.read_on-looks.ensures.read r f (i.read r f h);
     }
 
-pub returns-then-ended : goal.returns-then-ended
-returns-then-ended g c =
+pub returns-then-is_over : goal.returns-then-is_over
+returns-then-is_over g c =
     let i = c.loop.invariant in
     let took = c.in-None-take.ensures in
     record {
@@ -103,5 +88,5 @@ take-requires g c = c.loop.invariant.tray
 pub receive-requires : goal.receive-requires
 receive-requires g c = record { sees = c.requires.sees }
 
-pub step-requires : goal.step-requires
-step-requires g c = c.loop.invariant.ready
+pub read_on-looks-requires : goal.read_on-looks-requires
+read_on-looks-requires g c = c.loop.invariant.ready

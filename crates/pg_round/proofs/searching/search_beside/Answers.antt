@@ -1,4 +1,4 @@
-use Rattle.std.proofs.Common.{List, refl, sym, subst}
+use Rattle.std.proofs.Common.{List, refl, sym, subst, arith}
 use Rattle.std.proofs.lemmas.Result.{IfOk-at_ok, err_from_is_err_and}
 use Rattle.pg_lines.specs.Searched.{Searched}
 use Rattle.pg_round.specs.Receipts.{HasReceived}
@@ -6,8 +6,8 @@ use Rattle.pg_round.specs.Reading.{HasGoneOn}
 use Rattle.pg_round.proofs.ReceiptLemmas.{received_none, failed_after, took_ok, took_err, no_fault, no_sink_fault}
 use Rattle.pg_round.proofs.searching.search_beside.Goals as goal
 
-pub returns-then-is_empty : goal.returns-then-is_empty
-returns-then-is_empty g c =
+pub returns-then-len-lt2 : goal.returns-then-len-lt2
+returns-then-len-lt2 g c =
     let w = g.W.Sink.taken c.args.out.now in let stands = g.S.Collector.stands c.args.collector.now in
     record {
       worked = (refl, c.requires.worked);
@@ -97,7 +97,7 @@ pub stream-back-requires-clause-ready : goal.stream-back-requires-clause-ready
 stream-back-requires-clause-ready g c κs within = c.requires.ready
 
 pub stream-back-requires-clause-worked : goal.stream-back-requires-clause-worked
-stream-back-requires-clause-worked g c κs within = c.requires.worked
+stream-back-requires-clause-worked g c κs within = (c.requires.worked, (let n = c.if-len-lt2.false in let l = c.len.ensures in omega arith))
 
 pub stream-back-requires-clause-sees : goal.stream-back-requires-clause-sees
 stream-back-requires-clause-sees g c κs within = c.requires.sees

@@ -1,26 +1,13 @@
-use Rattle.std.proofs.lemmas.Result.{IfOk-from_err}
-use Rattle.std.proofs.Common.{List, All, sym, subst, arith}
+use Rattle.std.proofs.lemmas.Result.{IfOk-from_err, IfOk-weaker}
+use Rattle.std.proofs.lemmas.List.Elements.{All-set}
+use Rattle.std.proofs.Common.{arith, vec_len, ◌≡◌, ◌+◌, ◌∙◌}
 use Rattle.pg_round.specs.declared.worker.Worker.{Worker}
 use Rattle.pg_round.specs.Workers.{task_of, HasWorked}
-use Rattle.pg_round.proofs.ListLemmas.{all_more, all_last, all_front}
+use Rattle.pg_round.proofs.ListLemmas.{all_at}
 use Rattle.pg_round.proofs.streaming.work_together.Goals as goal
 
 pub start_all-requires-clause-worked : goal.start_all-requires-clause-worked
-start_all-requires-clause-worked g c κs within =
-    let P : Worker g.row.A.Denot → Type 0 = HasWorked (task_of c.args.round) in
-    all_front P c.pop.new.self.items c.in-Some.worker (subst (λ (l : List (Worker g.row.A.Denot)). All P l) c.in-Some.ensures.items c.requires.worked)
-
-pub search-requires-clause-worked : goal.search-requires-clause-worked
-search-requires-clause-worked g c =
-    let P : Worker g.row.A.Denot → Type 0 = HasWorked (task_of c.args.round) in
-    all_last P c.pop.new.self.items c.in-Some.worker (subst (λ (l : List (Worker g.row.A.Denot)). All P l) c.in-Some.ensures.items c.requires.worked)
-
-pub returns : goal.returns
-returns g c =
-    let P : Worker g.row.A.Denot → Type 0 = HasWorked (task_of c.args.round) in (
-      (let a = c.in_ok-push.ensures.len in let b = c.in_ok-back.ensures.0 in let d = c.in_ok-started.ensures.0 in let e = c.in-Some.ensures.cases in omega arith),
-      subst (λ (l : List (Worker g.row.A.Denot)). All P l) (sym c.in_ok-push.ensures.items) (all_more P c.in_ok-back.back.items c.in_ok-worker.worker c.in_ok-back.ensures.1 c.in_ok-worker.ensures.worked),
-    )
+start_all-requires-clause-worked g c κs within = c.requires.worked
 
 pub start_all-requires-clause-ready : goal.start_all-requires-clause-ready
 start_all-requires-clause-ready g c κs within = c.requires.ready
@@ -28,17 +15,31 @@ start_all-requires-clause-ready g c κs within = c.requires.ready
 pub returns-in_err-started : goal.returns-in_err-started
 returns-in_err-started g c = IfOk-from_err c.from_residual.result _ c.from_residual.ensures.0
 
+pub index_mut-requires : goal.index_mut-requires
+index_mut-requires g c = let n = c.in_ok-started.ensures.worked.1 in omega arith
+
 pub search-requires-clause-ready : goal.search-requires-clause-ready
 search-requires-clause-ready g c = c.requires.ready
 
-pub returns-in_err-worker : goal.returns-in_err-worker
-returns-in_err-worker g c = IfOk-from_err c.from_residual-in_err-worker.result _ c.from_residual-in_err-worker.ensures.0
+pub search-requires-clause-worked : goal.search-requires-clause-worked
+search-requires-clause-worked g c =
+    let P : Worker g.row.A.Denot → Type 0 = HasWorked (task_of c.args.round) in
+    let n = c.in_ok-started.ensures.worked.1 in let l = c.start_all.new.workers.ok.0 in
+    all_at P c.start_all.new.workers.items 1 c.index_mut.result.now c.in_ok-started.ensures.worked.0 (omega arith) c.index_mut.ensures.value
 
-pub join_all-requires : goal.join_all-requires
-join_all-requires g c = c.in_ok-started.ensures.1
+pub returns-in_err-search : goal.returns-in_err-search
+returns-in_err-search g c = IfOk-from_err c.from_residual-in_err-search.result _ c.from_residual-in_err-search.ensures.0
 
-pub returns-in_err-back : goal.returns-in_err-back
-returns-in_err-back g c = IfOk-from_err c.from_residual-in_err-back.result _ c.from_residual-in_err-back.ensures.0
+pub join_all-requires-clause-started : goal.join_all-requires-clause-started
+join_all-requires-clause-started g c = c.in_ok-started.ensures.started.1
 
-pub returns-in_err-push : goal.returns-in_err-push
-returns-in_err-push g c = IfOk-from_err c.from_residual-in_err-push.result _ c.from_residual-in_err-push.ensures.0
+pub join_all-requires-clause-worked : goal.join_all-requires-clause-worked
+join_all-requires-clause-worked g c =
+    let P : Worker g.row.A.Denot → Type 0 = HasWorked (task_of c.args.round) in
+    All-set P c.start_all.new.workers.items 1 c.search.new.worker c.in_ok-search.ensures.worked c.in_ok-started.ensures.worked.0
+
+pub returns : goal.returns
+returns g c =
+    let n = c.in_ok-started.ensures.worked.1 in let s = c.in_ok-started.ensures.started.0 in
+    let size : vec_len c.start_all.new.workers + vec_len c.in_ok-started.started ≡ vec_len c.args.workers = omega arith in
+    IfOk-weaker c.join_all.result _ _ (λ back h. (h.0 ∙ size, h.1)) c.join_all.ensures
