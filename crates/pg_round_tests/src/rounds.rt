@@ -169,7 +169,10 @@ fn step_beside<R: Threads + Wait + Clock + Sync>(
 #[test]
 fn steps_are_made_where_workers_search(rt: HostRuntime) {
     assert!(rt; step_beside(&rt, rt.alloc(), 100, 3) == (true, 0, 100, 0));
-    assert!(rt; step_beside(&rt, rt.alloc(), 0, 1) == (true, 100, 0, 0), "no worker");
+    assert!(rt;
+        step_beside(&rt, rt.alloc(), 0, 1) == (true, 100, 0, 0),
+        "no worker"
+    );
 }
 
 #[test]

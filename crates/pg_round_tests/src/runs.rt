@@ -63,12 +63,7 @@ pub(crate) struct Outcome {
 }
 
 /// What a run for the letter x does beside what it writes.
-pub(crate) fn run_over<
-    R: Abort + Threads + Wait + Clock + Sync,
-    F: Files,
-    W: Sink,
-    G: Gate + Sync,
->(
+pub(crate) fn run_over<R: Abort + Threads + Wait + Clock + Sync, F: Files, W: Sink, G: Gate + Sync>(
     rt: &R,
     alloc: Global,
     setup: Setup,
