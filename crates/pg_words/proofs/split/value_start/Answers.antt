@@ -1,4 +1,5 @@
-use Rattle.std.proofs.Common.{◌≡◌, ◌+◌, ◌<◌, ◌∙◌, ℕ, Bool, false, List, length, drop, get_or, sym, refl, arith, add-one, drop-cons}
+use Rattle.std.proofs.Common.{◌≡◌, ◌+◌, ◌<◌, ◌∙◌, ℕ, Bool, false, List, length, drop, get_or, sym, refl}
+use Rattle.std.proofs.Common.{arith, add-one, drop-cons}
 use Rattle.std.specs.List.{position_or_len}
 use Rattle.pg_words.specs.Split.{has_value}
 use Rattle.pg_words.proofs.split.value_start.Goals as goal
@@ -8,6 +9,7 @@ one_step : (word : List ℕ) (at : ℕ) → at < length word → has_value (get_
     → position_or_len has_value (drop at word) ≡ 1 + position_or_len has_value (drop (at + 1) word)
 one_step word at within without = rw (add-one, drop-cons word at 0, without) refl
 
+-- so the place of the first letter with a value stays the same
 next_letter : (letters word : List ℕ) (at all : ℕ) (found : Bool) → letters ≡ word → at < length letters
     → found ≡ has_value (get_or letters at 0) → found ≡ false → at + position_or_len has_value (drop at word) ≡ all
     → (at + 1) + position_or_len has_value (drop (at + 1) word) ≡ all
