@@ -3,16 +3,12 @@ use pg_walk::{DiskTree, Item, walk};
 use std::alloc::Global;
 use std::io::{self, Write};
 
-/// Writes the files that a walk over the operands gives, one a line, and the names of faults to standard error.
+/// Writes the files that a walk over the operands gives, one a line, and the names of faults to standard error. The
+/// lines are written at once, as a program does that holds its output back.
 pub fn list_files(rt: &HostRuntime, alloc: Global, operands: &[String]) -> io::Result<()> {
     let items = walk(alloc, &DiskTree::new(rt), operands, true)?;
-    write_items(rt, alloc, items.as_slice())
-}
-
-/// Writes the files among the items at once, as a program does that holds its output back.
-fn write_items(rt: &HostRuntime, alloc: Global, items: &[Item]) -> io::Result<()> {
     let mut lines = Vec::new(alloc);
-    put_items(rt, &mut lines, items)?;
+    put_items(rt, &mut lines, items.as_slice())?;
     io::writer(rt).write_all(lines.as_slice())
 }
 

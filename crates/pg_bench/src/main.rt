@@ -1,5 +1,5 @@
-//! Times parts of the program by themselves: `pg_bench patterns MEGABYTES` and `pg_bench files OPERAND..`. Without
-//! an argument it does nothing.
+//! Times parts of the program by themselves: `pg_bench patterns MEGABYTES PATTERN..` and `pg_bench files OPERAND..`.
+//! Without an argument it does nothing. The scripts under `bench` take the best times.
 #![tactic(auto)]
 
 mod files;
@@ -14,27 +14,20 @@ fn main(rt: HostRuntime) -> io::Result<()> {
     time(&rt, alloc, words.as_slice())
 }
 
-/// Does what the words ask for, of which the first is the program's name.
+/// Does what the words ask for, of which the first is the program's name. A word that is no number counts as too many
+/// megabytes.
 fn time(rt: &HostRuntime, alloc: Global, words: &[String]) -> io::Result<()> {
-    let [_, what, operands @ ..] = words else {
-        return Ok(());
-    };
-    match what.as_str() {
-        "files" => files::list_files(rt, alloc, operands),
-        "patterns" => match megabytes(operands) {
-            Some(megabytes) => patterns::time_patterns(rt, alloc, megabytes),
-            None => usage(),
-        },
-        _ => usage(),
+    match words {
+        [_, what, operands @ ..] if what.as_str() == "files" => {
+            files::list_files(rt, alloc, operands)
+        }
+        [_, what, megabytes, texts @ ..] if what.as_str() == "patterns" => {
+            let megabytes = megabytes.as_str().parse().unwrap_or(usize::MAX);
+            patterns::time_patterns(rt, alloc, texts, megabytes)
+        }
+        [] | [_] => Ok(()),
+        _ => Err(io::Error::other(
+            "usage: pg_bench patterns MEGABYTES PATTERN.. | files OPERAND..",
+        )),
     }
-}
-
-/// What is told of other words.
-fn usage() -> io::Result<()> {
-    Err(io::Error::other("usage: pg_bench patterns MEGABYTES | files OPERAND.."))
-}
-
-/// The number that the first operand is.
-fn megabytes(operands: &[String]) -> Option<usize> {
-    operands.first()?.as_str().parse().ok()
 }

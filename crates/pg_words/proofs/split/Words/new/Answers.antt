@@ -1,4 +1,5 @@
-use Rattle.std.proofs.Common.{◌≡◌, ◌+◌, ◌<◌, ◌++◌, ◌∷◌, ℕ, List, length, drop, get_or, map, refl, append_assoc, add-one, drop-cons}
+use Rattle.std.proofs.Common.{◌≡◌, ◌+◌, ◌<◌, ◌++◌, ◌∷◌, ℕ, List, length, drop, get_or, map, refl}
+use Rattle.std.proofs.Common.{append_assoc, add-one, drop-cons}
 use Rattle.std.specs.String.{string_bytes}
 use Rattle.pg_words.specs.Split.{cut, cut_from, pieces, place_behind}
 use Rattle.pg_words.specs.declared.split.Place.{Place}
