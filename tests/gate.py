@@ -78,8 +78,8 @@ def one_proof_a_processor():
 
 
 def keep_memory():
-    """Has the toolchain keep the memory that it gave up, for what it needs next, in place of giving it back to the system
-    and asking for it anew: a fortieth of a proof's time."""
+    """Has the toolchain keep the memory that it gave up for what it needs next, in place of giving it back to the
+    system and asking for it anew: a fortieth of a proof's time."""
     os.environ.setdefault("MIMALLOC_PURGE_DELAY", "-1")
 
 
