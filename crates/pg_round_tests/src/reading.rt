@@ -99,8 +99,8 @@ struct Case {
     given_up: u64,
 }
 
-/// Three files that are read on while they are searched, of which the next read gives the rest, or fails, or meets a line
-/// that is too long; the last two come behind the rows. And one whose reading may wait, which isn't read on.
+/// Three files that are read on while they are searched, of which the next read gives the rest, or fails, or meets a
+/// line that is too long; the last two come behind the rows. And one whose reading may wait, which isn't read on.
 const CASES: [Case; 4] = [
     Case {
         file: b"x1\nx2\nx3\nx4\nx5",
