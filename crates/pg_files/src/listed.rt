@@ -9,7 +9,6 @@ use pg_walk::Item;
 use std::alloc::{AllocError, Global};
 
 /// The items of a walk, each file opened in a store when its turn comes.
-#[derive(Drop)]
 pub struct Listed<S: Store + Drop> {
     /// What is given, in this order.
     pub items: Vec<Item>,
@@ -24,6 +23,18 @@ pub struct Listed<S: Store + Drop> {
     ghost within: { asked ≤ length items.items },
     ghost are_opened: { newest_paths (length (file_paths (asked_for asked (map found items.items)))) (S.past store)
         ≡ file_paths (asked_for asked (map found items.items)) },
+}
+
+impl<S: Store + Drop> Drop for Listed<S> {
+    fn drop(self) {
+        let Listed {
+            items: _,
+            asked: _,
+            done: _,
+            spares_output: _,
+            store: _,
+        } = self;
+    }
 }
 
 impl<S: Store + Drop> Listed<S> {

@@ -19,15 +19,23 @@ pub enum Ending {
     Fails,
 }
 
-#[derive(Drop)]
 struct MemFile {
     path: String,
     bytes: Vec<u8>,
     ending: Ending,
 }
 
+impl Drop for MemFile {
+    fn drop(self) {
+        let MemFile {
+            path: _,
+            bytes: _,
+            ending: _,
+        } = self;
+    }
+}
+
 /// Files in memory. Standard input is the file at `-`.
-#[derive(Drop)]
 pub struct MemStore {
     alloc: Global,
     files: Vec<MemFile>,
@@ -36,6 +44,19 @@ pub struct MemStore {
     read_limit: usize,
     past: StorePast,
     ghost some_bytes: { 1 ≤ read_limit },
+}
+
+impl Drop for MemStore {
+    fn drop(self) {
+        let MemStore {
+            alloc: _,
+            files: _,
+            open: _,
+            at: _,
+            read_limit: _,
+            past: _,
+        } = self;
+    }
 }
 
 impl MemStore {

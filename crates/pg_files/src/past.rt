@@ -43,10 +43,18 @@ pub(crate) struct Access {
 
 /// What a store gave, the newest first. Paths and bytes take no memory, and nothing is copied when the
 /// methods run.
-#[derive(Drop)]
 pub struct StorePast {
     earlier: History<Access>,
     newest: Option<Access>,
+}
+
+impl Drop for StorePast {
+    fn drop(self) {
+        let StorePast {
+            earlier: _,
+            newest: _,
+        } = self;
+    }
 }
 
 impl Model for StorePast {

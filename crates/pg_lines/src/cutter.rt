@@ -349,7 +349,6 @@ fn cut_filled<A: Allocator + Copy>(
 /// A block is the shortest beginning of what follows that has at least `size` bytes and ends with the
 /// terminator of lines. What is left at the end of the file is its last block, unless it is empty. So
 /// the blocks depend on the bytes, the size and the terminator, and not on the pieces that were fed.
-#[derive(Drop)]
 pub struct Cutter<A: Allocator + Copy = Global> {
     alloc: A,
     file: u32,
@@ -372,6 +371,25 @@ pub struct Cutter<A: Allocator + Copy = Global> {
     ghost few: { total ≤ 2 ^ 62 },
     ghost numbers: { number + filled ≤ total },
     ghost line_fits: { line ≤ longest },
+}
+
+impl<A: Allocator + Copy> Drop for Cutter<A> {
+    fn drop(self) {
+        let Cutter {
+            alloc: _,
+            file: _,
+            size: _,
+            longest: _,
+            end: _,
+            number: _,
+            total: _,
+            line: _,
+            ready: _,
+            rest: _,
+            filled: _,
+            spare: _,
+        } = self;
+    }
 }
 
 impl<A: Allocator + Copy> Cutter<A> {

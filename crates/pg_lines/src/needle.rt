@@ -94,11 +94,19 @@ impl<'n> Needle<'n> {
 }
 
 /// The needles of a query's literals, and the bytes of a block in which they are looked for.
-#[derive(Drop)]
 pub(crate) struct Needles<'n, A: Allocator> {
     needles: Vec<Needle<'n>, A>,
     /// The block's bytes, where case is folded in lower case.
     searched: &'n [u8],
+}
+
+impl<'n, A: Allocator> Drop for Needles<'n, A> {
+    fn drop(self) {
+        let Needles {
+            needles: _,
+            searched: _,
+        } = self;
+    }
 }
 
 impl<'n, A: Allocator> Needles<'n, A> {

@@ -17,7 +17,6 @@ use std::marker::Model;
 use thiserror::Error;
 
 /// What a query is compiled from: the patterns, and the options that say what they match.
-#[derive(Drop)]
 pub struct QueryText<A: Allocator = Global> {
     pub kind: Kind,
     /// All -e texts in their order, then all -f files in theirs.
@@ -34,6 +33,21 @@ pub struct QueryText<A: Allocator = Global> {
     pub pieces: bool,
     /// -z: byte 0 ends a line, in place of newline.
     pub zero: bool,
+}
+
+impl<A: Allocator> Drop for QueryText<A> {
+    fn drop(self) {
+        let QueryText {
+            kind: _,
+            lists: _,
+            fold: _,
+            whole: _,
+            word: _,
+            invert: _,
+            pieces: _,
+            zero: _,
+        } = self;
+    }
 }
 
 impl<A: Allocator> Model for QueryText<A> {
@@ -103,11 +117,20 @@ impl From<AllocError> for QueryFault {
 /// A query that can be searched for. It has what searches would else prepare anew: the automaton of its
 /// patterns, and literals of which each line with a hit holds one, where such were found. Contracts see its text
 /// and the automaton.
-#[derive(Drop)]
 pub struct Query<A: Allocator = Global> {
     text: QueryText<A>,
     machine: Machine<A>,
     literals: Vec<Literal<A>, A>,
+}
+
+impl<A: Allocator> Drop for Query<A> {
+    fn drop(self) {
+        let Query {
+            text: _,
+            machine: _,
+            literals: _,
+        } = self;
+    }
 }
 
 impl<A: Allocator> Model for Query<A> {

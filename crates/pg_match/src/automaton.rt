@@ -6,7 +6,6 @@ use crate::state::{State, is_same_table};
 use std::alloc::{Allocator, Global};
 
 /// The states of some patterns. State 0 is the one where a match ends.
-#[derive(Drop)]
 pub struct Automaton<A: Allocator = Global> {
     pub states: Vec<State, A>,
     pub start: u32,
@@ -15,6 +14,18 @@ pub struct Automaton<A: Allocator = Global> {
     pub bounds: Bounds,
     /// Whether there is a pattern. Without one nothing matches.
     pub some: bool,
+}
+
+impl<A: Allocator> Drop for Automaton<A> {
+    fn drop(self) {
+        let Automaton {
+            states: _,
+            start: _,
+            seeds: _,
+            bounds: _,
+            some: _,
+        } = self;
+    }
 }
 
 impl<A: Allocator> Automaton<A> {

@@ -51,12 +51,21 @@ impl<A: Allocator> Model for Machine<A> {
 
 /// The room that searches with one machine need, so that they ask for no memory, and what they remember from line to
 /// line.
-#[derive(Drop)]
 pub struct Scratch<A: Allocator = Global> {
     automaton: Arc<Automaton<A>, A>,
     sets: StateSets<A>,
     /// None where the memory for it was refused. Searches are slower then.
     memory: Option<Memory<A>>,
+}
+
+impl<A: Allocator> Drop for Scratch<A> {
+    fn drop(self) {
+        let Scratch {
+            automaton: _,
+            sets: _,
+            memory: _,
+        } = self;
+    }
 }
 
 impl<A: Allocator> Model for Scratch<A> {

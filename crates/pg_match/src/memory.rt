@@ -27,7 +27,6 @@ pub(crate) const HIT: u32 = 1;
 
 /// Sets of states, and where each byte leads from them. A text may lead to more sets than there is room for. Then the
 /// table is begun anew, so that it has those that are met now.
-#[derive(Drop)]
 pub struct Memory<A: Allocator = Global> {
     /// For 256 times a row, plus a byte: 0 where nothing is known yet, `HIT`, or 256 times the next row.
     pub steps: Vec<u32, A>,
@@ -43,6 +42,20 @@ pub struct Memory<A: Allocator = Global> {
     pub count: usize,
     /// How many bytes stood behind the sets for which there was no room, since the table was begun.
     lost: usize,
+}
+
+impl<A: Allocator> Drop for Memory<A> {
+    fn drop(self) {
+        let Memory {
+            steps: _,
+            ends: _,
+            fresh: _,
+            pool: _,
+            cuts: _,
+            count: _,
+            lost: _,
+        } = self;
+    }
 }
 
 impl<A: Allocator> Memory<A> {

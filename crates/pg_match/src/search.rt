@@ -18,11 +18,20 @@ use std::alloc::{AllocError, Allocator, Global};
 use std::mem;
 
 /// The sets of two places, and how many states the last search added.
-#[derive(Drop)]
 pub struct StateSets<A: Allocator = Global> {
     pub current: StateSet<A>,
     pub next: StateSet<A>,
     pub visits: u128,
+}
+
+impl<A: Allocator> Drop for StateSets<A> {
+    fn drop(self) {
+        let StateSets {
+            current: _,
+            next: _,
+            visits: _,
+        } = self;
+    }
 }
 
 impl<A: Allocator> StateSets<A> {

@@ -17,7 +17,6 @@ use std::time::{Clock, Duration};
 use std::{hint, thread};
 
 /// What the threads of a round tell one another.
-#[derive(Drop)]
 pub(crate) struct Signs {
     /// The workers' thread runs.
     pub(crate) begun: AtomicBool,
@@ -25,6 +24,16 @@ pub(crate) struct Signs {
     pub(crate) ended: AtomicBool,
     /// A thread could not be made: a worker that hasn't begun doesn't.
     pub(crate) refused: AtomicBool,
+}
+
+impl Drop for Signs {
+    fn drop(self) {
+        let Signs {
+            begun: _,
+            ended: _,
+            refused: _,
+        } = self;
+    }
 }
 
 impl Signs {

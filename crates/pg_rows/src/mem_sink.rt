@@ -9,12 +9,22 @@ use std::marker::Model;
 
 /// A sink over memory that is reserved when it is made. It takes bytes up to a limit and then fails,
 /// so a test can let any write of a program fail.
-#[derive(Drop)]
 pub struct MemSink<A: Allocator = Global> {
     bytes: Vec<u8, A>,
     limit: usize,
     write_limit: usize,
     failed: History<()>,
+}
+
+impl<A: Allocator> Drop for MemSink<A> {
+    fn drop(self) {
+        let MemSink {
+            bytes: _,
+            limit: _,
+            write_limit: _,
+            failed: _,
+        } = self;
+    }
 }
 
 impl<A: Allocator> Model for MemSink<A> {

@@ -78,7 +78,6 @@ fn line_beyond(runs: &[Run], room: u64, total: usize) -> usize
 ///
 /// It remembers of the open file how many lines it had and how many were kept, and holds the last
 /// lines that may still be shown as leading context.
-#[derive(Drop)]
 pub struct Printer<A: Allocator = Global> {
     format: Format,
     end: u8,
@@ -89,6 +88,20 @@ pub struct Printer<A: Allocator = Global> {
     earlier: bool,
     progress: Progress,
     window: Window<A>,
+}
+
+impl<A: Allocator> Drop for Printer<A> {
+    fn drop(self) {
+        let Printer {
+            format: _,
+            end: _,
+            pieces: _,
+            prefix: _,
+            earlier: _,
+            progress: _,
+            window: _,
+        } = self;
+    }
 }
 
 impl<A: Allocator> Printer<A> {

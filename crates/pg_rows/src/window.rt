@@ -19,11 +19,20 @@ use std::sync::Arc;
 
 /// The end of a block, whose lines weren't shown so far: the bytes from `start` on, which have so
 /// many lines, at least one.
-#[derive(Drop)]
 struct Tail<A: Allocator = Global> {
     block: Arc<Block<A>, A>,
     start: usize,
     lines: usize,
+}
+
+impl<A: Allocator> Drop for Tail<A> {
+    fn drop(self) {
+        let Tail {
+            block: _,
+            start: _,
+            lines: _,
+        } = self;
+    }
 }
 
 impl<A: Allocator> Tail<A> {
@@ -70,10 +79,18 @@ impl<A: Allocator> Tail<A> {
 
 /// The last lines of a file that weren't shown, as far as they may still be shown before a line to
 /// come.
-#[derive(Drop)]
 pub(crate) struct Window<A: Allocator = Global> {
     tails: HeapCircularBuffer<Tail<A>, A>,
     lines: usize,
+}
+
+impl<A: Allocator> Drop for Window<A> {
+    fn drop(self) {
+        let Window {
+            tails: _,
+            lines: _,
+        } = self;
+    }
 }
 
 impl<A: Allocator> Window<A> {

@@ -28,7 +28,6 @@ const RARE: usize = 2;
 /// Searches the blocks of files, and has a sequencer put their rows in order.
 ///
 /// A block is searched at once, or waits until its round is searched by several threads.
-#[derive(Drop)]
 pub(crate) struct Engine<A: Allocator + Copy = Global> {
     pub(crate) alloc: A,
     pub(crate) setup: Setup,
@@ -52,6 +51,23 @@ pub(crate) struct Engine<A: Allocator + Copy = Global> {
     ghost endless: { spread ≡ true → is_endless setup.format ≡ true },
     ghost at_once: { spread ≡ false → round.items ≡ [] },
     ghost few: { length round.items ≤ setup.round },
+}
+
+impl<A: Allocator + Copy> Drop for Engine<A> {
+    fn drop(self) {
+        let Engine {
+            alloc: _,
+            setup: _,
+            files: _,
+            query: _,
+            scratch: _,
+            scratches: _,
+            spread: _,
+            round: _,
+            sequencer: _,
+            spare: _,
+        } = self;
+    }
 }
 
 /// Whether nothing that was read is ever enough.

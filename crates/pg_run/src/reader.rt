@@ -23,7 +23,6 @@ pub(crate) enum Came {
 }
 
 /// Reads the open file, and cuts what comes into blocks.
-#[derive(Drop)]
 pub(crate) struct FileReader<A: Allocator + Copy = Global> {
     alloc: A,
     /// The open file's.
@@ -33,6 +32,18 @@ pub(crate) struct FileReader<A: Allocator + Copy = Global> {
     pub(crate) came: Came,
     /// So many more reads may be made beside a search.
     pub(crate) ahead: u32,
+}
+
+impl<A: Allocator + Copy> Drop for FileReader<A> {
+    fn drop(self) {
+        let FileReader {
+            alloc: _,
+            cutter: _,
+            spare: _,
+            came: _,
+            ahead: _,
+        } = self;
+    }
 }
 
 /// A cutter that nothing is fed to.

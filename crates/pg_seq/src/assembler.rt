@@ -30,7 +30,6 @@ fn exit_status(mode: Mode, bad: bool, selected: bool) -> u8
 
 /// A sequencer, of which nothing is known but what the contracts of its methods tell. Those of `Sequencer` say what it
 /// does.
-#[derive(Drop)]
 pub(crate) struct Assembler<A: Allocator = Global> {
     alloc: A,
     query: Arc<Query<A>, A>,
@@ -47,6 +46,23 @@ pub(crate) struct Assembler<A: Allocator = Global> {
     printer: Printer<A>,
     /// A write has failed.
     failed: bool,
+}
+
+impl<A: Allocator> Drop for Assembler<A> {
+    fn drop(self) {
+        let Assembler {
+            alloc: _,
+            query: _,
+            format: _,
+            running: _,
+            bad: _,
+            buffer: _,
+            waiting: _,
+            printing: _,
+            printer: _,
+            failed: _,
+        } = self;
+    }
 }
 
 impl<A: Allocator> Assembler<A> {

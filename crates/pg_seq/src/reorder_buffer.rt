@@ -19,7 +19,6 @@ use std::sync::Arc;
 ///
 /// Counts of blocks have 128 bits: files may have 2^62 blocks each, so 64 bits don't hold those of
 /// all files.
-#[derive(Drop)]
 pub(crate) struct ReorderBuffer<A: Allocator = Global> {
     /// How many blocks were announced before each file that was opened, in the files' order.
     starts: Vec<u128, A>,
@@ -29,6 +28,17 @@ pub(crate) struct ReorderBuffer<A: Allocator = Global> {
     /// Whether one of these has a selected line.
     selected: bool,
     ghost small: { handed + length slots.items ≤ 2 ^ 94 },
+}
+
+impl<A: Allocator> Drop for ReorderBuffer<A> {
+    fn drop(self) {
+        let ReorderBuffer {
+            starts: _,
+            slots: _,
+            handed: _,
+            selected: _,
+        } = self;
+    }
 }
 
 /// Where the file behind a file starts among all announced blocks, or how many blocks there are.

@@ -13,7 +13,6 @@ use std::mem;
 const DEEPEST: usize = 100;
 
 /// An open group, or the whole text.
-#[derive(Drop)]
 pub(crate) struct Level<A: Allocator> {
     /// The alternatives in front of the last bar.
     alternatives: Option<Tree<A>>,
@@ -23,12 +22,31 @@ pub(crate) struct Level<A: Allocator> {
     item: Option<Tree<A>>,
 }
 
+impl<A: Allocator> Drop for Level<A> {
+    fn drop(self) {
+        let Level {
+            alternatives: _,
+            sequence: _,
+            item: _,
+        } = self;
+    }
+}
+
 /// The open groups, and the level that is read.
-#[derive(Drop)]
 pub(crate) struct Builder<A: Allocator> {
     alloc: A,
     outer: Vec<Level<A>, A>,
     level: Level<A>,
+}
+
+impl<A: Allocator> Drop for Builder<A> {
+    fn drop(self) {
+        let Builder {
+            alloc: _,
+            outer: _,
+            level: _,
+        } = self;
+    }
 }
 
 /// Both parts in their order, where both are there.

@@ -58,17 +58,33 @@ impl<A: Allocator + Copy> Node<A> {
 }
 
 /// A node with its path.
-#[derive(Drop)]
 struct Stored<A: Allocator> {
     path: String<A>,
     node: Node<A>,
 }
 
+impl<A: Allocator> Drop for Stored<A> {
+    fn drop(self) {
+        let Stored {
+            path: _,
+            node: _,
+        } = self;
+    }
+}
+
 /// A tree in memory, by what it answers at each path. It has no answer at other paths.
-#[derive(Drop)]
 pub struct MemTree<A: Allocator + Copy = Global> {
     alloc: A,
     nodes: Vec<Stored<A>, A>,
+}
+
+impl<A: Allocator + Copy> Drop for MemTree<A> {
+    fn drop(self) {
+        let MemTree {
+            alloc: _,
+            nodes: _,
+        } = self;
+    }
 }
 
 /// The same names, in memory of their own.
