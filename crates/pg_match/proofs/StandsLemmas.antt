@@ -21,7 +21,7 @@ use Rattle.pg_match.specs.declared.state.State.{State}
 use Rattle.pg_match.specs.declared.state.State.TheVariants.{Fail, Accept, Jump, Read, AtBegin, AtEnd, Split}
 use Rattle.pg_syntax.specs.Patterns.{Pattern}
 
-reads_edge : (o : Option State) (l : List ℕ) (p b r : ℕ) → slice_get l p ≡ Some b → Reads o b r → Edge o l p r (p + 1)
+pub reads_edge : (o : Option State) (l : List ℕ) (p b r : ℕ) → slice_get l p ≡ Some b → Reads o b r → Edge o l p r (p + 1)
 reads_edge None l p b r is h = absurd h
 reads_edge (Some Fail) l p b r is h = absurd h
 reads_edge (Some Accept) l p b r is h = absurd h

@@ -136,6 +136,16 @@ Finishes m b S answer =
     (l : List ℕ) (from p : ℕ) → Stands m l from p S → slice_get l p ≡ Some b → p + 1 ≡ length l → from ≤ p + 1
     → IsTrue answer ↔ HasRun m l from
 
+-- the row of a walk's state is the set of the place, and no hit begins from one place on before another
+pub record HasSkimmed (m : Nfa) (t : Remembered) (l : List ℕ) (from p state start : ℕ) : Type 0 where
+  pub within : p < length l
+  pub near : from ≤ p + 1
+  pub row : IsAtRow t state
+  pub stands : StandsAt m t l from p state
+  pub later : from ≤ start
+  pub upto : start ≤ length l
+  pub none : NoneBefore m l from start
+
 -- What the remembered rows tell of the hits of a line from a place on: that there are none, or that none begins before
 -- another place.
 abbrev pub Skimmed : Nfa → List ℕ → ℕ → Skim → Type 0

@@ -1,6 +1,6 @@
 -- How a byte leads from one set of states to the next, whatever line and place it stands at. A set is what it holds.
 use Rattle.std.specs.Prelude.{◌≡◌, ℕ, ◌<◌, ◌≤◌, ◌⊎◌, Bool, true, false, not, IsTrue}
-use Rattle.std.specs.Prelude.{List, length, Option, Some, None, slice_get}
+use Rattle.std.specs.Prelude.{List, length, Option, Some, None, slice_get, slice_index}
 use Rattle.pg_bytes.specs.ByteSets.{bytes}
 use Rattle.pg_match.specs.Automata.{Nfa, Runs}
 use Rattle.pg_match.specs.Bounds.{is_word_byte}
@@ -118,6 +118,16 @@ pub record Goes (m : Nfa) (b : ℕ) (S U : ℕ → Type 0) : Type 0 where
 -- no state of the set reads the byte
 abbrev pub ReadsNone : Nfa → ℕ → (ℕ → Type 0) → Type 0
 ReadsNone m b S = (q r : ℕ) → S q → Reads (slice_get m.states q) b r → ⊥
+
+-- some of the states reads the byte, and each that does goes to state 0, where a match ends
+pub record EndsBehind (t : List State) (states : List ℕ) (b : ℕ) : Type 0 where
+  pub some : (k : ℕ) × (k < length states) × Reads (slice_get t (slice_index states k)) b 0
+  pub all : (k r : ℕ) → k < length states → Reads (slice_get t (slice_index states k)) b r → r ≡ 0
+
+-- the same of the first k states, of which some reads the byte if that is told
+pub record EndsSoFar (t : List State) (states : List ℕ) (b k : ℕ) (some : Bool) : Type 0 where
+  pub found : IsTrue some → (j : ℕ) × (j < k) × Reads (slice_get t (slice_index states j)) b 0
+  pub all : (j r : ℕ) → j < k → Reads (slice_get t (slice_index states j)) b r → r ≡ 0
 
 -- a match ends right before the byte
 abbrev pub HitBefore : Nfa → ℕ → (ℕ → Type 0) → Type 0

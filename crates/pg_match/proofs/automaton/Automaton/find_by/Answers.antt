@@ -1,3 +1,4 @@
+use Rattle.std.proofs.Common.{◌+◌, Some}
 use Rattle.pg_match.specs.Views.{nfa}
 use Rattle.pg_match.proofs.SkimLemmas.{best_none, best_later}
 use Rattle.pg_match.proofs.automaton.Automaton.find_by.Goals as goal
@@ -7,6 +8,11 @@ returns-in-NoHit-clause-best g c = best_none (nfa c.args.self.now) c.args.line.n
 
 pub returns-in-Known-clause-best : goal.returns-in-Known-clause-best
 returns-in-Known-clause-best g c =
+    let s = c.in-Known.ensures in
+    best_later (nfa c.args.self.now) c.args.line.now c.args.from _ (Some (c.in-Known.start, c.in-Known.start + 1)) s.0 s.2 (c.is_one_byte.ensures c.if-is_one_byte.true)
+
+pub returns-in-Known-2-clause-best : goal.returns-in-Known-2-clause-best
+returns-in-Known-2-clause-best g c =
     let s = c.in-Known.ensures in
     best_later (nfa c.args.self.now) c.args.line.now c.args.from _ c.find.result s.0 s.2 c.find.ensures.best
 
@@ -78,14 +84,14 @@ returns-in-NoHit-clause-room g c = c.requires.room
 pub returns-in-NoHit-clause-memory : goal.returns-in-NoHit-clause-memory
 returns-in-NoHit-clause-memory g c = c.requires.memory
 
-pub returns-in-Known-clause-room : goal.returns-in-Known-clause-room
-returns-in-Known-clause-room g c = c.find.ensures.room
+pub returns-in-Known-2-clause-room : goal.returns-in-Known-2-clause-room
+returns-in-Known-2-clause-room g c = c.find.ensures.room
 
-pub returns-in-Known-clause-visits : goal.returns-in-Known-clause-visits
-returns-in-Known-clause-visits g c = c.find.ensures.visits
+pub returns-in-Known-2-clause-visits : goal.returns-in-Known-2-clause-visits
+returns-in-Known-2-clause-visits g c = c.find.ensures.visits
 
-pub returns-in-Known-clause-memory : goal.returns-in-Known-clause-memory
-returns-in-Known-clause-memory g c = c.requires.memory
+pub returns-in-Known-2-clause-memory : goal.returns-in-Known-2-clause-memory
+returns-in-Known-2-clause-memory g c = c.requires.memory
 
 pub returns-in-Unknown-clause-room : goal.returns-in-Unknown-clause-room
 returns-in-Unknown-clause-room g c = c.study.ensures.room

@@ -7,21 +7,24 @@ use Rattle.pg_match.proofs.SkimLemmas.{skim_first, skim_later, skim_on, skim_fre
 use Rattle.pg_match.proofs.automaton.Automaton.skim.Goals as goal
 use Rattle.pg_match.proofs.automaton.Automaton.skim.Goals.{then-from-eq0, else-from-eq0}
 
-pub loop-place-init : goal.loop-place-init
-loop-place-init g c =
+pub follow_rows-state-requires-clause-skimmed : goal.follow_rows-state-requires-clause-skimmed
+follow_rows-state-requires-clause-skimmed g c =
     let m = nfa c.args.self.now in
     let mem = remembered c.args.memory.now in
     let l = c.args.line.now in
-    let place = c.saturating_sub-place.ensures in
+    let place = c.saturating_sub.ensures in
     elim c.if-from-eq0.branch [
       | then-from-eq0 w ↦
-          rw (w.state-is, w.if-from-eq0.true)
-          (skim_first m mem l c.saturating_sub-place.result c.requires.memory (omega (arith, c.if-memory-eq0.false)) c.requires.bytes
+          rw (w.first-is, w.if-from-eq0.true)
+          (skim_first m mem l c.saturating_sub.result c.requires.memory (omega (arith, c.if-memory-eq0.false)) c.requires.bytes
           (omega (arith, w.if-from-eq0.true)))
       | else-from-eq0 w ↦
-          rw w.state-is
-          (skim_later m mem l c.args.from c.saturating_sub-place.result c.requires.memory w.if-from-eq0.false c.requires.from_in (omega arith))
+          rw w.first-is
+          (skim_later m mem l c.args.from c.saturating_sub.result c.requires.memory w.if-from-eq0.false c.requires.from_in (omega arith))
     ]
+
+pub loop-place-init : goal.loop-place-init
+loop-place-init g c = c.follow_rows-state.ensures
 
 pub index-requires : goal.index-requires
 index-requires g c =
