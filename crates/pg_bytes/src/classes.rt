@@ -1,7 +1,8 @@
 //! The character classes of the C locale.
 ghost use Rattle.std.specs.Prelude.{◌≡◌, ◌&&◌, None, codes, not, option_map};
 ghost use Rattle.pg_bytes.specs.Sets.{between, union, one};
-ghost use Rattle.pg_bytes.specs.Classes.{class, named, alpha, digit, alnum, graph, print, punct, xdigit, blank, space, cntrl};
+ghost use Rattle.pg_bytes.specs.Classes.{class, named, alpha, digit, alnum, graph, print, punct, xdigit};
+ghost use Rattle.pg_bytes.specs.Classes.{blank, space, cntrl};
 ghost use Rattle.pg_bytes.specs.ByteSets.{bytes};
 
 use crate::byte_set::ByteSet;

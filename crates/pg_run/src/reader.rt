@@ -127,7 +127,8 @@ impl<A: Allocator + Copy> FileReader<A> {
         ensures came { self.new.came ≡ self.old.came }
         ensures stands { (past : Fed) → CutterStands self.old.cutter past →
             CutterStands self.new.cutter (handed past result) }
-        ensures next { IfSome result (λ block. (past : Fed) → CutterStands self.old.cutter past → IsNextBlock past block) }
+        ensures next { IfSome result (λ block.
+            (past : Fed) → CutterStands self.old.cutter past → IsNextBlock past block) }
         ensures none { IfNone result (IsDrained self.new.cutter) }
     {
         self.cutter.take()
