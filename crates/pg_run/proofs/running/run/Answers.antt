@@ -61,15 +61,3 @@ returns-clause-err g c =
 
 pub returns-clause-same_list : goal.returns-clause-same_list
 returns-clause-same_list g c = c.search_files.ensures.same_list
-
-pub invariant_of-engine : goal.invariant_of-engine
-invariant_of-engine g c =
-    let e = c.search_files.new.engine in
-    record {
-      fits = e.fits;
-      all_fit = e.all_fit;
-      few_scratches = e.few_scratches;
-      endless = e.endless;
-      at_once = e.at_once;
-      few = e.few;
-    }
