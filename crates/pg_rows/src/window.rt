@@ -86,10 +86,7 @@ pub(crate) struct Window<A: Allocator = Global> {
 
 impl<A: Allocator> Drop for Window<A> {
     fn drop(self) {
-        let Window {
-            tails: _,
-            lines: _,
-        } = self;
+        let Window { tails: _, lines: _ } = self;
     }
 }
 
