@@ -16,7 +16,7 @@ use Rattle.pg_lines.specs.declared.cutter.CutFault.{CutFault}
 use Rattle.pg_lines.specs.declared.cutter.CutFault.TheVariants.{OutOfMemory as NoMemory, LineTooLong, FileTooLong}
 use Rattle.pg_lines.proofs.CutLaws.{cut_is_cutting}
 use Rattle.pg_walk.specs.declared.item.Cause.TheVariants.{ReadFailed}
-use Rattle.pg_rows.specs.Output.{Entry, Read, Ending, Running, Ended, Failed, Left, output, is_failed, when}
+use Rattle.pg_rows.specs.Output.{Entry, Read, Ending, Running, Ended, Failed, Left, HasRoom, output, is_failed, when}
 use Rattle.pg_rows.specs.Enough.{is_enough}
 use Rattle.pg_rows.specs.Sink.{IsBeginning, TakesPart}
 use Rattle.pg_rows.proofs.SinkLemmas.{takes_longer}
@@ -29,9 +29,9 @@ use Rattle.pg_run.specs.Lengths.{IsTooLong}
 use Rattle.pg_run.specs.Told.{faults_of, fault_line}
 use Rattle.pg_files.specs.Asking.{read_given}
 use Rattle.pg_run.specs.Faults.{fault_of_cut}
-use Rattle.pg_run.specs.Outcome.{Stream, GoesOn}
+use Rattle.pg_run.specs.Outcome.{Stream, GoesOn, GotWholeLines, IsOfAFile}
 use Rattle.pg_run.specs.Cover.{is_left, IsReading}
-use Rattle.pg_run.specs.Holding.{Aim, Holds, May, Broke, SearchCause, format_of, output_of}
+use Rattle.pg_run.specs.Holding.{Aim, Holds, May, Broke, SearchCause, IsWritten, IsWrittenFirst, format_of, output_of}
 use Rattle.pg_run.specs.Reading.{InFile, HasCut, IsLost, CutCause, IsWhole, Between, Breaks, IsSafe, ReadCause}
 use Rattle.pg_run.specs.Reading.{ReadsOn, ending_of, ending_after}
 use Rattle.pg_run.specs.declared.engine.Engine.{Engine}
@@ -40,8 +40,10 @@ use Rattle.pg_run.specs.declared.reader.Came.{Came}
 use Rattle.pg_run.specs.declared.reader.Came.TheVariants.{More, End, Failure, Refused}
 use Rattle.pg_run.specs.declared.fault.RunFault.{RunFault}
 use Rattle.pg_run.specs.declared.fault.RunFault.TheVariants.{Query, OutOfMemory, Sink, TooManyFiles, TooLong}
-use Rattle.pg_run.proofs.CoverLemmas.{follows_begins}
+use Rattle.pg_seq.proofs.LongerLemmas.{alike_more}
+use Rattle.pg_run.proofs.CoverLemmas.{follows_begins, covers_alike}
 use Rattle.pg_run.proofs.StepLemmas.{reads, read_ends, leaves, announces, ends, bytes_given, end_given, closed_left}
+use Rattle.pg_run.proofs.StepLemmas.{left_whole}
 use Rattle.pg_run.proofs.HoldLemmas.{room_of}
 use Rattle.pg_run.proofs.BlockLemmas.{AllEnd, Gives, given_end, gives_next, gives_last, numbered_last, short_part}
 
@@ -135,6 +137,40 @@ read_cause OutOfMemory aim given out c = tt
 read_cause Sink aim given out c = c
 read_cause TooManyFiles aim given out c = absurd c
 read_cause TooLong aim given out c = absurd c
+
+-- a search that breaks off is no file's fault
+pub none_at_fault : (fault : RunFault) (aim : Aim) (out : Stream) → SearchCause fault aim out → IsOfAFile fault → ⊥
+none_at_fault (Query why) aim out c f = c
+none_at_fault OutOfMemory aim out c f = f
+none_at_fault Sink aim out c f = f
+none_at_fault TooManyFiles aim out c f = c
+none_at_fault TooLong aim out c f = c
+
+pub takes_all : (aim : Aim) (steps : List Step) (out : Stream) → IsWritten aim steps out
+    → TakesPart (output_of aim steps) aim.out.taken out.taken
+takes_all aim steps out e = (output_of aim steps, ([], append-nil (output_of aim steps)), e)
+
+-- all of the plan was written, whose open file was left
+left_lines : (aim : Aim) (steps : List Step) (given : List Given) (name front rest : List ℕ) → HasRoom (format_of aim)
+    → IsReading aim.query (format_of aim) name front rest Left (entries_of steps) (entries_given given)
+    → (out : Stream) → IsWritten aim steps out
+    → GotWholeLines aim.query (format_of aim) (entries_given given) aim.out out
+left_lines aim steps given name front rest room r out e =
+    let q = aim.query in
+    let format = format_of aim in
+    let file = Read name front Running in
+    let like =
+    alike_more q format file file r.earlier r.before refl (covers_alike q format r.earlier r.before room r.covers) in
+    record {
+      name = name;
+      front = front;
+      rest = rest;
+      ending = Left;
+      earlier = r.before;
+      newest = r.given_is;
+      whole = left_whole q format name front rest (entries_of steps) (entries_given given) r;
+      written = e ∙ ap (λ xs. aim.out.taken ++ xs) (ap (output q format) r.planned_is ∙ like.output);
+    }
 
 -- What was read and not cut.
 
@@ -322,6 +358,7 @@ module _ {A : Type 0} {reader : FileReader A} {engine : Engine A} {aim : Aim} {g
           ending h.cuts,
           reads_block h.cuts b more g s,
         )) on);
+    lines = λ of. absurd (none_at_fault fault aim out' k.cause of);
   }
 
   -- what was written is a beginning, whatever the reader reads on
@@ -338,6 +375,7 @@ module _ {A : Type 0} {reader : FileReader A} {engine : Engine A} {aim : Aim} {g
   rest_breaks reader' given' out' fault c k = record {
     cause = read_cause fault aim given' out' k.cause;
     written = begins_still reader' given' out' c k.part;
+    lines = λ of. absurd (none_at_fault fault aim out' k.cause of);
   }
 
   -- The next block.
@@ -409,14 +447,27 @@ module _ {A : Type 0} {reader : FileReader A} {engine : Engine A} {aim : Aim} {g
       }
 
   -- the cutter took no more
-  pub refused_breaks : (out' : Stream) (engine' : Engine A) (cut : CutFault) → reader.came ≡ Refused cut
-      → Holds engine' aim h.steps out' → Breaks aim given out' (fault_of_cut cut)
-  refused_breaks out' engine' cut e k =
-      let L : Came → Type 0 = λ came. IsLost came aim given h.cuts.lost in
+  refused_breaks : (out' : Stream) (cut : CutFault) → reader.came ≡ Refused cut → IsWritten aim h.steps out'
+      → Breaks aim given out' (fault_of_cut cut)
+  refused_breaks out' cut e w =
+      let c = h.cuts in
+      let L : Came → Type 0 = λ came. IsLost came aim given c.lost in
+      let R : Came → Type 0 =
+      λ came. IsReading aim.query (format_of aim) c.name (joined c.fed.taken) c.rest (ending_after came)
+      (entries_of h.steps) (entries_given given) in
       record {
-        cause = cut_cause cut aim given out' (subst L e h.cuts.cause);
-        written = begins_still reader given out' h.cuts (k.written, k.safe, k.got);
+        cause = cut_cause cut aim given out' (subst L e c.cause);
+        written = begins_still reader given out' c (takes_all aim h.steps out' w);
+        lines = λ of.
+            left_lines aim h.steps given c.name (joined c.fed.taken) c.rest (room_of h.holds) (subst R e c.reads) out' w;
       }
+
+  -- what was cut was searched first
+  pub refused_last : (out' : Stream) (cut : CutFault) (fault answer : RunFault) → reader.came ≡ Refused cut
+      → fault ≡ fault_of_cut cut → IsWrittenFirst aim h.steps out' fault answer → Breaks aim given out' answer
+  refused_last out' cut fault answer e is (inl w) =
+      subst (Breaks aim given out') (sym (w.0 ∙ is)) (refused_breaks out' cut e w.1)
+  refused_last out' cut fault answer e is (inr k) = rest_breaks reader given out' answer h.cuts k
 
 -- A file that may be read further.
 module _ {A : Type 0} {reader : FileReader A} {aim : Aim} {given : List Given} {steps : List Step}

@@ -11,15 +11,20 @@ use Rattle.pg_lines.specs.Search.{Search, SearchText, Pattern, AreTreesOf, searc
 use Rattle.pg_lines.specs.Cutter.{unfed, Stands as CutterStands}
 use Rattle.pg_walk.specs.declared.item.Cause.{Cause}
 use Rattle.pg_walk.specs.declared.item.Cause.TheVariants.{ReadFailed}
+use Rattle.pg_rows.specs.declared.format.Format.{Format}
+use Rattle.pg_rows.specs.declared.format.Mode.{Mode}
+use Rattle.pg_rows.specs.declared.format.Mode.TheVariants.{Rows, Count, List as Names, Quiet}
 use Rattle.pg_rows.specs.Output.{Entry, Missed, Read, Running, Left, output, status, when, is_quiet, has_selected}
+use Rattle.pg_rows.specs.Output.{file_rows, rows_in, line_rows, piece_rows, is_nothing}
 use Rattle.pg_rows.specs.Enough.{is_enough, file_suffices}
 use Rattle.pg_rows.specs.Sink.{TakesPart}
 use Rattle.pg_seq.specs.Plan.{Step, Opens, Announces, Ends, Misses, IsShaped, is_open, entries_of, with_end}
 use Rattle.pg_seq.proofs.BeginLemmas.{begins_trans}
 use Rattle.pg_files.specs.Given.{Given, NoFile, File, FilesPast, entries_given, newest_name, nothing_given}
 use Rattle.pg_run.specs.Told.{faults_of, fault_of, fault_line, told_of}
-use Rattle.pg_run.specs.Outcome.{Stream, IsSearchFor, EndsAtSelected, Finishes, BreaksOff, HasCause}
-use Rattle.pg_run.specs.Holding.{Aim, Holds, Broke, IsWritten, format_of}
+use Rattle.pg_run.specs.Outcome.{Stream, IsSearchFor, EndsAtSelected, Finishes, BreaksOff, HasCause, GotWholeLines}
+use Rattle.pg_run.specs.Outcome.{IsOfAFile}
+use Rattle.pg_run.specs.Holding.{Aim, Holds, Broke, IsWritten, IsWrittenFirst, format_of, output_of}
 use Rattle.pg_run.specs.Cover.{IsReading}
 use Rattle.pg_run.specs.Reading.{InFile, IsLost, Between, IsTold, Breaks, IsSafe, ReadCause, StopCause, Stops, IsDone}
 use Rattle.pg_run.specs.Reading.{ending_after}
@@ -33,7 +38,7 @@ use Rattle.pg_run.specs.declared.fault.RunFault.TheVariants.{Query, OutOfMemory,
 use Rattle.pg_run.proofs.CoverLemmas.{follows_begins, covers_alike, covers_same, covers_left, later_begins}
 use Rattle.pg_run.proofs.StepLemmas.{opens, misses}
 use Rattle.pg_run.proofs.HoldLemmas.{room_of, shaped_of}
-use Rattle.pg_run.proofs.ReadingLemmas.{safe_by, read_cause}
+use Rattle.pg_run.proofs.ReadingLemmas.{safe_by, read_cause, none_at_fault, takes_all}
 
 -- What was told.
 
@@ -155,6 +160,7 @@ stops_reading aim given given' out told fault b t before =
     record {
       cause = stop_cause fault aim given' out told b.cause;
       written = b.written;
+      lines = b.lines;
       faults = part_before aim given given' told grown.0 t grown.1;
     }
 
@@ -166,13 +172,19 @@ pub stops_telling : (aim : Aim) (given given' : List Given) (out told told' : St
 stops_telling aim given given' out told told' silent line set safe t e part rose = record {
   cause = inr (omega (arith, rose, t.calm));
   written = safe;
+  lines = λ of. absurd of;
   faults = part_told aim given given' told told' silent line set t e part;
 }
 
 -- memory is lacking
 pub stops_memory : (aim : Aim) (given : List Given) (out told : Stream) → IsSafe aim given out.taken
     → IsTold aim given told → Stops aim given out told OutOfMemory
-stops_memory aim given out told safe t = record { cause = tt; written = safe; faults = told_all aim given told t }
+stops_memory aim given out told safe t = record {
+  cause = tt;
+  written = safe;
+  lines = λ of. absurd of;
+  faults = told_all aim given told t;
+}
 
 -- while no file is open, no file's lines suffice
 closed_entries : (aim : Aim) (steps : List Step) → is_open steps ≡ false → IsShaped (terminator aim.query) steps
@@ -190,22 +202,40 @@ closed_entries aim (Ends failed ∷ steps) e h = ended failed (entries_of steps)
     ended false (Read name bytes ending ∷ es) = refl
 closed_entries aim (Misses name ∷ steps) e h = refl
 
+-- an open file of which nothing was read gives nothing
+no_rows : (q : Search) (format : Format) (name : List ℕ) (earlier : Bool)
+    → file_rows q format name [] false earlier ≡ []
+unfolding file_rows
+no_rows q format name earlier = go q.text.pieces format.mode
+  where
+    go : (pieces : Bool) (mode : Mode)
+        → rows_in mode (cond pieces (piece_rows q format name []) (line_rows q format name [] earlier)) [] [] ≡ []
+    go true Rows = refl
+    go false Rows = refl
+    go pieces Count = refl
+    go pieces Names = refl
+    go pieces Quiet = refl
+
 -- Between files.
 module _ {A : Type 0} {engine : Engine A} {aim : Aim} {given : List Given} {out : Stream}
     (h : Between engine aim given out) where
+  pub taken_part : TakesPart (output_of aim h.steps) aim.out.taken out.taken
+  taken_part = (h.holds.written, h.holds.safe, h.holds.got)
+
   pub between_safe : IsSafe aim given out.taken
-  between_safe = safe_by aim h.steps given out.taken (h.holds.written, h.holds.safe, h.holds.got) (λ files on.
+  between_safe = safe_by aim h.steps given out.taken taken_part (λ files on.
       follows_begins aim.query (format_of aim) (entries_of h.steps) (entries_given given) files (room_of h.holds)
       (inl h.covers) on)
 
   -- a file was given, and is not opened yet
-  pub unopened_safe : (name : List ℕ) → IsSafe aim (File name [] Left ∷ given) out.taken
-  unopened_safe name =
+  pub unopened_safe : (name taken : List ℕ) → TakesPart (output_of aim h.steps) aim.out.taken taken
+      → IsSafe aim (File name [] Left ∷ given) taken
+  unopened_safe name taken part =
       let es = entries_of h.steps in
       let more = Read name [] Running ∷ [] in
       let q = aim.query in
       let format = format_of aim in
-      safe_by aim h.steps (File name [] Left ∷ given) out.taken (h.holds.written, h.holds.safe, h.holds.got)
+      safe_by aim h.steps (File name [] Left ∷ given) taken part
       (λ files on.
       begins_trans (output q format es) (output q format (more ++ es)) (output q format files)
       (later_begins q format more es)
@@ -215,7 +245,7 @@ module _ {A : Type 0} {engine : Engine A} {aim : Aim} {given : List Given} {out 
   -- a name was given that gives no file
   pub unmissed_safe : (name : List ℕ) (cause : Cause) → IsSafe aim (NoFile name cause ∷ given) out.taken
   unmissed_safe name cause =
-      safe_by aim h.steps (NoFile name cause ∷ given) out.taken (h.holds.written, h.holds.safe, h.holds.got)
+      safe_by aim h.steps (NoFile name cause ∷ given) out.taken taken_part
       (λ files on.
       follows_begins aim.query (format_of aim) (Missed name ∷ entries_of h.steps)
       (entries_given (NoFile name cause ∷ given)) files
@@ -265,14 +295,42 @@ module _ {A : Type 0} {engine : Engine A} {aim : Aim} {given : List Given} {out 
         };
       }
 
-  -- there is no number for it
-  pub stops_many : (told : Stream) (name : List ℕ) → 2 ^ 32 - 1 ≤ engine.files → IsTold aim given told
-      → Stops aim (File name [] Left ∷ given) out told TooManyFiles
-  stops_many told name e t = record {
-    cause = omega (arith, e, h.holds.count, h.number);
-    written = unopened_safe name;
-    faults =
-        told_all aim (File name [] Left ∷ given) told (told_same aim given (File name [] Left ∷ given) told t refl);
+  unopened_lines : (out' : Stream) (name : List ℕ) → IsWritten aim h.steps out'
+      → GotWholeLines aim.query (format_of aim) (entries_given (File name [] Left ∷ given)) aim.out out'
+  unopened_lines out' name w =
+      let q = aim.query in
+      let format = format_of aim in
+      let before = entries_given given in
+      let same = covers_same q format (entries_of h.steps) before (room_of h.holds) h.covers in
+      let none = no_rows q format name (not (is_nothing (output q format before))) in
+      record {
+        name = name;
+        front = [];
+        rest = [];
+        ending = Left;
+        earlier = before;
+        newest = refl;
+        whole = inl refl;
+        written =
+            w
+            ∙ ap (λ xs. aim.out.taken ++ xs)
+            (same.output ∙ sym (ap (λ xs. output q format before ++ xs) none ∙ append-nil (output q format before)));
+      }
+
+  -- there is no number for it, and what was read before was searched first
+  pub unnumbered : (out' : Stream) (name : List ℕ) (answer : RunFault) → 2 ^ 32 - 1 ≤ engine.files
+      → IsWrittenFirst aim h.steps out' TooManyFiles answer → Breaks aim (File name [] Left ∷ given) out' answer
+  unnumbered out' name answer e (inl w) =
+      let many : Breaks aim (File name [] Left ∷ given) out' TooManyFiles = record {
+        cause = omega (arith, e, h.holds.count, h.number);
+        written = unopened_safe name out'.taken (takes_all aim h.steps out' w.1);
+        lines = λ of. unopened_lines out' name w.1;
+      } in
+      subst (Breaks aim (File name [] Left ∷ given) out') (sym w.0) many
+  unnumbered out' name answer e (inr k) = record {
+    cause = read_cause answer aim (File name [] Left ∷ given) out' k.cause;
+    written = unopened_safe name out'.taken k.part;
+    lines = λ of. absurd (none_at_fault answer aim out' k.cause of);
   }
 
   -- between files it is enough only with -q and a selected line
@@ -363,6 +421,7 @@ module _ {A : Type 0} {engine : Engine A} {aim : Aim} {past : FilesPast} {out to
         written = safe_by aim b.steps past.given out'.taken k.part (λ files on.
             follows_begins aim.query (format_of aim) (entries_of b.steps) (entries_given past.given) files
             (room_of b.holds) (inl b.covers) on);
+        lines = λ of. absurd (none_at_fault fault aim out' k.cause of);
         faults = told_all aim past.given told d.rests.1;
       }
 
@@ -381,11 +440,20 @@ breaks_off text setup past out out' told told' fault own stops =
     record {
       cause = has_cause fault (aim_for text own.0 setup out told) past out' told' s.cause;
       written = λ trees spelled. (stops trees spelled).written;
+      lines = λ of trees spelled. (stops trees spelled).lines of;
       faults = s.faults;
     }
 
 none_taken : (text before : List ℕ) → TakesPart text before before
 none_taken text before = ([], (text, refl), sym (append-nil before))
+
+no_file_yet : (fault : RunFault) (text : SearchText) (setup : Setup) (out told : Stream)
+    → HasCause fault text setup nothing_given out out told told → IsOfAFile fault → ⊥
+no_file_yet (Query why) text setup out told c f = f
+no_file_yet OutOfMemory text setup out told c f = f
+no_file_yet Sink text setup out told c f = f
+no_file_yet TooManyFiles text setup out told c f = omega (arith, c)
+no_file_yet TooLong text setup out told c f = c
 
 -- nothing was asked for or written
 pub breaks_first : (text : SearchText) (setup : Setup) (past : FilesPast) (out told : Stream) (fault : RunFault)
@@ -397,6 +465,7 @@ breaks_first text setup past out told fault new cause =
       cause = subst P (sym new) cause;
       written = λ trees spelled files on.
           none_taken (output (search_of text trees) setup.format files) out.taken;
+      lines = λ of. absurd (no_file_yet fault text setup out told cause of);
       faults = none_taken (told_of setup.silent past.given) told.taken;
     }
 

@@ -48,7 +48,7 @@ module _ (q : Search) (format : Format) where
   misses name planned given h = (refl, h)
 
   module _ (name front rest : List ℕ) (planned given : List Entry) where
-    left_whole : IsReading q format name front rest Left planned given → AreWhole (terminator q) front
+    pub left_whole : IsReading q format name front rest Left planned given → AreWhole (terminator q) front
     left_whole h = go h.seam
       where
         go : AreWhole (terminator q) front ⊎ ((rest ≡ []) × (is_left Left ≡ false)) → AreWhole (terminator q) front

@@ -1,5 +1,5 @@
 -- How an engine holds its sequencer between two calls.
-use Rattle.std.specs.Prelude.{◌≡◌, ℕ, ◌<◌, true, false, List, ◌++◌, map}
+use Rattle.std.specs.Prelude.{◌≡◌, ◌⊎◌, ℕ, ◌<◌, true, false, List, ◌++◌, map}
 use Rattle.std.specs.List.{list_all}
 use Rattle.std.specs.Arc.{arc_value}
 use Rattle.pg_lines.specs.Search.{Search, terminator}
@@ -82,3 +82,7 @@ SearchCause TooLong aim out = ⊥
 pub record Broke (aim : Aim) (steps : List Step) (out : Stream) (fault : RunFault) : Type 0 where
   pub cause : SearchCause fault aim out
   pub part : TakesPart (output_of aim steps) aim.out.taken out.taken
+
+-- all was written and the fault is answered, or that broke off
+abbrev pub IsWrittenFirst : Aim → List Step → Stream → (fault answer : RunFault) → Type 0
+IsWrittenFirst aim steps out fault answer = ((answer ≡ fault) × IsWritten aim steps out) ⊎ Broke aim steps out answer

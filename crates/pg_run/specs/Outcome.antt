@@ -1,9 +1,12 @@
 -- What a run did, by what its files gave.
 use Rattle.std.specs.Prelude.{◌≡◌, ◌⊎◌, ℕ, ◌<◌, ◌-◌, ◌^◌, true, false, List, [], ◌∷◌, ◌++◌}
 use Rattle.std.specs.List.{list_any}
-use Rattle.pg_lines.specs.Search.{Search, SearchText, Pattern, AreTreesOf, HasItsTrees, search_of, terminator_of}
+use Rattle.pg_lines.specs.Search.{Search, SearchText, Pattern, AreTreesOf, HasItsTrees}
+use Rattle.pg_lines.specs.Search.{search_of, terminator, terminator_of}
+use Rattle.pg_lines.specs.Lines.{AreWhole}
 use Rattle.pg_lines.specs.Queries.{IsQueryFault}
 use Rattle.pg_lines.specs.declared.query.QueryFault.TheVariants.{OutOfMemory as NoMemoryForQuery}
+use Rattle.pg_rows.specs.declared.format.Format.{Format}
 use Rattle.pg_rows.specs.Output.{Entry, Missed, Read, Ending, Running, Ended, Failed, Left, is_running, is_quiet}
 use Rattle.pg_rows.specs.Output.{has_selected, output, status}
 use Rattle.pg_rows.specs.Sink.{TakesPart}
@@ -73,12 +76,34 @@ HasCause Sink text setup past out out' told told' =
 HasCause TooManyFiles text setup past out out' told told' = 2 ^ 32 - 1 < files_given past.given
 HasCause TooLong text setup past out out' told told' = IsTooLong (terminator_of text) setup.line past.given
 
+-- The output is that of what was given before the newest file, and of some whole lines at its front.
+pub record GotWholeLines (q : Search) (format : Format) (given : List Entry) (out out' : Stream) : Type 0 where
+  pub name : List ℕ
+  pub front : List ℕ
+  pub rest : List ℕ
+  pub ending : Ending
+  pub earlier : List Entry
+  pub newest : given ≡ Read name (front ++ rest) ending ∷ earlier
+  pub whole : AreWhole (terminator q) front
+  pub written : out'.taken ≡ out.taken ++ output q format (Read name front Running ∷ earlier)
+
+-- a file is at fault: it can't be read on, or not be begun
+abbrev pub IsOfAFile : RunFault → Type 0
+IsOfAFile (Query why) = ⊥
+IsOfAFile OutOfMemory = ⊥
+IsOfAFile Sink = ⊥
+IsOfAFile TooManyFiles = Unit {0}
+IsOfAFile TooLong = Unit {0}
+
 -- A run broke off by a fault that has its cause: its output is a beginning of that of every list of files that goes on
--- from what was given, and the fault lines are a beginning of those of what was given.
+-- from what was given, and the fault lines are a beginning of those of what was given. Where a file is at fault, nothing
+-- is lost of those before it.
 pub record BreaksOff (text : SearchText) (setup : Setup) (past : FilesPast) (out out' told told' : Stream)
     (fault : RunFault) : Type 0 where
   pub cause : HasCause fault text setup past out out' told told'
   pub written : (trees : List Pattern) → AreTreesOf text trees → (files : List Entry) →
       GoesOn (entries_given past.given) files →
       TakesPart (output (search_of text trees) setup.format files) out.taken out'.taken
+  pub lines : IsOfAFile fault → (trees : List Pattern) → AreTreesOf text trees →
+      GotWholeLines (search_of text trees) setup.format (entries_given past.given) out out'
   pub faults : TakesPart (told_of setup.silent past.given) told.taken told'.taken

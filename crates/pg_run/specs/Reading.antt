@@ -12,7 +12,7 @@ use Rattle.pg_seq.specs.Plan.{Step, is_open, opened, last_blocks, entries_of}
 use Rattle.pg_files.specs.Given.{Given, FilesPast, Sources, entries_given, files_given}
 use Rattle.pg_run.specs.Lengths.{IsTooLong}
 use Rattle.pg_run.specs.Told.{told_of}
-use Rattle.pg_run.specs.Outcome.{Stream, GoesOn, EndsAtSelected, AsksToTheEnd}
+use Rattle.pg_run.specs.Outcome.{Stream, GoesOn, EndsAtSelected, AsksToTheEnd, GotWholeLines, IsOfAFile}
 use Rattle.pg_run.specs.Cover.{Covers, IsReading}
 use Rattle.pg_run.specs.Holding.{Aim, Holds, format_of}
 use Rattle.pg_run.specs.declared.engine.Engine.{Engine}
@@ -124,6 +124,7 @@ ReadCause TooLong aim given out = IsTooLong (terminator aim.query) aim.setup.lin
 pub record Breaks (aim : Aim) (given : List Given) (out : Stream) (fault : RunFault) : Type 0 where
   pub cause : ReadCause fault aim given out
   pub written : IsSafe aim given out.taken
+  pub lines : IsOfAFile fault → GotWholeLines aim.query (format_of aim) (entries_given given) aim.out out
 
 -- why a run broke off
 abbrev pub StopCause : RunFault → Aim → List Given → (out told : Stream) → Type 0
@@ -137,6 +138,7 @@ StopCause TooLong aim given out told = IsTooLong (terminator aim.query) aim.setu
 pub record Stops (aim : Aim) (given : List Given) (out told : Stream) (fault : RunFault) : Type 0 where
   pub cause : StopCause fault aim given out told
   pub written : IsSafe aim given out.taken
+  pub lines : IsOfAFile fault → GotWholeLines aim.query (format_of aim) (entries_given given) aim.out out
   pub faults : TakesPart (told_of aim.setup.silent given) aim.told.taken told.taken
 
 -- one more name or file was given, or there is no more

@@ -341,7 +341,7 @@ impl<A: Allocator + Copy + Send + Sync> Engine<A> {
     ghost use Rattle.pg_rows.specs.Enough.{is_enough};
     ghost use Rattle.pg_seq.specs.Plan.{Step, Opens, Announces, Ends, Misses, entries_of, is_open};
     ghost use Rattle.pg_run.specs.Outcome.{Stream};
-    ghost use Rattle.pg_run.specs.Holding.{Aim, Holds, IsReady, IsWritten, Broke, format_of, stream};
+    ghost use Rattle.pg_run.specs.Holding.{Aim, Holds, IsReady, IsWritten, IsWrittenFirst, Broke, format_of, stream};
 
     /// Searches the blocks that wait, by several threads where that pays, and writes all that may be written. Meanwhile
     /// the reader reads on.
@@ -423,6 +423,27 @@ impl<A: Allocator + Copy + Send + Sync> Engine<A> {
             return self.drain(out);
         }
         self.search_round(rt, gate, &mut NothingToRead, &mut (), out)
+    }
+
+    /// Searches what waits and has its rows written, before the run breaks off by this fault. Answers it, or the fault
+    /// by which that broke off.
+    pub(crate) fn break_off<R: Threads + Wait + Clock + Sync, W: Sink, G: Gate + Sync>(
+        &mut self,
+        rt: &R,
+        gate: &G,
+        fault: RunFault,
+        out: &mut W,
+    ) -> RunFault
+        requires holds { (aim : Aim) × (steps : List Step)
+            × Holds self.old aim steps (stream (W.taken out.old) (W.failures out.old)) }
+        ensures { (aim : Aim) → (steps : List Step) →
+            Holds self.old aim steps (stream (W.taken out.old) (W.failures out.old)) →
+            IsWrittenFirst aim steps (stream (W.taken out.new) (W.failures out.new)) fault result }
+    {
+        match self.flush(rt, gate, out) {
+            Ok(()) => fault,
+            Err(failure) => failure,
+        }
     }
 
     /// Searches what waits, writes what is left, and answers the status. No file is open.

@@ -8,13 +8,12 @@ ghost use Rattle.pg_run.specs.Outcome.{Stream};
 ghost use Rattle.pg_run.specs.Told.{faults_of, fault_line};
 ghost use Rattle.pg_run.specs.Holding.{Aim, stream};
 ghost use Rattle.pg_run.specs.Reading.{InFile, IsWhole, Between, Breaks, ending_of, ending_after};
-ghost use Rattle.pg_run.specs.declared.reader.Came.TheVariants.{More, Refused};
+ghost use Rattle.pg_run.specs.declared.reader.Came.TheVariants.{More};
 
 use crate::engine::Engine;
 use crate::fault::RunFault;
 use crate::reader::{Came, FileReader};
 use pg_files::Files;
-use pg_lines::CutFault;
 use pg_round::Gate;
 use pg_rows::Sink;
 use std::alloc::Allocator;
@@ -231,33 +230,6 @@ fn finish_file<A: Allocator + Copy + Send + Sync, W: Sink, G: Gate>(
     Ok(failed)
 }
 
-/// Searches what waits where the cutter takes no more of the file, and answers the fault that ends the run.
-fn break_off<
-    R: Threads + Wait + Clock + Sync,
-    A: Allocator + Copy + Send + Sync,
-    W: Sink,
-    G: Gate + Sync,
->(
-    rt: &R,
-    gate: &G,
-    reader: &FileReader<A>,
-    engine: &mut Engine<A>,
-    fault: CutFault,
-    out: &mut W,
-) -> RunFault
-    requires refused { reader.now.came ≡ Refused fault }
-    requires in_file { (aim : Aim) × (given : List Given)
-        × InFile reader.now engine.old aim given (stream (W.taken out.old) (W.failures out.old)) }
-    ensures { (aim : Aim) → (given : List Given) →
-        InFile reader.now engine.old aim given (stream (W.taken out.old) (W.failures out.old)) →
-        Breaks aim given (stream (W.taken out.new) (W.failures out.new)) result }
-{
-    match engine.flush(rt, gate, out) {
-        Ok(()) => RunFault::from(fault),
-        Err(failure) => failure,
-    }
-}
-
 /// Reads the open file until enough was read, its end is met or a read fails, and ends it. The answer
 /// says whether a read failed.
 pub(crate) fn read_file<
@@ -300,7 +272,8 @@ pub(crate) fn read_file<
             Came::End => return finish_file(gate, reader, engine, false, out),
             Came::Failure => return finish_file(gate, reader, engine, true, out),
             Came::Refused(fault) => {
-                return Err(break_off(rt, gate, reader, engine, fault, out));
+                let fault = RunFault::from(fault);
+                return Err(engine.break_off(rt, gate, fault, out));
             }
         }
     }

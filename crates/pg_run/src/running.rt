@@ -172,7 +172,7 @@ fn one_file<
         (stream (E.taken faults.new) (E.failures faults.new))) }
 {
     if engine.files >= MOST_FILES {
-        return Err(RunFault::TooManyFiles);
+        return Err(engine.break_off(rt, gate, RunFault::TooManyFiles, out));
     }
     open_file(engine, reader, files.name())?;
     let failed = read_file(rt, gate, reader, engine, files, out)?;
@@ -328,7 +328,8 @@ fn search_files<
 /// or written. `Sink` where a write failed or took no byte, `TooLong` where a line is longer than the
 /// setup allows or a file has more than 2^62 bytes, `TooManyFiles` at file number 2^32, and
 /// `OutOfMemory` where a request for memory was refused. `out` and `faults` got beginnings of what they
-/// would have got.
+/// would have got; at `TooLong` and `TooManyFiles` `out` got all of the output of the files before the one that is at
+/// fault.
 pub fn run<
     R: Threads + Wait + Clock + Sync,
     A: Allocator + Copy + Send + Sync,

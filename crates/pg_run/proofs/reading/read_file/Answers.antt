@@ -7,7 +7,7 @@ use Rattle.pg_run.specs.Told.{faults_of, fault_line}
 use Rattle.pg_run.specs.Holding.{stream}
 use Rattle.pg_run.specs.Reading.{Breaks, ending_after}
 use Rattle.pg_run.proofs.HoldLemmas.{err_by, ok_of_err}
-use Rattle.pg_run.proofs.ReadingLemmas.{file_left, ok_by, told_more}
+use Rattle.pg_run.proofs.ReadingLemmas.{file_left, ok_by, told_more, refused_last}
 use Rattle.pg_run.proofs.reading.read_file.Goals as goal
 
 pub returns-then-enough-clause-done : goal.returns-then-enough-clause-done
@@ -171,14 +171,11 @@ returns-in-Failure-clause-err g c = λ aim start.
     c.finish_file-in-Failure.ensures.err aim (g.F.Files.past c.read_once.new.files).given
     (c.in_ok-read_once.ensures.ok aim (c.loop.invariant.reads aim start))
 
-pub break_off-requires-clause-refused : goal.break_off-requires-clause-refused
-break_off-requires-clause-refused g c κs within = c.in-Refused.is
-
-pub break_off-requires-clause-in_file : goal.break_off-requires-clause-in_file
-break_off-requires-clause-in_file g c κs within =
+pub break_off-requires-clause-holds : goal.break_off-requires-clause-holds
+break_off-requires-clause-holds g c κs within =
     let r = c.requires.in_file in
-    let given = (g.F.Files.past c.read_once.new.files).given in
-    (r.0, given, c.in_ok-read_once.ensures.ok r.0 (c.loop.invariant.reads r.0 r.1))
+    let h = c.in_ok-read_once.ensures.ok r.0 (c.loop.invariant.reads r.0 r.1) in
+    (r.0, h.steps, h.holds)
 
 pub returns-in-Refused-clause-done : goal.returns-in-Refused-clause-done
 returns-in-Refused-clause-done g c = c.in_ok-read_once.ensures.done ∙ c.loop.invariant.done
@@ -197,5 +194,7 @@ returns-in-Refused-clause-ok g c = λ aim start. tt
 
 pub returns-in-Refused-clause-err : goal.returns-in-Refused-clause-err
 returns-in-Refused-clause-err g c = λ aim start.
-    c.break_off.ensures aim (g.F.Files.past c.read_once.new.files).given
-    (c.in_ok-read_once.ensures.ok aim (c.loop.invariant.reads aim start))
+    let h = c.in_ok-read_once.ensures.ok aim (c.loop.invariant.reads aim start) in
+    let out' = stream (g.W.Sink.taken c.break_off.new.out) (g.W.Sink.failures c.break_off.new.out) in
+    refused_last h out' c.in-Refused.fault c.from-fault.result c.break_off.result c.in-Refused.is c.from-fault.ensures
+    (c.break_off.ensures aim h.steps h.holds)

@@ -5,18 +5,26 @@ use Rattle.pg_files.specs.Given.{Given, File}
 use Rattle.pg_run.specs.Told.{fault_line, faults_of}
 use Rattle.pg_run.specs.Holding.{stream}
 use Rattle.pg_run.specs.Reading.{Stops}
-use Rattle.pg_run.specs.declared.fault.RunFault.TheVariants.{OutOfMemory, TooManyFiles}
+use Rattle.pg_run.specs.declared.fault.RunFault.TheVariants.{OutOfMemory}
 use Rattle.pg_run.proofs.HoldLemmas.{err_by, ok_of_err}
 use Rattle.pg_run.proofs.RunLemmas.{told_by, told_same, told_failed, told_unfailed, stops_telling, stops_memory}
-use Rattle.pg_run.proofs.RunLemmas.{stops_reading, stops_many, unopened_safe, between_safe, file_started}
+use Rattle.pg_run.proofs.RunLemmas.{stops_reading, unnumbered, unopened_safe, taken_part, between_safe, file_started}
 use Rattle.pg_run.proofs.running.one_file.Goals as goal
 
 pub returns-then-engine-ge-MOST_FILES-clause-err : goal.returns-then-engine-ge-MOST_FILES-clause-err
 returns-then-engine-ge-MOST_FILES-clause-err g c = λ aim given name is rests.
-    let out = stream (g.W.Sink.taken c.args.out.now) (g.W.Sink.failures c.args.out.now) in
+    let out' = stream (g.W.Sink.taken c.break_off.new.out) (g.W.Sink.failures c.break_off.new.out) in
     let told = stream (g.E.Sink.taken c.args.faults.now) (g.E.Sink.failures c.args.faults.now) in
-    let P : List Given → Type 0 = λ gs. Stops aim gs out told TooManyFiles in
-    subst P (sym is) (stops_many rests.0 told name c.if-engine-ge-MOST_FILES.true rests.1)
+    let more = File name [] Left ∷ given in
+    let P : List Given → Type 0 = λ gs. Stops aim gs out' told c.break_off.result in
+    subst P (sym is) (stops_reading aim given more out' told c.break_off.result
+    (unnumbered rests.0 out' name c.break_off.result c.if-engine-ge-MOST_FILES.true
+    (c.break_off.ensures aim rests.0.steps rests.0.holds)) rests.1 refl)
+
+pub break_off-requires-clause-holds : goal.break_off-requires-clause-holds
+break_off-requires-clause-holds g c κs within =
+    let r = c.requires.rests in
+    (r.0, r.4.0.steps, r.4.0.holds)
 
 pub open_file-requires-clause-between : goal.open_file-requires-clause-between
 open_file-requires-clause-between g c =
@@ -32,7 +40,8 @@ returns-in_err-open_file-clause-err g c = λ aim given name is rests.
     err_by c.from_residual.result (Stops aim (g.F.Files.past c.args.files.now).given out told) OutOfMemory
     c.from_residual.ensures.1
     (subst P (sym is)
-    (stops_memory aim more out told (unopened_safe rests.0 name) (told_same aim given more told rests.1 refl)))
+    (stops_memory aim more out told (unopened_safe rests.0 name out.taken (taken_part rests.0))
+    (told_same aim given more told rests.1 refl)))
 
 pub read_file-requires-clause-in_file : goal.read_file-requires-clause-in_file
 read_file-requires-clause-in_file g c κs within =

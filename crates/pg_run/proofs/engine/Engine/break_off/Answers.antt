@@ -1,0 +1,11 @@
+use Rattle.std.proofs.Common.{inl, inr, refl}
+use Rattle.pg_run.proofs.engine.Engine.break_off.Goals as goal
+
+pub flush-requires-clause-holds : goal.flush-requires-clause-holds
+flush-requires-clause-holds g c κs within = c.requires.holds
+
+pub returns-in-Ok : goal.returns-in-Ok
+returns-in-Ok g c = λ aim steps h. inl (refl, (c.in-Ok.ensures.ok aim steps h).1)
+
+pub returns-in-Err : goal.returns-in-Err
+returns-in-Err g c = λ aim steps h. inr (c.in-Err.ensures.err aim steps h)
