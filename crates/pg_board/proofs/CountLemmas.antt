@@ -1,12 +1,15 @@
 -- Sums and counts over lists of which one member changes, joins or leaves.
-use Rattle.std.proofs.Common.{◌≡◌, ◌≢◌, ℕ, zero, suc, ◌+◌, ◌<◌, ◌≤◌, List, [], ◌∷◌, ◌++◌, set, sym, refl, ap, ◌∙◌, arith, if◌then◌else◌, ◌==◌, min, Bool, true, All, length, get_or, flat_map, replicate, drop, take, length-append}
+use Rattle.std.proofs.Common.{◌≡◌, ◌≢◌, ℕ, zero, suc, ◌+◌, ◌<◌, ◌≤◌, List, [], ◌∷◌, ◌++◌, set, sym, refl, ap, ◌∙◌}
+use Rattle.std.proofs.Common.{arith, if◌then◌else◌, ◌==◌, min, Bool, true, All, length, get_or, flat_map, replicate}
+use Rattle.std.proofs.Common.{drop, take, length-append}
 use mathlib.Core.Option.{some, some-injective, some-ne-none}
 use lib.ListN.{get_elem?}
 use Rattle.std.proofs.lemmas.Bool.Decides.{nat_tests}
 use Rattle.pg_board.specs.Counts.{total, once_below}
 
 module _ {A : Type 0} where
-  pub total_set : (f : A → ℕ) (xs : List A) (i : ℕ) (v w : A) → get_elem? xs i ≡ some v → total f (set xs i w) + f v ≡ total f xs + f w
+  pub total_set : (f : A → ℕ) (xs : List A) (i : ℕ) (v w : A) → get_elem? xs i ≡ some v
+      → total f (set xs i w) + f v ≡ total f xs + f w
   total_set f [] i v w e = absurd (some-ne-none v (sym e))
   total_set f (x ∷ xs) zero v w e = let s : f x ≡ f v = ap f (some-injective x v e) in omega arith
   total_set f (x ∷ xs) (suc i) v w e = let r = total_set f xs i v w e in omega arith
@@ -21,14 +24,16 @@ module _ {A : Type 0} where
   total_at f (x ∷ xs) (suc i) v e = let r = total_at f xs i v e in omega arith
 
   -- what is 0 of each with no weight has no total where there is no weight
-  pub total_none : (g f : A → ℕ) (xs : List A) → ((i : ℕ) (v : A) → get_elem? xs i ≡ some v → g v ≡ 0 → f v ≡ 0) → total g xs ≡ 0 → total f xs ≡ 0
+  pub total_none : (g f : A → ℕ) (xs : List A) → ((i : ℕ) (v : A) → get_elem? xs i ≡ some v → g v ≡ 0 → f v ≡ 0)
+      → total g xs ≡ 0 → total f xs ≡ 0
   total_none g f [] idle none = refl
   total_none g f (x ∷ xs) idle none =
       let here : f x ≡ 0 = idle 0 x refl (omega arith) in
       let rest = total_none g f xs (λ i v e. idle (suc i) v e) (omega arith) in omega arith
 
   -- and where one has all weight, the total is that one's
-  pub total_one : (g f : A → ℕ) (xs : List A) (i : ℕ) (v : A) → get_elem? xs i ≡ some v → ((i : ℕ) (v : A) → get_elem? xs i ≡ some v → g v ≡ 0 → f v ≡ 0) → total g xs ≡ g v → total f xs ≡ f v
+  pub total_one : (g f : A → ℕ) (xs : List A) (i : ℕ) (v : A) → get_elem? xs i ≡ some v
+      → ((i : ℕ) (v : A) → get_elem? xs i ≡ some v → g v ≡ 0 → f v ≡ 0) → total g xs ≡ g v → total f xs ≡ f v
   total_one g f [] i v e idle all = absurd (some-ne-none v (sym e))
   total_one g f (x ∷ xs) zero v e idle all =
       let s : x ≡ v = some-injective x v e in let a : f x ≡ f v = ap f s in let b : g x ≡ g v = ap g s in
@@ -58,9 +63,12 @@ module _ {A : Type 0} (P : A → Type 0) where
   all_front (y ∷ ys) x h (suc k) d l = all_front ys x (λ k d l. h (suc k) d (omega arith)) k d (omega arith)
 
 -- a list that some member passes has a count above 0
-pub total_any : {A : Type 0} (p : A → Bool) (xs : List A) (k : ℕ) (x : A) → k < length xs → get_or xs k x ≡ x → p x ≡ true → 0 < total (λ y. if p y then 1 else 0) xs
+pub total_any : {A : Type 0} (p : A → Bool) (xs : List A) (k : ℕ) (x : A) → k < length xs → get_or xs k x ≡ x
+    → p x ≡ true → 0 < total (λ y. if p y then 1 else 0) xs
 total_any p [] k x l e t = absurd (omega arith)
-total_any p (y ∷ ys) zero x l e t = let same : y ≡ x = e in let b : p y ≡ true = ap p same ∙ t in let one : ◌≡◌ {A = ℕ} (if p y then 1 else 0) 1 = ap (λ (b : Bool). if b then 1 else 0) b in omega (arith, one)
+total_any p (y ∷ ys) zero x l e t = let same : y ≡ x = e in let b : p y ≡ true = ap p same
+    ∙ t in let one : ◌≡◌ {A = ℕ} (if p y then 1 else 0) 1 =
+    ap (λ (b : Bool). if b then 1 else 0) b in omega (arith, one)
 total_any p (y ∷ ys) (suc k) x l e t = let rest = total_any p ys k x (omega arith) e t in omega arith
 
 module _ {A B : Type 0} where
@@ -101,9 +109,13 @@ module _ {A : Type 0} where
   length_split (x ∷ xs) = omega arith
 
   -- the members that two places have are counted both
-  pub total_two : (f : A → ℕ) (xs : List A) (i j : ℕ) (v u : A) → i ≢ j → get_elem? xs i ≡ some v → get_elem? xs j ≡ some u → f v + f u ≤ total f xs
+  pub total_two : (f : A → ℕ) (xs : List A) (i j : ℕ) (v u : A) → i ≢ j → get_elem? xs i ≡ some v
+      → get_elem? xs j ≡ some u → f v + f u ≤ total f xs
   total_two f [] i j v u ne a b = absurd (some-ne-none v (sym a))
   total_two f (x ∷ xs) zero zero v u ne a b = absurd (ne refl)
-  total_two f (x ∷ xs) zero (suc j) v u ne a b = let s : f x ≡ f v = ap f (some-injective x v a) in let r = total_at f xs j u b in omega arith
-  total_two f (x ∷ xs) (suc i) zero v u ne a b = let s : f x ≡ f u = ap f (some-injective x u b) in let r = total_at f xs i v a in omega arith
-  total_two f (x ∷ xs) (suc i) (suc j) v u ne a b = let r = total_two f xs i j v u (λ e. ne (ap suc e)) a b in omega arith
+  total_two f (x ∷ xs) zero (suc j) v u ne a b = let s : f x ≡ f v = ap f (some-injective x v a) in let r =
+      total_at f xs j u b in omega arith
+  total_two f (x ∷ xs) (suc i) zero v u ne a b = let s : f x ≡ f u = ap f (some-injective x u b) in let r =
+      total_at f xs i v a in omega arith
+  total_two f (x ∷ xs) (suc i) (suc j) v u ne a b = let r =
+      total_two f xs i j v u (λ e. ne (ap suc e)) a b in omega arith

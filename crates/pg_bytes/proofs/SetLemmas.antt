@@ -5,11 +5,13 @@ use Rattle.std.proofs.Math.Path.{fun_ext}
 use Rattle.pg_bytes.specs.Sets.{all, union, complement, between, below}
 use Rattle.pg_bytes.specs.Classes.{graph, alnum, punct}
 
-between-at : (first last n : ℕ) → last < 256 → (ltb n 256 && not ((ltb n 256 && not (ltb n (last + 1))) || ltb n first)) ≡ (leb first n && leb n last)
+between-at : (first last n : ℕ) → last < 256
+    → (ltb n 256 && not ((ltb n 256 && not (ltb n (last + 1))) || ltb n first)) ≡ (leb first n && leb n last)
 between-at first last n h = grind (arith, nat_tests)
 
 -- neither above the last nor below the first
-pub complement-outside : (first last : ℕ) → last < 256 → complement (union (complement (below (last + 1))) (below first)) ≡ between first last
+pub complement-outside : (first last : ℕ) → last < 256
+    → complement (union (complement (below (last + 1))) (below first)) ≡ between first last
 complement-outside first last h = fun_ext (λ n. between-at first last n h)
 
 outside : (a g x : Bool) → (g ≡ true → a ≡ true) → (a && not ((a && not g) || x)) ≡ (g && not x)

@@ -9,7 +9,8 @@ use Rattle.pg_lines.specs.Search.{AreTreesOf, search_of, bounds_of, terminator_o
 use Rattle.pg_lines.specs.Selection.{selects, parts}
 
 -- a last line may lack the newline, and a newline alone is an empty line
-last_line_without : lines 10 (codes "abc" ++ 10 ∷ codes "xyz" ++ 10 ∷ codes "b") ≡ codes "abc" ∷ codes "xyz" ∷ codes "b" ∷ []
+last_line_without : lines 10 (codes "abc" ++ 10 ∷ codes "xyz" ++ 10 ∷ codes "b") ≡ codes "abc" ∷ codes "xyz" ∷ codes "b"
+    ∷ []
 last_line_without = refl
 
 empty_lines : lines 10 (10 ∷ 10 ∷ []) ≡ [] ∷ [] ∷ []

@@ -1,5 +1,7 @@
 -- Lines that are too long, and the line that is open at the end.
-use Rattle.std.proofs.Common.{◌≡◌, ℕ, zero, suc, ◌+◌, ◌<◌, ◌≤◌, ◌⊎◌, inl, inr, Bool, true, false, ◌||◌, cond, eqb, nat_lt, Some, None, List, [], ◌∷◌, ◌++◌, length, get_or, refl, sym, ap, ◌∙◌, arith, Decides}
+use Rattle.std.proofs.Common.{◌≡◌, ℕ, zero, suc, ◌+◌, ◌<◌, ◌≤◌, ◌⊎◌, inl, inr, Bool, true, false, ◌||◌, cond, eqb}
+use Rattle.std.proofs.Common.{nat_lt, Some, None, List, [], ◌∷◌, ◌++◌, length, get_or, refl, sym, ap, ◌∙◌, arith}
+use Rattle.std.proofs.Common.{Decides}
 use Rattle.std.proofs.Common.{◌-◌, take, drop, length-drop}
 use Rattle.std.proofs.lemmas.Bool.Decides.{nat_tests}
 use Rattle.std.proofs.lemmas.List.{take-append-drop, drop_more, get_or-drop}
@@ -14,24 +16,29 @@ cond_map : {A B : Type 0} (F : A → B) (t : Bool) (u v : A) (x y : B) → x ≡
 cond_map F true u v x y e f = e
 cond_map F false u v x y e f = f
 
-cond_map2 : {A C B : Type 0} (F : A → C → B) (t : Bool) (u v : A) (p q : C) (x y : B) → x ≡ F u p → y ≡ F v q → cond t x y ≡ F (cond t u v) (cond t p q)
+cond_map2 : {A C B : Type 0} (F : A → C → B) (t : Bool) (u v : A) (p q : C) (x y : B) → x ≡ F u p → y ≡ F v q
+    → cond t x y ≡ F (cond t u v) (cond t p q)
 cond_map2 F true u v p q x y e f = e
 cond_map2 F false u v p q x y e f = f
 
 pub open_append : (end n : ℕ) (xs ys : List ℕ) → open_from end n (xs ++ ys) ≡ open_from end (open_from end n xs) ys
 open_append end n [] ys = refl
-open_append end n (x ∷ xs) ys = cond_map (λ m. open_from end m ys) (eqb x end) _ _ _ _ (open_append end 0 xs ys) (open_append end (n + 1) xs ys)
+open_append end n (x ∷ xs) ys = cond_map (λ m. open_from end m ys) (eqb x end) _ _ _ _ (open_append end 0 xs ys)
+    (open_append end (n + 1) xs ys)
 
 or_assoc : (a b c : Bool) → (a || (b || c)) ≡ ((a || b) || c)
 or_assoc true b c = refl
 or_assoc false b c = refl
 
-pub long_append : (end longest n : ℕ) (xs ys : List ℕ) → has_long end longest n (xs ++ ys) ≡ (has_long end longest n xs || has_long end longest (open_from end n xs) ys)
+pub long_append : (end longest n : ℕ) (xs ys : List ℕ)
+    → has_long end longest n (xs ++ ys) ≡ (has_long end longest n xs || has_long end longest (open_from end n xs) ys)
 long_append end longest n [] ys = refl
 long_append end longest n (x ∷ xs) ys =
-    cond_map2 (λ b m. b || has_long end longest m ys) (eqb x end) _ _ (open_from end 0 xs) (open_from end (n + 1) xs) _ _
+    cond_map2 (λ b m. b || has_long end longest m ys) (eqb x end) _ _ (open_from end 0 xs)
+        (open_from end (n + 1) xs) _ _
     (long_append end longest 0 xs ys)
-    (ap (λ b. nat_lt longest (n + 1) || b) (long_append end longest (n + 1) xs ys) ∙ or_assoc (nat_lt longest (n + 1)) (has_long end longest (n + 1) xs) _)
+    (ap (λ b. nat_lt longest (n + 1) || b) (long_append end longest (n + 1) xs ys)
+        ∙ or_assoc (nat_lt longest (n + 1)) (has_long end longest (n + 1) xs) _)
 
 -- by recursion on the lines, the first one longer by n
 abbrev SomeLong : ℕ → List (List ℕ) → Type 0
@@ -56,17 +63,23 @@ same_end : (end x : ℕ) → x ≡ end → eqb x end ≡ true
 same_end end x e = eq-eqb x end e
 
 module _ (end longest : ℕ) where
-  long_made : (bytes : List ℕ) (ls : List (List ℕ)) → Made end bytes ls → (n : ℕ) → n ≤ longest → has_long end longest n bytes ≡ true → SomeLongFrom longest n ls
+  long_made : (bytes : List ℕ) (ls : List (List ℕ)) → Made end bytes ls → (n : ℕ) → n ≤ longest
+      → has_long end longest n bytes ≡ true → SomeLongFrom longest n ls
   long_made _ _ none n le e = absurd (false≢true e)
   long_made _ _ (ended {bytes} {ls} m) n le e =
-      inr (to_zero longest ls (long_made bytes ls m 0 (omega arith) (sym (ap (λ t. cond t (has_long end longest 0 bytes) (nat_lt longest (n + 1) || has_long end longest (n + 1) bytes)) (same_end end end refl)) ∙ e)))
+      inr (to_zero longest ls (long_made bytes ls m 0 (omega arith)
+          (sym (ap (λ t. cond t (has_long end longest 0 bytes)
+          (nat_lt longest (n + 1) || has_long end longest (n + 1) bytes)) (same_end end end refl)) ∙ e)))
   long_made _ _ (alone {b} ne) n le e =
-      elim (or_cases (nat_lt longest (n + 1)) false (sym (ap (λ t. cond t false (nat_lt longest (n + 1) || false)) (ne_eqb b end ne)) ∙ e)) [
+      elim (or_cases (nat_lt longest (n + 1)) false
+          (sym (ap (λ t. cond t false (nat_lt longest (n + 1) || false)) (ne_eqb b end ne)) ∙ e)) [
         | inl h ↦ inl (ltb-true longest (n + 1) h)
         | inr h ↦ absurd (false≢true h)
       ]
   long_made _ _ (onto {b} {bytes} {l} {ls} ne m) n le e =
-      elim (or_cases (nat_lt longest (n + 1)) (has_long end longest (n + 1) bytes) (sym (ap (λ t. cond t (has_long end longest 0 bytes) (nat_lt longest (n + 1) || has_long end longest (n + 1) bytes)) (ne_eqb b end ne)) ∙ e)) [
+      elim (or_cases (nat_lt longest (n + 1)) (has_long end longest (n + 1) bytes)
+          (sym (ap (λ t. cond t (has_long end longest 0 bytes)
+          (nat_lt longest (n + 1) || has_long end longest (n + 1) bytes)) (ne_eqb b end ne)) ∙ e)) [
         | inl h ↦ let k : longest < n + 1 = ltb-true longest (n + 1) h in inl (omega arith)
         | inr h ↦ elim (cases_lt longest (n + 1)) [
           | inl k ↦ inl (omega arith)
@@ -78,20 +91,25 @@ module _ (end longest : ℕ) where
   or_true true = refl
   or_true false = refl
 
-  made_long : (bytes : List ℕ) (ls : List (List ℕ)) → Made end bytes ls → (n : ℕ) → n ≤ longest → SomeLongFrom longest n ls → has_long end longest n bytes ≡ true
+  made_long : (bytes : List ℕ) (ls : List (List ℕ)) → Made end bytes ls → (n : ℕ) → n ≤ longest
+      → SomeLongFrom longest n ls → has_long end longest n bytes ≡ true
   made_long _ _ none n le h = absurd h
   made_long _ _ (ended {bytes} {ls} m) n le h =
-      ap (λ t. cond t (has_long end longest 0 bytes) (nat_lt longest (n + 1) || has_long end longest (n + 1) bytes)) (same_end end end refl)
+      ap (λ t. cond t (has_long end longest 0 bytes) (nat_lt longest (n + 1) || has_long end longest (n + 1) bytes))
+          (same_end end end refl)
       ∙ elim h [ inl k ↦ absurd (omega arith) | inr k ↦ made_long bytes ls m 0 (omega arith) (from_zero longest ls k) ]
   made_long _ _ (alone {b} ne) n le h =
       ap (λ t. cond t false (nat_lt longest (n + 1) || false)) (ne_eqb b end ne)
       ∙ elim h [ inl k ↦ ap (λ t. t || false) (lt-ltb longest (n + 1) (omega arith)) | inr k ↦ absurd k ]
   made_long _ _ (onto {b} {bytes} {l} {ls} ne m) n le h =
-      ap (λ t. cond t (has_long end longest 0 bytes) (nat_lt longest (n + 1) || has_long end longest (n + 1) bytes)) (ne_eqb b end ne)
+      ap (λ t. cond t (has_long end longest 0 bytes) (nat_lt longest (n + 1) || has_long end longest (n + 1) bytes))
+          (ne_eqb b end ne)
       ∙ elim (cases_lt longest (n + 1)) [
         | inl k ↦ ap (λ t. t || has_long end longest (n + 1) bytes) (lt-ltb longest (n + 1) k)
-        | inr k ↦ let next : SomeLongFrom longest (n + 1) (l ∷ ls) = elim h [ inl q ↦ inl (omega arith) | inr q ↦ inr q ] in
-            ap (λ t. nat_lt longest (n + 1) || t) (made_long bytes (l ∷ ls) m (n + 1) k next) ∙ or_true (nat_lt longest (n + 1))
+        | inr k ↦ let next : SomeLongFrom longest (n + 1) (l ∷ ls) =
+            elim h [ inl q ↦ inl (omega arith) | inr q ↦ inr q ] in
+            ap (λ t. nat_lt longest (n + 1) || t) (made_long bytes (l ∷ ls) m (n + 1) k next)
+                ∙ or_true (nat_lt longest (n + 1))
       ]
 
 any_long : (longest : ℕ) (ls : List (List ℕ)) → SomeLong longest ls → Any (λ l. longest < length l) ls
@@ -99,17 +117,20 @@ any_long longest [] h = absurd h
 any_long longest (l ∷ ls) (inl h) = (zero, l, omega arith, refl, h)
 any_long longest (l ∷ ls) (inr h) = let r = any_long longest ls h in (suc r.0, r.1, omega (arith, r.2), r.3, r.4)
 
-long_any : (longest : ℕ) (ls : List (List ℕ)) (k : ℕ) (l : List ℕ) → k < length ls → get_or ls k l ≡ l → longest < length l → SomeLong longest ls
+long_any : (longest : ℕ) (ls : List (List ℕ)) (k : ℕ) (l : List ℕ) → k < length ls → get_or ls k l ≡ l
+    → longest < length l → SomeLong longest ls
 long_any longest [] k l below e h = absurd (omega arith)
 long_any longest (x ∷ ls) zero l below e h = let n = ap length e in inl (omega arith)
 long_any longest (x ∷ ls) (suc k) l below e h = inr (long_any longest ls k l (omega arith) e h)
 
 -- the test on all bytes
-pub long_decides : (end longest : ℕ) (bytes : List ℕ) → Decides (has_long end longest 0 bytes) (Any (λ l. longest < length l) (lines end bytes))
+pub long_decides : (end longest : ℕ) (bytes : List ℕ)
+    → Decides (has_long end longest 0 bytes) (Any (λ l. longest < length l) (lines end bytes))
 long_decides end longest bytes =
     let ls = lines end bytes in (
       λ e. any_long longest ls (to_zero longest ls (long_made end longest bytes ls (made end bytes) 0 (omega arith) e)),
-      λ a. made_long end longest bytes ls (made end bytes) 0 (omega arith) (from_zero longest ls (long_any longest ls a.0 a.1 a.2 a.3 a.4)),
+      λ a. made_long end longest bytes ls (made end bytes) 0 (omega arith)
+          (from_zero longest ls (long_any longest ls a.0 a.1 a.2 a.3 a.4)),
     )
 
 pub chosen_some : (b : Bool) (x y : ℕ) → Some y ≡ cond b None (Some x) → (b ≡ false) × (y ≡ x)
@@ -123,28 +144,34 @@ chosen_none false x e = absurd (cc)
 -- a piece that is short enough makes no line too long
 pub short_piece : (end longest n : ℕ) (xs : List ℕ) → n + length xs ≤ longest → has_long end longest n xs ≡ false
 short_piece end longest n [] h = refl
-short_piece end longest n (x ∷ xs) h = elim (eqb x end) as (λ t. cond t (has_long end longest 0 xs) (nat_lt longest (n + 1) || has_long end longest (n + 1) xs) ≡ false) [
+short_piece end longest n (x ∷ xs) h = elim (eqb x end) as
+    (λ t. cond t (has_long end longest 0 xs) (nat_lt longest (n + 1) || has_long end longest (n + 1) xs) ≡ false) [
   | true ↦ short_piece end longest 0 xs (omega arith)
   | false ↦ grind (arith, nat_tests, short_piece end longest (n + 1) xs (omega arith))
 ]
 
 -- the open line where the terminator stands nowhere
-pub open_nowhere : (end n : ℕ) (xs : List ℕ) → ((i : ℕ) → i < length xs → get_or xs i 0 ≡ end → ⊥) → open_from end n xs ≡ n + length xs
+pub open_nowhere : (end n : ℕ) (xs : List ℕ) → ((i : ℕ) → i < length xs → get_or xs i 0 ≡ end → ⊥)
+    → open_from end n xs ≡ n + length xs
 open_nowhere end n [] h = omega arith
 open_nowhere end n (x ∷ xs) h =
     ap (λ t. cond t (open_from end 0 xs) (open_from end (n + 1) xs)) (ne_eqb x end (λ e. h zero (omega arith) e))
     ∙ omega (arith, open_nowhere end (n + 1) xs (λ i below e. h (suc i) (omega arith) e))
 
 -- the open line behind the last terminator
-pub open_behind : (end n : ℕ) (xs : List ℕ) (k : ℕ) → IsLastByte (is_byte end) xs (Some k) → open_from end n xs ≡ length xs - k - 1
+pub open_behind : (end n : ℕ) (xs : List ℕ) (k : ℕ) → IsLastByte (is_byte end) xs (Some k)
+    → open_from end n xs ≡ length xs - k - 1
 open_behind end n xs k h =
     let e : xs ≡ take k xs ++ end ∷ drop (k + 1) xs =
-    sym (take-append-drop k xs) ∙ ap (λ ys. take k xs ++ ys) (drop_more xs k 0 h.0.high ∙ ap (λ b. b ∷ drop (k + 1) xs) (eqb-true (get_or xs k 0) end h.1)) in
+    sym (take-append-drop k xs) ∙ ap (λ ys. take k xs ++ ys)
+        (drop_more xs k 0 h.0.high ∙ ap (λ b. b ∷ drop (k + 1) xs) (eqb-true (get_or xs k 0) end h.1)) in
     let rest = drop (k + 1) xs in
     let none : (i : ℕ) → i < length rest → get_or rest i 0 ≡ end → ⊥ = λ i below at.
-    h.0.after (k + 1 + i) (omega arith) (omega (arith, length-drop (k + 1) xs)) (eq-eqb _ end (sym (get_or-drop (k + 1) xs i 0) ∙ at)) in
+    h.0.after (k + 1 + i) (omega arith) (omega (arith, length-drop (k + 1) xs))
+        (eq-eqb _ end (sym (get_or-drop (k + 1) xs i 0) ∙ at)) in
     ap (open_from end n) e ∙ (open_append end n (take k xs) (end ∷ rest)
-    ∙ (ap (λ t. cond t (open_from end 0 rest) (open_from end (open_from end n (take k xs) + 1) rest)) (eq-eqb end end refl)
+    ∙ (ap (λ t. cond t (open_from end 0 rest) (open_from end (open_from end n (take k xs) + 1) rest))
+        (eq-eqb end end refl)
     ∙ omega (arith, open_nowhere end 0 rest none, length-drop (k + 1) xs, h.0.high)))
 
 pub open_alone : (end n : ℕ) (xs : List ℕ) → IsLastByte (is_byte end) xs None → open_from end n xs ≡ n + length xs

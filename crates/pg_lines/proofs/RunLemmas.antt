@@ -23,11 +23,13 @@ use Rattle.pg_lines.specs.declared.run.Run.{Run}
 use Rattle.pg_lines.specs.declared.span.Span.{Span}
 use Rattle.pg_lines.proofs.LineLemmas.{made, around, lines-line, lines-alone, lines-append, whole_append}
 
-all_by_index : (P : List ℕ → Type 0) (ls : List (List ℕ)) → ((k : ℕ) → k < length ls → P (get_or ls k [])) → AllByRecursion P ls
+all_by_index : (P : List ℕ → Type 0) (ls : List (List ℕ)) → ((k : ℕ) → k < length ls → P (get_or ls k []))
+    → AllByRecursion P ls
 all_by_index P [] h = tt
 all_by_index P (l ∷ ls) h = (h zero (omega arith), all_by_index P ls (λ k below. h (suc k) (omega arith)))
 
-all_append : (P : List ℕ → Type 0) (xs ys : List (List ℕ)) → AllByRecursion P xs → AllByRecursion P ys → AllByRecursion P (xs ++ ys)
+all_append : (P : List ℕ → Type 0) (xs ys : List (List ℕ)) → AllByRecursion P xs → AllByRecursion P ys
+    → AllByRecursion P (xs ++ ys)
 all_append P [] ys a b = b
 all_append P (x ∷ xs) ys a b = (a.0, all_append P xs ys a.1 b)
 
@@ -40,15 +42,19 @@ all_lines-append q selected xs ys w a b =
     (all_append (λ l. selects q l ≡ selected) (lines (terminator q) xs) (lines (terminator q) ys) a b)
 
 -- what occurs in a part occurs in the whole
-occurs_inside : (xs front l tail p : List ℕ) (i : ℕ) → xs ≡ front ++ (l ++ tail) → OccursAt l p i → OccursAt xs p (length front + i)
+occurs_inside : (xs front l tail p : List ℕ) (i : ℕ) → xs ≡ front ++ (l ++ tail) → OccursAt l p i
+    → OccursAt xs p (length front + i)
 occurs_inside xs front l tail p i e o =
-    let fits : (length front + i) + length p ≤ length xs = omega (arith, ap length e, length-append front (l ++ tail), length-append l tail, o.fits) in
+    let fits : (length front + i) + length p ≤ length xs =
+        omega (arith, ap length e, length-append front (l ++ tail), length-append l tail, o.fits) in
     record {
       fits = fits;
       reads = λ j below.
           let at : (length front + i) + j ≡ length front + (i + j) = omega arith in
-          let d : drop (length front) xs ≡ l ++ tail = ap (drop (length front)) e ∙ drop_at front (l ++ tail) (length front) refl in
-          ap (λ n. get_or xs n 0) at ∙ (at_reads 0 xs l (length front) tail d (i + j) (omega (arith, o.fits)) ∙ o.reads j below);
+          let d : drop (length front) xs ≡ l ++ tail = ap (drop (length front)) e
+              ∙ drop_at front (l ++ tail) (length front) refl in
+          ap (λ n. get_or xs n 0) at ∙ (at_reads 0 xs l (length front) tail d (i + j) (omega (arith, o.fits))
+              ∙ o.reads j below);
     }
 
 -- the three parts of bytes as they are searched
@@ -129,14 +135,17 @@ is_line end bytes s e high none c =
     length-take (suc n) (x ∷ xs) = omega (arith, length-take n xs)
 
 -- what occurs within a part occurs in the part
-occurs_within : (bytes p : List ℕ) (s e k : ℕ) → e ≤ length bytes → s ≤ k → k + length p ≤ e → OccursAt bytes p k → OccursAt (take (e - s) (drop s bytes)) p (k - s)
+occurs_within : (bytes p : List ℕ) (s e k : ℕ) → e ≤ length bytes → s ≤ k → k + length p ≤ e → OccursAt bytes p k
+    → OccursAt (take (e - s) (drop s bytes)) p (k - s)
 occurs_within bytes p s e k high low fits o =
-    let len : length (take (e - s) (drop s bytes)) ≡ e - s = length-take-le (e - s) (drop s bytes) (omega (arith, length-drop s bytes)) in
+    let len : length (take (e - s) (drop s bytes)) ≡ e - s =
+        length-take-le (e - s) (drop s bytes) (omega (arith, length-drop s bytes)) in
     record {
       fits = omega arith;
       reads = λ j below.
           let at : s + ((k - s) + j) ≡ k + j = omega arith in
-          get_or-take (e - s) (drop s bytes) ((k - s) + j) 0 (omega arith) ∙ (get_or-drop s bytes ((k - s) + j) 0 ∙ (ap (λ n. get_or bytes n 0) at ∙ o.reads j below));
+          get_or-take (e - s) (drop s bytes) ((k - s) + j) 0 (omega arith)
+              ∙ (get_or-drop s bytes ((k - s) + j) 0 ∙ (ap (λ n. get_or bytes n 0) at ∙ o.reads j below));
     }
 
 -- the same where both are searched
@@ -168,10 +177,12 @@ searched_at true (b ∷ bytes) zero below = refl
 searched_at true (b ∷ bytes) (suc i) below = searched_at true bytes i (omega arith)
 
 -- the first place of a pattern is no end of bytes
-pub place_below : (bytes p : List ℕ) (k : ℕ) → OccursAt bytes p k → Nowhere (OccursAt bytes p) 0 k → 0 < length bytes → k < length bytes
+pub place_below : (bytes p : List ℕ) (k : ℕ) → OccursAt bytes p k → Nowhere (OccursAt bytes p) 0 k → 0 < length bytes
+    → k < length bytes
 place_below bytes p k o none some = elim (cases_lt k (length bytes)) [
   | inl h ↦ h
-  | inr h ↦ absurd (none 0 (omega arith) (omega arith) (record { fits = omega (arith, o.fits); reads = λ j below. absurd (omega (arith, o.fits)) }))
+  | inr h ↦ absurd (none 0 (omega arith) (omega arith)
+      (record { fits = omega (arith, o.fits); reads = λ j below. absurd (omega (arith, o.fits)) }))
 ]
 
 pub line_some : (end : ℕ) (bytes : List ℕ) (s k e stop : ℕ) → s ≤ k → k ≤ e → k < length bytes → Stops end bytes e stop

@@ -17,7 +17,8 @@ kind-same Fixed Basic = refl
 kind-same Fixed Extended = refl
 kind-same Fixed Fixed = refl
 
-pub pointwise-map : {X Y : Type 0} (f : X → Y) (test : Y → Y → Bool) (xs ys : List X) → pointwise (λ a b. test (f a) (f b)) xs ys ≡ pointwise test (map f xs) (map f ys)
+pub pointwise-map : {X Y : Type 0} (f : X → Y) (test : Y → Y → Bool) (xs ys : List X)
+    → pointwise (λ a b. test (f a) (f b)) xs ys ≡ pointwise test (map f xs) (map f ys)
 pointwise-map f test [] [] = refl
 pointwise-map f test [] (y ∷ ys) = refl
 pointwise-map f test (x ∷ xs) [] = refl

@@ -1,5 +1,7 @@
 -- A list of trees.
-use Rattle.std.proofs.Common.{[], ◌≡◌, ◌≢◌, ℕ, zero, suc, ◌+◌, ◌-◌, ◌<◌, ◌≤◌, inl, inr, Bool, true≢false, not, eqb, ne_eqb, List, length, take, take_all, Some, refl, sym, ap, ◌∙◌, subst, arith, IsTrue, sum_by, Contains, All}
+use Rattle.std.proofs.Common.{[], ◌≡◌, ◌≢◌, ℕ, zero, suc, ◌+◌, ◌-◌, ◌<◌, ◌≤◌, inl, inr, Bool, true≢false, not, eqb}
+use Rattle.std.proofs.Common.{ne_eqb, List, length, take, take_all, Some, refl, sym, ap, ◌∙◌, subst, arith, IsTrue}
+use Rattle.std.proofs.Common.{sum_by, Contains, All}
 use Rattle.std.specs.Prelude.{slice_get}
 use Rattle.std.proofs.lemmas.Bool.{cases_eq}
 use Rattle.std.proofs.lemmas.List.Sums.{sum_by_more, sum_by-take-le}
@@ -14,7 +16,8 @@ use Rattle.pg_match.specs.Machines.{Agrees, IsMachineOf}
 use Rattle.pg_match.specs.declared.state.State.{State}
 use Rattle.pg_match.specs.declared.state.State.TheVariants.{Accept, Split}
 use Rattle.pg_match.proofs.PathLemmas.{tree_sound, tree_complete, on_state, by_edge, not_over}
-use Rattle.pg_match.proofs.TableLemmas.{implements_kept, pushed_length, pushed_keeps, pushed_is, pushed_tidy, pushed_plain}
+use Rattle.pg_match.proofs.TableLemmas.{implements_kept, pushed_length, pushed_keeps, pushed_is, pushed_tidy}
+use Rattle.pg_match.proofs.TableLemmas.{pushed_plain}
 
 -- a run from `Accept` is over
 ended : (t : List State) (l : List ℕ) (n i j : ℕ) → slice_get t 0 ≡ Some Accept → Runs t l n 0 i j → i ≡ j
@@ -23,7 +26,8 @@ ended t l (suc n) i j is run = absurd (on_state t l 0 n i j Accept is run).2
 
 module _ (t : List State) (l : List ℕ) (trees : List Pattern) (accept : slice_get t 0 ≡ Some Accept) where
   alternatives_sound : (k e n i j : ℕ) → ((c : ℕ) (r : Pattern) → slice_get trees c ≡ Some r → IsProper r)
-      → Alternatives t trees k e 0 → Runs t l n e i j → (c : ℕ) × (r : Pattern) × (slice_get trees c ≡ Some r) × Match r l i j
+      → Alternatives t trees k e 0 → Runs t l n e i j → (c : ℕ) × (r : Pattern) × (slice_get trees c ≡ Some r)
+          × Match r l i j
   alternatives_sound zero e n i j proper a run =
       let s = tree_sound t l a.0 (proper 0 a.0 a.1) e 0 n i j a.2 run in
       let over = ended t l s.1 s.0 j accept s.4 in
@@ -33,16 +37,19 @@ module _ (t : List State) (l : List ℕ) (trees : List Pattern) (accept : slice_
       let u = on_state t l e n i j (Split a.2 a.3) a.4 run in
       elim u.2.0 [
         | inl first ↦
-            let run1 : Runs t l n a.2 i j = subst (λ s. Runs t l n s i j) first (subst (λ v. Runs t l n u.0 v j) u.2.1 u.3) in
+            let run1 : Runs t l n a.2 i j =
+                subst (λ s. Runs t l n s i j) first (subst (λ v. Runs t l n u.0 v j) u.2.1 u.3) in
             let s = tree_sound t l a.0 (proper (suc k) a.0 a.1) a.2 0 n i j a.5 run1 in
             let over = ended t l s.1 s.0 j accept s.4 in
             (suc k, a.0, a.1, subst (Match a.0 l i) over s.3)
         | inr second ↦
-            let run1 : Runs t l n a.3 i j = subst (λ s. Runs t l n s i j) second (subst (λ v. Runs t l n u.0 v j) u.2.1 u.3) in
+            let run1 : Runs t l n a.3 i j =
+                subst (λ s. Runs t l n s i j) second (subst (λ v. Runs t l n u.0 v j) u.2.1 u.3) in
             alternatives_sound k a.3 n i j proper a.6 run1
       ]
 
-  alternatives_complete : (k e c i j : ℕ) (r : Pattern) → c ≤ k → Alternatives t trees k e 0 → slice_get trees c ≡ Some r → Match r l i j
+  alternatives_complete : (k e c i j : ℕ) (r : Pattern) → c ≤ k → Alternatives t trees k e 0
+      → slice_get trees c ≡ Some r → Match r l i j
       → (n : ℕ) × Runs t l n e i j
   alternatives_complete zero e c i j r le a is h =
       let zero_c : c ≡ 0 = omega arith in
@@ -60,10 +67,12 @@ module _ (t : List State) (l : List ℕ) (trees : List Pattern) (accept : slice_
         (suc run.0, by_edge t l e run.0 i j a.3 i (Split a.2 a.3) a.4 (inr refl, refl) run.1)
   ]
 
-alternatives_kept : (a b : List State) (trees : List Pattern) → Keeps a b → (k e : ℕ) → Alternatives a trees k e 0 → Alternatives b trees k e 0
+alternatives_kept : (a b : List State) (trees : List Pattern) → Keeps a b → (k e : ℕ) → Alternatives a trees k e 0
+    → Alternatives b trees k e 0
 alternatives_kept a b trees keeps zero e h = (h.0, h.1, implements_kept a b (λ q s other g. keeps q s g) h.0 e 0 h.2)
 alternatives_kept a b trees keeps (suc k) e h =
-    (h.0, h.1, h.2, h.3, keeps e (Split h.2 h.3) h.4, implements_kept a b (λ q s other g. keeps q s g) h.0 h.2 0 h.5, alternatives_kept a b trees keeps k h.3 h.6)
+    (h.0, h.1, h.2, h.3, keeps e (Split h.2 h.3) h.4, implements_kept a b (λ q s other g. keeps q s g) h.0 h.2 0 h.5,
+        alternatives_kept a b trees keeps k h.3 h.6)
 
 -- the sum of one more size
 pub more_size : (trees : List Pattern) (c : ℕ) (r : Pattern) → slice_get trees c ≡ Some r
@@ -88,7 +97,8 @@ begun t u trees e empty p =
       some = λ k z. absurd (omega arith);
     }
 
-pub building_one : (t u : List State) (trees : List Pattern) (c start e : ℕ) (r : Pattern) → c ≡ 0 → HasFirst t trees c start → Added t u r e 0
+pub building_one : (t u : List State) (trees : List Pattern) (c start e : ℕ) (r : Pattern) → c ≡ 0
+    → HasFirst t trees c start → Added t u r e 0
     → slice_get trees c ≡ Some r → HasFirst u trees (c + 1) e
 building_one t u trees c start e r first b a is =
     let more = more_size trees c r is in
@@ -105,14 +115,16 @@ building_one t u trees c start e r first b a is =
           subst (λ v. Alternatives u trees v e 0) (sym z) (r, is0, a.implements);
     }
 
-pub building_more : (t u v : List State) (trees : List Pattern) (c start e s : ℕ) (r : Pattern) → c ≢ 0 → HasFirst t trees c start → Added t u r e 0
+pub building_more : (t u v : List State) (trees : List Pattern) (c start e s : ℕ) (r : Pattern) → c ≢ 0
+    → HasFirst t trees c start → Added t u r e 0
     → Pushed u v (Split e start) s → slice_get trees c ≡ Some r → HasFirst v trees (c + 1) s
 building_more t u v trees zero start e s r other b a p is = absurd (other refl)
 building_more t u v trees (suc c) start e s r other b a p is =
     let more = more_size trees (suc c) r is in
     let len = pushed_length u v (Split e start) s p in
     let keeps = pushed_keeps u v (Split e start) s p in
-    let below : target_below (length v) (Split e start) = (omega (arith, len, a.inside), omega (arith, len, b.start_in, a.size)) in
+    let below : target_below (length v) (Split e start) =
+        (omega (arith, len, a.inside), omega (arith, len, b.start_in, a.size)) in
     record {
       tidy = pushed_tidy u v (Split e start) s p a.tidy below;
       start_in = omega (arith, len, p.place);
@@ -136,7 +148,8 @@ building_more t u v trees (suc c) start e s r other b a p is =
 contains_at : (trees : List Pattern) (c : ℕ) (r : Pattern) → slice_get trees c ≡ Some r → Contains trees r
 contains_at trees c r is = (c, slice_get_within trees c r is, get_or_from_slice_get trees c r r is)
 
-pub each_proper : (trees : List Pattern) → All IsProper trees → (c : ℕ) (r : Pattern) → slice_get trees c ≡ Some r → IsProper r
+pub each_proper : (trees : List Pattern) → All IsProper trees → (c : ℕ) (r : Pattern) → slice_get trees c ≡ Some r
+    → IsProper r
 each_proper trees proper c r is =
     subst IsProper (get_or_from_slice_get trees c r r is) (proper c r (slice_get_within trees c r is))
 
@@ -163,12 +176,14 @@ module _ (m : Nfa) (trees : List Pattern) (proper : All IsProper trees) where
   }
   agrees (suc k) e b any_some some_any = record {
     sound = λ l n i j run why.
-        let s = alternatives_sound m.states l trees b.accept k m.start n i j (each_proper trees proper) (b.some k refl) run in
+        let s = alternatives_sound m.states l trees b.accept k m.start n i j (each_proper trees proper)
+            (b.some k refl) run in
         (s.1, contains_at trees s.0 s.1 s.2, s.3);
     complete = λ l i j h.
         let here = slice_get-get_or trees h.1.0 h.0 h.1.1 ∙ ap Some h.1.2 in (
           some_any (omega arith),
-          alternatives_complete m.states l trees b.accept k m.start h.1.0 i j h.0 (omega (arith, h.1.1)) (b.some k refl) here h.2,
+          alternatives_complete m.states l trees b.accept k m.start h.1.0 i j h.0 (omega (arith, h.1.1))
+              (b.some k refl) here h.2,
         );
   }
 

@@ -1,5 +1,6 @@
 -- The states of one position.
-use Rattle.std.proofs.Common.{◌≡◌, ◌≢◌, ℕ, zero, suc, ◌+◌, ◌<◌, ◌≤◌, ◌⊎◌, inl, inr, List, [], length, take, get_or, Option, Some, None, true, false, true≢false, refl, sym, ap, ◌∙◌, subst, arith}
+use Rattle.std.proofs.Common.{◌≡◌, ◌≢◌, ℕ, zero, suc, ◌+◌, ◌<◌, ◌≤◌, ◌⊎◌, inl, inr, List, [], length, take, get_or}
+use Rattle.std.proofs.Common.{Option, Some, None, true, false, true≢false, refl, sym, ap, ◌∙◌, subst, arith}
 use Rattle.std.specs.Prelude.{slice_get, slice_index}
 use Rattle.std.proofs.lemmas.Bool.{cases_eq, cases_lt}
 use Rattle.std.proofs.lemmas.List.{get_or-take, length-take-le}
@@ -9,13 +10,15 @@ use Rattle.pg_match.specs.Automata.{Edge}
 use Rattle.pg_bytes.specs.ByteSets.{bytes}
 use Rattle.pg_bytes.specs.declared.byte_set.ByteSet.{ByteSet}
 use Rattle.pg_match.specs.StateSets.{Members, mark, listed, IsGood, IsEmpty, Inserted}
-use Rattle.pg_match.specs.Closures.{Leads, ClosedAt, IsClosed, IsOrdered, AllBelow, Path, AreSeeds, Sown, Followed, Reached, Reaching, Stepped, Stepping}
+use Rattle.pg_match.specs.Closures.{Leads, ClosedAt, IsClosed, IsOrdered, AllBelow, Path, AreSeeds, Sown, Followed}
+use Rattle.pg_match.specs.Closures.{Reached, Reaching, Stepped, Stepping}
 use Rattle.pg_match.specs.declared.state.State.{State}
 use Rattle.pg_match.specs.declared.state.State.TheVariants.{Fail, Accept, Jump, Read, AtBegin, AtEnd, Split}
 
 module _ (t : List State) (l : List ℕ) (i : ℕ) where
   -- a state that leads nowhere
-  pub followed_none : (s : Members) (q start : ℕ) → IsGood s → ((r : ℕ) → Edge (slice_get t q) l i r i → ⊥) → Followed t l i s s q start
+  pub followed_none : (s : Members) (q start : ℕ) → IsGood s → ((r : ℕ) → Edge (slice_get t q) l i r i → ⊥)
+      → Followed t l i s s q start
   followed_none s q start good none = record {
     good = good;
     size = refl;
@@ -59,7 +62,8 @@ module _ (t : List State) (l : List ℕ) (i : ℕ) where
         | inr absent ↦
             let f = two.fresh r (omega arith) h in
             let n = one.longer in
-            (f.1, subst (λ w. Edge (slice_get t q) l i w i) (sym f.0) to_z, (u.len, omega arith, omega (arith, f.3), f.2))
+            (f.1, subst (λ w. Edge (slice_get t q) l i w i) (sym f.0) to_z,
+                (u.len, omega arith, omega (arith, f.3), f.2))
       ] in
       record {
         good = two.good;
@@ -86,30 +90,41 @@ module _ (t : List State) (l : List ℕ) (i : ℕ) where
   abbrev On : Option State → ℕ → Type 0
   On o r = Edge o l i r i
 
-  pub jump_followed : (s u : Members) (q y start : ℕ) → slice_get t q ≡ Some (Jump y) → Inserted s u y start → Followed t l i s u q start
+  pub jump_followed : (s u : Members) (q y start : ℕ) → slice_get t q ≡ Some (Jump y) → Inserted s u y start
+      → Followed t l i s u q start
   jump_followed s u q y start is ins =
       followed_one s u q y start ins (subst (λ o. On o y) (sym is) (refl, refl)) (λ r e. (subst (λ o. On o r) is e).0)
 
-  pub begin_followed : (s u : Members) (q y start : ℕ) → slice_get t q ≡ Some (AtBegin y) → i ≡ 0 → Inserted s u y start → Followed t l i s u q start
+  pub begin_followed : (s u : Members) (q y start : ℕ) → slice_get t q ≡ Some (AtBegin y) → i ≡ 0 → Inserted s u y start
+      → Followed t l i s u q start
   begin_followed s u q y start is first ins =
-      followed_one s u q y start ins (subst (λ o. On o y) (sym is) (first, refl, refl)) (λ r e. (subst (λ o. On o r) is e).1)
+      followed_one s u q y start ins (subst (λ o. On o y) (sym is) (first, refl, refl))
+          (λ r e. (subst (λ o. On o r) is e).1)
 
-  pub end_followed : (s u : Members) (q y start : ℕ) → slice_get t q ≡ Some (AtEnd y) → i ≡ length l → Inserted s u y start → Followed t l i s u q start
+  pub end_followed : (s u : Members) (q y start : ℕ) → slice_get t q ≡ Some (AtEnd y) → i ≡ length l
+      → Inserted s u y start → Followed t l i s u q start
   end_followed s u q y start is last ins =
-      followed_one s u q y start ins (subst (λ o. On o y) (sym is) (last, refl, refl)) (λ r e. (subst (λ o. On o r) is e).1)
+      followed_one s u q y start ins (subst (λ o. On o y) (sym is) (last, refl, refl))
+          (λ r e. (subst (λ o. On o r) is e).1)
 
-  pub split_followed : (s u v : Members) (q y z start : ℕ) → slice_get t q ≡ Some (Split y z) → Inserted s u y start → Inserted u v z start → Followed t l i s v q start
+  pub split_followed : (s u v : Members) (q y z start : ℕ) → slice_get t q ≡ Some (Split y z) → Inserted s u y start
+      → Inserted u v z start → Followed t l i s v q start
   split_followed s u v q y z start is one two =
-      followed_two s u v q y z start one two (subst (λ o. On o y) (sym is) (inl refl, refl)) (subst (λ o. On o z) (sym is) (inr refl, refl))
+      followed_two s u v q y z start one two (subst (λ o. On o y) (sym is) (inl refl, refl))
+          (subst (λ o. On o z) (sym is) (inr refl, refl))
       (λ r e. (subst (λ o. On o r) is e).0)
 
-  pub not_begin_followed : (s : Members) (q y start : ℕ) → slice_get t q ≡ Some (AtBegin y) → i ≢ 0 → IsGood s → Followed t l i s s q start
-  not_begin_followed s q y start is other good = followed_none s q start good (λ r e. other (subst (λ o. On o r) is e).0)
+  pub not_begin_followed : (s : Members) (q y start : ℕ) → slice_get t q ≡ Some (AtBegin y) → i ≢ 0 → IsGood s
+      → Followed t l i s s q start
+  not_begin_followed s q y start is other good =
+      followed_none s q start good (λ r e. other (subst (λ o. On o r) is e).0)
 
-  pub not_end_followed : (s : Members) (q y start : ℕ) → slice_get t q ≡ Some (AtEnd y) → i ≢ length l → IsGood s → Followed t l i s s q start
+  pub not_end_followed : (s : Members) (q y start : ℕ) → slice_get t q ≡ Some (AtEnd y) → i ≢ length l → IsGood s
+      → Followed t l i s s q start
   not_end_followed s q y start is other good = followed_none s q start good (λ r e. other (subst (λ o. On o r) is e).0)
 
-  pub read_followed : (s : Members) (q start : ℕ) (st : State) → slice_get t q ≡ Some st → ((r : ℕ) → On (Some st) r → ⊥) → IsGood s → Followed t l i s s q start
+  pub read_followed : (s : Members) (q start : ℕ) (st : State) → slice_get t q ≡ Some st
+      → ((r : ℕ) → On (Some st) r → ⊥) → IsGood s → Followed t l i s s q start
   read_followed s q start st is none good = followed_none s q start good (λ r e. none r (subst (λ o. On o r) is e))
 
   -- a run from where an edge leads makes a run from where it starts
@@ -132,14 +147,17 @@ module _ (t : List State) (l : List ℕ) (i : ℕ) where
   ordered_more s u start good ordered below list kept recent j k le lt = elim (cases_lt k s.len) [
     | inl old ↦
         let j_in : j < s.len = omega arith in
-        let a : mark u (listed u j) ≡ mark s (listed s j) = ap (mark u) (list j j_in) ∙ kept (listed s j) (good.is_in j j_in) in
-        let b : mark u (listed u k) ≡ mark s (listed s k) = ap (mark u) (list k old) ∙ kept (listed s k) (good.is_in k old) in
+        let a : mark u (listed u j) ≡ mark s (listed s j) = ap (mark u) (list j j_in)
+            ∙ kept (listed s j) (good.is_in j j_in) in
+        let b : mark u (listed u k) ≡ mark s (listed s k) = ap (mark u) (list k old)
+            ∙ kept (listed s k) (good.is_in k old) in
         let o = ordered j k le old in
         omega arith
     | inr new ↦ let e = recent k new lt in let b = below (listed u j) in omega arith
   ]
 
-  closed_kept : (s u : Members) → ((q : ℕ) → 0 < mark s q → mark u q ≡ mark s q) → (q : ℕ) → 0 < mark s q → ClosedAt t l i s q → ClosedAt t l i u q
+  closed_kept : (s u : Members) → ((q : ℕ) → 0 < mark s q → mark u q ≡ mark s q) → (q : ℕ) → 0 < mark s q
+      → ClosedAt t l i s q → ClosedAt t l i u q
   closed_kept s u kept q h closed r e =
       let c = closed r e in
       let a = kept r c.0 in
@@ -147,11 +165,13 @@ module _ (t : List State) (l : List ℕ) (i : ℕ) where
       (omega (arith, c.0), omega (arith, c.1))
 
   -- before any state is followed
-  pub reaching_first : (s u : Members) (x start : ℕ) → Inserted s u x start → IsGood s → IsClosed t l i s → IsOrdered s → AllBelow s start
+  pub reaching_first : (s u : Members) (x start : ℕ) → Inserted s u x start → IsGood s → IsClosed t l i s → IsOrdered s
+      → AllBelow s start
       → Reaching t l i s u x start s.len
   reaching_first s u x start ins good closed ordered below =
       let below' = below_more s u start ins.kept (λ q z h. (ins.fresh q z h).1) below in
-      let self : (q : ℕ) → q ≡ x → Leads t l x i q i = λ q e. subst (λ v. Leads t l x i v i) (sym e) (λ n j run. (n, run)) in
+      let self : (q : ℕ) → q ≡ x → Leads t l x i q i =
+          λ q e. subst (λ v. Leads t l x i v i) (sym e) (λ n j run. (n, run)) in
       record {
         good = ins.good;
         size = ins.size;
@@ -202,7 +222,8 @@ module _ (t : List State) (l : List ℕ) (i : ℕ) where
                 subst (λ w. Leads t l x i w i) (sym e) g.1,
                 (g.2.0, subst (Path t l i g.2.0 x) (sym e) g.2.1),
               )
-          | inr new ↦ let g = f.recent j new jt in (g.0, leads_on x q0 (listed v j) i i mine.1 g.1, (suc mine.2.0, (q0, mine.2.1, g.1)))
+          | inr new ↦ let g = f.recent j new jt
+              in (g.0, leads_on x q0 (listed v j) i i mine.1 g.1, (suc mine.2.0, (q0, mine.2.1, g.1)))
         ];
         done = λ q h. elim (cases_lt 0 (mark u q)) [
           | inl old ↦ elim (r.done q old) [
@@ -210,8 +231,10 @@ module _ (t : List State) (l : List ℕ) (i : ℕ) where
             | inr later ↦ elim (cases_eq later.0 k) [
               | inl same ↦
                   let e : q0 ≡ q = ap (listed u) (sym same) ∙ later.3 in
-                  inl (subst (ClosedAt t l i v) e (λ w edge. let a = f.kept q0 some in let b = below' w in (f.all w edge, omega (arith, mine.0))))
-              | inr other ↦ inr (later.0, omega (arith, later.1), omega (arith, later.2), f.list later.0 later.2 ∙ later.3)
+                  inl (subst (ClosedAt t l i v) e
+                      (λ w edge. let a = f.kept q0 some in let b = below' w in (f.all w edge, omega (arith, mine.0))))
+              | inr other ↦ inr (later.0, omega (arith, later.1), omega (arith, later.2), f.list later.0 later.2
+                  ∙ later.3)
             ]
           ]
           | inr none ↦ let g = f.fresh q (omega arith) h in let w = g.2 in inr (w.0, omega (arith, w.1), w.2, w.3)
@@ -234,7 +257,8 @@ module _ (t : List State) (l : List ℕ) (i : ℕ) where
   }
 
 -- Inside a line one place is like another.
-inside_edge : (o : Option State) (l m : List ℕ) (i j q : ℕ) → i ≢ 0 → i ≢ length l → j ≢ 0 → j ≢ length m → Edge o l i q i → Edge o m j q j
+inside_edge : (o : Option State) (l m : List ℕ) (i j q : ℕ) → i ≢ 0 → i ≢ length l → j ≢ 0 → j ≢ length m
+    → Edge o l i q i → Edge o m j q j
 inside_edge None l m i j q a b c d e = absurd e
 inside_edge (Some Fail) l m i j q a b c d e = absurd e
 inside_edge (Some Accept) l m i j q a b c d e = absurd e
@@ -245,7 +269,8 @@ inside_edge (Some (AtEnd x)) l m i j q a b c d e = absurd (b e.0)
 inside_edge (Some (Split x y)) l m i j q a b c d e = (e.0, refl)
 
 module _ (t : List State) where
-  inside_path : (l m : List ℕ) (i j n x q : ℕ) → i ≢ 0 → i ≢ length l → j ≢ 0 → j ≢ length m → Path t l i n x q → Path t m j n x q
+  inside_path : (l m : List ℕ) (i j n x q : ℕ) → i ≢ 0 → i ≢ length l → j ≢ 0 → j ≢ length m → Path t l i n x q
+      → Path t m j n x q
   inside_path l m i j zero x q a b c d p = p
   inside_path l m i j (suc n) x q a b c d p =
       (p.0, inside_path l m i j n x p.0 a b c d p.1, inside_edge (slice_get t p.0) l m i j q a b c d p.2)
@@ -255,29 +280,34 @@ module _ (t : List State) where
   path_leads l i (suc n) x q p = leads_on t l i x p.0 q i i (path_leads l i n x p.0 p.1) p.2
 
   -- what a walk inside one line finds holds inside each line
-  pub seeds_found : (l : List ℕ) (i : ℕ) (s u : Members) (x start : ℕ) → i ≢ 0 → i ≢ length l → IsEmpty s → length u.marks ≡ length t
+  pub seeds_found : (l : List ℕ) (i : ℕ) (s u : Members) (x start : ℕ) → i ≢ 0 → i ≢ length l → IsEmpty s
+      → length u.marks ≡ length t
       → Reached t l i s u x start → ((q : ℕ) → mark s q ≡ 0 → 0 < mark u q → (n : ℕ) × Path t l i n x q)
       → AreSeeds t x (take u.len u.order)
   seeds_found l i s u x start a b empty size r paths =
       let room : u.len ≤ length u.order = list_long u r.good in
       let len : length (take u.len u.order) ≡ u.len = length-take-le u.len u.order room in
-      let at : (k : ℕ) → k < u.len → slice_index (take u.len u.order) k ≡ listed u k = λ k lt. get_or-take u.len u.order k 0 lt in
+      let at : (k : ℕ) → k < u.len → slice_index (take u.len u.order) k ≡ listed u k =
+          λ k lt. get_or-take u.len u.order k 0 lt in
       record {
         inside = λ k lt. let in' = listed_in u k r.good (omega arith) in let e = at k (omega arith) in omega arith;
         first = let f = r.good.found x r.here in (f.0, omega (arith, f.1, len), at f.0 f.1 ∙ f.2);
         closed = λ m j c d k q lt e.
             let k_in : k < u.len = omega arith in
-            let edge = inside_edge (slice_get t (listed u k)) m l j i q c d a b (subst (λ w. Edge (slice_get t w) m j q j) (at k k_in) e) in
+            let edge = inside_edge (slice_get t (listed u k)) m l j i q c d a b
+                (subst (λ w. Edge (slice_get t w) m j q j) (at k k_in) e) in
             let here = r.closed (listed u k) (r.good.is_in k k_in) q edge in
             let f = r.good.found q here.0 in
             (f.0, omega (arith, f.1, len), at f.0 f.1 ∙ f.2);
         leads = λ m j c d k lt.
             let k_in : k < u.len = omega arith in
             let p = paths (listed u k) (empty.1 (listed u k)) (r.good.is_in k k_in) in
-            subst (λ w. Leads t m x j w j) (sym (at k k_in)) (path_leads m j p.0 x (listed u k) (inside_path l m i j p.0 x (listed u k) a b c d p.1));
+            subst (λ w. Leads t m x j w j) (sym (at k k_in))
+                (path_leads m j p.0 x (listed u k) (inside_path l m i j p.0 x (listed u k) a b c d p.1));
       }
 
-  pub sown_first : (seeds : List ℕ) (s : Members) (start : ℕ) → IsGood s → IsOrdered s → AllBelow s start → Sown seeds s s start 0
+  pub sown_first : (seeds : List ℕ) (s : Members) (start : ℕ) → IsGood s → IsOrdered s → AllBelow s start
+      → Sown seeds s s start 0
   sown_first seeds s start good ordered below = record {
     good = good;
     size = refl;
@@ -288,7 +318,8 @@ module _ (t : List State) where
     here = λ j lt. absurd (omega arith);
   }
 
-  pub sown_next : (seeds : List ℕ) (s u v : Members) (start k : ℕ) → Sown seeds s u start k → Inserted u v (slice_index seeds k) start
+  pub sown_next : (seeds : List ℕ) (s u v : Members) (start k : ℕ) → Sown seeds s u start k
+      → Inserted u v (slice_index seeds k) start
       → Sown seeds s v start (k + 1)
   sown_next seeds s u v start k r ins =
       let below' = below_more t [] 0 u v start ins.kept (λ q z h. (ins.fresh q z h).1) r.below in
@@ -310,7 +341,8 @@ module _ (t : List State) where
       }
 
   -- all seeds make what a walk from the start makes
-  pub sown_reached : (l : List ℕ) (i : ℕ) (seeds : List ℕ) (s u : Members) (x start : ℕ) → AreSeeds t x seeds → i ≢ 0 → i ≢ length l
+  pub sown_reached : (l : List ℕ) (i : ℕ) (seeds : List ℕ) (s u : Members) (x start : ℕ) → AreSeeds t x seeds → i ≢ 0
+      → i ≢ length l
       → IsClosed t l i s → Sown seeds s u start (length seeds) → Reached t l i s u x start
   sown_reached l i seeds s u x start are a b closed r = record {
     good = r.good;
@@ -338,7 +370,8 @@ pub stands : (t : List State) (q : ℕ) (st : State) → q < length t → get_or
 stands t q st within e = slice_get-get_or t q Fail within ∙ ap Some e
 
 module _ (t : List State) (l : List ℕ) (i : ℕ) (now : Members) (limit : ℕ) where
-  pub stepping_first : (next : Members) → IsGood next → IsEmpty next → length next.marks ≡ length now.marks → Stepping t l i now next limit 0
+  pub stepping_first : (next : Members) → IsGood next → IsEmpty next → length next.marks ≡ length now.marks
+      → Stepping t l i now next limit 0
   stepping_first next good empty size = record {
     good = good;
     size = size;
@@ -361,12 +394,14 @@ module _ (t : List State) (l : List ℕ) (i : ℕ) (now : Members) (limit : ℕ)
     below = λ j ge lt. s.below j (omega arith) lt;
     comes = s.comes;
     goes = λ j r lt in_list early e. elim (cases_eq j k) [
-      | inl same ↦ absurd (none r (rw (← same) early) (subst (λ v. Edge (slice_get t (listed now v)) l i r (i + 1)) same e))
+      | inl same ↦ absurd (none r (rw (← same) early)
+          (subst (λ v. Edge (slice_get t (listed now v)) l i r (i + 1)) same e))
       | inr other ↦ s.goes j r (omega arith) in_list early e
     ];
   }
 
-  pub stepping_next : (next after : Members) (k x : ℕ) → Stepping t l i now next limit k → k < now.len → IsGood now → IsOrdered now
+  pub stepping_next : (next after : Members) (k x : ℕ) → Stepping t l i now next limit k → k < now.len → IsGood now
+      → IsOrdered now
       → Edge (slice_get t (listed now k)) l i x (i + 1)
       → ((r : ℕ) → Edge (slice_get t (listed now k)) l i r (i + 1) → r ≡ x)
       → Reached t l (i + 1) next after x (mark now (listed now k)) → Stepping t l i now after limit (k + 1)
@@ -399,7 +434,8 @@ module _ (t : List State) (l : List ℕ) (i : ℕ) (now : Members) (limit : ℕ)
         ];
       }
 
-  pub stepped : (next : Members) (k : ℕ) → Stepping t l i now next limit k → now.len ≤ k → IsGood now → Stepped t l i now next limit
+  pub stepped : (next : Members) (k : ℕ) → Stepping t l i now next limit k → now.len ≤ k → IsGood now
+      → Stepped t l i now next limit
   stepped next k s over good = record {
     good = s.good;
     size = s.size;
@@ -409,7 +445,8 @@ module _ (t : List State) (l : List ℕ) (i : ℕ) (now : Members) (limit : ℕ)
     goes = λ q r h early e.
         let f = good.found q h in
         let same : mark now (listed now f.0) ≡ mark now q = ap (mark now) f.2 in
-        let g = s.goes f.0 r (omega (arith, f.1)) f.1 (omega arith) (subst (λ v. Edge (slice_get t v) l i r (i + 1)) (sym f.2) e) in
+        let g = s.goes f.0 r (omega (arith, f.1)) f.1 (omega arith)
+            (subst (λ v. Edge (slice_get t v) l i r (i + 1)) (sym f.2) e) in
         (g.0, omega (arith, g.1));
   }
 
@@ -417,7 +454,8 @@ module _ (t : List State) (l : List ℕ) (i : ℕ) (now : Members) (limit : ℕ)
   OnByte o r = Edge o l i r (i + 1)
 
   -- only `Read` leads on by a byte
-  pub no_byte : (q : ℕ) (st : State) → slice_get t q ≡ Some st → ((set : ByteSet) (y : ℕ) → st ≡ Read set y → ⊥) → (r : ℕ) → Edge (slice_get t q) l i r (i + 1) → ⊥
+  pub no_byte : (q : ℕ) (st : State) → slice_get t q ≡ Some st → ((set : ByteSet) (y : ℕ) → st ≡ Read set y → ⊥)
+      → (r : ℕ) → Edge (slice_get t q) l i r (i + 1) → ⊥
   no_byte q st is other r e = go st other (subst (λ o. OnByte o r) is e)
     where
       go : (st : State) → ((set : ByteSet) (y : ℕ) → st ≡ Read set y → ⊥) → OnByte (Some st) r → ⊥
@@ -429,13 +467,16 @@ module _ (t : List State) (l : List ℕ) (i : ℕ) (now : Members) (limit : ℕ)
       go (AtEnd x) other e = omega (arith, e.2)
       go (Split x y) other e = omega (arith, e.1)
 
-  pub byte_edge : (q y b : ℕ) (set : ByteSet) → slice_get t q ≡ Some (Read set y) → slice_get l i ≡ Some b → bytes set b ≡ true → Edge (slice_get t q) l i y (i + 1)
+  pub byte_edge : (q y b : ℕ) (set : ByteSet) → slice_get t q ≡ Some (Read set y) → slice_get l i ≡ Some b
+      → bytes set b ≡ true → Edge (slice_get t q) l i y (i + 1)
   byte_edge q y b set is read here = subst (λ o. OnByte o y) (sym is) (b, read, here, refl, refl)
 
-  pub byte_only : (q y r : ℕ) (set : ByteSet) → slice_get t q ≡ Some (Read set y) → Edge (slice_get t q) l i r (i + 1) → r ≡ y
+  pub byte_only : (q y r : ℕ) (set : ByteSet) → slice_get t q ≡ Some (Read set y) → Edge (slice_get t q) l i r (i + 1)
+      → r ≡ y
   byte_only q y r set is e = (subst (λ o. OnByte o r) is e).3
 
-  pub byte_none : (q y b r : ℕ) (set : ByteSet) → slice_get t q ≡ Some (Read set y) → slice_get l i ≡ Some b → bytes set b ≡ false → Edge (slice_get t q) l i r (i + 1) → ⊥
+  pub byte_none : (q y b r : ℕ) (set : ByteSet) → slice_get t q ≡ Some (Read set y) → slice_get l i ≡ Some b
+      → bytes set b ≡ false → Edge (slice_get t q) l i r (i + 1) → ⊥
   byte_none q y b r set is read none e =
       let edge = subst (λ o. OnByte o r) is e in
       let same : Some edge.0 ≡ Some b = sym edge.1 ∙ read in

@@ -1,5 +1,6 @@
 -- How the states of a tree are made from its end to its begin.
-use Rattle.std.proofs.Common.{◌≡◌, ◌≢◌, ℕ, suc, ◌+◌, ◌-◌, ◌*◌, ◌<◌, ◌≤◌, List, length, set, Option, Some, None, refl, sym, ap, ◌∙◌, subst, arith, length-set}
+use Rattle.std.proofs.Common.{◌≡◌, ◌≢◌, ℕ, suc, ◌+◌, ◌-◌, ◌*◌, ◌<◌, ◌≤◌, List, length, set, Option, Some, None, refl}
+use Rattle.std.proofs.Common.{sym, ap, ◌∙◌, subst, arith, length-set}
 use Rattle.std.specs.Prelude.{slice_get, All, Result, IfOk}
 use Rattle.std.proofs.lemmas.List.Elements.{All-set}
 use Rattle.std.proofs.lemmas.Option.{slice_get_within}
@@ -8,13 +9,16 @@ use Rattle.pg_match.specs.Matches.{Chain}
 use Rattle.pg_syntax.specs.Patterns.{IsProper, Pattern, Cat, Alt, Rep}
 use Rattle.pg_match.specs.Sizes.{size_of}
 use Rattle.pg_match.specs.Automata.{target_below, IsTidy}
-use Rattle.pg_match.specs.Tables.{Optional, Implements, Keeps, NoAccept, KeepsWritten, Pushed, Added, AddedCopies, AddedOptional}
+use Rattle.pg_match.specs.Tables.{Optional, Implements, Keeps, NoAccept, KeepsWritten, Pushed, Added, AddedCopies}
+use Rattle.pg_match.specs.Tables.{AddedOptional}
 use Rattle.pg_match.specs.Gaps.{IsHole, IsGap, IsFilled, Finished, Leads, HasGap, Completes, Narrowed}
 use Rattle.pg_match.specs.declared.build.Gap.{Gap}
 use Rattle.pg_match.specs.declared.build.Hole.{Hole}
 use Rattle.pg_match.specs.declared.state.State.{State}
 use Rattle.pg_match.specs.declared.state.State.TheVariants.{Fail, Accept, Split}
-use Rattle.pg_match.proofs.TableLemmas.{plain_trans, keeps_trans, written, chain_kept, optional_kept, implements_kept, set_is, set_other, set_written, set_plain, pushed_length, pushed_keeps, pushed_is, pushed_tidy, pushed_plain, one_added, nothing}
+use Rattle.pg_match.proofs.TableLemmas.{plain_trans, keeps_trans, written, chain_kept, optional_kept, implements_kept}
+use Rattle.pg_match.proofs.TableLemmas.{set_is, set_other, set_written, set_plain, pushed_length, pushed_keeps}
+use Rattle.pg_match.proofs.TableLemmas.{pushed_is, pushed_tidy, pushed_plain, one_added, nothing}
 
 written_trans : (a b c : List State) → KeepsWritten a b → KeepsWritten b c → KeepsWritten a c
 written_trans a b c f g q s other h = g q s other (f q s other h)
@@ -26,9 +30,11 @@ hole_any n t (Some h) x = (omega arith, x.1, x.2, x.3)
 pub gap_any : (n : ℕ) (t : List State) (g : Gap) → IsGap n t g → IsGap 0 t g
 gap_any n t g x = record { tidy = x.tidy; next_in = x.next_in; hole_in = hole_any n t g.hole x.hole_in }
 
-pub hole_kept : (n : ℕ) (t u : List State) (h : Option Hole) → Keeps t u → length t ≤ length u → IsHole n t h → IsHole n u h
+pub hole_kept : (n : ℕ) (t u : List State) (h : Option Hole) → Keeps t u → length t ≤ length u → IsHole n t h
+    → IsHole n u h
 hole_kept n t u None keeps le hole = tt
-hole_kept n t u (Some h) keeps le hole = (hole.0, keeps h.place Fail hole.1, omega (arith, hole.2), omega (arith, hole.3))
+hole_kept n t u (Some h) keeps le hole = (hole.0, keeps h.place Fail hole.1, omega (arith, hole.2),
+    omega (arith, hole.3))
 
 -- what filling a hole leaves
 module _ (old new : List State) where
@@ -45,7 +51,8 @@ module _ (old new : List State) where
   filled_plain n (Some h) e w hole f =
       rw (f.0) (set_plain old h.place (Split e h.second) (slice_get_within old h.place Fail hole.1) (λ z. cc))
 
-  filled_tidy : (n : ℕ) (h : Option Hole) (e w : ℕ) → IsHole n old h → e < length old → IsTidy old → IsFilled old new h e w → IsTidy new
+  filled_tidy : (n : ℕ) (h : Option Hole) (e w : ℕ) → IsHole n old h → e < length old → IsTidy old
+      → IsFilled old new h e w → IsTidy new
   filled_tidy n None e w hole e_in tidy f = rw (f.0) tidy
   filled_tidy n (Some h) e w hole e_in tidy f =
       let same = length-set old h.place (Split e h.second) in
@@ -59,7 +66,8 @@ module _ (old new : List State) where
   filled_leads n (Some h) e w hole f =
       (f.1, rw (f.0) (set_is old h.place (Split e h.second) (slice_get_within old h.place Fail hole.1)))
 
-  filled_inside : (n : ℕ) (h : Option Hole) (e w : ℕ) → IsHole n old h → e < length old → IsFilled old new h e w → w < length new
+  filled_inside : (n : ℕ) (h : Option Hole) (e w : ℕ) → IsHole n old h → e < length old → IsFilled old new h e w
+      → w < length new
   filled_inside n None e w hole e_in f = let len = filled_length None e w f in omega (arith, len, f.1)
   filled_inside n (Some h) e w hole e_in f = let len = filled_length (Some h) e w f in omega (arith, len, f.1, hole.3)
 
@@ -136,7 +144,8 @@ pub has_cat : (first t u : List State) (g : Gap) (b : Pattern) (k : ℕ) → Has
     → HasGap first u (record { hole = g.hole; next = k })
 has_cat first t u g b k has one = has_moved first t u g k has (grew_added t u b k g.next one) one.inside
 
-pub completes_cat : (t u : List State) (g : Gap) (a b whole : Pattern) (k x : ℕ) → Completes t g (Cat a b) whole x → Added t u b k g.next
+pub completes_cat : (t u : List State) (g : Gap) (a b whole : Pattern) (k x : ℕ) → Completes t g (Cat a b) whole x
+    → Added t u b k g.next
     → Completes u (record { hole = g.hole; next = k }) a whole x
 completes_cat t u g a b whole k x c one new e w keeps part leads =
     let all = written_trans t u new (written t u one.keeps) keeps in
@@ -150,25 +159,30 @@ completes_narrowed t u g h whole some part x c n new e w keeps is leads =
     c new more.0 w (written_trans t u new n.written keeps) more.1 more.2
 
 -- the gap gets what it lacks
-pub finished : (first t u v : List State) (g : Gap) (whole part : Pattern) (e w x : ℕ) → HasGap first t g → Completes t g part whole x
-    → Added t u part e g.next → IsFilled u v g.hole e w → length t + size_of part ≡ length first + size_of whole → Added first v whole w x
+pub finished : (first t u v : List State) (g : Gap) (whole part : Pattern) (e w x : ℕ) → HasGap first t g
+    → Completes t g part whole x
+    → Added t u part e g.next → IsFilled u v g.hole e w → length t + size_of part ≡ length first + size_of whole
+        → Added first v whole w x
 finished first t u v g whole part e w x has c one filled size =
     let grew = grew_added t u part e g.next one in
     let hole = hole_kept (length first) t u g.hole grew.keeps grew.longer has.gap_in.hole_in in
     let last = filled_written u v (length first) g.hole e w hole filled in
     let len = filled_length u v g.hole e w filled in
     record {
-      implements = c v e w (written_trans t u v (written t u one.keeps) last) (implements_kept u v last part e g.next one.implements)
+      implements = c v e w (written_trans t u v (written t u one.keeps) last)
+          (implements_kept u v last part e g.next one.implements)
           (filled_leads u v (length first) g.hole e w hole filled);
       keeps = filled_keeps u v first g.hole e w hole filled (keeps_trans first t u has.keeps one.keeps);
-      plain = plain_trans first u v (plain_trans first t u has.plain one.plain) (filled_plain u v (length first) g.hole e w hole filled);
+      plain = plain_trans first u v (plain_trans first t u has.plain one.plain)
+          (filled_plain u v (length first) g.hole e w hole filled);
       tidy = filled_tidy u v (length first) g.hole e w hole one.inside one.tidy filled;
       inside = filled_inside u v (length first) g.hole e w hole one.inside filled;
       size = omega (arith, len, one.size, size);
     }
 
 -- a pattern of size 0 gets no states
-pub nothing_added : (t : List State) (r : Pattern) (x : ℕ) → IsProper r → size_of r ≡ 0 → IsTidy t → x < length t → Added t t r x x
+pub nothing_added : (t : List State) (r : Pattern) (x : ℕ) → IsProper r → size_of r ≡ 0 → IsTidy t → x < length t
+    → Added t t r x x
 nothing_added t r x proper none tidy inside = record {
   implements = nothing t r proper none x;
   keeps = λ q s h. h;
@@ -183,7 +197,8 @@ abbrev pub at_hole : ℕ → ℕ → ℕ → ℕ → Gap
 at_hole s m w k = record { hole = Some (record { place = s; second = m; entry = w }); next = k }
 
 -- a table grew, and its hole was made to lead to e
-module _ (t u v : List State) (g : Gap) (e w : ℕ) (is : IsGap 0 t g) (grew : Grew t u) (filled : IsFilled u v g.hole e w) where
+module _ (t u v : List State) (g : Gap) (e w : ℕ) (is : IsGap 0 t g) (grew : Grew t u)
+    (filled : IsFilled u v g.hole e w) where
   opened_written : KeepsWritten t v
   opened_written =
       let hole = hole_kept 0 t u g.hole grew.keeps grew.longer is.hole_in in
@@ -203,23 +218,27 @@ module _ (t u v : List State) (g : Gap) (e w : ℕ) (is : IsGap 0 t g) (grew : G
       let fails' = filled_other u v n t g.hole e w s Fail has.gap_in.hole_in behind filled fails in
       record {
         keeps = filled_keeps u v first g.hole e w hole filled (keeps_trans first t u has.keeps grew.keeps);
-        plain = plain_trans first u v (plain_trans first t u has.plain grew.plain) (filled_plain u v n g.hole e w hole filled);
+        plain = plain_trans first u v (plain_trans first t u has.plain grew.plain)
+            (filled_plain u v n g.hole e w hole filled);
         longer = omega (arith, has.longer, grew.longer, len);
         gap_in = record {
           tidy = filled_tidy u v n g.hole e w hole e_in grew.tidy filled;
           next_in = omega (arith, len);
-          hole_in = (omega (arith, has.longer), fails', omega (arith, len), filled_inside u v n g.hole e w hole e_in filled);
+          hole_in = (omega (arith, has.longer), fails', omega (arith, len),
+              filled_inside u v n g.hole e w hole e_in filled);
         };
       }
 
 -- the hole is at a state, and its second one is known
-pub narrowed_at : (t u : List State) (g : Gap) (h : Hole) (s m k : ℕ) (whole part : Pattern) → h.place ≡ s → h.second ≡ m
+pub narrowed_at : (t u : List State) (g : Gap) (h : Hole) (s m k : ℕ) (whole part : Pattern) → h.place ≡ s
+    → h.second ≡ m
     → Narrowed t u g (at_hole s m h.entry k) whole part → Narrowed t u g (record { hole = Some h; next = k }) whole part
 narrowed_at t u g h s m k whole part place second n =
     let same : record { place = s; second = m; entry = h.entry } ≡ h = rw (← place, ← second) refl in
     subst (λ (h : Hole). Narrowed t u g (record { hole = Some h; next = k }) whole part) same n
 
-pub choice_narrowed : (t u v z : List State) (a b : Pattern) (g : Gap) (m s w : ℕ) → IsGap 0 t g → Added t u b m g.next → Pushed u v Fail s
+pub choice_narrowed : (t u v z : List State) (a b : Pattern) (g : Gap) (m s w : ℕ) → IsGap 0 t g → Added t u b m g.next
+    → Pushed u v Fail s
     → IsFilled v z g.hole s w → Narrowed t z g (at_hole s m w g.next) (Alt a b) a
 choice_narrowed t u v z a b g m s w is one push filled =
     let len = pushed_length u v Fail s push in
@@ -227,12 +246,14 @@ choice_narrowed t u v z a b g m s w is one push filled =
     let grew = grew_trans t u v (grew_added t u b m g.next one) push' in
     let length' = filled_length v z g.hole s w filled in
     record {
-      has = opened_has t v z g s w is grew filled s m g.next (omega (arith, len, push.place)) (omega (arith, len, one.inside))
+      has = opened_has t v z g s w is grew filled s m g.next (omega (arith, len, push.place))
+          (omega (arith, len, one.inside))
           (omega (arith, is.next_in, grew.longer)) (omega (arith, push.place, one.size)) (pushed_is u v Fail s push);
       written = opened_written t v z g s w is grew filled;
       completes = λ new e w' keeps part leads.
           let hole = hole_kept 0 t v g.hole grew.keeps grew.longer is.hole_in in
-          let over = written_trans u v new (written u v push'.keeps) (written_trans v z new (filled_written v z 0 g.hole s w hole filled) keeps) in (
+          let over = written_trans u v new (written u v push'.keeps)
+              (written_trans v z new (filled_written v z 0 g.hole s w hole filled) keeps) in (
             s,
             (e, m, leads.1, part, implements_kept u new over b m g.next one.implements),
             opened_leads t v z g s w is grew filled new w' keeps (leads.0),
@@ -248,7 +269,8 @@ loop_narrowed t u v z r n g s k w is push some filled =
     let length' = filled_length v z g.hole k w filled in
     record {
       has = opened_has t v z g k w is grew filled s g.next s some.inside (omega (arith, is.next_in, grew.longer))
-          (omega (arith, push.place, len, some.size)) (omega (arith, push.place)) (some.keeps s Fail (pushed_is t u Fail s push));
+          (omega (arith, push.place, len, some.size)) (omega (arith, push.place))
+              (some.keeps s Fail (pushed_is t u Fail s push));
       written = opened_written t v z g k w is grew filled;
       completes = λ new e w' keeps part leads.
           let hole = hole_kept 0 t v g.hole grew.keeps grew.longer is.hole_in in
@@ -265,14 +287,16 @@ loop_narrowed t u v z r n g s k w is push some filled =
 pub shared : (n c b z : ℕ) → n + suc c ≡ b → n * z + c * z + z ≡ b * z
 shared n c b z sum = rw (← sum) (omega arith)
 
-pub hole_behind_options : (t u v y : List State) (r : Pattern) (n c : ℕ) (g : Gap) (j s k : ℕ) → IsGap 0 t g → AddedOptional t u r c j g.next
+pub hole_behind_options : (t u v y : List State) (r : Pattern) (n c : ℕ) (g : Gap) (j s k : ℕ) → IsGap 0 t g
+    → AddedOptional t u r c j g.next
     → Pushed u v Fail s → AddedCopies v y r n k s → IsHole 0 y g.hole
 hole_behind_options t u v y r n c g j s k is few push some =
     let a = hole_kept 0 t u g.hole few.keeps (omega (arith, few.size)) is.hole_in in
     let b = hole_kept 0 u v g.hole (pushed_keeps u v Fail s push) (omega (arith, pushed_length u v Fail s push)) a in
     hole_kept 0 v y g.hole some.keeps (omega (arith, some.size)) b
 
-pub option_narrowed : (t u v y z : List State) (r : Pattern) (n b c : ℕ) (g : Gap) (j s k w : ℕ) → b - n ≡ suc c → n ≤ b → IsGap 0 t g
+pub option_narrowed : (t u v y z : List State) (r : Pattern) (n b c : ℕ) (g : Gap) (j s k w : ℕ) → b - n ≡ suc c → n ≤ b
+    → IsGap 0 t g
     → AddedOptional t u r c j g.next → Pushed u v Fail s → AddedCopies v y r n k s → IsFilled y z g.hole k w
     → Narrowed t z g (at_hole s g.next w j) (Rep r n (Some b)) r
 option_narrowed t u v y z r n b c g j s k w more le is few push some filled =
@@ -283,16 +307,19 @@ option_narrowed t u v y z r n b c g j s k w more le is few push some filled =
     let length' = filled_length y z g.hole k w filled in
     record {
       has = opened_has t y z g k w is grew filled s g.next j some.inside (omega (arith, is.next_in, grew.longer))
-          (omega (arith, few.inside, len, some.size)) (omega (arith, push.place, few.size)) (some.keeps s Fail (pushed_is u v Fail s push));
+          (omega (arith, few.inside, len, some.size)) (omega (arith, push.place, few.size))
+              (some.keeps s Fail (pushed_is u v Fail s push));
       written = opened_written t y z g k w is grew filled;
       completes = λ new e w' keeps part leads.
           let hole = hole_kept 0 t y g.hole grew.keeps grew.longer is.hole_in in
           let over = written_trans y z new (filled_written y z 0 g.hole k w hole filled) keeps in
           let kept = implements_kept y new over r in
-          let over' = written_trans u v new (written u v push'.keeps) (written_trans v y new (written v y some.keeps) over) in
+          let over' = written_trans u v new (written u v push'.keeps)
+              (written_trans v y new (written v y some.keeps) over) in
           let kept' = implements_kept u new over' r in
           let rest : Optional new (Implements new r) (b - n) s g.next =
-          rw more (e, j, leads.1, part, optional_kept u new over' (Implements u r) (Implements new r) kept' c j g.next few.implements) in (
+          rw more (e, j, leads.1, part, optional_kept u new over' (Implements u r)
+              (Implements new r) kept' c j g.next few.implements) in (
             k,
             (s, chain_kept (Implements y r) (Implements new r) kept n k s some.implements, rest),
             opened_leads t y z g k w is grew filled new w' keeps (leads.0),
@@ -300,7 +327,8 @@ option_narrowed t u v y z r n b c g j s k w more le is few push some filled =
       size = let all = shared n c b (size_of r) (omega arith) in omega (arith, len, length', few.size, some.size, all);
     }
 
-pub copies_narrowed : (t u : List State) (r : Pattern) (n b c : ℕ) (g : Gap) (k : ℕ) → b ≡ suc c → b ≡ n → AddedCopies t u r c k g.next
+pub copies_narrowed : (t u : List State) (r : Pattern) (n b c : ℕ) (g : Gap) (k : ℕ) → b ≡ suc c → b ≡ n
+    → AddedCopies t u r c k g.next
     → Narrowed t u g (record { hole = g.hole; next = k }) (Rep r n (Some b)) r
 copies_narrowed t u r n b c g k more same some = record {
   has = λ first has. has_moved first t u g k has (grew_copies t u r c k g.next some) some.inside;
@@ -316,9 +344,11 @@ copies_narrowed t u r n b c g k more same some = record {
 }
 
 -- the gap gets one state
-pub finished_leaf : {E : Type 0} (first t v : List State) (g : Gap) (whole r leaf : Pattern) (s : State) (x : ℕ) (o : Result ℕ E)
+pub finished_leaf : {E : Type 0} (first t v : List State) (g : Gap) (whole r leaf : Pattern) (s : State) (x : ℕ)
+    (o : Result ℕ E)
     → HasGap first t g → Completes t g r whole x → length t + size_of r ≡ length first + size_of whole → r ≡ leaf
-    → target_below (length t) s → ((u : List State) (e : ℕ) → slice_get u e ≡ Some s → Implements u leaf e g.next) → size_of leaf ≡ 1
+    → target_below (length t) s → ((u : List State) (e : ℕ) → slice_get u e ≡ Some s → Implements u leaf e g.next)
+        → size_of leaf ≡ 1
     → s ≢ Accept → IfOk o (Finished t v g.hole s) → IfOk o (λ w. Added first v whole w x)
 finished_leaf first t v g whole r leaf s x o has c size same below is one other h =
     IfOk-weaker o (Finished t v g.hole s) (λ w. Added first v whole w x) (λ w f.

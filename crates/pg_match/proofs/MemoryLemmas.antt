@@ -1,5 +1,7 @@
 -- The table of the sets that are remembered.
-use Rattle.std.proofs.Common.{◌≡◌, ◌≢◌, ℕ, zero, suc, ◌+◌, ◌-◌, ◌*◌, ◌/◌, ◌^◌, ◌<◌, ◌≤◌, ◌⊎◌, ◌↔◌, inl, inr, List, length, get_or, set, replicate, Bool, true, false, true≢false, Option, Some, None, refl, sym, ap, ◌∙◌, subst, arith, IsTrue, length-set, get_or-set_same, get_or-set_other}
+use Rattle.std.proofs.Common.{◌≡◌, ◌≢◌, ℕ, zero, suc, ◌+◌, ◌-◌, ◌*◌, ◌/◌, ◌^◌, ◌<◌, ◌≤◌, ◌⊎◌, ◌↔◌, inl, inr, List}
+use Rattle.std.proofs.Common.{length, get_or, set, replicate, Bool, true, false, true≢false, Option, Some, None, refl}
+use Rattle.std.proofs.Common.{sym, ap, ◌∙◌, subst, arith, IsTrue, length-set, get_or-set_same, get_or-set_other}
 use Rattle.std.specs.Prelude.{IfSome, slice_index, slice_get}
 use Rattle.std.proofs.lemmas.List.{get_or_read}
 use Rattle.std.proofs.lemmas.Option.{slice_get-get_or}
@@ -9,7 +11,8 @@ use Rattle.pg_match.specs.Automata.{Nfa, IsRunnable}
 use Rattle.pg_match.specs.StateSets.{Members, mark, listed, IsGood, Inserted}
 use Rattle.pg_match.specs.Steps.{Has, Goes, Starts, HitBefore, AnswersEnd, ReadsNone}
 use Rattle.pg_match.specs.Stands.{Stands, HasRun}
-use Rattle.pg_match.specs.Memories.{Remembered, cut, ended, fresh_at, In, Same, IsShape, Told, IsMemoryOf, IsBlank, Keeps, Grown, SameSets, Marked, MarkedEnd, IsAtRow, StandsAt, Learned, Finishes}
+use Rattle.pg_match.specs.Memories.{Remembered, cut, ended, fresh_at, In, Same, IsShape, Told, IsMemoryOf, IsBlank}
+use Rattle.pg_match.specs.Memories.{Keeps, Grown, SameSets, Marked, MarkedEnd, IsAtRow, StandsAt, Learned, Finishes}
 use Rattle.pg_match.specs.declared.recall.Next.TheVariants.{Row, Lost}
 use Rattle.pg_match.proofs.StateSetLemmas.{listed_in}
 use Rattle.pg_match.proofs.StandsLemmas.{stands_next, run_before, run_at_end, no_run}
@@ -21,7 +24,8 @@ pub record Loading (mem : Remembered) (r : ℕ) (old s : Members) (k : ℕ) : Ty
   pub from : (q : ℕ) → Has s q → (j : ℕ) × (cut mem r ≤ j) × (j < k) × (slice_index mem.pool j ≡ q)
   pub all : (j : ℕ) → cut mem r ≤ j → j < k → Has s (slice_index mem.pool j)
 
-pub loading_next : (mem : Remembered) (r : ℕ) (old s u : Members) (k x : ℕ) → Loading mem r old s k → cut mem r ≤ k → x ≡ slice_index mem.pool k
+pub loading_next : (mem : Remembered) (r : ℕ) (old s u : Members) (k x : ℕ) → Loading mem r old s k → cut mem r ≤ k
+    → x ≡ slice_index mem.pool k
     → Inserted s u x 1 → Loading mem r old u (k + 1)
 loading_next mem r old s u k x a ge is ins = record {
   good = ins.good;
@@ -74,7 +78,8 @@ copied_more old mid new s start k v c low is pool steps ends fresh cuts count =
     }
 
 -- what the table reads
-pub same_list : (mem : Remembered) (r start : ℕ) (s : Members) → IsGood s → start ≡ cut mem r → start + s.len ≡ cut mem (r + 1)
+pub same_list : (mem : Remembered) (r start : ℕ) (s : Members) → IsGood s → start ≡ cut mem r
+    → start + s.len ≡ cut mem (r + 1)
     → ((j : ℕ) → j < s.len → get_or mem.pool (start + j) 0 ≡ get_or s.order j 0) → Same (Has s) (In mem r)
 same_list mem r start s good from to eqs q = (
   λ h. let w = good.found q h in (start + w.0, omega arith, omega (arith, w.1), eqs w.0 w.1 ∙ w.2),
@@ -86,23 +91,29 @@ same_list mem r start s good from to eqs q = (
       subst (λ v. Has s v) is (good.is_in j lt),
 )
 
-pub grown : (n : ℕ) (old mid new : Remembered) (s : Members) (start : ℕ) (fresh : Bool) → IsShape n old → IsGood s → n ≡ length s.marks → start ≡ cut old (old.count + 1)
-    → old.count ≢ 256 → s.len ≤ length old.pool - start → Copying old mid s start s.len → new.steps ≡ mid.steps → new.ends ≡ mid.ends → new.pool ≡ mid.pool
+pub grown : (n : ℕ) (old mid new : Remembered) (s : Members) (start : ℕ) (fresh : Bool) → IsShape n old → IsGood s
+    → n ≡ length s.marks → start ≡ cut old (old.count + 1)
+    → old.count ≢ 256 → s.len ≤ length old.pool - start → Copying old mid s start s.len → new.steps ≡ mid.steps
+        → new.ends ≡ mid.ends → new.pool ≡ mid.pool
     → new.cuts ≡ set mid.cuts (mid.count + 2) (start + s.len) → new.count ≡ mid.count + 1
     → new.fresh ≡ set mid.fresh (mid.count + 1) fresh → Grown n old new s fresh
 grown n old mid new s start fresh shape good size from other fit copy steps ends pool cuts0 count fresh0 =
-    let cuts : new.cuts ≡ set mid.cuts (old.count + 2) (start + s.len) = cuts0 ∙ ap (λ v. set mid.cuts (v + 2) (start + s.len)) copy.count in
+    let cuts : new.cuts ≡ set mid.cuts (old.count + 2) (start + s.len) = cuts0
+        ∙ ap (λ v. set mid.cuts (v + 2) (start + s.len)) copy.count in
     let a : new.count ≡ old.count + 1 = count ∙ ap (λ v. v + 1) copy.count in
     let f = shape.few in
     let z1 = shape.cuts_size in
     let cut_old : (r : ℕ) → r ≤ old.count + 1 → cut new r ≡ cut old r =
-    λ r le. ap (λ v. slice_index v r) cuts ∙ get_or-set_other mid.cuts (old.count + 2) r (start + s.len) 0 (omega arith) ∙ ap (λ v. slice_index v r) copy.cuts in
-    let freshes : new.fresh ≡ set mid.fresh (old.count + 1) fresh = fresh0 ∙ ap (λ v. set mid.fresh (v + 1) fresh) copy.count in
+    λ r le. ap (λ v. slice_index v r) cuts ∙ get_or-set_other mid.cuts (old.count + 2) r (start + s.len) 0 (omega arith)
+        ∙ ap (λ v. slice_index v r) copy.cuts in
+    let freshes : new.fresh ≡ set mid.fresh (old.count + 1) fresh = fresh0
+        ∙ ap (λ v. set mid.fresh (v + 1) fresh) copy.count in
     let z2 = shape.fresh_size in
     let freshlen : length mid.fresh ≡ 257 = ap length copy.fresh ∙ z2 in
     let midlen : length mid.cuts ≡ 258 = ap length copy.cuts ∙ z1 in
     let cut_new : cut new (old.count + 2) ≡ start + s.len =
-    ap (λ v. slice_index v (old.count + 2)) cuts ∙ get_or-set_same mid.cuts (old.count + 2) (start + s.len) 0 (omega arith) in
+    ap (λ v. slice_index v (old.count + 2)) cuts
+        ∙ get_or-set_same mid.cuts (old.count + 2) (start + s.len) 0 (omega arith) in
     let pool_eq : (j : ℕ) → slice_index new.pool j ≡ slice_index mid.pool j = λ j. ap (λ v. slice_index v j) pool in
     let two : old.count + 1 + 1 ≡ old.count + 2 = omega arith in
     let top : cut new (new.count + 1) ≡ start + s.len = ap (λ v. cut new (v + 1)) a ∙ ap (cut new) two ∙ cut_new in
@@ -110,8 +121,10 @@ grown n old mid new s start fresh shape good size from other fit copy steps ends
     let c0 = cut_old r (omega arith) in
     let c1 = cut_old (r + 1) (omega arith) in
     let u = shape.upto (r + 1) (omega arith) in (
-      λ h. (h.0, omega (arith, h.1, c0), omega (arith, h.2, c1), pool_eq h.0 ∙ copy.before h.0 (omega (arith, h.2)) ∙ h.3),
-      λ h. (h.0, omega (arith, h.1, c0), omega (arith, h.2, c1), sym (copy.before h.0 (omega (arith, h.2))) ∙ sym (pool_eq h.0) ∙ h.3),
+      λ h. (h.0, omega (arith, h.1, c0), omega (arith, h.2, c1), pool_eq h.0 ∙ copy.before h.0 (omega (arith, h.2))
+          ∙ h.3),
+      λ h. (h.0, omega (arith, h.1, c0), omega (arith, h.2, c1), sym (copy.before h.0 (omega (arith, h.2)))
+          ∙ sym (pool_eq h.0) ∙ h.3),
     ) in
     let here_from : cut new new.count ≡ start = ap (cut new) a ∙ cut_old (old.count + 1) (omega arith) ∙ sym from in
     let here : Same (Has s) (In new new.count) =
@@ -134,22 +147,26 @@ grown n old mid new s start fresh shape good size from other fit copy steps ends
               let e : cut new r ≡ start = ap (cut new) same ∙ cut_old (old.count + 1) (omega arith) ∙ sym from in
               let e2 : cut new (r + 1) ≡ start + s.len = ap (λ v. cut new (v + 1)) same ∙ ap (cut new) two ∙ cut_new in
               omega arith
-          | inr less ↦ let e = cut_old r (omega arith) in let e2 = cut_old (r + 1) (omega arith) in let u = shape.order r (omega arith) in omega arith
+          | inr less ↦ let e = cut_old r (omega arith) in let e2 = cut_old (r + 1) (omega arith) in let u =
+              shape.order r (omega arith) in omega arith
         ];
         room = let rm = shape.room in let e = ap length pool in let e2 = copy.size in omega arith;
         within = λ r q le h. elim (cases_eq r new.count) [
-          | inl same ↦ let w = (here q).1 (subst (λ v. In new v q) same h) in let g = good.found q w in let i = listed_in s g.0 good g.1 in omega (arith, i, g.2, size)
+          | inl same ↦ let w = (here q).1 (subst (λ v. In new v q) same h) in let g = good.found q w in let i =
+              listed_in s g.0 good g.1 in omega (arith, i, g.2, size)
           | inr less ↦ let le' : r ≤ old.count = omega arith in shape.within r q le' ((keep r le' q).1 h)
         ];
       };
       keeps = record {
         sets = keep;
         fresh = λ r le.
-            ap (λ v. get_or v r false) freshes ∙ get_or-set_other mid.fresh (old.count + 1) r fresh false (omega arith) ∙ ap (λ v. get_or v r false) copy.fresh;
+            ap (λ v. get_or v r false) freshes ∙ get_or-set_other mid.fresh (old.count + 1) r fresh false (omega arith)
+                ∙ ap (λ v. get_or v r false) copy.fresh;
         more = omega arith;
       };
       fresh_here =
-          ap (fresh_at new) a ∙ ap (λ v. get_or v (old.count + 1) false) freshes ∙ get_or-set_same mid.fresh (old.count + 1) fresh false (omega arith);
+          ap (fresh_at new) a ∙ ap (λ v. get_or v (old.count + 1) false) freshes
+              ∙ get_or-set_same mid.fresh (old.count + 1) fresh false (omega arith);
       steps = steps ∙ copy.steps;
       ends = ends ∙ copy.ends;
       count = a;
@@ -176,7 +193,8 @@ goes_same m b S S' U U' s u g = record {
   still = λ q h r edge. (u r).0 (g.still q ((u q).1 h) r edge);
 }
 
-pub answers_same : (m : Nfa) (first : Bool) (S U : ℕ → Type 0) (answer : Bool) → Same S U → AnswersEnd m first S answer → AnswersEnd m first U answer
+pub answers_same : (m : Nfa) (first : Bool) (S U : ℕ → Type 0) (answer : Bool) → Same S U → AnswersEnd m first S answer
+    → AnswersEnd m first U answer
 answers_same m first S U true s h = (h.0, (s h.0).0 h.1, h.2)
 answers_same m first S U false s h = λ l q n at empty run. h l q n ((s q).1 at) empty run
 
@@ -187,7 +205,8 @@ starts_same m S U s g = record {
   still = λ q h r edge. (s r).0 (g.still q ((s q).1 h) r edge);
 }
 
-told_moves : (m : Nfa) (old new : Remembered) (r b v : ℕ) → Keeps old new → r ≤ old.count → Told m old r b v → Told m new r b v
+told_moves : (m : Nfa) (old new : Remembered) (r b v : ℕ) → Keeps old new → r ≤ old.count → Told m old r b v
+    → Told m new r b v
 told_moves m old new r b v k le (inl zero_v) = inl zero_v
 told_moves m old new r b v k le (inr (inl hit)) = inr (inl (hit.0, ((k.sets r le 0).0 hit.1.0, hit.1.1)))
 told_moves m old new r b v k le (inr (inr go)) =
@@ -239,7 +258,8 @@ moved m old new is shape k cells past ends first =
     }
 
 -- a set was added to the table
-pub memory_grown : (m : Nfa) (old new : Remembered) (s : Members) (fresh : Bool) → IsMemoryOf m old → Grown (length m.states) old new s fresh
+pub memory_grown : (m : Nfa) (old new : Remembered) (s : Members) (fresh : Bool) → IsMemoryOf m old
+    → Grown (length m.states) old new s fresh
     → (old.count ≡ 0 → Starts m (Has s)) → IsMemoryOf m new
 memory_grown m old new s fresh is g first =
     let n = g.count in
@@ -265,12 +285,14 @@ sets_keep old new w =
       sets = λ r le q.
           let a = c r in
           let b = c (r + 1) in
-          (λ h. (h.0, omega (arith, h.1), omega (arith, h.2), p h.0 ∙ h.3), λ h. (h.0, omega (arith, h.1), omega (arith, h.2), sym (p h.0) ∙ h.3));
+          (λ h. (h.0, omega (arith, h.1), omega (arith, h.2), p h.0 ∙ h.3),
+              λ h. (h.0, omega (arith, h.1), omega (arith, h.2), sym (p h.0) ∙ h.3));
       fresh = λ r le. ap (λ u. get_or u r false) w.fresh;
       more = omega arith;
     }
 
-sets_shape : (n : ℕ) (old new : Remembered) → IsShape n old → SameSets old new → length new.steps ≡ length old.steps → length new.ends ≡ length old.ends
+sets_shape : (n : ℕ) (old new : Remembered) → IsShape n old → SameSets old new → length new.steps ≡ length old.steps
+    → length new.ends ≡ length old.ends
     → IsShape n new
 sets_shape n old new s w steps ends =
     let k = sets_keep old new w in
@@ -296,7 +318,8 @@ pub mark_keeps : (old new : Remembered) (i v : ℕ) → Marked old new i v → K
 mark_keeps old new i v w = sets_keep old new w.sets
 
 -- where a byte leads was written
-pub memory_marked : (m : Nfa) (old new : Remembered) (r b v : ℕ) → IsMemoryOf m old → Marked old new (256 * r + b) v → r ≤ old.count → b < 256
+pub memory_marked : (m : Nfa) (old new : Remembered) (r b v : ℕ) → IsMemoryOf m old → Marked old new (256 * r + b) v
+    → r ≤ old.count → b < 256
     → Told m old r b v → IsMemoryOf m new
 memory_marked m old new r b v is w le lt told =
     let k = sets_keep old new w.sets in
@@ -308,20 +331,23 @@ memory_marked m old new r b v is w le lt told =
     let other : (i : ℕ) → i ≢ 256 * r + b → slice_index new.steps i ≡ slice_index old.steps i =
     λ i ne. ap (λ u. slice_index u i) w.steps ∙ get_or-set_other old.steps (256 * r + b) i v 0 ne in
     moved m old new is
-    (sets_shape (length m.states) old new is.shape w.sets (ap length w.steps ∙ length-set old.steps (256 * r + b) v) (ap length w.ends)) k
+    (sets_shape (length m.states) old new is.shape w.sets (ap length w.steps ∙ length-set old.steps (256 * r + b) v)
+        (ap length w.ends)) k
     (λ r' b' le' lt'. elim (cases_eq (256 * r' + b') (256 * r + b)) [
       | inl same ↦
           let er : r ≡ r' = omega arith in
           let eb : b ≡ b' = omega arith in
           let moved_told = told_moves m old new r b v k le told in
           inr (subst (λ u. Told m new r' b' (slice_index new.steps u)) (sym same)
-          (subst (Told m new r' b') (sym here) (subst (λ u. Told m new r' u v) eb (subst (λ u. Told m new u b v) er moved_told))))
+          (subst (Told m new r' b') (sym here)
+              (subst (λ u. Told m new r' u v) eb (subst (λ u. Told m new u b v) er moved_told))))
       | inr differs ↦ inl (other (256 * r' + b') differs)
     ]) (λ i past. other i (omega arith)) (λ r' answer e. inl (sym (ap (λ u. get_or u r' None) w.ends) ∙ e))
     (λ none some. absurd (omega arith))
 
 -- the answer at a line's end was written
-pub memory_marked_end : (m : Nfa) (old new : Remembered) (r : ℕ) (answer : Bool) → IsMemoryOf m old → MarkedEnd old new r answer → r ≤ old.count
+pub memory_marked_end : (m : Nfa) (old new : Remembered) (r : ℕ) (answer : Bool) → IsMemoryOf m old
+    → MarkedEnd old new r answer → r ≤ old.count
     → AnswersEnd m false (In old r) answer → IsMemoryOf m new
 memory_marked_end m old new r answer is w le told =
     let k = sets_keep old new w.sets in
@@ -331,7 +357,8 @@ memory_marked_end m old new r answer is w le told =
     let here : ended new r ≡ Some answer =
     ap (λ u. get_or u r None) w.ends ∙ get_or-set_same old.ends r (Some answer) None (omega arith) in
     moved m old new is
-    (sets_shape (length m.states) old new is.shape w.sets (ap length w.steps) (ap length w.ends ∙ length-set old.ends r (Some answer))) k
+    (sets_shape (length m.states) old new is.shape w.sets (ap length w.steps)
+        (ap length w.ends ∙ length-set old.ends r (Some answer))) k
     (λ r' b' le' lt'. inl (ap (λ u. slice_index u (256 * r' + b')) w.steps))
     (λ i past. ap (λ u. slice_index u i) w.steps)
     (λ r' answer' e. elim (cases_eq r' r) [
@@ -341,9 +368,11 @@ memory_marked_end m old new r answer is w le told =
           inr (
             omega arith,
             subst (λ u. AnswersEnd m false (In new u) answer') (sym same)
-                (subst (AnswersEnd m false (In new r)) is_so (answers_same m false (In old r) (In new r) answer (k.sets r le) told)),
+                (subst (AnswersEnd m false (In new r)) is_so
+                    (answers_same m false (In old r) (In new r) answer (k.sets r le) told)),
           )
-      | inr differs ↦ inl (sym (ap (λ u. get_or u r' None) w.ends ∙ get_or-set_other old.ends r r' (Some answer) None differs) ∙ e)
+      | inr differs ↦ inl (sym (ap (λ u. get_or u r' None) w.ends
+          ∙ get_or-set_other old.ends r r' (Some answer) None differs) ∙ e)
     ]) (λ none some. absurd (omega arith))
   where
     same_some : (a c : Bool) → Some a ≡ Some c → a ≡ c
@@ -358,7 +387,8 @@ at_row t state r e le =
     let d = row_of state r e in
     record { row = omega arith; known = omega arith }
 
-pub in_table : (m : Nfa) (mem : Remembered) (state b : ℕ) → IsMemoryOf m mem → IsAtRow mem state → b < 256 → state + b < length mem.steps
+pub in_table : (m : Nfa) (mem : Remembered) (state b : ℕ) → IsMemoryOf m mem → IsAtRow mem state → b < 256
+    → state + b < length mem.steps
 in_table m mem state b is s lt = omega (arith, is.shape.steps_size, is.shape.few, s.row, s.known)
 
 -- one step of the walk
@@ -384,7 +414,8 @@ row_next m mem state v b is s lt read big =
     ]
 
 -- a remembered step, at a place of a line
-pub stands_step : (m : Nfa) (mem : Remembered) (l : List ℕ) (from p u state v b : ℕ) → u ≡ p + 1 → IsRunnable m → IsMemoryOf m mem → IsAtRow mem state → b < 256
+pub stands_step : (m : Nfa) (mem : Remembered) (l : List ℕ) (from p u state v b : ℕ) → u ≡ p + 1 → IsRunnable m
+    → IsMemoryOf m mem → IsAtRow mem state → b < 256
     → slice_get l p ≡ Some b → p < length l → from ≤ p + 1 → v ≡ slice_index mem.steps (state + b) → 256 ≤ v
     → StandsAt m mem l from p state → StandsAt m mem l from u v
 stands_step m mem l from p u state v b e is_m is s lt byte more later read big at =
@@ -399,7 +430,8 @@ pub record Walking (m : Nfa) (mem : Remembered) (l : List ℕ) (from state p v :
   pub row : IsAtRow mem v
   pub stands : (start : ℕ) → start ≤ from → StandsAt m mem l start from state → StandsAt m mem l start p v
 
-pub walking_next : (m : Nfa) (mem : Remembered) (l : List ℕ) (from state p u at v b : ℕ) → u ≡ p + 1 → IsRunnable m → IsMemoryOf m mem → b < 256
+pub walking_next : (m : Nfa) (mem : Remembered) (l : List ℕ) (from state p u at v b : ℕ) → u ≡ p + 1 → IsRunnable m
+    → IsMemoryOf m mem → b < 256
     → slice_get l p ≡ Some b → u < length l → v ≡ slice_index mem.steps (at + b) → 256 ≤ v
     → Walking m mem l from state p at → Walking m mem l from state u v
 walking_next m mem l from state p u at v b e is_m is lt byte more read big w =
@@ -409,7 +441,8 @@ walking_next m mem l from state p u at v b e is_m is lt byte more read big w =
       onward = omega arith;
       row = (row_next m mem at v b is w.row lt read big).0;
       stands = λ start le s.
-          stands_step m mem l start p u at v b e is_m is w.row lt byte (omega arith) (omega arith) read big (w.stands start le s);
+          stands_step m mem l start p u at v b e is_m is w.row lt byte (omega arith) (omega arith) read big
+              (w.stands start le s);
     }
 
 -- the same, as the table and the line are read
@@ -453,7 +486,8 @@ nones xs n e i = ap (λ v. get_or v i None) e ∙ at n i
     at (suc n) zero = refl
     at (suc n) (suc i) = at n i
 
-pub blank_table : (n : ℕ) (mem : Remembered) → length mem.steps ≡ 65792 → length mem.ends ≡ 257 → length mem.pool ≤ 1048576
+pub blank_table : (n : ℕ) (mem : Remembered) → length mem.steps ≡ 65792 → length mem.ends ≡ 257
+    → length mem.pool ≤ 1048576
     → length mem.cuts ≡ 258 → length mem.fresh ≡ 257 → mem.count ≡ 0 → ((i : ℕ) → slice_index mem.steps i ≡ 0)
     → ((r : ℕ) → ended mem r ≡ None) → cut mem 0 ≡ cut mem 1 → cut mem 1 ≤ length mem.pool → IsBlank n mem
 blank_table n mem a b c d f none s l same fits =
@@ -483,8 +517,10 @@ blank_table n mem a b c d f none s l same fits =
     }
 
 -- the steps and the answers of a table were cleared, and its sets taken out
-pub blank_again : (n i j : ℕ) (old new : Remembered) → IsShape n old → new.steps ≡ replicate i 0 → new.ends ≡ replicate j none
-    → length new.steps ≡ 65792 → length new.ends ≡ 257 → new.fresh ≡ old.fresh → new.pool ≡ old.pool → new.cuts ≡ old.cuts
+pub blank_again : (n i j : ℕ) (old new : Remembered) → IsShape n old → new.steps ≡ replicate i 0
+    → new.ends ≡ replicate j none
+    → length new.steps ≡ 65792 → length new.ends ≡ 257 → new.fresh ≡ old.fresh → new.pool ≡ old.pool
+        → new.cuts ≡ old.cuts
     → new.count ≡ 0 → IsBlank n new
 blank_again n i j old new s steps ends a b fresh pool cuts count =
     let upto = s.upto 1 (omega arith) in
@@ -492,7 +528,8 @@ blank_again n i j old new s steps ends a b fresh pool cuts count =
     let size = ap length pool in
     let zeroth : cut new 0 ≡ cut old 0 = ap (λ v. slice_index v 0) cuts in
     let first : cut new 1 ≡ cut old 1 = ap (λ v. slice_index v 1) cuts in
-    blank_table n new a b (omega (arith, s.pool_size)) (ap length cuts ∙ s.cuts_size) (ap length fresh ∙ s.fresh_size) count
+    blank_table n new a b (omega (arith, s.pool_size)) (ap length cuts ∙ s.cuts_size)
+        (ap length fresh ∙ s.fresh_size) count
     (zeros new.steps i steps) (nones new.ends j ends) (zeroth ∙ s.none ∙ sym first) (omega arith)
 
 pub blank_memory : (m : Nfa) (mem : Remembered) → IsBlank (length m.states) mem → IsMemoryOf m mem
@@ -516,8 +553,10 @@ pub hit_there : (m : Nfa) (b : ℕ) (S U : ℕ → Type 0) → Same S U → HitB
 hit_there m b S U s h = ((s 0).1 h.0, h.1)
 
 -- where the byte leads from row r of the table: to row k
-pub told_row : (m : Nfa) (old mid : Remembered) (r b k v : ℕ) (s u : Members) → v ≡ 256 * k → 1 ≤ k → k ≤ mid.count → r ≤ old.count
-    → Keeps old mid → Same (In old r) (Has s) → (HitBefore m b (Has s) → ⊥) → Goes m b (Has s) (Has u) → Same (Has u) (In mid k)
+pub told_row : (m : Nfa) (old mid : Remembered) (r b k v : ℕ) (s u : Members) → v ≡ 256 * k → 1 ≤ k → k ≤ mid.count
+    → r ≤ old.count
+    → Keeps old mid → Same (In old r) (Has s) → (HitBefore m b (Has s) → ⊥) → Goes m b (Has s) (Has u)
+        → Same (Has u) (In mid k)
     → (fresh_at mid k ≡ true → ReadsNone m b (Has s)) → Told m mid r b v
 told_row m old mid r b k v s u e ge le le_r keeps from missed goes to fresh =
     let back = same_on (Has s) (In old r) (In mid r) (same_back (In old r) (Has s) from) (keeps.sets r le_r) in
@@ -532,7 +571,8 @@ told_row m old mid r b k v s u e ge le le_r keeps from missed goes to fresh =
     ))
 
 pub learned_row : (m : Nfa) (old mid new : Remembered) (r b k v : ℕ) (s u : Members) → v ≡ 256 * k → k ≤ mid.count
-    → Keeps mid new → Same (In old r) (Has s) → (HitBefore m b (Has s) → ⊥) → Goes m b (Has s) (Has u) → Same (Has u) (In mid k)
+    → Keeps mid new → Same (In old r) (Has s) → (HitBefore m b (Has s) → ⊥) → Goes m b (Has s) (Has u)
+        → Same (Has u) (In mid k)
     → Learned m old new r b u (Row v)
 learned_row m old mid new r b k v s u e le keeps from missed goes to =
     let more = keeps.more in
@@ -544,7 +584,8 @@ learned_row m old mid new r b k v s u e le keeps from missed goes to =
       there_too,
     )
 
-pub learned_lost : (m : Nfa) (old new : Remembered) (r b : ℕ) (s u : Members) → Same (In old r) (Has s) → (HitBefore m b (Has s) → ⊥)
+pub learned_lost : (m : Nfa) (old new : Remembered) (r b : ℕ) (s u : Members) → Same (In old r) (Has s)
+    → (HitBefore m b (Has s) → ⊥)
     → Goes m b (Has s) (Has u) → Learned m old new r b u Lost
 learned_lost m old new r b s u from missed goes = (
   λ h. missed (hit_same m b (In old r) (Has s) from h),
@@ -562,15 +603,20 @@ told_hit m mem state v b is s lt read one =
       | inr rest ↦ elim rest [ inl hit ↦ hit.1 | inr go ↦ absurd (omega (arith, go.1, go.2)) ]
     ]
 
-pub ended_so : (m : Nfa) (l : List ℕ) (from : ℕ) (S : ℕ → Type 0) (answer first : Bool) → IsRunnable m → Stands m l from (length l) S
-    → (IsTrue first → length l ≡ 0) → (length l ≡ 0 → IsTrue first) → AnswersEnd m first S answer → IsTrue answer ↔ HasRun m l from
+pub ended_so : (m : Nfa) (l : List ℕ) (from : ℕ) (S : ℕ → Type 0) (answer first : Bool) → IsRunnable m
+    → Stands m l from (length l) S
+    → (IsTrue first → length l ≡ 0) → (length l ≡ 0 → IsTrue first) → AnswersEnd m first S answer
+        → IsTrue answer ↔ HasRun m l from
 ended_so m l from S true first is s to_empty empty h = (λ t. run_at_end m l first from S s is to_empty h, λ run. refl)
-ended_so m l from S false first is s to_empty empty h = (λ t. absurd (true≢false (sym t)), λ run. absurd (no_run m l first from S s empty h run))
+ended_so m l from S false first is s to_empty empty h =
+    (λ t. absurd (true≢false (sym t)), λ run. absurd (no_run m l first from S s empty h run))
 
 pub finishes_hit : (m : Nfa) (b : ℕ) (S : ℕ → Type 0) → IsRunnable m → HitBefore m b S → Finishes m b S true
-finishes_hit m b S is h = λ l from p s byte end le. (λ t. run_before m l from p b S s is byte (omega arith) h, λ run. refl)
+finishes_hit m b S is h = λ l from p s byte end le.
+    (λ t. run_before m l from p b S s is byte (omega arith) h, λ run. refl)
 
-pub finishes_end : (m : Nfa) (b : ℕ) (S U : ℕ → Type 0) (answer : Bool) → IsRunnable m → (HitBefore m b S → ⊥) → Goes m b S U
+pub finishes_end : (m : Nfa) (b : ℕ) (S U : ℕ → Type 0) (answer : Bool) → IsRunnable m → (HitBefore m b S → ⊥)
+    → Goes m b S U
     → AnswersEnd m false U answer → Finishes m b S answer
 finishes_end m b S U answer is missed goes at_end = λ l from p s byte end le.
     let next = stands_next m l from p b S U byte (omega arith) s goes (omega arith) is missed in
@@ -578,8 +624,10 @@ finishes_end m b S U answer is missed goes at_end = λ l from p s byte end le.
     ended_so m l from U answer false is last (λ f. absurd (true≢false (sym f))) (λ z. absurd (omega arith)) at_end
 
 -- what a row's answer at a line's end says of the row before it
-pub finishes_if : (m : Nfa) (mem : Remembered) (b : ℕ) (S : ℕ → Type 0) (k : ℕ) (o : Option Bool) → IsRunnable m → IsMemoryOf m mem
-    → (HitBefore m b S → ⊥) → Goes m b S (In mem k) × (fresh_at mem k ≡ true → ReadsNone m b S) → o ≡ ended mem k → IfSome o (Finishes m b S)
+pub finishes_if : (m : Nfa) (mem : Remembered) (b : ℕ) (S : ℕ → Type 0) (k : ℕ) (o : Option Bool) → IsRunnable m
+    → IsMemoryOf m mem
+    → (HitBefore m b S → ⊥) → Goes m b S (In mem k) × (fresh_at mem k ≡ true → ReadsNone m b S) → o ≡ ended mem k
+        → IfSome o (Finishes m b S)
 finishes_if m mem b S k None is mem_of missed goes e = tt
 finishes_if m mem b S k (Some answer) is mem_of missed goes e =
     finishes_end m b S (In mem k) answer is missed goes.0 (mem_of.told_end k answer (sym e)).1

@@ -1,5 +1,6 @@
 -- What a table that implements a tree does: its runs are the tree's matches, in both directions.
-use Rattle.std.proofs.Common.{◌≡◌, ◌≢◌, ℕ, zero, suc, ◌+◌, ◌-◌, ◌≤◌, inl, inr, List, Option, Some, None, refl, sym, ap, ◌∙◌, subst, arith}
+use Rattle.std.proofs.Common.{◌≡◌, ◌≢◌, ℕ, zero, suc, ◌+◌, ◌-◌, ◌≤◌, inl, inr, List, Option, Some, None, refl, sym, ap}
+use Rattle.std.proofs.Common.{◌∙◌, subst, arith}
 use Rattle.std.specs.Prelude.{slice_get, IfSome}
 use Rattle.pg_match.specs.Matches.{Chain, Match}
 use Rattle.pg_syntax.specs.Patterns.{IsProper, Pattern, Empty, Set, Begin, End, Cat, Alt, Rep}
@@ -48,7 +49,8 @@ module _ (t : List State) (l : List ℕ) where
       → (r : ℕ) × (k : ℕ) × Edge (Some s) l i r k × Runs t l n r k j
   on_state q n i j s is run = (run.0, run.1, subst (λ o. Edge o l i run.0 run.1) is run.2, run.3)
 
-  pub by_edge : (q n i j r k : ℕ) (s : State) → slice_get t q ≡ Some s → Edge (Some s) l i r k → Runs t l n r k j → Runs t l (suc n) q i j
+  pub by_edge : (q n i j r k : ℕ) (s : State) → slice_get t q ≡ Some s → Edge (Some s) l i r k → Runs t l n r k j
+      → Runs t l (suc n) q i j
   by_edge q n i j r k s is edge run = (r, k, subst (λ o. Edge o l i r k) (sym is) edge, run)
 
   pub not_over : (q i j : ℕ) (s : State) → s ≢ Accept → slice_get t q ≡ Some s → Runs t l zero q i j → ⊥
@@ -82,20 +84,23 @@ module _ (t : List State) (l : List ℕ) where
 
   optional_sound : (R M : ℕ → ℕ → Type 0) → Sound R M → (c : ℕ)
       → Sound (Optional t R c) (λ i k. (d : ℕ) × (d ≤ c) × Chain M d i k)
-  optional_sound R M s zero e x n i j h run = (i, n, omega arith, (0, omega arith, refl), subst (λ q. Runs t l n q i j) h run)
+  optional_sound R M s zero e x n i j h run =
+      (i, n, omega arith, (0, omega arith, refl), subst (λ q. Runs t l n q i j) h run)
   optional_sound R M s (suc c) e x zero i j h run = absurd (not_over e i j (Split h.0 x) (λ w. cc) h.2 run)
   optional_sound R M s (suc c) e x (suc n) i j h run =
       let a = on_state e n i j (Split h.0 x) h.2 run in
       elim a.2.0 [
         | inl first ↦
-            let run1 : Runs t l n h.0 i j = subst (λ q. Runs t l n q i j) first (subst (λ v. Runs t l n a.0 v j) a.2.1 a.3) in
+            let run1 : Runs t l n h.0 i j =
+                subst (λ q. Runs t l n q i j) first (subst (λ v. Runs t l n a.0 v j) a.2.1 a.3) in
             let b = s h.0 h.1 n i j h.3 run1 in
             let d = optional_sound R M s c h.1 x b.1 b.0 j h.4 b.4 in
             let le : d.1 ≤ suc n = omega (arith, b.2, d.2) in
             let few : suc d.3.0 ≤ suc c = omega (arith, d.3.1) in
             (d.0, d.1, le, (suc d.3.0, few, (b.0, b.3, d.3.2)), d.4)
         | inr second ↦
-            let run1 : Runs t l n x i j = subst (λ q. Runs t l n q i j) second (subst (λ v. Runs t l n a.0 v j) a.2.1 a.3) in
+            let run1 : Runs t l n x i j =
+                subst (λ q. Runs t l n q i j) second (subst (λ v. Runs t l n a.0 v j) a.2.1 a.3) in
             (i, n, omega arith, (0, omega arith, refl), run1)
       ]
 
@@ -121,14 +126,16 @@ module _ (t : List State) (l : List ℕ) where
       let a = on_state e n i j (Split h.0 x) h.1 run in
       elim a.2.0 [
         | inl first ↦
-            let run1 : Runs t l n h.0 i j = subst (λ q. Runs t l n q i j) first (subst (λ v. Runs t l n a.0 v j) a.2.1 a.3) in
+            let run1 : Runs t l n h.0 i j =
+                subst (λ q. Runs t l n q i j) first (subst (λ v. Runs t l n a.0 v j) a.2.1 a.3) in
             let b = s h.0 e n i j h.2 run1 in
             let le1 : b.1 ≤ fuel = omega (arith, b.2) in
             let d = loop_sound R M s fuel b.1 e x b.0 j le1 h b.4 in
             let le2 : d.1 ≤ suc n = omega (arith, b.2, d.2) in
             (d.0, d.1, le2, (suc d.3.0, (b.0, b.3, d.3.1)), d.4)
         | inr second ↦
-            let run1 : Runs t l n x i j = subst (λ q. Runs t l n q i j) second (subst (λ v. Runs t l n a.0 v j) a.2.1 a.3) in
+            let run1 : Runs t l n x i j =
+                subst (λ q. Runs t l n q i j) second (subst (λ v. Runs t l n a.0 v j) a.2.1 a.3) in
             (i, n, omega arith, (0, refl), run1)
       ]
 
@@ -162,7 +169,8 @@ module _ (t : List State) (l : List ℕ) where
   tree_sound Empty proper e x n i j h run =
       one_sound (Jump x) (Match Empty l) e x n i j (λ w. cc) (λ r k g. (sym g.1, g.0)) h run
   tree_sound (Set s) proper e x n i j h run =
-      one_sound (Read h.0 x) (Match (Set s) l) e x n i j (λ w. cc) (λ r k g. ((g.0, g.1, ap (λ v. v g.0) (sym h.1) ∙ g.2, g.4), g.3)) h.2 run
+      one_sound (Read h.0 x) (Match (Set s) l) e x n i j (λ w. cc)
+          (λ r k g. ((g.0, g.1, ap (λ v. v g.0) (sym h.1) ∙ g.2, g.4), g.3)) h.2 run
   tree_sound Begin proper e x n i j h run =
       one_sound (AtBegin x) (Match Begin l) e x n i j (λ w. cc) (λ r k g. ((g.0, g.2), g.1)) h run
   tree_sound End proper e x n i j h run =
@@ -177,12 +185,14 @@ module _ (t : List State) (l : List ℕ) where
       let u = on_state e n i j (Split h.0 h.1) h.2 run in
       elim u.2.0 [
         | inl first ↦
-            let run1 : Runs t l n h.0 i j = subst (λ s. Runs t l n s i j) first (subst (λ v. Runs t l n u.0 v j) u.2.1 u.3) in
+            let run1 : Runs t l n h.0 i j =
+                subst (λ s. Runs t l n s i j) first (subst (λ v. Runs t l n u.0 v j) u.2.1 u.3) in
             let v = tree_sound a proper.0 h.0 x n i j h.3 run1 in
             let le : v.1 ≤ suc n = omega (arith, v.2) in
             (v.0, v.1, le, inl v.3, v.4)
         | inr second ↦
-            let run1 : Runs t l n h.1 i j = subst (λ s. Runs t l n s i j) second (subst (λ v. Runs t l n u.0 v j) u.2.1 u.3) in
+            let run1 : Runs t l n h.1 i j =
+                subst (λ s. Runs t l n s i j) second (subst (λ v. Runs t l n u.0 v j) u.2.1 u.3) in
             let v = tree_sound b proper.1 h.1 x n i j h.4 run1 in
             let le : v.1 ≤ suc n = omega (arith, v.2) in
             (v.0, v.1, le, inr v.3, v.4)
@@ -215,5 +225,6 @@ module _ (t : List State) (l : List ℕ) where
       let split : m + (s.0 - m) ≡ s.0 = omega (arith, s.1) in
       let parts = chain_split (Match r l) m (s.0 - m) i k (subst (λ c. Chain (Match r l) c i k) (sym split) s.3) in
       let few : AtMost b (m + (s.0 - m)) = subst (λ c. AtMost b c) (sym split) s.2 in
-      let v = rest_complete (Implements t r) (Match r l) (tree_complete r) m b (s.0 - m) h.0 x parts.0 k n j few h.2 parts.2 run in
+      let v = rest_complete (Implements t r) (Match r l) (tree_complete r) m b
+          (s.0 - m) h.0 x parts.0 k n j few h.2 parts.2 run in
       chain_complete (Implements t r) (Match r l) (tree_complete r) m e h.0 i parts.0 v.0 j h.1 parts.1 v.1

@@ -6,7 +6,8 @@ use Rattle.pg_syntax.specs.Patterns as P
 use Rattle.pg_syntax.specs.Trees.{pattern, node}
 use Rattle.pg_syntax.specs.declared.tree.Tree.{Tree}
 use Rattle.pg_syntax.specs.declared.tree.Tree.TheVariants as T
-use Rattle.pg_syntax.specs.declared.tree.Tree.TheVariants.{rolls-Empty, rolls-Set, rolls-Begin, rolls-End, rolls-Cat, rolls-Alt, rolls-Rep}
+use Rattle.pg_syntax.specs.declared.tree.Tree.TheVariants.{rolls-Empty, rolls-Set, rolls-Begin, rolls-End, rolls-Cat}
+use Rattle.pg_syntax.specs.declared.tree.Tree.TheVariants.{rolls-Alt, rolls-Rep}
 use Rattle.pg_syntax.specs.declared.tree.Tree.TheOpen.{Tree-F}
 use Rattle.pg_syntax.specs.declared.tree.Tree.TheFolds.{fold-roll-Tree}
 
@@ -29,5 +30,7 @@ module _ {A : Type 0} (tree : Tree A) where
   pub pattern-alt : (a b : _) → tree ≡ T.Alt a b → pattern tree ≡ P.Alt (pattern a.value) (pattern b.value)
   pattern-alt a b is = ap pattern (is ∙ sym (rolls-Alt a b)) ∙ fold-roll-Tree A P.Pattern node (Tree-F.Alt a b)
 
-  pub pattern-rep : (a : _) (least : ℕ) (most : Option ℕ) → tree ≡ T.Rep a least most → pattern tree ≡ P.Rep (pattern a.value) least most
-  pattern-rep a least most is = ap pattern (is ∙ sym (rolls-Rep a least most)) ∙ fold-roll-Tree A P.Pattern node (Tree-F.Rep a least most)
+  pub pattern-rep : (a : _) (least : ℕ) (most : Option ℕ) → tree ≡ T.Rep a least most
+      → pattern tree ≡ P.Rep (pattern a.value) least most
+  pattern-rep a least most is = ap pattern (is ∙ sym (rolls-Rep a least most))
+      ∙ fold-roll-Tree A P.Pattern node (Tree-F.Rep a least most)

@@ -36,7 +36,8 @@ module _ (t : List State) (l : List ℕ) where
       elim (edge_moves (slice_get t q) l i run.0 run.1 run.2) [ inl stays ↦ omega arith | inr moves ↦ omega arith ]
 
   -- a run that goes past p goes through the set of the next position
-  crosses : (p limit : ℕ) (now next : Members) → IsClosed t l p now → Stepped t l p now next limit → (m q j : ℕ) → 0 < mark now q
+  crosses : (p limit : ℕ) (now next : Members) → IsClosed t l p now → Stepped t l p now next limit → (m q j : ℕ)
+      → 0 < mark now q
       → mark now q ≤ limit → Runs t l m q p j → p + 1 ≤ j
       → (r : ℕ) × (n : ℕ) × (0 < mark next r) × (mark next r ≤ mark now q) × Runs t l n r (p + 1) j
   crosses p limit now next closed step zero q j h early run past = absurd (omega (arith, run.1))
@@ -44,7 +45,8 @@ module _ (t : List State) (l : List ℕ) where
       elim (edge_moves (slice_get t q) l p run.0 run.1 run.2) [
         | inl stays ↦
             let c = closed q h run.0 (subst (λ v. Edge (slice_get t q) l p run.0 v) stays run.2) in
-            let again = crosses p limit now next closed step m run.0 j c.0 (omega (arith, c.1)) (subst (λ v. Runs t l m run.0 v j) stays run.3) past in
+            let again = crosses p limit now next closed step m run.0 j c.0 (omega (arith, c.1))
+                (subst (λ v. Runs t l m run.0 v j) stays run.3) past in
             (again.0, again.1, again.2, omega (arith, again.3, c.1), again.4)
         | inr moves ↦
             let g = step.goes q run.0 h early (subst (λ v. Edge (slice_get t q) l p run.0 v) moves run.2) in
@@ -78,7 +80,8 @@ module _ (t : List State) (l : List ℕ) where
       complete = λ s n j ge lt. absurd (omega arith);
     }
 
-    pub alive_seeded : (p : ℕ) (now new : Members) (wanted : Bool) (best : Option (ℕ × ℕ)) → Alive t l x B from p p now best
+    pub alive_seeded : (p : ℕ) (now new : Members) (wanted : Bool) (best : Option (ℕ × ℕ))
+        → Alive t l x B from p p now best
         → Seeded t l x B p wanted now new → from ≤ p → (wanted ≡ false → Early best p → ⊥)
         → Alive t l x B from (p + 1) p new best
     alive_seeded p now new wanted best a s p_in late = record {
@@ -116,7 +119,8 @@ module _ (t : List State) (l : List ℕ) where
       complete = λ s n j ge lt begins early run past. a.complete s n j ge lt begins (mono s early) run past;
     }
 
-    pub alive_stepped : (p limit : ℕ) (now next : Members) (best : Option (ℕ × ℕ)) → Alive t l x B from (p + 1) p now best
+    pub alive_stepped : (p limit : ℕ) (now next : Members) (best : Option (ℕ × ℕ))
+        → Alive t l x B from (p + 1) p now best
         → Stepped t l p now next limit → ((s : ℕ) → s ≤ p → Early best s → s + 1 ≤ limit)
         → Alive t l x B from (p + 1) (p + 1) next best
     alive_stepped p limit now next best a step wide = record {
@@ -226,29 +230,34 @@ module _ (t : List State) (l : List ℕ) where
 
     pub best_judged : (p start : ℕ) (best : Option (ℕ × ℕ)) → IsBest t l x B E from p best → Found p start best
         → IsBest t l x B E from (p + 1) (judged p start best)
-    best_judged p zero best b f = still_best p best b (λ s ge lt early run. let z = f.least s ge (omega arith) early run in omega (arith, z.0))
+    best_judged p zero best b f = still_best p best b
+        (λ s ge lt early run. let z = f.least s ge (omega arith) early run in omega (arith, z.0))
     best_judged p (suc s) best b f = go (nat_lt s p) refl
       where
         r : (from ≤ s) × RunsFrom t l x B E s p
         r = f.run s (omega arith)
 
-        win : (best : Option (ℕ × ℕ)) → IsBest t l x B E from p best → Found p (suc s) best → s < p → IsBest t l x B E from (p + 1) (winner p s best)
+        win : (best : Option (ℕ × ℕ)) → IsBest t l x B E from p best → Found p (suc s) best → s < p
+            → IsBest t l x B E from (p + 1) (winner p s best)
         win None b f lt = new_best p s None b (f.run s (omega arith)).0 lt tt (f.run s (omega arith)).1
             (λ v ge le early run. let z = f.least v ge le early run in omega (arith, z.1))
         win (Some c) b f lt = choose (nat_le s c.0) refl
           where
             choose : (w : Bool) → nat_le s c.0 ≡ w → IsBest t l x B E from (p + 1) (cond w (Some (s, p)) (Some c))
-            choose true e = new_best p s (Some c) b (f.run s (omega arith)).0 lt (leb-true s c.0 e) (f.run s (omega arith)).1
+            choose true e = new_best p s (Some c) b (f.run s (omega arith)).0 lt (leb-true s c.0 e)
+                (f.run s (omega arith)).1
                 (λ v ge le early run. let z = f.least v ge le early run in omega (arith, z.1))
             choose false e =
                 let later = leb-false s c.0 e in
-                still_best p (Some c) b (λ v ge less early run. let z = f.least v ge (omega arith) early run in omega (arith, z.1))
+                still_best p (Some c) b (λ v ge less early run. let z =
+                    f.least v ge (omega arith) early run in omega (arith, z.1))
 
         go : (w : Bool) → nat_lt s p ≡ w → IsBest t l x B E from (p + 1) (cond w (winner p s best) best)
         go true e = win best b f (ltb-true s p e)
         go false e =
             let past = ltb-false s p e in
-            still_best p best b (λ v ge less early run. let z = f.least v ge (omega arith) early run in omega (arith, z.1))
+            still_best p best b (λ v ge less early run. let z =
+                f.least v ge (omega arith) early run in omega (arith, z.1))
 
     -- a run ends where it is, once matches end at its state
     stays : (m q i j : ℕ) → slice_get t q ≡ Some Accept → Runs t l m q i j → i ≡ j
@@ -285,7 +294,8 @@ found_here m l from p now best is a = go (may_end m.bounds l p) refl
     go : (w : Bool) → may_end m.bounds l p ≡ w
         → Found m.states l m.start (MayBegin m.bounds l) (MayEnd m.bounds l) from p (cond w (mark now 0) 0) best
     go true e = record {
-      run = λ s here. let r = run_here m.states l m.start (MayBegin m.bounds l) (MayEnd m.bounds l) from p now best a is.accept s here in
+      run = λ s here. let r = run_here m.states l m.start (MayBegin m.bounds l)
+          (MayEnd m.bounds l) from p now best a is.accept s here in
           (r.0, (r.1, (end_decided m.bounds l p).0 e, r.2));
       least = λ s ge lt early run. none_earlier m.states l m.start (MayBegin m.bounds l) (MayEnd m.bounds l) from p
           now best
@@ -350,9 +360,11 @@ wide t l x B E from p (Some c) short s le early = omega arith
 pub searched : (m : Nfa) (l : List ℕ) (from p : ℕ) (s u : Buffers) (best : Option (ℕ × ℕ)) → p < 2 ^ 31
     → Alive m.states l m.start (MayBegin m.bounds l) from (p + 1) p s.current best
     → IsBest m.states l m.start (MayBegin m.bounds l) (MayEnd m.bounds l) from (p + 1) best
-    → Stepped m.states l p s.current u.current (limit_of best) → HaveRoom u (length m.states) → Searching m l from (p + 1) u best
+    → Stepped m.states l p s.current u.current (limit_of best) → HaveRoom u (length m.states)
+        → Searching m l from (p + 1) u best
 searched m l from p s u best short a b step fits = record {
-  alive = alive_stepped m.states l m.start (MayBegin m.bounds l) (MayEnd m.bounds l) from p (limit_of best) s.current u.current best a step
+  alive = alive_stepped m.states l m.start (MayBegin m.bounds l) (MayEnd m.bounds l) from p
+      (limit_of best) s.current u.current best a step
       (wide m.states l m.start (MayBegin m.bounds l) (MayEnd m.bounds l) from p best short);
   next = fits.next;
   next_size = fits.next_size;
@@ -371,7 +383,8 @@ search_over m l from p now (Some c) is a b last le some =
     (omega arith)
 
 module _ (m : Nfa) (trees : List Pattern) (l : List ℕ) (a : Agrees m trees) where
-  hit_runs : (i j : ℕ) → Hit trees m.bounds l i j → RunsFrom m.states l m.start (MayBegin m.bounds l) (MayEnd m.bounds l) i j
+  hit_runs : (i j : ℕ) → Hit trees m.bounds l i j
+      → RunsFrom m.states l m.start (MayBegin m.bounds l) (MayEnd m.bounds l) i j
   hit_runs i j h = (h.begins, h.ends, (a.complete l i j h.matched).1)
 
   run_hits : (i j : ℕ) → i ≤ j → j ≤ length l → (i < j) ⊎ IsTrue m.some

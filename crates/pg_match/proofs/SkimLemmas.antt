@@ -1,5 +1,6 @@
 -- What remembered rows tell of the hits from a place on.
-use Rattle.std.proofs.Common.{◌≡◌, ◌≢◌, ◌∙◌, ℕ, zero, suc, ◌+◌, ◌-◌, ◌/◌, ◌<◌, ◌≤◌, inl, inr, List, length, Bool, true, false, Option, Some, None}
+use Rattle.std.proofs.Common.{◌≡◌, ◌≢◌, ◌∙◌, ℕ, zero, suc, ◌+◌, ◌-◌, ◌/◌, ◌<◌, ◌≤◌, inl, inr, List, length, Bool, true}
+use Rattle.std.proofs.Common.{false, Option, Some, None}
 use Rattle.std.proofs.Common.{refl, sym, subst, arith, get_or}
 use Rattle.std.specs.Prelude.{slice_index, slice_get}
 use Rattle.std.proofs.lemmas.Bool.{cases_lt}
@@ -25,10 +26,12 @@ no_cross m l p b S is closed none zero q j h run past = omega (arith, run.1)
 no_cross m l p b S is closed none (suc k) q j h run past =
     elim (edge_moves (slice_get m.states q) l p run.0 run.1 run.2) [
       | inl stays ↦
-          no_cross m l p b S is closed none k run.0 j (closed q run.0 h (subst (λ v. Edge (slice_get m.states q) l p run.0 v) stays run.2))
+          no_cross m l p b S is closed none k run.0 j
+              (closed q run.0 h (subst (λ v. Edge (slice_get m.states q) l p run.0 v) stays run.2))
           (subst (λ v. Runs m.states l k run.0 v j) stays run.3) past
       | inr moves ↦
-          none q run.0 h (edge_reads (slice_get m.states q) l p b run.0 is (subst (λ v. Edge (slice_get m.states q) l p run.0 v) moves run.2))
+          none q run.0 h (edge_reads (slice_get m.states q) l p b run.0 is
+              (subst (λ v. Edge (slice_get m.states q) l p run.0 v) moves run.2))
     ]
 
 -- where no state reads the byte, nothing that began before it is left
@@ -42,7 +45,8 @@ none_left m l from p b S U is lt s u none i j ge early le within run = elim (cas
 ]
 
 -- nothing has begun
-stands_none : (m : Nfa) (l : List ℕ) (from p : ℕ) (S : ℕ → Type 0) → p < from → ((q : ℕ) → S q → ⊥) → Stands m l from p S
+stands_none : (m : Nfa) (l : List ℕ) (from p : ℕ) (S : ℕ → Type 0) → p < from → ((q : ℕ) → S q → ⊥)
+    → Stands m l from p S
 stands_none m l from p S early empty = record {
   sound = λ q h. absurd (empty q h);
   complete = λ s n j ge le. absurd (omega arith);
@@ -50,7 +54,8 @@ stands_none m l from p S early empty = record {
   none = λ i j ge le lt. absurd (omega arith);
 }
 
-pub skim_first : (m : Nfa) (mem : Remembered) (l : List ℕ) (p : ℕ) → IsMemoryOf m mem → 1 ≤ mem.count → 1 ≤ length l → p ≡ 0
+pub skim_first : (m : Nfa) (mem : Remembered) (l : List ℕ) (p : ℕ) → IsMemoryOf m mem → 1 ≤ mem.count → 1 ≤ length l
+    → p ≡ 0
     → HasSkimmed m mem l 0 p 256 0
 skim_first m mem l p is some bytes e = record {
   within = omega arith;
@@ -62,7 +67,8 @@ skim_first m mem l p is some bytes e = record {
   none = λ i j ge lt. absurd (omega arith);
 }
 
-pub skim_later : (m : Nfa) (mem : Remembered) (l : List ℕ) (from p : ℕ) → IsMemoryOf m mem → from ≢ 0 → from ≤ length l → p ≡ from - 1
+pub skim_later : (m : Nfa) (mem : Remembered) (l : List ℕ) (from p : ℕ) → IsMemoryOf m mem → from ≢ 0 → from ≤ length l
+    → p ≡ from - 1
     → HasSkimmed m mem l from p 0 from
 skim_later m mem l from p is some within e = record {
   within = omega arith;
@@ -74,15 +80,18 @@ skim_later m mem l from p is some within e = record {
   none = λ i j ge lt. absurd (omega arith);
 }
 
-module _ (m : Nfa) (mem : Remembered) (l : List ℕ) (from p at start v b : ℕ) (is_m : IsRunnable m) (is : IsMemoryOf m mem) (lt : b < 256)
-    (byte : slice_get l p ≡ Some b) (more : p + 1 < length l) (read : v ≡ slice_index mem.steps (at + b)) (big : 256 ≤ v)
+module _ (m : Nfa) (mem : Remembered) (l : List ℕ) (from p at start v b : ℕ) (is_m : IsRunnable m)
+    (is : IsMemoryOf m mem) (lt : b < 256)
+    (byte : slice_get l p ≡ Some b) (more : p + 1 < length l) (read : v ≡ slice_index mem.steps (at + b))
+        (big : 256 ≤ v)
     (s : HasSkimmed m mem l from p at start) where
   told : IsAtRow mem v × (HitBefore m b (In mem (at / 256)) → ⊥) × Goes m b (In mem (at / 256)) (In mem (v / 256))
       × (fresh_at mem (v / 256) ≡ true → ReadsNone m b (In mem (at / 256)))
   told = row_next m mem at v b is s.row lt read big
 
   next : StandsAt m mem l from (p + 1) v
-  next = stands_next m l from p b (In mem (at / 256)) (In mem (v / 256)) byte (omega arith) s.stands told.2 s.near is_m told.1
+  next = stands_next m l from p b (In mem (at / 256)) (In mem (v / 256)) byte
+      (omega arith) s.stands told.2 s.near is_m told.1
 
   pub skim_on : HasSkimmed m mem l from (p + 1) v start
   skim_on = record {
@@ -107,7 +116,8 @@ module _ (m : Nfa) (mem : Remembered) (l : List ℕ) (from p at start v b : ℕ)
   }
 
 -- the same, as the table and the line are read
-pub skim_read : (m : Nfa) (mem : Remembered) (l : List ℕ) (from p u at start v : ℕ) → u ≡ p + 1 → IsRunnable m → IsMemoryOf m mem
+pub skim_read : (m : Nfa) (mem : Remembered) (l : List ℕ) (from p u at start v : ℕ) → u ≡ p + 1 → IsRunnable m
+    → IsMemoryOf m mem
     → get_or l p 0 < 256 → u < length l → v ≡ get_or mem.steps (at + get_or l p 0) v → 256 ≤ v
     → HasSkimmed m mem l from p at start → HasSkimmed m mem l from u v start
 skim_read m mem l from p u at start v e is_m is lt more read big s =
@@ -117,8 +127,10 @@ skim_read m mem l from p u at start v e is_m is lt more read big s =
     (skim_on m mem l from p at start v b is_m is lt (slice_get-get_or l p 0 s.within) (omega arith)
     (get_or_read mem.steps _ v inside read 0) big s)
 
-pub skim_read_fresh : (m : Nfa) (mem : Remembered) (l : List ℕ) (from p u at start v : ℕ) (f : Bool) → u ≡ p + 1 → IsRunnable m → IsMemoryOf m mem
-    → get_or l p 0 < 256 → u < length l → v ≡ get_or mem.steps (at + get_or l p 0) v → 256 ≤ v → f ≡ get_or mem.fresh (v / 256) f → f ≡ true
+pub skim_read_fresh : (m : Nfa) (mem : Remembered) (l : List ℕ) (from p u at start v : ℕ) (f : Bool) → u ≡ p + 1
+    → IsRunnable m → IsMemoryOf m mem
+    → get_or l p 0 < 256 → u < length l → v ≡ get_or mem.steps (at + get_or l p 0) v → 256 ≤ v
+        → f ≡ get_or mem.fresh (v / 256) f → f ≡ true
     → HasSkimmed m mem l from p at start → HasSkimmed m mem l from u v u
 skim_read_fresh m mem l from p u at start v f e is_m is lt more read big fresh is_fresh s =
     let b = get_or l p 0 in
@@ -127,7 +139,8 @@ skim_read_fresh m mem l from p u at start v f e is_m is lt more read big fresh i
     let in_fresh : v / 256 < length mem.fresh = omega (arith, on.row.known, is.shape.few, is.shape.fresh_size) in
     subst (λ w. HasSkimmed m mem l from w v w) (sym e)
     (skim_fresh m mem l from p at start v b is_m is lt (slice_get-get_or l p 0 s.within) (omega arith)
-    (get_or_read mem.steps _ v inside read 0) big s (sym (get_or_read mem.fresh (v / 256) f in_fresh fresh false) ∙ is_fresh))
+    (get_or_read mem.steps _ v inside read 0) big s
+        (sym (get_or_read mem.fresh (v / 256) f in_fresh fresh false) ∙ is_fresh))
 
 pub in_fresh : (m : Nfa) (mem : Remembered) (v : ℕ) → IsMemoryOf m mem → IsAtRow mem v → v / 256 < length mem.fresh
 in_fresh m mem v is row = omega (arith, row.known, is.shape.few, is.shape.fresh_size)
@@ -138,24 +151,30 @@ accepted t l zero i j is run = run.1
 accepted t l (suc n) i j is run = absurd (subst (λ o. Edge o l i run.0 run.1) is run.2)
 
 -- where each seed that reads the byte ends a match behind it, each run from the start does
-one_byte : (t : List State) (l : List ℕ) (x i b : ℕ) (seeds : List ℕ) → AreSeeds t x seeds → slice_get l i ≡ Some b → i ≢ 0 → i < length l
-    → slice_get t 0 ≡ Some Accept → ((k r : ℕ) → k < length seeds → Reads (slice_get t (slice_index seeds k)) b r → r ≡ 0)
+one_byte : (t : List State) (l : List ℕ) (x i b : ℕ) (seeds : List ℕ) → AreSeeds t x seeds → slice_get l i ≡ Some b
+    → i ≢ 0 → i < length l
+    → slice_get t 0 ≡ Some Accept → ((k r : ℕ) → k < length seeds → Reads (slice_get t (slice_index seeds k)) b r
+        → r ≡ 0)
     → (n k j : ℕ) → k < length seeds → Runs t l n (slice_index seeds k) i j → i < j → j ≡ i + 1
 one_byte t l x i b seeds are is some lt accept all zero k j inside run past = absurd (omega (arith, run.1))
 one_byte t l x i b seeds are is some lt accept all (suc n) k j inside run past =
     let q = slice_index seeds k in
     elim (edge_moves (slice_get t q) l i run.0 run.1 run.2) [
       | inl stays ↦
-          let s = are.closed l i some (omega arith) k run.0 inside (subst (λ v. Edge (slice_get t q) l i run.0 v) stays run.2) in
+          let s = are.closed l i some (omega arith) k run.0 inside
+              (subst (λ v. Edge (slice_get t q) l i run.0 v) stays run.2) in
           one_byte t l x i b seeds are is some lt accept all n s.0 j s.1
           (subst (λ r. Runs t l n r i j) (sym s.2) (subst (λ v. Runs t l n run.0 v j) stays run.3)) past
       | inr moves ↦
-          let zero_r = all k run.0 inside (edge_reads (slice_get t q) l i b run.0 is (subst (λ v. Edge (slice_get t q) l i run.0 v) moves run.2)) in
-          sym (accepted t l n (i + 1) j accept (subst (λ r. Runs t l n r (i + 1) j) zero_r (subst (λ v. Runs t l n run.0 v j) moves run.3)))
+          let zero_r = all k run.0 inside
+              (edge_reads (slice_get t q) l i b run.0 is (subst (λ v. Edge (slice_get t q) l i run.0 v) moves run.2)) in
+          sym (accepted t l n (i + 1) j accept
+              (subst (λ r. Runs t l n r (i + 1) j) zero_r (subst (λ v. Runs t l n run.0 v j) moves run.3)))
     ]
 
 -- the byte at a place inside the line is the best span from there on
-pub best_one : (m : Nfa) (l : List ℕ) (i b : ℕ) (seeds : List ℕ) → AreSeeds m.states m.start seeds → IsRunnable m → slice_get l i ≡ Some b → i ≢ 0
+pub best_one : (m : Nfa) (l : List ℕ) (i b : ℕ) (seeds : List ℕ) → AreSeeds m.states m.start seeds → IsRunnable m
+    → slice_get l i ≡ Some b → i ≢ 0
     → i < length l → MayBegin m.bounds l i → MayEnd m.bounds l (i + 1) → EndsBehind m.states seeds b
     → IsBest m.states l m.start (MayBegin m.bounds l) (MayEnd m.bounds l) i (length l + 1) (Some (i, i + 1))
 best_one m l i b seeds are is_m is some lt begins ends behind =
@@ -172,14 +191,16 @@ best_one m l i b seeds are is_m is some lt begins ends behind =
         ge,
         λ e.
             let from_i = subst (λ v. Runs m.states l other.2.0 m.start v j) e other.2.1 in
-            let end = one_byte m.states l m.start i b seeds are is some lt is_m.accept behind.all other.2.0 first.0 j first.1
+            let end = one_byte m.states l m.start i b seeds are is some lt is_m.accept behind.all other.2.0 first.0 j
+                first.1
             (subst (λ r. Runs m.states l other.2.0 r i j) (sym first.2) from_i) (omega arith) in
             omega arith,
       ),
     )
 
 -- the best span from a later place on, where none begins before it
-pub best_later : (m : Nfa) (l : List ℕ) (from start : ℕ) (best : Option (ℕ × ℕ)) → from ≤ start → NoneBefore m l from start
+pub best_later : (m : Nfa) (l : List ℕ) (from start : ℕ) (best : Option (ℕ × ℕ)) → from ≤ start
+    → NoneBefore m l from start
     → IsBest m.states l m.start (MayBegin m.bounds l) (MayEnd m.bounds l) start (length l + 1) best
     → IsBest m.states l m.start (MayBegin m.bounds l) (MayEnd m.bounds l) from (length l + 1) best
 best_later m l from start None later none best = λ s j ge lt within run. elim (cases_lt s start) [

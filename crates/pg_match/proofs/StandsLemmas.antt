@@ -1,5 +1,6 @@
 -- From one place of a line to the next, by sets of states.
-use Rattle.std.proofs.Common.{◌≡◌, ℕ, zero, suc, ◌+◌, ◌-◌, ◌<◌, ◌≤◌, ◌↔◌, inl, inr, List, length, Option, Some, None, Bool, true, false, true≢false, not, eqb, ne_eqb, refl, sym, ap, ◌∙◌, subst, arith, IsTrue}
+use Rattle.std.proofs.Common.{◌≡◌, ℕ, zero, suc, ◌+◌, ◌-◌, ◌<◌, ◌≤◌, ◌↔◌, inl, inr, List, length, Option, Some, None}
+use Rattle.std.proofs.Common.{Bool, true, false, true≢false, not, eqb, ne_eqb, refl, sym, ap, ◌∙◌, subst, arith, IsTrue}
 use Rattle.std.specs.Prelude.{slice_get, slice_index}
 use Rattle.std.proofs.lemmas.Bool.{cases_eq, cases_lt}
 use Rattle.std.proofs.lemmas.Option.{get_or_from_slice_get}
@@ -11,7 +12,8 @@ use Rattle.pg_match.specs.Hits.{HasHit}
 use Rattle.pg_match.specs.Machines.{Agrees}
 use Rattle.pg_match.specs.Searches.{RunsFrom}
 use Rattle.pg_match.specs.StateSets.{Members, mark}
-use Rattle.pg_match.specs.Steps.{Reads, Has, Closed, Goes, Starts, HitBefore, HitAtEnd, NoHitAtEnd, AnswersEnd, begins_after, ends_before}
+use Rattle.pg_match.specs.Steps.{Reads, Has, Closed, Goes, Starts, HitBefore, HitAtEnd, NoHitAtEnd, AnswersEnd}
+use Rattle.pg_match.specs.Steps.{begins_after, ends_before}
 use Rattle.pg_match.specs.Stands.{Stands, HasRun}
 use Rattle.pg_match.proofs.SearchLemmas.{edge_moves, runs_forward}
 use Rattle.pg_match.proofs.StepLemmas.{edge_still}
@@ -21,7 +23,8 @@ use Rattle.pg_match.specs.declared.state.State.{State}
 use Rattle.pg_match.specs.declared.state.State.TheVariants.{Fail, Accept, Jump, Read, AtBegin, AtEnd, Split}
 use Rattle.pg_syntax.specs.Patterns.{Pattern}
 
-pub reads_edge : (o : Option State) (l : List ℕ) (p b r : ℕ) → slice_get l p ≡ Some b → Reads o b r → Edge o l p r (p + 1)
+pub reads_edge : (o : Option State) (l : List ℕ) (p b r : ℕ) → slice_get l p ≡ Some b → Reads o b r
+    → Edge o l p r (p + 1)
 reads_edge None l p b r is h = absurd h
 reads_edge (Some Fail) l p b r is h = absurd h
 reads_edge (Some Accept) l p b r is h = absurd h
@@ -31,7 +34,8 @@ reads_edge (Some (AtBegin x)) l p b r is h = absurd h
 reads_edge (Some (AtEnd x)) l p b r is h = absurd h
 reads_edge (Some (Split x y)) l p b r is h = absurd h
 
-pub edge_reads : (o : Option State) (l : List ℕ) (p b r : ℕ) → slice_get l p ≡ Some b → Edge o l p r (p + 1) → Reads o b r
+pub edge_reads : (o : Option State) (l : List ℕ) (p b r : ℕ) → slice_get l p ≡ Some b → Edge o l p r (p + 1)
+    → Reads o b r
 edge_reads None l p b r is h = absurd h
 edge_reads (Some Fail) l p b r is h = absurd h
 edge_reads (Some Accept) l p b r is h = absurd h
@@ -50,7 +54,8 @@ back p = omega arith
 
 begins : (o : Bounds) (l : List ℕ) (p b : ℕ) → slice_get l p ≡ Some b → IsTrue (begins_after o b) → MayBegin o l (p + 1)
 begins Any l p b is h = tt
-begins Word l p b is h = inr (ap (λ v. is_word_byte (slice_index l v)) (back p) ∙ not_word (is_word_byte (slice_index l p)) (ap (λ v. not (is_word_byte v)) (byte_at l p b is) ∙ h))
+begins Word l p b is h = inr (ap (λ v. is_word_byte (slice_index l v)) (back p)
+    ∙ not_word (is_word_byte (slice_index l p)) (ap (λ v. not (is_word_byte v)) (byte_at l p b is) ∙ h))
   where
     not_word : (w : Bool) → not w ≡ true → w ≡ false
     not_word true e = sym e
@@ -61,19 +66,22 @@ begun : (o : Bounds) (l : List ℕ) (p b : ℕ) → slice_get l p ≡ Some b →
 begun Any l p b is h = refl
 begun Word l p b is (inl h) = absurd (omega arith)
 begun Word l p b is (inr h) =
-    ap (λ v. not (is_word_byte v)) (sym (byte_at l p b is)) ∙ ap not (ap (λ v. is_word_byte (slice_index l v)) (sym (back p)) ∙ h)
+    ap (λ v. not (is_word_byte v)) (sym (byte_at l p b is))
+        ∙ ap not (ap (λ v. is_word_byte (slice_index l v)) (sym (back p)) ∙ h)
 begun Whole l p b is h = absurd (omega arith)
 
 pub may_end : (o : Bounds) (l : List ℕ) (p b : ℕ) → slice_get l p ≡ Some b → IsTrue (ends_before o b) → MayEnd o l p
 may_end Any l p b is h = tt
-may_end Word l p b is h = inr (not_word (is_word_byte (slice_index l p)) (ap (λ v. not (is_word_byte v)) (byte_at l p b is) ∙ h))
+may_end Word l p b is h = inr (not_word (is_word_byte (slice_index l p))
+    (ap (λ v. not (is_word_byte v)) (byte_at l p b is) ∙ h))
   where
     not_word : (w : Bool) → not w ≡ true → w ≡ false
     not_word true e = sym e
     not_word false e = refl
 may_end Whole l p b is h = absurd (true≢false (sym h))
 
-ended : (o : Bounds) (l : List ℕ) (p b : ℕ) → slice_get l p ≡ Some b → p < length l → MayEnd o l p → IsTrue (ends_before o b)
+ended : (o : Bounds) (l : List ℕ) (p b : ℕ) → slice_get l p ≡ Some b → p < length l → MayEnd o l p
+    → IsTrue (ends_before o b)
 ended Any l p b is lt h = refl
 ended Word l p b is lt (inl h) = absurd (omega arith)
 ended Word l p b is lt (inr h) = ap (λ v. not (is_word_byte v)) (sym (byte_at l p b is)) ∙ ap not h
@@ -95,7 +103,8 @@ ends_at_last o l = ends_last o l (length l) refl
 module _ (m : Nfa) (l : List ℕ) where
   pub stands_first : (S : ℕ → Type 0) → Starts m S → Stands m l 0 0 S
   stands_first S s = record {
-    sound = λ q h. (0, omega arith, omega arith, begins_first m.bounds l, s.comes q h l 0 (λ f. refl) (λ e. absurd (true≢false (sym e))));
+    sound = λ q h. (0, omega arith, omega arith, begins_first m.bounds l,
+        s.comes q h l 0 (λ f. refl) (λ e. absurd (true≢false (sym e))));
     complete = λ v n j ge le b run past.
         let z : v ≡ 0 = omega arith in (m.start, n, s.seeded, subst (λ w. Runs m.states l n m.start w j) z run);
     closed = λ lt q r h edge.
@@ -110,7 +119,8 @@ module _ (m : Nfa) (l : List ℕ) where
   ends_here p S closed is (suc k) q h run =
       elim (edge_moves (slice_get m.states q) l p run.0 run.1 run.2) [
         | inl stays ↦
-            ends_here p S closed is k run.0 (closed q run.0 h (subst (λ v. Edge (slice_get m.states q) l p run.0 v) stays run.2))
+            ends_here p S closed is k run.0
+                (closed q run.0 h (subst (λ v. Edge (slice_get m.states q) l p run.0 v) stays run.2))
             (subst (λ v. Runs m.states l k run.0 v p) stays run.3)
         | inr moves ↦ let f = runs_forward m.states l k run.0 run.1 p run.3 in absurd (omega arith)
       ]
@@ -124,12 +134,14 @@ module _ (m : Nfa) (l : List ℕ) where
       let r = w.4 here.0 p here.1 in
       (w.0, p, w.1, w.2, within, (w.3, end, r))
 
-  pub run_before : (from p b : ℕ) (S : ℕ → Type 0) → Stands m l from p S → IsRunnable m → slice_get l p ≡ Some b → p < length l
+  pub run_before : (from p b : ℕ) (S : ℕ → Type 0) → Stands m l from p S → IsRunnable m → slice_get l p ≡ Some b
+      → p < length l
       → HitBefore m b S → HasRun m l from
   run_before from p b S s is byte lt h =
       run_at from p S 0 s is h.0 (λ n j run. (n, run)) (may_end m.bounds l p b byte h.1) (omega arith)
 
-  pub run_at_end : (first : Bool) (from : ℕ) (S : ℕ → Type 0) → Stands m l from (length l) S → IsRunnable m → (IsTrue first → length l ≡ 0)
+  pub run_at_end : (first : Bool) (from : ℕ) (S : ℕ → Type 0) → Stands m l from (length l) S → IsRunnable m
+      → (IsTrue first → length l ≡ 0)
       → HitAtEnd m first S → HasRun m l from
   run_at_end first from S s is empty h =
       run_at from (length l) S h.0 s is h.1 (h.2 l (length l) empty (λ e. refl)) (ends_at_last m.bounds l) (omega arith)
@@ -148,13 +160,16 @@ module _ (m : Nfa) (l : List ℕ) where
             missed l c.0 c.1 c.2 empty c.3
       ]
 
-  module _ (from p b : ℕ) (S U : ℕ → Type 0) (is : slice_get l p ≡ Some b) (lt : p < length l) (s : Stands m l from p S) (g : Goes m b S U) where
-    crosses : (k q j : ℕ) → S q → Runs m.states l k q p j → p + 1 ≤ j → (r : ℕ) × (n : ℕ) × U r × Runs m.states l n r (p + 1) j
+  module _ (from p b : ℕ) (S U : ℕ → Type 0) (is : slice_get l p ≡ Some b) (lt : p < length l) (s : Stands m l from p S)
+      (g : Goes m b S U) where
+    crosses : (k q j : ℕ) → S q → Runs m.states l k q p j → p + 1 ≤ j → (r : ℕ) × (n : ℕ) × U r
+        × Runs m.states l n r (p + 1) j
     crosses zero q j h run past = absurd (omega (arith, run.1))
     crosses (suc k) q j h run past =
         elim (edge_moves (slice_get m.states q) l p run.0 run.1 run.2) [
           | inl stays ↦
-              crosses k run.0 j (s.closed lt q run.0 h (subst (λ v. Edge (slice_get m.states q) l p run.0 v) stays run.2))
+              crosses k run.0 j (s.closed lt q run.0 h
+                  (subst (λ v. Edge (slice_get m.states q) l p run.0 v) stays run.2))
               (subst (λ v. Runs m.states l k run.0 v j) stays run.3) past
           | inr moves ↦ (
             run.0,
@@ -175,7 +190,8 @@ module _ (m : Nfa) (l : List ℕ) where
               omega (arith, a.2),
               a.3,
               λ n j run.
-                  let to_y = w.4 l (p + 1) (λ f. absurd (true≢false (sym f))) (λ f. absurd (true≢false (sym f))) n j run in
+                  let to_y = w.4 l (p + 1) (λ f. absurd (true≢false (sym f)))
+                      (λ f. absurd (true≢false (sym f))) n j run in
                   a.4 (suc to_y.0) j (w.1, p + 1, reads_edge (slice_get m.states w.0) l p b w.1 is w.3, to_y.1),
             )
         | inr w ↦ (
@@ -189,11 +205,13 @@ module _ (m : Nfa) (l : List ℕ) where
       complete = λ v n j ge le o run past. elim (cases_lt p v) [
         | inl new ↦
             let z : v ≡ p + 1 = omega arith in
-            (m.start, n, g.seeded (begun m.bounds l p b is (subst (MayBegin m.bounds l) z o)), subst (λ w. Runs m.states l n m.start w j) z run)
+            (m.start, n, g.seeded (begun m.bounds l p b is (subst (MayBegin m.bounds l) z o)),
+                subst (λ w. Runs m.states l n m.start w j) z run)
         | inr old ↦ let c = s.complete v n j ge (omega arith) o run (omega arith) in crosses c.1 c.0 j c.2 c.3 past
       ];
       closed = λ more q r h edge.
-          g.still q h r (edge_still false false (slice_get m.states q) l (p + 1) r (λ z. absurd (omega arith)) (λ z. absurd (omega arith)) edge);
+          g.still q h r (edge_still false false (slice_get m.states q) l (p + 1) r (λ z. absurd (omega arith))
+              (λ z. absurd (omega arith)) edge);
       none = λ i j ge le less run. elim (cases_eq j p) [
         | inl same ↦
             let here = subst (RunsFrom m.states l m.start (MayBegin m.bounds l) (MayEnd m.bounds l) i) same run in
@@ -204,18 +222,24 @@ module _ (m : Nfa) (l : List ℕ) where
     }
 
 -- what closing the set at a line's end says
-pub answer_yes : (m : Nfa) (first : Bool) (s u : Members) → Closed m.states first true s u → Has u 0 → HitAtEnd m first (Has s)
+pub answer_yes : (m : Nfa) (first : Bool) (s u : Members) → Closed m.states first true s u → Has u 0
+    → HitAtEnd m first (Has s)
 answer_yes m first s u c h = c.fresh 0 h
 
-pub answer_no : (m : Nfa) (first : Bool) (s u : Members) → IsRunnable m → Closed m.states first true s u → (Has u 0 → ⊥) → NoHitAtEnd m first (Has s)
+pub answer_no : (m : Nfa) (first : Bool) (s u : Members) → IsRunnable m → Closed m.states first true s u → (Has u 0 → ⊥)
+    → NoHitAtEnd m first (Has s)
 answer_no m first s u is c none l q n h empty run =
-    none (ends_here m l (length l) (Has u) (λ p r at edge. c.still p at r (edge_still first true (slice_get m.states p) l (length l) r empty (λ e. refl) edge)) is n q (c.kept q h) run)
+    none (ends_here m l (length l) (Has u)
+        (λ p r at edge. c.still p at r (edge_still first true (slice_get m.states p) l (length l) r empty
+        (λ e. refl) edge)) is n q (c.kept q h) run)
 
-pub answered_end : (m : Nfa) (first : Bool) (s u : Members) → IsRunnable m → Closed m.states first true s u → (mark_0 : ℕ) → mark_0 ≡ mark u 0
+pub answered_end : (m : Nfa) (first : Bool) (s u : Members) → IsRunnable m → Closed m.states first true s u
+    → (mark_0 : ℕ) → mark_0 ≡ mark u 0
     → AnswersEnd m first (Has s) (not (eqb mark_0 0))
 answered_end m first s u is c zero e = answer_no m first s u is c (λ h. omega arith)
 answered_end m first s u is c (suc k) e =
-    subst (λ v. AnswersEnd m first (Has s) (not v)) (sym (ne_eqb (suc k) 0 (omega arith))) (answer_yes m first s u c (omega arith))
+    subst (λ v. AnswersEnd m first (Has s) (not v)) (sym (ne_eqb (suc k) 0 (omega arith)))
+        (answer_yes m first s u c (omega arith))
 
 -- runs are matches
 pub exact_so : (m : Nfa) (patterns : List Pattern) (l : List ℕ) (answer : Bool) → Agrees m patterns → IsTrue m.some
@@ -232,9 +256,11 @@ exact_so m patterns l answer a some exact = (
       matched = a.sound l h.5.2.0 h.0 h.1 h.5.2.1 (inr some);
     },
   ),
-  λ h. exact.1 (h.0, h.1, omega arith, h.2.ordered, h.2.within, (h.2.begins, h.2.ends, (a.complete l h.0 h.1 h.2.matched).1)),
+  λ h. exact.1 (h.0, h.1, omega arith, h.2.ordered, h.2.within,
+      (h.2.begins, h.2.ends, (a.complete l h.0 h.1 h.2.matched).1)),
 )
 
-pub none_so : (m : Nfa) (patterns : List Pattern) (l : List ℕ) → Agrees m patterns → m.some ≡ false → (IsTrue false ↔ HasHit patterns m.bounds l)
+pub none_so : (m : Nfa) (patterns : List Pattern) (l : List ℕ) → Agrees m patterns → m.some ≡ false
+    → (IsTrue false ↔ HasHit patterns m.bounds l)
 none_so m patterns l a none =
     (λ t. absurd (true≢false (sym t)), λ h. absurd (true≢false (sym (a.complete l h.0 h.1 h.2.matched).0 ∙ none)))

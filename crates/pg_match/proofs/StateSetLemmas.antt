@@ -1,5 +1,7 @@
 -- Sets of states.
-use Rattle.std.proofs.Common.{◌≡◌, ◌≢◌, ℕ, suc, ◌+◌, ◌<◌, ◌≤◌, inl, inr, Bool, not, cond, eqb, List, [], ◌∷◌, length, get_or, set, refl, sym, ap, ◌∙◌, arith, length-set, get_or-set_same, get_or-set_other, ne_eqb}
+use Rattle.std.proofs.Common.{◌≡◌, ◌≢◌, ℕ, suc, ◌+◌, ◌<◌, ◌≤◌, inl, inr, Bool, not, cond, eqb, List, [], ◌∷◌, length}
+use Rattle.std.proofs.Common.{get_or, set, refl, sym, ap, ◌∙◌, arith, length-set, get_or-set_same, get_or-set_other}
+use Rattle.std.proofs.Common.{ne_eqb}
 use Rattle.std.specs.Prelude.{count_by, slice_index}
 use Rattle.std.proofs.lemmas.Bool.{cases_eq, cases_lt}
 use Rattle.std.proofs.lemmas.List.{get_or_past, get_or_read}
@@ -19,7 +21,8 @@ one_set s h = ap (λ b. cond (not b) 1 0) (ne_eqb s 0 (omega arith))
 pub has_room : (t : Members) (q : ℕ) → IsGood t → q < length t.marks → mark t q ≡ 0 → (v : ℕ) → 0 < v
     → (t.len < length t.order) × (count_by is_set (set t.marks q v) ≡ t.len + 1)
 has_room t q good within none v some =
-    let e : count_by is_set (set t.marks q v) + one (mark t q) ≡ count_by is_set t.marks + one v = sum_by-set one t.marks q v 0 within in
+    let e : count_by is_set (set t.marks q v) + one (mark t q) ≡ count_by is_set t.marks + one v =
+        sum_by-set one t.marks q v 0 within in
     let e0 : one (mark t q) ≡ 0 = ap one none in
     let e1 : one v ≡ 1 = one_set v some in
     let sum : count_by is_set (set t.marks q v) ≡ t.len + 1 = omega (arith, good.count) in
@@ -40,10 +43,12 @@ new_inserted t u q start good within some none list starts len =
     let here : mark u q ≡ start = ap (λ s. slice_index s q) starts ∙ get_or-set_same t.marks q start 0 within in
     let last : listed u t.len ≡ q = ap (λ s. slice_index s t.len) list ∙ get_or-set_same t.order t.len q 0 r.0 in
     let others = λ (p : ℕ) (ne : p ≢ q). ap (λ s. slice_index s p) starts ∙ get_or-set_other t.marks q p start 0 ne in
-    let before = λ (k : ℕ) (lt : k < t.len). ap (λ s. slice_index s k) list ∙ get_or-set_other t.order t.len k q 0 (omega arith) in
+    let before = λ (k : ℕ) (lt : k < t.len). ap (λ s. slice_index s k) list
+        ∙ get_or-set_other t.order t.len k q 0 (omega arith) in
     record {
       good = record {
-        room = ap length list ∙ length-set t.order t.len q ∙ good.room ∙ sym (length-set t.marks q start) ∙ sym (ap length starts);
+        room = ap length list ∙ length-set t.order t.len q ∙ good.room ∙ sym (length-set t.marks q start)
+            ∙ sym (ap length starts);
         count = len ∙ sym r.1 ∙ sym (ap (count_by is_set) starts);
         is_in = λ k lt. elim (cases_eq k t.len) [
           | inl same ↦ rw (same, last, here) some

@@ -1,17 +1,20 @@
 -- From one set of states to the next, whatever the line.
-use Rattle.std.proofs.Common.{◌≡◌, ℕ, suc, ◌+◌, ◌<◌, ◌≤◌, ◌⊎◌, inl, inr, List, length, Option, Some, None, Bool, true, false, true≢false, refl, sym, ap, ◌∙◌, subst, arith, IsTrue}
+use Rattle.std.proofs.Common.{◌≡◌, ℕ, suc, ◌+◌, ◌<◌, ◌≤◌, ◌⊎◌, inl, inr, List, length, Option, Some, None, Bool, true}
+use Rattle.std.proofs.Common.{false, true≢false, refl, sym, ap, ◌∙◌, subst, arith, IsTrue}
 use Rattle.std.specs.Prelude.{slice_get}
 use Rattle.std.proofs.lemmas.Bool.{cases_eq, cases_lt}
 use Rattle.pg_bytes.specs.ByteSets.{bytes}
 use Rattle.pg_bytes.specs.declared.byte_set.ByteSet.{ByteSet}
 use Rattle.pg_match.specs.Automata.{Nfa, Edge}
 use Rattle.pg_match.specs.StateSets.{Members, mark, listed, IsGood, IsEmpty, Inserted}
-use Rattle.pg_match.specs.Steps.{Still, Reads, LeadsStill, Has, HasStill, Spread, Closed, Closing, Aimed, Goes, Starts, ReadsNone, begins_after}
+use Rattle.pg_match.specs.Steps.{Still, Reads, LeadsStill, Has, HasStill, Spread, Closed, Closing, Aimed, Goes, Starts}
+use Rattle.pg_match.specs.Steps.{ReadsNone, begins_after}
 use Rattle.pg_match.specs.declared.state.State.{State}
 use Rattle.pg_match.specs.declared.state.State.TheVariants.{Fail, Accept, Jump, Read, AtBegin, AtEnd, Split}
 
 -- an edge that reads nothing is one at such a place
-pub still_edge : (f e : Bool) (o : Option State) (l : List ℕ) (i r : ℕ) → (IsTrue f → i ≡ 0) → (IsTrue e → i ≡ length l) → Still f e o r → Edge o l i r i
+pub still_edge : (f e : Bool) (o : Option State) (l : List ℕ) (i r : ℕ) → (IsTrue f → i ≡ 0) → (IsTrue e → i ≡ length l)
+    → Still f e o r → Edge o l i r i
 still_edge f e None l i r a b h = absurd h
 still_edge f e (Some Fail) l i r a b h = absurd h
 still_edge f e (Some Accept) l i r a b h = absurd h
@@ -21,7 +24,8 @@ still_edge f e (Some (AtBegin x)) l i r a b h = (a h.0, h.1, refl)
 still_edge f e (Some (AtEnd x)) l i r a b h = (b h.0, h.1, refl)
 still_edge f e (Some (Split x y)) l i r a b h = (h, refl)
 
-pub edge_still : (f e : Bool) (o : Option State) (l : List ℕ) (i r : ℕ) → (i ≡ 0 → IsTrue f) → (i ≡ length l → IsTrue e) → Edge o l i r i → Still f e o r
+pub edge_still : (f e : Bool) (o : Option State) (l : List ℕ) (i r : ℕ) → (i ≡ 0 → IsTrue f) → (i ≡ length l → IsTrue e)
+    → Edge o l i r i → Still f e o r
 edge_still f e None l i r a b h = absurd h
 edge_still f e (Some Fail) l i r a b h = absurd h
 edge_still f e (Some Accept) l i r a b h = absurd h
@@ -36,7 +40,8 @@ module _ (t : List State) (f e : Bool) where
   leads_self x = λ l i a b n j run. (n, run)
 
   leads_edge : (x q r : ℕ) → LeadsStill t f e x q → Still f e (slice_get t q) r → LeadsStill t f e x r
-  leads_edge x q r lead edge = λ l i a b n j run. lead l i a b (suc n) j (r, i, still_edge f e (slice_get t q) l i r a b edge, run)
+  leads_edge x q r lead edge = λ l i a b n j run. lead l i a b (suc n) j
+      (r, i, still_edge f e (slice_get t q) l i r a b edge, run)
 
   pub spread_none : (s : Members) (q : ℕ) → IsGood s → ((r : ℕ) → Still f e (slice_get t q) r → ⊥) → Spread t f e s s q
   spread_none s q good none = record {
@@ -62,7 +67,8 @@ module _ (t : List State) (f e : Bool) where
     longer = ins.longer;
   }
 
-  pub spread_two : (s u v : Members) (q y z : ℕ) → Inserted s u y 1 → Inserted u v z 1 → Still f e (slice_get t q) y → Still f e (slice_get t q) z
+  pub spread_two : (s u v : Members) (q y z : ℕ) → Inserted s u y 1 → Inserted u v z 1 → Still f e (slice_get t q) y
+      → Still f e (slice_get t q) z
       → ((r : ℕ) → Still f e (slice_get t q) r → (r ≡ y) ⊎ (r ≡ z)) → Spread t f e s v q
   spread_two s u v q y z one two to_y to_z only = record {
     good = two.good;
@@ -72,7 +78,8 @@ module _ (t : List State) (f e : Bool) where
       | inl some ↦
           let g = one.fresh r none some in
           let n = two.longer in
-          (subst (λ w. Still f e (slice_get t q) w) (sym g.0) to_y, (s.len, omega arith, omega (arith, g.3), two.list s.len (omega (arith, g.3)) ∙ g.2))
+          (subst (λ w. Still f e (slice_get t q) w) (sym g.0) to_y,
+              (s.len, omega arith, omega (arith, g.3), two.list s.len (omega (arith, g.3)) ∙ g.2))
       | inr absent ↦
           let g = two.fresh r (omega arith) h in
           let n = one.longer in
@@ -90,19 +97,27 @@ module _ (t : List State) (f e : Bool) where
   On o r = Still f e o r
 
   pub jump_spread : (s u : Members) (q y : ℕ) → slice_get t q ≡ Some (Jump y) → Inserted s u y 1 → Spread t f e s u q
-  jump_spread s u q y is ins = spread_one s u q y ins (subst (λ o. On o y) (sym is) refl) (λ r h. subst (λ o. On o r) is h)
+  jump_spread s u q y is ins = spread_one s u q y ins (subst (λ o. On o y) (sym is) refl)
+      (λ r h. subst (λ o. On o r) is h)
 
-  pub begin_spread : (s u : Members) (q y : ℕ) → slice_get t q ≡ Some (AtBegin y) → IsTrue f → Inserted s u y 1 → Spread t f e s u q
-  begin_spread s u q y is first ins = spread_one s u q y ins (subst (λ o. On o y) (sym is) (first, refl)) (λ r h. (subst (λ o. On o r) is h).1)
+  pub begin_spread : (s u : Members) (q y : ℕ) → slice_get t q ≡ Some (AtBegin y) → IsTrue f → Inserted s u y 1
+      → Spread t f e s u q
+  begin_spread s u q y is first ins = spread_one s u q y ins (subst (λ o. On o y) (sym is) (first, refl))
+      (λ r h. (subst (λ o. On o r) is h).1)
 
-  pub end_spread : (s u : Members) (q y : ℕ) → slice_get t q ≡ Some (AtEnd y) → IsTrue e → Inserted s u y 1 → Spread t f e s u q
-  end_spread s u q y is last ins = spread_one s u q y ins (subst (λ o. On o y) (sym is) (last, refl)) (λ r h. (subst (λ o. On o r) is h).1)
+  pub end_spread : (s u : Members) (q y : ℕ) → slice_get t q ≡ Some (AtEnd y) → IsTrue e → Inserted s u y 1
+      → Spread t f e s u q
+  end_spread s u q y is last ins = spread_one s u q y ins (subst (λ o. On o y) (sym is) (last, refl))
+      (λ r h. (subst (λ o. On o r) is h).1)
 
-  pub split_spread : (s u v : Members) (q y z : ℕ) → slice_get t q ≡ Some (Split y z) → Inserted s u y 1 → Inserted u v z 1 → Spread t f e s v q
+  pub split_spread : (s u v : Members) (q y z : ℕ) → slice_get t q ≡ Some (Split y z) → Inserted s u y 1
+      → Inserted u v z 1 → Spread t f e s v q
   split_spread s u v q y z is one two =
-      spread_two s u v q y z one two (subst (λ o. On o y) (sym is) (inl refl)) (subst (λ o. On o z) (sym is) (inr refl)) (λ r h. subst (λ o. On o r) is h)
+      spread_two s u v q y z one two (subst (λ o. On o y) (sym is) (inl refl)) (subst (λ o. On o z) (sym is) (inr refl))
+          (λ r h. subst (λ o. On o r) is h)
 
-  pub none_spread : (s : Members) (q : ℕ) (st : State) → slice_get t q ≡ Some st → ((r : ℕ) → On (Some st) r → ⊥) → IsGood s → Spread t f e s s q
+  pub none_spread : (s : Members) (q : ℕ) (st : State) → slice_get t q ≡ Some st → ((r : ℕ) → On (Some st) r → ⊥)
+      → IsGood s → Spread t f e s s q
   none_spread s q st is none good = spread_none s q good (λ r h. none r (subst (λ o. On o r) is h))
 
   pub closing_first : (s : Members) → IsGood s → Closing t f e s s 0
@@ -116,7 +131,8 @@ module _ (t : List State) (f e : Bool) where
     longer = omega arith;
   }
 
-  pub closing_next : (s u v : Members) (k : ℕ) → Closing t f e s u k → k < u.len → Spread t f e u v (listed u k) → Closing t f e s v (k + 1)
+  pub closing_next : (s u v : Members) (k : ℕ) → Closing t f e s u k → k < u.len → Spread t f e u v (listed u k)
+      → Closing t f e s v (k + 1)
   closing_next s u v k c lt g = record {
     good = g.good;
     size = g.size ∙ c.size;
@@ -136,7 +152,8 @@ module _ (t : List State) (f e : Bool) where
           | inl same ↦
               let eq : listed u k ≡ q = ap (listed u) (sym same) ∙ later.3 in
               inl (subst (HasStill t f e (Has v)) eq (λ r edge. g.all r edge))
-          | inr other ↦ let a = g.longer in inr (later.0, omega (arith, later.1), omega (arith, later.2), g.list later.0 later.2 ∙ later.3)
+          | inr other ↦ let a = g.longer in inr
+              (later.0, omega (arith, later.1), omega (arith, later.2), g.list later.0 later.2 ∙ later.3)
         ]
       ]
       | inr none ↦ let a = g.fresh q (omega arith) h in let w = a.1 in inr (w.0, let b = w.1 in omega arith, w.2, w.3)
@@ -165,7 +182,8 @@ reads_none (Some (AtEnd x)) b r not_so h = h
 reads_none (Some (Split x y)) b r not_so h = h
 
 module _ (t : List State) (b : ℕ) (now : Members) where
-  pub aimed_first : (next : Members) → IsGood next → IsEmpty next → length next.marks ≡ length now.marks → Aimed t b now next 0
+  pub aimed_first : (next : Members) → IsGood next → IsEmpty next → length next.marks ≡ length now.marks
+      → Aimed t b now next 0
   aimed_first next good empty size = record {
     good = good;
     size = size;
@@ -173,7 +191,8 @@ module _ (t : List State) (b : ℕ) (now : Members) where
     goes = λ j r lt. absurd (omega arith);
   }
 
-  pub aimed_over : (next : Members) (k : ℕ) → Aimed t b now next k → ((r : ℕ) → Reads (slice_get t (listed now k)) b r → ⊥) → Aimed t b now next (k + 1)
+  pub aimed_over : (next : Members) (k : ℕ) → Aimed t b now next k
+      → ((r : ℕ) → Reads (slice_get t (listed now k)) b r → ⊥) → Aimed t b now next (k + 1)
   aimed_over next k a none = record {
     good = a.good;
     size = a.size;
@@ -184,8 +203,10 @@ module _ (t : List State) (b : ℕ) (now : Members) where
     ];
   }
 
-  pub aimed_next : (next after : Members) (k : ℕ) (s : ByteSet) (x : ℕ) → Aimed t b now next k → k < now.len → IsGood now
-      → slice_get t (listed now k) ≡ Some (Read s x) → bytes s b ≡ true → Inserted next after x 1 → Aimed t b now after (k + 1)
+  pub aimed_next : (next after : Members) (k : ℕ) (s : ByteSet) (x : ℕ) → Aimed t b now next k → k < now.len
+      → IsGood now
+      → slice_get t (listed now k) ≡ Some (Read s x) → bytes s b ≡ true → Inserted next after x 1
+          → Aimed t b now after (k + 1)
   aimed_next next after k s x a lt good is is_so ins =
       let to_x : Reads (slice_get t (listed now k)) b x = subst (λ o. Reads o b x) (sym is) (is_so, refl) in
       record {
@@ -199,13 +220,15 @@ module _ (t : List State) (b : ℕ) (now : Members) where
         ];
         goes = λ j r less in_list h. elim (cases_eq j k) [
           | inl same ↦
-              let e : r ≡ x = (subst (λ o. Reads o b r) is (subst (λ v. Reads (slice_get t (listed now v)) b r) same h)).1 in
+              let e : r ≡ x = (subst (λ o. Reads o b r) is
+                  (subst (λ v. Reads (slice_get t (listed now v)) b r) same h)).1 in
               subst (λ v. 0 < mark after v) (sym e) ins.here
           | inr other ↦ let w = a.goes j r (omega arith) in_list h in let m = ins.kept r w in omega arith
         ];
       }
 
-  pub aimed_none : (k : ℕ) (st : State) → slice_get t (listed now k) ≡ Some st → ((s : ByteSet) (x : ℕ) → st ≡ Read s x → ⊥)
+  pub aimed_none : (k : ℕ) (st : State) → slice_get t (listed now k) ≡ Some st
+      → ((s : ByteSet) (x : ℕ) → st ≡ Read s x → ⊥)
       → (r : ℕ) → Reads (slice_get t (listed now k)) b r → ⊥
   aimed_none k st is not_so r h = reads_none (slice_get t (listed now k)) b r (λ s x e. not_so s x (cc)) h
 
@@ -216,7 +239,8 @@ module _ (t : List State) (b : ℕ) (now : Members) where
 -- the step whole
 module _ (m : Nfa) (b : ℕ) (now : Members) (good : IsGood now) where
   gone : (next seeded after : Members) → Aimed m.states b now next now.len
-      → ((r : ℕ) → Has next r → Has seeded r) → ((r : ℕ) → Has seeded r → Has next r ⊎ (IsTrue (begins_after m.bounds b) × (r ≡ m.start)))
+      → ((r : ℕ) → Has next r → Has seeded r)
+          → ((r : ℕ) → Has seeded r → Has next r ⊎ (IsTrue (begins_after m.bounds b) × (r ≡ m.start)))
       → (IsTrue (begins_after m.bounds b) → Has seeded m.start)
       → Closed m.states false false seeded after → Goes m b (Has now) (Has after)
   gone next seeded after a kept split here c = record {
@@ -235,14 +259,17 @@ module _ (m : Nfa) (b : ℕ) (now : Members) (good : IsGood now) where
       → Inserted next seeded m.start 1 → Closed m.states false false seeded after → Goes m b (Has now) (Has after)
   gone_seeded next seeded after a is_so ins c =
       gone next seeded after a (λ r h. let k = ins.kept r h in omega arith)
-      (λ r h. elim (cases_lt 0 (mark next r)) [ inl old ↦ inl old | inr none ↦ let f = ins.fresh r (omega arith) h in inr (is_so, f.0) ])
+      (λ r h. elim (cases_lt 0 (mark next r))
+          [ inl old ↦ inl old | inr none ↦ let f = ins.fresh r (omega arith) h in inr (is_so, f.0) ])
       (λ z. ins.here) c
 
   pub gone_plain : (next after : Members) → Aimed m.states b now next now.len → begins_after m.bounds b ≡ false
       → Closed m.states false false next after → Goes m b (Has now) (Has after)
-  gone_plain next after a not_so c = gone next next after a (λ r h. h) (λ r h. inl h) (λ is_so. absurd (true≢false (sym is_so ∙ not_so))) c
+  gone_plain next after a not_so c = gone next next after a (λ r h. h) (λ r h. inl h)
+      (λ is_so. absurd (true≢false (sym is_so ∙ not_so))) c
 
-pub aimed_at_none : (m : Nfa) (b : ℕ) (now next : Members) → IsGood now → Aimed m.states b now next now.len → next.len ≡ 0 → ReadsNone m b (Has now)
+pub aimed_at_none : (m : Nfa) (b : ℕ) (now next : Members) → IsGood now → Aimed m.states b now next now.len
+    → next.len ≡ 0 → ReadsNone m b (Has now)
 aimed_at_none m b now next good a none q r h read =
     let f = good.found q h in
     let there = a.goes f.0 r f.1 f.1 (subst (λ v. Reads (slice_get m.states v) b r) (sym f.2) read) in

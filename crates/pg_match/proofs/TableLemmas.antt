@@ -1,5 +1,7 @@
 -- How a table grows.
-use Rattle.std.proofs.Common.{◌≡◌, ◌≢◌, ℕ, zero, suc, ◌+◌, ◌-◌, ◌*◌, ◌<◌, ◌≤◌, inl, inr, List, [], ◌∷◌, ◌++◌, length, get_or, set, Option, Some, None, refl, sym, ap, ◌∙◌, subst, arith, length-append, length-set, get_or-set_same, get_or-set_other}
+use Rattle.std.proofs.Common.{◌≡◌, ◌≢◌, ℕ, zero, suc, ◌+◌, ◌-◌, ◌*◌, ◌<◌, ◌≤◌, inl, inr, List, [], ◌∷◌, ◌++◌, length}
+use Rattle.std.proofs.Common.{get_or, set, Option, Some, None, refl, sym, ap, ◌∙◌, subst, arith, length-append}
+use Rattle.std.proofs.Common.{length-set, get_or-set_same, get_or-set_other}
 use Rattle.std.specs.Prelude.{slice_get}
 use Rattle.std.proofs.Math.Seq.{get_or-append_seam}
 use Rattle.std.proofs.lemmas.Bool.{cases_eq}
@@ -10,7 +12,8 @@ use Rattle.pg_match.specs.Matches.{Chain}
 use Rattle.pg_syntax.specs.Patterns.{IsProper, Pattern, Empty, Set, Begin, End, Cat, Alt, Rep}
 use Rattle.pg_match.specs.Sizes.{size_of}
 use Rattle.pg_match.specs.Automata.{target_below, IsTidy}
-use Rattle.pg_match.specs.Tables.{Optional, Loop, AfterCopies, Implements, Keeps, NoAccept, KeepsWritten, Pushed, Added, AddedCopies, AddedOptional}
+use Rattle.pg_match.specs.Tables.{Optional, Loop, AfterCopies, Implements, Keeps, NoAccept, KeepsWritten, Pushed, Added}
+use Rattle.pg_match.specs.Tables.{AddedCopies, AddedOptional}
 use Rattle.pg_match.specs.declared.state.State.{State}
 use Rattle.pg_match.specs.declared.state.State.TheVariants.{Fail, Accept, Jump, Read, AtBegin, AtEnd, Split}
 
@@ -28,7 +31,8 @@ chain_kept R Q f zero e x h = h
 chain_kept R Q f (suc c) e x h = (h.0, f e h.0 h.1, chain_kept R Q f c h.0 x h.2)
 
 module _ (a b : List State) (keeps : KeepsWritten a b) where
-  pub optional_kept : (R Q : ℕ → ℕ → Type 0) → ((e x : ℕ) → R e x → Q e x) → (c e x : ℕ) → Optional a R c e x → Optional b Q c e x
+  pub optional_kept : (R Q : ℕ → ℕ → Type 0) → ((e x : ℕ) → R e x → Q e x) → (c e x : ℕ) → Optional a R c e x
+      → Optional b Q c e x
   optional_kept R Q f zero e x h = h
   optional_kept R Q f (suc c) e x h =
       (h.0, h.1, keeps e (Split h.0 x) (λ w. cc) h.2, f h.0 h.1 h.3, optional_kept R Q f c h.1 x h.4)
@@ -79,14 +83,18 @@ pushed_keeps old new s e p q w h =
 pub pushed_is : (old new : List State) (s : State) (e : ℕ) → Pushed old new s e → slice_get new e ≡ Some s
 pushed_is old new s e p =
     let in' : length old < length (old ++ s ∷ []) = omega (arith, length-append old (s ∷ [])) in
-    rw (p.items, p.place) (slice_get-get_or (old ++ s ∷ []) (length old) s in' ∙ ap Some (get_or-append_seam old s [] s))
+    rw (p.items, p.place) (slice_get-get_or (old ++ s ∷ []) (length old) s in'
+        ∙ ap Some (get_or-append_seam old s [] s))
 
-pub pushed_tidy : (old new : List State) (s : State) (e : ℕ) → Pushed old new s e → IsTidy old → target_below (length new) s → IsTidy new
+pub pushed_tidy : (old new : List State) (s : State) (e : ℕ) → Pushed old new s e → IsTidy old
+    → target_below (length new) s → IsTidy new
 pushed_tidy old new s e p tidy below =
     let len = pushed_length old new s e p in
     let le : length old ≤ length new = omega (arith, len) in
     All-same (target_below (length new)) new (old ++ s ∷ []) p.items
-    (All-push (target_below (length new)) old s (All-weaker (target_below (length old)) (target_below (length new)) (below_more (length old) (length new) le) old tidy) below)
+    (All-push (target_below (length new)) old s
+        (All-weaker (target_below (length old)) (target_below (length new))
+        (below_more (length old) (length new) le) old tidy) below)
 
 pub pushed_plain : (old new : List State) (s : State) (e : ℕ) → Pushed old new s e → s ≢ Accept → NoAccept old new
 pushed_plain old new s e p other q h =
@@ -99,13 +107,15 @@ pushed_plain old new s e p other q h =
       | inr apart ↦
           let q_in : q < length old = omega (arith, len) in
           let e1 : get_or new q Accept ≡ Accept = get_or_from_slice_get new q Accept Accept h in
-          let e2 : get_or new q Accept ≡ get_or old q Accept = ap (λ t. get_or t q Accept) p.items ∙ get_or_append_left old (s ∷ []) Accept q q_in in
+          let e2 : get_or new q Accept ≡ get_or old q Accept = ap (λ t. get_or t q Accept) p.items
+              ∙ get_or_append_left old (s ∷ []) Accept q q_in in
           slice_get-get_or old q Accept q_in ∙ ap Some (sym e2 ∙ e1)
     ]
 
 -- a pattern of one state
 pub one_added : (old new : List State) (s : State) (r : Pattern) (e x : ℕ) → Pushed old new s e → IsTidy old
-    → target_below (length old) s → (slice_get new e ≡ Some s → Implements new r e x) → size_of r ≡ 1 → s ≢ Accept → Added old new r e x
+    → target_below (length old) s → (slice_get new e ≡ Some s → Implements new r e x) → size_of r ≡ 1 → s ≢ Accept
+        → Added old new r e x
 one_added old new s r e x p tidy below is one other =
     let len = pushed_length old new s e p in
     let le : length old ≤ length new = omega (arith, len) in
@@ -124,7 +134,8 @@ set_is t s w h =
     let in' : s < length (set t s w) = omega (arith, length-set t s w) in
     slice_get-get_or (set t s w) s w in' ∙ ap Some (get_or-set_same t s w w h)
 
-pub set_other : (t : List State) (s q : ℕ) (w v : State) → q ≢ s → slice_get t q ≡ Some v → slice_get (set t s w) q ≡ Some v
+pub set_other : (t : List State) (s q : ℕ) (w v : State) → q ≢ s → slice_get t q ≡ Some v
+    → slice_get (set t s w) q ≡ Some v
 set_other t s q w v other h =
     let within : q < length t = slice_get_within t q v h in
     let in' : q < length (set t s w) = omega (arith, length-set t s w) in
@@ -150,12 +161,14 @@ set_plain t s w s_in other q h =
 grown : (old new : List State) (r : Pattern) (e x : ℕ) → Added old new r e x → KeepsWritten old new
 grown old new r e x a = written old new a.keeps
 
-pub copy_added : (t u v : List State) (r : Pattern) (c e k x : ℕ) → AddedCopies t u r c k x → Added u v r e k → AddedCopies t v r (c + 1) e x
+pub copy_added : (t u v : List State) (r : Pattern) (c e k x : ℕ) → AddedCopies t u r c k x → Added u v r e k
+    → AddedCopies t v r (c + 1) e x
 copy_added t u v r c e k x copies one =
     let n : c + 1 ≡ suc c = omega arith in
     let w = grown u v r e k one in
     rw n record {
-      implements = (k, one.implements, chain_kept (Implements u r) (Implements v r) (implements_kept u v w r) c k x copies.implements);
+      implements = (k, one.implements, chain_kept (Implements u r) (Implements v r)
+          (implements_kept u v w r) c k x copies.implements);
       keeps = keeps_trans t u v copies.keeps one.keeps;
       plain = plain_trans t u v copies.plain one.plain;
       tidy = one.tidy;
@@ -170,17 +183,20 @@ option_added t u v w r c e f k x before one push x_in =
     let len = pushed_length v w (Split f x) e push in
     let keeps = pushed_keeps v w (Split f x) e push in
     let keeps2 = keeps_trans u v w one.keeps keeps in
-    let below : target_below (length w) (Split f x) = (omega (arith, len, one.inside), omega (arith, len, x_in, before.size, one.size)) in
+    let below : target_below (length w) (Split f x) =
+        (omega (arith, len, one.inside), omega (arith, len, x_in, before.size, one.size)) in
     rw n record {
       implements = (
         f,
         k,
         pushed_is v w (Split f x) e push,
         implements_kept v w (written v w keeps) r f k one.implements,
-        optional_kept u w (written u w keeps2) (Implements u r) (Implements w r) (implements_kept u w (written u w keeps2) r) c k x before.implements,
+        optional_kept u w (written u w keeps2) (Implements u r) (Implements w r)
+            (implements_kept u w (written u w keeps2) r) c k x before.implements,
       );
       keeps = keeps_trans t u w before.keeps keeps2;
-      plain = plain_trans t u w before.plain (plain_trans u v w one.plain (pushed_plain v w (Split f x) e push (λ z. cc)));
+      plain = plain_trans t u w before.plain
+          (plain_trans u v w one.plain (pushed_plain v w (Split f x) e push (λ z. cc)));
       tidy = pushed_tidy v w (Split f x) e push one.tidy below;
       inside = omega (arith, len, push.place);
       size = omega (arith, len, before.size, one.size);
@@ -207,14 +223,16 @@ module _ (t : List State) where
       let z : n - suc m ≡ 0 = omega arith in
       let some : 1 ≤ n = omega (arith, proper.1) in
       let s : size_of r ≡ 0 = no_product n (size_of r) some (omega arith) in
-      (x, rounds_of_nothing (Implements t r) (nothing r proper.0 s) (suc m) x, subst (λ c. Optional t (Implements t r) c x x) (sym z) refl)
+      (x, rounds_of_nothing (Implements t r) (nothing r proper.0 s) (suc m) x,
+          subst (λ c. Optional t (Implements t r) c x x) (sym z) refl)
     where
       no_product : (n s : ℕ) → 1 ≤ n → n * s ≡ 0 → s ≡ 0
       no_product zero s h e = absurd (omega arith)
       no_product (suc n) s h e = omega arith
 
 -- a copy that added no state stands for all that are left
-pub rest_added : (t u v : List State) (r : Pattern) (c n e k x : ℕ) → IsProper r → c < n → AddedCopies t u r c k x → Added u v r e k
+pub rest_added : (t u v : List State) (r : Pattern) (c n e k x : ℕ) → IsProper r → c < n → AddedCopies t u r c k x
+    → Added u v r e k
     → length v ≡ length u → AddedCopies t v r n e x
 rest_added t u v r c n e k x proper less copies one same =
     let s : size_of r ≡ 0 = omega (arith, one.size) in

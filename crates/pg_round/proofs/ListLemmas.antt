@@ -1,5 +1,6 @@
 -- Lists that gain or lose their last member, and what holds of all members.
-use Rattle.std.proofs.Common.{◌≡◌, ◌⊎◌, inl, inr, ℕ, zero, suc, ◌<◌, List, [], ◌∷◌, ◌++◌, All, Any, length, get_or, set, replicate, sym, refl, ap, subst, arith}
+use Rattle.std.proofs.Common.{◌≡◌, ◌⊎◌, inl, inr, ℕ, zero, suc, ◌<◌, List, [], ◌∷◌, ◌++◌, All, Any, length, get_or, set}
+use Rattle.std.proofs.Common.{replicate, sym, refl, ap, subst, arith}
 use Rattle.std.specs.Prelude.{slice_get, Some}
 use Rattle.std.proofs.lemmas.List.Elements.{All-append}
 
@@ -51,7 +52,8 @@ module _ {A : Type 0} (P : A → Type 0) where
   any_behind y ys x (inl h) = inl (suc h.0, h.1, (let l = h.2 in omega arith), h.3, h.4)
   any_behind y ys x (inr p) = inr p
 
-  any_at : (xs : List A) (x : A) (k : ℕ) (a : A) → k < length (xs ++ x ∷ []) → get_or (xs ++ x ∷ []) k a ≡ a → P a → Any P xs ⊎ P x
+  any_at : (xs : List A) (x : A) (k : ℕ) (a : A) → k < length (xs ++ x ∷ []) → get_or (xs ++ x ∷ []) k a ≡ a → P a
+      → Any P xs ⊎ P x
   any_at [] x zero a l e p = inr (subst P (sym e) p)
   any_at [] x (suc k) a l e p = absurd (omega arith)
   any_at (y ∷ ys) x zero a l e p = inl (0, a, (omega arith), e, p)
@@ -63,7 +65,8 @@ module _ {A : Type 0} (P : A → Type 0) where
   front_at : (xs : List A) (x : A) (k : ℕ) (a : A) → k < length xs → get_or xs k a ≡ a → P a → Any P (xs ++ x ∷ [])
   front_at [] x k a l e p = absurd (omega arith)
   front_at (y ∷ ys) x zero a l e p = (0, a, (omega arith), e, p)
-  front_at (y ∷ ys) x (suc k) a l e p = let r = front_at ys x k a (omega arith) e p in (suc r.0, r.1, (let m = r.2 in omega arith), r.3, r.4)
+  front_at (y ∷ ys) x (suc k) a l e p = let r =
+      front_at ys x k a (omega arith) e p in (suc r.0, r.1, (let m = r.2 in omega arith), r.3, r.4)
 
   pub any_front : (xs : List A) (x : A) → Any P xs → Any P (xs ++ x ∷ [])
   any_front xs x h = front_at xs x h.0 h.1 h.2 h.3 h.4

@@ -16,7 +16,8 @@ pub use denote.Shadow.{pure_i}
 pub use denote.Signature.{plain, types_at}
 pub use denote.Slice.{shr_slice_vals, shr_slice_Tells}
 pub use denote.Triple.Entry.{alive}
-pub use denote.Triple.Walked.{Stays, walk_of, says, stay_none_ref, stay_none_slice, Goes-none_ref, Goes-none_slice, ends_at}
+pub use denote.Triple.Walked.{Stays, walk_of, says, stay_none_ref, stay_none_slice, Goes-none_ref, Goes-none_slice}
+pub use denote.Triple.Walked.{ends_at}
 use mir.Val.{Val, vstruct, vcons, vnil}
 
 -- a struct with no field, and a struct whose one field is such a struct

@@ -1,7 +1,9 @@
 -- Which places are near a kept one, as the places grow by one.
-use Rattle.std.proofs.Common.{◌≡◌, ℕ, zero, suc, ◌+◌, ◌-◌, ◌<◌, ◌≤◌, inl, inr, Bool, true, false, ◌&&◌, ◌||◌, nat_le, nat_lt, [], ◌∷◌, ◌++◌, refl, sym, ap, ◌∙◌, subst, arith}
+use Rattle.std.proofs.Common.{◌≡◌, ℕ, zero, suc, ◌+◌, ◌-◌, ◌<◌, ◌≤◌, inl, inr, Bool, true, false, ◌&&◌, ◌||◌, nat_le}
+use Rattle.std.proofs.Common.{nat_lt, [], ◌∷◌, ◌++◌, refl, sym, ap, ◌∙◌, subst, arith}
 use Rattle.std.specs.List.{range_with_len, list_any}
-use Rattle.std.proofs.lemmas.Bool.{and_from, and_right, or_left, or_right, or_from, le-leb, lt-leb, lt-ltb, le-ltb, cases_lt}
+use Rattle.std.proofs.lemmas.Bool.{and_from, and_right, or_left, or_right, or_from, le-leb, lt-leb, lt-ltb, le-ltb}
+use Rattle.std.proofs.lemmas.Bool.{cases_lt}
 use Rattle.std.proofs.lemmas.List.Folds.{list_any-append}
 use Rattle.pg_rows.specs.Output.{is_near}
 
@@ -15,11 +17,14 @@ range_more a (suc n) =
     let e : (a + 1) + n ≡ a + suc n = omega arith in
     ap (λ xs. a ∷ xs) (range_more (a + 1) n ∙ ap (λ x. range_with_len (a + 1) n ++ x ∷ []) e)
 
-pub any_more : (f : ℕ → Bool) (a n : ℕ) → list_any f (range_with_len a (suc n)) ≡ (list_any f (range_with_len a n) || f (a + n))
+pub any_more : (f : ℕ → Bool) (a n : ℕ) →
+    list_any f (range_with_len a (suc n)) ≡ (list_any f (range_with_len a n) || f (a + n))
 any_more f a n =
-    ap (list_any f) (range_more a n) ∙ (list_any-append f (range_with_len a n) ((a + n) ∷ []) ∙ ap (λ t. list_any f (range_with_len a n) || t) (or_false (f (a + n))))
+    ap (list_any f) (range_more a n) ∙ (list_any-append f (range_with_len a n) ((a + n) ∷ [])
+        ∙ ap (λ t. list_any f (range_with_len a n) || t) (or_false (f (a + n))))
 
-pub any_same : (f g : ℕ → Bool) (a n : ℕ) → ((j : ℕ) → a ≤ j → j < a + n → f j ≡ g j) → list_any f (range_with_len a n) ≡ list_any g (range_with_len a n)
+pub any_same : (f g : ℕ → Bool) (a n : ℕ) → ((j : ℕ) → a ≤ j → j < a + n → f j ≡ g j)
+    → list_any f (range_with_len a n) ≡ list_any g (range_with_len a n)
 any_same f g a zero h = refl
 any_same f g a (suc n) h =
     ap (λ t. t || list_any f (range_with_len (a + 1) n)) (h a (omega arith) (omega arith))
@@ -29,13 +34,15 @@ any_same f g a (suc n) h =
 abbrev pub is_at : ℕ → ℕ → ℕ → ℕ → Bool
 is_at B A n i = nat_le n (i + B) && nat_le i (n + A)
 
-near_more : (kept kept' : ℕ → Bool) (B A n i : ℕ) → ((j : ℕ) → j < n → kept' j ≡ kept j) → is_near kept' B A (suc n) i ≡ (is_near kept B A n i || (kept' n && is_at B A n i))
+near_more : (kept kept' : ℕ → Bool) (B A n i : ℕ) → ((j : ℕ) → j < n → kept' j ≡ kept j)
+    → is_near kept' B A (suc n) i ≡ (is_near kept B A n i || (kept' n && is_at B A n i))
 near_more kept kept' B A n i same =
     let z : 0 + n ≡ n = omega arith in
     any_more (λ j. kept' j && is_at B A j i) 0 n
     ∙ (ap (λ k. list_any (λ j. kept' j && is_at B A j i) (range_with_len 0 n) || (kept' k && is_at B A k i)) z
     ∙ ap (λ t. t || (kept' n && is_at B A n i))
-    (any_same (λ j. kept' j && is_at B A j i) (λ j. kept j && is_at B A j i) 0 n (λ j low high. ap (λ t. t && is_at B A j i) (same j (omega arith)))))
+    (any_same (λ j. kept' j && is_at B A j i) (λ j. kept j && is_at B A j i) 0 n
+        (λ j low high. ap (λ t. t && is_at B A j i) (same j (omega arith)))))
 
 -- n places, of which those from d on aren't near a kept one; the next cd places are
 pub record IsNear (B A : ℕ) (kept : ℕ → Bool) (n d cd : ℕ) : Type 0 where
@@ -58,16 +65,22 @@ near_none B A kept = record {
   coming = λ i low. sym (le-ltb i (0 + 0) (omega arith));
 }
 
-module _ (kept kept' : ℕ → Bool) (B A n d cd : ℕ) (same : (j : ℕ) → j < n → kept' j ≡ kept j) (h : IsNear B A kept n d cd) where
+module _ (kept kept' : ℕ → Bool) (B A n d cd : ℕ) (same : (j : ℕ) → j < n → kept' j ≡ kept j)
+    (h : IsNear B A kept n d cd) where
   -- a line that isn't kept changes nothing
   pub near_same : kept' n ≡ false → (i : ℕ) → is_near kept' B A (suc n) i ≡ is_near kept B A n i
-  near_same unkept i = near_more kept kept' B A n i same ∙ (ap (λ t. is_near kept B A n i || (t && is_at B A n i)) unkept ∙ or_false (is_near kept B A n i))
+  near_same unkept i = near_more kept kept' B A n i same
+      ∙ (ap (λ t. is_near kept B A n i || (t && is_at B A n i)) unkept ∙ or_false (is_near kept B A n i))
 
   -- a line that is kept brings those before it
-  pub near_new : kept' n ≡ true → (i : ℕ) → i ≤ n → is_near kept' B A (suc n) i ≡ (is_near kept B A n i || nat_le n (i + B))
-  near_new chosen i below = near_more kept kept' B A n i same ∙ ap (λ t. is_near kept B A n i || t) (by_at (nat_le n (i + B)) (ap (λ t. t && is_at B A n i) chosen) (le-leb i (n + A) (omega arith)))
+  pub near_new : kept' n ≡ true → (i : ℕ) → i ≤ n
+      → is_near kept' B A (suc n) i ≡ (is_near kept B A n i || nat_le n (i + B))
+  near_new chosen i below = near_more kept kept' B A n i same
+      ∙ ap (λ t. is_near kept B A n i || t)
+      (by_at (nat_le n (i + B)) (ap (λ t. t && is_at B A n i) chosen) (le-leb i (n + A) (omega arith)))
     where
-      by_at : (t : Bool) → (kept' n && is_at B A n i) ≡ (true && is_at B A n i) → nat_le i (n + A) ≡ true → (kept' n && is_at B A n i) ≡ nat_le n (i + B)
+      by_at : (t : Bool) → (kept' n && is_at B A n i) ≡ (true && is_at B A n i) → nat_le i (n + A) ≡ true
+          → (kept' n && is_at B A n i) ≡ nat_le n (i + B)
       by_at t e le = e ∙ (ap (λ u. nat_le n (i + B) && u) le ∙ and_true (nat_le n (i + B)))
         where
           and_true : (b : Bool) → (b && true) ≡ b
@@ -92,11 +105,18 @@ module _ (kept kept' : ℕ → Bool) (B A n d cd : ℕ) (same : (j : ℕ) → j 
     ahead = omega arith;
     flush = λ some. (refl, omega arith);
     none = λ i low high. absurd (omega arith);
-    last = λ i e. let s : n ≡ i = omega arith in let P : ℕ → Type 0 = λ k. is_near kept' B A (suc n) k ≡ true in subst P s (new_self chosen);
-    dense = λ i low high. near_new chosen i (omega arith) ∙ or_right (is_near kept B A n i) _ (le-leb n (i + B) (omega arith));
+    last = λ i e. let s : n ≡ i = omega arith in let P : ℕ
+        → Type 0 = λ k. is_near kept' B A (suc n) k ≡ true in subst P s (new_self chosen);
+    dense = λ i low high. near_new chosen i (omega arith)
+        ∙ or_right (is_near kept B A n i) _ (le-leb n (i + B) (omega arith));
     coming = λ i low. near_more kept kept' B A n i same ∙ elim (cases_lt i (suc n + A)) [
-      | inl lt ↦ or_right (is_near kept B A n i) _ (and_from (kept' n) _ chosen (and_from (nat_le n (i + B)) _ (le-leb n (i + B) (omega arith)) (le-leb i (n + A) (omega arith)))) ∙ sym (lt-ltb i (suc n + A) lt)
-      | inr ge ↦ or_from (is_near kept B A n i) _ (h.coming i (omega arith) ∙ le-ltb i (n + cd) (omega (arith, h.ahead))) (and_right (kept' n) _ (and_right (nat_le n (i + B)) _ (lt-leb i (n + A) (omega arith)))) ∙ sym (le-ltb i (suc n + A) ge)
+      | inl lt ↦ or_right (is_near kept B A n i) _
+          (and_from (kept' n) _ chosen (and_from (nat_le n (i + B)) _ (le-leb n (i + B) (omega arith))
+          (le-leb i (n + A) (omega arith)))) ∙ sym (lt-ltb i (suc n + A) lt)
+      | inr ge ↦ or_from (is_near kept B A n i) _
+          (h.coming i (omega arith) ∙ le-ltb i (n + cd) (omega (arith, h.ahead)))
+          (and_right (kept' n) _ (and_right (nat_le n (i + B)) _ (lt-leb i (n + A) (omega arith))))
+          ∙ sym (le-ltb i (suc n + A) ge)
     ];
   }
 
@@ -109,12 +129,15 @@ module _ (kept kept' : ℕ → Bool) (B A n d cd : ℕ) (same : (j : ℕ) → j 
         ahead = omega (arith, h.ahead);
         flush = λ more. (refl, omega arith);
         none = λ i low high. absurd (omega arith);
-        last = λ i e. let s : n ≡ i = omega arith in let P : ℕ → Type 0 = λ k. is_near kept' B A (suc n) k ≡ true in subst P s (near_same unkept n ∙ here);
+        last = λ i e. let s : n ≡ i = omega arith in let P : ℕ
+            → Type 0 = λ k. is_near kept' B A (suc n) k ≡ true in subst P s (near_same unkept n ∙ here);
         dense = λ i low high. near_same unkept i ∙ elim (cases_lt i n) [
           | inl lt ↦ h.dense i (omega (arith, f.0)) (omega arith)
-          | inr ge ↦ let s : n ≡ i = omega arith in let P : ℕ → Type 0 = λ k. is_near kept B A n k ≡ true in subst P s here
+          | inr ge ↦ let s : n ≡ i = omega arith in let P : ℕ
+              → Type 0 = λ k. is_near kept B A n k ≡ true in subst P s here
         ];
-        coming = λ i low. let e : n + cd ≡ suc n + (cd - 1) = omega arith in near_same unkept i ∙ (h.coming i (omega arith) ∙ ap (nat_lt i) e);
+        coming = λ i low. let e : n + cd ≡ suc n + (cd - 1) = omega arith in near_same unkept i
+            ∙ (h.coming i (omega arith) ∙ ap (nat_lt i) e);
       }
 
   pub IsNear-other : kept' n ≡ false → cd ≡ 0 → IsNear B A kept' (suc n) d 0
@@ -128,5 +151,6 @@ module _ (kept kept' : ℕ → Bool) (B A n d cd : ℕ) (same : (j : ℕ) → j 
     ];
     last = λ i e. near_same unkept i ∙ h.last i e;
     dense = λ i low high. near_same unkept i ∙ h.dense i low (omega arith);
-    coming = λ i low. near_same unkept i ∙ (h.coming i (omega arith) ∙ (le-ltb i (n + cd) (omega arith) ∙ sym (le-ltb i (suc n + 0) (omega arith))));
+    coming = λ i low. near_same unkept i ∙
+        (h.coming i (omega arith) ∙ (le-ltb i (n + cd) (omega arith) ∙ sym (le-ltb i (suc n + 0) (omega arith))));
   }

@@ -39,24 +39,31 @@ pub takes_part : (text before after : List ℕ) (n : ℕ) → after ≡ before +
 takes_part text before after n e = (take n text, (drop n text, take-append-drop n text), e)
 
 -- after its first bytes, the next bytes of a text were taken
-pub takes_more : (text start before after : List ℕ) (at count : ℕ) → before ≡ start ++ take at text → after ≡ before ++ take count (take (length text - at) (drop at text)) → after ≡ start ++ take (at + count) text
+pub takes_more : (text start before after : List ℕ) (at count : ℕ) → before ≡ start ++ take at text
+    → after ≡ before ++ take count (take (length text - at) (drop at text)) → after ≡ start ++ take (at + count) text
 takes_more text start before after at count b a =
     a ∙ (ap (λ xs. before ++ take count xs) (take_rest text at) ∙ (ap (λ xs. xs ++ take count (drop at text)) b
-    ∙ (append_assoc start (take at text) (take count (drop at text)) ∙ ap (λ xs. start ++ xs) (sym (take-add at count text)))))
+    ∙ (append_assoc start (take at text) (take count (drop at text))
+        ∙ ap (λ xs. start ++ xs) (sym (take-add at count text)))))
 
 -- a part of a beginning is a part of the whole
-pub takes_longer : (text whole before after : List ℕ) → TakesPart text before after → IsBeginning text whole → TakesPart whole before after
-takes_longer text whole before after t b = (t.0, (t.1.0 ++ b.0, sym (append_assoc t.0 t.1.0 b.0) ∙ (ap (λ xs. xs ++ b.0) t.1.1 ∙ b.1)), t.2)
+pub takes_longer : (text whole before after : List ℕ) → TakesPart text before after → IsBeginning text whole
+    → TakesPart whole before after
+takes_longer text whole before after t b =
+    (t.0, (t.1.0 ++ b.0, sym (append_assoc t.0 t.1.0 b.0) ∙ (ap (λ xs. xs ++ b.0) t.1.1 ∙ b.1)), t.2)
 
 -- behind what the first ones give, a part of what the next one gives
-pub takes_of_map : {X : Type 0} (f : X → List ℕ) (xs : List X) (k : ℕ) (d : X) (before middle after : List ℕ) → k < length xs → middle ≡ before ++ flat_map f (take k xs)
+pub takes_of_map : {X : Type 0} (f : X → List ℕ) (xs : List X) (k : ℕ) (d : X) (before middle after : List ℕ)
+    → k < length xs → middle ≡ before ++ flat_map f (take k xs)
     → TakesPart (f (get_or xs k d)) middle after → TakesPart (flat_map f xs) before after
 takes_of_map f xs k d before middle after below m t =
     let front = flat_map f (take k xs) in
     let later = flat_map f (drop (k + 1) xs) in
     let whole : flat_map f xs ≡ front ++ (f (get_or xs k d) ++ later) =
-    ap (flat_map f) (sym (take-append-drop k xs)) ∙ (flat_map-append f (take k xs) (drop k xs) ∙ ap (λ ys. front ++ flat_map f ys) (drop_more xs k d below)) in (
+    ap (flat_map f) (sym (take-append-drop k xs))
+        ∙ (flat_map-append f (take k xs) (drop k xs) ∙ ap (λ ys. front ++ flat_map f ys) (drop_more xs k d below)) in (
       front ++ t.0,
-      (t.1.0 ++ later, append_assoc front t.0 (t.1.0 ++ later) ∙ (ap (λ ys. front ++ ys) (sym (append_assoc t.0 t.1.0 later) ∙ ap (λ ys. ys ++ later) t.1.1) ∙ sym whole)),
+      (t.1.0 ++ later, append_assoc front t.0 (t.1.0 ++ later)
+          ∙ (ap (λ ys. front ++ ys) (sym (append_assoc t.0 t.1.0 later) ∙ ap (λ ys. ys ++ later) t.1.1) ∙ sym whole)),
       t.2 ∙ (ap (λ ys. ys ++ t.0) m ∙ append_assoc before front t.0),
     )

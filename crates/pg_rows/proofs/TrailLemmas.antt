@@ -1,9 +1,13 @@
 -- The rows of one line more.
-use Rattle.std.proofs.Common.{◌≡◌, ℕ, zero, suc, ◌+◌, ◌-◌, ◌<◌, ◌≤◌, ◌⊎◌, inl, inr, Bool, true, false, not, ◌&&◌, ◌||◌, cond, nat_le, nat_lt, Option, Some, None, List, [], ◌∷◌, ◌++◌, length, take, drop, get_or, refl, sym, ap, ◌∙◌, subst, arith, append_assoc, length-append, length-drop}
+use Rattle.std.proofs.Common.{◌≡◌, ℕ, zero, suc, ◌+◌, ◌-◌, ◌<◌, ◌≤◌, ◌⊎◌, inl, inr, Bool, true, false, not, ◌&&◌, ◌||◌}
+use Rattle.std.proofs.Common.{cond, nat_le, nat_lt, Option, Some, None, List, [], ◌∷◌, ◌++◌, length, take, drop, get_or}
+use Rattle.std.proofs.Common.{refl, sym, ap, ◌∙◌, subst, arith, append_assoc, length-append, length-drop}
 use Rattle.std.specs.List.{range_with_len, list_any, filter, flat_map, count_by}
 use Rattle.circular_buffer.specs.Buffer.{keep_last}
-use Rattle.std.proofs.lemmas.Bool.{false≢true, le-leb, lt-leb, lt-ltb, le-ltb, ltb-true, ltb-false, cases_lt, cases_Bool}
-use Rattle.std.proofs.lemmas.List.{append-nil, get_or_append_left, get_or_push, take-append-le, take_at, length_push, drop-append-le, drop-drop, get_or-drop, drop_all}
+use Rattle.std.proofs.lemmas.Bool.{false≢true, le-leb, lt-leb, lt-ltb, le-ltb, ltb-true, ltb-false, cases_lt}
+use Rattle.std.proofs.lemmas.Bool.{cases_Bool}
+use Rattle.std.proofs.lemmas.List.{append-nil, get_or_append_left, get_or_push, take-append-le, take_at, length_push}
+use Rattle.std.proofs.lemmas.List.{drop-append-le, drop-drop, get_or-drop, drop_all}
 use Rattle.std.proofs.lemmas.List.Concat.{flat_map-append}
 use Rattle.std.proofs.lemmas.List.Elements.{filter-append}
 use Rattle.std.proofs.lemmas.List.Sums.{sum_by_push}
@@ -43,7 +47,8 @@ pub record IsTrail (q : Search) (format : Format) (ls : List (List ℕ)) (t : Tr
   pub skipped : t.skipped ≡ nat_lt (before_of format) (length ls - done)
   pub window : t.window ≡ drop (window_at (before_of format) (length ls) done) ls
 
-below_of_quota : (limit : Option ℕ) (kept count : ℕ) → Quota limit kept count → is_below kept limit ≡ is_below count limit
+below_of_quota : (limit : Option ℕ) (kept count : ℕ) → Quota limit kept count
+    → is_below kept limit ≡ is_below count limit
 below_of_quota limit kept count (inl e) = ap (λ k. is_below k limit) e
 below_of_quota limit kept count (inr p) = p.0 ∙ sym p.1
 
@@ -53,10 +58,12 @@ below_less (Some k) n e = let le : k ≤ n = ltb-false n k e in le-ltb (n + 1) k
 
 less_quota : (limit : Option ℕ) (n : ℕ) (t : Bool) → is_below n limit ≡ false → is_below (n + cond t 1 0) limit ≡ false
 less_quota limit n true e = below_less limit n e
-less_quota limit n false e = let z : n ≡ n + 0 = omega arith in let P : ℕ → Type 0 = λ k. is_below k limit ≡ false in subst P z e
+less_quota limit n false e = let z : n ≡ n + 0 = omega arith in let P : ℕ
+    → Type 0 = λ k. is_below k limit ≡ false in subst P z e
 
 -- how many are kept, and how many are selected, after one more line
-quota_step : (limit : Option ℕ) (kept count : ℕ) (selected : Bool) → Quota limit kept count → Quota limit (kept + cond (selected && is_below count limit) 1 0) (count + cond selected 1 0)
+quota_step : (limit : Option ℕ) (kept count : ℕ) (selected : Bool) → Quota limit kept count
+    → Quota limit (kept + cond (selected && is_below count limit) 1 0) (count + cond selected 1 0)
 quota_step limit kept count false (inl e) = inl (ap (λ k. k + 0) e)
 quota_step limit kept count false (inr p) = inr (less_quota limit kept false p.0, less_quota limit count false p.1)
 quota_step limit kept count true h = go (is_below count limit) refl h
@@ -64,36 +71,44 @@ quota_step limit kept count true h = go (is_below count limit) refl h
     go : (t : Bool) → is_below count limit ≡ t → Quota limit kept count → Quota limit (kept + cond t 1 0) (count + 1)
     go true e (inl s) = inl (ap (λ k. k + 1) s)
     go true e (inr p) = absurd (false≢true (sym p.1 ∙ e))
-    go false e (inl s) = let P : ℕ → Type 0 = λ k. is_below k limit ≡ false in inr (less_quota limit kept false (subst P (sym s) e), below_less limit count e)
+    go false e (inl s) = let P : ℕ → Type 0 =
+        λ k. is_below k limit ≡ false in inr (less_quota limit kept false (subst P (sym s) e), below_less limit count e)
     go false e (inr p) = inr (less_quota limit kept false p.0, below_less limit count p.1)
 
 behind_at : (set : ℕ → Bool) (i f : ℕ) → i + 1 ≡ f → is_behind set f ≡ set i
 behind_at set i zero e = absurd (omega arith)
 behind_at set i (suc f) e = let s : f ≡ i = omega arith in ap set s
 
-none_in : (set : ℕ → Bool) (a n : ℕ) → ((i : ℕ) → a ≤ i → i < a + n → set i ≡ false) → list_any set (range_with_len a n) ≡ false
+none_in : (set : ℕ → Bool) (a n : ℕ) → ((i : ℕ) → a ≤ i → i < a + n → set i ≡ false)
+    → list_any set (range_with_len a n) ≡ false
 none_in set a zero h = refl
-none_in set a (suc n) h = ap (λ t. t || list_any set (range_with_len (a + 1) n)) (h a (omega arith) (omega arith)) ∙ none_in set (a + 1) n (λ i low high. h i (omega arith) (omega arith))
+none_in set a (suc n) h = ap (λ t. t || list_any set (range_with_len (a + 1) n)) (h a (omega arith) (omega arith))
+    ∙ none_in set (a + 1) n (λ i low high. h i (omega arith) (omega arith))
 
-filter_same : (p p' : ℕ → Bool) (a n : ℕ) → ((i : ℕ) → a ≤ i → i < a + n → p i ≡ p' i) → filter p (range_with_len a n) ≡ filter p' (range_with_len a n)
+filter_same : (p p' : ℕ → Bool) (a n : ℕ) → ((i : ℕ) → a ≤ i → i < a + n → p i ≡ p' i)
+    → filter p (range_with_len a n) ≡ filter p' (range_with_len a n)
 filter_same p p' a zero h = refl
 filter_same p p' a (suc n) h =
-    ap (λ t. cond t (a ∷ filter p (range_with_len (a + 1) n)) (filter p (range_with_len (a + 1) n))) (h a (omega arith) (omega arith))
+    ap (λ t. cond t (a ∷ filter p (range_with_len (a + 1) n)) (filter p (range_with_len (a + 1) n)))
+        (h a (omega arith) (omega arith))
     ∙ ap (λ xs. cond (p' a) (a ∷ xs) xs) (filter_same p p' (a + 1) n (λ i low high. h i (omega arith) (omega arith)))
 
 one_or_none : (t : Bool) (x : ℕ) → length (cond t (x ∷ []) []) ≡ cond t 1 0
 one_or_none true x = refl
 one_or_none false x = refl
 
-put_last : (set : ℕ → Bool) (emit : ℕ → List ℕ) (n : ℕ) → put set emit 0 (suc n) ≡ put set emit 0 n ++ cond (set n) (emit n) []
+put_last : (set : ℕ → Bool) (emit : ℕ → List ℕ) (n : ℕ)
+    → put set emit 0 (suc n) ≡ put set emit 0 n ++ cond (set n) (emit n) []
 put_last set emit n =
     let e : suc n ≡ n + 1 = omega arith in
     let z : 0 + n ≡ n = omega arith in
     ap (put set emit 0) e
     ∙ (put_split set emit 0 n 1
-    ∙ ap (λ xs. put set emit 0 n ++ xs) (ap (λ a. put set emit a 1) z ∙ (put_first set emit n 0 ∙ append-nil (cond (set n) (emit n) []))))
+    ∙ ap (λ xs. put set emit 0 n ++ xs) (ap (λ a. put set emit a 1) z
+        ∙ (put_first set emit n 0 ∙ append-nil (cond (set n) (emit n) []))))
 
-keep_more : {X : Type 0} (B n d : ℕ) (ls : List X) (l : X) → length ls ≡ n → d ≤ n → keep_last B (drop (window_at B n d) ls ++ l ∷ []) ≡ drop (window_at B (suc n) d) (ls ++ l ∷ [])
+keep_more : {X : Type 0} (B n d : ℕ) (ls : List X) (l : X) → length ls ≡ n → d ≤ n
+    → keep_last B (drop (window_at B n d) ls ++ l ∷ []) ≡ drop (window_at B (suc n) d) (ls ++ l ∷ [])
 keep_more B n d ls l e low =
     let f = window_at B n d in
     let inside : f ≤ length ls = omega arith in
@@ -103,26 +118,32 @@ keep_more B n d ls l e low =
     ap (λ xs. drop (length (drop f ls ++ l ∷ []) - B) xs) (sym (drop-append-le f ls (l ∷ []) inside))
     ∙ (drop-drop (length (drop f ls ++ l ∷ []) - B) f (ls ++ l ∷ []) ∙ ap (λ m. drop m (ls ++ l ∷ [])) k)
 
-rows_are : (format : Format) (end : ℕ) (name : List ℕ) (r : ℕ → List ℕ) (k : ℕ) (ws : List (List ℕ)) → ((i : ℕ) → i < length ws → r (k + i) ≡ row format end name ((k + i) + 1) 45 (get_or ws i [])) → flat_map r (range_with_len k (length ws)) ≡ context_rows format end name (k + 1) ws
+rows_are : (format : Format) (end : ℕ) (name : List ℕ) (r : ℕ → List ℕ) (k : ℕ) (ws : List (List ℕ))
+    → ((i : ℕ) → i < length ws → r (k + i) ≡ row format end name ((k + i) + 1) 45 (get_or ws i []))
+    → flat_map r (range_with_len k (length ws)) ≡ context_rows format end name (k + 1) ws
 rows_are format end name r k [] h = refl
 rows_are format end name r k (w ∷ ws) h =
     let z : k + 0 ≡ k = omega arith in
-    let first : r k ≡ row format end name (k + 1) 45 w = ap r (sym z) ∙ (h 0 (omega arith) ∙ ap (λ m. row format end name (m + 1) 45 w) z) in
+    let first : r k ≡ row format end name (k + 1) 45 w = ap r (sym z)
+        ∙ (h 0 (omega arith) ∙ ap (λ m. row format end name (m + 1) 45 w) z) in
     ap (λ xs. xs ++ flat_map r (range_with_len (k + 1) (length ws))) first
     ∙ ap (λ xs. row format end name (k + 1) 45 w ++ xs) (rows_are format end name r (k + 1) ws (λ i below.
     let e : (k + 1) + i ≡ k + suc i = omega arith in
     ap r e ∙ (h (suc i) (omega arith) ∙ ap (λ m. row format end name (m + 1) 45 (get_or ws i [])) (sym e))))
 
-separator_is : (c x b a s k : Bool) → ((s ≡ true) × (a ≡ true) × (not b ≡ k)) ⊎ ((s ≡ false) × (a ≡ false) × (b ≡ false)) → (c && not b && (x || a)) ≡ (c && cond s k x)
+separator_is : (c x b a s k : Bool) → ((s ≡ true) × (a ≡ true) × (not b ≡ k))
+    ⊎ ((s ≡ false) × (a ≡ false) × (b ≡ false)) → (c && not b && (x || a)) ≡ (c && cond s k x)
 separator_is false x b a s k h = refl
-separator_is true x b a s k (inl p) = ap (λ u. not b && (x || u)) p.1 ∙ (or_end x (not b) ∙ (p.2 ∙ ap (λ u. cond u k x) (sym p.0)))
+separator_is true x b a s k (inl p) = ap (λ u. not b && (x || u)) p.1
+    ∙ (or_end x (not b) ∙ (p.2 ∙ ap (λ u. cond u k x) (sym p.0)))
   where
     or_end : (x y : Bool) → (y && (x || true)) ≡ y
     or_end true true = refl
     or_end true false = refl
     or_end false true = refl
     or_end false false = refl
-separator_is true x b a s k (inr p) = ap (λ u. not u && (x || a)) p.2 ∙ (ap (λ u. x || u) p.1 ∙ (or_none x ∙ ap (λ u. cond u k x) (sym p.0)))
+separator_is true x b a s k (inr p) = ap (λ u. not u && (x || a)) p.2
+    ∙ (ap (λ u. x || u) p.1 ∙ (or_none x ∙ ap (λ u. cond u k x) (sym p.0)))
   where
     or_none : (x : Bool) → (x || false) ≡ x
     or_none true = refl
@@ -130,7 +151,9 @@ separator_is true x b a s k (inr p) = ap (λ u. not u && (x || a)) p.2 ∙ (ap (
 
 -- what one place gives
 abbrev pub emit_of : Search → Format → List ℕ → Bool → (ℕ → Bool) → (ℕ → Bool) → List (List ℕ) → ℕ → List ℕ
-emit_of q format name earlier set kept ls i = separator format (terminator q) set earlier i ++ row format (terminator q) name (i + 1) (mark_of (kept i)) (line_at ls i)
+emit_of q format name earlier set kept ls i =
+    separator format (terminator q) set earlier i ++ row format (terminator q) name (i + 1) (mark_of (kept i))
+    (line_at ls i)
 
 module _ (q : Search) (format : Format) (ls : List (List ℕ)) (l : List ℕ) (t : Trail) (h : IsTrail q format ls t) where
   abbrev n : ℕ
@@ -163,7 +186,8 @@ module _ (q : Search) (format : Format) (ls : List (List ℕ)) (l : List ℕ) (t
   kept_same : (i : ℕ) → i < n → kept' i ≡ kept i
   kept_same i below =
       ap (λ x. selects q x && is_below (count_by (selects q) (take i more)) format.limit) (line_same i below)
-      ∙ ap (λ xs. selects q (line_at ls i) && is_below (count_by (selects q) xs) format.limit) (take-append-le i ls (l ∷ []) (omega arith))
+      ∙ ap (λ xs. selects q (line_at ls i) && is_below (count_by (selects q) xs) format.limit)
+          (take-append-le i ls (l ∷ []) (omega arith))
 
   kept_count : kept' n ≡ (selects q l && is_below (count_by (selects q) ls) format.limit)
   kept_count =
@@ -171,7 +195,8 @@ module _ (q : Search) (format : Format) (ls : List (List ℕ)) (l : List ℕ) (t
       ∙ ap (λ xs. selects q l && is_below (count_by (selects q) xs) format.limit) (take_at ls (l ∷ []) n refl)
 
   kept_new : kept' n ≡ keeps format t (selects q l)
-  kept_new = kept_count ∙ ap (λ b. selects q l && b) (sym (below_of_quota format.limit t.kept (count_by (selects q) ls) h.quota))
+  kept_new = kept_count ∙ ap (λ b. selects q l && b)
+      (sym (below_of_quota format.limit t.kept (count_by (selects q) ls) h.quota))
 
   count_more : length (members kept' more) ≡ t.kept + cond (keeps format t (selects q l)) 1 0
   count_more =
@@ -180,16 +205,19 @@ module _ (q : Search) (format : Format) (ls : List (List ℕ)) (l : List ℕ) (t
       ∙ (ap (λ xs. length (filter kept' xs)) (range_more 0 n)
       ∙ (ap (λ xs. length xs) (filter-append kept' (range_with_len 0 n) ((0 + n) ∷ []))
       ∙ (length-append (filter kept' (range_with_len 0 n)) (filter kept' ((0 + n) ∷ []))
-      ∙ (ap (λ xs. length xs + length (filter kept' ((0 + n) ∷ []))) (filter_same kept' kept 0 n (λ i low high. kept_same i (omega arith)))
+      ∙ (ap (λ xs. length xs + length (filter kept' ((0 + n) ∷ [])))
+          (filter_same kept' kept 0 n (λ i low high. kept_same i (omega arith)))
       ∙ (ap (λ m. m + length (filter kept' ((0 + n) ∷ []))) (sym h.count)
       ∙ ap (λ m. t.kept + m) (one_or_none (kept' (0 + n)) (0 + n) ∙ ap (λ b. cond b 1 0) (ap kept' z ∙ kept_new)))))))
 
   quota_more : Quota format.limit (t.kept + cond (keeps format t (selects q l)) 1 0) (count_by (selects q) more)
   quota_more =
       let P : ℕ → Type 0 = λ k. Quota format.limit k (count_by (selects q) more) in
-      let R : ℕ → Type 0 = λ c. Quota format.limit (t.kept + cond (selects q l && is_below (count_by (selects q) ls) format.limit) 1 0) c in
+      let R : ℕ → Type 0 = λ c. Quota format.limit
+          (t.kept + cond (selects q l && is_below (count_by (selects q) ls) format.limit) 1 0) c in
       subst P (ap (λ b. t.kept + cond b 1 0) (sym kept_count ∙ kept_new))
-      (subst R (sym (sum_by_push (λ x. cond (selects q x) 1 0) ls l)) (quota_step format.limit t.kept (count_by (selects q) ls) (selects q l) h.quota))
+      (subst R (sym (sum_by_push (λ x. cond (selects q x) 1 0) ls l))
+          (quota_step format.limit t.kept (count_by (selects q) ls) (selects q l) h.quota))
 
   abbrev Near : ℕ → ℕ → ℕ → Type 0
   Near m d cd = IsNear (before_of format) (after_of format) kept' m d cd
@@ -211,7 +239,8 @@ module _ (q : Search) (format : Format) (ls : List (List ℕ)) (l : List ℕ) (t
         count = sym one ∙ sym count_more;
         quota = subst W one quota_more;
         done = length more;
-        near = subst P (sym long) (IsNear-kept kept kept' (before_of format) (after_of format) n h.done t.countdown kept_same h.near (kept_new ∙ e));
+        near = subst P (sym long) (IsNear-kept kept kept' (before_of format)
+            (after_of format) n h.done t.countdown kept_same h.near (kept_new ∙ e));
         some = sym (lt-ltb 0 (length more) (omega (arith, long)));
         skipped = sym (le-ltb (before_of format) (length more - length more) (omega arith));
         window = sym (drop_end (window_at (before_of format) (length more) (length more)) at);
@@ -220,7 +249,8 @@ module _ (q : Search) (format : Format) (ls : List (List ℕ)) (l : List ℕ) (t
   trail_context : keeps format t (selects q l) ≡ false → 0 < t.countdown → IsTrail q format more (after_context t)
   trail_context e some =
       let P : ℕ → Type 0 = λ m. Near m m (t.countdown - 1) in
-      let none : t.kept + cond (keeps format t (selects q l)) 1 0 ≡ t.kept = let z : t.kept + 0 ≡ t.kept = omega arith in ap (λ b. t.kept + cond b 1 0) e ∙ z in
+      let none : t.kept + cond (keeps format t (selects q l)) 1 0 ≡ t.kept = let z : t.kept + 0 ≡ t.kept =
+          omega arith in ap (λ b. t.kept + cond b 1 0) e ∙ z in
       let W : ℕ → Type 0 = λ k. Quota format.limit k (count_by (selects q) more) in
       let at : window_at (before_of format) (length more) (length more) ≡ length more = omega arith in
       let f = h.near.flush some in
@@ -231,51 +261,67 @@ module _ (q : Search) (format : Format) (ls : List (List ℕ)) (l : List ℕ) (t
         count = sym none ∙ sym count_more;
         quota = subst W none quota_more;
         done = length more;
-        near = subst P (sym long) (IsNear-context kept kept' (before_of format) (after_of format) n h.done t.countdown kept_same h.near (kept_new ∙ e) some);
+        near = subst P (sym long) (IsNear-context kept kept' (before_of format)
+            (after_of format) n h.done t.countdown kept_same h.near (kept_new ∙ e) some);
         some = h.some ∙ (lt-ltb 0 h.done f.1 ∙ sym (lt-ltb 0 (length more) (omega (arith, long))));
-        skipped = h.skipped ∙ (le-ltb (before_of format) (n - h.done) (omega (arith, f.0)) ∙ sym (le-ltb (before_of format) (length more - length more) (omega arith)));
-        window = h.window ∙ (ap (λ k. drop k ls) old ∙ (empty ∙ sym (drop_end (window_at (before_of format) (length more) (length more)) at)));
+        skipped = h.skipped ∙ (le-ltb (before_of format) (n - h.done) (omega (arith, f.0))
+            ∙ sym (le-ltb (before_of format) (length more - length more) (omega arith)));
+        window = h.window ∙ (ap (λ k. drop k ls) old
+            ∙ (empty ∙ sym (drop_end (window_at (before_of format) (length more) (length more)) at)));
       }
 
   window_length : length t.window + window_at (before_of format) n h.done ≡ n
-  window_length = let e = ap length h.window in let f = length-drop (window_at (before_of format) n h.done) ls in let low = h.near.low in omega arith
+  window_length = let e = ap length h.window in let f =
+      length-drop (window_at (before_of format) n h.done) ls in let low = h.near.low in omega arith
 
   skips : (a b : Bool) (P : Bool → Type 0) → ((a ≡ true) → P true) → ((a ≡ false) → P b) → P (a || b)
   skips true b P x y = x refl
   skips false b P x y = y refl
 
-  skipped_more : (t.skipped || nat_le (before_of format) (length t.window)) ≡ nat_lt (before_of format) (length more - h.done)
+  skipped_more : (t.skipped || nat_le (before_of format) (length t.window)) ≡ nat_lt (before_of format)
+      (length more - h.done)
   skipped_more =
       let low = h.near.low in
       let w = window_length in
-      skips t.skipped (nat_le (before_of format) (length t.window)) (λ b. b ≡ nat_lt (before_of format) (length more - h.done))
-      (λ e. let gap = ltb-true (before_of format) (n - h.done) (sym h.skipped ∙ e) in sym (lt-ltb (before_of format) (length more - h.done) (omega (arith, long))))
-      (λ e. let gap = ltb-false (before_of format) (n - h.done) (sym h.skipped ∙ e) in elim (cases_lt (length t.window) (before_of format)) [
-        | inl lt ↦ lt-leb (before_of format) (length t.window) lt ∙ sym (le-ltb (before_of format) (length more - h.done) (omega (arith, long)))
-        | inr ge ↦ le-leb (before_of format) (length t.window) ge ∙ sym (lt-ltb (before_of format) (length more - h.done) (omega (arith, long)))
+      skips t.skipped (nat_le (before_of format) (length t.window))
+          (λ b. b ≡ nat_lt (before_of format) (length more - h.done))
+      (λ e. let gap = ltb-true (before_of format) (n - h.done) (sym h.skipped ∙ e) in sym
+          (lt-ltb (before_of format) (length more - h.done) (omega (arith, long))))
+      (λ e. let gap = ltb-false (before_of format) (n - h.done) (sym h.skipped ∙ e) in elim
+          (cases_lt (length t.window) (before_of format)) [
+        | inl lt ↦ lt-leb (before_of format) (length t.window) lt
+            ∙ sym (le-ltb (before_of format) (length more - h.done) (omega (arith, long)))
+        | inr ge ↦ le-leb (before_of format) (length t.window) ge
+            ∙ sym (lt-ltb (before_of format) (length more - h.done) (omega (arith, long)))
       ])
 
   trail_other : keeps format t (selects q l) ≡ false → t.countdown ≡ 0 → IsTrail q format more (after_other format t l)
   trail_other e none_left =
       let P : ℕ → Type 0 = λ m. Near m h.done 0 in
       let Q : ℕ → Type 0 = λ c. Near (length more) h.done c in
-      let none : t.kept + cond (keeps format t (selects q l)) 1 0 ≡ t.kept = let z : t.kept + 0 ≡ t.kept = omega arith in ap (λ b. t.kept + cond b 1 0) e ∙ z in
+      let none : t.kept + cond (keeps format t (selects q l)) 1 0 ≡ t.kept = let z : t.kept + 0 ≡ t.kept =
+          omega arith in ap (λ b. t.kept + cond b 1 0) e ∙ z in
       let W : ℕ → Type 0 = λ k. Quota format.limit k (count_by (selects q) more) in
       record {
         number = number_more;
         count = sym none ∙ sym count_more;
         quota = subst W none quota_more;
         done = h.done;
-        near = subst Q (sym none_left) (subst P (sym long) (IsNear-other kept kept' (before_of format) (after_of format) n h.done t.countdown kept_same h.near (kept_new ∙ e) none_left));
+        near = subst Q (sym none_left) (subst P (sym long)
+            (IsNear-other kept kept' (before_of format) (after_of format) n h.done t.countdown kept_same h.near
+            (kept_new ∙ e) none_left));
         some = h.some;
         skipped = skipped_more;
-        window = ap (λ xs. keep_last (before_of format) (xs ++ l ∷ [])) h.window ∙ (keep_more (before_of format) n h.done ls l refl h.near.low ∙ ap (λ m. drop (window_at (before_of format) m h.done) more) (sym long));
+        window = ap (λ xs. keep_last (before_of format) (xs ++ l ∷ [])) h.window
+            ∙ (keep_more (before_of format) n h.done ls l refl h.near.low
+            ∙ ap (λ m. drop (window_at (before_of format) m h.done) more) (sym long));
       }
 
   pub trail_step : IsTrail q format more (step format t (selects q l) l)
   trail_step = go (keeps format t (selects q l)) refl (nat_lt 0 t.countdown) refl
     where
-      go : (a : Bool) → keeps format t (selects q l) ≡ a → (b : Bool) → nat_lt 0 t.countdown ≡ b → IsTrail q format more (cond a (after_kept format t) (cond b (after_context t) (after_other format t l)))
+      go : (a : Bool) → keeps format t (selects q l) ≡ a → (b : Bool) → nat_lt 0 t.countdown ≡ b
+          → IsTrail q format more (cond a (after_kept format t) (cond b (after_context t) (after_other format t l)))
       go true e b f = trail_kept e
       go false e true f = trail_context e (ltb-true 0 t.countdown f)
       go false e false f = trail_other e (let z : t.countdown ≤ 0 = ltb-false 0 t.countdown f in omega arith)
@@ -283,20 +329,25 @@ module _ (q : Search) (format : Format) (ls : List (List ℕ)) (l : List ℕ) (t
   -- a place that isn't kept gives a hyphen's row
   unkept : (i : ℕ) → i < n → set i ≡ false → kept i ≡ false
   unkept i below e = elim (cases_Bool (kept i)) [
-    | inl yes_kept ↦ absurd (false≢true (sym e ∙ some_in_range (λ j. kept j && (nat_le j (i + before_of format) && nat_le i (j + after_of format))) 0 n i (omega arith) (omega arith)
+    | inl yes_kept ↦ absurd (false≢true (sym e
+        ∙ some_in_range (λ j. kept j && (nat_le j (i + before_of format) && nat_le i (j + after_of format))) 0 n i
+        (omega arith) (omega arith)
         (ap (λ b. b && (nat_le i (i + before_of format) && nat_le i (i + after_of format))) yes_kept
-        ∙ (ap (λ b. b && nat_le i (i + after_of format)) (le-leb i (i + before_of format) (omega arith)) ∙ le-leb i (i + after_of format) (omega arith)))))
+        ∙ (ap (λ b. b && nat_le i (i + after_of format)) (le-leb i (i + before_of format) (omega arith))
+            ∙ le-leb i (i + after_of format) (omega arith)))))
     | inr none ↦ none
   ]
 
-  pub pieces_step : (name : List ℕ) → piece_rows q format name more ≡ piece_rows q format name ls ++ added_pieces q format name t l
+  pub pieces_step : (name : List ℕ) → piece_rows q format name more ≡ piece_rows q format name ls ++ added_pieces q
+      format name t l
   pieces_step name =
       let given : List (List ℕ) → ℕ → List ℕ = λ xs i. pieces_in q format name (i + 1) (line_at xs i) in
       ap (put kept' (given more) 0) long
       ∙ (put_last kept' (given more) n
       ∙ (ap (λ xs. xs ++ cond (kept' n) (given more n) [])
       (put_same kept' kept (given more) (given ls) 0 n (λ i _ high.
-      ap (λ b. cond b (given more i) []) (kept_same i (omega arith)) ∙ ap (λ x. cond (kept i) (pieces_in q format name (i + 1) x) []) (line_same i (omega arith))))
+      ap (λ b. cond b (given more i) []) (kept_same i (omega arith))
+          ∙ ap (λ x. cond (kept i) (pieces_in q format name (i + 1) x) []) (line_same i (omega arith))))
       ∙ ap (λ xs. put kept (given ls) 0 n ++ xs)
       (ap (λ b. cond b (given more n) []) kept_new
       ∙ (ap (λ x. cond (keeps format t (selects q l)) (pieces_in q format name (n + 1) x) []) line_new
@@ -317,7 +368,8 @@ module _ (q : Search) (format : Format) (ls : List (List ℕ)) (l : List ℕ) (t
     bare i = row format end name (i + 1) (mark_of (kept' i)) (line_at more i)
 
     rows_more : line_rows q format name more earlier ≡ put set' emit' 0 (suc n)
-    rows_more = ap (λ k. put (is_near kept' (before_of format) (after_of format) k) (emit_of q format name earlier (is_near kept' (before_of format) (after_of format) k) kept' more) 0 k) long
+    rows_more = ap (λ k. put (is_near kept' (before_of format) (after_of format) k)
+        (emit_of q format name earlier (is_near kept' (before_of format) (after_of format) k) kept' more) 0 k) long
 
     bare_old : (i : ℕ) → i < n → bare i ≡ row format end name (i + 1) (mark_of (kept i)) (line_at ls i)
     bare_old i below =
@@ -332,7 +384,8 @@ module _ (q : Search) (format : Format) (ls : List (List ℕ)) (l : List ℕ) (t
     -- what stands below d stays
     old_part : (d : ℕ) → d ≤ n → ((i : ℕ) → i < d → set' i ≡ set i) → put set' emit' 0 d ≡ put set emit 0 d
     old_part d low s = put_same set' set emit' emit 0 d (λ i _ high.
-        ap (λ b. cond b (emit' i) []) (s i (omega arith)) ∙ ap (λ xs. cond (set i) xs []) (emit_same i (omega arith) (λ k less. s k (omega arith))))
+        ap (λ b. cond b (emit' i) []) (s i (omega arith))
+            ∙ ap (λ xs. cond (set i) xs []) (emit_same i (omega arith) (λ k less. s k (omega arith))))
 
     -- the rows so far end below `done`
     old_rows : put set emit 0 n ≡ put set emit 0 h.done
@@ -341,7 +394,8 @@ module _ (q : Search) (format : Format) (ls : List (List ℕ)) (l : List ℕ) (t
         let e : n ≡ h.done + (n - h.done) = omega arith in
         ap (put set emit 0) e
         ∙ (put_split set emit 0 h.done (n - h.done)
-        ∙ (ap (λ xs. put set emit 0 h.done ++ xs) (put_none set emit (0 + h.done) (n - h.done) (λ i from to. h.near.none i (omega arith) (omega arith)))
+        ∙ (ap (λ xs. put set emit 0 h.done ++ xs)
+            (put_none set emit (0 + h.done) (n - h.done) (λ i from to. h.near.none i (omega arith) (omega arith)))
         ∙ append-nil (put set emit 0 h.done)))
 
     rows_other : kept' n ≡ false → t.countdown ≡ 0 → put set' emit' 0 (suc n) ≡ put set emit 0 n
@@ -356,14 +410,16 @@ module _ (q : Search) (format : Format) (ls : List (List ℕ)) (l : List ℕ) (t
     no_separator i some s =
         let k : (i - 1) + 1 ≡ i = omega arith in
         let b : is_behind set' i ≡ true = behind_at set' (i - 1) i k ∙ s (i - 1) k in
-        ap (λ u. when (has_context format && not u && (earlier || list_any set' (range_with_len 0 i))) (45 ∷ 45 ∷ end ∷ []) ++ bare i) b
+        ap (λ u. when (has_context format && not u && (earlier || list_any set' (range_with_len 0 i)))
+            (45 ∷ 45 ∷ end ∷ []) ++ bare i) b
         ∙ drop_when (has_context format) (earlier || list_any set' (range_with_len 0 i))
       where
         drop_when : (c x : Bool) → when (c && false && x) (45 ∷ 45 ∷ end ∷ []) ++ bare i ≡ bare i
         drop_when true x = refl
         drop_when false x = refl
 
-    rows_context : kept' n ≡ false → 0 < t.countdown → put set' emit' 0 (suc n) ≡ put set emit 0 n ++ row format end name (n + 1) 45 l
+    rows_context : kept' n ≡ false → 0 < t.countdown
+        → put set' emit' 0 (suc n) ≡ put set emit 0 n ++ row format end name (n + 1) 45 l
     rows_context e some =
         let s = near_same kept kept' (before_of format) (after_of format) n h.done t.countdown kept_same h.near e in
         let here : set' n ≡ true = s n ∙ (h.near.coming n (omega arith) ∙ lt-ltb n (n + t.countdown) (omega arith)) in
@@ -389,14 +445,16 @@ module _ (q : Search) (format : Format) (ls : List (List ℕ)) (l : List ℕ) (t
     out_of_window : kept' n ≡ true → (i : ℕ) → h.done ≤ i → i < at → set' i ≡ false
     out_of_window e i low high =
         let d = h.near.low in
-        new_above kept kept' (before_of format) (after_of format) n h.done t.countdown kept_same h.near e i low (omega arith)
+        new_above kept kept' (before_of format) (after_of format) n h.done t.countdown kept_same h.near e i low
+            (omega arith)
         ∙ lt-leb n (i + before_of format) (omega arith)
 
     in_window : kept' n ≡ true → (i : ℕ) → at ≤ i → i < suc n → set' i ≡ true
     in_window e i low high = elim (cases_lt i n) [
       | inl lt ↦
           let d = h.near.low in
-          new_above kept kept' (before_of format) (after_of format) n h.done t.countdown kept_same h.near e i (omega arith) lt
+          new_above kept kept' (before_of format) (after_of format) n h.done t.countdown kept_same h.near e i
+              (omega arith) lt
           ∙ le-leb n (i + before_of format) (omega arith)
       | inr ge ↦
           let s : n ≡ i = omega arith in
@@ -411,15 +469,20 @@ module _ (q : Search) (format : Format) (ls : List (List ℕ)) (l : List ℕ) (t
     first_separator e =
         let tail : List ℕ = 45 ∷ 45 ∷ end ∷ [] in
         let b = at_low in
-        ap (λ c. when c tail) (separator_is (has_context format) earlier (is_behind set' at) (list_any set' (range_with_len 0 at)) t.some t.skipped (elim (cases_lt 0 h.done) [
+        ap (λ c. when c tail) (separator_is (has_context format) earlier (is_behind set' at)
+            (list_any set' (range_with_len 0 at)) t.some t.skipped (elim (cases_lt 0 h.done) [
           | inl pos ↦
-              let lastly : set' (h.done - 1) ≡ true = below_done e (h.done - 1) (omega arith) ∙ h.near.last (h.done - 1) (omega arith) in
+              let lastly : set' (h.done - 1) ≡ true = below_done e (h.done - 1) (omega arith)
+                  ∙ h.near.last (h.done - 1) (omega arith) in
               inl (
                 h.some ∙ lt-ltb 0 h.done pos,
                 some_in_range set' 0 at (h.done - 1) (omega arith) (omega arith) lastly,
                 elim (cases_lt (before_of format) (n - h.done)) [
-                  | inl skip ↦ ap (λ u. not u) (behind_at set' (at - 1) at (omega arith) ∙ out_of_window e (at - 1) (omega arith) (omega arith)) ∙ sym (h.skipped ∙ lt-ltb (before_of format) (n - h.done) skip)
-                  | inr whole ↦ ap (λ u. not u) (behind_at set' (h.done - 1) at (omega arith) ∙ lastly) ∙ sym (h.skipped ∙ le-ltb (before_of format) (n - h.done) whole)
+                  | inl skip ↦ ap (λ u. not u)
+                      (behind_at set' (at - 1) at (omega arith) ∙ out_of_window e (at - 1) (omega arith) (omega arith))
+                      ∙ sym (h.skipped ∙ lt-ltb (before_of format) (n - h.done) skip)
+                  | inr whole ↦ ap (λ u. not u) (behind_at set' (h.done - 1) at (omega arith) ∙ lastly)
+                      ∙ sym (h.skipped ∙ le-ltb (before_of format) (n - h.done) whole)
                 ],
               )
           | inr first ↦
@@ -427,13 +490,15 @@ module _ (q : Search) (format : Format) (ls : List (List ℕ)) (l : List ℕ) (t
                 h.some ∙ le-ltb 0 h.done first,
                 none_in set' 0 at (λ i low high. out_of_window e i (omega arith) (omega arith)),
                 elim (cases_lt 0 at) [
-                  | inl pos ↦ behind_at set' (at - 1) at (omega arith) ∙ out_of_window e (at - 1) (omega arith) (omega arith)
+                  | inl pos ↦ behind_at set' (at - 1) at (omega arith)
+                      ∙ out_of_window e (at - 1) (omega arith) (omega arith)
                   | inr start ↦ let z : at ≡ 0 = omega arith in ap (is_behind set') z
                 ],
               )
         ]))
 
-    window_rows : flat_map bare (range_with_len at (length t.window)) ≡ context_rows format end name ((t.number + 1) - length t.window) t.window
+    window_rows : flat_map bare (range_with_len at (length t.window)) ≡ context_rows format end name
+        ((t.number + 1) - length t.window) t.window
     window_rows =
         let w = window_length in
         let k : at + 1 ≡ (t.number + 1) - length t.window = omega (arith, h.number) in
@@ -441,8 +506,10 @@ module _ (q : Search) (format : Format) (ls : List (List ℕ)) (l : List ℕ) (t
         let d = h.near.low in
         let inside : at + i < n = omega arith in
         bare_old (at + i) inside
-        ∙ (ap (λ b. row format end name ((at + i) + 1) (mark_of b) (line_at ls (at + i))) (unkept (at + i) inside (h.near.none (at + i) (omega arith) inside))
-        ∙ ap (λ x. row format end name ((at + i) + 1) 45 x) (sym (ap (λ xs. get_or xs i []) h.window ∙ get_or-drop at ls i []))))
+        ∙ (ap (λ b. row format end name ((at + i) + 1) (mark_of b) (line_at ls (at + i)))
+            (unkept (at + i) inside (h.near.none (at + i) (omega arith) inside))
+        ∙ ap (λ x. row format end name ((at + i) + 1) 45 x)
+            (sym (ap (λ xs. get_or xs i []) h.window ∙ get_or-drop at ls i []))))
         ∙ ap (λ m. context_rows format end name m t.window) k
 
     new_part : kept' n ≡ true → put set' emit' at (suc n - at) ≡ kept_rows format end name earlier t l
@@ -455,13 +522,19 @@ module _ (q : Search) (format : Format) (ls : List (List ℕ)) (l : List ℕ) (t
         ap (put set' emit' at) one
         ∙ (put_first set' emit' at m
         ∙ (ap (λ b. cond b (emit' at) [] ++ put set' emit' (at + 1) m) (in_window e at (omega arith) (omega arith))
-        ∙ (ap (λ xs. emit' at ++ xs) (put_all set' emit' bare (at + 1) m (λ i low high. (in_window e i (omega arith) (omega arith), no_separator i (omega arith) (λ k f. in_window e k (omega arith) (omega arith)))))
+        ∙ (ap (λ xs. emit' at ++ xs) (put_all set' emit' bare (at + 1) m
+            (λ i low high. (in_window e i (omega arith) (omega arith),
+            no_separator i (omega arith) (λ k f. in_window e k (omega arith) (omega arith)))))
         ∙ (append_assoc (separator format end set' earlier at) (bare at) (flat_map bare (range_with_len (at + 1) m))
         ∙ (ap (λ xs. xs ++ flat_map bare (range_with_len at (suc m))) (first_separator e)
         ∙ ap (λ xs. gap_row format end earlier t ++ xs)
         (ap (flat_map bare) (range_more at m)
         ∙ (flat_map-append bare (range_with_len at m) ((at + m) ∷ [])
-        ∙ (ap (λ xs. flat_map bare (range_with_len at m) ++ xs) (append-nil (bare (at + m)) ∙ (ap bare last ∙ (ap (λ b. row format end name (n + 1) (mark_of b) (line_at more n)) e ∙ (ap (λ x. row format end name (n + 1) 58 x) line_new ∙ ap (λ k. row format end name (k + 1) 58 l) (sym h.number)))))
+        ∙ (ap (λ xs. flat_map bare (range_with_len at m) ++ xs)
+            (append-nil (bare (at + m)) ∙
+            (ap bare last ∙ (ap (λ b. row format end name (n + 1) (mark_of b) (line_at more n)) e
+            ∙ (ap (λ x. row format end name (n + 1) 58 x) line_new
+            ∙ ap (λ k. row format end name (k + 1) 58 l) (sym h.number)))))
         ∙ ap (λ xs. xs ++ row format end name (t.number + 1) 58 l) window_rows))))))))
 
     rows_kept : kept' n ≡ true → put set' emit' 0 (suc n) ≡ put set emit 0 n ++ kept_rows format end name earlier t l
@@ -472,21 +545,29 @@ module _ (q : Search) (format : Format) (ls : List (List ℕ)) (l : List ℕ) (t
         let front : at ≡ h.done + (at - h.done) = omega arith in
         ap (put set' emit' 0) whole
         ∙ (put_split set' emit' 0 at (suc n - at)
-        ∙ (ap (λ xs. put set' emit' 0 at ++ xs) (let z : 0 + at ≡ at = omega arith in ap (λ k. put set' emit' k (suc n - at)) z ∙ new_part e)
+        ∙ (ap (λ xs. put set' emit' 0 at ++ xs)
+            (let z : 0 + at ≡ at = omega arith in ap (λ k. put set' emit' k (suc n - at)) z ∙ new_part e)
         ∙ ap (λ xs. xs ++ kept_rows format end name earlier t l)
         (ap (put set' emit' 0) front
         ∙ (put_split set' emit' 0 h.done (at - h.done)
-        ∙ (ap (λ xs. put set' emit' 0 h.done ++ xs) (put_none set' emit' (0 + h.done) (at - h.done) (λ i from to. out_of_window e i (omega arith) (omega arith)))
+        ∙ (ap (λ xs. put set' emit' 0 h.done ++ xs)
+            (put_none set' emit' (0 + h.done) (at - h.done)
+            (λ i from to. out_of_window e i (omega arith) (omega arith)))
         ∙ (append-nil (put set' emit' 0 h.done)
         ∙ (old_part h.done h.near.low (below_done e) ∙ sym old_rows)))))))
 
-    pub rows_step : line_rows q format name more earlier ≡ line_rows q format name ls earlier ++ added format end name earlier t (selects q l) l
+    pub rows_step : line_rows q format name more earlier ≡ line_rows q format name ls earlier ++ added format end name
+        earlier t (selects q l) l
     rows_step = rows_more ∙ go (keeps format t (selects q l)) refl (nat_lt 0 t.countdown) refl
       where
-        go : (a : Bool) → keeps format t (selects q l) ≡ a → (b : Bool) → nat_lt 0 t.countdown ≡ b → put set' emit' 0 (suc n) ≡ put set emit 0 n ++ cond a (kept_rows format end name earlier t l) (when b (row format end name (t.number + 1) 45 l))
+        go : (a : Bool) → keeps format t (selects q l) ≡ a → (b : Bool) → nat_lt 0 t.countdown ≡ b
+            → put set' emit' 0 (suc n) ≡ put set emit 0 n ++ cond a (kept_rows format end name earlier t l)
+            (when b (row format end name (t.number + 1) 45 l))
         go true e b f = rows_kept (kept_new ∙ e)
-        go false e true f = rows_context (kept_new ∙ e) (ltb-true 0 t.countdown f) ∙ ap (λ k. put set emit 0 n ++ row format end name (k + 1) 45 l) (sym h.number)
-        go false e false f = rows_other (kept_new ∙ e) (let z : t.countdown ≤ 0 = ltb-false 0 t.countdown f in omega arith) ∙ sym (append-nil (put set emit 0 n))
+        go false e true f = rows_context (kept_new ∙ e) (ltb-true 0 t.countdown f)
+            ∙ ap (λ k. put set emit 0 n ++ row format end name (k + 1) 45 l) (sym h.number)
+        go false e false f = rows_other (kept_new ∙ e)
+            (let z : t.countdown ≤ 0 = ltb-false 0 t.countdown f in omega arith) ∙ sym (append-nil (put set emit 0 n))
 
 -- what is remembered of no lines
 pub no_trail : (q : Search) (format : Format) → IsTrail q format [] no_lines

@@ -459,7 +459,8 @@ module _ {A : Type 0} {reader : FileReader A} {engine : Engine A} {aim : Aim} {g
         cause = cut_cause cut aim given out' (subst L e c.cause);
         written = begins_still reader given out' c (takes_all aim h.steps out' w);
         lines = λ of.
-            left_lines aim h.steps given c.name (joined c.fed.taken) c.rest (room_of h.holds) (subst R e c.reads) out' w;
+            left_lines aim h.steps given c.name (joined c.fed.taken) c.rest (room_of h.holds)
+                (subst R e c.reads) out' w;
       }
 
   -- what was cut was searched first
@@ -604,7 +605,8 @@ module _ {A : Type 0} {reader : FileReader A} {aim : Aim} {given : List Given} {
       → CutterStands reader'.cutter h.fed → HasCut reader' aim (gave_end failed given) steps
   file_stopped reader' failed stops none stands =
       let R : List Entry → Ending → Type 0 =
-      λ es ending. IsReading aim.query (format_of aim) h.name (joined h.fed.taken) h.rest ending (entries_of steps) es in
+      λ es ending. IsReading aim.query (format_of aim) h.name (joined h.fed.taken) h.rest ending
+          (entries_of steps) es in
       record {
         fed = h.fed;
         cut = stands;
@@ -711,7 +713,8 @@ file_left {aim = aim} {given = given} h more engine' e k = record {
 }
 
 -- the file was read on
-pub read_on : {A F : Type 0} {past : F → FilesPast} {list : F → Sources} {reader reader' : FileReader A} {files files' : F}
+pub read_on : {A F : Type 0} {past : F → FilesPast} {list : F → Sources} {reader reader' : FileReader A}
+    {files files' : F}
     {engine : Engine A} {aim : Aim} {out : Stream} → InFile reader engine aim (past files).given out
     → ReadsOn past list reader files reader' files' → InFile reader' engine aim (past files').given out
 read_on {aim = aim} h on = record { steps = h.steps; holds = h.holds; cuts = on.cuts aim h.steps h.cuts }
@@ -756,7 +759,8 @@ flushed h engine' out' k = record { steps = h.steps; holds = k; cuts = h.cuts }
 
 -- what is told of a file once it was read further
 pub told_more : {A : Type 0} {reader reader' : FileReader A} {aim aim' : Aim} {given given' : List Given}
-    {steps steps' : List Step} (h : HasCut reader aim given steps) (h' : HasCut reader' aim' given' steps') (failed : Bool)
+    {steps steps' : List Step} (h : HasCut reader aim given steps) (h' : HasCut reader' aim' given' steps')
+        (failed : Bool)
     → reader.came ≡ More → is_failed (ending_after reader'.came) ≡ failed → drop 1 given' ≡ drop 1 given
     → faults_of given' ≡ faults_of given ++ when failed (fault_line (newest_name given') ReadFailed)
 told_more {reader = reader} {reader' = reader'} {given = given} {given' = given'} h h' failed more e before =

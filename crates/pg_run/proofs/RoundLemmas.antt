@@ -18,7 +18,8 @@ use Rattle.pg_lines.specs.Searched.{Searched}
 use Rattle.pg_seq.specs.declared.answers.Arrival.{Arrival}
 use Rattle.pg_seq.specs.declared.answers.Arrival.TheVariants.{Taken, Double, Stranger}
 use Rattle.pg_seq.specs.Plan.{Step, Opens, Announces, Ends, Misses, IsShaped, IsPlan, announced}
-use Rattle.pg_seq.specs.History.{Past, Event, Arrived, plan, plan_of, answer_after, arrival, is_taken, taken_of, taken_after}
+use Rattle.pg_seq.specs.History.{Past, Event, Arrived, plan, plan_of, answer_after, arrival, is_taken, taken_of}
+use Rattle.pg_seq.specs.History.{taken_after}
 use Rattle.pg_seq.proofs.ArrivalLaws.{first_is_taken}
 use Rattle.pg_rows.specs.Sink.{IsBeginning}
 use Rattle.pg_seq.specs.Plan.{opened}
@@ -68,7 +69,8 @@ module _ (past : Past) (r : Searched) (b : BlockData) (shaped : IsShaped (termin
       let block : r.block ≡ b = ap (λ x. x.block) is in
       let K : BlockData → Type 0 = λ x. Contains (announced (plan past)) x in
       let N : BlockData → Type 0 = λ x. is_taken keys x ≡ false in
-      let first = first_is_taken past r shaped (ap (λ x. x.query) is) (subst K (sym block) known) (subst N (sym block) e) in
+      let first = first_is_taken past r shaped (ap (λ x. x.query) is) (subst K (sym block) known)
+          (subst N (sym block) e) in
       ap (λ a. is_taken (taken_after a r.block keys) b) first
       ∙ (ap (λ x. is_taken ((x.file, x.number) ∷ keys) b) block ∙ own_key keys b)
 
@@ -162,10 +164,12 @@ module _ {A : Type 0} where
       let S : ℕ → Type 0 = λ x. AreShort x (arc_value block).bytes in
       (subst S (sym e) h.0, short_at end text e blocks h.1)
 
-short_plan : (end : ℕ) (p : List Step) → IsPlan end p → AllByRecursion (λ (b : BlockData). AreShort end b.bytes) (announced p)
+short_plan : (end : ℕ) (p : List Step) → IsPlan end p
+    → AllByRecursion (λ (b : BlockData). AreShort end b.bytes) (announced p)
 short_plan end [] h = tt
 short_plan end (Opens name ∷ p) h = short_plan end p h.1
-short_plan end (Announces b ∷ p) h = all_push (λ (x : BlockData). AreShort end x.bytes) (announced p) b (short_plan end p h.1) h.0.1.short
+short_plan end (Announces b ∷ p) h = all_push (λ (x : BlockData). AreShort end x.bytes) (announced p) b
+    (short_plan end p h.1) h.0.1.short
 short_plan end (Ends failed ∷ p) h = short_plan end p h.1
 short_plan end (Misses name ∷ p) h = short_plan end p h.1
 
@@ -203,7 +207,8 @@ module _ {A : Type 0} {engine : Engine A} {aim : Aim} {steps : List Step} {out :
       let P : List Step → Type 0 = λ p. IsBeginning h.written (output_of aim p) in
       subst P (sym h.planned) h.safe
 
-  safe_out : (text : List ℕ) → IsSafe past (past.written ++ text) → IsBeginning (h.written ++ text) (output_of aim steps)
+  safe_out : (text : List ℕ) → IsSafe past (past.written ++ text)
+      → IsBeginning (h.written ++ text) (output_of aim steps)
   safe_out text s =
       let P : List Step → Type 0 = λ p. IsBeginning (h.written ++ text) (output_of aim p) in
       subst P h.planned s

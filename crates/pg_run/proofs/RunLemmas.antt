@@ -291,7 +291,8 @@ module _ {A : Type 0} {engine : Engine A} {aim : Aim} {given : List Given} {out 
           whole = refl;
           cause = subst L (sym more) refl;
           reads =
-              subst R (sym more) (opens aim.query (format_of aim) name (entries_of h.steps) (entries_given given) h.covers);
+              subst R (sym more) (opens aim.query (format_of aim) name (entries_of h.steps)
+                  (entries_given given) h.covers);
         };
       }
 
@@ -362,7 +363,8 @@ module _ {A : Type 0} {engine : Engine A} {aim : Aim} {given : List Given} {out 
       ∙ n)
 
 -- a file was opened, by the name that is told of what was given
-pub file_started : {A : Type 0} {reader : FileReader A} {engine : Engine A} {aim : Aim} {given : List Given} {out : Stream}
+pub file_started : {A : Type 0} {reader : FileReader A} {engine : Engine A} {aim : Aim} {given : List Given}
+    {out : Stream}
     (now : List Given) (name name' : List ℕ) → now ≡ File name [] Left ∷ given → name' ≡ newest_name now
     → InFile reader engine aim (File name' [] Left ∷ given) out → InFile reader engine aim now out
 file_started {reader = reader} {engine = engine} {aim = aim} {given = given} {out = out} now name name' is named h =

@@ -44,7 +44,8 @@ IsLost (Refused fault) aim given lost = CutCause fault aim given
 
 -- A file is open, the newest that was given. All that it gave was cut, but where the cutter took no more; and the plan
 -- has the blocks that were taken of those that are cut.
-pub record HasCut {A : Type 0} (reader : FileReader A) (aim : Aim) (given : List Given) (steps : List Step) : Type 0 where
+pub record HasCut {A : Type 0} (reader : FileReader A) (aim : Aim) (given : List Given)
+    (steps : List Step) : Type 0 where
   pub fed : Fed
   pub cut : CutterStands reader.cutter fed
   pub ends : fed.end ≡ terminator aim.query

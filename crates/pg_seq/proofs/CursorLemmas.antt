@@ -1,5 +1,6 @@
 -- The output of a plan grows by what its next step adds.
-use Rattle.std.proofs.Common.{◌≡◌, ℕ, ◌⊎◌, inl, inr, Bool, true, false, not, cond, ◌||◌, List, [], ◌∷◌, ◌++◌, refl, sym, ap, ◌∙◌, subst, append_assoc}
+use Rattle.std.proofs.Common.{◌≡◌, ℕ, ◌⊎◌, inl, inr, Bool, true, false, not, cond, ◌||◌, List, [], ◌∷◌, ◌++◌, refl, sym}
+use Rattle.std.proofs.Common.{ap, ◌∙◌, subst, append_assoc}
 use Rattle.std.specs.List.{AllByRecursion}
 use Rattle.std.proofs.lemmas.Bool.{false≢true}
 use Rattle.std.proofs.lemmas.List.{append-nil}
@@ -13,7 +14,8 @@ use Rattle.pg_rows.specs.declared.format.Mode.{Mode}
 use Rattle.pg_rows.specs.declared.format.Mode.TheVariants.{Rows, Count, List as Names, Quiet}
 use Rattle.pg_rows.specs.Output.{Entry, Read, Running, Ended, Failed, output, is_running, file_rows, rows_in}
 use Rattle.pg_rows.specs.Output.{is_below, line_rows, piece_rows, count_row, name_row}
-use Rattle.pg_seq.specs.Plan.{Step, Opens, Announces, Ends, Misses, IsShaped, is_open, last_blocks, entries_of, with_bytes, with_end}
+use Rattle.pg_seq.specs.Plan.{Step, Opens, Announces, Ends, Misses, IsShaped, is_open, last_blocks, entries_of}
+use Rattle.pg_seq.specs.Plan.{with_bytes, with_end}
 use Rattle.pg_rows.specs.Sink.{IsBeginning}
 use Rattle.pg_rows.specs.Trail.{run, run_rows, run_pieces}
 use Rattle.pg_seq.specs.Cursor.{Cursor, moved, cursor_of, block_rows, counted, named, step_rows}
@@ -22,16 +24,19 @@ use Rattle.pg_rows.proofs.FoldLemmas.{trail_more, rows_more, pieces_more, count_
 use Rattle.pg_rows.proofs.FoldLemmas.{some_append, run_some}
 
 pub joined_push : (xs : List BlockData) (b : BlockData) → joined (xs ++ b ∷ []) ≡ joined xs ++ b.bytes
-joined_push xs b = flat_map-append (λ (x : BlockData). x.bytes) xs (b ∷ []) ∙ ap (λ ys. joined xs ++ ys) (append-nil b.bytes)
+joined_push xs b = flat_map-append (λ (x : BlockData). x.bytes) xs (b ∷ [])
+    ∙ ap (λ ys. joined xs ++ ys) (append-nil b.bytes)
 
-pub closed_joined : (end : ℕ) (bs : List BlockData) → AllByRecursion (λ b. EndsWith end b.bytes) bs → (joined bs ≡ []) ⊎ EndsWith end (joined bs)
+pub closed_joined : (end : ℕ) (bs : List BlockData) → AllByRecursion (λ b. EndsWith end b.bytes) bs → (joined bs ≡ [])
+    ⊎ EndsWith end (joined bs)
 closed_joined end [] h = inl refl
 closed_joined end (b ∷ bs) h = elim (closed_joined end bs h.1) [
   | inl e ↦ inr (h.0.0, ap (λ ys. b.bytes ++ ys) e ∙ (append-nil b.bytes ∙ h.0.1))
   | inr w ↦ inr (b.bytes ++ w.0, ap (λ ys. b.bytes ++ ys) w.1 ∙ sym (append_assoc b.bytes w.0 (end ∷ [])))
 ]
 
-rows_split : (m : Mode) (a b r : List ℕ) → (m ≡ Rows → a ≡ b ++ r) → rows_in m a [] [] ≡ rows_in m b [] [] ++ rows_in m r [] []
+rows_split : (m : Mode) (a b r : List ℕ) → (m ≡ Rows → a ≡ b ++ r)
+    → rows_in m a [] [] ≡ rows_in m b [] [] ++ rows_in m r [] []
 rows_split Rows a b r h = h refl
 rows_split Count a b r h = refl
 rows_split Names a b r h = refl
@@ -77,11 +82,15 @@ module _ (q : Search) (format : Format) (limited : is_below 0 format.limit ≡ t
   abbrev line_part : List ℕ → List (List ℕ) → Bool → List ℕ
   line_part name ls earlier = cond q.text.pieces (piece_rows q format name ls) (line_rows q format name ls earlier)
 
-  file_running : (name bytes : List ℕ) (earlier : Bool) → file_rows q format name bytes false earlier ≡ rows_in format.mode (line_part name (lines end bytes) earlier) [] []
+  file_running : (name bytes : List ℕ) (earlier : Bool)
+      → file_rows q format name bytes false earlier ≡ rows_in format.mode
+      (line_part name (lines end bytes) earlier) [] []
   unfolding file_rows
   file_running name bytes earlier = refl
 
-  file_ended : (name bytes : List ℕ) (earlier : Bool) → file_rows q format name bytes true earlier ≡ rows_in format.mode (line_part name (lines end bytes) earlier) (count_row q format name (lines end bytes)) (name_row q format name (lines end bytes))
+  file_ended : (name bytes : List ℕ) (earlier : Bool)
+      → file_rows q format name bytes true earlier ≡ rows_in format.mode (line_part name (lines end bytes) earlier)
+      (count_row q format name (lines end bytes)) (name_row q format name (lines end bytes))
   unfolding file_rows
   file_ended name bytes earlier = refl
 
@@ -92,9 +101,13 @@ module _ (q : Search) (format : Format) (limited : is_below 0 format.limit ≡ t
       (run_rows q format c.name c.earlier c.trail ms)
   part_more c ls ms earlier h e = go q.text.pieces e
     where
-      go : (t : Bool) → (t ≡ false → c.earlier ≡ earlier) → cond t (piece_rows q format c.name (ls ++ ms)) (line_rows q format c.name (ls ++ ms) earlier) ≡ cond t (piece_rows q format c.name ls) (line_rows q format c.name ls earlier) ++ cond t (run_pieces q format c.name c.trail ms) (run_rows q format c.name c.earlier c.trail ms)
+      go : (t : Bool) → (t ≡ false → c.earlier ≡ earlier)
+          → cond t (piece_rows q format c.name (ls ++ ms)) (line_rows q format c.name (ls ++ ms) earlier) ≡ cond t
+          (piece_rows q format c.name ls) (line_rows q format c.name ls earlier) ++ cond t
+          (run_pieces q format c.name c.trail ms) (run_rows q format c.name c.earlier c.trail ms)
       go true f = pieces_more q format c.name ls ms c.trail h
-      go false f = rows_more q format c.name earlier ls ms c.trail h ∙ ap (λ x. line_rows q format c.name ls earlier ++ run_rows q format c.name x c.trail ms) (sym (f refl))
+      go false f = rows_more q format c.name earlier ls ms c.trail h
+          ∙ ap (λ x. line_rows q format c.name ls earlier ++ run_rows q format c.name x c.trail ms) (sym (f refl))
 
   pub open_rows : (name : List ℕ) (p : List Step)
       → output q format (entries_of (Opens name ∷ p)) ≡ output q format (entries_of p)
@@ -104,18 +117,23 @@ module _ (q : Search) (format : Format) (limited : is_below 0 format.limit ≡ t
       (file_running name [] earlier ∙ (ap (λ xs. rows_in format.mode xs [] []) (none q.text.pieces)
       ∙ nothing_in format.mode)) ∙ append-nil (output q format (entries_of p))
     where
-      none : (t : Bool) → cond t (piece_rows q format name []) (line_rows q format name [] (something (output q format (entries_of p)))) ≡ []
+      none : (t : Bool) → cond t (piece_rows q format name [])
+          (line_rows q format name [] (something (output q format (entries_of p)))) ≡ []
       none true = refl
       none false = refl
 
   module _ (p : List Step) (c : Cursor) (h : IsCursor p c) where
     -- a block's rows
-    announce_rows : (b : BlockData) → IsShaped end (Announces b ∷ p) → output q format (entries_of (Announces b ∷ p)) ≡ output q format (entries_of p) ++ step_rows q format c (Announces b)
+    announce_rows : (b : BlockData) → IsShaped end (Announces b ∷ p)
+        → output q format (entries_of (Announces b ∷ p)) ≡ output q format (entries_of p) ++ step_rows q format c
+        (Announces b)
     announce_rows b lawful =
         let f = h.file lawful.0.running in
         let closed = closed_joined end (last_blocks p) lawful.0.seam in
         let seam : lines end (f.bytes ++ b.bytes) ≡ lines end f.bytes ++ lines end b.bytes =
-        ap (λ xs. lines end (xs ++ b.bytes)) f.same ∙ (lines-append end (joined (last_blocks p)) b.bytes closed ∙ ap (λ xs. lines end xs ++ lines end b.bytes) (sym f.same)) in
+        ap (λ xs. lines end (xs ++ b.bytes)) f.same
+            ∙ (lines-append end (joined (last_blocks p)) b.bytes closed
+            ∙ ap (λ xs. lines end xs ++ lines end b.bytes) (sym f.same)) in
         let before = output q format f.rest in
         let earlier = something before in
         let old = rows_in format.mode (line_part c.name (lines end f.bytes) earlier) [] [] in
@@ -123,12 +141,18 @@ module _ (q : Search) (format : Format) (limited : is_below 0 format.limit ≡ t
         ∙ (ap (λ xs. before ++ xs)
         (file_running c.name (f.bytes ++ b.bytes) earlier
         ∙ (ap (λ ls. rows_in format.mode (line_part c.name ls earlier) [] []) seam
-        ∙ rows_split format.mode (line_part c.name (lines end f.bytes ++ lines end b.bytes) earlier) (line_part c.name (lines end f.bytes) earlier) (block_rows q format c b.bytes) (λ rows. part_more c (lines end f.bytes) (lines end b.bytes) earlier f.trail (λ whole. f.earlier (rows, whole)))))
+        ∙ rows_split format.mode (line_part c.name (lines end f.bytes ++ lines end b.bytes) earlier)
+            (line_part c.name (lines end f.bytes) earlier) (block_rows q format c b.bytes)
+            (λ rows. part_more c (lines end f.bytes) (lines end b.bytes) earlier f.trail
+            (λ whole. f.earlier (rows, whole)))))
         ∙ (sym (append_assoc before old (rows_in format.mode (block_rows q format c b.bytes) [] []))
-        ∙ ap (λ xs. xs ++ rows_in format.mode (block_rows q format c b.bytes) [] []) (sym (ap (output q format) f.entries ∙ ap (λ xs. before ++ xs) (file_running c.name f.bytes earlier)))))
+        ∙ ap (λ xs. xs ++ rows_in format.mode (block_rows q format c b.bytes) [] [])
+            (sym (ap (output q format) f.entries ∙ ap (λ xs. before ++ xs) (file_running c.name f.bytes earlier)))))
 
     -- the rows at a file's end
-    end_rows : (failed : Bool) → is_open p ≡ true → output q format (entries_of (Ends failed ∷ p)) ≡ output q format (entries_of p) ++ step_rows q format c (Ends failed)
+    end_rows : (failed : Bool) → is_open p ≡ true
+        → output q format (entries_of (Ends failed ∷ p)) ≡ output q format (entries_of p) ++ step_rows q format c
+        (Ends failed)
     end_rows failed running =
         let f = h.file running in
         let before = output q format f.rest in
@@ -139,13 +163,18 @@ module _ (q : Search) (format : Format) (limited : is_below 0 format.limit ≡ t
         ∙ (ap (λ t. before ++ file_rows q format c.name f.bytes (not t) earlier) (ends_running failed)
         ∙ (ap (λ xs. before ++ xs)
         (file_ended c.name f.bytes earlier
-        ∙ (end_split format.mode (line_part c.name ls earlier) (count_row q format c.name ls) (name_row q format c.name ls)
-        ∙ (ap (λ xs. old ++ rows_in format.mode [] xs (name_row q format c.name ls)) (count_by_trail q format c.name ls c.trail f.trail)
-        ∙ ap (λ xs. old ++ rows_in format.mode [] (counted format c) xs) (name_by_trail q format c.name ls c.trail limited f.trail))))
+        ∙ (end_split format.mode (line_part c.name ls earlier) (count_row q format c.name ls)
+            (name_row q format c.name ls)
+        ∙ (ap (λ xs. old ++ rows_in format.mode [] xs (name_row q format c.name ls))
+            (count_by_trail q format c.name ls c.trail f.trail)
+        ∙ ap (λ xs. old ++ rows_in format.mode [] (counted format c) xs)
+            (name_by_trail q format c.name ls c.trail limited f.trail))))
         ∙ (sym (append_assoc before old (step_rows q format c (Ends failed)))
-        ∙ ap (λ xs. xs ++ step_rows q format c (Ends failed)) (sym (ap (output q format) f.entries ∙ ap (λ xs. before ++ xs) (file_running c.name f.bytes earlier))))))
+        ∙ ap (λ xs. xs ++ step_rows q format c (Ends failed))
+            (sym (ap (output q format) f.entries ∙ ap (λ xs. before ++ xs) (file_running c.name f.bytes earlier))))))
 
-    pub output_step : (s : Step) → IsShaped end (s ∷ p) → output q format (entries_of (s ∷ p)) ≡ output q format (entries_of p) ++ step_rows q format c s
+    pub output_step : (s : Step) → IsShaped end (s ∷ p)
+        → output q format (entries_of (s ∷ p)) ≡ output q format (entries_of p) ++ step_rows q format c s
     output_step (Opens name) lawful = open_rows name p ∙ sym (append-nil (output q format (entries_of p)))
     output_step (Announces b) lawful = announce_rows b lawful
     output_step (Ends failed) lawful = end_rows failed lawful.0
@@ -168,21 +197,28 @@ module _ (q : Search) (format : Format) (limited : is_below 0 format.limit ≡ t
         or_none true = refl
         or_none false = refl
 
-    cursor_announce : (b : BlockData) → IsShaped end (Announces b ∷ p) → IsCursor (Announces b ∷ p) (moved q format c (Announces b))
+    cursor_announce : (b : BlockData) → IsShaped end (Announces b ∷ p)
+        → IsCursor (Announces b ∷ p) (moved q format c (Announces b))
     cursor_announce b lawful =
         let f = h.file lawful.0.running in
         let closed = closed_joined end (last_blocks p) lawful.0.seam in
         let seam : lines end (f.bytes ++ b.bytes) ≡ lines end f.bytes ++ lines end b.bytes =
-        ap (λ xs. lines end (xs ++ b.bytes)) f.same ∙ (lines-append end (joined (last_blocks p)) b.bytes closed ∙ ap (λ xs. lines end xs ++ lines end b.bytes) (sym f.same)) in
+        ap (λ xs. lines end (xs ++ b.bytes)) f.same
+            ∙ (lines-append end (joined (last_blocks p)) b.bytes closed
+            ∙ ap (λ xs. lines end xs ++ lines end b.bytes) (sym f.same)) in
         let P : List (List ℕ) → Type 0 = λ ls. IsTrail q format ls (run q format c.trail (lines end b.bytes)) in
         let rows = run_rows q format c.name c.earlier c.trail (lines end b.bytes) in
         record {
           wrote = λ plain.
-              ap (λ x. c.earlier || x) (run_some q format c.name c.earlier (lines end f.bytes) (lines end b.bytes) c.trail f.trail)
+              ap (λ x. c.earlier || x) (run_some q format c.name c.earlier (lines end f.bytes)
+                  (lines end b.bytes) c.trail f.trail)
               ∙ (turn c.earlier (something rows) c.trail.some
               ∙ (ap (λ x. x || something rows) (h.wrote plain)
               ∙ (sym (some_append (output q format (entries_of p)) rows)
-              ∙ ap something (ap (λ xs. output q format (entries_of p) ++ xs) (sym (ap (λ m. rows_in m (block_rows q format c b.bytes) [] []) plain.0 ∙ ap (λ t. cond t (run_pieces q format c.name c.trail (lines end b.bytes)) rows) plain.1)) ∙ sym (announce_rows b lawful)))));
+              ∙ ap something (ap (λ xs. output q format (entries_of p) ++ xs)
+                  (sym (ap (λ m. rows_in m (block_rows q format c b.bytes) [] []) plain.0
+                  ∙ ap (λ t. cond t (run_pieces q format c.name c.trail (lines end b.bytes)) rows) plain.1))
+                  ∙ sym (announce_rows b lawful)))));
           file = λ _. record {
             bytes = f.bytes ++ b.bytes;
             rest = f.rest;
@@ -202,7 +238,10 @@ module _ (q : Search) (format : Format) (limited : is_below 0 format.limit ≡ t
 
     cursor_end : (failed : Bool) → is_open p ≡ true → IsCursor (Ends failed ∷ p) c
     cursor_end failed running = record {
-      wrote = λ plain. h.wrote plain ∙ ap something (sym (end_rows failed running ∙ (ap (λ m. output q format (entries_of p) ++ rows_in m [] (counted format c) (named format c)) plain.0 ∙ append-nil (output q format (entries_of p)))));
+      wrote = λ plain. h.wrote plain ∙ ap something
+          (sym (end_rows failed running ∙
+          (ap (λ m. output q format (entries_of p) ++ rows_in m [] (counted format c) (named format c)) plain.0
+          ∙ append-nil (output q format (entries_of p)))));
       file = λ still. absurd (false≢true still);
     }
 
@@ -210,16 +249,20 @@ module _ (q : Search) (format : Format) (limited : is_below 0 format.limit ≡ t
     cursor_step (Opens name) lawful = cursor_open name
     cursor_step (Announces b) lawful = cursor_announce b lawful
     cursor_step (Ends failed) lawful = cursor_end failed lawful.0
-    cursor_step (Misses name) lawful = record { wrote = h.wrote; file = λ still. absurd (false≢true (sym lawful.0 ∙ still)) }
+    cursor_step (Misses name) lawful = record
+        { wrote = h.wrote; file = λ still. absurd (false≢true (sym lawful.0 ∙ still)) }
 
   pub cursor_is : (p : List Step) → IsShaped end p → IsCursor p (cursor_of q format p)
   cursor_is [] lawful = record { wrote = λ plain. refl; file = λ still. absurd (false≢true still) }
   cursor_is (s ∷ p) lawful = cursor_step p (cursor_of q format p) (cursor_is p lawful.1) s lawful
 
   -- what a plan's output is a beginning of
-  pub plan_begins : (p : List Step) (more : List Step) → IsShaped end (more ++ p) → IsBeginning (output q format (entries_of p)) (output q format (entries_of (more ++ p)))
+  pub plan_begins : (p : List Step) (more : List Step) → IsShaped end (more ++ p)
+      → IsBeginning (output q format (entries_of p)) (output q format (entries_of (more ++ p)))
   plan_begins p [] lawful = ([], append-nil (output q format (entries_of p)))
   plan_begins p (s ∷ more) lawful =
       let r = plan_begins p more lawful.1 in
       let rows = step_rows q format (cursor_of q format (more ++ p)) s in
-      (r.0 ++ rows, sym (append_assoc (output q format (entries_of p)) r.0 rows) ∙ (ap (λ xs. xs ++ rows) r.1 ∙ sym (output_step (more ++ p) (cursor_of q format (more ++ p)) (cursor_is (more ++ p) lawful.1) s lawful)))
+      (r.0 ++ rows, sym (append_assoc (output q format (entries_of p)) r.0 rows)
+          ∙ (ap (λ xs. xs ++ rows) r.1 ∙ sym
+          (output_step (more ++ p) (cursor_of q format (more ++ p)) (cursor_is (more ++ p) lawful.1) s lawful)))

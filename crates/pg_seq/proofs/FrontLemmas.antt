@@ -15,9 +15,11 @@ either : (P : List Step → Type 0) (t : Bool) (a b : List Step) → P a → P b
 either P true a b x y = x
 either P false a b x y = y
 
-front_keeps : (P : List Step → Type 0) → ((s : Step) (p : List Step) → P (s ∷ p) → P p) → (taken : List (ℕ × ℕ)) (p : List Step) → P p → P (front taken p)
+front_keeps : (P : List Step → Type 0) → ((s : Step) (p : List Step) → P (s ∷ p) → P p)
+    → (taken : List (ℕ × ℕ)) (p : List Step) → P p → P (front taken p)
 front_keeps P tail taken [] h = h
-front_keeps P tail taken (s ∷ p) h = either P (all_taken taken (s ∷ p)) (s ∷ p) (front taken p) h (front_keeps P tail taken p (tail s p h))
+front_keeps P tail taken (s ∷ p) h = either P (all_taken taken (s ∷ p)) (s ∷ p) (front taken p) h
+    (front_keeps P tail taken p (tail s p h))
 
 pub front_shaped : (end : ℕ) (taken : List (ℕ × ℕ)) (p : List Step) → IsShaped end p → IsShaped end (front taken p)
 front_shaped end taken p h = front_keeps (λ x. IsShaped end x) (λ s p h. h.1) taken p h
@@ -31,7 +33,8 @@ pub front_all : (taken : List (ℕ × ℕ)) (p : List Step) → all_taken taken 
 front_all taken [] e = refl
 front_all taken (s ∷ p) e = ap (λ t. cond t (s ∷ p) (front taken p)) e
 
-front_taken_by : (taken : List (ℕ × ℕ)) (s : Step) (p : List Step) (t : Bool) → all_taken taken (s ∷ p) ≡ t → all_taken taken (front taken p) ≡ true → all_taken taken (cond t (s ∷ p) (front taken p)) ≡ true
+front_taken_by : (taken : List (ℕ × ℕ)) (s : Step) (p : List Step) (t : Bool) → all_taken taken (s ∷ p) ≡ t
+    → all_taken taken (front taken p) ≡ true → all_taken taken (cond t (s ∷ p) (front taken p)) ≡ true
 front_taken_by taken s p true e h = e
 front_taken_by taken s p false e h = h
 

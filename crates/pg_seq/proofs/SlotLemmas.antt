@@ -19,13 +19,15 @@ cond_pos false n h = absurd (omega arith)
 
 module _ {A : Type 0} where
   -- whether all slots have their results
-  pub all_behind : (gone slots : List (Slot A)) → AllByRecursion (λ slot. has_result slot ≡ true) gone → list_all (λ b. b) (map has_result (gone ++ slots)) ≡ list_all has_result slots
+  pub all_behind : (gone slots : List (Slot A)) → AllByRecursion (λ slot. has_result slot ≡ true) gone
+      → list_all (λ b. b) (map has_result (gone ++ slots)) ≡ list_all has_result slots
   all_behind [] slots h = held slots
     where
       held : (xs : List (Slot A)) → list_all (λ b. b) (map has_result xs) ≡ list_all has_result xs
       held [] = refl
       held (x ∷ xs) = ap (λ b. has_result x && b) (held xs)
-  all_behind (x ∷ gone) slots h = ap (λ b. b && list_all (λ t. t) (map has_result (gone ++ slots))) h.0 ∙ all_behind gone slots h.1
+  all_behind (x ∷ gone) slots h = ap (λ b. b && list_all (λ t. t) (map has_result (gone ++ slots))) h.0
+      ∙ all_behind gone slots h.1
 
   -- a result of the query has its text
   pub query_of : (slot : Slot A) (r : Searched) (q : Search) → IsResultOf q slot → slot.result ≡ Some r
@@ -57,6 +59,7 @@ module _ {A : Type 0} where
           ∙ none xs are.1 (λ k d low high. h (suc k) d (omega arith) (omega arith))
 
   -- the first slot and the others
-  pub first_slot : (slots rest : List (Slot A)) (slot : Slot A) → 0 < length slots → slot ≡ get_or slots 0 slot → rest ≡ drop 1 slots → slots ≡ slot ∷ rest
+  pub first_slot : (slots rest : List (Slot A)) (slot : Slot A) → 0 < length slots → slot ≡ get_or slots 0 slot
+      → rest ≡ drop 1 slots → slots ≡ slot ∷ rest
   first_slot [] rest slot some is e = absurd (omega arith)
   first_slot (x ∷ slots) rest slot some is e = ap (λ y. y ∷ slots) (sym is) ∙ ap (λ xs. slot ∷ xs) (sym e)

@@ -11,11 +11,13 @@ use Rattle.pg_syntax.proofs.Complete.{complete}
 use Rattle.pg_syntax.proofs.Sound.{sound}
 
 -- what an expression of a syntax is
-pub body_of : (syntax : Syntax) (fold : Bool) (text : List ℕ) (p : Pattern) → Expression (kind_of syntax) fold text p → Body syntax fold text p 0
+pub body_of : (syntax : Syntax) (fold : Bool) (text : List ℕ) (p : Pattern) → Expression (kind_of syntax) fold text p
+    → Body syntax fold text p 0
 body_of S.Basic fold text p e = e
 body_of S.Extended fold text p e = e
 
-of_body : (syntax : Syntax) (fold : Bool) (text : List ℕ) (p : Pattern) → Body syntax fold text p 0 → Expression (kind_of syntax) fold text p
+of_body : (syntax : Syntax) (fold : Bool) (text : List ℕ) (p : Pattern) → Body syntax fold text p 0
+    → Expression (kind_of syntax) fold text p
 of_body S.Basic fold text p b = b
 of_body S.Extended fold text p b = b
 
@@ -29,13 +31,16 @@ rest_or t (Some x) = x.1
 
 module _ (syntax : Syntax) (fold : Bool) where
   -- after a step the same patterns are left
-  pub stepped : (s s' : State) (t rest : List ℕ) (p : Pattern) → next syntax fold s t ≡ Some (s', rest) → Completes syntax fold s t p → Completes syntax fold s' rest p
+  pub stepped : (s s' : State) (t rest : List ℕ) (p : Pattern) → next syntax fold s t ≡ Some (s', rest)
+      → Completes syntax fold s t p → Completes syntax fold s' rest p
   stepped s s' t rest p e (done w) = cc
   stepped s s' t rest p e (step {s' = s2} f c) =
       let g = sym f ∙ e in
-      subst (λ x. Completes syntax fold x rest p) (ap (state_or s) g) (subst (λ x. Completes syntax fold s2 x p) (ap (rest_or t) g) c)
+      subst (λ x. Completes syntax fold x rest p) (ap (state_or s) g)
+          (subst (λ x. Completes syntax fold s2 x p) (ap (rest_or t) g) c)
 
-  pub stuck : (s : State) (t : List ℕ) (p : Pattern) → next syntax fold s t ≡ None → t ≢ [] → Completes syntax fold s t p → ⊥
+  pub stuck : (s : State) (t : List ℕ) (p : Pattern) → next syntax fold s t ≡ None → t ≢ []
+      → Completes syntax fold s t p → ⊥
   stuck s t p e n (done w) = n refl
   stuck s t p e n (step f c) = cc
 
@@ -43,9 +48,12 @@ module _ (syntax : Syntax) (fold : Bool) where
   ended s p q o w (done v) = cc
   ended s p q o w (step f c) = cc
 
-  pub spelled : {text : List ℕ} {p : Pattern} → Spells (kind_of syntax) fold text p → text ≢ [] → Completes syntax fold start text p
+  pub spelled : {text : List ℕ} {p : Pattern} → Spells (kind_of syntax) fold text p → text ≢ []
+      → Completes syntax fold start text p
   spelled G.nothing n = absurd (n refl)
   spelled (G.some {text = text} {p = p} h e) n = complete syntax fold text p (body_of syntax fold text p e)
 
-  pub read : (text : List ℕ) (p : Pattern) → length text ≤ 4096 → Completes syntax fold start text p → Spells (kind_of syntax) fold text p
-  read text p l c = G.some l (of_body syntax fold text p (sound syntax fold c [] ([], [], refl, refl, ([], [], refl, refl, refl))))
+  pub read : (text : List ℕ) (p : Pattern) → length text ≤ 4096 → Completes syntax fold start text p
+      → Spells (kind_of syntax) fold text p
+  read text p l c = G.some l (of_body syntax fold text p
+      (sound syntax fold c [] ([], [], refl, refl, ([], [], refl, refl, refl))))

@@ -1,5 +1,6 @@
 -- What is enclosed, byte by byte.
-use Rattle.std.proofs.Common.{ℕ, ◌≡◌, ◌<◌, ◌≤◌, ◌+◌, ◌-◌, false, cond, ◌&&◌, eqb, List, [], ◌∷◌, ◌++◌, length, take, drop, get_or, Some, None, refl, sym, ap, add-one, ◌∙◌, append_assoc, arith, length-drop}
+use Rattle.std.proofs.Common.{ℕ, ◌≡◌, ◌<◌, ◌≤◌, ◌+◌, ◌-◌, false, cond, ◌&&◌, eqb, List, [], ◌∷◌, ◌++◌, length, take}
+use Rattle.std.proofs.Common.{drop, get_or, Some, None, refl, sym, ap, add-one, ◌∙◌, append_assoc, arith, length-drop}
 use Rattle.std.proofs.lemmas.List.{take_more, get_or-drop}
 use Rattle.std.proofs.Math.Seq.{drop-cons}
 use Rattle.pg_syntax.specs.BracketReading.{Content, with_byte, until}
@@ -15,16 +16,23 @@ front_more w a (Some x) = ap (λ t. Some (t, x.1)) (sym (append_assoc w (a ∷ [
 pub next : (text : List ℕ) (at : ℕ) → at < length text → drop at text ≡ get_or text at 0 ∷ drop (at + 1) text
 next text at h = drop-cons text at 0 h ∙ ap (λ k. get_or text at 0 ∷ drop k text) (sym (add-one at))
 
-two : (text : List ℕ) (at : ℕ) → at + 1 < length text → drop at text ≡ get_or text at 0 ∷ get_or text (at + 1) 0 ∷ drop (at + 2) text
+two : (text : List ℕ) (at : ℕ) → at + 1 < length text
+    → drop at text ≡ get_or text at 0 ∷ get_or text (at + 1) 0 ∷ drop (at + 2) text
 two text at h =
     let e : at + 1 + 1 ≡ at + 2 = omega arith in
-    next text at (omega arith) ∙ ap (λ t. get_or text at 0 ∷ t) (next text (at + 1) h ∙ ap (λ k. get_or text (at + 1) 0 ∷ drop k text) e)
+    next text at (omega arith) ∙ ap (λ t. get_or text at 0 ∷ t)
+        (next text (at + 1) h ∙ ap (λ k. get_or text (at + 1) 0 ∷ drop k text) e)
 
-pub until_later : (mark : ℕ) (text : List ℕ) (at : ℕ) → at + 1 < length text → (eqb (get_or text at 0) mark && eqb (get_or text (at + 1) 0) 93) ≡ false → until mark (drop at text) ≡ with_byte (get_or text at 0) (until mark (drop (at + 1) text))
+pub until_later : (mark : ℕ) (text : List ℕ) (at : ℕ) → at + 1 < length text
+    → (eqb (get_or text at 0) mark && eqb (get_or text (at + 1) 0) 93) ≡ false
+    → until mark (drop at text) ≡ with_byte (get_or text at 0) (until mark (drop (at + 1) text))
 until_later mark text at h e =
     ap (until mark) (two text at h)
-    ∙ (ap (λ b. cond b (Some ([], drop (at + 2) text)) (with_byte (get_or text at 0) (until mark (get_or text (at + 1) 0 ∷ drop (at + 2) text)))) e
-    ∙ ap (λ t. with_byte (get_or text at 0) (until mark t)) (sym (next text (at + 1) h ∙ ap (λ k. get_or text (at + 1) 0 ∷ drop k text) (let e : at + 1 + 1 ≡ at + 2 = omega arith in e))))
+    ∙ (ap (λ b. cond b (Some ([], drop (at + 2) text))
+        (with_byte (get_or text at 0) (until mark (get_or text (at + 1) 0 ∷ drop (at + 2) text)))) e
+    ∙ ap (λ t. with_byte (get_or text at 0) (until mark t))
+        (sym (next text (at + 1) h ∙ ap (λ k. get_or text (at + 1) 0 ∷ drop k text)
+        (let e : at + 1 + 1 ≡ at + 2 = omega arith in e))))
 
 short : (mark : ℕ) (t : List ℕ) → length t ≤ 1 → until mark t ≡ None
 short mark [] h = refl
@@ -34,7 +42,8 @@ short mark (a ∷ b ∷ t) h = absurd (omega arith)
 pub until_end : (mark : ℕ) (text : List ℕ) (at : ℕ) → length text ≤ at + 1 → until mark (drop at text) ≡ None
 until_end mark text at h = short mark (drop at text) (omega (arith, length-drop at text))
 
-pub front_take : (text : List ℕ) (from at : ℕ) → from ≤ at → at < length text → take (at + 1 - from) (drop from text) ≡ take (at - from) (drop from text) ++ get_or text at 0 ∷ []
+pub front_take : (text : List ℕ) (from at : ℕ) → from ≤ at → at < length text
+    → take (at + 1 - from) (drop from text) ≡ take (at - from) (drop from text) ++ get_or text at 0 ∷ []
 front_take text from at h k =
     let d = drop from text in
     let e : at + 1 - from ≡ at - from + 1 = omega arith in

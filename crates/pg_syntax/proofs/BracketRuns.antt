@@ -1,5 +1,6 @@
 -- The elements of a bracket, one after the other.
-use Rattle.std.proofs.Common.{ℕ, zero, suc, ◌≡◌, ◌<◌, ◌≤◌, ◌+◌, ◌-◌, Bool, true, false, not, ◌&&◌, eqb, List, [], ◌∷◌, length, drop, get_or, Option, Some, None, option_and_then, refl, sym, ap, ◌∙◌, arith}
+use Rattle.std.proofs.Common.{ℕ, zero, suc, ◌≡◌, ◌<◌, ◌≤◌, ◌+◌, ◌-◌, Bool, true, false, not, ◌&&◌, eqb, List, [], ◌∷◌}
+use Rattle.std.proofs.Common.{length, drop, get_or, Option, Some, None, option_and_then, refl, sym, ap, ◌∙◌, arith}
 use Rattle.std.proofs.lemmas.List.{drop_all}
 use Rattle.pg_bytes.specs.Sets.{Bytes}
 use Rattle.pg_syntax.specs.Brackets.{Element}
@@ -20,17 +21,25 @@ pred_of (suc m) h = (m, refl)
 then_inside : (m : ℕ) → Option (Element × List ℕ) → Elements
 then_inside m o = option_and_then (λ (e, rest). with_element e (inside_at m false rest)) o
 
-at_step : (text : List ℕ) (first : Bool) (at n : ℕ) (h : at < length text) → (eqb (get_or text at 0) 93 && not first) ≡ false → length text - at ≤ n → (m : ℕ) × (length text - at ≤ suc m) × (inside_at n first (drop at text) ≡ then_inside m (element_at (drop at text)))
+at_step : (text : List ℕ) (first : Bool) (at n : ℕ) (h : at < length text)
+    → (eqb (get_or text at 0) 93 && not first) ≡ false → length text - at ≤ n → (m : ℕ) × (length text - at ≤ suc m)
+    × (inside_at n first (drop at text) ≡ then_inside m (element_at (drop at text)))
 unfolding then_inside
 at_step text first at n h c l =
     let p = pred_of n (omega arith) in
     let s : drop at text ≡ get_or text at 0 ∷ drop (at + 1) text = next text at h in (
       p.0,
       (let q : n ≡ suc p.0 = p.1 in omega arith),
-      ap (λ k. inside_at k first (drop at text)) p.1 ∙ (ap (inside_at (suc p.0) first) s ∙ (inside_step p.0 first (get_or text at 0) (drop (at + 1) text) c ∙ ap (then_inside p.0) (ap element_at (sym s)))),
+      ap (λ k. inside_at k first (drop at text)) p.1
+          ∙ (ap (inside_at (suc p.0) first) s
+          ∙ (inside_step p.0 first (get_or text at 0) (drop (at + 1) text) c
+          ∙ ap (then_inside p.0) (ap element_at (sym s)))),
     )
 
-pub left_more : (whole : Option (Bytes × List ℕ)) (text : List ℕ) (r : Reading) (first : Bool) (at after : ℕ) (e : Element) → at < length text → at < after → (eqb (get_or text at 0) 93 && not first) ≡ false → element_at (drop at text) ≡ Some (e, drop after text) → (t : Reading) → t ≡ put r e → Left whole text r first at → Left whole text t false after
+pub left_more : (whole : Option (Bytes × List ℕ)) (text : List ℕ) (r : Reading) (first : Bool) (at after : ℕ)
+    (e : Element) → at < length text → at < after → (eqb (get_or text at 0) 93 && not first) ≡ false
+    → element_at (drop at text) ≡ Some (e, drop after text) → (t : Reading) → t ≡ put r e → Left whole text r first at
+    → Left whole text t false after
 unfolding then_inside
 left_more whole text r first at after e h a c f t g x =
     let s = at_step text first at x.steps h c x.enough in
@@ -38,10 +47,14 @@ left_more whole text r first at after e h a c f t g x =
     record {
       steps = s.0;
       enough = omega arith;
-      reads = x.reads ∙ (ap (rest_of r) (s.2 ∙ ap (then_inside s.0) f) ∙ (rest_more r e (inside_at s.0 false (drop after text)) ∙ ap (λ y. rest_of y (inside_at s.0 false (drop after text))) (sym g)));
+      reads = x.reads ∙ (ap (rest_of r) (s.2 ∙ ap (then_inside s.0) f)
+          ∙ (rest_more r e (inside_at s.0 false (drop after text))
+          ∙ ap (λ y. rest_of y (inside_at s.0 false (drop after text))) (sym g)));
     }
 
-pub left_none : (whole : Option (Bytes × List ℕ)) (text : List ℕ) (r : Reading) (first : Bool) (at : ℕ) → at < length text → (eqb (get_or text at 0) 93 && not first) ≡ false → element_at (drop at text) ≡ None → Left whole text r first at → whole ≡ None
+pub left_none : (whole : Option (Bytes × List ℕ)) (text : List ℕ) (r : Reading) (first : Bool) (at : ℕ)
+    → at < length text → (eqb (get_or text at 0) 93 && not first) ≡ false → element_at (drop at text) ≡ None
+    → Left whole text r first at → whole ≡ None
 unfolding then_inside
 left_none whole text r first at h c f x =
     let s = at_step text first at x.steps h c x.enough in
@@ -52,12 +65,18 @@ unfolding inside_at
 nothing zero first = refl
 nothing (suc n) first = refl
 
-pub left_end : (whole : Option (Bytes × List ℕ)) (text : List ℕ) (r : Reading) (first : Bool) (at : ℕ) → length text ≤ at → Left whole text r first at → whole ≡ None
-left_end whole text r first at h x = x.reads ∙ ap (rest_of r) (ap (inside_at x.steps first) (drop_all at text h) ∙ nothing x.steps first)
+pub left_end : (whole : Option (Bytes × List ℕ)) (text : List ℕ) (r : Reading) (first : Bool) (at : ℕ)
+    → length text ≤ at → Left whole text r first at → whole ≡ None
+left_end whole text r first at h x = x.reads
+    ∙ ap (rest_of r) (ap (inside_at x.steps first) (drop_all at text h) ∙ nothing x.steps first)
 
-pub left_close : (whole : Option (Bytes × List ℕ)) (text : List ℕ) (r : Reading) (first : Bool) (at : ℕ) → at < length text → (eqb (get_or text at 0) 93 && not first) ≡ true → Left whole text r first at → whole ≡ option_and_then (λ s. Some (s, drop (at + 1) text)) (finish r)
+pub left_close : (whole : Option (Bytes × List ℕ)) (text : List ℕ) (r : Reading) (first : Bool) (at : ℕ)
+    → at < length text → (eqb (get_or text at 0) 93 && not first) ≡ true → Left whole text r first at
+    → whole ≡ option_and_then (λ s. Some (s, drop (at + 1) text)) (finish r)
 left_close whole text r first at h c x =
     let p = pred_of x.steps (let l = x.enough in omega arith) in
     x.reads
-    ∙ (ap (rest_of r) (ap (λ k. inside_at k first (drop at text)) p.1 ∙ (ap (inside_at (suc p.0) first) (next text at h) ∙ inside_close p.0 first (get_or text at 0) (drop (at + 1) text) c))
+    ∙ (ap (rest_of r) (ap (λ k. inside_at k first (drop at text)) p.1
+        ∙ (ap (inside_at (suc p.0) first) (next text at h)
+        ∙ inside_close p.0 first (get_or text at 0) (drop (at + 1) text) c))
     ∙ ap (option_and_then (λ s. Some (s, drop (at + 1) text))) (finish_is r))

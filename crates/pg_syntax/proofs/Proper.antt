@@ -24,7 +24,8 @@ mark_proper (G.interval b) = bounds_proper b
 
 module _ (syntax : Syntax) (fold : Bool) where
   mutual
-    atom_proper : {before text after : List ℕ} {p : Pattern} {d : ℕ} → Atom syntax fold before text after p d → IsProper p
+    atom_proper : {before text after : List ℕ} {p : Pattern} {d : ℕ} → Atom syntax fold before text after p d
+        → IsProper p
     atom_proper (G.byte o) = tt
     atom_proper (G.escape h) = tt
     atom_proper G.dot = tt
@@ -32,11 +33,13 @@ module _ (syntax : Syntax) (fold : Bool) where
     atom_proper (G.group lt b) = body_proper b
     atom_proper (G.dollar e) = tt
 
-    item_proper : {before text after : List ℕ} {p : Pattern} {d : ℕ} → Item syntax fold before text after p d → IsProper p
+    item_proper : {before text after : List ℕ} {p : Pattern} {d : ℕ} → Item syntax fold before text after p d
+        → IsProper p
     item_proper (G.atom a) = atom_proper a
     item_proper (G.marked i m) = (item_proper i, mark_proper m)
 
-    piece_proper : {before text after : List ℕ} {p : Pattern} {d : ℕ} → Piece syntax fold before text after p d → IsProper p
+    piece_proper : {before text after : List ℕ} {p : Pattern} {d : ℕ} → Piece syntax fold before text after p d
+        → IsProper p
     piece_proper (G.item i) = item_proper i
     piece_proper (G.begin e) = tt
     piece_proper (G.end e) = tt

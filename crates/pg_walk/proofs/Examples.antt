@@ -31,7 +31,8 @@ abbrev plain : FileKind → NodeData
 plain kind = record { kind = Some kind; target = Some kind; content = None }
 
 abbrev directory : List Text → Bool → NodeData
-directory names nameless = record { kind = Some Directory; target = Some Directory; content = Some (record { names = names; nameless = nameless }) }
+directory names nameless = record { kind = Some Directory; target = Some Directory; content =
+    Some (record { names = names; nameless = nameless }) }
 
 -- a directory with a link to itself, one that can't be listed, and one with a bad name
 abbrev tree : Answers

@@ -1,5 +1,6 @@
 -- A walk over any operands has a list of items.
-use Rattle.std.proofs.Common.{ℕ, zero, suc, ◌≡◌, ◌≤◌, ◌+◌, ◌↔◌, Bool, true, false, List, [], ◌∷◌, ◌++◌, length, take, get_or, Option, Some, None, ◌⊎◌, inl, inr, refl, sym, ap, ◌∙◌, subst, take_all, arith}
+use Rattle.std.proofs.Common.{ℕ, zero, suc, ◌≡◌, ◌≤◌, ◌+◌, ◌↔◌, Bool, true, false, List, [], ◌∷◌, ◌++◌, length, take}
+use Rattle.std.proofs.Common.{get_or, Option, Some, None, ◌⊎◌, inl, inr, refl, sym, ap, ◌∙◌, subst, take_all, arith}
 use Rattle.std.specs.List.{Contains}
 use Rattle.std.specs.declared.cmp.Ordering.{Ordering}
 use Rattle.std.specs.declared.cmp.Ordering.TheVariants.{Less, Equal, Greater}
@@ -15,8 +16,11 @@ use Rattle.pg_walk.specs.Descent.{EntryGives, InsideGives, OperandGives, Adds}
 use Rattle.pg_walk.specs.declared.tree.FileKind.{FileKind}
 use Rattle.pg_walk.specs.declared.tree.FileKind.TheVariants.{Regular, Directory, Link, Other}
 use Rattle.pg_walk.specs.declared.item.Cause.TheVariants.{CannotOpen, IsDirectory, CannotList, BadName, TooDeep}
-use Rattle.pg_walk.proofs.Lists.{contains_none, contains_more, contains_one, front_or_rest, all_none, all_from_contains, bytes_same}
-use Rattle.pg_walk.proofs.Steps.{entry_leaf, entry_deep, entry_inside, inside_fails, some_bad, some_good, some_more, some_all, SomeGive, operand_standard, operand_kind, operand_refused, operand_inside, first_none, first_more, first_all, FirstGive}
+use Rattle.pg_walk.proofs.Lists.{contains_none, contains_more, contains_one, front_or_rest, all_none, all_from_contains}
+use Rattle.pg_walk.proofs.Lists.{bytes_same}
+use Rattle.pg_walk.proofs.Steps.{entry_leaf, entry_deep, entry_inside, inside_fails, some_bad, some_good, some_more}
+use Rattle.pg_walk.proofs.Steps.{some_all, SomeGive, operand_standard, operand_kind, operand_refused, operand_inside}
+use Rattle.pg_walk.proofs.Steps.{first_none, first_more, first_all, FirstGive}
 
 -- one more name in its place among ascending ones; `more` are the later ones with it
 abbrev placed : Ordering → Text → Text → List Text → List Text → List Text
@@ -35,7 +39,8 @@ in_order (n ∷ ns) = put n (in_order ns)
 at_front : {X : Type 0} (x : X) (xs : List X) (y : X) → x ≡ y → Contains (x ∷ xs) y
 at_front x xs y e = (0, omega arith, e)
 
-placed_has : (o : Ordering) (n x : Text) (xs more : List Text) (m : Text) → slice_cmp nat_cmp n x ≡ o → ((n ≡ m) ⊎ Contains xs m) ↔ Contains more m → ((n ≡ m) ⊎ Contains (x ∷ xs) m) ↔ Contains (placed o n x xs more) m
+placed_has : (o : Ordering) (n x : Text) (xs more : List Text) (m : Text) → slice_cmp nat_cmp n x ≡ o
+    → ((n ≡ m) ⊎ Contains xs m) ↔ Contains more m → ((n ≡ m) ⊎ Contains (x ∷ xs) m) ↔ Contains (placed o n x xs more) m
 placed_has Less n x xs more m e rest = (
   λ h. elim h [
     | inl s ↦ at_front n (x ∷ xs) m s
@@ -90,10 +95,13 @@ in_order_has (n ∷ ns) m = (
   ],
 )
 
-placed_up : (o : Ordering) (n x : Text) (xs more : List Text) → slice_cmp nat_cmp n x ≡ o → Ascending (slice_cmp nat_cmp) (x ∷ xs) → Ascending (slice_cmp nat_cmp) more → ((y : Text) → Contains more y → (n ≡ y) ⊎ Contains xs y) → Ascending (slice_cmp nat_cmp) (placed o n x xs more)
+placed_up : (o : Ordering) (n x : Text) (xs more : List Text) → slice_cmp nat_cmp n x ≡ o
+    → Ascending (slice_cmp nat_cmp) (x ∷ xs) → Ascending (slice_cmp nat_cmp) more
+    → ((y : Text) → Contains more y → (n ≡ y) ⊎ Contains xs y) → Ascending (slice_cmp nat_cmp) (placed o n x xs more)
 placed_up Less n x xs more e up above from = (
   All-cons (λ y. slice_cmp nat_cmp n y ≡ Less) x xs e
-      (All-weaker (λ y. slice_cmp nat_cmp x y ≡ Less) (λ y. slice_cmp nat_cmp n y ≡ Less) (λ y h. nat_list_cmp_total.trans n x y e h) xs up.0),
+      (All-weaker (λ y. slice_cmp nat_cmp x y ≡ Less) (λ y. slice_cmp nat_cmp n y ≡ Less)
+          (λ y h. nat_list_cmp_total.trans n x y e h) xs up.0),
   up,
 )
 placed_up Equal n x xs more e up above from = up
@@ -108,7 +116,8 @@ placed_up Greater n x xs more e up above from =
 
 put_up : (n : Text) (xs : List Text) → Ascending (slice_cmp nat_cmp) xs → Ascending (slice_cmp nat_cmp) (put n xs)
 put_up n [] up = (all_none (λ y. slice_cmp nat_cmp n y ≡ Less), tt)
-put_up n (x ∷ xs) up = placed_up (slice_cmp nat_cmp n x) n x xs (put n xs) refl up (put_up n xs up.1) (λ y c. (put_has n xs y).1 c)
+put_up n (x ∷ xs) up = placed_up (slice_cmp nat_cmp n x) n x xs (put n xs) refl up (put_up n xs up.1)
+    (λ y c. (put_has n xs y).1 c)
 
 in_order_up : (ns : List Text) → Ascending (slice_cmp nat_cmp) (in_order ns)
 in_order_up [] = tt
@@ -122,11 +131,14 @@ HasItems gives = (items : List Found) × Adds gives [] items
 behind : (gives : Names → Found → Type 0) (old : List Found) → HasItems gives → (new : List Found) × Adds gives old new
 behind gives old f = (old ++ f.1.items, record { items = f.1.items; are = f.1.are; joined = refl })
 
-flag_some : (a : Answers) (depth : ℕ) (path : Text) (c : Content) (b : Bool) → c.nameless ≡ b → HasItems (SomeGive a depth path c [])
+flag_some : (a : Answers) (depth : ℕ) (path : Text) (c : Content) (b : Bool) → c.nameless ≡ b
+    → HasItems (SomeGive a depth path c [])
 flag_some a depth path c true e = (Fault path BadName ∷ [], some_bad a depth path c e [] _ refl)
 flag_some a depth path c false e = ([], some_good a depth path c e [] _ refl)
 
-names_some : (a : Answers) (depth : ℕ) (path : Text) (c : Content) (xs : List Text) → Ascending (slice_cmp nat_cmp) xs → ((p : Text) → HasItems (EntryGives a (depth + 1) p)) → (k : ℕ) → k ≤ length xs → HasItems (SomeGive a depth path c (take k xs))
+names_some : (a : Answers) (depth : ℕ) (path : Text) (c : Content) (xs : List Text) → Ascending (slice_cmp nat_cmp) xs
+    → ((p : Text) → HasItems (EntryGives a (depth + 1) p)) → (k : ℕ) → k ≤ length xs
+    → HasItems (SomeGive a depth path c (take k xs))
 names_some a depth path c xs up below zero h = flag_some a depth path c c.nameless refl
 names_some a depth path c xs up below (suc k) h =
     let f = names_some a depth path c xs up below k (omega arith) in
@@ -135,19 +147,26 @@ names_some a depth path c xs up below (suc k) h =
     let Q : ℕ → Type 0 = λ n. Adds (SomeGive a depth path c (take n xs)) [] e.0 in
     (e.0, subst Q next (some_more a depth path c xs k up (omega arith) [] f.0 e.0 f.1 e.1))
 
-inside_by : (a : Answers) (depth : ℕ) (path : Text) (o : Option Content) → a.content path ≡ o → ((p : Text) → HasItems (EntryGives a (depth + 1) p)) → HasItems (InsideGives a depth path)
+inside_by : (a : Answers) (depth : ℕ) (path : Text) (o : Option Content) → a.content path ≡ o
+    → ((p : Text) → HasItems (EntryGives a (depth + 1) p)) → HasItems (InsideGives a depth path)
 inside_by a depth path None e below = (Fault path CannotList ∷ [], inside_fails a depth path e [] _ refl)
 inside_by a depth path (Some c) e below =
     let xs = in_order c.names in
     let f = names_some a depth path c xs (in_order_up c.names) below (length xs) (omega arith) in
     let Q : List Text → Type 0 = λ t. Adds (SomeGive a depth path c t) [] f.0 in
-    (f.0, some_all a depth path c xs e (in_order_has c.names) [] f.0 (subst Q (take_all (length xs) xs (omega arith)) f.1))
+    (f.0, some_all a depth path c xs e (in_order_has c.names) [] f.0
+        (subst Q (take_all (length xs) xs (omega arith)) f.1))
 
-entry_by : (a : Answers) (depth : ℕ) (path : Text) (o : Option FileKind) → a.kind path false ≡ o → (o ≡ Some Directory → HasItems (EntryGives a depth path)) → HasItems (EntryGives a depth path)
-entry_by a depth path None e directory = (Fault path CannotOpen ∷ [], entry_leaf a depth path None (Some (Fault path CannotOpen)) e refl (λ k d. cc) [] _ refl)
-entry_by a depth path (Some Regular) e directory = (File path ∷ [], entry_leaf a depth path (Some Regular) (Some (File path)) e refl (λ k d. cc) [] _ refl)
-entry_by a depth path (Some Link) e directory = ([], entry_leaf a depth path (Some Link) None e refl (λ k d. cc) [] _ refl)
-entry_by a depth path (Some Other) e directory = ([], entry_leaf a depth path (Some Other) None e refl (λ k d. cc) [] _ refl)
+entry_by : (a : Answers) (depth : ℕ) (path : Text) (o : Option FileKind) → a.kind path false ≡ o
+    → (o ≡ Some Directory → HasItems (EntryGives a depth path)) → HasItems (EntryGives a depth path)
+entry_by a depth path None e directory = (Fault path CannotOpen ∷ [],
+    entry_leaf a depth path None (Some (Fault path CannotOpen)) e refl (λ k d. cc) [] _ refl)
+entry_by a depth path (Some Regular) e directory =
+    (File path ∷ [], entry_leaf a depth path (Some Regular) (Some (File path)) e refl (λ k d. cc) [] _ refl)
+entry_by a depth path (Some Link) e directory =
+    ([], entry_leaf a depth path (Some Link) None e refl (λ k d. cc) [] _ refl)
+entry_by a depth path (Some Other) e directory =
+    ([], entry_leaf a depth path (Some Other) None e refl (λ k d. cc) [] _ refl)
 entry_by a depth path (Some Directory) e directory = directory refl
 
 entry_has : (a : Answers) (levels depth : ℕ) → levels + depth ≡ 257 → (path : Text) → HasItems (EntryGives a depth path)
@@ -160,24 +179,32 @@ entry_has a (suc levels) depth h path =
     let f = inside_by a depth path (a.content path) refl (entry_has a levels (depth + 1) (omega arith)) in
     (f.0, entry_inside a depth path e (omega arith) [] f.0 f.1))
 
-directory_has : (a : Answers) (r : Bool) (path : Text) → is_standard_input path ≡ false → a.kind path true ≡ Some Directory → (b : Bool) → r ≡ b → HasItems (OperandGives a r path)
+directory_has : (a : Answers) (r : Bool) (path : Text) → is_standard_input path ≡ false
+    → a.kind path true ≡ Some Directory → (b : Bool) → r ≡ b → HasItems (OperandGives a r path)
 directory_has a r path s k true t =
     let f = inside_by a 0 path (a.content path) refl (entry_has a 256 1 refl) in
     (f.0, operand_inside a r path s t k [] f.0 f.1)
 directory_has a r path s k false t = (Fault path IsDirectory ∷ [], operand_refused a r path s t k [] _ refl)
 
-kind_has : (a : Answers) (r : Bool) (path : Text) → is_standard_input path ≡ false → (o : Option FileKind) → a.kind path true ≡ o → HasItems (OperandGives a r path)
-kind_has a r path s None k = (Fault path CannotOpen ∷ [], operand_kind a r path None (Fault path CannotOpen) s k refl (λ d. cc) [] _ refl)
-kind_has a r path s (Some Regular) k = (File path ∷ [], operand_kind a r path (Some Regular) (File path) s k refl (λ d. cc) [] _ refl)
-kind_has a r path s (Some Link) k = (Fault path CannotOpen ∷ [], operand_kind a r path (Some Link) (Fault path CannotOpen) s k refl (λ d. cc) [] _ refl)
-kind_has a r path s (Some Other) k = (File path ∷ [], operand_kind a r path (Some Other) (File path) s k refl (λ d. cc) [] _ refl)
+kind_has : (a : Answers) (r : Bool) (path : Text) → is_standard_input path ≡ false → (o : Option FileKind)
+    → a.kind path true ≡ o → HasItems (OperandGives a r path)
+kind_has a r path s None k = (Fault path CannotOpen ∷ [],
+    operand_kind a r path None (Fault path CannotOpen) s k refl (λ d. cc) [] _ refl)
+kind_has a r path s (Some Regular) k = (File path ∷ [],
+    operand_kind a r path (Some Regular) (File path) s k refl (λ d. cc) [] _ refl)
+kind_has a r path s (Some Link) k = (Fault path CannotOpen ∷ [],
+    operand_kind a r path (Some Link) (Fault path CannotOpen) s k refl (λ d. cc) [] _ refl)
+kind_has a r path s (Some Other) k = (File path ∷ [],
+    operand_kind a r path (Some Other) (File path) s k refl (λ d. cc) [] _ refl)
 kind_has a r path s (Some Directory) k = directory_has a r path s k r refl
 
-operand_has : (a : Answers) (r : Bool) (path : Text) (b : Bool) → is_standard_input path ≡ b → HasItems (OperandGives a r path)
+operand_has : (a : Answers) (r : Bool) (path : Text) (b : Bool) → is_standard_input path ≡ b
+    → HasItems (OperandGives a r path)
 operand_has a r path true s = (File path ∷ [], operand_standard a r path s [] _ refl)
 operand_has a r path false s = kind_has a r path s (a.kind path true) refl
 
-first_has : (a : Answers) (ops : List Text) (r : Bool) (k : ℕ) → (items : List Found) × ItemsOf place_cmp (FirstGive a ops r k) items
+first_has : (a : Answers) (ops : List Text) (r : Bool) (k : ℕ) → (items : List Found)
+    × ItemsOf place_cmp (FirstGive a ops r k) items
 first_has a ops r zero = ([], first_none a ops r)
 first_has a ops r (suc k) =
     let f = first_has a ops r k in

@@ -11,5 +11,6 @@ invariant-loop g l = record {
   room : l.fn.size.seats ≤ vec_capacity l.seats;
   table : l.whole.table_id ≡ l.word.shared.table_id;
   whole : l.whole.me ≡ (token_view l.fn.size (replicate (l.fn.size.seats - vec_len l.seats) (draws [] false)), []);
-  items : l.seats.items ≡ replicate (vec_len l.seats) (seat_view (board_view l.word.shared.table_id l.fn.size) [] false);
+  items : l.seats.items ≡ replicate (vec_len l.seats)
+      (seat_view (board_view l.word.shared.table_id l.fn.size) [] false);
 }

@@ -1,4 +1,5 @@
-use Rattle.std.proofs.Common.{◌≡◌, ℕ, ◌+◌, List, All, [], ◌∷◌, ◌++◌, map, length, append_assoc, ap, ◌∙◌, sym, subst, arith}
+use Rattle.std.proofs.Common.{◌≡◌, ℕ, ◌+◌, List, All, [], ◌∷◌, ◌++◌, map, length, append_assoc, ap, ◌∙◌, sym, subst}
+use Rattle.std.proofs.Common.{arith}
 use Rattle.std.proofs.lemmas.List.{map-append}
 use Rattle.atomic_table.specs.Table.{Me}
 use Rattle.pg_board.specs.declared.draws.Draws.{Draws}
@@ -33,11 +34,16 @@ loop-seat-preserved g c =
     let boards : All (IsOf b) (rest ++ seat ∷ []) = subst (λ (l : List SeatView). All (IsOf b) l) e i.boards in
     let joined = c.join_seat.ensures in let was : List Draws = c.loop-seat.whole.me.0.seats in
     let now_is : c.join_seat.new.seat.me.0.seats ≡ draws_of seat ∷ was =
-    ap (λ (m : Me (Unit {0}) TokenView). m.0.seats) joined.2 ∙ ap (λ (l : List Draws). l ++ was) c.into_token-token.ensures.seats in
+    ap (λ (m : Me (Unit {0}) TokenView). m.0.seats) joined.2
+        ∙ ap (λ (l : List Draws). l ++ was) c.into_token-token.ensures.seats in
     record {
       table = joined.0 ∙ i.table;
-      some_seat = λ none_left. let l : ◌≡◌ {A = ℕ} (length was + 1) 0 = (let e : length was + 1 ≡ length (draws_of seat ∷ was) = omega arith in e) ∙ ap (length {A = Draws}) (sym now_is ∙ none_left) in absurd (omega arith);
+      some_seat = λ none_left. let l : ◌≡◌ {A = ℕ} (length was + 1) 0 =
+          (let e : length was + 1 ≡ length (draws_of seat ∷ was) = omega arith in e)
+          ∙ ap (length {A = Draws}) (sym now_is ∙ none_left) in absurd (omega arith);
       boards = all_front (IsOf b) rest seat boards;
-      seats = ap (λ (l : List Draws). map draws_of rest ++ l) now_is ∙ sym (append_assoc (map draws_of rest) (draws_of seat ∷ []) was) ∙ ap (λ (l : List Draws). l ++ was) (sym (map-append draws_of rest (seat ∷ [])))
+      seats = ap (λ (l : List Draws). map draws_of rest ++ l) now_is
+          ∙ sym (append_assoc (map draws_of rest) (draws_of seat ∷ []) was)
+          ∙ ap (λ (l : List Draws). l ++ was) (sym (map-append draws_of rest (seat ∷ [])))
           ∙ ap (λ (l : List SeatView). map draws_of l ++ was) (sym e) ∙ i.seats;
     }

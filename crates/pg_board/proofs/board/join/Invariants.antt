@@ -8,7 +8,8 @@ invariant-loop-seat g l = record {
   table : l.whole.table_id ≡ l.word.shared.table_id;
   some_seat : l.whole.me.0.seats ≢ [];
   boards : All (λ (s : SeatView). s.board ≡ board_view l.word.shared.table_id l.fn.size) l.seats.items;
-  seats : map (λ (s : SeatView). draws s.drawn s.spent) l.seats.items ++ l.whole.me.0.seats ≡ map (λ (s : SeatView). draws s.drawn s.spent) l.fn.seats.items;
+  seats : map (λ (s : SeatView). draws s.drawn s.spent) l.seats.items ++ l.whole.me.0.seats ≡ map
+      (λ (s : SeatView). draws s.drawn s.spent) l.fn.seats.items;
 }
 
 abbrev pub decreases-loop-seat : goal.decreases-loop-seat

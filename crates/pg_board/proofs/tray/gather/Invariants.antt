@@ -11,7 +11,8 @@ invariant-loop-pass g l = record {
   made : l.ticket.me.view.client.made ≡ l.initial.ticket.me.view.client.made;
   taken : l.ticket.me.view.client.taken ≡ l.initial.ticket.me.view.client.taken;
   all : All (λ (p : PutView g.row.T.Denot g.row.A.Denot). p.tray ≡ l.queue) l.passes.items;
-  lists : map (λ (p : PutView g.row.T.Denot g.row.A.Denot). p.put) l.passes.items ++ lists_of l.ticket.me.view.client.passes ≡ map (λ (p : PutView g.row.T.Denot g.row.A.Denot). p.put) l.initial.passes.items;
+  lists : map (λ (p : PutView g.row.T.Denot g.row.A.Denot). p.put) l.passes.items ++ lists_of
+      l.ticket.me.view.client.passes ≡ map (λ (p : PutView g.row.T.Denot g.row.A.Denot). p.put) l.initial.passes.items;
 }
 
 abbrev pub decreases-loop-pass : goal.decreases-loop-pass

@@ -10,5 +10,6 @@ returns c =
     let letters = bytes c.alnum.result in
     let other = c.complement-other.ensures ∙ ap complement c.between.ensures in
     c.complement.ensures
-    ∙ (ap complement (c.union.ensures ∙ (ap (λ s. union s letters) other ∙ ap (union (complement graph)) c.alnum.ensures))
+    ∙ (ap complement (c.union.ensures ∙ (ap (λ s. union s letters) other
+        ∙ ap (union (complement graph)) c.alnum.ensures))
     ∙ complement-punct)

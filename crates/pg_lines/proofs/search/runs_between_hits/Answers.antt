@@ -22,7 +22,8 @@ loop-line-init g c = record {
   needles = c.requires.needles;
   short = c.requires.short;
   passed = λ trees spelled.
-      passed_none (search_of c.args.query.now.text trees) c.args.bytes.now c.new-runs.result.items c.new-runs.ensures.items;
+      passed_none (search_of c.args.query.now.text trees) c.args.bytes.now c.new-runs.result.items
+          c.new-runs.ensures.items;
 }
 
 pub loop-line-preserved : goal.loop-line-preserved
@@ -42,7 +43,8 @@ loop-line-preserved g c =
       within = within.2;
       few = omega (arith, between.few, within.1);
       needles = c.in-Some.ensures.needles;
-      short = short_behind (search_of (uninverted text) own.0) bytes at 0 _ (c.in-Some.ensures.some own.0 own.1).1 i.short;
+      short = short_behind (search_of (uninverted text) own.0) bytes at 0 _
+          (c.in-Some.ensures.some own.0 own.1).1 i.short;
       passed = λ trees spelled.
           passed_more text trees c.requires.inverted bytes c.loop-line.runs.items at seen (i.passed trees spelled) line
           (c.in-Some.ensures.some trees spelled) run between.span.0 between.span.1 between.first

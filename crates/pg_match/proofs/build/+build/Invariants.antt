@@ -20,4 +20,5 @@ abbrev pub invariant-add_copies-loop-i : goal.invariant-add_copies-loop-i
 invariant-add_copies-loop-i g l = AddedCopies l.initial.states.items l.states.items (pattern l.inner) l.i l.entry l.next
 
 abbrev pub invariant-add_optional-loop-i : goal.invariant-add_optional-loop-i
-invariant-add_optional-loop-i g l = AddedOptional l.initial.states.items l.states.items (pattern l.inner) l.i l.entry l.next
+invariant-add_optional-loop-i g l = AddedOptional l.initial.states.items l.states.items
+    (pattern l.inner) l.i l.entry l.next

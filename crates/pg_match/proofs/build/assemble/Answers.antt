@@ -5,21 +5,24 @@ use Rattle.std.proofs.lemmas.List.{length-map}
 use Rattle.std.proofs.lemmas.Option.{slice_get_read, slice_get-map}
 use Rattle.pg_syntax.specs.Trees.{pattern}
 use Rattle.pg_match.specs.Tables.{HasFirst}
-use Rattle.pg_match.proofs.BuildLemmas.{each_proper, room_for, building_one, building_more, built, runnable, any_some, some_any, begun}
+use Rattle.pg_match.proofs.BuildLemmas.{each_proper, room_for, building_one, building_more, built, runnable, any_some}
+use Rattle.pg_match.proofs.BuildLemmas.{some_any, begun}
 use Rattle.pg_match.proofs.build.assemble.Goals as goal
 use Rattle.pg_match.proofs.build.assemble.Goals.{then-i-eq0, else-i-eq0+in_ok-start}
 
 pub add-requires-clause-proper : goal.add-requires-clause-proper
 add-requires-clause-proper g c =
     let trees = c.args.trees.now in
-    let read = slice_get_read trees (length trees) c.loop-i.i c.index-trees-i.result refl (omega arith) c.index-trees-i.is in
+    let read = slice_get_read trees (length trees) c.loop-i.i c.index-trees-i.result refl
+        (omega arith) c.index-trees-i.is in
     each_proper (map pattern trees) c.requires.proper c.loop-i.i (pattern c.index-trees-i.result)
     (slice_get-map pattern trees c.loop-i.i ∙ ap (option_map pattern) read)
 
 pub add-requires-clause-fits : goal.add-requires-clause-fits
 add-requires-clause-fits g c =
     let trees = c.args.trees.now in
-    let read = slice_get_read trees (length trees) c.loop-i.i c.index-trees-i.result refl (omega arith) c.index-trees-i.is in
+    let read = slice_get_read trees (length trees) c.loop-i.i c.index-trees-i.result refl
+        (omega arith) c.index-trees-i.is in
     let fits = room_for (map pattern trees) c.loop-i.i (pattern c.index-trees-i.result)
     (slice_get-map pattern trees c.loop-i.i ∙ ap (option_map pattern) read) in
     omega (arith, fits, c.loop-i.invariant.size, c.requires.small)
@@ -27,7 +30,8 @@ add-requires-clause-fits g c =
 pub push-requires-else-i-eq0 : goal.push-requires-else-i-eq0
 push-requires-else-i-eq0 g c =
     let trees = c.args.trees.now in
-    let read = slice_get_read trees (length trees) c.loop-i.i c.index-trees-i.result refl (omega arith) c.index-trees-i.is in
+    let read = slice_get_read trees (length trees) c.loop-i.i c.index-trees-i.result refl
+        (omega arith) c.index-trees-i.is in
     let fits = room_for (map pattern trees) c.loop-i.i (pattern c.index-trees-i.result)
     (slice_get-map pattern trees c.loop-i.i ∙ ap (option_map pattern) read) in
     omega (arith, fits, c.loop-i.invariant.size, c.requires.small, c.in_ok-entry.ensures.size, c.if-i-eq0.false)
@@ -35,12 +39,16 @@ push-requires-else-i-eq0 g c =
 pub loop-i-preserved : goal.loop-i-preserved
 loop-i-preserved g c =
     let trees = c.args.trees.now in
-    let read = slice_get_read trees (length trees) c.loop-i.i c.index-trees-i.result refl (omega arith) c.index-trees-i.is in
-    let here : slice_get (map pattern trees) c.loop-i.i ≡ Some (pattern c.index-trees-i.result) = slice_get-map pattern trees c.loop-i.i ∙ ap (option_map pattern) read in
+    let read = slice_get_read trees (length trees) c.loop-i.i c.index-trees-i.result refl
+        (omega arith) c.index-trees-i.is in
+    let here : slice_get (map pattern trees) c.loop-i.i ≡ Some (pattern c.index-trees-i.result) =
+        slice_get-map pattern trees c.loop-i.i ∙ ap (option_map pattern) read in
     elim c.if-i-eq0.branch [
-      | then-i-eq0 w ↦ rw (w.states-is, w.start-is) (building_one _ _ _ _ _ _ _ w.if-i-eq0.true c.loop-i.invariant c.in_ok-entry.ensures here)
+      | then-i-eq0 w ↦ rw (w.states-is, w.start-is)
+          (building_one _ _ _ _ _ _ _ w.if-i-eq0.true c.loop-i.invariant c.in_ok-entry.ensures here)
       | else-i-eq0+in_ok-start w ↦ rw (w.states-is, w.start-is)
-          (building_more _ _ _ _ _ _ _ _ _ w.if-i-eq0.false c.loop-i.invariant c.in_ok-entry.ensures w.in_ok-start.ensures here)
+          (building_more _ _ _ _ _ _ _ _ _ w.if-i-eq0.false c.loop-i.invariant c.in_ok-entry.ensures
+              w.in_ok-start.ensures here)
     ]
 
 pub returns-clause-runs : goal.returns-clause-runs

@@ -23,7 +23,8 @@ loop-next-preserved g c =
     let good = c.loop-next.invariant.good in
     let e = read_listed s c.loop-next.next _ good c.loop-next-test.true c.index-from.ensures in
     reaching_next _ _ _ _ _ _ _ _ _ c.loop-next.invariant c.loop-next-test.true
-    (subst (λ q. Followed c.args.states.now c.args.line.now c.args.place s (members c.follow.new.set) q c.args.mark) e c.follow.ensures)
+    (subst (λ q. Followed c.args.states.now c.args.line.now c.args.place s (members c.follow.new.set) q c.args.mark) e
+        c.follow.ensures)
 
 pub insert-requires-clause-good : goal.insert-requires-clause-good
 insert-requires-clause-good g c = c.requires.good

@@ -5,9 +5,12 @@ use Rattle.pg_match.specs.declared.state.State.TheVariants.{Fail}
 use Rattle.pg_match.specs.StateSets.{listed}
 use Rattle.pg_match.specs.Views.{members}
 use Rattle.pg_match.proofs.StateSetLemmas.{read_thread, read_listed, listed_in, list_long}
-use Rattle.pg_match.proofs.ClosureLemmas.{stands, stepping_over, stepping_next, no_byte, byte_edge, byte_only, byte_none, stepping_first, stepped}
+use Rattle.pg_match.proofs.ClosureLemmas.{stands, stepping_over, stepping_next, no_byte, byte_edge, byte_only}
+use Rattle.pg_match.proofs.ClosureLemmas.{byte_none, stepping_first, stepped}
 use Rattle.pg_match.proofs.walk.step.Goals as goal
-use Rattle.pg_match.proofs.walk.step.Goals.{then-mark-limit+in-Read+then-contains, then-mark-limit+in-Read+else-contains, then-mark-limit+in_default, else-mark-limit}
+use Rattle.pg_match.proofs.walk.step.Goals.{then-mark-limit+in-Read+then-contains}
+use Rattle.pg_match.proofs.walk.step.Goals.{then-mark-limit+in-Read+else-contains, then-mark-limit+in_default}
+use Rattle.pg_match.proofs.walk.step.Goals.{else-mark-limit}
 
 pub index-mark-requires : goal.index-mark-requires
 index-mark-requires g c =
@@ -26,19 +29,22 @@ bounds-states-state g c =
 pub reach-requires-clause-some : goal.reach-requires-clause-some
 reach-requires-clause-some g c =
     let lt : c.loop-k.k < c.args.current.now.len = omega arith in
-    let r = read_thread (members c.args.current.now) c.loop-k.k _ _ c.requires.good lt c.index-state.ensures c.index-mark.ensures in
+    let r = read_thread (members c.args.current.now) c.loop-k.k _ _ c.requires.good lt c.index-state.ensures
+        c.index-mark.ensures in
     omega (arith, r.1, r.3)
 
 pub reach-requires-clause-below : goal.reach-requires-clause-below
 reach-requires-clause-below g c =
     let lt : c.loop-k.k < c.args.current.now.len = omega arith in
-    let r = read_thread (members c.args.current.now) c.loop-k.k _ _ c.requires.good lt c.index-state.ensures c.index-mark.ensures in
+    let r = read_thread (members c.args.current.now) c.loop-k.k _ _ c.requires.good lt c.index-state.ensures
+        c.index-mark.ensures in
     λ q. let b = c.loop-k.invariant.below c.loop-k.k (omega arith) lt q in omega (arith, r.1, b)
 
 pub loop-k-preserved : goal.loop-k-preserved
 loop-k-preserved g c =
     let lt : c.loop-k.k < c.args.current.now.len = omega arith in
-    let r = read_thread (members c.args.current.now) c.loop-k.k _ _ c.requires.good lt c.index-state.ensures c.index-mark.ensures in
+    let r = read_thread (members c.args.current.now) c.loop-k.k _ _ c.requires.good lt c.index-state.ensures
+        c.index-mark.ensures in
     let inside : c.index-state.result.now < length c.args.states.now = omega (arith, r.0, r.2) in
     let byte = slice_get-get_or c.args.line.now c.args.place 0 c.requires.place in
     let t = c.args.states.now in
@@ -59,14 +65,16 @@ loop-k-preserved g c =
           let is = rw r.0 at (stands _ _ _ inside w.in-Read.is) in
           rw w.next-is
           (stepping_over t l i now limit _ _ c.loop-k.invariant
-          (λ q early e. byte_none t l i now limit q0 w.in-Read.to _ q w.in-Read.set is byte (sym w.if-contains.ensures) e))
+          (λ q early e. byte_none t l i now limit q0 w.in-Read.to _ q w.in-Read.set is byte
+              (sym w.if-contains.ensures) e))
       | then-mark-limit+in_default w ↦
           let st = get_or t c.index-state.result.now Fail in
           let is = subst (λ q. slice_get t q ≡ Some st) r.0 (stands _ _ _ inside refl) in
           rw w.next-is
           (stepping_over t l i now limit _ _ c.loop-k.invariant
           (λ q early e. no_byte t l i now limit q0 st is w.in_default.not-Read q e))
-      | else-mark-limit w ↦ rw w.next-is (stepping_over t l i now limit _ _ c.loop-k.invariant (λ q early edge. omega (arith, r.1, w.if-mark-limit.false)))
+      | else-mark-limit w ↦ rw w.next-is (stepping_over t l i now limit _ _ c.loop-k.invariant
+          (λ q early edge. omega (arith, r.1, w.if-mark-limit.false)))
     ]
 
 pub bounds-line-place : goal.bounds-line-place

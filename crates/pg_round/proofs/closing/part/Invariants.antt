@@ -10,7 +10,8 @@ abbrev pub invariant-loop-worker : goal.invariant-loop-worker
 invariant-loop-worker g l = record {
   worked : All (HasWorked (task_of l.round)) l.workers.items;
   works : AreWorks (task_of l.round) l.seats.items l.passes.items;
-  spent : Any (λ (w : Worker g.row.A.Denot). w.seat.spent ≡ true) l.workers.items ⊎ Any (λ (s : SeatView). s.spent ≡ true) l.seats.items;
+  spent : Any (λ (w : Worker g.row.A.Denot). w.seat.spent ≡ true) l.workers.items
+      ⊎ Any (λ (s : SeatView). s.spent ≡ true) l.seats.items;
   fits : All (λ (s : Room). Fits s (arc_value l.round.query.now).machine) l.scratches.items;
   same : vec_len l.passes ≡ vec_len l.seats;
   count : vec_len l.workers + vec_len l.seats ≡ vec_len l.initial.workers;

@@ -10,4 +10,5 @@ invariant-loop g l =
     × (l.delivered.lists ≡ l.fn.delivered.lists)
     × (g.W.Sink.failures l.out ≡ g.W.Sink.failures l.initial.out)
     × ((past : Past) → g.S.Collector.stands l.initial.collector past → past.failed ≡ false → IsSafe past past.written →
-    Handing (g.S.Collector.stands l.collector) past l.fn.delivered.out l.delivered.out (g.W.Sink.taken l.initial.out) (g.W.Sink.taken l.out))
+    Handing (g.S.Collector.stands l.collector) past l.fn.delivered.out l.delivered.out (g.W.Sink.taken l.initial.out)
+        (g.W.Sink.taken l.out))

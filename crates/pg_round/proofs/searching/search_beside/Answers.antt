@@ -97,7 +97,8 @@ pub stream-back-requires-clause-ready : goal.stream-back-requires-clause-ready
 stream-back-requires-clause-ready g c κs within = c.requires.ready
 
 pub stream-back-requires-clause-worked : goal.stream-back-requires-clause-worked
-stream-back-requires-clause-worked g c κs within = (c.requires.worked, (let n = c.if-len-lt2.false in let l = c.len.ensures in omega arith))
+stream-back-requires-clause-worked g c κs within =
+    (c.requires.worked, (let n = c.if-len-lt2.false in let l = c.len.ensures in omega arith))
 
 pub stream-back-requires-clause-sees : goal.stream-back-requires-clause-sees
 stream-back-requires-clause-sees g c κs within = c.requires.sees

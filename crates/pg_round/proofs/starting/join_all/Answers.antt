@@ -11,7 +11,8 @@ loop-started-preserved g c =
     let Q : Started A → Type 0 = IsStarted c.args.round in
     record {
       count = (let a = i.count in let b = c.in-Some.ensures.cases in let l = back.0 in omega arith);
-      started = all_front Q c.pop.new.self.items c.in-Some.started (subst (λ (l : List (Started A)). All Q l) c.in-Some.ensures.items i.started);
+      started = all_front Q c.pop.new.self.items c.in-Some.started
+          (subst (λ (l : List (Started A)). All Q l) c.in-Some.ensures.items i.started);
       worked = back.1;
     }
 

@@ -1,9 +1,12 @@
-use Rattle.std.proofs.Common.{ℕ, ◌≡◌, ◌+◌, ◌&&◌, Bool, true, false, not, eqb, drop, get_or, Some, option_and_then, ap, ◌∙◌, arith}
+use Rattle.std.proofs.Common.{ℕ, ◌≡◌, ◌+◌, ◌&&◌, Bool, true, false, not, eqb, drop, get_or, Some, option_and_then, ap}
+use Rattle.std.proofs.Common.{◌∙◌, arith}
 use Rattle.std.proofs.lemmas.Bool.Decides.{nat_tests}
 use Rattle.pg_syntax.specs.BracketViews.{element, reading}
 use Rattle.pg_syntax.proofs.BracketRuns.{left_more, left_none, left_end, left_close}
 use Rattle.pg_syntax.proofs.bracket.elements.Goals as goal
-use Rattle.pg_syntax.proofs.bracket.elements.Goals.{in-Ok, in-Err, else-text-at-eq93-via-then-text-at-eq93+else-not-first, else-text-at-eq93-via-else-text-at-eq93}
+use Rattle.pg_syntax.proofs.bracket.elements.Goals.{in-Ok, in-Err}
+use Rattle.pg_syntax.proofs.bracket.elements.Goals.{else-text-at-eq93-via-then-text-at-eq93+else-not-first}
+use Rattle.pg_syntax.proofs.bracket.elements.Goals.{else-text-at-eq93-via-else-text-at-eq93}
 
 closes : (x : ℕ) (first : Bool) → x ≡ 93 → first ≡ false → (eqb x 93 && not first) ≡ true
 closes x first e f = ap (λ y. eqb y 93 && not first) e ∙ ap not f
@@ -12,10 +15,15 @@ pub returns-then-not-first : goal.returns-then-not-first
 returns-then-not-first c =
     let text = c.args.text.now in
     let at = c.loop-at.at in
-    let done = left_close _ text _ c.loop-at.first at c.loop-at-test.true (closes (get_or text at 0) c.loop-at.first c.if-text-at-eq93.true c.if-not-first.true) c.loop-at.invariant.left in
+    let done = left_close _ text _ c.loop-at.first at c.loop-at-test.true
+        (closes (get_or text at 0) c.loop-at.first c.if-text-at-eq93.true c.if-not-first.true) c.loop-at.invariant.left
+        in
     elim c.match-finish.branch [
-      | in-Ok w ↦ rw w.result-is (done ∙ ap (option_and_then (λ s. Some (s, drop (at + 1) text))) w.in-Ok.ensures.reads, omega (arith, c.loop-at.invariant.above), omega (arith, c.loop-at-test.true))
-      | in-Err w ↦ rw w.result-is (done ∙ ap (option_and_then (λ s. Some (s, drop (at + 1) text))) w.in-Err.ensures.reads, w.in-Err.ensures.placed text c.loop-at.invariant.placed)
+      | in-Ok w ↦ rw w.result-is (done ∙ ap (option_and_then (λ s. Some (s, drop (at + 1) text))) w.in-Ok.ensures.reads,
+          omega (arith, c.loop-at.invariant.above), omega (arith, c.loop-at-test.true))
+      | in-Err w ↦ rw w.result-is (done ∙ ap
+          (option_and_then (λ s. Some (s, drop (at + 1) text))) w.in-Err.ensures.reads,
+          w.in-Err.ensures.placed text c.loop-at.invariant.placed)
     ]
 
 pub returns-in_default : goal.returns-in_default
@@ -27,7 +35,8 @@ returns-in_default c =
       | else-text-at-eq93-via-then-text-at-eq93+else-not-first w ↦ grind (arith, nat_tests, w.if-not-first.false)
       | else-text-at-eq93-via-else-text-at-eq93 w ↦ grind (arith, nat_tests, w.if-text-at-eq93.false)
     ] in
-    (left_none _ text _ c.loop-at.first at c.loop-at-test.true differs c.in_default.ensures c.loop-at.invariant.left, c.requires.stands)
+    (left_none _ text _ c.loop-at.first at c.loop-at-test.true differs c.in_default.ensures c.loop-at.invariant.left,
+        c.requires.stands)
 
 pub loop-at-preserved : goal.loop-at-preserved
 loop-at-preserved c =
@@ -42,9 +51,12 @@ loop-at-preserved c =
     record {
       above = omega (arith, e.2);
       within = e.3;
-      left = left_more _ text (reading c.loop-at.reading) c.loop-at.first at c.in-Some.after (element c.in-Some.next) c.loop-at-test.true e.2 differs e.0 (reading c.put.new.self) c.put.ensures.reads c.loop-at.invariant.left;
+      left = left_more _ text (reading c.loop-at.reading) c.loop-at.first at c.in-Some.after
+          (element c.in-Some.next) c.loop-at-test.true e.2 differs e.0
+          (reading c.put.new.self) c.put.ensures.reads c.loop-at.invariant.left;
       placed = c.put.ensures.placed text c.loop-at.invariant.placed e.1 c.loop-at-test.true;
     }
 
 pub returns : goal.returns
-returns c = (left_end _ c.args.text.now _ c.loop-at.first c.loop-at.at c.loop-at-test.false c.loop-at.invariant.left, c.requires.stands)
+returns c = (left_end _ c.args.text.now _ c.loop-at.first c.loop-at.at c.loop-at-test.false c.loop-at.invariant.left,
+    c.requires.stands)

@@ -3,7 +3,8 @@ use Rattle.std.proofs.lemmas.Bool.Decides.{nat_tests}
 use Rattle.pg_syntax.specs.BracketReading.{until}
 use Rattle.pg_syntax.proofs.BracketContents.{with_front, front_more, front_take, until_later, until_end}
 use Rattle.pg_syntax.proofs.element.content_end.Goals as goal
-use Rattle.pg_syntax.proofs.element.content_end.Goals.{else-text-at-via-then-text-at+else-text-at-eq93, else-text-at-via-else-text-at}
+use Rattle.pg_syntax.proofs.element.content_end.Goals.{else-text-at-via-then-text-at+else-text-at-eq93}
+use Rattle.pg_syntax.proofs.element.content_end.Goals.{else-text-at-via-else-text-at}
 
 pub loop-at-preserved : goal.loop-at-preserved
 loop-at-preserved c =
@@ -20,10 +21,14 @@ loop-at-preserved c =
       within = omega arith;
       reads =
           c.loop-at.invariant.reads
-          ∙ (ap (with_front (take (at - from) (drop from text))) (until_later c.args.mark text at c.loop-at-test.true differs)
+          ∙ (ap (with_front (take (at - from) (drop from text)))
+              (until_later c.args.mark text at c.loop-at-test.true differs)
           ∙ (front_more (take (at - from) (drop from text)) (get_or text at 0) (until c.args.mark (drop (at + 1) text))
-          ∙ ap (λ w. with_front w (until c.args.mark (drop (at + 1) text))) (sym (front_take text from at c.loop-at.invariant.above (omega arith)))));
+          ∙ ap (λ w. with_front w (until c.args.mark (drop (at + 1) text)))
+              (sym (front_take text from at c.loop-at.invariant.above (omega arith)))));
     }
 
 pub returns : goal.returns
-returns c = c.loop-at.invariant.reads ∙ ap (with_front (take (c.loop-at.at - c.args.from) (drop c.args.from c.args.text.now))) (until_end c.args.mark c.args.text.now c.loop-at.at c.loop-at-test.false)
+returns c = c.loop-at.invariant.reads ∙ ap
+    (with_front (take (c.loop-at.at - c.args.from) (drop c.args.from c.args.text.now)))
+    (until_end c.args.mark c.args.text.now c.loop-at.at c.loop-at-test.false)

@@ -7,7 +7,8 @@ abbrev pub invariant-loop-at : goal.invariant-loop-at
 invariant-loop-at l = record {
   above : l.fn.from ≤ l.at;
   within : l.at ≤ length l.text;
-  reads : until l.mark (drop l.fn.from l.text) ≡ with_front (take (l.at - l.fn.from) (drop l.fn.from l.text)) (until l.mark (drop l.at l.text));
+  reads : until l.mark (drop l.fn.from l.text) ≡ with_front (take (l.at - l.fn.from) (drop l.fn.from l.text))
+      (until l.mark (drop l.at l.text));
 }
 
 abbrev pub decreases-loop-at : goal.decreases-loop-at

@@ -21,7 +21,9 @@ loop-len-preserved g c =
     }
 
 pub returns-clause-split : goal.returns-clause-split
-returns-clause-split g c = ap (λ t. bytes_of c.loop-len.texts.items ++ t) (split-end c.args.text.now c.loop-len.start (sym c.in_default.ensures)) ∙ c.loop-len.invariant.split
+returns-clause-split g c = ap (λ t. bytes_of c.loop-len.texts.items ++ t)
+    (split-end c.args.text.now c.loop-len.start (sym c.in_default.ensures)) ∙ c.loop-len.invariant.split
 
 pub returns-clause-lines : goal.returns-clause-lines
-returns-clause-lines g c = ap (λ t. bytes_of c.loop-len.texts.items ++ t) (lines-end c.args.text.now c.loop-len.start (sym c.in_default.ensures)) ∙ c.loop-len.invariant.lines
+returns-clause-lines g c = ap (λ t. bytes_of c.loop-len.texts.items ++ t)
+    (lines-end c.args.text.now c.loop-len.start (sym c.in_default.ensures)) ∙ c.loop-len.invariant.lines

@@ -8,4 +8,5 @@ use Rattle.pg_syntax.proofs.parser.parse.Goals as goal
 pub returns-then-len-eq0-clause-spelled : goal.returns-then-len-eq0-clause-spelled
 returns-then-len-eq0-clause-spelled g c =
     let source = c.args.source in
-    subst (IsSpelled (kind_of source.syntax) source.fold source.text.now) (sym (pattern-empty _)) (empty_spelled _ _ source.text.now (empty_text source.text.now c.if-len-eq0.true))
+    subst (IsSpelled (kind_of source.syntax) source.fold source.text.now) (sym (pattern-empty _))
+        (empty_spelled _ _ source.text.now (empty_text source.text.now c.if-len-eq0.true))

@@ -15,4 +15,5 @@ decreases-inside g l = 2 * (257 - l.depth)
 abbrev pub invariant-inside-loop-name : goal.invariant-inside-loop-name
 invariant-inside-loop-name g l =
     g.T.FileTree.tells l.tree → (c : Content) → (g.T.FileTree.answers l.tree).content (string_bytes l.path) ≡ Some c →
-    Adds (SomeGive (g.T.FileTree.answers l.tree) l.depth (string_bytes l.path) c (take l.name-index (map string_bytes l.name-items))) (map found l.fn.items.items) (map found l.items.items)
+    Adds (SomeGive (g.T.FileTree.answers l.tree) l.depth (string_bytes l.path) c
+        (take l.name-index (map string_bytes l.name-items))) (map found l.fn.items.items) (map found l.items.items)

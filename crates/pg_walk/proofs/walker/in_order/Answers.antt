@@ -9,7 +9,9 @@ use Rattle.pg_walk.proofs.walker.in_order.Goals as goal
 
 pub returns-clause-rises : goal.returns-clause-rises
 returns-clause-rises g c =
-    bytes_ascend _ (rw (dedup_is _ _ _ c.dedup.ensures.filtered) (IsStrictlySortedBy-dedup string_cmp_total (λ x y. texts_ties (string_bytes x) (string_bytes y)) _ c.sort_unstable.ensures.sorted))
+    bytes_ascend _ (rw (dedup_is _ _ _ c.dedup.ensures.filtered)
+        (IsStrictlySortedBy-dedup string_cmp_total
+        (λ x y. texts_ties (string_bytes x) (string_bytes y)) _ c.sort_unstable.ensures.sorted))
 
 pub returns-clause-same : goal.returns-clause-same
 returns-clause-same g c = λ n.

@@ -8,4 +8,5 @@ use Rattle.pg_walk.proofs.walker.walk.Given as goal
 abbrev pub invariant-loop-name : goal.invariant-loop-name
 invariant-loop-name g l =
     g.T.FileTree.tells l.tree →
-    ItemsOf place_cmp (FirstGive (g.T.FileTree.answers l.tree) (map string_bytes l.operands) l.recursive l.name-index) (map found l.items.items)
+    ItemsOf place_cmp (FirstGive (g.T.FileTree.answers l.tree) (map string_bytes l.operands) l.recursive l.name-index)
+        (map found l.items.items)

@@ -7,7 +7,8 @@ use Rattle.pg_board.proofs.BoardLemmas.{drawn_by, spent_by}
 use Rattle.pg_board.proofs.board.Board.close.Goals as goal
 
 pub returns-clause-drawn : goal.returns-clause-drawn
-returns-clause-drawn g c = λ x. ap (times x) (sym (ap all_drawn c.join-whole.ensures.seats ∙ drawn_by c.args.seats.items)) ∙ c.finish.ensures.drawn x
+returns-clause-drawn g c = λ x. ap (times x)
+    (sym (ap all_drawn c.join-whole.ensures.seats ∙ drawn_by c.args.seats.items)) ∙ c.finish.ensures.drawn x
 
 pub returns-clause-spent : goal.returns-clause-spent
 returns-clause-spent g c = λ a.

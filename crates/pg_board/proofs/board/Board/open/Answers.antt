@@ -4,7 +4,8 @@ use Rattle.pg_board.proofs.BoardLemmas.{begins}
 use Rattle.pg_board.proofs.board.Board.open.Goals as goal
 
 pub of_words-requires : goal.of_words-requires
-of_words-requires g c = begins record { limit = c.args.limit; seats = c.args.seats } c.ranges.limit.fits c.ranges.seats.fits
+of_words-requires g c = begins record { limit = c.args.limit; seats = c.args.seats } c.ranges.limit.fits
+    c.ranges.seats.fits
 
 pub returns-in_err-word-clause-board : goal.returns-in_err-word-clause-board
 returns-in_err-word-clause-board g c = IfOk-from_err c.from_residual.result _ c.from_residual.ensures.0

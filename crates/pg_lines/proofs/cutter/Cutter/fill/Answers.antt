@@ -66,7 +66,8 @@ returns-clause-ok g c = λ past s.
     let is = piece_is self.filled c.args.count self.rest.items c.deref.result.now c.deref.ensures.value in
     let short = subst L is c.in-Some.ensures.value in
     let size = ap (λ n. self.total + n) (sym (length-take-le c.args.count (room_of self) c.requires)) in
-    fed_stands self _ past piece _ _ _ s refl refl refl refl refl size (chosen_some _ _ c.in-Some.line short).1 refl refl
+    fed_stands self _ past piece _ _ _ s refl refl refl refl refl size
+        (chosen_some _ _ c.in-Some.line short).1 refl refl
     c.in_ok-blocks.ensures.ok (no_long self past piece c.in-Some.line s short)
 
 pub returns-clause-line : goal.returns-clause-line

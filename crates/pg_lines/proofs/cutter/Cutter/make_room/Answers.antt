@@ -18,7 +18,8 @@ invariant_of-self g c =
       sized = self.sized;
       within = omega (arith, self.within, longer, self.rest.ok.0, c.resize.new.self.ok.0);
       unfinished =
-          subst P (sym (front_grown _ self.filled len old _ _ self.within grown c.resize.ensures.items)) self.unfinished;
+          subst P (sym (front_grown _ self.filled len old _ _ self.within grown c.resize.ensures.items))
+              self.unfinished;
       few = self.few;
       numbers = self.numbers;
       line_fits = self.line_fits;

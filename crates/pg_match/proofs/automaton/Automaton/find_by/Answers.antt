@@ -9,7 +9,8 @@ returns-in-NoHit-clause-best g c = best_none (nfa c.args.self.now) c.args.line.n
 pub returns-in-Known-clause-best : goal.returns-in-Known-clause-best
 returns-in-Known-clause-best g c =
     let s = c.in-Known.ensures in
-    best_later (nfa c.args.self.now) c.args.line.now c.args.from _ (Some (c.in-Known.start, c.in-Known.start + 1)) s.0 s.2 (c.is_one_byte.ensures c.if-is_one_byte.true)
+    best_later (nfa c.args.self.now) c.args.line.now c.args.from _
+        (Some (c.in-Known.start, c.in-Known.start + 1)) s.0 s.2 (c.is_one_byte.ensures c.if-is_one_byte.true)
 
 pub returns-in-Known-2-clause-best : goal.returns-in-Known-2-clause-best
 returns-in-Known-2-clause-best g c =

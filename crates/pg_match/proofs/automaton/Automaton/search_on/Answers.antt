@@ -15,7 +15,8 @@ returns-then-hits_before-clause-exact g c = (
       let l = c.args.line.now in
       let p = c.loop-place.place in
       let lt : p < length l = omega arith in
-      run_before (nfa c.args.self.now) l 0 p _ (Has (members c.loop-place.sets.current)) c.loop-place.invariant.stands c.requires.runs
+      run_before (nfa c.args.self.now) l 0 p _
+          (Has (members c.loop-place.sets.current)) c.loop-place.invariant.stands c.requires.runs
       (slice_get-get_or l p 0 lt) lt (c.hits_before.ensures.0 c.if-hits_before.true),
   λ run. refl,
 )
@@ -30,7 +31,8 @@ loop-place-preserved g c =
     let size = c.loop-place.invariant.room.now_size in
     record {
       room = c.go.ensures.room;
-      stands = stands_next (nfa c.args.self.now) l 0 p _ (Has s) (Has (members c.go.new.sets.current)) (slice_get-get_or l p 0 lt) lt
+      stands = stands_next (nfa c.args.self.now) l 0 p _ (Has s) (Has (members c.go.new.sets.current))
+          (slice_get-get_or l p 0 lt) lt
           c.loop-place.invariant.stands c.go.ensures.goes (omega arith) c.requires.runs
           (λ h. true≢false (sym (c.hits_before.ensures.1 h) ∙ c.if-hits_before.false));
       visits = let v = c.loop-place.invariant.visits in let w = c.go.ensures.visits in omega arith;
@@ -42,8 +44,10 @@ returns-clause-exact g c =
     let l = c.args.line.now in
     let end : c.loop-place.place ≡ length l = omega arith in
     let S = Has (members c.loop-place.sets.current) in
-    ended_so m l 0 S c.hits_at_end.result c.is_empty.result c.requires.runs (subst (λ p. Stands m l 0 p S) end c.loop-place.invariant.stands)
-    (λ t. eqb-true (length l) 0 (sym c.is_empty.ensures ∙ t)) (λ e. c.is_empty.ensures ∙ eq-eqb (length l) 0 e) c.hits_at_end.ensures.answer
+    ended_so m l 0 S c.hits_at_end.result c.is_empty.result c.requires.runs
+        (subst (λ p. Stands m l 0 p S) end c.loop-place.invariant.stands)
+    (λ t. eqb-true (length l) 0 (sym c.is_empty.ensures ∙ t))
+        (λ e. c.is_empty.ensures ∙ eq-eqb (length l) 0 e) c.hits_at_end.ensures.answer
 
 pub bounds-line-place : goal.bounds-line-place
 bounds-line-place g c = omega arith

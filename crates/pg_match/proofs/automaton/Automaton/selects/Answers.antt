@@ -2,7 +2,8 @@ use Rattle.std.proofs.Common.{◌≡◌, false, refl}
 use Rattle.pg_match.specs.Views.{nfa}
 use Rattle.pg_match.proofs.StandsLemmas.{none_so, exact_so}
 use Rattle.pg_match.proofs.automaton.Automaton.selects.Goals as goal
-use Rattle.pg_match.proofs.automaton.Automaton.selects.Goals.{in_default-via-in-Some+else-not-is_empty, in_default-via-in_default}
+use Rattle.pg_match.proofs.automaton.Automaton.selects.Goals.{in_default-via-in-Some+else-not-is_empty}
+use Rattle.pg_match.proofs.automaton.Automaton.selects.Goals.{in_default-via-in_default}
 
 pub returns-then-not-self-clause-exact : goal.returns-then-not-self-clause-exact
 returns-then-not-self-clause-exact g c = λ patterns a.

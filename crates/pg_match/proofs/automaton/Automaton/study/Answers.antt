@@ -59,7 +59,8 @@ loop-sets-preserved g c =
       some = c.in-Row.ensures.some;
       within = omega (arith, c.walk-at.ensures.within, c.if-here-line.false);
       row = c.in-Row.ensures.learned.0;
-      visits = visits_after (length c.args.line.now) (length c.args.self.now.states.items) c.len-size.result c.loop-sets.sets.visits c.learn.new.sets.visits _
+      visits = visits_after (length c.args.line.now)
+          (length c.args.self.now.states.items) c.len-size.result c.loop-sets.sets.visits c.learn.new.sets.visits _
           (c.len-size.ensures ∙ c.args.self.now.states.ok.0) c.if-sets-most-2.false
           c.in-Row.ensures.visits (omega arith);
     }
@@ -71,7 +72,8 @@ returns-in-Hit g c =
     record {
       room = c.learn.ensures.room;
       memory = c.learn.ensures.memory;
-      visits = visits_after (length c.args.line.now) (length c.args.self.now.states.items) c.len-size.result c.loop-sets.sets.visits c.learn.new.sets.visits _
+      visits = visits_after (length c.args.line.now)
+          (length c.args.self.now.states.items) c.len-size.result c.loop-sets.sets.visits c.learn.new.sets.visits _
           (c.len-size.ensures ∙ c.args.self.now.states.ok.0) c.if-sets-most-2.false
           c.learn.ensures.visits (omega arith);
     }

@@ -19,5 +19,6 @@ returns g c q same =
       told = c.new-3.ensures c.args.format;
       holds = c.in_ok-window.ensures.window end;
       size = c.in_ok-window.ensures.size ∙ (c.from.ensures ∙ c.unwrap_or.ensures);
-      window = λ shows. sym (ap (λ ts. keep_last n (lines_in end ts)) c.in_ok-window.ensures.nothing ∙ drop-nil (0 - n));
+      window = λ shows. sym (ap (λ ts. keep_last n (lines_in end ts)) c.in_ok-window.ensures.nothing
+          ∙ drop-nil (0 - n));
     }

@@ -5,4 +5,5 @@ use Rattle.pg_seq.specs.Slots.{has_result}
 use Rattle.pg_seq.proofs.reorder_buffer.ReorderBuffer.has_all_results.Goals as goal
 
 pub returns : goal.returns
-returns g c = all_from_yields_List has_result _ _ _ c.all.ensures.ran (YieldsList-from_deque _ c.iter.ensures.rest) (λ x b q k. search (rules, tests))
+returns g c = all_from_yields_List has_result _ _ _ c.all.ensures.ran (YieldsList-from_deque _ c.iter.ensures.rest)
+    (λ x b q k. search (rules, tests))

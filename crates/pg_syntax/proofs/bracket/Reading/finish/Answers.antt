@@ -8,7 +8,8 @@ returns-in-Some-clause-placed c = λ text p.
       | in-Fresh w ↦ rw w.self-is p.0
       | in-Ranged w ↦ rw w.self-is p.0
       | in-Held w ↦ rw w.self-is (w.add.ensures.placed text p.0 (w.fault.ensures text (rw w.in-Held.is at p.1)))
-      | in-Dashed w ↦ rw w.self-is (w.add-in-Dashed.ensures.placed text p.0 (w.fault-in-Dashed.ensures text (rw w.in-Dashed.is at p.1)))
+      | in-Dashed w ↦ rw w.self-is (w.add-in-Dashed.ensures.placed text p.0
+          (w.fault-in-Dashed.ensures text (rw w.in-Dashed.is at p.1)))
       | in-Barred w ↦ rw w.self-is p.0
     ] in
     rw c.in-Some.is at q

@@ -1,4 +1,5 @@
-use Rattle.std.proofs.Common.{◌≡◌, ◌<◌, ◌⊎◌, inl, inr, false, ℕ, suc, ◌∷◌, List, [], length, drop, get_or, sym, ap, ◌∙◌, arith, length-drop}
+use Rattle.std.proofs.Common.{◌≡◌, ◌<◌, ◌⊎◌, inl, inr, false, ℕ, suc, ◌∷◌, List, [], length, drop, get_or, sym, ap, ◌∙◌}
+use Rattle.std.proofs.Common.{arith, length-drop}
 use Rattle.std.proofs.lemmas.List.{drop_all}
 use Rattle.std.proofs.Math.Seq.{drop-cons}
 use Rattle.pg_bytes.specs.Classes.{digit}
@@ -22,7 +23,10 @@ returns c =
       | else-loop-end-test w ↦ inl (drop_all end text (omega arith))
     ] in
     let e : number_from 0 (drop c.args.at text) ≡ (c.loop-end.value, drop end text) =
-    c.loop-end.invariant.3.2 ∙ (ap (λ m. number_from m (drop end text)) (sym v) ∙ number_stops c.loop-end.value (drop end text) none) in
-    let shorter : length (drop end text) < length (drop c.args.at text) = omega (arith, length-drop end text, length-drop c.args.at text) in
+    c.loop-end.invariant.3.2 ∙ (ap (λ m. number_from m (drop end text)) (sym v)
+        ∙ number_stops c.loop-end.value (drop end text) none) in
+    let shorter : length (drop end text) < length (drop c.args.at text) =
+        omega (arith, length-drop end text, length-drop c.args.at text) in
     let more : c.args.at < end = omega arith in
-    (number_found (drop c.args.at text) (drop end text) c.loop-end.value e shorter c.if-value-gt255.false, more, c.loop-end.invariant.1)
+    (number_found (drop c.args.at text) (drop end text) c.loop-end.value e shorter c.if-value-gt255.false, more,
+        c.loop-end.invariant.1)
