@@ -60,7 +60,8 @@ impl Drop for MemStore {
 }
 
 impl MemStore {
-    ghost use Rattle.pg_files.specs.MemStore.{stored, files, left, left_of, file_at};
+    ghost use Rattle.std.specs.Prelude.{Some};
+    ghost use Rattle.pg_files.specs.MemStore.{Content, stored, files, left, left_of, file_at};
 
     /// A store without files, in which no file can be opened. A read gives as much as it can.
     pub fn new(alloc: Global) -> MemStore
@@ -77,7 +78,8 @@ impl MemStore {
         }
     }
 
-    /// Adds the file at a path, which can be opened from now on. Of two at a path the first counts.
+    /// Adds the file at a path, which can be opened from now on. Of two at a path the first counts. The open file
+    /// stays as it is.
     ///
     /// # Errors
     ///
@@ -86,6 +88,9 @@ impl MemStore {
         ensures ok { OnOk result
             (files self.new ≡ files self.old ++ (path.now, record { bytes = bytes.now; ending = ending }) ∷ []) }
         ensures err { OnErr result (files self.new ≡ files self.old) }
+        ensures left { (content : Content) → left self.old ≡ Some content → left self.new ≡ Some content }
+        ensures past { self.new.past ≡ self.old.past }
+        ensures limit { self.new.read_limit ≡ self.old.read_limit }
     {
         let file = MemFile {
             path: String::from_str(self.alloc, path)?,

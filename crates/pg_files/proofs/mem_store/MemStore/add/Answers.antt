@@ -1,6 +1,7 @@
 use Rattle.std.proofs.Common.{arith, refl}
 use Rattle.std.proofs.lemmas.Grind.{common_steps}
 use Rattle.pg_rows.proofs.SinkLemmas.{ok_of_err, on_err}
+use Rattle.pg_files.proofs.MemStoreLemmas.{left_added}
 use Rattle.pg_files.proofs.mem_store.MemStore.add.Goals as goal
 
 pub returns-in_err-from_str-clause-ok : goal.returns-in_err-from_str-clause-ok
@@ -25,3 +26,8 @@ returns-clause-ok c = grind (arith, common_steps)
 
 pub returns-clause-err : goal.returns-clause-err
 returns-clause-err c = tt
+
+pub returns-clause-left : goal.returns-clause-left
+returns-clause-left c =
+    let before = c.args.self.now in
+    λ content h. left_added before.files.items _ _ c.in_ok-push.ensures.items before.open before.at content h
