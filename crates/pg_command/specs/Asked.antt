@@ -1,7 +1,8 @@
 -- What a command line asks for, as plain data.
-use Rattle.std.specs.Prelude.{ℕ, Bool, true, false, ◌&&◌, ◌||◌, List, [], ◌∷◌, map, ◌++◌}
+use Rattle.std.specs.Prelude.{ℕ, ◌+◌, ◌<◌, Bool, true, false, ◌&&◌, ◌||◌, List, [], ◌∷◌, map, ◌++◌, length}
 use Rattle.pg_syntax.specs.Slices.{bytes_of}
 use Rattle.pg_lines.specs.Search.{Kind, Patterns, Split, ByLine, SearchText}
+use Rattle.pg_rows.specs.Output.{HasRoom}
 use Rattle.pg_rows.specs.declared.format.Format.{Format}
 use Rattle.pg_rows.specs.declared.format.Mode.{Mode}
 use Rattle.pg_rows.specs.declared.format.Mode.TheVariants.{Rows, Count, List as Names, Quiet}
@@ -26,6 +27,12 @@ pub record Asked : Type 0 where
   pub files : List (List ℕ)
   pub recursive : Bool
   pub silent : Bool
+
+-- there are patterns, or files of them, and something to be searched, and a limit isn't 0
+pub record IsRequest (asked : Asked) : Type 0 where
+  pub patterns : 0 < length asked.texts + length asked.pattern_files
+  pub files : 0 < length asked.files
+  pub limit : HasRoom asked.format
 
 -- what a request asks for; by how many threads and in which blocks is no part of it
 abbrev pub asked_of : Request → Asked

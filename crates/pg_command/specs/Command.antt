@@ -5,7 +5,8 @@ use Rattle.pg_rows.specs.Sink.{TakesPart}
 use Rattle.pg_walk.specs.Answers.{Answers as Tree}
 use Rattle.pg_files.specs.Given.{Given}
 use Rattle.pg_run.specs.Outcome.{Stream}
-use Rattle.pg_command.specs.Asked.{Asked}
+use Rattle.pg_words.specs.declared.help.TheConstants.{HELP, VERSION}
+use Rattle.pg_command.specs.Asked.{Asked, IsRequest}
 use Rattle.pg_command.specs.Answers.{Answers}
 use Rattle.pg_command.specs.Told.{Tells, TellsText}
 use Rattle.pg_command.specs.declared.fault.Fault.TheVariants.{WriteFailed}
@@ -27,11 +28,16 @@ IsShown text out out' err err' (Ok status) =
 IsShown text out out' err err' (Err _) =
     TakesPart text out.taken out'.taken × (out.failures < out'.failures) × Tells WriteFailed err err'
 
--- The words asked for a text. Nothing was opened.
+-- what can be asked for of the program itself
+abbrev pub IsOfTheProgram : List ℕ → Type 0
+IsOfTheProgram text = (text ≡ HELP.now) ⊎ (text ≡ VERSION.now)
+
+-- The words asked for such a text. Nothing was opened.
 pub record Shows {T : Type 0} (past past' : List Given) (out out' err err' : Stream) (answer : Result ℕ T)
     : Type 0 where
   pub unopened : past' ≡ past
   pub text : List ℕ
+  pub is : IsOfTheProgram text
   pub shown : IsShown text out out' err err' answer
 
 -- The words asked for some search, which was answered, or for a text, or weren't taken. What they ask for is the
@@ -39,7 +45,7 @@ pub record Shows {T : Type 0} (past past' : List Given) (out out' err err' : Str
 abbrev pub Commands : {T : Type 0} → (tells : Type 0) → Tree → (past past' : List Given) → (out out' err err' : Stream)
     → Result ℕ T → Type 0
 Commands tells tree past past' out out' err err' answer =
-    ((asked : Asked) × Answers tells tree asked past past' out out' err err' answer)
+    ((asked : Asked) × IsRequest asked × Answers tells tree asked past past' out out' err err' answer)
     ⊎ (Shows past past' out out' err err' answer ⊎ Refuses past past' out out' err err' answer)
 
 -- The status of the command stands where all that was held back could be sent on; else that is told, and the status is

@@ -9,7 +9,7 @@ use pg_files::{Listed, Store};
 use pg_rows::{Out, Sink, write_all};
 use pg_run::tell;
 use pg_walk::FileTree;
-use pg_words::{Task, Words, WordsFault, read_words};
+use pg_words::{HELP, Task, VERSION, Words, WordsFault, read_words};
 use std::alloc::Global;
 use std::io::Write;
 use std::sync::Wait;
@@ -46,7 +46,8 @@ pub fn command<R: Threads + Wait + Clock + Sync, T: FileTree, S: Store + Drop, W
     };
     match read_words(alloc, &words) {
         Ok(Task::Search(request)) => answer(rt, alloc, &request, tree, files, out, err),
-        Ok(Task::Help(text) | Task::Version(text)) => show(alloc, text.as_str(), out, err),
+        Ok(Task::Help) => show(alloc, HELP, out, err),
+        Ok(Task::Version) => show(alloc, VERSION, out, err),
         Err(fault) => refuse(alloc, fault, err),
     }
 }

@@ -20,6 +20,7 @@ left_still fs more (Some k) at content e = go (slice_get fs k) refl e
   where
     rest : Option (List ℕ × Content) → Option Content
     rest o = option_map (λ f. behind at f.1) o
+
     go : (o : Option (List ℕ × Content)) → slice_get fs k ≡ o → rest o ≡ Some content
         → rest (slice_get (fs ++ more) k) ≡ Some content
     go None found e = absurd (cc)

@@ -241,9 +241,9 @@ module _ {A : Type 0} {engine : Engine A} {aim : Aim} {steps : List Step} {out :
   pub holds_drained : (engine' : Engine A) (text : List ℕ) (out' : Stream)
       → (arc_value engine'.query).text ≡ aim.query.text → engine'.setup ≡ aim.setup → engine'.files ≡ opened steps
       → waiting engine' ≡ [] → out'.taken ≡ out.taken ++ text → out'.failures ≡ out.failures
-          → Drained (Ok tt) calm_past text
+      → Drained (Ok tt) calm_past text
       → Stands engine'.sequencer (drained calm_past text (Ok tt)) → Holds engine' aim steps out'
-          × IsWritten aim steps out'
+      × IsWritten aim steps out'
   holds_drained engine' text out' same set count none' more calm d stands =
       let all : h.written ++ text ≡ output_of aim steps = d.1 ∙ handed_is in
       let got : out'.taken ≡ aim.out.taken ++ (h.written ++ text) =

@@ -460,7 +460,7 @@ module _ {A : Type 0} {reader : FileReader A} {engine : Engine A} {aim : Aim} {g
         written = begins_still reader given out' c (takes_all aim h.steps out' w);
         lines = λ of.
             left_lines aim h.steps given c.name (joined c.fed.taken) c.rest (room_of h.holds)
-                (subst R e c.reads) out' w;
+            (subst R e c.reads) out' w;
       }
 
   -- what was cut was searched first
@@ -606,7 +606,7 @@ module _ {A : Type 0} {reader : FileReader A} {aim : Aim} {given : List Given} {
   file_stopped reader' failed stops none stands =
       let R : List Entry → Ending → Type 0 =
       λ es ending. IsReading aim.query (format_of aim) h.name (joined h.fed.taken) h.rest ending
-          (entries_of steps) es in
+      (entries_of steps) es in
       record {
         fed = h.fed;
         cut = stands;
@@ -760,7 +760,7 @@ flushed h engine' out' k = record { steps = h.steps; holds = k; cuts = h.cuts }
 -- what is told of a file once it was read further
 pub told_more : {A : Type 0} {reader reader' : FileReader A} {aim aim' : Aim} {given given' : List Given}
     {steps steps' : List Step} (h : HasCut reader aim given steps) (h' : HasCut reader' aim' given' steps')
-        (failed : Bool)
+    (failed : Bool)
     → reader.came ≡ More → is_failed (ending_after reader'.came) ≡ failed → drop 1 given' ≡ drop 1 given
     → faults_of given' ≡ faults_of given ++ when failed (fault_line (newest_name given') ReadFailed)
 told_more {reader = reader} {reader' = reader'} {given = given} {given' = given'} h h' failed more e before =

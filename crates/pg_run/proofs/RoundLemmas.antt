@@ -70,7 +70,7 @@ module _ (past : Past) (r : Searched) (b : BlockData) (shaped : IsShaped (termin
       let K : BlockData → Type 0 = λ x. Contains (announced (plan past)) x in
       let N : BlockData → Type 0 = λ x. is_taken keys x ≡ false in
       let first = first_is_taken past r shaped (ap (λ x. x.query) is) (subst K (sym block) known)
-          (subst N (sym block) e) in
+      (subst N (sym block) e) in
       ap (λ a. is_taken (taken_after a r.block keys) b) first
       ∙ (ap (λ x. is_taken ((x.file, x.number) ∷ keys) b) block ∙ own_key keys b)
 

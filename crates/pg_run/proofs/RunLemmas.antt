@@ -292,7 +292,7 @@ module _ {A : Type 0} {engine : Engine A} {aim : Aim} {given : List Given} {out 
           cause = subst L (sym more) refl;
           reads =
               subst R (sym more) (opens aim.query (format_of aim) name (entries_of h.steps)
-                  (entries_given given) h.covers);
+              (entries_given given) h.covers);
         };
       }
 

@@ -14,6 +14,7 @@ mod split;
 mod usage;
 mod words;
 
+pub use help::{HELP, VERSION};
 pub use options::{Naming, Options};
 pub use request::Request;
 pub use split::Words;

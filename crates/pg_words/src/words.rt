@@ -3,7 +3,6 @@ ghost use Rattle.std.specs.Prelude.{◌≡◌, ◌<◌, ◌+◌, vec_len};
 ghost use Rattle.pg_words.specs.declared.words.WordsFault.TheVariants.{OutOfMemory, Usage};
 
 use crate::command::{MAX_BLOCK, MAX_ROUND, MAX_WORKERS, options_of, search_command};
-use crate::help::{HELP, VERSION};
 use crate::operands::{Sources, place_operands, searched_files};
 use crate::options::Options;
 use crate::request::Request;
@@ -25,10 +24,10 @@ const DEFAULT_ROUND: u32 = 64;
 pub enum Task<'a> {
     /// A search.
     Search(Request<'a>),
-    /// With --help: this text, which ends with a newline.
-    Help(String),
-    /// With --version: this text, which ends with a newline.
-    Version(String),
+    /// --help: [`HELP`](crate::HELP).
+    Help,
+    /// --version: [`VERSION`](crate::VERSION).
+    Version,
 }
 
 /// Why there is no request.
@@ -104,10 +103,10 @@ fn refusal(alloc: Global, error: &Error) -> WordsFault {
 /// --help before --version, and both before a search.
 fn task_of<'a>(alloc: Global, found: &ArgMatches<'a>) -> Result<Task<'a>, WordsFault> {
     if found.get_flag("help") {
-        return Ok(Task::Help(String::from_str(alloc, HELP)?));
+        return Ok(Task::Help);
     }
     if found.get_flag("version") {
-        return Ok(Task::Version(String::from_str(alloc, VERSION)?));
+        return Ok(Task::Version);
     }
     search_of(alloc, found, &options_of(found), sources_of(found))
 }

@@ -5,9 +5,14 @@ use Rattle.pg_run.proofs.reading.search_last.Goals as goal
 
 pub search-requires-clause-ready : goal.search-requires-clause-ready
 search-requires-clause-ready g c =
-    let h = c.requires.in_file.3 in
-    (c.requires.in_file.0, h.steps, (h.holds,
-        last_may h.cuts c.in-Some.block (c.in-Some.ensures h.cuts.fed h.cuts.cut)))
+    let h = c.requires.in_file.3 in (
+      c.requires.in_file.0,
+      h.steps,
+      (
+        h.holds,
+        last_may h.cuts c.in-Some.block (c.in-Some.ensures h.cuts.fed h.cuts.cut),
+      ),
+    )
 
 pub returns-in-Some-clause-ok : goal.returns-in-Some-clause-ok
 returns-in-Some-clause-ok g c = λ aim given h.

@@ -18,7 +18,7 @@ returns-in_err-drain-clause-err g c = λ aim steps h.
     let out' = stream (g.W.Sink.taken c.drain.new.out) (g.W.Sink.failures c.drain.new.out) in
     err_by c.from_residual.result (Broke aim steps out') Sink c.from_residual.ensures.1
     (broke_drained h (ap (λ xs. map arc_value xs) c.requires.none) d.0 out' c.in_err-drain.field-0.0 d.1 d.2
-        c.in_err-drain.ensures.cause)
+    c.in_err-drain.ensures.cause)
 
 pub returns-in_err-drain-clause-ok : goal.returns-in_err-drain-clause-ok
 returns-in_err-drain-clause-ok g c = λ aim steps h. ok_of_err c.from_residual.result _ c.from_residual.ensures.0

@@ -16,7 +16,7 @@ pub returns-in_err-kept-clause-err : goal.returns-in_err-kept-clause-err
 returns-in_err-kept-clause-err g c = λ aim steps ready.
     let out = stream (g.W.Sink.taken c.args.out.now) (g.W.Sink.failures c.args.out.now) in
     err_by c.from_residual-in_err-kept.result
-        (Broke aim (Announces c.args.block ∷ steps) out) OutOfMemory c.from_residual-in_err-kept.ensures.1
+    (Broke aim (Announces c.args.block ∷ steps) out) OutOfMemory c.from_residual-in_err-kept.ensures.1
     (broke_step ready.0 (Announces c.args.block) ready.1)
 
 pub returns-clause-written : goal.returns-clause-written
