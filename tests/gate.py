@@ -1,6 +1,6 @@
 #!/usr/bin/env python3
-"""The gate: runs a command that ends with 'N passed, M failed', then the rows, looks up the wrong bodies that it doesn't
-try, and closes with such a line over all.
+"""The gate: runs a command that ends with 'N passed, M failed', then the rows, looks up the wrong bodies that it
+doesn't try, and closes with such a line over all.
 
 The rows run on the program that the command has built just now, also where the command has failed.
 """

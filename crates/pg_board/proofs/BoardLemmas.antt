@@ -90,7 +90,7 @@ sized_set : (size : BoardSize) (views : List TokenView) (id : ℕ) (w : TokenVie
     → (at : ℕ) (v : TokenView) → get_elem? (set views id w) at ≡ some v → v.seats ≢ [] → v.size ≡ size
 sized_set size views id w mine others at v e =
     ⊎_elim (λ (t : (at ≡ id) × (w ≡ v)). subst (λ (u : TokenView). u.seats ≢ [] → u.size ≡ size) t.1 mine)
-        (λ (t : (at ≢ id) × (get_elem? views at ≡ some v)). others at v t.1) (at_set views id at w v e)
+    (λ (t : (at ≢ id) × (get_elem? views at ≡ some v)). others at v t.1) (at_set views id at w v e)
 
 -- new seats are lawful
 pub new_seats : (size : BoardSize) → IsLawful size 0 (replicate size.seats (draws [] false))
@@ -136,21 +136,21 @@ begins size limit seats =
 changes : (size : BoardSize) (n : ℕ) (views : List TokenView) (id : ℕ) (v : TokenView) (d e : Draws)
     → Keeps size n views → get_elem? views id ≡ some v → v.seats ≡ d ∷ []
     → ((x : ℕ) → times x e.drawn + once_below x (min n size.limit) ≡ times x d.drawn + once_below x
-        (min (n + 1) size.limit))
+    (min (n + 1) size.limit))
     → length e.drawn + min n size.limit ≡ length d.drawn + min (n + 1) size.limit
     → length e.drawn + spent_count (e ∷ []) ≡ length d.drawn + spent_count (d ∷ []) + 1
     → Keeps size (n + 1) (set views id (token_view v.size (e ∷ [])))
 changes size n views id v d e h at one once longer count =
     let w : TokenView = token_view v.size (e ∷ []) in let s = sums_of size n views h in
     let some_seat : v.seats ≢ [] = λ z. let l : ◌≡◌ {A = ℕ} 1 0 =
-        ap (length {A = Draws}) (sym one ∙ z) in absurd (omega arith) in
+    ap (length {A = Draws}) (sym one ∙ z) in absurd (omega arith) in
     let counts = total_set count_in views id v w at in let spent = total_set spent_in views id v w at in let seats =
-        total_set seats_in views id v w at in
+    total_set seats_in views id v w at in
     let count_v : count_in v ≡ length d.drawn + 0 = ap (total (λ (d : Draws). length d.drawn)) one in
     let spent_v : spent_in v ≡ spent_count (d ∷ []) = ap spent_count one in
     let seats_v : seats_in v ≡ 1 = ap (length {A = Draws}) one in
     keeps_of size (n + 1) (set views id w) h.fits (sized_set size views id w (λ _. h.sized id v at some_seat) h.sized)
-        (record {
+    (record {
       all_seats = let p = s.all_seats in omega arith;
       each_once = λ x. let a = total_set (times_in x) views id v w at in let b = s.each_once x in let c =
           once x in let t : times_in x v ≡ times x d.drawn + 0 =
@@ -167,7 +167,7 @@ draws_number size n views id v drawn h at one low =
     let m = min_below n size.limit low in let longer = length-append drawn (n ∷ []) in
     changes size n views id v (draws drawn false) (draws (drawn ++ n ∷ []) false) h at one
     (λ x. let a = total-append (λ (y : ℕ). if y == x then 1 else 0) drawn (n ∷ []) in let o =
-        once_next x n in let b : once_below x (min n size.limit) ≡ once_below x n = ap (once_below x) m.0 in
+    once_next x n in let b : once_below x (min n size.limit) ≡ once_below x n = ap (once_below x) m.0 in
     let c : once_below x (min (n + 1) size.limit) ≡ once_below x (n + 1) = ap (once_below x) m.1 in omega arith)
     (omega arith)
     (omega arith)
@@ -179,8 +179,8 @@ draws_none : (size : BoardSize) (n : ℕ) (views : List TokenView) (id : ℕ) (v
 draws_none size n views id v drawn h at one high =
     let m = min_above n size.limit high in
     changes size n views id v (draws drawn false) (draws drawn true) h at one
-        (λ x. ap (λ (k : ℕ). times x drawn + once_below x k) (m.0 ∙ sym m.1))
-        (ap (λ (k : ℕ). length drawn + k) (m.0 ∙ sym m.1)) (omega arith)
+    (λ x. ap (λ (k : ℕ). times x drawn + once_below x k) (m.0 ∙ sym m.1))
+    (ap (λ (k : ℕ). length drawn + k) (m.0 ∙ sym m.1)) (omega arith)
 
 -- as many seats are spent as there are seats, at most, so the word stays small
 spent_few : (seats : List Draws) → spent_count seats ≤ length seats
@@ -202,13 +202,21 @@ Around views id v = (front : List Draws) × (back : List Draws) × (seats_of vie
 
 around : (views : List TokenView) (id : ℕ) (v : TokenView) → get_elem? views id ≡ some v → Around views id v
 around [] id v e = absurd (some-ne-none v (sym e))
-around (x ∷ views) zero v e = ([], seats_of views,
-    ap (λ (u : TokenView). u.seats ++ seats_of views) (some-injective x v e), λ w. refl)
+around (x ∷ views) zero v e = (
+  [],
+  seats_of views,
+  ap (λ (u : TokenView). u.seats ++ seats_of views) (some-injective x v e),
+  λ w. refl,
+)
 around (x ∷ views) (suc id) v e =
-    let r = around views id v e in
-    (x.seats ++ r.0, r.1, ap (λ (l : List Draws). x.seats ++ l) r.2
-        ∙ sym (append_assoc x.seats r.0 (v.seats ++ r.1)), λ w. ap (λ (l : List Draws). x.seats ++ l) (r.3 w)
-        ∙ sym (append_assoc x.seats r.0 (w.seats ++ r.1)))
+    let r = around views id v e in (
+      x.seats ++ r.0,
+      r.1,
+      ap (λ (l : List Draws). x.seats ++ l) r.2
+          ∙ sym (append_assoc x.seats r.0 (v.seats ++ r.1)),
+      λ w. ap (λ (l : List Draws). x.seats ++ l) (r.3 w)
+          ∙ sym (append_assoc x.seats r.0 (w.seats ++ r.1)),
+    )
 
 is_draw : (size : BoardSize) (n : ℕ) (views : List TokenView) (id : ℕ) (v : TokenView) (d e : Draws)
     → Keeps size n views → Keeps size (n + 1) (set views id (token_view v.size (e ∷ []))) → get_elem? views id ≡ some v
@@ -304,19 +312,19 @@ pub splits : (size : BoardSize) (id : ℕ) (v : TokenView)
     → Splits (KeepsBoard size) id v (token_view v.size (drop 1 v.seats)) (token_view v.size (take 1 v.seats))
 splits size id v s d at =
     let l = token_view v.size (drop 1 v.seats) in let r = token_view v.size (take 1 v.seats) in let h =
-        d.2 in let sums = sums_of size d.0 s.views h in
+    d.2 in let sums = sums_of size d.0 s.views h in
     let vs : List TokenView = set s.views id l in
     let same : (f : TokenView → ℕ) → f l + f r ≡ f v
-        → total f (vs ++ r ∷ []) ≡ total f s.views = λ f e. let a = total_set f s.views id v l at in let b =
-        total-append f vs (r ∷ []) in omega arith in
+    → total f (vs ++ r ∷ []) ≡ total f s.views = λ f e. let a = total_set f s.views id v l at in let b =
+    total-append f vs (r ∷ []) in omega arith in
     let mine : (f : List Draws → List Draws) → f [] ≡ [] → f v.seats ≢ []
-        → v.size ≡ size = λ f e ne. h.sized id v at (λ z. ne (ap f z ∙ e)) in (
+    → v.size ≡ size = λ f e ne. h.sized id v at (λ z. ne (ap f z ∙ e)) in (
       d.0,
       d.1,
       keeps_of size d.0 (vs ++ r ∷ []) h.fits
           (λ j u e. ⊎_elim (sized_set size s.views id l (mine (drop 1) refl) h.sized j u)
-              (λ (same : r ≡ u). subst (λ (y : TokenView). y.seats ≢ [] → y.size ≡ size) same (mine (take 1) refl))
-              (at_snoc vs r u j e))
+          (λ (same : r ≡ u). subst (λ (y : TokenView). y.seats ≢ [] → y.size ≡ size) same (mine (take 1) refl))
+          (at_snoc vs r u j e))
           (record {
             all_seats = same seats_in (length_split v.seats) ∙ sums.all_seats;
             each_once = λ x. same (times_in x) (total_split (λ (d : Draws). times x d.drawn) v.seats)
@@ -335,15 +343,15 @@ joins size id v other w some_seat s d at two at' =
     let both = token_view v.size (w.seats ++ v.seats) in let h = d.2 in let sums = sums_of size d.0 s.views h in
     let vs : List TokenView = set s.views id both in
     let same : (f : TokenView → ℕ) → f both ≡ f w + f v → f no_seats ≡ 0
-        → total f (set vs other no_seats) ≡ total f s.views = λ f e z. let a =
-        total_set f s.views id v both at in let b = total_set f vs other w no_seats at' in omega arith in
+    → total f (set vs other no_seats) ≡ total f s.views = λ f e z. let a =
+    total_set f s.views id v both at in let b = total_set f vs other w no_seats at' in omega arith in
     let added : (f : Draws → ℕ) → total f (w.seats ++ v.seats) ≡ total f w.seats + total f v.seats =
-        λ f. total-append f w.seats v.seats in (
+    λ f. total-append f w.seats v.seats in (
       d.0,
       d.1,
       keeps_of size d.0 (set vs other no_seats) h.fits
           (sized_set size vs other no_seats (λ ne. absurd (ne refl))
-              (sized_set size s.views id both (λ _. h.sized id v at some_seat) h.sized))
+          (sized_set size s.views id both (λ _. h.sized id v at some_seat) h.sized))
           (record {
             all_seats = same seats_in (length-append w.seats v.seats) refl ∙ sums.all_seats;
             each_once = λ x. same (times_in x) (added (λ (d : Draws). times x d.drawn)) refl ∙ sums.each_once x;
@@ -365,7 +373,7 @@ lawful_ends size n views id v h at all =
     let s = sums_of size n views h in let whole : total seats_in views ≡ seats_in v = s.all_seats ∙ sym all in
     let only : (f : Draws → ℕ) → total (λ (u : TokenView). total f u.seats) views ≡ total f v.seats =
     λ f. total_one seats_in (λ (u : TokenView). total f u.seats) views id v at
-        (λ j u e z. total_empty f u.seats z) whole in (
+    (λ j u e z. total_empty f u.seats z) whole in (
       (λ x. times_drawn x v.seats ∙ sym (only (λ (d : Draws). times x d.drawn)) ∙ s.each_once x),
       (λ some_spent. let a = only (λ (d : Draws). length d.drawn) in let b =
           only (λ (d : Draws). if d.spent then 1 else 0) in let c = s.counted in let d = s.lengths in omega arith),

@@ -31,7 +31,7 @@ sum_times : (n : ℕ) (ys : List ℕ) → sum_below (λ x. times x ys) n ≤ len
 sum_times n [] = let r = sum_none n in omega arith
 sum_times n (y ∷ ys) =
     let both = sum_both (λ x. if y == x then 1 else 0) (λ x. times x ys) n in let one =
-        sum_one y n in let few : once_below y n ≤ 1 = grind (arith, nat_tests) in
+    sum_one y n in let few : once_below y n ≤ 1 = grind (arith, nat_tests) in
     let r = sum_times n ys in omega arith
 
 sum_all : (f : ℕ → ℕ) (n m : ℕ) → n ≤ m → ((x : ℕ) → f x ≡ once_below x m) → sum_below f n ≡ n

@@ -61,12 +61,12 @@ module _ {T : Type 0} where
   given_length (g ∷ given) ls h =
       let k : ℕ = g.0 in let later : List T = given_to k given in
       let here : g.1 ∷ later ≡ slice_index_or ls k [] =
-          ap (λ (b : Bool). if b then g.1 ∷ later else later) (sym (eq-eqb k k refl)) ∙ h k in
+      ap (λ (b : Bool). if b then g.1 ∷ later else later) (sym (eq-eqb k k refl)) ∙ h k in
       let rest = given_length given (set ls k later) (λ j. dite (ℕ_discrete k j)
       (λ is. subst (λ (i : ℕ). given_to i given ≡ slice_index_or (set ls k later) i []) is
-          (sym (shorter_here ls k g.1 later (sym here))))
+      (sym (shorter_here ls k g.1 later (sym here))))
       (λ ne. ap (λ (b : Bool). if b then g.1 ∷ given_to j given else given_to j given) (sym (ne_eqb k j ne)) ∙ h j
-          ∙ sym (shorter_else ls k j later ne))) in
+      ∙ sym (shorter_else ls k j later ne))) in
       let one = shorter ls k g.1 later (sym here) in omega arith
 
   -- a merge is as long as its lists together
@@ -102,25 +102,25 @@ module _ {T : Type 0} where
   rank_here (q ∷ ps) (suc k) p e one = let later = counts_at ps k p e in dite (ℕ_discrete q.pass p.pass)
       (λ is. absurd (let o = one_if q.pass p.pass is in omega arith))
       (λ ne. ap (at_zero p.pass ps) (ne_eqb q.pass p.pass ne)
-          ∙ ap suc (rank_here ps k p e (let o = none_if q.pass p.pass ne in omega arith)))
+      ∙ ap suc (rank_here ps k p e (let o = none_if q.pass p.pass ne in omega arith)))
 
   rank_else : (ps : List (Puts T)) (k : ℕ) (p : Puts T) (n : ℕ) → get_elem? ps k ≡ some p → p.pass ≢ n → rank n ps ≢ k
   rank_else [] k p n e ne = absurd (some-ne-none p (sym e))
   rank_else (q ∷ ps) zero p n e ne = λ is.
       let r : rank n (q ∷ ps) ≡ suc (rank n ps) =
-          ap (at_zero n ps) (ne_eqb q.pass n (λ x. ne (sym (ap (λ (y : Puts T). y.pass) (some-injective q p e)) ∙ x)))
-          in absurd (omega arith)
+      ap (at_zero n ps) (ne_eqb q.pass n (λ x. ne (sym (ap (λ (y : Puts T). y.pass) (some-injective q p e)) ∙ x)))
+      in absurd (omega arith)
   rank_else (q ∷ ps) (suc k) p n e ne = λ is. dite (ℕ_discrete q.pass n)
       (λ eq. let r : rank n (q ∷ ps) ≡ 0 = ap (at_zero n ps) (eq-eqb q.pass n eq) in absurd (omega arith))
       (λ no. let r : rank n (q ∷ ps) ≡ suc (rank n ps) =
-          ap (at_zero n ps) (ne_eqb q.pass n no) in rank_else ps k p n e ne (omega arith))
+      ap (at_zero n ps) (ne_eqb q.pass n no) in rank_else ps k p n e ne (omega arith))
 
   rank_within : (ps : List (Puts T)) (n : ℕ) → 1 ≤ passes_numbered n ps → rank n ps < length ps
   rank_within [] n some_pass = absurd (omega arith)
   rank_within (q ∷ ps) n some_pass = dite (ℕ_discrete q.pass n)
       (λ is. let r : rank n (q ∷ ps) ≡ 0 = ap (at_zero n ps) (eq-eqb q.pass n is) in omega arith)
       (λ ne. let r : rank n (q ∷ ps) ≡ suc (rank n ps) = ap (at_zero n ps) (ne_eqb q.pass n ne) in let w =
-          rank_within ps n (let o = none_if q.pass n ne in omega arith) in omega arith)
+      rank_within ps n (let o = none_if q.pass n ne in omega arith) in omega arith)
 
   -- a value is given to the list of its pass
   abbrev give : List (Puts T) → Entry T → ℕ × T
@@ -132,21 +132,21 @@ module _ {T : Type 0} where
   given_list ps k p at one (e ∷ es) =
       let r = given_list ps k p at one es in
       let a : Bool → List T = λ b. if b then e.value ∷ given_to k (map (give ps) es) else given_to k
-          (map (give ps) es) in
+      (map (give ps) es) in
       let b : Bool → List T = λ b. if b then e.value ∷ put_by p.pass es else put_by p.pass es in dite
-          (ℕ_discrete e.pass p.pass)
+      (ℕ_discrete e.pass p.pass)
       (λ is. ap a (eq-eqb (rank e.pass ps) k (ap (λ (n : ℕ). rank n ps) is ∙ rank_here ps k p at one))
-          ∙ ap (λ (l : List T). e.value ∷ l) r ∙ sym (ap b (eq-eqb e.pass p.pass is)))
+      ∙ ap (λ (l : List T). e.value ∷ l) r ∙ sym (ap b (eq-eqb e.pass p.pass is)))
       (λ ne. ap a (ne_eqb (rank e.pass ps) k (rank_else ps k p e.pass at (λ x. ne (sym x)))) ∙ r
-          ∙ sym (ap b (ne_eqb e.pass p.pass ne)))
+      ∙ sym (ap b (ne_eqb e.pass p.pass ne)))
 
   given_none : (ps : List (Puts T)) (k : ℕ) → length ps ≤ k → (es : List (Entry T))
       → AllByRecursion (λ e. 1 ≤ passes_numbered e.pass ps) es → given_to k (map (give ps) es) ≡ []
   given_none ps k high [] h = refl
   given_none ps k high (e ∷ es) h =
       ap (λ (b : Bool). if b then e.value ∷ given_to k (map (give ps) es) else given_to k (map (give ps) es))
-          (ne_eqb (rank e.pass ps) k (λ is. absurd (let w = rank_within ps e.pass h.0 in omega arith)))
-          ∙ given_none ps k high es h.1
+      (ne_eqb (rank e.pass ps) k (λ is. absurd (let w = rank_within ps e.pass h.0 in omega arith)))
+      ∙ given_none ps k high es h.1
 
   pick : (P : Puts T → Type 0) (ps : List (Puts T)) (k : ℕ) → k < length ps → AllByRecursion P ps → (p : Puts T)
       × (get_elem? ps k ≡ some p) × (slice_index_or (lists_of ps) k [] ≡ p.values) × P p
@@ -174,13 +174,13 @@ module _ {T : Type 0} where
     are_lists = λ k. dite (dec_lt k (length ps))
         (λ low. let p = pick (λ p. p.values ≡ put_by p.pass whole) ps k low put in
         let one : passes_numbered p.0.pass ps ≡ 1 =
-            (let a = counts_at ps k p.0 p.1 in let b = each p.0.pass in let c : once_below p.0.pass made ≤ 1 =
-            grind (arith, nat_tests) in omega arith) in
+        (let a = counts_at ps k p.0 p.1 in let b = each p.0.pass in let c : once_below p.0.pass made ≤ 1 =
+        grind (arith, nat_tests) in omega arith) in
         given_list ps k p.0 p.1 one whole ∙ sym p.3 ∙ sym p.2)
         (λ high. let h : ¬ (k < length ps) = high in
         given_none ps k (omega arith) whole
-            (all_weaker (λ (e : Entry T). e.pass < made) (λ e. 1 ≤ passes_numbered e.pass ps) whole
-            (λ e low. let a = each e.pass in let b : once_below e.pass made ≡ 1 =
-            grind (arith, nat_tests) in omega arith) numbered)
+        (all_weaker (λ (e : Entry T). e.pass < made) (λ e. 1 ≤ passes_numbered e.pass ps) whole
+        (λ e low. let a = each e.pass in let b : once_below e.pass made ≡ 1 =
+        grind (arith, nat_tests) in omega arith) numbered)
         ∙ sym (past_end ps k (omega arith)));
   }

@@ -78,16 +78,17 @@ module _ {T : Type 0} where
   others_map : (P Q : Puts T → Type 0) (n : ℕ) (ps : List (Puts T)) → ((p : Puts T) → p.pass ≢ n → P p → Q p)
       → passes_numbered n ps ≡ 0 → AllByRecursion P ps → AllByRecursion Q ps
   others_map P Q n [] f absent h = tt
-  others_map P Q n (p ∷ ps) f absent h =
-      (f p (λ is. let one : ◌≡◌ {A = ℕ} (if p.pass == n then 1 else 0) 1 =
-          ap (λ (b : Bool). if b then 1 else 0) (eq-eqb p.pass n is) in absurd (omega arith)) h.0,
-          others_map P Q n ps f (omega arith) h.1)
+  others_map P Q n (p ∷ ps) f absent h = (
+    f p (λ is. let one : ◌≡◌ {A = ℕ} (if p.pass == n then 1 else 0) 1 =
+        ap (λ (b : Bool). if b then 1 else 0) (eq-eqb p.pass n is) in absurd (omega arith)) h.0,
+    others_map P Q n ps f (omega arith) h.1,
+  )
 
   -- the views after one of them changed
   views_set : (F G : PassView T → Type 0) (views : List (PassView T)) (at : ℕ) (w : PassView T)
       → ((j : ℕ) (v : PassView T) → get_elem? views j ≡ some v → F v) → G w
       → ((j : ℕ) (u : PassView T) → j ≢ at → get_elem? views j ≡ some u → F u → G u) → (j : ℕ) (u : PassView T)
-          → get_elem? (set views at w) j ≡ some u → G u
+      → get_elem? (set views at w) j ≡ some u → G u
   views_set F G views at w all mine others j u e =
       ⊎_elim (λ (x : (j ≡ at) × (w ≡ u)). subst (λ (y : PassView T). G y) x.1 mine)
       (λ (x : (j ≢ at) × (get_elem? views j ≡ some u)). others j u x.0 x.1 (all j u x.1)) (at_set views at j w u e)
@@ -112,18 +113,18 @@ module _ {T : Type 0} where
       → Pushes KeepsTray n at v (entry p x) (PutOne v (entry p x))
   puts_one n at v p l x one idle items views room h here =
       let m : Entry T = entry p x in let now : List T = first_values v.passes ++ x ∷ [] in let w : PassView T =
-          pass_view (puts p now ∷ []) v.takers v.made v.taken in
+      pass_view (puts p now ∷ []) v.takers v.made v.taken in
       let mine = h.each_view at v here in
       let putters : AllByRecursion (IsAllOf (h.taken ++ items)) (puts p l ∷ []) =
-          subst (λ (ps : List (Puts T)). AllByRecursion (IsAllOf (h.taken ++ items)) ps) one mine.putters in
+      subst (λ (ps : List (Puts T)). AllByRecursion (IsAllOf (h.taken ++ items)) ps) one mine.putters in
       let has : numbered_in p v ≡ 1 = ap (passes_numbered p) one
-          ∙ ap (λ (b : Bool). (if b then 1 else 0) + 0) (eq-eqb p p refl) in
+      ∙ ap (λ (b : Bool). (if b then 1 else 0) + 0) (eq-eqb p p refl) in
       let low : p < h.made = in_once p h.made
-          (let a = total_at (numbered_in p) views at v here in let b = h.each_pass p in omega arith) in
+      (let a = total_at (numbered_in p) views at v here in let b = h.each_pass p in omega arith) in
       let grown : now ≡ put_by p (h.taken ++ (items ++ m ∷ [])) =
       ap (λ (ps : List (Puts T)). first_values ps ++ x ∷ []) one ∙ ap (λ (k : List T). k ++ x ∷ []) putters.0
-          ∙ ap (λ (k : List T). put_by p (h.taken ++ items) ++ k) (sym (put_here p x))
-          ∙ sym (put_more p h.taken items m) in (
+      ∙ ap (λ (k : List T). put_by p (h.taken ++ items) ++ k) (sym (put_here p x))
+      ∙ sym (put_more p h.taken items m) in (
         w,
         record {
           made = h.made;
@@ -144,8 +145,8 @@ module _ {T : Type 0} where
                 putters = others_map (IsAllOf (h.taken ++ items)) (IsAllOf (h.taken ++ (items ++ m ∷ []))) p u.passes
                     (λ e ne was. was ∙ sym (put_same p e.pass x h.taken items (λ is. ne (sym is))))
                     (let a = total_two (numbered_in p) views at j v u (λ is. other (sym is)) here e in let b =
-                        h.each_pass p in let c : once_below p h.made ≤ 1 = grind (arith, nat_tests) in omega arith)
-                        knows.putters;
+                    h.each_pass p in let c : once_below p h.made ≤ 1 = grind (arith, nat_tests) in omega arith)
+                    knows.putters;
               });
         },
         refl,
@@ -155,12 +156,12 @@ module _ {T : Type 0} where
   pub takes_one : (at : ℕ) (v : PassView T) → v.takers ≡ 1 → Pops KeepsTray at v (TakeOne v)
   takes_one at v one x items views h here =
       let w : PassView T = pass_view v.passes v.takers v.made (v.taken ++ x ∷ []) in let now : List (Entry T) =
-          h.taken ++ x ∷ [] in
+      h.taken ++ x ∷ [] in
       let mine = h.each_view at v here in let know = mine.taker (omega arith) in
       let same : h.taken ++ (x ∷ items) ≡ now ++ items = sym (append_assoc h.taken (x ∷ []) items) in
       let putters : (ps : List (Puts T)) → AllByRecursion (IsAllOf (h.taken ++ (x ∷ items))) ps
-          → AllByRecursion (IsAllOf (now ++ items)) ps =
-          λ ps k. subst (λ (l : List (Entry T)). AllByRecursion (IsAllOf l) ps) same k in (
+      → AllByRecursion (IsAllOf (now ++ items)) ps =
+      λ ps k. subst (λ (l : List (Entry T)). AllByRecursion (IsAllOf l) ps) same k in (
         w,
         record {
           made = h.made;
@@ -171,8 +172,11 @@ module _ {T : Type 0} where
               h.each_pass q in omega arith);
           numbered = subst (λ (es : List (Entry T)). AllByRecursion (λ e. e.pass < h.made) es) same h.numbered;
           each_view = views_set (Knows h.made h.taken (x ∷ items)) (Knows h.made now items) views at w h.each_view
-              (record { taker = λ _. (ap (λ (l : List (Entry T)). l ++ x ∷ []) know.0, know.1); putters =
-                  putters v.passes mine.putters })
+              (record {
+                taker = λ _. (ap (λ (l : List (Entry T)). l ++ x ∷ []) know.0, know.1);
+                putters =
+                    putters v.passes mine.putters;
+              })
               (λ j u other e knows. record {
                 taker = λ two. absurd (let a =
                     total_two takers_in views at j v u (λ is. other (sym is)) here e in let b =
@@ -188,13 +192,13 @@ module _ {T : Type 0} where
       → Forks KeepsTray at v (pass_view v.passes v.takers (v.made + 1) v.taken) (pass_view (puts v.made [] ∷ []) 0 0 [])
   makes_pass at v one items views h here =
       let l : PassView T = pass_view v.passes v.takers (v.made + 1) v.taken in let r : PassView T =
-          pass_view (puts v.made [] ∷ []) 0 0 [] in
+      pass_view (puts v.made [] ∷ []) 0 0 [] in
       let mine = h.each_view at v here in let know = mine.taker (omega arith) in let vs : List (PassView T) =
-          set views at l in
+      set views at l in
       let made : v.made ≡ h.made = know.1 in
       let all : (f : PassView T → ℕ) → f l ≡ f v
-          → total f (vs ++ r ∷ []) ≡ total f views + f r =
-          λ f e. (let a = total_set f views at v l here in let b = total-append f vs (r ∷ []) in omega arith) in
+      → total f (vs ++ r ∷ []) ≡ total f views + f r =
+      λ f e. (let a = total_set f views at v l here in let b = total-append f vs (r ∷ []) in omega arith) in
       record {
         made = h.made + 1;
         taken = h.taken;
@@ -208,13 +212,19 @@ module _ {T : Type 0} where
             (h.taken ++ items) (λ e low. omega arith) h.numbered;
         each_view = λ j u e. ⊎_elim
             (views_set (Knows h.made h.taken items) (Knows (h.made + 1) h.taken items) views at l h.each_view
-                (record { taker = λ _. (know.0, ap (λ (k : ℕ). k + 1) made); putters = mine.putters })
-            (λ j u other e knows. record { taker =
-                λ two. absurd (let a = total_two takers_in views at j v u (λ is. other (sym is)) here e in let b =
-                h.one_taker in omega arith); putters = knows.putters }) j u)
+            (record { taker = λ _. (know.0, ap (λ (k : ℕ). k + 1) made); putters = mine.putters })
+            (λ j u other e knows. record {
+              taker =
+                  λ two. absurd (let a = total_two takers_in views at j v u (λ is. other (sym is)) here e in let b =
+                  h.one_taker in omega arith);
+              putters = knows.putters;
+            }) j u)
             (λ (is : r ≡ u). subst (λ (y : PassView T). Knows (h.made + 1) h.taken items y) is
-            (record { taker = λ some_takers. absurd (omega arith); putters =
-                (sym (put_none h.made v.made (h.taken ++ items) (omega arith) h.numbered), tt) }))
+            (record {
+              taker = λ some_takers. absurd (omega arith);
+              putters =
+                  (sym (put_none h.made v.made (h.taken ++ items) (omega arith) h.numbered), tt);
+            }))
             (at_snoc vs r u j e);
       }
 
@@ -223,16 +233,16 @@ module _ {T : Type 0} where
       → Merges KeepsTray at v other u (pass_view (u.passes ++ v.passes) v.takers v.made v.taken) (pass_view [] 0 0 [])
   brings_back at v other u one idle items views h here two there =
       let both : PassView T = pass_view (u.passes ++ v.passes) v.takers v.made v.taken in let gone : PassView T =
-          pass_view [] 0 0 [] in
+      pass_view [] 0 0 [] in
       let mine = h.each_view at v here in let know = mine.taker (omega arith) in let vs : List (PassView T) =
-          set views at both in
+      set views at both in
       let was : get_elem? views other ≡ some u =
-          ⊎_elim (λ x. absurd (two x.0)) (λ x. x.1) (at_set views at other both u there) in let theirs =
-          h.each_view other u was in
+      ⊎_elim (λ x. absurd (two x.0)) (λ x. x.1) (at_set views at other both u there) in let theirs =
+      h.each_view other u was in
       let all : (f : PassView T → ℕ) → f both ≡ f v + f u → f gone ≡ 0
-          → total f (set vs other gone) ≡ total f views =
-          λ f e z. (let a = total_set f views at v both here in let b =
-          total_set f vs other u gone there in omega arith) in
+      → total f (set vs other gone) ≡ total f views =
+      λ f e z. (let a = total_set f views at v both here in let b =
+      total_set f vs other u gone there in omega arith) in
       record {
         made = h.made;
         taken = h.taken;
@@ -244,9 +254,12 @@ module _ {T : Type 0} where
         numbered = h.numbered;
         each_view = views_set (Knows h.made h.taken items) (Knows h.made h.taken items) vs other gone
             (views_set (Knows h.made h.taken items) (Knows h.made h.taken items) views at both h.each_view
-            (record { taker = λ _. know; putters =
-                all-append (IsAllOf (h.taken ++ items)) u.passes v.passes theirs.putters mine.putters })
-                (λ j y apart e knows. knows))
+            (record {
+              taker = λ _. know;
+              putters =
+                  all-append (IsAllOf (h.taken ++ items)) u.passes v.passes theirs.putters mine.putters;
+            })
+            (λ j y apart e knows. knows))
             (record { taker = λ some_takers. absurd (omega arith); putters = tt }) (λ j y apart e knows. knows);
       }
 
@@ -259,9 +272,9 @@ module _ {T : Type 0} where
       let whole : total passes_in views ≡ passes_in v = h.all_passes ∙ sym know.1 ∙ all in
       let each : (n : ℕ) → passes_numbered n v.passes ≡ once_below n h.made =
       λ n. sym (total_one passes_in (numbered_in n) views at v here
-          (λ j u e z. total_empty (λ (p : Puts T). if p.pass == n then 1 else 0) u.passes z) whole) ∙ h.each_pass n in
+      (λ j u e z. total_empty (λ (p : Puts T). if p.pass == n then 1 else 0) u.passes z) whole) ∙ h.each_pass n in
       subst (λ (l : List (Entry T)). IsMerge (lists_of v.passes) (values_of (l ++ items))) (sym know.0)
-          (merges v.passes h.made (h.taken ++ items) each h.numbered mine.putters)
+      (merges v.passes h.made (h.taken ++ items) each h.numbered mine.putters)
 
   pub hands_out : (at : ℕ) (v : PassView T) → v.takers ≡ 1 → v.made ≡ length v.passes
       → Pops KeepsTray at v (HandOutOne v)
@@ -269,7 +282,16 @@ module _ {T : Type 0} where
       let t = takes_one at v one x items views h here in
       let value : Entry T → T = λ e. e.value in
       let same : values_of (v.taken ++ (x ∷ items)) ≡ (values_of v.taken ++ x.value ∷ []) ++ values_of items =
-          map-append value v.taken (x ∷ items)
-          ∙ sym (append_assoc (values_of v.taken) (x.value ∷ []) (values_of items)) in
-      (t.0, t.1, (t.2, (values_of items, subst (λ (l : List T). IsMerge (lists_of v.passes) l) same
-          (learns at v one all (x ∷ items) views h here))))
+      map-append value v.taken (x ∷ items)
+      ∙ sym (append_assoc (values_of v.taken) (x.value ∷ []) (values_of items)) in (
+        t.0,
+        t.1,
+        (
+          t.2,
+          (
+            values_of items,
+            subst (λ (l : List T). IsMerge (lists_of v.passes) l) same
+                (learns at v one all (x ∷ items) views h here),
+          ),
+        ),
+      )

@@ -57,7 +57,7 @@ bit_at-lowered-low w k h = ap (λ m. bit_at m k) (lowered-is w)
 bit_at-lowered-high : (w k : ℕ) → 32 ≤ k → bit_at (lowered w) k ≡ min (bit_at w (k - 32)) (bit_at upper_mask (k - 32))
 bit_at-lowered-high w k h =
     ap (λ m. bit_at m k) (lowered-is w) ∙
-        (bit_at_cat_high (bit_and w upper_mask) 32 0 k (omega arith) h ∙ bit_at_and w upper_mask (k - 32))
+    (bit_at_cat_high (bit_and w upper_mask) 32 0 k (omega arith) h ∙ bit_at_and w upper_mask (k - 32))
 
 bit_at-closed : (w k : ℕ) → bit_at (closed_word w) k ≡ max (max (bit_at w k) (bit_at (lowered w) k))
     (bit_at (raised w) k)
@@ -94,20 +94,20 @@ closed-upper : (w k : ℕ) → IsUpper k → eqb (bit_at (closed_word w) k) 1 �
 unfolding IsUpper
 closed-upper w k h =
     let up : bit_at (raised w) k ≡ bit_at w (k + 32) = bit_at-raised w k
-        ∙ (ap (min (bit_at w (k + 32))) (mask-inside k h.0 h.1) ∙ omega (arith, bit_at-lt w (k + 32))) in
+    ∙ (ap (min (bit_at w (k + 32))) (mask-inside k h.0 h.1) ∙ omega (arith, bit_at-lt w (k + 32))) in
     ap (λ b. eqb b 1) (bit_at-closed w k)
     ∙ either-bit (bit_at w k) (bit_at w (k + 32)) _ _ (bit_at-lt w k) (bit_at-lt w (k + 32))
-        (inr (bit_at-lowered-low w k (omega arith), up))
+    (inr (bit_at-lowered-low w k (omega arith), up))
 
 closed-lower : (w k : ℕ) → IsLower k → eqb (bit_at (closed_word w) k) 1 ≡
     (eqb (bit_at w k) 1 || eqb (bit_at w (k - 32)) 1)
 unfolding IsLower
 closed-lower w k h =
     let down : bit_at (lowered w) k ≡ bit_at w (k - 32) = bit_at-lowered-high w k (omega arith)
-        ∙ (ap (min (bit_at w (k - 32))) (mask-inside (k - 32) (omega arith) (omega arith))
-        ∙ omega (arith, bit_at-lt w (k - 32))) in
+    ∙ (ap (min (bit_at w (k - 32))) (mask-inside (k - 32) (omega arith) (omega arith))
+    ∙ omega (arith, bit_at-lt w (k - 32))) in
     let none : bit_at (raised w) k ≡ 0 = bit_at-raised w k
-        ∙ (ap (min (bit_at w (k + 32))) (mask-outside k (inr (omega arith))) ∙ omega arith) in
+    ∙ (ap (min (bit_at w (k + 32))) (mask-outside k (inr (omega arith))) ∙ omega arith) in
     ap (λ b. eqb b 1) (bit_at-closed w k)
     ∙ either-bit (bit_at w k) (bit_at w (k - 32)) _ _ (bit_at-lt w k) (bit_at-lt w (k - 32)) (inl (down, none))
 
@@ -115,7 +115,7 @@ closed-neither : (w k : ℕ) → IsNeither k → eqb (bit_at (closed_word w) k) 
 unfolding IsNeither
 closed-neither w k h =
     let none : bit_at (raised w) k ≡ 0 = bit_at-raised w k
-        ∙ (ap (min (bit_at w (k + 32))) (mask-outside k (neither-mask k h)) ∙ omega arith) in
+    ∙ (ap (min (bit_at w (k + 32))) (mask-outside k (neither-mask k h)) ∙ omega arith) in
     ap (λ b. eqb b 1) (bit_at-closed w k) ∙ same-bit (bit_at w k) _ _ (bit_at-lt w k) (down (k_low k)) none
   where
     k_low : (k : ℕ) → (k < 32) ⊎ (32 ≤ k)
@@ -129,7 +129,7 @@ closed-neither w k h =
 in_words-second : (ws : List ℕ) (n : ℕ) → n / 64 ≡ 1 → in_words ws n ≡ eqb (bit_at (get_or ws 1 0) (n % 64)) 1
 in_words-second ws n e =
     ap (λ t. t && eqb (bit_at (get_or ws (n / 64) 0) (n % 64)) 1) (lt-ltb n 256 (omega arith))
-        ∙ ap (λ k. eqb (bit_at (get_or ws k 0) (n % 64)) 1) e
+    ∙ ap (λ k. eqb (bit_at (get_or ws k 0) (n % 64)) 1) e
 
 other_case-upper : (n : ℕ) → n / 64 ≡ 1 → 1 ≤ n % 64 → n % 64 < 27 → other_case n ≡ n + 32
 other_case-upper n e l h = let a : 65 ≤ n = omega arith in let b : n ≤ 90 = omega arith in grind (arith, nat_tests)
@@ -189,33 +189,33 @@ in_words-closed ws = fun_ext (λ n. elim (word_of n)
     second n e (inl (inl h)) =
         let other : in_words ws (other_case n) ≡ eqb (bit_at (get_or ws 1 0) (n % 64 + 32)) 1 =
         ap (in_words ws) (other_case-upper n e h.0 h.1)
-            ∙ (in_words-second ws (n + 32) (omega arith) ∙ ap (λ k. eqb (bit_at (get_or ws 1 0) k) 1) (omega arith)) in
+        ∙ (in_words-second ws (n + 32) (omega arith) ∙ ap (λ k. eqb (bit_at (get_or ws 1 0) k) 1) (omega arith)) in
         in_new n e ∙ (closed-upper (get_or ws 1 0) (n % 64) h
-            ∙ (ap (λ t. t || eqb (bit_at (get_or ws 1 0) (n % 64 + 32)) 1) (sym (in_words-second ws n e))
-            ∙ ap (λ t. in_words ws n || t) (sym other)))
+        ∙ (ap (λ t. t || eqb (bit_at (get_or ws 1 0) (n % 64 + 32)) 1) (sym (in_words-second ws n e))
+        ∙ ap (λ t. in_words ws n || t) (sym other)))
     second n e (inl (inr h)) =
         let other : in_words ws (other_case n) ≡ eqb (bit_at (get_or ws 1 0) (n % 64 - 32)) 1 =
         ap (in_words ws) (other_case-lower n e h.0 h.1)
-            ∙ (in_words-second ws (n - 32) (omega arith) ∙ ap (λ k. eqb (bit_at (get_or ws 1 0) k) 1) (omega arith)) in
+        ∙ (in_words-second ws (n - 32) (omega arith) ∙ ap (λ k. eqb (bit_at (get_or ws 1 0) k) 1) (omega arith)) in
         in_new n e ∙ (closed-lower (get_or ws 1 0) (n % 64) h
-            ∙ (ap (λ t. t || eqb (bit_at (get_or ws 1 0) (n % 64 - 32)) 1) (sym (in_words-second ws n e))
-            ∙ ap (λ t. in_words ws n || t) (sym other)))
+        ∙ (ap (λ t. t || eqb (bit_at (get_or ws 1 0) (n % 64 - 32)) 1) (sym (in_words-second ws n e))
+        ∙ ap (λ t. in_words ws n || t) (sym other)))
     second n e (inr h) =
         let here = sym (in_words-second ws n e) in
         let other : in_words ws (other_case n) ≡ in_words ws n =
-            ap (in_words ws) (other_case-same n (second-neither n e h)) in
+        ap (in_words ws) (other_case-same n (second-neither n e h)) in
         in_new n e ∙ (closed-neither (get_or ws 1 0) (n % 64) h
-            ∙ (ap (λ t. t || t) here ∙ ap (λ t. in_words ws n || t) (sym other)))
+        ∙ (ap (λ t. t || t) here ∙ ap (λ t. in_words ws n || t) (sym other)))
 
     elsewhere : (n : ℕ) → n / 64 ≢ 1 → (n < 256) ⊎ (256 ≤ n) → in_words (closed_words ws) n ≡ closed (in_words ws) n
     elsewhere n d (inl h) =
         let other : in_words ws (other_case n) ≡ in_words ws n =
-            ap (in_words ws) (other_case-same n (not-second n d)) in
+        ap (in_words ws) (other_case-same n (not-second n d)) in
         same-twice _ _ (ap (λ w. ltb n 256 && eqb (bit_at w (n % 64)) 1)
-            (other-word ws (closed_word (get_or ws 1 0)) (n / 64) (omega arith) d))
-            ∙ ap (λ t. in_words ws n || t) (sym other)
+        (other-word ws (closed_word (get_or ws 1 0)) (n / 64) (omega arith) d))
+        ∙ ap (λ t. in_words ws n || t) (sym other)
     elsewhere n d (inr h) =
         let other : in_words ws (other_case n) ≡ in_words ws n =
-            ap (in_words ws) (other_case-same n (not-second n d)) in
+        ap (in_words ws) (other_case-same n (not-second n d)) in
         same-twice _ _ (in_words-above (closed_words ws) n h ∙ sym (in_words-above ws n h))
-            ∙ ap (λ t. in_words ws n || t) (sym other)
+        ∙ ap (λ t. in_words ws n || t) (sym other)

@@ -49,7 +49,7 @@ in_words-or ws vs = fun_ext (λ n. same_below _ _ at n ∙ and-or (ltb n 256) _ 
         (eqb (bit_at (get_or ws (n / 64) 0) (n % 64)) 1 || eqb (bit_at (get_or vs (n / 64) 0) (n % 64)) 1)
     at n h =
         ap (λ w. eqb (bit_at w (n % 64)) 1)
-            (word-at (λ k. bit_or (get_or ws k 0) (get_or vs k 0)) (n / 64) (omega arith))
+        (word-at (λ k. bit_or (get_or ws k 0) (get_or vs k 0)) (n / 64) (omega arith))
         ∙ (ap (λ b. eqb b 1) (bit_at_or (get_or ws (n / 64) 0) (get_or vs (n / 64) 0) (n % 64))
         ∙ eqb-max _ _ (bit_at-lt (get_or ws (n / 64) 0) (n % 64)) (bit_at-lt (get_or vs (n / 64) 0) (n % 64)))
 
@@ -93,17 +93,17 @@ insert-here : (ws : List ℕ) (b : ℕ) → length ws ≡ 4 → b < 256 → in_w
 insert-here ws b l h =
     let bit : bit_at (get_or (inserted ws b) (b / 64) 0) (b % 64) ≡ 1 =
     ap (λ w. bit_at w (b % 64)) (get_or-set_same ws (b / 64) _ 0 (omega arith))
-        ∙ bit_at_set_same w64 (get_or ws (b / 64) 0) (b % 64) (omega arith) in
+    ∙ bit_at_set_same w64 (get_or ws (b / 64) 0) (b % 64) (omega arith) in
     let left : in_words (inserted ws b) b ≡ true =
-        ap (λ t. t && eqb (bit_at (get_or (inserted ws b) (b / 64) 0) (b % 64)) 1) (lt-ltb b 256 h)
-        ∙ ap (λ t. eqb t 1) bit in
+    ap (λ t. t && eqb (bit_at (get_or (inserted ws b) (b / 64) 0) (b % 64)) 1) (lt-ltb b 256 h)
+    ∙ ap (λ t. eqb t 1) bit in
     left ∙ sym (ap (λ t. in_words ws b || t) (eq-eqb b b refl) ∙ or-true (in_words ws b))
 
 insert-same_word : (ws : List ℕ) (b n : ℕ) → length ws ≡ 4 → b < 256 → n ≢ b → n / 64 ≡ b / 64
     → in_words (inserted ws b) n ≡ with b (in_words ws) n
 insert-same_word ws b n l h d q =
     let word : get_or (inserted ws b) (n / 64) 0 ≡ bit_or (get_or ws (b / 64) 0)
-        (1 * 2 ^ (b % 64) % 18446744073709551616) =
+    (1 * 2 ^ (b % 64) % 18446744073709551616) =
     ap (λ k. get_or (inserted ws b) k 0) q ∙ get_or-set_same ws (b / 64) _ 0 (omega arith) in
     let bit : bit_at (get_or (inserted ws b) (n / 64) 0) (n % 64) ≡ bit_at (get_or ws (n / 64) 0) (n % 64) =
     ap (λ w. bit_at w (n % 64)) word
@@ -148,7 +148,7 @@ in_words-low_bits bound a b c d h ea eb ec ed =
     let zero_word : bound - 0 ≡ bound = omega arith in
     let first : a ≡ low_ones bound 0 = ea ∙ sym (ap (λ x. 2 ^ min x 64 - 1) zero_word) in
     let words : a ∷ b ∷ c ∷ d ∷ [] ≡ low_ones bound 0 ∷ low_ones bound 1 ∷ low_ones bound 2 ∷ low_ones bound 3 ∷ [] =
-        cc in
+    cc in
     ap in_words words ∙ fun_ext at
   where
     at : (n : ℕ) → in_words (low_ones bound 0 ∷ low_ones bound 1 ∷ low_ones bound 2 ∷ low_ones bound 3 ∷ []) n ≡ ltb n
@@ -156,13 +156,13 @@ in_words-low_bits bound a b c d h ea eb ec ed =
     at n = elim (small_or_large n) [
       | inl s ↦
           ap (λ t. t && eqb (bit_at (get_or
-              (low_ones bound 0 ∷ low_ones bound 1 ∷ low_ones bound 2 ∷ low_ones bound 3 ∷ []) (n / 64) 0) (n % 64)) 1)
-              (lt-ltb n 256 s)
+          (low_ones bound 0 ∷ low_ones bound 1 ∷ low_ones bound 2 ∷ low_ones bound 3 ∷ []) (n / 64) 0) (n % 64)) 1)
+          (lt-ltb n 256 s)
           ∙ (ap (λ w. eqb (bit_at w (n % 64)) 1) (word-at (low_ones bound) (n / 64) (omega arith))
-              ∙ bit_at-low_ones bound n s h)
+          ∙ bit_at-low_ones bound n s h)
       | inr l ↦
           ap (λ t. t && eqb (bit_at (get_or
-              (low_ones bound 0 ∷ low_ones bound 1 ∷ low_ones bound 2 ∷ low_ones bound 3 ∷ []) (n / 64) 0) (n % 64)) 1)
-              (le-ltb n 256 l)
+          (low_ones bound 0 ∷ low_ones bound 1 ∷ low_ones bound 2 ∷ low_ones bound 3 ∷ []) (n / 64) 0) (n % 64)) 1)
+          (le-ltb n 256 l)
           ∙ sym (le-ltb n bound (omega arith))
     ]

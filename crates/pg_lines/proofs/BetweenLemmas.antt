@@ -166,8 +166,14 @@ module _ (text : SearchText) (trees : List Pattern) (inverted : text.invert ≡ 
           | inl w ↦
               let both = ap (λ xs. length (lines E xs)) passed.joins in
               let apart = ap length (lines-append E passed.front passed.rest w) in
-              omega (arith, both, apart, length-append (lines E passed.front) (lines E passed.rest), counted,
-                  passed.count)
+              omega (
+                arith,
+                both,
+                apart,
+                length-append (lines E passed.front) (lines E passed.rest),
+                counted,
+                passed.count,
+              )
           | inr e ↦
               let alone = ap (λ xs. length (lines E xs))
               (passed.joins ∙ (ap (λ xs. passed.front ++ xs) e ∙ append-nil passed.front)) in

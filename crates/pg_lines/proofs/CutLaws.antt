@@ -57,13 +57,13 @@ same_first end size xs ys us bs e f g = elim (cases_lt (length xs) (length ys)) 
   | inl less ↦
       let P : List ℕ → Type 0 = λ zs. EndsWith end zs in
       let front : take (length xs) ys ≡ xs = sym (take-append-le (length xs) ys bs (omega arith))
-          ∙ (ap (take (length xs)) (sym e) ∙ take_at xs us (length xs) refl) in
+      ∙ (ap (take (length xs)) (sym e) ∙ take_at xs us (length xs) refl) in
       absurd (g.shortest (length xs) f.long less (subst P (sym front) f.ends))
   | inr more ↦ elim (cases_lt (length ys) (length xs)) [
     | inl less ↦
         let P : List ℕ → Type 0 = λ zs. EndsWith end zs in
         let front : take (length ys) xs ≡ ys = sym (take-append-le (length ys) xs us (omega arith))
-            ∙ (ap (take (length ys)) e ∙ take_at ys bs (length ys) refl) in
+        ∙ (ap (take (length ys)) e ∙ take_at ys bs (length ys) refl) in
         absurd (f.shortest (length ys) g.long less (subst P (sym front) g.ends))
     | inr same ↦
         let n : length ys ≡ length xs = omega arith in
@@ -81,7 +81,7 @@ not_unfinished : (end size : ℕ) (bytes xs us : List ℕ) → bytes ≡ xs ++ u
 not_unfinished end size bytes xs us e f u =
     let P : List ℕ → Type 0 = λ zs. EndsWith end zs in
     u (length xs) f.long (omega (arith, ap length e, length-append xs us))
-        (subst P (sym (ap (take (length xs)) e ∙ take_at xs us (length xs) refl)) f.ends)
+    (subst P (sym (ap (take (length xs)) e ∙ take_at xs us (length xs) refl)) f.ends)
 
 -- the finished blocks and the rest are one
 pub record SameCuts (blocks others : List BlockData) (rest other : List ℕ) : Type 0 where
@@ -102,17 +102,17 @@ same_cuts end size file n bytes [] [] rest other a i b j = record { same = refl;
 same_cuts end size file n bytes [] (c ∷ others) rest other a i b j =
     let P : List ℕ → Type 0 = λ xs. IsUnfinished end size xs in
     absurd (not_unfinished end size bytes c.bytes (joined others ++ other)
-        (b.whole ∙ append_assoc c.bytes (joined others) other) b.finished.0 (subst P (sym a.whole) a.unfinished))
+    (b.whole ∙ append_assoc c.bytes (joined others) other) b.finished.0 (subst P (sym a.whole) a.unfinished))
 same_cuts end size file n bytes (c ∷ blocks) [] rest other a i b j =
     let P : List ℕ → Type 0 = λ xs. IsUnfinished end size xs in
     absurd (not_unfinished end size bytes c.bytes (joined blocks ++ rest)
-        (a.whole ∙ append_assoc c.bytes (joined blocks) rest) a.finished.0 (subst P (sym b.whole) b.unfinished))
+    (a.whole ∙ append_assoc c.bytes (joined blocks) rest) a.finished.0 (subst P (sym b.whole) b.unfinished))
 same_cuts end size file n bytes (c ∷ blocks) (d ∷ others) rest other a i b j =
     let e : c.bytes ++ (joined blocks ++ rest) ≡ d.bytes ++ (joined others ++ other) =
-        sym (append_assoc c.bytes (joined blocks) rest)
-        ∙ (sym a.whole ∙ (b.whole ∙ append_assoc d.bytes (joined others) other)) in
+    sym (append_assoc c.bytes (joined blocks) rest)
+    ∙ (sym a.whole ∙ (b.whole ∙ append_assoc d.bytes (joined others) other)) in
     let first = same_first end size c.bytes d.bytes (joined blocks ++ rest)
-        (joined others ++ other) e a.finished.0 b.finished.0 in
+    (joined others ++ other) e a.finished.0 b.finished.0 in
     let later = same_rest c.bytes d.bytes (joined blocks ++ rest) (joined others ++ other) e first in
     let r = same_cuts end size file (n + 1) (joined blocks ++ rest) blocks others rest other
     (record { whole = refl; finished = a.finished.1; unfinished = a.unfinished }) i.2

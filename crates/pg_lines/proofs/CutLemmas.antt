@@ -15,17 +15,21 @@ end_at : (end : ℕ) (xs : List ℕ) (n : ℕ) → n ≤ length xs → EndsWith 
 end_at end xs n fits h =
     let front = h.0 in
     let len : n ≡ length front + 1 = omega
-        (arith, sym (length-take-le n xs fits) ∙ ap length h.1, length-append front (end ∷ [])) in
-    let at : n - 1 ≡ length front = omega arith in
-    (omega arith, ap (λ k. get_or xs k 0) at
-        ∙ (sym (get_or-take n xs (length front) 0 (omega arith))
-        ∙ (ap (λ ys. get_or ys (length front) 0) h.1 ∙ get_or_at front end [] 0 (length front) refl)))
+    (arith, sym (length-take-le n xs fits) ∙ ap length h.1, length-append front (end ∷ [])) in
+    let at : n - 1 ≡ length front = omega arith in (
+      omega arith,
+      ap (λ k. get_or xs k 0) at
+          ∙ (sym (get_or-take n xs (length front) 0 (omega arith))
+          ∙ (ap (λ ys. get_or ys (length front) 0) h.1 ∙ get_or_at front end [] 0 (length front) refl)),
+    )
 
 ends_at : (end : ℕ) (xs : List ℕ) (n : ℕ) → 0 < n → n ≤ length xs → get_or xs (n - 1) 0 ≡ end → EndsWith end (take n xs)
 ends_at end xs n some fits e =
-    let back : (n - 1) + 1 ≡ n = omega arith in
-    (take (n - 1) xs, ap (λ k. take k xs) (sym back)
-        ∙ (take_more xs (n - 1) 0 (omega arith) ∙ ap (λ b. take (n - 1) xs ++ b ∷ []) e))
+    let back : (n - 1) + 1 ≡ n = omega arith in (
+      take (n - 1) xs,
+      ap (λ k. take k xs) (sym back)
+          ∙ (take_more xs (n - 1) 0 (omega arith) ∙ ap (λ b. take (n - 1) xs ++ b ∷ []) e),
+    )
 
 -- an unfinished beginning has no terminator at or behind its size
 clear_behind : (end size : ℕ) (xs : List ℕ) → IsUnfinished end size xs → (i : ℕ) → size ≤ i + 1 → i < length xs
@@ -71,7 +75,7 @@ clear_of end size rest piece k h clear i low high e = elim (cases_lt i (length r
   | inl inside ↦ clear_behind end size rest h i low inside (sym (get_or-append rest piece 0 i inside) ∙ e)
   | inr behind ↦ let at : length rest + (i - length rest) ≡ i = omega arith in
       clear (i - length rest) (omega arith) (omega arith)
-          (sym (get_or-append-add rest piece (i - length rest) 0) ∙ (ap (λ n. get_or (rest ++ piece) n 0) at ∙ e))
+      (sym (get_or-append-add rest piece (i - length rest) 0) ∙ (ap (λ n. get_or (rest ++ piece) n 0) at ∙ e))
 ]
 
 pub unfinished_after : (end size : ℕ) (rest piece : List ℕ) → 0 < size → IsUnfinished end size rest
@@ -79,20 +83,20 @@ pub unfinished_after : (end size : ℕ) (rest piece : List ℕ) → 0 < size →
     → IsUnfinished end size (rest ++ piece)
 unfinished_after end size rest piece some h clear =
     unfinished_by end size (rest ++ piece) some
-        (λ i low high. clear_of end size rest piece (length piece) h clear i low
-        (omega (arith, length-append rest piece)))
+    (λ i low high. clear_of end size rest piece (length piece) h clear i low
+    (omega (arith, length-append rest piece)))
 
 pub finished_after : (end size : ℕ) (rest piece : List ℕ) (j : ℕ) → 0 < size → IsUnfinished end size rest
     → from_place size rest ≤ j → j < length piece → get_or piece j 0 ≡ end
     → ((i : ℕ) → from_place size rest ≤ i → i < j → get_or piece i 0 ≡ end → ⊥)
-        → IsFinished end size (rest ++ take (j + 1) piece)
+    → IsFinished end size (rest ++ take (j + 1) piece)
 finished_after end size rest piece j some h low high e clear =
     let P : List ℕ → Type 0 = λ xs. IsFinished end size xs in
     let k = length rest + j in
     let n : k + 1 ≡ length rest + (j + 1) = omega arith in
     subst P (ap (λ m. take m (rest ++ piece)) n ∙ take_past rest piece (j + 1))
     (finished_by end size (rest ++ piece) k (omega arith) (omega (arith, length-append rest piece))
-        (get_or-append-add rest piece j 0 ∙ e)
+    (get_or-append-add rest piece j 0 ∙ e)
     (λ i low' high'. clear_of end size rest piece j h clear i low' high') some)
 
 -- what a search from a place says of a piece
@@ -101,18 +105,18 @@ pub searched_none : (end from : ℕ) (piece : List ℕ) → IsFirstByte (is_byte
 searched_none end from piece h j low high e =
     let at : from + (j - from) ≡ j = omega arith in
     h (j - from) (omega arith) (omega (arith, length-drop from piece))
-        (eq-eqb _ end (get_or-drop from piece (j - from) 0 ∙ (ap (λ n. get_or piece n 0) at ∙ e)))
+    (eq-eqb _ end (get_or-drop from piece (j - from) 0 ∙ (ap (λ n. get_or piece n 0) at ∙ e)))
 
 pub searched_some : (end from : ℕ) (piece : List ℕ) (len : ℕ) → IsFirstByte (is_byte end) (drop from piece) (Some len)
     → (from + len < length piece) × (get_or piece (from + len) 0 ≡ end)
-        × ((i : ℕ) → from ≤ i → i < from + len → get_or piece i 0 ≡ end → ⊥)
+    × ((i : ℕ) → from ≤ i → i < from + len → get_or piece i 0 ≡ end → ⊥)
 searched_some end from piece len h = (
   omega (arith, h.0.high, length-drop from piece),
   sym (get_or-drop from piece len 0) ∙ eqb-true _ end h.1,
   λ i low high e.
       let at : from + (i - from) ≡ i = omega arith in
       h.0.before (i - from) (omega arith) (omega arith)
-          (eq-eqb _ end (get_or-drop from piece (i - from) 0 ∙ (ap (λ n. get_or piece n 0) at ∙ e))),
+      (eq-eqb _ end (get_or-drop from piece (i - from) 0 ∙ (ap (λ n. get_or piece n 0) at ∙ e))),
 )
 
 pub numbered_front : (file number : ℕ) (xs ys : List BlockData) → AreNumbered file number (xs ++ ys)
@@ -137,13 +141,13 @@ pub joined_more : (bytes : List ℕ) (blocks : List BlockData) (at len : ℕ) (b
     → bytes ≡ joined (blocks ++ b ∷ []) ++ drop (at + len) bytes
 joined_more bytes blocks at len b e is =
     let tail : drop at bytes ≡ b.bytes ++ drop (at + len) bytes = sym (take-append-drop len (drop at bytes))
-        ∙ (ap (λ xs. xs ++ drop len (drop at bytes)) (sym is) ∙ ap (λ xs. b.bytes ++ xs) (drop-drop len at bytes)) in
+    ∙ (ap (λ xs. xs ++ drop len (drop at bytes)) (sym is) ∙ ap (λ xs. b.bytes ++ xs) (drop-drop len at bytes)) in
     let whole : joined (blocks ++ b ∷ []) ≡ joined blocks ++ b.bytes =
-        flat_map-append (λ (x : BlockData). x.bytes) blocks (b ∷ [])
-        ∙ ap (λ xs. joined blocks ++ xs) (append-nil b.bytes) in
+    flat_map-append (λ (x : BlockData). x.bytes) blocks (b ∷ [])
+    ∙ ap (λ xs. joined blocks ++ xs) (append-nil b.bytes) in
     e ∙ (ap (λ xs. joined blocks ++ xs) tail
-        ∙ (sym (append_assoc (joined blocks) b.bytes (drop (at + len) bytes))
-        ∙ ap (λ xs. xs ++ drop (at + len) bytes) (sym whole)))
+    ∙ (sym (append_assoc (joined blocks) b.bytes (drop (at + len) bytes))
+    ∙ ap (λ xs. xs ++ drop (at + len) bytes) (sym whole)))
 
 each_append : (end size : ℕ) (xs ys : List BlockData) → AllByRecursion (λ b. IsFinished end size b.bytes) xs
     → AllByRecursion (λ b. IsFinished end size b.bytes) ys
@@ -157,7 +161,7 @@ pub cuts_more : (end size : ℕ) (bytes piece rest left : List ℕ) (xs ys : Lis
 cuts_more end size bytes piece rest left xs ys a b = record {
   whole =
       ap (λ bs. bs ++ piece) a.whole ∙ (append_assoc (joined xs) rest piece
-          ∙ (ap (λ bs. joined xs ++ bs) b.whole ∙ (sym (append_assoc (joined xs) (joined ys) left)
+      ∙ (ap (λ bs. joined xs ++ bs) b.whole ∙ (sym (append_assoc (joined xs) (joined ys) left)
       ∙ ap (λ bs. bs ++ left) (sym (flat_map-append (λ (x : BlockData). x.bytes) xs ys)))));
   finished = each_append end size xs ys a.finished b.finished;
   unfinished = b.unfinished;

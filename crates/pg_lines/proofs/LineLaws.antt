@@ -63,8 +63,11 @@ whole_made end _ _ (alone {b} ne) = inr (record
 whole_made end _ _ (onto {b} {bytes} {l} {ls} ne m) = behind_onto end b bytes l ls (whole_made end bytes (l ∷ ls) m)
 
 pub lines_are_lines : (end : ℕ) (bytes : List ℕ) → AreLines end bytes (lines end bytes)
-lines_are_lines end bytes = record { each = each_made end bytes (lines end bytes) (made end bytes); whole =
-    whole_made end bytes (lines end bytes) (made end bytes) }
+lines_are_lines end bytes = record {
+  each = each_made end bytes (lines end bytes) (made end bytes);
+  whole =
+      whole_made end bytes (lines end bytes) (made end bytes);
+}
 
 -- texts that are lines, each with the terminator, in front of others
 lines-texts : (end : ℕ) (texts : List (List ℕ)) (rest : List ℕ) → AllByRecursion (IsLine end) texts
@@ -72,7 +75,7 @@ lines-texts : (end : ℕ) (texts : List (List ℕ)) (rest : List ℕ) → AllByR
 lines-texts end [] rest h = refl
 lines-texts end (l ∷ texts) rest h =
     ap (lines end) (append_assoc (l ++ end ∷ []) (terminated end texts) rest
-        ∙ append_assoc l (end ∷ []) (terminated end texts ++ rest))
+    ∙ append_assoc l (end ∷ []) (terminated end texts ++ rest))
     ∙ (lines-line end l (terminated end texts ++ rest) h.0 ∙ ap (λ ls. l ∷ ls) (lines-texts end texts rest h.1))
 
 each_front : (end : ℕ) (front : List (List ℕ)) (last : List ℕ) → AllByRecursion (IsLine end) (front ++ last ∷ [])
@@ -88,13 +91,13 @@ one_whole : (end : ℕ) (bytes : List ℕ) (texts : List (List ℕ)) → AllByRe
     → Whole end bytes texts → texts ≡ lines end bytes
 one_whole end bytes texts each (inl e) =
     sym (ap (lines end) (e ∙ sym (append-nil (terminated end texts)))
-        ∙ (lines-texts end texts [] each ∙ append-nil texts))
+    ∙ (lines-texts end texts [] each ∙ append-nil texts))
 one_whole end bytes texts each (inr h) =
     let P : List (List ℕ) → Type 0 = λ ts. AllByRecursion (IsLine end) ts in
     let apart = each_front end h.front h.last (subst P h.joins each) in
     h.joins ∙ sym (ap (lines end) h.whole
-        ∙ (lines-texts end h.front h.last apart.0
-        ∙ ap (λ ls. h.front ++ ls) (lines-alone end h.last (some_bytes h.last h.some) apart.1)))
+    ∙ (lines-texts end h.front h.last apart.0
+    ∙ ap (λ ls. h.front ++ ls) (lines-alone end h.last (some_bytes h.last h.some) apart.1)))
 
 pub lines_are_one : (end : ℕ) (bytes : List ℕ) (texts : List (List ℕ)) → AreLines end bytes texts
     → texts ≡ lines end bytes

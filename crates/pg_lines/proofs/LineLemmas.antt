@@ -55,8 +55,11 @@ around end _ _ (onto {b} {bytes} {l} {ls} ne m) (suc k) h = let r =
 
 pub length-terminated-cons : (end : ℕ) (ls : List (List ℕ)) (l : List ℕ)
     → length (terminated end (l ∷ ls)) ≡ length l + 1 + length (terminated end ls)
-length-terminated-cons end ls l = omega (arith, length-append (l ++ end ∷ []) (terminated end ls),
-    length-append l (end ∷ []))
+length-terminated-cons end ls l = omega (
+  arith,
+  length-append (l ++ end ∷ []) (terminated end ls),
+  length-append l (end ∷ []),
+)
 
 -- the line that stands at a span
 pub record IsAt (bytes line : List ℕ) (span : ℕ × ℕ) : Type 0 where
@@ -69,10 +72,10 @@ pub middle : (xs front line tail : List ℕ) → xs ≡ front ++ (line ++ tail)
 middle xs front line tail e =
     let n = length front in
     let total : length xs ≡ n + (length line + length tail) =
-        omega (arith, ap length e, length-append front (line ++ tail), length-append line tail) in
+    omega (arith, ap length e, length-append front (line ++ tail), length-append line tail) in
     let less : (n + length line) - n ≡ length line = omega arith in
     let cut : take (length line) (drop n (front ++ (line ++ tail))) ≡ line =
-        ap (take (length line)) (drop_at front (line ++ tail) n refl) ∙ take_at line tail (length line) refl in
+    ap (take (length line)) (drop_at front (line ++ tail) n refl) ∙ take_at line tail (length line) refl in
     let P : ℕ → Type 0 = λ m. take m (drop n xs) ≡ line in
     let Q : List ℕ → Type 0 = λ bs. take (length line) (drop n bs) ≡ line in
     record { ordered = omega arith; within = omega arith; same = subst P (sym less) (subst Q (sym e) cut) }
@@ -83,7 +86,7 @@ lines-line end [] rest h = ap (λ t. cond t ([] ∷ lines end rest) (onto_first 
     (eq-eqb end end refl)
 lines-line end (b ∷ l) rest h =
     ap (λ t. cond t ([] ∷ lines end (l ++ end ∷ rest)) (onto_first b (lines end (l ++ end ∷ rest))))
-        (ne_eqb b end (λ e. h (zero, omega arith, e)))
+    (ne_eqb b end (λ e. h (zero, omega arith, e)))
     ∙ ap (onto_first b) (lines-line end l rest (λ c. h (suc c.0, omega (arith, c.1), c.2)))
 
 -- the last one, without
@@ -91,7 +94,7 @@ pub lines-last : (end : ℕ) (b : ℕ) (l : List ℕ) → IsLine end (b ∷ l) �
 lines-last end b [] h = ap (λ t. cond t ([] ∷ []) ((b ∷ []) ∷ [])) (ne_eqb b end (λ e. h (zero, omega arith, e)))
 lines-last end b (c ∷ l) h =
     ap (λ t. cond t ([] ∷ lines end (c ∷ l)) (onto_first b (lines end (c ∷ l))))
-        (ne_eqb b end (λ e. h (zero, omega arith, e)))
+    (ne_eqb b end (λ e. h (zero, omega arith, e)))
     ∙ ap (onto_first b) (lines-last end c l (λ k. h (suc k.0, omega (arith, k.1), k.2)))
 
 no_end_in_front : (end : ℕ) (xs : List ℕ) (k : ℕ) → k ≤ length xs → Nowhere (Passes (is_byte end) xs) 0 k
@@ -99,7 +102,7 @@ no_end_in_front : (end : ℕ) (xs : List ℕ) (k : ℕ) → k ≤ length xs → 
 no_end_in_front end xs k fits h c =
     let n : c.0 < k = omega (arith, c.1, length-take-le k xs fits) in
     h c.0 (omega arith) n (eq-eqb _ end (get_or_default xs c.0 0 end (omega arith)
-        ∙ (sym (get_or-take k xs c.0 end n) ∙ c.2)))
+    ∙ (sym (get_or-take k xs c.0 end n) ∙ c.2)))
 
 -- what a search for the terminator says of the first line
 pub first_line_at : (end : ℕ) (xs : List ℕ) (k : ℕ) → IsFirstByte (is_byte end) xs (Some k)
@@ -107,9 +110,9 @@ pub first_line_at : (end : ℕ) (xs : List ℕ) (k : ℕ) → IsFirstByte (is_by
 first_line_at end xs k h =
     let e : xs ≡ take k xs ++ end ∷ drop (k + 1) xs =
     sym (take-append-drop k xs) ∙ ap (λ ys. take k xs ++ ys)
-        (drop_more xs k 0 h.0.high ∙ ap (λ b. b ∷ drop (k + 1) xs) (eqb-true (get_or xs k 0) end h.1)) in
+    (drop_more xs k 0 h.0.high ∙ ap (λ b. b ∷ drop (k + 1) xs) (eqb-true (get_or xs k 0) end h.1)) in
     ap (lines end) e ∙ lines-line end (take k xs) (drop (k + 1) xs)
-        (no_end_in_front end xs k (omega (arith, h.0.high)) h.0.before)
+    (no_end_in_front end xs k (omega (arith, h.0.high)) h.0.before)
 
 pub only_line : (end : ℕ) (xs : List ℕ) → 0 < length xs → IsFirstByte (is_byte end) xs None → lines end xs ≡ xs ∷ []
 only_line end [] some h = absurd (omega arith)
@@ -139,8 +142,8 @@ lines-ended end (b ∷ front) ys =
     let e = lines-ended end front ys in
     let some : 0 < length (lines end (front ++ end ∷ [])) = nonempty_ended end front in
     elim (eqb b end) as (λ t. cond t ([] ∷ lines end ((front ++ end ∷ []) ++ ys))
-        (onto_first b (lines end ((front ++ end ∷ []) ++ ys))) ≡ cond t ([] ∷ lines end (front ++ end ∷ []))
-        (onto_first b (lines end (front ++ end ∷ []))) ++ lines end ys) [
+    (onto_first b (lines end ((front ++ end ∷ []) ++ ys))) ≡ cond t ([] ∷ lines end (front ++ end ∷ []))
+    (onto_first b (lines end (front ++ end ∷ []))) ++ lines end ys) [
       | true ↦ ap (λ ls. [] ∷ ls) e
       | false ↦ ap (onto_first b) e ∙ onto_first-append b (lines end (front ++ end ∷ [])) (lines end ys) some
     ]

@@ -35,10 +35,10 @@ pub long_append : (end longest n : ℕ) (xs ys : List ℕ)
 long_append end longest n [] ys = refl
 long_append end longest n (x ∷ xs) ys =
     cond_map2 (λ b m. b || has_long end longest m ys) (eqb x end) _ _ (open_from end 0 xs)
-        (open_from end (n + 1) xs) _ _
+    (open_from end (n + 1) xs) _ _
     (long_append end longest 0 xs ys)
     (ap (λ b. nat_lt longest (n + 1) || b) (long_append end longest (n + 1) xs ys)
-        ∙ or_assoc (nat_lt longest (n + 1)) (has_long end longest (n + 1) xs) _)
+    ∙ or_assoc (nat_lt longest (n + 1)) (has_long end longest (n + 1) xs) _)
 
 -- by recursion on the lines, the first one longer by n
 abbrev SomeLong : ℕ → List (List ℕ) → Type 0
@@ -68,18 +68,18 @@ module _ (end longest : ℕ) where
   long_made _ _ none n le e = absurd (false≢true e)
   long_made _ _ (ended {bytes} {ls} m) n le e =
       inr (to_zero longest ls (long_made bytes ls m 0 (omega arith)
-          (sym (ap (λ t. cond t (has_long end longest 0 bytes)
-          (nat_lt longest (n + 1) || has_long end longest (n + 1) bytes)) (same_end end end refl)) ∙ e)))
+      (sym (ap (λ t. cond t (has_long end longest 0 bytes)
+      (nat_lt longest (n + 1) || has_long end longest (n + 1) bytes)) (same_end end end refl)) ∙ e)))
   long_made _ _ (alone {b} ne) n le e =
       elim (or_cases (nat_lt longest (n + 1)) false
-          (sym (ap (λ t. cond t false (nat_lt longest (n + 1) || false)) (ne_eqb b end ne)) ∙ e)) [
+      (sym (ap (λ t. cond t false (nat_lt longest (n + 1) || false)) (ne_eqb b end ne)) ∙ e)) [
         | inl h ↦ inl (ltb-true longest (n + 1) h)
         | inr h ↦ absurd (false≢true h)
       ]
   long_made _ _ (onto {b} {bytes} {l} {ls} ne m) n le e =
       elim (or_cases (nat_lt longest (n + 1)) (has_long end longest (n + 1) bytes)
-          (sym (ap (λ t. cond t (has_long end longest 0 bytes)
-          (nat_lt longest (n + 1) || has_long end longest (n + 1) bytes)) (ne_eqb b end ne)) ∙ e)) [
+      (sym (ap (λ t. cond t (has_long end longest 0 bytes)
+      (nat_lt longest (n + 1) || has_long end longest (n + 1) bytes)) (ne_eqb b end ne)) ∙ e)) [
         | inl h ↦ let k : longest < n + 1 = ltb-true longest (n + 1) h in inl (omega arith)
         | inr h ↦ elim (cases_lt longest (n + 1)) [
           | inl k ↦ inl (omega arith)
@@ -96,20 +96,20 @@ module _ (end longest : ℕ) where
   made_long _ _ none n le h = absurd h
   made_long _ _ (ended {bytes} {ls} m) n le h =
       ap (λ t. cond t (has_long end longest 0 bytes) (nat_lt longest (n + 1) || has_long end longest (n + 1) bytes))
-          (same_end end end refl)
+      (same_end end end refl)
       ∙ elim h [ inl k ↦ absurd (omega arith) | inr k ↦ made_long bytes ls m 0 (omega arith) (from_zero longest ls k) ]
   made_long _ _ (alone {b} ne) n le h =
       ap (λ t. cond t false (nat_lt longest (n + 1) || false)) (ne_eqb b end ne)
       ∙ elim h [ inl k ↦ ap (λ t. t || false) (lt-ltb longest (n + 1) (omega arith)) | inr k ↦ absurd k ]
   made_long _ _ (onto {b} {bytes} {l} {ls} ne m) n le h =
       ap (λ t. cond t (has_long end longest 0 bytes) (nat_lt longest (n + 1) || has_long end longest (n + 1) bytes))
-          (ne_eqb b end ne)
+      (ne_eqb b end ne)
       ∙ elim (cases_lt longest (n + 1)) [
         | inl k ↦ ap (λ t. t || has_long end longest (n + 1) bytes) (lt-ltb longest (n + 1) k)
         | inr k ↦ let next : SomeLongFrom longest (n + 1) (l ∷ ls) =
             elim h [ inl q ↦ inl (omega arith) | inr q ↦ inr q ] in
             ap (λ t. nat_lt longest (n + 1) || t) (made_long bytes (l ∷ ls) m (n + 1) k next)
-                ∙ or_true (nat_lt longest (n + 1))
+            ∙ or_true (nat_lt longest (n + 1))
       ]
 
 any_long : (longest : ℕ) (ls : List (List ℕ)) → SomeLong longest ls → Any (λ l. longest < length l) ls
@@ -146,9 +146,9 @@ pub short_piece : (end longest n : ℕ) (xs : List ℕ) → n + length xs ≤ lo
 short_piece end longest n [] h = refl
 short_piece end longest n (x ∷ xs) h = elim (eqb x end) as
     (λ t. cond t (has_long end longest 0 xs) (nat_lt longest (n + 1) || has_long end longest (n + 1) xs) ≡ false) [
-  | true ↦ short_piece end longest 0 xs (omega arith)
-  | false ↦ grind (arith, nat_tests, short_piece end longest (n + 1) xs (omega arith))
-]
+      | true ↦ short_piece end longest 0 xs (omega arith)
+      | false ↦ grind (arith, nat_tests, short_piece end longest (n + 1) xs (omega arith))
+    ]
 
 -- the open line where the terminator stands nowhere
 pub open_nowhere : (end n : ℕ) (xs : List ℕ) → ((i : ℕ) → i < length xs → get_or xs i 0 ≡ end → ⊥)
@@ -164,14 +164,14 @@ pub open_behind : (end n : ℕ) (xs : List ℕ) (k : ℕ) → IsLastByte (is_byt
 open_behind end n xs k h =
     let e : xs ≡ take k xs ++ end ∷ drop (k + 1) xs =
     sym (take-append-drop k xs) ∙ ap (λ ys. take k xs ++ ys)
-        (drop_more xs k 0 h.0.high ∙ ap (λ b. b ∷ drop (k + 1) xs) (eqb-true (get_or xs k 0) end h.1)) in
+    (drop_more xs k 0 h.0.high ∙ ap (λ b. b ∷ drop (k + 1) xs) (eqb-true (get_or xs k 0) end h.1)) in
     let rest = drop (k + 1) xs in
     let none : (i : ℕ) → i < length rest → get_or rest i 0 ≡ end → ⊥ = λ i below at.
     h.0.after (k + 1 + i) (omega arith) (omega (arith, length-drop (k + 1) xs))
-        (eq-eqb _ end (sym (get_or-drop (k + 1) xs i 0) ∙ at)) in
+    (eq-eqb _ end (sym (get_or-drop (k + 1) xs i 0) ∙ at)) in
     ap (open_from end n) e ∙ (open_append end n (take k xs) (end ∷ rest)
     ∙ (ap (λ t. cond t (open_from end 0 rest) (open_from end (open_from end n (take k xs) + 1) rest))
-        (eq-eqb end end refl)
+    (eq-eqb end end refl)
     ∙ omega (arith, open_nowhere end 0 rest none, length-drop (k + 1) xs, h.0.high)))
 
 pub open_alone : (end n : ℕ) (xs : List ℕ) → IsLastByte (is_byte end) xs None → open_from end n xs ≡ n + length xs

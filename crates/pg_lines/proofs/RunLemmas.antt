@@ -46,15 +46,15 @@ occurs_inside : (xs front l tail p : List ℕ) (i : ℕ) → xs ≡ front ++ (l 
     → OccursAt xs p (length front + i)
 occurs_inside xs front l tail p i e o =
     let fits : (length front + i) + length p ≤ length xs =
-        omega (arith, ap length e, length-append front (l ++ tail), length-append l tail, o.fits) in
+    omega (arith, ap length e, length-append front (l ++ tail), length-append l tail, o.fits) in
     record {
       fits = fits;
       reads = λ j below.
           let at : (length front + i) + j ≡ length front + (i + j) = omega arith in
           let d : drop (length front) xs ≡ l ++ tail = ap (drop (length front)) e
-              ∙ drop_at front (l ++ tail) (length front) refl in
+          ∙ drop_at front (l ++ tail) (length front) refl in
           ap (λ n. get_or xs n 0) at ∙ (at_reads 0 xs l (length front) tail d (i + j) (omega (arith, o.fits))
-              ∙ o.reads j below);
+          ∙ o.reads j below);
     }
 
 -- the three parts of bytes as they are searched
@@ -139,13 +139,13 @@ occurs_within : (bytes p : List ℕ) (s e k : ℕ) → e ≤ length bytes → s 
     → OccursAt (take (e - s) (drop s bytes)) p (k - s)
 occurs_within bytes p s e k high low fits o =
     let len : length (take (e - s) (drop s bytes)) ≡ e - s =
-        length-take-le (e - s) (drop s bytes) (omega (arith, length-drop s bytes)) in
+    length-take-le (e - s) (drop s bytes) (omega (arith, length-drop s bytes)) in
     record {
       fits = omega arith;
       reads = λ j below.
           let at : s + ((k - s) + j) ≡ k + j = omega arith in
           get_or-take (e - s) (drop s bytes) ((k - s) + j) 0 (omega arith)
-              ∙ (get_or-drop s bytes ((k - s) + j) 0 ∙ (ap (λ n. get_or bytes n 0) at ∙ o.reads j below));
+          ∙ (get_or-drop s bytes ((k - s) + j) 0 ∙ (ap (λ n. get_or bytes n 0) at ∙ o.reads j below));
     }
 
 -- the same where both are searched

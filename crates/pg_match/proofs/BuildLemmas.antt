@@ -27,7 +27,7 @@ ended t l (suc n) i j is run = absurd (on_state t l 0 n i j Accept is run).2
 module _ (t : List State) (l : List ℕ) (trees : List Pattern) (accept : slice_get t 0 ≡ Some Accept) where
   alternatives_sound : (k e n i j : ℕ) → ((c : ℕ) (r : Pattern) → slice_get trees c ≡ Some r → IsProper r)
       → Alternatives t trees k e 0 → Runs t l n e i j → (c : ℕ) × (r : Pattern) × (slice_get trees c ≡ Some r)
-          × Match r l i j
+      × Match r l i j
   alternatives_sound zero e n i j proper a run =
       let s = tree_sound t l a.0 (proper 0 a.0 a.1) e 0 n i j a.2 run in
       let over = ended t l s.1 s.0 j accept s.4 in
@@ -38,13 +38,13 @@ module _ (t : List State) (l : List ℕ) (trees : List Pattern) (accept : slice_
       elim u.2.0 [
         | inl first ↦
             let run1 : Runs t l n a.2 i j =
-                subst (λ s. Runs t l n s i j) first (subst (λ v. Runs t l n u.0 v j) u.2.1 u.3) in
+            subst (λ s. Runs t l n s i j) first (subst (λ v. Runs t l n u.0 v j) u.2.1 u.3) in
             let s = tree_sound t l a.0 (proper (suc k) a.0 a.1) a.2 0 n i j a.5 run1 in
             let over = ended t l s.1 s.0 j accept s.4 in
             (suc k, a.0, a.1, subst (Match a.0 l i) over s.3)
         | inr second ↦
             let run1 : Runs t l n a.3 i j =
-                subst (λ s. Runs t l n s i j) second (subst (λ v. Runs t l n u.0 v j) u.2.1 u.3) in
+            subst (λ s. Runs t l n s i j) second (subst (λ v. Runs t l n u.0 v j) u.2.1 u.3) in
             alternatives_sound k a.3 n i j proper a.6 run1
       ]
 
@@ -70,9 +70,15 @@ module _ (t : List State) (l : List ℕ) (trees : List Pattern) (accept : slice_
 alternatives_kept : (a b : List State) (trees : List Pattern) → Keeps a b → (k e : ℕ) → Alternatives a trees k e 0
     → Alternatives b trees k e 0
 alternatives_kept a b trees keeps zero e h = (h.0, h.1, implements_kept a b (λ q s other g. keeps q s g) h.0 e 0 h.2)
-alternatives_kept a b trees keeps (suc k) e h =
-    (h.0, h.1, h.2, h.3, keeps e (Split h.2 h.3) h.4, implements_kept a b (λ q s other g. keeps q s g) h.0 h.2 0 h.5,
-        alternatives_kept a b trees keeps k h.3 h.6)
+alternatives_kept a b trees keeps (suc k) e h = (
+  h.0,
+  h.1,
+  h.2,
+  h.3,
+  keeps e (Split h.2 h.3) h.4,
+  implements_kept a b (λ q s other g. keeps q s g) h.0 h.2 0 h.5,
+  alternatives_kept a b trees keeps k h.3 h.6,
+)
 
 -- the sum of one more size
 pub more_size : (trees : List Pattern) (c : ℕ) (r : Pattern) → slice_get trees c ≡ Some r
@@ -124,7 +130,7 @@ building_more t u v trees (suc c) start e s r other b a p is =
     let len = pushed_length u v (Split e start) s p in
     let keeps = pushed_keeps u v (Split e start) s p in
     let below : target_below (length v) (Split e start) =
-        (omega (arith, len, a.inside), omega (arith, len, b.start_in, a.size)) in
+    (omega (arith, len, a.inside), omega (arith, len, b.start_in, a.size)) in
     record {
       tidy = pushed_tidy u v (Split e start) s p a.tidy below;
       start_in = omega (arith, len, p.place);
@@ -177,7 +183,7 @@ module _ (m : Nfa) (trees : List Pattern) (proper : All IsProper trees) where
   agrees (suc k) e b any_some some_any = record {
     sound = λ l n i j run why.
         let s = alternatives_sound m.states l trees b.accept k m.start n i j (each_proper trees proper)
-            (b.some k refl) run in
+        (b.some k refl) run in
         (s.1, contains_at trees s.0 s.1 s.2, s.3);
     complete = λ l i j h.
         let here = slice_get-get_or trees h.1.0 h.0 h.1.1 ∙ ap Some h.1.2 in (

@@ -61,9 +61,11 @@ module _ (t : List State) (l : List ℕ) (i : ℕ) where
             )
         | inr absent ↦
             let f = two.fresh r (omega arith) h in
-            let n = one.longer in
-            (f.1, subst (λ w. Edge (slice_get t q) l i w i) (sym f.0) to_z,
-                (u.len, omega arith, omega (arith, f.3), f.2))
+            let n = one.longer in (
+              f.1,
+              subst (λ w. Edge (slice_get t q) l i w i) (sym f.0) to_z,
+              (u.len, omega arith, omega (arith, f.3), f.2),
+            )
       ] in
       record {
         good = two.good;
@@ -99,19 +101,19 @@ module _ (t : List State) (l : List ℕ) (i : ℕ) where
       → Followed t l i s u q start
   begin_followed s u q y start is first ins =
       followed_one s u q y start ins (subst (λ o. On o y) (sym is) (first, refl, refl))
-          (λ r e. (subst (λ o. On o r) is e).1)
+      (λ r e. (subst (λ o. On o r) is e).1)
 
   pub end_followed : (s u : Members) (q y start : ℕ) → slice_get t q ≡ Some (AtEnd y) → i ≡ length l
       → Inserted s u y start → Followed t l i s u q start
   end_followed s u q y start is last ins =
       followed_one s u q y start ins (subst (λ o. On o y) (sym is) (last, refl, refl))
-          (λ r e. (subst (λ o. On o r) is e).1)
+      (λ r e. (subst (λ o. On o r) is e).1)
 
   pub split_followed : (s u v : Members) (q y z start : ℕ) → slice_get t q ≡ Some (Split y z) → Inserted s u y start
       → Inserted u v z start → Followed t l i s v q start
   split_followed s u v q y z start is one two =
       followed_two s u v q y z start one two (subst (λ o. On o y) (sym is) (inl refl, refl))
-          (subst (λ o. On o z) (sym is) (inr refl, refl))
+      (subst (λ o. On o z) (sym is) (inr refl, refl))
       (λ r e. (subst (λ o. On o r) is e).0)
 
   pub not_begin_followed : (s : Members) (q y start : ℕ) → slice_get t q ≡ Some (AtBegin y) → i ≢ 0 → IsGood s
@@ -148,9 +150,9 @@ module _ (t : List State) (l : List ℕ) (i : ℕ) where
     | inl old ↦
         let j_in : j < s.len = omega arith in
         let a : mark u (listed u j) ≡ mark s (listed s j) = ap (mark u) (list j j_in)
-            ∙ kept (listed s j) (good.is_in j j_in) in
+        ∙ kept (listed s j) (good.is_in j j_in) in
         let b : mark u (listed u k) ≡ mark s (listed s k) = ap (mark u) (list k old)
-            ∙ kept (listed s k) (good.is_in k old) in
+        ∙ kept (listed s k) (good.is_in k old) in
         let o = ordered j k le old in
         omega arith
     | inr new ↦ let e = recent k new lt in let b = below (listed u j) in omega arith
@@ -171,7 +173,7 @@ module _ (t : List State) (l : List ℕ) (i : ℕ) where
   reaching_first s u x start ins good closed ordered below =
       let below' = below_more s u start ins.kept (λ q z h. (ins.fresh q z h).1) below in
       let self : (q : ℕ) → q ≡ x → Leads t l x i q i =
-          λ q e. subst (λ v. Leads t l x i v i) (sym e) (λ n j run. (n, run)) in
+      λ q e. subst (λ v. Leads t l x i v i) (sym e) (λ n j run. (n, run)) in
       record {
         good = ins.good;
         size = ins.size;
@@ -232,9 +234,14 @@ module _ (t : List State) (l : List ℕ) (i : ℕ) where
               | inl same ↦
                   let e : q0 ≡ q = ap (listed u) (sym same) ∙ later.3 in
                   inl (subst (ClosedAt t l i v) e
-                      (λ w edge. let a = f.kept q0 some in let b = below' w in (f.all w edge, omega (arith, mine.0))))
-              | inr other ↦ inr (later.0, omega (arith, later.1), omega (arith, later.2), f.list later.0 later.2
-                  ∙ later.3)
+                  (λ w edge. let a = f.kept q0 some in let b = below' w in (f.all w edge, omega (arith, mine.0))))
+              | inr other ↦ inr (
+                later.0,
+                omega (arith, later.1),
+                omega (arith, later.2),
+                f.list later.0 later.2
+                    ∙ later.3,
+              )
             ]
           ]
           | inr none ↦ let g = f.fresh q (omega arith) h in let w = g.2 in inr (w.0, omega (arith, w.1), w.2, w.3)
@@ -288,14 +295,14 @@ module _ (t : List State) where
       let room : u.len ≤ length u.order = list_long u r.good in
       let len : length (take u.len u.order) ≡ u.len = length-take-le u.len u.order room in
       let at : (k : ℕ) → k < u.len → slice_index (take u.len u.order) k ≡ listed u k =
-          λ k lt. get_or-take u.len u.order k 0 lt in
+      λ k lt. get_or-take u.len u.order k 0 lt in
       record {
         inside = λ k lt. let in' = listed_in u k r.good (omega arith) in let e = at k (omega arith) in omega arith;
         first = let f = r.good.found x r.here in (f.0, omega (arith, f.1, len), at f.0 f.1 ∙ f.2);
         closed = λ m j c d k q lt e.
             let k_in : k < u.len = omega arith in
             let edge = inside_edge (slice_get t (listed u k)) m l j i q c d a b
-                (subst (λ w. Edge (slice_get t w) m j q j) (at k k_in) e) in
+            (subst (λ w. Edge (slice_get t w) m j q j) (at k k_in) e) in
             let here = r.closed (listed u k) (r.good.is_in k k_in) q edge in
             let f = r.good.found q here.0 in
             (f.0, omega (arith, f.1, len), at f.0 f.1 ∙ f.2);
@@ -303,7 +310,7 @@ module _ (t : List State) where
             let k_in : k < u.len = omega arith in
             let p = paths (listed u k) (empty.1 (listed u k)) (r.good.is_in k k_in) in
             subst (λ w. Leads t m x j w j) (sym (at k k_in))
-                (path_leads m j p.0 x (listed u k) (inside_path l m i j p.0 x (listed u k) a b c d p.1));
+            (path_leads m j p.0 x (listed u k) (inside_path l m i j p.0 x (listed u k) a b c d p.1));
       }
 
   pub sown_first : (seeds : List ℕ) (s : Members) (start : ℕ) → IsGood s → IsOrdered s → AllBelow s start
@@ -446,7 +453,7 @@ module _ (t : List State) (l : List ℕ) (i : ℕ) (now : Members) (limit : ℕ)
         let f = good.found q h in
         let same : mark now (listed now f.0) ≡ mark now q = ap (mark now) f.2 in
         let g = s.goes f.0 r (omega (arith, f.1)) f.1 (omega arith)
-            (subst (λ v. Edge (slice_get t v) l i r (i + 1)) (sym f.2) e) in
+        (subst (λ v. Edge (slice_get t v) l i r (i + 1)) (sym f.2) e) in
         (g.0, omega (arith, g.1));
   }
 

@@ -33,8 +33,12 @@ gap_any n t g x = record { tidy = x.tidy; next_in = x.next_in; hole_in = hole_an
 pub hole_kept : (n : ℕ) (t u : List State) (h : Option Hole) → Keeps t u → length t ≤ length u → IsHole n t h
     → IsHole n u h
 hole_kept n t u None keeps le hole = tt
-hole_kept n t u (Some h) keeps le hole = (hole.0, keeps h.place Fail hole.1, omega (arith, hole.2),
-    omega (arith, hole.3))
+hole_kept n t u (Some h) keeps le hole = (
+  hole.0,
+  keeps h.place Fail hole.1,
+  omega (arith, hole.2),
+  omega (arith, hole.3),
+)
 
 -- what filling a hole leaves
 module _ (old new : List State) where
@@ -162,7 +166,7 @@ completes_narrowed t u g h whole some part x c n new e w keeps is leads =
 pub finished : (first t u v : List State) (g : Gap) (whole part : Pattern) (e w x : ℕ) → HasGap first t g
     → Completes t g part whole x
     → Added t u part e g.next → IsFilled u v g.hole e w → length t + size_of part ≡ length first + size_of whole
-        → Added first v whole w x
+    → Added first v whole w x
 finished first t u v g whole part e w x has c one filled size =
     let grew = grew_added t u part e g.next one in
     let hole = hole_kept (length first) t u g.hole grew.keeps grew.longer has.gap_in.hole_in in
@@ -224,8 +228,12 @@ module _ (t u v : List State) (g : Gap) (e w : ℕ) (is : IsGap 0 t g) (grew : G
         gap_in = record {
           tidy = filled_tidy u v n g.hole e w hole e_in grew.tidy filled;
           next_in = omega (arith, len);
-          hole_in = (omega (arith, has.longer), fails', omega (arith, len),
-              filled_inside u v n g.hole e w hole e_in filled);
+          hole_in = (
+            omega (arith, has.longer),
+            fails',
+            omega (arith, len),
+            filled_inside u v n g.hole e w hole e_in filled,
+          );
         };
       }
 
@@ -253,7 +261,7 @@ choice_narrowed t u v z a b g m s w is one push filled =
       completes = λ new e w' keeps part leads.
           let hole = hole_kept 0 t v g.hole grew.keeps grew.longer is.hole_in in
           let over = written_trans u v new (written u v push'.keeps)
-              (written_trans v z new (filled_written v z 0 g.hole s w hole filled) keeps) in (
+          (written_trans v z new (filled_written v z 0 g.hole s w hole filled) keeps) in (
             s,
             (e, m, leads.1, part, implements_kept u new over b m g.next one.implements),
             opened_leads t v z g s w is grew filled new w' keeps (leads.0),
@@ -270,7 +278,7 @@ loop_narrowed t u v z r n g s k w is push some filled =
     record {
       has = opened_has t v z g k w is grew filled s g.next s some.inside (omega (arith, is.next_in, grew.longer))
           (omega (arith, push.place, len, some.size)) (omega (arith, push.place))
-              (some.keeps s Fail (pushed_is t u Fail s push));
+          (some.keeps s Fail (pushed_is t u Fail s push));
       written = opened_written t v z g k w is grew filled;
       completes = λ new e w' keeps part leads.
           let hole = hole_kept 0 t v g.hole grew.keeps grew.longer is.hole_in in
@@ -308,18 +316,24 @@ option_narrowed t u v y z r n b c g j s k w more le is few push some filled =
     record {
       has = opened_has t y z g k w is grew filled s g.next j some.inside (omega (arith, is.next_in, grew.longer))
           (omega (arith, few.inside, len, some.size)) (omega (arith, push.place, few.size))
-              (some.keeps s Fail (pushed_is u v Fail s push));
+          (some.keeps s Fail (pushed_is u v Fail s push));
       written = opened_written t y z g k w is grew filled;
       completes = λ new e w' keeps part leads.
           let hole = hole_kept 0 t y g.hole grew.keeps grew.longer is.hole_in in
           let over = written_trans y z new (filled_written y z 0 g.hole k w hole filled) keeps in
           let kept = implements_kept y new over r in
           let over' = written_trans u v new (written u v push'.keeps)
-              (written_trans v y new (written v y some.keeps) over) in
+          (written_trans v y new (written v y some.keeps) over) in
           let kept' = implements_kept u new over' r in
           let rest : Optional new (Implements new r) (b - n) s g.next =
-          rw more (e, j, leads.1, part, optional_kept u new over' (Implements u r)
-              (Implements new r) kept' c j g.next few.implements) in (
+          rw more (
+            e,
+            j,
+            leads.1,
+            part,
+            optional_kept u new over' (Implements u r)
+                (Implements new r) kept' c j g.next few.implements,
+          ) in (
             k,
             (s, chain_kept (Implements y r) (Implements new r) kept n k s some.implements, rest),
             opened_leads t y z g k w is grew filled new w' keeps (leads.0),
@@ -348,7 +362,7 @@ pub finished_leaf : {E : Type 0} (first t v : List State) (g : Gap) (whole r lea
     (o : Result ℕ E)
     → HasGap first t g → Completes t g r whole x → length t + size_of r ≡ length first + size_of whole → r ≡ leaf
     → target_below (length t) s → ((u : List State) (e : ℕ) → slice_get u e ≡ Some s → Implements u leaf e g.next)
-        → size_of leaf ≡ 1
+    → size_of leaf ≡ 1
     → s ≢ Accept → IfOk o (Finished t v g.hole s) → IfOk o (λ w. Added first v whole w x)
 finished_leaf first t v g whole r leaf s x o has c size same below is one other h =
     IfOk-weaker o (Finished t v g.hole s) (λ w. Added first v whole w x) (λ w f.

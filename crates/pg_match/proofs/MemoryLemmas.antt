@@ -94,26 +94,26 @@ same_list mem r start s good from to eqs q = (
 pub grown : (n : ℕ) (old mid new : Remembered) (s : Members) (start : ℕ) (fresh : Bool) → IsShape n old → IsGood s
     → n ≡ length s.marks → start ≡ cut old (old.count + 1)
     → old.count ≢ 256 → s.len ≤ length old.pool - start → Copying old mid s start s.len → new.steps ≡ mid.steps
-        → new.ends ≡ mid.ends → new.pool ≡ mid.pool
+    → new.ends ≡ mid.ends → new.pool ≡ mid.pool
     → new.cuts ≡ set mid.cuts (mid.count + 2) (start + s.len) → new.count ≡ mid.count + 1
     → new.fresh ≡ set mid.fresh (mid.count + 1) fresh → Grown n old new s fresh
 grown n old mid new s start fresh shape good size from other fit copy steps ends pool cuts0 count fresh0 =
     let cuts : new.cuts ≡ set mid.cuts (old.count + 2) (start + s.len) = cuts0
-        ∙ ap (λ v. set mid.cuts (v + 2) (start + s.len)) copy.count in
+    ∙ ap (λ v. set mid.cuts (v + 2) (start + s.len)) copy.count in
     let a : new.count ≡ old.count + 1 = count ∙ ap (λ v. v + 1) copy.count in
     let f = shape.few in
     let z1 = shape.cuts_size in
     let cut_old : (r : ℕ) → r ≤ old.count + 1 → cut new r ≡ cut old r =
     λ r le. ap (λ v. slice_index v r) cuts ∙ get_or-set_other mid.cuts (old.count + 2) r (start + s.len) 0 (omega arith)
-        ∙ ap (λ v. slice_index v r) copy.cuts in
+    ∙ ap (λ v. slice_index v r) copy.cuts in
     let freshes : new.fresh ≡ set mid.fresh (old.count + 1) fresh = fresh0
-        ∙ ap (λ v. set mid.fresh (v + 1) fresh) copy.count in
+    ∙ ap (λ v. set mid.fresh (v + 1) fresh) copy.count in
     let z2 = shape.fresh_size in
     let freshlen : length mid.fresh ≡ 257 = ap length copy.fresh ∙ z2 in
     let midlen : length mid.cuts ≡ 258 = ap length copy.cuts ∙ z1 in
     let cut_new : cut new (old.count + 2) ≡ start + s.len =
     ap (λ v. slice_index v (old.count + 2)) cuts
-        ∙ get_or-set_same mid.cuts (old.count + 2) (start + s.len) 0 (omega arith) in
+    ∙ get_or-set_same mid.cuts (old.count + 2) (start + s.len) 0 (omega arith) in
     let pool_eq : (j : ℕ) → slice_index new.pool j ≡ slice_index mid.pool j = λ j. ap (λ v. slice_index v j) pool in
     let two : old.count + 1 + 1 ≡ old.count + 2 = omega arith in
     let top : cut new (new.count + 1) ≡ start + s.len = ap (λ v. cut new (v + 1)) a ∙ ap (cut new) two ∙ cut_new in
@@ -121,10 +121,20 @@ grown n old mid new s start fresh shape good size from other fit copy steps ends
     let c0 = cut_old r (omega arith) in
     let c1 = cut_old (r + 1) (omega arith) in
     let u = shape.upto (r + 1) (omega arith) in (
-      λ h. (h.0, omega (arith, h.1, c0), omega (arith, h.2, c1), pool_eq h.0 ∙ copy.before h.0 (omega (arith, h.2))
-          ∙ h.3),
-      λ h. (h.0, omega (arith, h.1, c0), omega (arith, h.2, c1), sym (copy.before h.0 (omega (arith, h.2)))
-          ∙ sym (pool_eq h.0) ∙ h.3),
+      λ h. (
+        h.0,
+        omega (arith, h.1, c0),
+        omega (arith, h.2, c1),
+        pool_eq h.0 ∙ copy.before h.0 (omega (arith, h.2))
+            ∙ h.3,
+      ),
+      λ h. (
+        h.0,
+        omega (arith, h.1, c0),
+        omega (arith, h.2, c1),
+        sym (copy.before h.0 (omega (arith, h.2)))
+            ∙ sym (pool_eq h.0) ∙ h.3,
+      ),
     ) in
     let here_from : cut new new.count ≡ start = ap (cut new) a ∙ cut_old (old.count + 1) (omega arith) ∙ sym from in
     let here : Same (Has s) (In new new.count) =
@@ -161,12 +171,12 @@ grown n old mid new s start fresh shape good size from other fit copy steps ends
         sets = keep;
         fresh = λ r le.
             ap (λ v. get_or v r false) freshes ∙ get_or-set_other mid.fresh (old.count + 1) r fresh false (omega arith)
-                ∙ ap (λ v. get_or v r false) copy.fresh;
+            ∙ ap (λ v. get_or v r false) copy.fresh;
         more = omega arith;
       };
       fresh_here =
           ap (fresh_at new) a ∙ ap (λ v. get_or v (old.count + 1) false) freshes
-              ∙ get_or-set_same mid.fresh (old.count + 1) fresh false (omega arith);
+          ∙ get_or-set_same mid.fresh (old.count + 1) fresh false (omega arith);
       steps = steps ∙ copy.steps;
       ends = ends ∙ copy.ends;
       count = a;
@@ -284,9 +294,10 @@ sets_keep old new w =
     record {
       sets = λ r le q.
           let a = c r in
-          let b = c (r + 1) in
-          (λ h. (h.0, omega (arith, h.1), omega (arith, h.2), p h.0 ∙ h.3),
-              λ h. (h.0, omega (arith, h.1), omega (arith, h.2), sym (p h.0) ∙ h.3));
+          let b = c (r + 1) in (
+            λ h. (h.0, omega (arith, h.1), omega (arith, h.2), p h.0 ∙ h.3),
+            λ h. (h.0, omega (arith, h.1), omega (arith, h.2), sym (p h.0) ∙ h.3),
+          );
       fresh = λ r le. ap (λ u. get_or u r false) w.fresh;
       more = omega arith;
     }
@@ -332,7 +343,7 @@ memory_marked m old new r b v is w le lt told =
     λ i ne. ap (λ u. slice_index u i) w.steps ∙ get_or-set_other old.steps (256 * r + b) i v 0 ne in
     moved m old new is
     (sets_shape (length m.states) old new is.shape w.sets (ap length w.steps ∙ length-set old.steps (256 * r + b) v)
-        (ap length w.ends)) k
+    (ap length w.ends)) k
     (λ r' b' le' lt'. elim (cases_eq (256 * r' + b') (256 * r + b)) [
       | inl same ↦
           let er : r ≡ r' = omega arith in
@@ -340,7 +351,7 @@ memory_marked m old new r b v is w le lt told =
           let moved_told = told_moves m old new r b v k le told in
           inr (subst (λ u. Told m new r' b' (slice_index new.steps u)) (sym same)
           (subst (Told m new r' b') (sym here)
-              (subst (λ u. Told m new r' u v) eb (subst (λ u. Told m new u b v) er moved_told))))
+          (subst (λ u. Told m new r' u v) eb (subst (λ u. Told m new u b v) er moved_told))))
       | inr differs ↦ inl (other (256 * r' + b') differs)
     ]) (λ i past. other i (omega arith)) (λ r' answer e. inl (sym (ap (λ u. get_or u r' None) w.ends) ∙ e))
     (λ none some. absurd (omega arith))
@@ -358,7 +369,7 @@ memory_marked_end m old new r answer is w le told =
     ap (λ u. get_or u r None) w.ends ∙ get_or-set_same old.ends r (Some answer) None (omega arith) in
     moved m old new is
     (sets_shape (length m.states) old new is.shape w.sets (ap length w.steps)
-        (ap length w.ends ∙ length-set old.ends r (Some answer))) k
+    (ap length w.ends ∙ length-set old.ends r (Some answer))) k
     (λ r' b' le' lt'. inl (ap (λ u. slice_index u (256 * r' + b')) w.steps))
     (λ i past. ap (λ u. slice_index u i) w.steps)
     (λ r' answer' e. elim (cases_eq r' r) [
@@ -369,7 +380,7 @@ memory_marked_end m old new r answer is w le told =
             omega arith,
             subst (λ u. AnswersEnd m false (In new u) answer') (sym same)
                 (subst (AnswersEnd m false (In new r)) is_so
-                    (answers_same m false (In old r) (In new r) answer (k.sets r le) told)),
+                (answers_same m false (In old r) (In new r) answer (k.sets r le) told)),
           )
       | inr differs ↦ inl (sym (ap (λ u. get_or u r' None) w.ends
           ∙ get_or-set_other old.ends r r' (Some answer) None differs) ∙ e)
@@ -442,7 +453,7 @@ walking_next m mem l from state p u at v b e is_m is lt byte more read big w =
       row = (row_next m mem at v b is w.row lt read big).0;
       stands = λ start le s.
           stands_step m mem l start p u at v b e is_m is w.row lt byte (omega arith) (omega arith) read big
-              (w.stands start le s);
+          (w.stands start le s);
     }
 
 -- the same, as the table and the line are read
@@ -520,7 +531,7 @@ blank_table n mem a b c d f none s l same fits =
 pub blank_again : (n i j : ℕ) (old new : Remembered) → IsShape n old → new.steps ≡ replicate i 0
     → new.ends ≡ replicate j none
     → length new.steps ≡ 65792 → length new.ends ≡ 257 → new.fresh ≡ old.fresh → new.pool ≡ old.pool
-        → new.cuts ≡ old.cuts
+    → new.cuts ≡ old.cuts
     → new.count ≡ 0 → IsBlank n new
 blank_again n i j old new s steps ends a b fresh pool cuts count =
     let upto = s.upto 1 (omega arith) in
@@ -529,7 +540,7 @@ blank_again n i j old new s steps ends a b fresh pool cuts count =
     let zeroth : cut new 0 ≡ cut old 0 = ap (λ v. slice_index v 0) cuts in
     let first : cut new 1 ≡ cut old 1 = ap (λ v. slice_index v 1) cuts in
     blank_table n new a b (omega (arith, s.pool_size)) (ap length cuts ∙ s.cuts_size)
-        (ap length fresh ∙ s.fresh_size) count
+    (ap length fresh ∙ s.fresh_size) count
     (zeros new.steps i steps) (nones new.ends j ends) (zeroth ∙ s.none ∙ sym first) (omega arith)
 
 pub blank_memory : (m : Nfa) (mem : Remembered) → IsBlank (length m.states) mem → IsMemoryOf m mem
@@ -556,7 +567,7 @@ hit_there m b S U s h = ((s 0).1 h.0, h.1)
 pub told_row : (m : Nfa) (old mid : Remembered) (r b k v : ℕ) (s u : Members) → v ≡ 256 * k → 1 ≤ k → k ≤ mid.count
     → r ≤ old.count
     → Keeps old mid → Same (In old r) (Has s) → (HitBefore m b (Has s) → ⊥) → Goes m b (Has s) (Has u)
-        → Same (Has u) (In mid k)
+    → Same (Has u) (In mid k)
     → (fresh_at mid k ≡ true → ReadsNone m b (Has s)) → Told m mid r b v
 told_row m old mid r b k v s u e ge le le_r keeps from missed goes to fresh =
     let back = same_on (Has s) (In old r) (In mid r) (same_back (In old r) (Has s) from) (keeps.sets r le_r) in
@@ -572,7 +583,7 @@ told_row m old mid r b k v s u e ge le le_r keeps from missed goes to fresh =
 
 pub learned_row : (m : Nfa) (old mid new : Remembered) (r b k v : ℕ) (s u : Members) → v ≡ 256 * k → k ≤ mid.count
     → Keeps mid new → Same (In old r) (Has s) → (HitBefore m b (Has s) → ⊥) → Goes m b (Has s) (Has u)
-        → Same (Has u) (In mid k)
+    → Same (Has u) (In mid k)
     → Learned m old new r b u (Row v)
 learned_row m old mid new r b k v s u e le keeps from missed goes to =
     let more = keeps.more in
@@ -606,7 +617,7 @@ told_hit m mem state v b is s lt read one =
 pub ended_so : (m : Nfa) (l : List ℕ) (from : ℕ) (S : ℕ → Type 0) (answer first : Bool) → IsRunnable m
     → Stands m l from (length l) S
     → (IsTrue first → length l ≡ 0) → (length l ≡ 0 → IsTrue first) → AnswersEnd m first S answer
-        → IsTrue answer ↔ HasRun m l from
+    → IsTrue answer ↔ HasRun m l from
 ended_so m l from S true first is s to_empty empty h = (λ t. run_at_end m l first from S s is to_empty h, λ run. refl)
 ended_so m l from S false first is s to_empty empty h =
     (λ t. absurd (true≢false (sym t)), λ run. absurd (no_run m l first from S s empty h run))
@@ -627,7 +638,7 @@ finishes_end m b S U answer is missed goes at_end = λ l from p s byte end le.
 pub finishes_if : (m : Nfa) (mem : Remembered) (b : ℕ) (S : ℕ → Type 0) (k : ℕ) (o : Option Bool) → IsRunnable m
     → IsMemoryOf m mem
     → (HitBefore m b S → ⊥) → Goes m b S (In mem k) × (fresh_at mem k ≡ true → ReadsNone m b S) → o ≡ ended mem k
-        → IfSome o (Finishes m b S)
+    → IfSome o (Finishes m b S)
 finishes_if m mem b S k None is mem_of missed goes e = tt
 finishes_if m mem b S k (Some answer) is mem_of missed goes e =
     finishes_end m b S (In mem k) answer is missed goes.0 (mem_of.told_end k answer (sym e)).1

@@ -92,7 +92,7 @@ module _ (t : List State) (l : List ℕ) where
       elim a.2.0 [
         | inl first ↦
             let run1 : Runs t l n h.0 i j =
-                subst (λ q. Runs t l n q i j) first (subst (λ v. Runs t l n a.0 v j) a.2.1 a.3) in
+            subst (λ q. Runs t l n q i j) first (subst (λ v. Runs t l n a.0 v j) a.2.1 a.3) in
             let b = s h.0 h.1 n i j h.3 run1 in
             let d = optional_sound R M s c h.1 x b.1 b.0 j h.4 b.4 in
             let le : d.1 ≤ suc n = omega (arith, b.2, d.2) in
@@ -100,7 +100,7 @@ module _ (t : List State) (l : List ℕ) where
             (d.0, d.1, le, (suc d.3.0, few, (b.0, b.3, d.3.2)), d.4)
         | inr second ↦
             let run1 : Runs t l n x i j =
-                subst (λ q. Runs t l n q i j) second (subst (λ v. Runs t l n a.0 v j) a.2.1 a.3) in
+            subst (λ q. Runs t l n q i j) second (subst (λ v. Runs t l n a.0 v j) a.2.1 a.3) in
             (i, n, omega arith, (0, omega arith, refl), run1)
       ]
 
@@ -127,7 +127,7 @@ module _ (t : List State) (l : List ℕ) where
       elim a.2.0 [
         | inl first ↦
             let run1 : Runs t l n h.0 i j =
-                subst (λ q. Runs t l n q i j) first (subst (λ v. Runs t l n a.0 v j) a.2.1 a.3) in
+            subst (λ q. Runs t l n q i j) first (subst (λ v. Runs t l n a.0 v j) a.2.1 a.3) in
             let b = s h.0 e n i j h.2 run1 in
             let le1 : b.1 ≤ fuel = omega (arith, b.2) in
             let d = loop_sound R M s fuel b.1 e x b.0 j le1 h b.4 in
@@ -135,7 +135,7 @@ module _ (t : List State) (l : List ℕ) where
             (d.0, d.1, le2, (suc d.3.0, (b.0, b.3, d.3.1)), d.4)
         | inr second ↦
             let run1 : Runs t l n x i j =
-                subst (λ q. Runs t l n q i j) second (subst (λ v. Runs t l n a.0 v j) a.2.1 a.3) in
+            subst (λ q. Runs t l n q i j) second (subst (λ v. Runs t l n a.0 v j) a.2.1 a.3) in
             (i, n, omega arith, (0, refl), run1)
       ]
 
@@ -170,7 +170,7 @@ module _ (t : List State) (l : List ℕ) where
       one_sound (Jump x) (Match Empty l) e x n i j (λ w. cc) (λ r k g. (sym g.1, g.0)) h run
   tree_sound (Set s) proper e x n i j h run =
       one_sound (Read h.0 x) (Match (Set s) l) e x n i j (λ w. cc)
-          (λ r k g. ((g.0, g.1, ap (λ v. v g.0) (sym h.1) ∙ g.2, g.4), g.3)) h.2 run
+      (λ r k g. ((g.0, g.1, ap (λ v. v g.0) (sym h.1) ∙ g.2, g.4), g.3)) h.2 run
   tree_sound Begin proper e x n i j h run =
       one_sound (AtBegin x) (Match Begin l) e x n i j (λ w. cc) (λ r k g. ((g.0, g.2), g.1)) h run
   tree_sound End proper e x n i j h run =
@@ -186,13 +186,13 @@ module _ (t : List State) (l : List ℕ) where
       elim u.2.0 [
         | inl first ↦
             let run1 : Runs t l n h.0 i j =
-                subst (λ s. Runs t l n s i j) first (subst (λ v. Runs t l n u.0 v j) u.2.1 u.3) in
+            subst (λ s. Runs t l n s i j) first (subst (λ v. Runs t l n u.0 v j) u.2.1 u.3) in
             let v = tree_sound a proper.0 h.0 x n i j h.3 run1 in
             let le : v.1 ≤ suc n = omega (arith, v.2) in
             (v.0, v.1, le, inl v.3, v.4)
         | inr second ↦
             let run1 : Runs t l n h.1 i j =
-                subst (λ s. Runs t l n s i j) second (subst (λ v. Runs t l n u.0 v j) u.2.1 u.3) in
+            subst (λ s. Runs t l n s i j) second (subst (λ v. Runs t l n u.0 v j) u.2.1 u.3) in
             let v = tree_sound b proper.1 h.1 x n i j h.4 run1 in
             let le : v.1 ≤ suc n = omega (arith, v.2) in
             (v.0, v.1, le, inr v.3, v.4)
@@ -226,5 +226,5 @@ module _ (t : List State) (l : List ℕ) where
       let parts = chain_split (Match r l) m (s.0 - m) i k (subst (λ c. Chain (Match r l) c i k) (sym split) s.3) in
       let few : AtMost b (m + (s.0 - m)) = subst (λ c. AtMost b c) (sym split) s.2 in
       let v = rest_complete (Implements t r) (Match r l) (tree_complete r) m b
-          (s.0 - m) h.0 x parts.0 k n j few h.2 parts.2 run in
+      (s.0 - m) h.0 x parts.0 k n j few h.2 parts.2 run in
       chain_complete (Implements t r) (Match r l) (tree_complete r) m e h.0 i parts.0 v.0 j h.1 parts.1 v.1

@@ -46,7 +46,7 @@ module _ (t : List State) (l : List ℕ) where
         | inl stays ↦
             let c = closed q h run.0 (subst (λ v. Edge (slice_get t q) l p run.0 v) stays run.2) in
             let again = crosses p limit now next closed step m run.0 j c.0 (omega (arith, c.1))
-                (subst (λ v. Runs t l m run.0 v j) stays run.3) past in
+            (subst (λ v. Runs t l m run.0 v j) stays run.3) past in
             (again.0, again.1, again.2, omega (arith, again.3, c.1), again.4)
         | inr moves ↦
             let g = step.goes q run.0 h early (subst (λ v. Edge (slice_get t q) l p run.0 v) moves run.2) in
@@ -250,14 +250,14 @@ module _ (t : List State) (l : List ℕ) where
             choose false e =
                 let later = leb-false s c.0 e in
                 still_best p (Some c) b (λ v ge less early run. let z =
-                    f.least v ge (omega arith) early run in omega (arith, z.1))
+                f.least v ge (omega arith) early run in omega (arith, z.1))
 
         go : (w : Bool) → nat_lt s p ≡ w → IsBest t l x B E from (p + 1) (cond w (winner p s best) best)
         go true e = win best b f (ltb-true s p e)
         go false e =
             let past = ltb-false s p e in
             still_best p best b (λ v ge less early run. let z =
-                f.least v ge (omega arith) early run in omega (arith, z.1))
+            f.least v ge (omega arith) early run in omega (arith, z.1))
 
     -- a run ends where it is, once matches end at its state
     stays : (m q i j : ℕ) → slice_get t q ≡ Some Accept → Runs t l m q i j → i ≡ j
@@ -361,7 +361,7 @@ pub searched : (m : Nfa) (l : List ℕ) (from p : ℕ) (s u : Buffers) (best : O
     → Alive m.states l m.start (MayBegin m.bounds l) from (p + 1) p s.current best
     → IsBest m.states l m.start (MayBegin m.bounds l) (MayEnd m.bounds l) from (p + 1) best
     → Stepped m.states l p s.current u.current (limit_of best) → HaveRoom u (length m.states)
-        → Searching m l from (p + 1) u best
+    → Searching m l from (p + 1) u best
 searched m l from p s u best short a b step fits = record {
   alive = alive_stepped m.states l m.start (MayBegin m.bounds l) (MayEnd m.bounds l) from p
       (limit_of best) s.current u.current best a step

@@ -20,7 +20,7 @@ module _ (top : ℕ) where
       (times * (p + q) + total) top
   cut_part times total p q =
       let a : min (times * p + min (total + times * min q top) top) top ≡ min
-          ((times * p + total) + times * min q top) top = omega arith in
+      ((times * p + total) + times * min q top) top = omega arith in
       let b = cut_factor (times * p + total) times q in
       let c : (times * p + total) + times * q ≡ times * (p + q) + total = omega arith in
       a ∙ b ∙ ap (λ v. min v top) c
@@ -28,7 +28,7 @@ module _ (top : ℕ) where
   -- copies of copies, with a part more
   pub cut_copies : (times total copies more s : ℕ)
       → min (min (times * copies) top * s + min (total + times * more) top) top ≡ min
-          (times * (copies * s + more) + total) top
+      (times * (copies * s + more) + total) top
   cut_copies times total copies more s =
       let a : min (min (times * copies) top * s + min (total + times * more) top) top
       ≡ min ((total + times * more) + s * min (times * copies) top) top = omega arith in

@@ -27,11 +27,11 @@ no_cross m l p b S is closed none (suc k) q j h run past =
     elim (edge_moves (slice_get m.states q) l p run.0 run.1 run.2) [
       | inl stays ↦
           no_cross m l p b S is closed none k run.0 j
-              (closed q run.0 h (subst (λ v. Edge (slice_get m.states q) l p run.0 v) stays run.2))
+          (closed q run.0 h (subst (λ v. Edge (slice_get m.states q) l p run.0 v) stays run.2))
           (subst (λ v. Runs m.states l k run.0 v j) stays run.3) past
       | inr moves ↦
           none q run.0 h (edge_reads (slice_get m.states q) l p b run.0 is
-              (subst (λ v. Edge (slice_get m.states q) l p run.0 v) moves run.2))
+          (subst (λ v. Edge (slice_get m.states q) l p run.0 v) moves run.2))
     ]
 
 -- where no state reads the byte, nothing that began before it is left
@@ -83,7 +83,7 @@ skim_later m mem l from p is some within e = record {
 module _ (m : Nfa) (mem : Remembered) (l : List ℕ) (from p at start v b : ℕ) (is_m : IsRunnable m)
     (is : IsMemoryOf m mem) (lt : b < 256)
     (byte : slice_get l p ≡ Some b) (more : p + 1 < length l) (read : v ≡ slice_index mem.steps (at + b))
-        (big : 256 ≤ v)
+    (big : 256 ≤ v)
     (s : HasSkimmed m mem l from p at start) where
   told : IsAtRow mem v × (HitBefore m b (In mem (at / 256)) → ⊥) × Goes m b (In mem (at / 256)) (In mem (v / 256))
       × (fresh_at mem (v / 256) ≡ true → ReadsNone m b (In mem (at / 256)))
@@ -130,7 +130,7 @@ skim_read m mem l from p u at start v e is_m is lt more read big s =
 pub skim_read_fresh : (m : Nfa) (mem : Remembered) (l : List ℕ) (from p u at start v : ℕ) (f : Bool) → u ≡ p + 1
     → IsRunnable m → IsMemoryOf m mem
     → get_or l p 0 < 256 → u < length l → v ≡ get_or mem.steps (at + get_or l p 0) v → 256 ≤ v
-        → f ≡ get_or mem.fresh (v / 256) f → f ≡ true
+    → f ≡ get_or mem.fresh (v / 256) f → f ≡ true
     → HasSkimmed m mem l from p at start → HasSkimmed m mem l from u v u
 skim_read_fresh m mem l from p u at start v f e is_m is lt more read big fresh is_fresh s =
     let b = get_or l p 0 in
@@ -140,7 +140,7 @@ skim_read_fresh m mem l from p u at start v f e is_m is lt more read big fresh i
     subst (λ w. HasSkimmed m mem l from w v w) (sym e)
     (skim_fresh m mem l from p at start v b is_m is lt (slice_get-get_or l p 0 s.within) (omega arith)
     (get_or_read mem.steps _ v inside read 0) big s
-        (sym (get_or_read mem.fresh (v / 256) f in_fresh fresh false) ∙ is_fresh))
+    (sym (get_or_read mem.fresh (v / 256) f in_fresh fresh false) ∙ is_fresh))
 
 pub in_fresh : (m : Nfa) (mem : Remembered) (v : ℕ) → IsMemoryOf m mem → IsAtRow mem v → v / 256 < length mem.fresh
 in_fresh m mem v is row = omega (arith, row.known, is.shape.few, is.shape.fresh_size)
@@ -154,7 +154,7 @@ accepted t l (suc n) i j is run = absurd (subst (λ o. Edge o l i run.0 run.1) i
 one_byte : (t : List State) (l : List ℕ) (x i b : ℕ) (seeds : List ℕ) → AreSeeds t x seeds → slice_get l i ≡ Some b
     → i ≢ 0 → i < length l
     → slice_get t 0 ≡ Some Accept → ((k r : ℕ) → k < length seeds → Reads (slice_get t (slice_index seeds k)) b r
-        → r ≡ 0)
+    → r ≡ 0)
     → (n k j : ℕ) → k < length seeds → Runs t l n (slice_index seeds k) i j → i < j → j ≡ i + 1
 one_byte t l x i b seeds are is some lt accept all zero k j inside run past = absurd (omega (arith, run.1))
 one_byte t l x i b seeds are is some lt accept all (suc n) k j inside run past =
@@ -162,14 +162,14 @@ one_byte t l x i b seeds are is some lt accept all (suc n) k j inside run past =
     elim (edge_moves (slice_get t q) l i run.0 run.1 run.2) [
       | inl stays ↦
           let s = are.closed l i some (omega arith) k run.0 inside
-              (subst (λ v. Edge (slice_get t q) l i run.0 v) stays run.2) in
+          (subst (λ v. Edge (slice_get t q) l i run.0 v) stays run.2) in
           one_byte t l x i b seeds are is some lt accept all n s.0 j s.1
           (subst (λ r. Runs t l n r i j) (sym s.2) (subst (λ v. Runs t l n run.0 v j) stays run.3)) past
       | inr moves ↦
           let zero_r = all k run.0 inside
-              (edge_reads (slice_get t q) l i b run.0 is (subst (λ v. Edge (slice_get t q) l i run.0 v) moves run.2)) in
+          (edge_reads (slice_get t q) l i b run.0 is (subst (λ v. Edge (slice_get t q) l i run.0 v) moves run.2)) in
           sym (accepted t l n (i + 1) j accept
-              (subst (λ r. Runs t l n r (i + 1) j) zero_r (subst (λ v. Runs t l n run.0 v j) moves run.3)))
+          (subst (λ r. Runs t l n r (i + 1) j) zero_r (subst (λ v. Runs t l n run.0 v j) moves run.3)))
     ]
 
 -- the byte at a place inside the line is the best span from there on
@@ -192,7 +192,7 @@ best_one m l i b seeds are is_m is some lt begins ends behind =
         λ e.
             let from_i = subst (λ v. Runs m.states l other.2.0 m.start v j) e other.2.1 in
             let end = one_byte m.states l m.start i b seeds are is some lt is_m.accept behind.all other.2.0 first.0 j
-                first.1
+            first.1
             (subst (λ r. Runs m.states l other.2.0 r i j) (sym first.2) from_i) (omega arith) in
             omega arith,
       ),

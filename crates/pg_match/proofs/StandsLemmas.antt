@@ -67,7 +67,7 @@ begun Any l p b is h = refl
 begun Word l p b is (inl h) = absurd (omega arith)
 begun Word l p b is (inr h) =
     ap (λ v. not (is_word_byte v)) (sym (byte_at l p b is))
-        ∙ ap not (ap (λ v. is_word_byte (slice_index l v)) (sym (back p)) ∙ h)
+    ∙ ap not (ap (λ v. is_word_byte (slice_index l v)) (sym (back p)) ∙ h)
 begun Whole l p b is h = absurd (omega arith)
 
 pub may_end : (o : Bounds) (l : List ℕ) (p b : ℕ) → slice_get l p ≡ Some b → IsTrue (ends_before o b) → MayEnd o l p
@@ -103,8 +103,13 @@ ends_at_last o l = ends_last o l (length l) refl
 module _ (m : Nfa) (l : List ℕ) where
   pub stands_first : (S : ℕ → Type 0) → Starts m S → Stands m l 0 0 S
   stands_first S s = record {
-    sound = λ q h. (0, omega arith, omega arith, begins_first m.bounds l,
-        s.comes q h l 0 (λ f. refl) (λ e. absurd (true≢false (sym e))));
+    sound = λ q h. (
+      0,
+      omega arith,
+      omega arith,
+      begins_first m.bounds l,
+      s.comes q h l 0 (λ f. refl) (λ e. absurd (true≢false (sym e))),
+    );
     complete = λ v n j ge le b run past.
         let z : v ≡ 0 = omega arith in (m.start, n, s.seeded, subst (λ w. Runs m.states l n m.start w j) z run);
     closed = λ lt q r h edge.
@@ -120,7 +125,7 @@ module _ (m : Nfa) (l : List ℕ) where
       elim (edge_moves (slice_get m.states q) l p run.0 run.1 run.2) [
         | inl stays ↦
             ends_here p S closed is k run.0
-                (closed q run.0 h (subst (λ v. Edge (slice_get m.states q) l p run.0 v) stays run.2))
+            (closed q run.0 h (subst (λ v. Edge (slice_get m.states q) l p run.0 v) stays run.2))
             (subst (λ v. Runs m.states l k run.0 v p) stays run.3)
         | inr moves ↦ let f = runs_forward m.states l k run.0 run.1 p run.3 in absurd (omega arith)
       ]
@@ -169,7 +174,7 @@ module _ (m : Nfa) (l : List ℕ) where
         elim (edge_moves (slice_get m.states q) l p run.0 run.1 run.2) [
           | inl stays ↦
               crosses k run.0 j (s.closed lt q run.0 h
-                  (subst (λ v. Edge (slice_get m.states q) l p run.0 v) stays run.2))
+              (subst (λ v. Edge (slice_get m.states q) l p run.0 v) stays run.2))
               (subst (λ v. Runs m.states l k run.0 v j) stays run.3) past
           | inr moves ↦ (
             run.0,
@@ -191,7 +196,7 @@ module _ (m : Nfa) (l : List ℕ) where
               a.3,
               λ n j run.
                   let to_y = w.4 l (p + 1) (λ f. absurd (true≢false (sym f)))
-                      (λ f. absurd (true≢false (sym f))) n j run in
+                  (λ f. absurd (true≢false (sym f))) n j run in
                   a.4 (suc to_y.0) j (w.1, p + 1, reads_edge (slice_get m.states w.0) l p b w.1 is w.3, to_y.1),
             )
         | inr w ↦ (
@@ -204,14 +209,17 @@ module _ (m : Nfa) (l : List ℕ) where
       ];
       complete = λ v n j ge le o run past. elim (cases_lt p v) [
         | inl new ↦
-            let z : v ≡ p + 1 = omega arith in
-            (m.start, n, g.seeded (begun m.bounds l p b is (subst (MayBegin m.bounds l) z o)),
-                subst (λ w. Runs m.states l n m.start w j) z run)
+            let z : v ≡ p + 1 = omega arith in (
+              m.start,
+              n,
+              g.seeded (begun m.bounds l p b is (subst (MayBegin m.bounds l) z o)),
+              subst (λ w. Runs m.states l n m.start w j) z run,
+            )
         | inr old ↦ let c = s.complete v n j ge (omega arith) o run (omega arith) in crosses c.1 c.0 j c.2 c.3 past
       ];
       closed = λ more q r h edge.
           g.still q h r (edge_still false false (slice_get m.states q) l (p + 1) r (λ z. absurd (omega arith))
-              (λ z. absurd (omega arith)) edge);
+          (λ z. absurd (omega arith)) edge);
       none = λ i j ge le less run. elim (cases_eq j p) [
         | inl same ↦
             let here = subst (RunsFrom m.states l m.start (MayBegin m.bounds l) (MayEnd m.bounds l) i) same run in
@@ -230,8 +238,8 @@ pub answer_no : (m : Nfa) (first : Bool) (s u : Members) → IsRunnable m → Cl
     → NoHitAtEnd m first (Has s)
 answer_no m first s u is c none l q n h empty run =
     none (ends_here m l (length l) (Has u)
-        (λ p r at edge. c.still p at r (edge_still first true (slice_get m.states p) l (length l) r empty
-        (λ e. refl) edge)) is n q (c.kept q h) run)
+    (λ p r at edge. c.still p at r (edge_still first true (slice_get m.states p) l (length l) r empty
+    (λ e. refl) edge)) is n q (c.kept q h) run)
 
 pub answered_end : (m : Nfa) (first : Bool) (s u : Members) → IsRunnable m → Closed m.states first true s u
     → (mark_0 : ℕ) → mark_0 ≡ mark u 0
@@ -239,7 +247,7 @@ pub answered_end : (m : Nfa) (first : Bool) (s u : Members) → IsRunnable m →
 answered_end m first s u is c zero e = answer_no m first s u is c (λ h. omega arith)
 answered_end m first s u is c (suc k) e =
     subst (λ v. AnswersEnd m first (Has s) (not v)) (sym (ne_eqb (suc k) 0 (omega arith)))
-        (answer_yes m first s u c (omega arith))
+    (answer_yes m first s u c (omega arith))
 
 -- runs are matches
 pub exact_so : (m : Nfa) (patterns : List Pattern) (l : List ℕ) (answer : Bool) → Agrees m patterns → IsTrue m.some
@@ -256,8 +264,14 @@ exact_so m patterns l answer a some exact = (
       matched = a.sound l h.5.2.0 h.0 h.1 h.5.2.1 (inr some);
     },
   ),
-  λ h. exact.1 (h.0, h.1, omega arith, h.2.ordered, h.2.within,
-      (h.2.begins, h.2.ends, (a.complete l h.0 h.1 h.2.matched).1)),
+  λ h. exact.1 (
+    h.0,
+    h.1,
+    omega arith,
+    h.2.ordered,
+    h.2.within,
+    (h.2.begins, h.2.ends, (a.complete l h.0 h.1 h.2.matched).1),
+  ),
 )
 
 pub none_so : (m : Nfa) (patterns : List Pattern) (l : List ℕ) → Agrees m patterns → m.some ≡ false

@@ -22,7 +22,7 @@ pub has_room : (t : Members) (q : ℕ) → IsGood t → q < length t.marks → m
     → (t.len < length t.order) × (count_by is_set (set t.marks q v) ≡ t.len + 1)
 has_room t q good within none v some =
     let e : count_by is_set (set t.marks q v) + one (mark t q) ≡ count_by is_set t.marks + one v =
-        sum_by-set one t.marks q v 0 within in
+    sum_by-set one t.marks q v 0 within in
     let e0 : one (mark t q) ≡ 0 = ap one none in
     let e1 : one v ≡ 1 = one_set v some in
     let sum : count_by is_set (set t.marks q v) ≡ t.len + 1 = omega (arith, good.count) in
@@ -44,7 +44,7 @@ new_inserted t u q start good within some none list starts len =
     let last : listed u t.len ≡ q = ap (λ s. slice_index s t.len) list ∙ get_or-set_same t.order t.len q 0 r.0 in
     let others = λ (p : ℕ) (ne : p ≢ q). ap (λ s. slice_index s p) starts ∙ get_or-set_other t.marks q p start 0 ne in
     let before = λ (k : ℕ) (lt : k < t.len). ap (λ s. slice_index s k) list
-        ∙ get_or-set_other t.order t.len k q 0 (omega arith) in
+    ∙ get_or-set_other t.order t.len k q 0 (omega arith) in
     record {
       good = record {
         room = ap length list ∙ length-set t.order t.len q ∙ good.room ∙ sym (length-set t.marks q start)

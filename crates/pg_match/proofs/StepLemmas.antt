@@ -77,9 +77,10 @@ module _ (t : List State) (f e : Bool) where
     fresh = λ r none h. elim (cases_lt 0 (mark u r)) [
       | inl some ↦
           let g = one.fresh r none some in
-          let n = two.longer in
-          (subst (λ w. Still f e (slice_get t q) w) (sym g.0) to_y,
-              (s.len, omega arith, omega (arith, g.3), two.list s.len (omega (arith, g.3)) ∙ g.2))
+          let n = two.longer in (
+            subst (λ w. Still f e (slice_get t q) w) (sym g.0) to_y,
+            (s.len, omega arith, omega (arith, g.3), two.list s.len (omega (arith, g.3)) ∙ g.2),
+          )
       | inr absent ↦
           let g = two.fresh r (omega arith) h in
           let n = one.longer in
@@ -114,7 +115,7 @@ module _ (t : List State) (f e : Bool) where
       → Inserted u v z 1 → Spread t f e s v q
   split_spread s u v q y z is one two =
       spread_two s u v q y z one two (subst (λ o. On o y) (sym is) (inl refl)) (subst (λ o. On o z) (sym is) (inr refl))
-          (λ r h. subst (λ o. On o r) is h)
+      (λ r h. subst (λ o. On o r) is h)
 
   pub none_spread : (s : Members) (q : ℕ) (st : State) → slice_get t q ≡ Some st → ((r : ℕ) → On (Some st) r → ⊥)
       → IsGood s → Spread t f e s s q
@@ -206,7 +207,7 @@ module _ (t : List State) (b : ℕ) (now : Members) where
   pub aimed_next : (next after : Members) (k : ℕ) (s : ByteSet) (x : ℕ) → Aimed t b now next k → k < now.len
       → IsGood now
       → slice_get t (listed now k) ≡ Some (Read s x) → bytes s b ≡ true → Inserted next after x 1
-          → Aimed t b now after (k + 1)
+      → Aimed t b now after (k + 1)
   aimed_next next after k s x a lt good is is_so ins =
       let to_x : Reads (slice_get t (listed now k)) b x = subst (λ o. Reads o b x) (sym is) (is_so, refl) in
       record {
@@ -221,7 +222,7 @@ module _ (t : List State) (b : ℕ) (now : Members) where
         goes = λ j r less in_list h. elim (cases_eq j k) [
           | inl same ↦
               let e : r ≡ x = (subst (λ o. Reads o b r) is
-                  (subst (λ v. Reads (slice_get t (listed now v)) b r) same h)).1 in
+              (subst (λ v. Reads (slice_get t (listed now v)) b r) same h)).1 in
               subst (λ v. 0 < mark after v) (sym e) ins.here
           | inr other ↦ let w = a.goes j r (omega arith) in_list h in let m = ins.kept r w in omega arith
         ];
@@ -240,7 +241,7 @@ module _ (t : List State) (b : ℕ) (now : Members) where
 module _ (m : Nfa) (b : ℕ) (now : Members) (good : IsGood now) where
   gone : (next seeded after : Members) → Aimed m.states b now next now.len
       → ((r : ℕ) → Has next r → Has seeded r)
-          → ((r : ℕ) → Has seeded r → Has next r ⊎ (IsTrue (begins_after m.bounds b) × (r ≡ m.start)))
+      → ((r : ℕ) → Has seeded r → Has next r ⊎ (IsTrue (begins_after m.bounds b) × (r ≡ m.start)))
       → (IsTrue (begins_after m.bounds b) → Has seeded m.start)
       → Closed m.states false false seeded after → Goes m b (Has now) (Has after)
   gone next seeded after a kept split here c = record {
@@ -260,7 +261,7 @@ module _ (m : Nfa) (b : ℕ) (now : Members) (good : IsGood now) where
   gone_seeded next seeded after a is_so ins c =
       gone next seeded after a (λ r h. let k = ins.kept r h in omega arith)
       (λ r h. elim (cases_lt 0 (mark next r))
-          [ inl old ↦ inl old | inr none ↦ let f = ins.fresh r (omega arith) h in inr (is_so, f.0) ])
+      [ inl old ↦ inl old | inr none ↦ let f = ins.fresh r (omega arith) h in inr (is_so, f.0) ])
       (λ z. ins.here) c
 
   pub gone_plain : (next after : Members) → Aimed m.states b now next now.len → begins_after m.bounds b ≡ false

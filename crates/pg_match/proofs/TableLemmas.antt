@@ -84,7 +84,7 @@ pub pushed_is : (old new : List State) (s : State) (e : ℕ) → Pushed old new 
 pushed_is old new s e p =
     let in' : length old < length (old ++ s ∷ []) = omega (arith, length-append old (s ∷ [])) in
     rw (p.items, p.place) (slice_get-get_or (old ++ s ∷ []) (length old) s in'
-        ∙ ap Some (get_or-append_seam old s [] s))
+    ∙ ap Some (get_or-append_seam old s [] s))
 
 pub pushed_tidy : (old new : List State) (s : State) (e : ℕ) → Pushed old new s e → IsTidy old
     → target_below (length new) s → IsTidy new
@@ -93,8 +93,8 @@ pushed_tidy old new s e p tidy below =
     let le : length old ≤ length new = omega (arith, len) in
     All-same (target_below (length new)) new (old ++ s ∷ []) p.items
     (All-push (target_below (length new)) old s
-        (All-weaker (target_below (length old)) (target_below (length new))
-        (below_more (length old) (length new) le) old tidy) below)
+    (All-weaker (target_below (length old)) (target_below (length new))
+    (below_more (length old) (length new) le) old tidy) below)
 
 pub pushed_plain : (old new : List State) (s : State) (e : ℕ) → Pushed old new s e → s ≢ Accept → NoAccept old new
 pushed_plain old new s e p other q h =
@@ -108,14 +108,14 @@ pushed_plain old new s e p other q h =
           let q_in : q < length old = omega (arith, len) in
           let e1 : get_or new q Accept ≡ Accept = get_or_from_slice_get new q Accept Accept h in
           let e2 : get_or new q Accept ≡ get_or old q Accept = ap (λ t. get_or t q Accept) p.items
-              ∙ get_or_append_left old (s ∷ []) Accept q q_in in
+          ∙ get_or_append_left old (s ∷ []) Accept q q_in in
           slice_get-get_or old q Accept q_in ∙ ap Some (sym e2 ∙ e1)
     ]
 
 -- a pattern of one state
 pub one_added : (old new : List State) (s : State) (r : Pattern) (e x : ℕ) → Pushed old new s e → IsTidy old
     → target_below (length old) s → (slice_get new e ≡ Some s → Implements new r e x) → size_of r ≡ 1 → s ≢ Accept
-        → Added old new r e x
+    → Added old new r e x
 one_added old new s r e x p tidy below is one other =
     let len = pushed_length old new s e p in
     let le : length old ≤ length new = omega (arith, len) in
@@ -167,8 +167,12 @@ copy_added t u v r c e k x copies one =
     let n : c + 1 ≡ suc c = omega arith in
     let w = grown u v r e k one in
     rw n record {
-      implements = (k, one.implements, chain_kept (Implements u r) (Implements v r)
-          (implements_kept u v w r) c k x copies.implements);
+      implements = (
+        k,
+        one.implements,
+        chain_kept (Implements u r) (Implements v r)
+            (implements_kept u v w r) c k x copies.implements,
+      );
       keeps = keeps_trans t u v copies.keeps one.keeps;
       plain = plain_trans t u v copies.plain one.plain;
       tidy = one.tidy;
@@ -184,7 +188,7 @@ option_added t u v w r c e f k x before one push x_in =
     let keeps = pushed_keeps v w (Split f x) e push in
     let keeps2 = keeps_trans u v w one.keeps keeps in
     let below : target_below (length w) (Split f x) =
-        (omega (arith, len, one.inside), omega (arith, len, x_in, before.size, one.size)) in
+    (omega (arith, len, one.inside), omega (arith, len, x_in, before.size, one.size)) in
     rw n record {
       implements = (
         f,
@@ -222,9 +226,11 @@ module _ (t : List State) where
   nothing (Rep r (suc m) (Some n)) proper e x =
       let z : n - suc m ≡ 0 = omega arith in
       let some : 1 ≤ n = omega (arith, proper.1) in
-      let s : size_of r ≡ 0 = no_product n (size_of r) some (omega arith) in
-      (x, rounds_of_nothing (Implements t r) (nothing r proper.0 s) (suc m) x,
-          subst (λ c. Optional t (Implements t r) c x x) (sym z) refl)
+      let s : size_of r ≡ 0 = no_product n (size_of r) some (omega arith) in (
+        x,
+        rounds_of_nothing (Implements t r) (nothing r proper.0 s) (suc m) x,
+        subst (λ c. Optional t (Implements t r) c x x) (sym z) refl,
+      )
     where
       no_product : (n s : ℕ) → 1 ≤ n → n * s ≡ 0 → s ≡ 0
       no_product zero s h e = absurd (omega arith)

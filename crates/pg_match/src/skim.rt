@@ -192,8 +192,9 @@ impl<A: Allocator> Automaton<A> {
         requires runs { IsRunnable (nfa self.now) }
         requires seeds { HasSeeds self.now }
         requires place { place ≤ length line.now }
-        ensures { IsTrue result → IsBest self.now.states.items line.now self.now.start (MayBegin self.now.bounds line.now)
-            (MayEnd self.now.bounds line.now) place (length line.now + 1) (Some (place, place + 1)) }
+        ensures { IsTrue result → IsBest self.now.states.items line.now self.now.start
+            (MayBegin self.now.bounds line.now) (MayEnd self.now.bounds line.now) place (length line.now + 1)
+            (Some (place, place + 1)) }
     {
         if place == 0 || place >= line.len() {
             return false;

@@ -54,19 +54,19 @@ module _ {A : Type 0} (t : Task A) where
   in_works n (s ∷ ss) (p ∷ ps) h l = dite (dec_le 1 (times n s.drawn))
       (λ here. (0, in_results t.query.text t.blocks n s.drawn p.put h.0.2 here))
       (λ not. let a = total-append (λ (y : ℕ). if y == n then 1 else 0) s.drawn
-          (flat_map (λ s. s.drawn) ss) in let q : ¬ (1 ≤ times n s.drawn) = not in
+      (flat_map (λ s. s.drawn) ss) in let q : ¬ (1 ≤ times n s.drawn) = not in
       let r = in_works n ss ps h.1 (omega arith) in (suc r.0, r.1))
 
   pub covers : (n : ℕ) (ss : List SeatView) (ps : List (PutView Searched A)) (upto : ℕ) (whole : List Searched)
       → AreWorks t ss ps
       → times n (flat_map (λ s. s.drawn) ss) ≡ once_below n upto → n < upto → IsMerge (map (λ p. p.put) ps) whole
-          → Has n whole
+      → Has n whole
   covers n ss ps upto whole h drawn low merge =
       let one : once_below n upto ≡ 1 = grind (arith, nat_tests) in
       let w = in_works n ss ps h (omega arith) in
       subst (λ (l : List Searched). Has n l) merge.is_whole
-          (in_given t.query.text t.blocks n w.0 merge.given
-          (subst (λ (l : List Searched). Has n l) (sym (merge.are_lists w.0)) w.1))
+      (in_given t.query.text t.blocks n w.0 merge.given
+      (subst (λ (l : List Searched). Has n l) (sym (merge.are_lists w.0)) w.1))
 
   pub of_board : (ss : List SeatView) (ps : List (PutView Searched A)) → AreWorks t ss ps
       → All (λ (s : SeatView). s.board ≡ t.board) ss

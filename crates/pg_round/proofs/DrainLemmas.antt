@@ -41,9 +41,14 @@ drain_ok stands past (Err f) before after safe t = tt
 
 failed_err : (stands : Past → Type 0) (past : Past) (f : SinkFault) (before after : List ℕ) → past.failed ≡ false
     → IsSafe past (handed past) → Told stands past (Err f) before after → HasFailed past before after
-failed_err stands past WriteFailed before after n safe t =
-    (t.0, (t.1, begins_trans (past.written ++ t.0) (handed past)
-    (output past.query past.format (entries_of (plan past))) t.2.1 safe))
+failed_err stands past WriteFailed before after n safe t = (
+  t.0,
+  (
+    t.1,
+    begins_trans (past.written ++ t.0) (handed past)
+        (output past.query past.format (entries_of (plan past))) t.2.1 safe,
+  ),
+)
 failed_err stands past Failed before after n safe t = let h : true ≡ false = sym t.2.0 ∙ n in absurd (cc)
 
 failed_rose : (stands : Past → Type 0) (past : Past) (f : SinkFault) (before after : List ℕ) (m m' : ℕ)

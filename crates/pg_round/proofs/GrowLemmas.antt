@@ -42,7 +42,7 @@ module _ {A : Type 0} (t : Task A) where
   grown d d' p p' k h =
       subst (λ (l : List ℕ). AreResultsOf t.query.text t.blocks l p') (sym h.2)
       (subst (λ (l : List Searched). AreResultsOf t.query.text t.blocks (d ++ h.0) l) (sym h.3)
-          (results_join t.query.text t.blocks d h.0 p h.1 k h.4))
+      (results_join t.query.text t.blocks d h.0 p h.1 k h.4))
 
   pub works_more : (ss : List SeatView) (ps : List (PutView Searched A)) (s : SeatView) (p : PutView Searched A)
       → AreWorks t ss ps → IsWork t s p → AreWorks t (ss ++ s ∷ []) (ps ++ p ∷ [])

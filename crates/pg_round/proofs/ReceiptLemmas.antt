@@ -56,7 +56,7 @@ join_text before between after t u e f = f ∙ ap (λ (l : List ℕ). l ++ u) e 
 pub received_more : (mid last : Past → Type 0) (past : Past) (rs ts : List Searched) (before between after : List ℕ)
     → HasReceived mid past rs before between
     → ((p : Past) → mid p → p.failed ≡ false → IsSafe p p.written → HasReceived last p ts between after)
-        → past.failed ≡ false → HasReceived last past (rs ++ ts) before after
+    → past.failed ≡ false → HasReceived last past (rs ++ ts) before after
 received_more mid last past rs ts before between after h f n =
     let p = received past rs h.0 in
     let k = f p h.2 n (safe_on past rs h.0 (past.written ++ h.0) h.1.1) in (
@@ -74,8 +74,13 @@ received_none stands past before h s = (
 )
 
 pub failed_none : (past : Past) (before : List ℕ) → IsSafe past past.written → HasFailed past before before
-failed_none past before s = ([], (sym (append-nil before),
-    subst (λ (w : List ℕ). IsSafe past w) (sym (append-nil past.written)) s))
+failed_none past before s = (
+  [],
+  (
+    sym (append-nil before),
+    subst (λ (w : List ℕ). IsSafe past w) (sym (append-nil past.written)) s,
+  ),
+)
 
 -- what was received is safe, also where nothing more comes
 pub failed_after : (stands : Past → Type 0) (past : Past) (rs : List Searched) (before after : List ℕ)
@@ -85,7 +90,7 @@ failed_after stands past rs before after h = (h.0, h.1)
 pub failed_more : (mid : Past → Type 0) (past : Past) (rs : List Searched) (before between after : List ℕ)
     → HasReceived mid past rs before between
     → ((p : Past) → mid p → p.failed ≡ false → IsSafe p p.written → HasFailed p between after) → past.failed ≡ false
-        → HasFailed past before after
+    → HasFailed past before after
 failed_more mid past rs before between after h f n =
     let p = received past rs h.0 in
     let k = f p h.2 n (safe_on past rs h.0 (past.written ++ h.0) h.1.1) in
@@ -94,16 +99,17 @@ failed_more mid past rs before between after h f n =
 pub broken_more : (mid : Past → Type 0) (past : Past) (rs : List Searched) (before between after : List ℕ) (m n m' : ℕ)
     → HasReceived mid past rs before between → n ≡ m
     → ((p : Past) → mid p → p.failed ≡ false → IsSafe p p.written → HasBroken p between after n m')
-        → past.failed ≡ false → HasBroken past before after m m'
+    → past.failed ≡ false → HasBroken past before after m m'
 broken_more mid past rs before between after m n m' h e f none =
-    let k = f (received past rs h.0) h.2 none (safe_on past rs h.0 (past.written ++ h.0) h.1.1) in
-    (failed_more mid past rs before between after h (λ p st no safe. (f p st no safe).0) none,
-        subst (λ (x : ℕ). x < m') e k.1)
+    let k = f (received past rs h.0) h.2 none (safe_on past rs h.0 (past.written ++ h.0) h.1.1) in (
+      failed_more mid past rs before between after h (λ p st no safe. (f p st no safe).0) none,
+      subst (λ (x : ℕ). x < m') e k.1,
+    )
 
 pub written_more : (mid last : Past → Type 0) (past : Past) (rs ts : List Searched) (before between after : List ℕ)
     → HasReceived mid past rs before between
     → ((p : Past) → mid p → p.failed ≡ false → IsSafe p p.written → HasWritten last p ts between after)
-        → past.failed ≡ false → HasWritten last past (rs ++ ts) before after
+    → past.failed ≡ false → HasWritten last past (rs ++ ts) before after
 written_more mid last past rs ts before between after h f n =
     let p = received past rs h.0 in
     let k = f p h.2 n (safe_on past rs h.0 (past.written ++ h.0) h.1.1) in (
@@ -145,26 +151,31 @@ handing_none stands past first before h s = ([], sym (append-nil first), receive
 pub handing_more : (mid last : Past → Type 0) (past : Past) (first out new : List Searched) (r : Searched)
     (before between after : List ℕ) → Handing mid past first out before between → new ≡ out ++ r ∷ []
     → ((p : Past) → mid p → p.failed ≡ false → IsSafe p p.written → HasReceived last p (r ∷ []) between after)
-        → past.failed ≡ false → Handing last past first new before after
-handing_more mid last past first out new r before between after h e f n =
-    (h.0 ++ r ∷ [], e ∙ ap (λ (l : List Searched). l ++ r ∷ []) h.1
-        ∙ append_assoc first h.0 (r ∷ []), received_more mid last past h.0 (r ∷ []) before between after h.2 f n)
+    → past.failed ≡ false → Handing last past first new before after
+handing_more mid last past first out new r before between after h e f n = (
+  h.0 ++ r ∷ [],
+  e ∙ ap (λ (l : List Searched). l ++ r ∷ []) h.1
+      ∙ append_assoc first h.0 (r ∷ []),
+  received_more mid last past h.0 (r ∷ []) before between after h.2 f n,
+)
 
 -- the last drain
 pub delivered_all : (mid last : Past → Type 0) (past : Past) (lists : List (List Searched)) (first out : List Searched)
     (before between after : List ℕ) → Handing mid past first out before between → IsMerge lists out
     → ((p : Past) → mid p → p.failed ≡ false → IsSafe p p.written → HasWritten last p [] between after)
-        → past.failed ≡ false → HasDelivered last past lists first before after
+    → past.failed ≡ false → HasDelivered last past lists first before after
 delivered_all mid last past lists first out before between after h m f n =
-    let w = written_more mid last past h.0 [] before between after h.2 f n in
-    (h.0, subst (λ (l : List Searched). IsMerge lists l) h.1 m,
-        subst (λ (l : List Searched). HasWritten last past l before after) (append-nil h.0) w)
+    let w = written_more mid last past h.0 [] before between after h.2 f n in (
+      h.0,
+      subst (λ (l : List Searched). IsMerge lists l) h.1 m,
+      subst (λ (l : List Searched). HasWritten last past l before after) (append-nil h.0) w,
+    )
 
 pub delivered_done : (mid last : Past → Type 0) (past : Past) (lists : List (List Searched)) (first out : List Searched)
     (result : Result (Unit {0}) SinkFault) (before between after : List ℕ) → Handing mid past first out before between
     → IsMerge lists out
     → ((p : Past) → mid p → p.failed ≡ false → IsSafe p p.written → OnOk result (HasWritten last p [] between after))
-        → past.failed ≡ false → OnOk result (HasDelivered last past lists first before after)
+    → past.failed ≡ false → OnOk result (HasDelivered last past lists first before after)
 delivered_done mid last past lists first out (Ok u) before between after h m f n =
     delivered_all mid last past lists first out before between after h m f n
 delivered_done mid last past lists first out (Err e) before between after h m f n = tt
@@ -172,7 +183,7 @@ delivered_done mid last past lists first out (Err e) before between after h m f 
 pub broken_done : (mid : Past → Type 0) (past : Past) (rs : List Searched) (result : Result (Unit {0}) SinkFault)
     (before between after : List ℕ) (m n m' : ℕ) → HasReceived mid past rs before between → n ≡ m
     → ((p : Past) → mid p → p.failed ≡ false → IsSafe p p.written → OnErr result (HasBroken p between after n m'))
-        → past.failed ≡ false → OnErr result (HasBroken past before after m m')
+    → past.failed ≡ false → OnErr result (HasBroken past before after m m')
 broken_done mid past rs (Ok u) before between after m n m' h e f none = tt
 broken_done mid past rs (Err x) before between after m n m' h e f none =
     broken_more mid past rs before between after m n m' h e f none
@@ -180,7 +191,7 @@ broken_done mid past rs (Err x) before between after m n m' h e f none =
 pub took_ok : (result : Result (Unit {0}) SinkFault) (u : Unit {0}) (stands last : Past → Type 0) (rs : List Searched)
     (before after : List ℕ) (m m' : ℕ) → TookIn result stands last rs before after m m' → result ≡ Ok u
     → (past : Past) → stands past → past.failed ≡ false → IsSafe past past.written
-        → HasReceived last past rs before after
+    → HasReceived last past rs before after
 unfolding TookIn
 took_ok result u stands last rs before after m m' h e past st n s =
     subst (λ (r : Result (Unit {0}) SinkFault). OnOk r (HasReceived last past rs before after)) e (h past st n s).0
@@ -198,7 +209,7 @@ pub round_done : {A : Type 0} (mid last : Past → Type 0) (past : Past) (text :
     (before between after : List ℕ)
     → ((all : List Searched) → IsMerge lists all → HasAll text blocks all) → HasReceived mid past rs before between
     → ((p : Past) → mid p → p.failed ≡ false → IsSafe p p.written → HasDelivered last p lists rs between after)
-        → past.failed ≡ false → HasRound last past text blocks before after
+    → past.failed ≡ false → HasRound last past text blocks before after
 round_done mid last past text blocks lists rs before between after all h f n =
     let d = f (received past rs h.0) h.2 n (safe_on past rs h.0 (past.written ++ h.0) h.1.1) in
     let k = d.2 in (

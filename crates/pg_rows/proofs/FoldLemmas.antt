@@ -22,7 +22,7 @@ trail_more q format ls [] t h = let P : List (List ℕ)
 trail_more q format ls (m ∷ ms) t h =
     let P : List (List ℕ) → Type 0 = λ xs. IsTrail q format xs (run q format t (m ∷ ms)) in
     subst P (append_assoc ls (m ∷ []) ms)
-        (trail_more q format (ls ++ m ∷ []) ms (step format t (selects q m) m) (trail_step q format ls m t h))
+    (trail_more q format (ls ++ m ∷ []) ms (step format t (selects q m) m) (trail_step q format ls m t h))
 
 pub trail_is : (q : Search) (format : Format) (ls : List (List ℕ)) → IsTrail q format ls (trail_of q format ls)
 trail_is q format ls = trail_more q format [] ls no_lines (no_trail q format)
@@ -43,8 +43,10 @@ rows_more q format name earlier ls (m ∷ ms) t h =
 -- what is written for some lines is a beginning of what is written for more
 pub rows_begin : (q : Search) (format : Format) (name : List ℕ) (earlier : Bool) (ls ms : List (List ℕ))
     → IsBeginning (line_rows q format name ls earlier) (line_rows q format name (ls ++ ms) earlier)
-rows_begin q format name earlier ls ms = (run_rows q format name earlier (trail_of q format ls) ms,
-    sym (rows_more q format name earlier ls ms (trail_of q format ls) (trail_is q format ls)))
+rows_begin q format name earlier ls ms = (
+  run_rows q format name earlier (trail_of q format ls) ms,
+  sym (rows_more q format name earlier ls ms (trail_of q format ls) (trail_is q format ls)),
+)
 
 pub count_by_trail : (q : Search) (format : Format) (name : List ℕ) (ls : List (List ℕ)) (t : Trail)
     → IsTrail q format ls t → count_row q format name ls ≡ when format.names
@@ -127,9 +129,9 @@ step_some q format name earlier ls m t h = go (keeps format t (selects q m)) (na
         let own = row format end name (t.number + 1) 58 m in
         let front = context_rows format end name ((t.number + 1) - length t.window) t.window in
         let inner : something (front ++ own) ≡ true = some_append front own
-            ∙ or_right (something front) (something own) (some_row format end name (t.number + 1) 58 m) in
+        ∙ or_right (something front) (something own) (some_row format end name (t.number + 1) 58 m) in
         sym (ap (λ b. b || t.some) (some_append (gap_row format end earlier t) (front ++ own)
-            ∙ or_right (something (gap_row format end earlier t)) (something (front ++ own)) inner))
+        ∙ or_right (something (gap_row format end earlier t)) (something (front ++ own)) inner))
     go false true e =
         let pos : 0 < t.countdown = ltb-true 0 t.countdown e in
         let some : t.some ≡ true = h.some ∙ lt-ltb 0 h.done (h.near.flush pos).1 in
@@ -157,4 +159,4 @@ rows_append q format name earlier t (l ∷ ls) ms =
     let next = step format t (selects q l) l in
     ap (λ xs. one ++ xs) (rows_append q format name earlier next ls ms)
     ∙ sym (append_assoc one (run_rows q format name earlier next ls)
-        (run_rows q format name earlier (run q format next ls) ms))
+    (run_rows q format name earlier (run q format next ls) ms))

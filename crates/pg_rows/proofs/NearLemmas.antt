@@ -21,7 +21,7 @@ pub any_more : (f : ℕ → Bool) (a n : ℕ) →
     list_any f (range_with_len a (suc n)) ≡ (list_any f (range_with_len a n) || f (a + n))
 any_more f a n =
     ap (list_any f) (range_more a n) ∙ (list_any-append f (range_with_len a n) ((a + n) ∷ [])
-        ∙ ap (λ t. list_any f (range_with_len a n) || t) (or_false (f (a + n))))
+    ∙ ap (λ t. list_any f (range_with_len a n) || t) (or_false (f (a + n))))
 
 pub any_same : (f g : ℕ → Bool) (a n : ℕ) → ((j : ℕ) → a ≤ j → j < a + n → f j ≡ g j)
     → list_any f (range_with_len a n) ≡ list_any g (range_with_len a n)
@@ -42,7 +42,7 @@ near_more kept kept' B A n i same =
     ∙ (ap (λ k. list_any (λ j. kept' j && is_at B A j i) (range_with_len 0 n) || (kept' k && is_at B A k i)) z
     ∙ ap (λ t. t || (kept' n && is_at B A n i))
     (any_same (λ j. kept' j && is_at B A j i) (λ j. kept j && is_at B A j i) 0 n
-        (λ j low high. ap (λ t. t && is_at B A j i) (same j (omega arith)))))
+    (λ j low high. ap (λ t. t && is_at B A j i) (same j (omega arith)))))
 
 -- n places, of which those from d on aren't near a kept one; the next cd places are
 pub record IsNear (B A : ℕ) (kept : ℕ → Bool) (n d cd : ℕ) : Type 0 where

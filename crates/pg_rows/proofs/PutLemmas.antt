@@ -26,7 +26,7 @@ put_same set set' emit emit' a (suc n) h =
     put_first set emit a n
     ∙ (ap (λ xs. xs ++ put set emit (a + 1) n) (h a (omega arith) (omega arith))
     ∙ (ap (λ xs. cond (set' a) (emit' a) [] ++ xs)
-        (put_same set set' emit emit' (a + 1) n (λ i low high. h i (omega arith) (omega arith)))
+    (put_same set set' emit emit' (a + 1) n (λ i low high. h i (omega arith) (omega arith)))
     ∙ sym (put_first set' emit' a n)))
 
 pub put_none : (set : ℕ → Bool) (emit : ℕ → List ℕ) (a n : ℕ) → ((i : ℕ) → a ≤ i → i < a + n → set i ≡ false)
@@ -60,7 +60,7 @@ put_split set emit a (suc n) m =
     ap (put set emit a) e
     ∙ (put_first set emit a (n + m)
     ∙ (ap (λ xs. cond (set a) (emit a) [] ++ xs)
-        (put_split set emit (a + 1) n m ∙ ap (λ b. put set emit (a + 1) n ++ put set emit b m) f)
+    (put_split set emit (a + 1) n m ∙ ap (λ b. put set emit (a + 1) n ++ put set emit b m) f)
     ∙ (sym (append_assoc (cond (set a) (emit a) []) (put set emit (a + 1) n) (put set emit (a + suc n) m))
     ∙ ap (λ xs. xs ++ put set emit (a + suc n) m) (sym (put_first set emit a n)))))
 
@@ -72,6 +72,6 @@ pub separator_same : (format : Format) (end : ℕ) (set set' : ℕ → Bool) (ea
     → ((k : ℕ) → k < i → set k ≡ set' k) → separator format end set earlier i ≡ separator format end set' earlier i
 separator_same format end set set' earlier i h =
     ap (λ t. when (has_context format && not t && (earlier || list_any set (range_with_len 0 i))) (45 ∷ 45 ∷ end ∷ []))
-        (behind_same set set' i h)
+    (behind_same set set' i h)
     ∙ ap (λ t. when (has_context format && not (is_behind set' i) && (earlier || t)) (45 ∷ 45 ∷ end ∷ []))
-        (any_same set set' 0 i (λ k low high. h k (omega arith)))
+    (any_same set set' 0 i (λ k low high. h k (omega arith)))

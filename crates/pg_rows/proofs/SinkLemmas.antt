@@ -44,7 +44,7 @@ pub takes_more : (text start before after : List ℕ) (at count : ℕ) → befor
 takes_more text start before after at count b a =
     a ∙ (ap (λ xs. before ++ take count xs) (take_rest text at) ∙ (ap (λ xs. xs ++ take count (drop at text)) b
     ∙ (append_assoc start (take at text) (take count (drop at text))
-        ∙ ap (λ xs. start ++ xs) (sym (take-add at count text)))))
+    ∙ ap (λ xs. start ++ xs) (sym (take-add at count text)))))
 
 -- a part of a beginning is a part of the whole
 pub takes_longer : (text whole before after : List ℕ) → TakesPart text before after → IsBeginning text whole
@@ -61,9 +61,12 @@ takes_of_map f xs k d before middle after below m t =
     let later = flat_map f (drop (k + 1) xs) in
     let whole : flat_map f xs ≡ front ++ (f (get_or xs k d) ++ later) =
     ap (flat_map f) (sym (take-append-drop k xs))
-        ∙ (flat_map-append f (take k xs) (drop k xs) ∙ ap (λ ys. front ++ flat_map f ys) (drop_more xs k d below)) in (
+    ∙ (flat_map-append f (take k xs) (drop k xs) ∙ ap (λ ys. front ++ flat_map f ys) (drop_more xs k d below)) in (
       front ++ t.0,
-      (t.1.0 ++ later, append_assoc front t.0 (t.1.0 ++ later)
-          ∙ (ap (λ ys. front ++ ys) (sym (append_assoc t.0 t.1.0 later) ∙ ap (λ ys. ys ++ later) t.1.1) ∙ sym whole)),
+      (
+        t.1.0 ++ later,
+        append_assoc front t.0 (t.1.0 ++ later)
+            ∙ (ap (λ ys. front ++ ys) (sym (append_assoc t.0 t.1.0 later) ∙ ap (λ ys. ys ++ later) t.1.1) ∙ sym whole),
+      ),
       t.2 ∙ (ap (λ ys. ys ++ t.0) m ∙ append_assoc before front t.0),
     )

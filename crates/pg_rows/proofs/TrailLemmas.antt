@@ -90,7 +90,7 @@ filter_same : (p p' : ℕ → Bool) (a n : ℕ) → ((i : ℕ) → a ≤ i → i
 filter_same p p' a zero h = refl
 filter_same p p' a (suc n) h =
     ap (λ t. cond t (a ∷ filter p (range_with_len (a + 1) n)) (filter p (range_with_len (a + 1) n)))
-        (h a (omega arith) (omega arith))
+    (h a (omega arith) (omega arith))
     ∙ ap (λ xs. cond (p' a) (a ∷ xs) xs) (filter_same p p' (a + 1) n (λ i low high. h i (omega arith) (omega arith)))
 
 one_or_none : (t : Bool) (x : ℕ) → length (cond t (x ∷ []) []) ≡ cond t 1 0
@@ -105,7 +105,7 @@ put_last set emit n =
     ap (put set emit 0) e
     ∙ (put_split set emit 0 n 1
     ∙ ap (λ xs. put set emit 0 n ++ xs) (ap (λ a. put set emit a 1) z
-        ∙ (put_first set emit n 0 ∙ append-nil (cond (set n) (emit n) []))))
+    ∙ (put_first set emit n 0 ∙ append-nil (cond (set n) (emit n) []))))
 
 keep_more : {X : Type 0} (B n d : ℕ) (ls : List X) (l : X) → length ls ≡ n → d ≤ n
     → keep_last B (drop (window_at B n d) ls ++ l ∷ []) ≡ drop (window_at B (suc n) d) (ls ++ l ∷ [])
@@ -125,7 +125,7 @@ rows_are format end name r k [] h = refl
 rows_are format end name r k (w ∷ ws) h =
     let z : k + 0 ≡ k = omega arith in
     let first : r k ≡ row format end name (k + 1) 45 w = ap r (sym z)
-        ∙ (h 0 (omega arith) ∙ ap (λ m. row format end name (m + 1) 45 w) z) in
+    ∙ (h 0 (omega arith) ∙ ap (λ m. row format end name (m + 1) 45 w) z) in
     ap (λ xs. xs ++ flat_map r (range_with_len (k + 1) (length ws))) first
     ∙ ap (λ xs. row format end name (k + 1) 45 w ++ xs) (rows_are format end name r (k + 1) ws (λ i below.
     let e : (k + 1) + i ≡ k + suc i = omega arith in
@@ -187,7 +187,7 @@ module _ (q : Search) (format : Format) (ls : List (List ℕ)) (l : List ℕ) (t
   kept_same i below =
       ap (λ x. selects q x && is_below (count_by (selects q) (take i more)) format.limit) (line_same i below)
       ∙ ap (λ xs. selects q (line_at ls i) && is_below (count_by (selects q) xs) format.limit)
-          (take-append-le i ls (l ∷ []) (omega arith))
+      (take-append-le i ls (l ∷ []) (omega arith))
 
   kept_count : kept' n ≡ (selects q l && is_below (count_by (selects q) ls) format.limit)
   kept_count =
@@ -206,7 +206,7 @@ module _ (q : Search) (format : Format) (ls : List (List ℕ)) (l : List ℕ) (t
       ∙ (ap (λ xs. length xs) (filter-append kept' (range_with_len 0 n) ((0 + n) ∷ []))
       ∙ (length-append (filter kept' (range_with_len 0 n)) (filter kept' ((0 + n) ∷ []))
       ∙ (ap (λ xs. length xs + length (filter kept' ((0 + n) ∷ [])))
-          (filter_same kept' kept 0 n (λ i low high. kept_same i (omega arith)))
+      (filter_same kept' kept 0 n (λ i low high. kept_same i (omega arith)))
       ∙ (ap (λ m. m + length (filter kept' ((0 + n) ∷ []))) (sym h.count)
       ∙ ap (λ m. t.kept + m) (one_or_none (kept' (0 + n)) (0 + n) ∙ ap (λ b. cond b 1 0) (ap kept' z ∙ kept_new)))))))
 
@@ -214,10 +214,10 @@ module _ (q : Search) (format : Format) (ls : List (List ℕ)) (l : List ℕ) (t
   quota_more =
       let P : ℕ → Type 0 = λ k. Quota format.limit k (count_by (selects q) more) in
       let R : ℕ → Type 0 = λ c. Quota format.limit
-          (t.kept + cond (selects q l && is_below (count_by (selects q) ls) format.limit) 1 0) c in
+      (t.kept + cond (selects q l && is_below (count_by (selects q) ls) format.limit) 1 0) c in
       subst P (ap (λ b. t.kept + cond b 1 0) (sym kept_count ∙ kept_new))
       (subst R (sym (sum_by_push (λ x. cond (selects q x) 1 0) ls l))
-          (quota_step format.limit t.kept (count_by (selects q) ls) (selects q l) h.quota))
+      (quota_step format.limit t.kept (count_by (selects q) ls) (selects q l) h.quota))
 
   abbrev Near : ℕ → ℕ → ℕ → Type 0
   Near m d cd = IsNear (before_of format) (after_of format) kept' m d cd
@@ -250,7 +250,7 @@ module _ (q : Search) (format : Format) (ls : List (List ℕ)) (l : List ℕ) (t
   trail_context e some =
       let P : ℕ → Type 0 = λ m. Near m m (t.countdown - 1) in
       let none : t.kept + cond (keeps format t (selects q l)) 1 0 ≡ t.kept = let z : t.kept + 0 ≡ t.kept =
-          omega arith in ap (λ b. t.kept + cond b 1 0) e ∙ z in
+      omega arith in ap (λ b. t.kept + cond b 1 0) e ∙ z in
       let W : ℕ → Type 0 = λ k. Quota format.limit k (count_by (selects q) more) in
       let at : window_at (before_of format) (length more) (length more) ≡ length more = omega arith in
       let f = h.near.flush some in
@@ -284,11 +284,11 @@ module _ (q : Search) (format : Format) (ls : List (List ℕ)) (l : List ℕ) (t
       let low = h.near.low in
       let w = window_length in
       skips t.skipped (nat_le (before_of format) (length t.window))
-          (λ b. b ≡ nat_lt (before_of format) (length more - h.done))
+      (λ b. b ≡ nat_lt (before_of format) (length more - h.done))
       (λ e. let gap = ltb-true (before_of format) (n - h.done) (sym h.skipped ∙ e) in sym
-          (lt-ltb (before_of format) (length more - h.done) (omega (arith, long))))
+      (lt-ltb (before_of format) (length more - h.done) (omega (arith, long))))
       (λ e. let gap = ltb-false (before_of format) (n - h.done) (sym h.skipped ∙ e) in elim
-          (cases_lt (length t.window) (before_of format)) [
+      (cases_lt (length t.window) (before_of format)) [
         | inl lt ↦ lt-leb (before_of format) (length t.window) lt
             ∙ sym (le-ltb (before_of format) (length more - h.done) (omega (arith, long)))
         | inr ge ↦ le-leb (before_of format) (length t.window) ge
@@ -300,7 +300,7 @@ module _ (q : Search) (format : Format) (ls : List (List ℕ)) (l : List ℕ) (t
       let P : ℕ → Type 0 = λ m. Near m h.done 0 in
       let Q : ℕ → Type 0 = λ c. Near (length more) h.done c in
       let none : t.kept + cond (keeps format t (selects q l)) 1 0 ≡ t.kept = let z : t.kept + 0 ≡ t.kept =
-          omega arith in ap (λ b. t.kept + cond b 1 0) e ∙ z in
+      omega arith in ap (λ b. t.kept + cond b 1 0) e ∙ z in
       let W : ℕ → Type 0 = λ k. Quota format.limit k (count_by (selects q) more) in
       record {
         number = number_more;
@@ -334,7 +334,7 @@ module _ (q : Search) (format : Format) (ls : List (List ℕ)) (l : List ℕ) (t
         (omega arith) (omega arith)
         (ap (λ b. b && (nat_le i (i + before_of format) && nat_le i (i + after_of format))) yes_kept
         ∙ (ap (λ b. b && nat_le i (i + after_of format)) (le-leb i (i + before_of format) (omega arith))
-            ∙ le-leb i (i + after_of format) (omega arith)))))
+        ∙ le-leb i (i + after_of format) (omega arith)))))
     | inr none ↦ none
   ]
 
@@ -347,7 +347,7 @@ module _ (q : Search) (format : Format) (ls : List (List ℕ)) (l : List ℕ) (t
       ∙ (ap (λ xs. xs ++ cond (kept' n) (given more n) [])
       (put_same kept' kept (given more) (given ls) 0 n (λ i _ high.
       ap (λ b. cond b (given more i) []) (kept_same i (omega arith))
-          ∙ ap (λ x. cond (kept i) (pieces_in q format name (i + 1) x) []) (line_same i (omega arith))))
+      ∙ ap (λ x. cond (kept i) (pieces_in q format name (i + 1) x) []) (line_same i (omega arith))))
       ∙ ap (λ xs. put kept (given ls) 0 n ++ xs)
       (ap (λ b. cond b (given more n) []) kept_new
       ∙ (ap (λ x. cond (keeps format t (selects q l)) (pieces_in q format name (n + 1) x) []) line_new
@@ -385,7 +385,7 @@ module _ (q : Search) (format : Format) (ls : List (List ℕ)) (l : List ℕ) (t
     old_part : (d : ℕ) → d ≤ n → ((i : ℕ) → i < d → set' i ≡ set i) → put set' emit' 0 d ≡ put set emit 0 d
     old_part d low s = put_same set' set emit' emit 0 d (λ i _ high.
         ap (λ b. cond b (emit' i) []) (s i (omega arith))
-            ∙ ap (λ xs. cond (set i) xs []) (emit_same i (omega arith) (λ k less. s k (omega arith))))
+        ∙ ap (λ xs. cond (set i) xs []) (emit_same i (omega arith) (λ k less. s k (omega arith))))
 
     -- the rows so far end below `done`
     old_rows : put set emit 0 n ≡ put set emit 0 h.done
@@ -395,7 +395,7 @@ module _ (q : Search) (format : Format) (ls : List (List ℕ)) (l : List ℕ) (t
         ap (put set emit 0) e
         ∙ (put_split set emit 0 h.done (n - h.done)
         ∙ (ap (λ xs. put set emit 0 h.done ++ xs)
-            (put_none set emit (0 + h.done) (n - h.done) (λ i from to. h.near.none i (omega arith) (omega arith)))
+        (put_none set emit (0 + h.done) (n - h.done) (λ i from to. h.near.none i (omega arith) (omega arith)))
         ∙ append-nil (put set emit 0 h.done)))
 
     rows_other : kept' n ≡ false → t.countdown ≡ 0 → put set' emit' 0 (suc n) ≡ put set emit 0 n
@@ -411,7 +411,7 @@ module _ (q : Search) (format : Format) (ls : List (List ℕ)) (l : List ℕ) (t
         let k : (i - 1) + 1 ≡ i = omega arith in
         let b : is_behind set' i ≡ true = behind_at set' (i - 1) i k ∙ s (i - 1) k in
         ap (λ u. when (has_context format && not u && (earlier || list_any set' (range_with_len 0 i)))
-            (45 ∷ 45 ∷ end ∷ []) ++ bare i) b
+        (45 ∷ 45 ∷ end ∷ []) ++ bare i) b
         ∙ drop_when (has_context format) (earlier || list_any set' (range_with_len 0 i))
       where
         drop_when : (c x : Bool) → when (c && false && x) (45 ∷ 45 ∷ end ∷ []) ++ bare i ≡ bare i
@@ -446,7 +446,7 @@ module _ (q : Search) (format : Format) (ls : List (List ℕ)) (l : List ℕ) (t
     out_of_window e i low high =
         let d = h.near.low in
         new_above kept kept' (before_of format) (after_of format) n h.done t.countdown kept_same h.near e i low
-            (omega arith)
+        (omega arith)
         ∙ lt-leb n (i + before_of format) (omega arith)
 
     in_window : kept' n ≡ true → (i : ℕ) → at ≤ i → i < suc n → set' i ≡ true
@@ -454,7 +454,7 @@ module _ (q : Search) (format : Format) (ls : List (List ℕ)) (l : List ℕ) (t
       | inl lt ↦
           let d = h.near.low in
           new_above kept kept' (before_of format) (after_of format) n h.done t.countdown kept_same h.near e i
-              (omega arith) lt
+          (omega arith) lt
           ∙ le-leb n (i + before_of format) (omega arith)
       | inr ge ↦
           let s : n ≡ i = omega arith in
@@ -470,10 +470,10 @@ module _ (q : Search) (format : Format) (ls : List (List ℕ)) (l : List ℕ) (t
         let tail : List ℕ = 45 ∷ 45 ∷ end ∷ [] in
         let b = at_low in
         ap (λ c. when c tail) (separator_is (has_context format) earlier (is_behind set' at)
-            (list_any set' (range_with_len 0 at)) t.some t.skipped (elim (cases_lt 0 h.done) [
+        (list_any set' (range_with_len 0 at)) t.some t.skipped (elim (cases_lt 0 h.done) [
           | inl pos ↦
               let lastly : set' (h.done - 1) ≡ true = below_done e (h.done - 1) (omega arith)
-                  ∙ h.near.last (h.done - 1) (omega arith) in
+              ∙ h.near.last (h.done - 1) (omega arith) in
               inl (
                 h.some ∙ lt-ltb 0 h.done pos,
                 some_in_range set' 0 at (h.done - 1) (omega arith) (omega arith) lastly,
@@ -507,9 +507,9 @@ module _ (q : Search) (format : Format) (ls : List (List ℕ)) (l : List ℕ) (t
         let inside : at + i < n = omega arith in
         bare_old (at + i) inside
         ∙ (ap (λ b. row format end name ((at + i) + 1) (mark_of b) (line_at ls (at + i)))
-            (unkept (at + i) inside (h.near.none (at + i) (omega arith) inside))
+        (unkept (at + i) inside (h.near.none (at + i) (omega arith) inside))
         ∙ ap (λ x. row format end name ((at + i) + 1) 45 x)
-            (sym (ap (λ xs. get_or xs i []) h.window ∙ get_or-drop at ls i []))))
+        (sym (ap (λ xs. get_or xs i []) h.window ∙ get_or-drop at ls i []))))
         ∙ ap (λ m. context_rows format end name m t.window) k
 
     new_part : kept' n ≡ true → put set' emit' at (suc n - at) ≡ kept_rows format end name earlier t l
@@ -523,18 +523,20 @@ module _ (q : Search) (format : Format) (ls : List (List ℕ)) (l : List ℕ) (t
         ∙ (put_first set' emit' at m
         ∙ (ap (λ b. cond b (emit' at) [] ++ put set' emit' (at + 1) m) (in_window e at (omega arith) (omega arith))
         ∙ (ap (λ xs. emit' at ++ xs) (put_all set' emit' bare (at + 1) m
-            (λ i low high. (in_window e i (omega arith) (omega arith),
-            no_separator i (omega arith) (λ k f. in_window e k (omega arith) (omega arith)))))
+        (λ i low high. (
+          in_window e i (omega arith) (omega arith),
+          no_separator i (omega arith) (λ k f. in_window e k (omega arith) (omega arith)),
+        )))
         ∙ (append_assoc (separator format end set' earlier at) (bare at) (flat_map bare (range_with_len (at + 1) m))
         ∙ (ap (λ xs. xs ++ flat_map bare (range_with_len at (suc m))) (first_separator e)
         ∙ ap (λ xs. gap_row format end earlier t ++ xs)
         (ap (flat_map bare) (range_more at m)
         ∙ (flat_map-append bare (range_with_len at m) ((at + m) ∷ [])
         ∙ (ap (λ xs. flat_map bare (range_with_len at m) ++ xs)
-            (append-nil (bare (at + m)) ∙
-            (ap bare last ∙ (ap (λ b. row format end name (n + 1) (mark_of b) (line_at more n)) e
-            ∙ (ap (λ x. row format end name (n + 1) 58 x) line_new
-            ∙ ap (λ k. row format end name (k + 1) 58 l) (sym h.number)))))
+        (append-nil (bare (at + m)) ∙
+        (ap bare last ∙ (ap (λ b. row format end name (n + 1) (mark_of b) (line_at more n)) e
+        ∙ (ap (λ x. row format end name (n + 1) 58 x) line_new
+        ∙ ap (λ k. row format end name (k + 1) 58 l) (sym h.number)))))
         ∙ ap (λ xs. xs ++ row format end name (t.number + 1) 58 l) window_rows))))))))
 
     rows_kept : kept' n ≡ true → put set' emit' 0 (suc n) ≡ put set emit 0 n ++ kept_rows format end name earlier t l
@@ -546,13 +548,13 @@ module _ (q : Search) (format : Format) (ls : List (List ℕ)) (l : List ℕ) (t
         ap (put set' emit' 0) whole
         ∙ (put_split set' emit' 0 at (suc n - at)
         ∙ (ap (λ xs. put set' emit' 0 at ++ xs)
-            (let z : 0 + at ≡ at = omega arith in ap (λ k. put set' emit' k (suc n - at)) z ∙ new_part e)
+        (let z : 0 + at ≡ at = omega arith in ap (λ k. put set' emit' k (suc n - at)) z ∙ new_part e)
         ∙ ap (λ xs. xs ++ kept_rows format end name earlier t l)
         (ap (put set' emit' 0) front
         ∙ (put_split set' emit' 0 h.done (at - h.done)
         ∙ (ap (λ xs. put set' emit' 0 h.done ++ xs)
-            (put_none set' emit' (0 + h.done) (at - h.done)
-            (λ i from to. out_of_window e i (omega arith) (omega arith)))
+        (put_none set' emit' (0 + h.done) (at - h.done)
+        (λ i from to. out_of_window e i (omega arith) (omega arith)))
         ∙ (append-nil (put set' emit' 0 h.done)
         ∙ (old_part h.done h.near.low (below_done e) ∙ sym old_rows)))))))
 

@@ -22,14 +22,18 @@ IsBelow p b = (b.file + 1 ≤ opened p) × (b.file + 1 ≡ opened p → b.number
 below_opened : (name : List ℕ) (p : List Step) (bs : List BlockData) → AllByRecursion (IsBelow p) bs
     → AllByRecursion (IsBelow (Opens name ∷ p)) bs
 below_opened name p [] h = tt
-below_opened name p (b ∷ bs) h = ((omega (arith, h.0.0), λ e. absurd (omega (arith, h.0.0))),
-    below_opened name p bs h.1)
+below_opened name p (b ∷ bs) h = (
+  (omega (arith, h.0.0), λ e. absurd (omega (arith, h.0.0))),
+  below_opened name p bs h.1,
+)
 
 below_announced : (c : BlockData) (p : List Step) (bs : List BlockData) → AllByRecursion (IsBelow p) bs
     → AllByRecursion (IsBelow (Announces c ∷ p)) bs
 below_announced c p [] h = tt
-below_announced c p (b ∷ bs) h = ((h.0.0, λ e. let n = h.0.1 e in omega (arith, length_push (last_blocks p) c)),
-    below_announced c p bs h.1)
+below_announced c p (b ∷ bs) h = (
+  (h.0.0, λ e. let n = h.0.1 e in omega (arith, length_push (last_blocks p) c)),
+  below_announced c p bs h.1,
+)
 
 below_push : (p : List Step) (bs : List BlockData) (c : BlockData) → AllByRecursion (IsBelow p) bs → IsBelow p c
     → AllByRecursion (IsBelow p) (bs ++ c ∷ [])
@@ -59,10 +63,10 @@ find_last : (p : List Step) (bs : List BlockData) (c : BlockData) → AllByRecur
     → find (is_block c.file c.number) (bs ++ c ∷ []) ≡ Some c
 find_last p [] c h file number =
     ap (λ t. cond (t && (c.number == c.number)) (Some c) None) (eq-eqb c.file c.file refl)
-        ∙ ap (λ t. cond t (Some c) None) (eq-eqb c.number c.number refl)
+    ∙ ap (λ t. cond t (Some c) None) (eq-eqb c.number c.number refl)
 find_last p (b ∷ bs) c h file number =
     ap (λ t. cond t (Some b) (find (is_block c.file c.number) (bs ++ c ∷ []))) (other_key p b c h.0 file number)
-        ∙ find_last p bs c h.1 file number
+    ∙ find_last p bs c h.1 file number
 
 by_test : (t : Bool) (one other rest : Option BlockData) → (other ≡ one → rest ≡ one) → (x : BlockData)
     → cond t (Some x) other ≡ one → cond t (Some x) rest ≡ one
@@ -87,7 +91,7 @@ found end (Announces c ∷ p) h k b below e = elim (cases_lt k (length (announce
   | inr high ↦
       let at : k ≡ length (announced p) = omega (arith, length_push (announced p) c) in
       let same : c ≡ b = sym (get_or_at (announced p) c [] b (length (announced p)) refl)
-          ∙ (ap (λ n. get_or (announced p ++ c ∷ []) n b) (sym at) ∙ e) in
+      ∙ (ap (λ n. get_or (announced p ++ c ∷ []) n b) (sym at) ∙ e) in
       let P : BlockData → Type 0 = λ x. find (is_block x.file x.number) (announced p ++ c ∷ []) ≡ Some x in
       subst P same (find_last p (announced p) c (all_below end p h.1) h.0.file h.0.number)
 ]

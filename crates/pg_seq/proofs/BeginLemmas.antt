@@ -15,8 +15,8 @@ begins_trans xs ys zs a b = (a.0 ++ b.0, sym (append_assoc xs a.0 b.0) ∙ (ap (
 front_by : (q : Search) (format : Format) (room : HasRoom format) (t : Bool) (taken : List (ℕ × ℕ)) (s : Step)
     (p : List Step) → IsShaped (terminator q) (s ∷ p)
     → IsBeginning (output q format (entries_of (front taken p))) (output q format (entries_of p))
-        → IsBeginning (output q format (entries_of (cond t (s ∷ p) (front taken p))))
-        (output q format (entries_of (s ∷ p)))
+    → IsBeginning (output q format (entries_of (cond t (s ∷ p) (front taken p))))
+    (output q format (entries_of (s ∷ p)))
 front_by q format room true taken s p h ih = ([], append-nil (output q format (entries_of (s ∷ p))))
 front_by q format room false taken s p h ih = begins_trans _ _ _ ih (plan_begins q format room p (s ∷ []) h)
 
@@ -34,7 +34,7 @@ unfolding handed_after front_after
 handed_begins past room h entries b =
     let P : List Entry → Type 0 = λ es. IsBeginning (handed past) (output past.query past.format es) in
     subst P b.3 (begins_trans _ _ _ (front_begins past.query past.format room (taken_of past.query past.events)
-        (plan past) h) (plan_begins past.query past.format room (plan past) b.0 b.1))
+    (plan past) h) (plan_begins past.query past.format room (plan past) b.0 b.1))
 
 pub shape_of : (end : ℕ) (p : List Step) → IsPlan end p → IsShaped end p
 shape_of end [] h = tt

@@ -132,8 +132,8 @@ module _ (q : Search) (format : Format) (limited : is_below 0 format.limit ≡ t
         let closed = closed_joined end (last_blocks p) lawful.0.seam in
         let seam : lines end (f.bytes ++ b.bytes) ≡ lines end f.bytes ++ lines end b.bytes =
         ap (λ xs. lines end (xs ++ b.bytes)) f.same
-            ∙ (lines-append end (joined (last_blocks p)) b.bytes closed
-            ∙ ap (λ xs. lines end xs ++ lines end b.bytes) (sym f.same)) in
+        ∙ (lines-append end (joined (last_blocks p)) b.bytes closed
+        ∙ ap (λ xs. lines end xs ++ lines end b.bytes) (sym f.same)) in
         let before = output q format f.rest in
         let earlier = something before in
         let old = rows_in format.mode (line_part c.name (lines end f.bytes) earlier) [] [] in
@@ -142,12 +142,12 @@ module _ (q : Search) (format : Format) (limited : is_below 0 format.limit ≡ t
         (file_running c.name (f.bytes ++ b.bytes) earlier
         ∙ (ap (λ ls. rows_in format.mode (line_part c.name ls earlier) [] []) seam
         ∙ rows_split format.mode (line_part c.name (lines end f.bytes ++ lines end b.bytes) earlier)
-            (line_part c.name (lines end f.bytes) earlier) (block_rows q format c b.bytes)
-            (λ rows. part_more c (lines end f.bytes) (lines end b.bytes) earlier f.trail
-            (λ whole. f.earlier (rows, whole)))))
+        (line_part c.name (lines end f.bytes) earlier) (block_rows q format c b.bytes)
+        (λ rows. part_more c (lines end f.bytes) (lines end b.bytes) earlier f.trail
+        (λ whole. f.earlier (rows, whole)))))
         ∙ (sym (append_assoc before old (rows_in format.mode (block_rows q format c b.bytes) [] []))
         ∙ ap (λ xs. xs ++ rows_in format.mode (block_rows q format c b.bytes) [] [])
-            (sym (ap (output q format) f.entries ∙ ap (λ xs. before ++ xs) (file_running c.name f.bytes earlier)))))
+        (sym (ap (output q format) f.entries ∙ ap (λ xs. before ++ xs) (file_running c.name f.bytes earlier)))))
 
     -- the rows at a file's end
     end_rows : (failed : Bool) → is_open p ≡ true
@@ -164,14 +164,14 @@ module _ (q : Search) (format : Format) (limited : is_below 0 format.limit ≡ t
         ∙ (ap (λ xs. before ++ xs)
         (file_ended c.name f.bytes earlier
         ∙ (end_split format.mode (line_part c.name ls earlier) (count_row q format c.name ls)
-            (name_row q format c.name ls)
+        (name_row q format c.name ls)
         ∙ (ap (λ xs. old ++ rows_in format.mode [] xs (name_row q format c.name ls))
-            (count_by_trail q format c.name ls c.trail f.trail)
+        (count_by_trail q format c.name ls c.trail f.trail)
         ∙ ap (λ xs. old ++ rows_in format.mode [] (counted format c) xs)
-            (name_by_trail q format c.name ls c.trail limited f.trail))))
+        (name_by_trail q format c.name ls c.trail limited f.trail))))
         ∙ (sym (append_assoc before old (step_rows q format c (Ends failed)))
         ∙ ap (λ xs. xs ++ step_rows q format c (Ends failed))
-            (sym (ap (output q format) f.entries ∙ ap (λ xs. before ++ xs) (file_running c.name f.bytes earlier))))))
+        (sym (ap (output q format) f.entries ∙ ap (λ xs. before ++ xs) (file_running c.name f.bytes earlier))))))
 
     pub output_step : (s : Step) → IsShaped end (s ∷ p)
         → output q format (entries_of (s ∷ p)) ≡ output q format (entries_of p) ++ step_rows q format c s
@@ -204,21 +204,21 @@ module _ (q : Search) (format : Format) (limited : is_below 0 format.limit ≡ t
         let closed = closed_joined end (last_blocks p) lawful.0.seam in
         let seam : lines end (f.bytes ++ b.bytes) ≡ lines end f.bytes ++ lines end b.bytes =
         ap (λ xs. lines end (xs ++ b.bytes)) f.same
-            ∙ (lines-append end (joined (last_blocks p)) b.bytes closed
-            ∙ ap (λ xs. lines end xs ++ lines end b.bytes) (sym f.same)) in
+        ∙ (lines-append end (joined (last_blocks p)) b.bytes closed
+        ∙ ap (λ xs. lines end xs ++ lines end b.bytes) (sym f.same)) in
         let P : List (List ℕ) → Type 0 = λ ls. IsTrail q format ls (run q format c.trail (lines end b.bytes)) in
         let rows = run_rows q format c.name c.earlier c.trail (lines end b.bytes) in
         record {
           wrote = λ plain.
               ap (λ x. c.earlier || x) (run_some q format c.name c.earlier (lines end f.bytes)
-                  (lines end b.bytes) c.trail f.trail)
+              (lines end b.bytes) c.trail f.trail)
               ∙ (turn c.earlier (something rows) c.trail.some
               ∙ (ap (λ x. x || something rows) (h.wrote plain)
               ∙ (sym (some_append (output q format (entries_of p)) rows)
               ∙ ap something (ap (λ xs. output q format (entries_of p) ++ xs)
-                  (sym (ap (λ m. rows_in m (block_rows q format c b.bytes) [] []) plain.0
-                  ∙ ap (λ t. cond t (run_pieces q format c.name c.trail (lines end b.bytes)) rows) plain.1))
-                  ∙ sym (announce_rows b lawful)))));
+              (sym (ap (λ m. rows_in m (block_rows q format c b.bytes) [] []) plain.0
+              ∙ ap (λ t. cond t (run_pieces q format c.name c.trail (lines end b.bytes)) rows) plain.1))
+              ∙ sym (announce_rows b lawful)))));
           file = λ _. record {
             bytes = f.bytes ++ b.bytes;
             rest = f.rest;
@@ -262,7 +262,9 @@ module _ (q : Search) (format : Format) (limited : is_below 0 format.limit ≡ t
   plan_begins p [] lawful = ([], append-nil (output q format (entries_of p)))
   plan_begins p (s ∷ more) lawful =
       let r = plan_begins p more lawful.1 in
-      let rows = step_rows q format (cursor_of q format (more ++ p)) s in
-      (r.0 ++ rows, sym (append_assoc (output q format (entries_of p)) r.0 rows)
-          ∙ (ap (λ xs. xs ++ rows) r.1 ∙ sym
-          (output_step (more ++ p) (cursor_of q format (more ++ p)) (cursor_is (more ++ p) lawful.1) s lawful)))
+      let rows = step_rows q format (cursor_of q format (more ++ p)) s in (
+        r.0 ++ rows,
+        sym (append_assoc (output q format (entries_of p)) r.0 rows)
+            ∙ (ap (λ xs. xs ++ rows) r.1 ∙ sym
+            (output_step (more ++ p) (cursor_of q format (more ++ p)) (cursor_is (more ++ p) lawful.1) s lawful)),
+      )

@@ -37,7 +37,7 @@ module _ (syntax : Syntax) (fold : Bool) where
   stepped s s' t rest p e (step {s' = s2} f c) =
       let g = sym f ∙ e in
       subst (λ x. Completes syntax fold x rest p) (ap (state_or s) g)
-          (subst (λ x. Completes syntax fold s2 x p) (ap (rest_or t) g) c)
+      (subst (λ x. Completes syntax fold s2 x p) (ap (rest_or t) g) c)
 
   pub stuck : (s : State) (t : List ℕ) (p : Pattern) → next syntax fold s t ≡ None → t ≢ []
       → Completes syntax fold s t p → ⊥

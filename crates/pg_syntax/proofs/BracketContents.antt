@@ -21,7 +21,7 @@ two : (text : List ℕ) (at : ℕ) → at + 1 < length text
 two text at h =
     let e : at + 1 + 1 ≡ at + 2 = omega arith in
     next text at (omega arith) ∙ ap (λ t. get_or text at 0 ∷ t)
-        (next text (at + 1) h ∙ ap (λ k. get_or text (at + 1) 0 ∷ drop k text) e)
+    (next text (at + 1) h ∙ ap (λ k. get_or text (at + 1) 0 ∷ drop k text) e)
 
 pub until_later : (mark : ℕ) (text : List ℕ) (at : ℕ) → at + 1 < length text
     → (eqb (get_or text at 0) mark && eqb (get_or text (at + 1) 0) 93) ≡ false
@@ -29,10 +29,10 @@ pub until_later : (mark : ℕ) (text : List ℕ) (at : ℕ) → at + 1 < length 
 until_later mark text at h e =
     ap (until mark) (two text at h)
     ∙ (ap (λ b. cond b (Some ([], drop (at + 2) text))
-        (with_byte (get_or text at 0) (until mark (get_or text (at + 1) 0 ∷ drop (at + 2) text)))) e
+    (with_byte (get_or text at 0) (until mark (get_or text (at + 1) 0 ∷ drop (at + 2) text)))) e
     ∙ ap (λ t. with_byte (get_or text at 0) (until mark t))
-        (sym (next text (at + 1) h ∙ ap (λ k. get_or text (at + 1) 0 ∷ drop k text)
-        (let e : at + 1 + 1 ≡ at + 2 = omega arith in e))))
+    (sym (next text (at + 1) h ∙ ap (λ k. get_or text (at + 1) 0 ∷ drop k text)
+    (let e : at + 1 + 1 ≡ at + 2 = omega arith in e))))
 
 short : (mark : ℕ) (t : List ℕ) → length t ≤ 1 → until mark t ≡ None
 short mark [] h = refl

@@ -105,7 +105,7 @@ inside_again (B.single {first = first} {b = b} {t = t} x y h) (suc n) rest l =
 inside_again (B.enclosed {first = first} {c = c} {content = content} {t = t} x y h) (suc n) rest l =
     chosen_true _ _ _ _ x
     (ap (λ o. option_and_then (λ (e, r). with_element e (inside_at n false r)) (enclosed_in c o))
-        (ap (until c) (append_assoc content (c ∷ 93 ∷ t) rest) ∙ until_again c content (t ++ rest) (class_only c x) y) ∙
+    (ap (until c) (append_assoc content (c ∷ 93 ∷ t) rest) ∙ until_again c content (t ++ rest) (class_only c x) y) ∙
     ap (with_element (Enclosed c content)) (inside_again h n rest (omega (arith, length-append content (c ∷ 93 ∷ t)))))
 
 abbrev elements_or : List Element → Elements → List Element
@@ -257,11 +257,11 @@ members_take (suc k) (a ∷ es) s l e = go es (ranges es) refl (omega arith) e (
     go (d ∷ []) true r l e ih = absurd (false≢true r)
     go (d ∷ b ∷ es) true r l e ih =
         let (x, y, ax, ey, u) = unite_is (range_of (end_point a) (end_point b)) (members_of Ranged es) s
-            (sym (chosen_true _ _ _ _ r refl) ∙ e) in
+        (sym (chosen_true _ _ _ _ r refl) ∙ e) in
         let (m, n, am, bn, le, w) = range_is (end_point a) (end_point b) x ax in
         let stop = ranged_stops es y ey in
         subst (Members (a ∷ d ∷ b ∷ es)) (ap (λ z. union z y) w ∙ u)
-            (B.range r am bn le stop (ih es y (omega arith) (sym (ranged_is es stop) ∙ ey)))
+        (B.range r am bn le stop (ih es y (omega arith) (sym (ranged_is es stop) ∙ ey)))
 
 pub bracket_again : (fold : Bool) (t : List ℕ) (s : Bytes) (rest : List ℕ) → IsBracket fold t s
     → bracket fold (t ++ rest) ≡ Some (s, rest)
@@ -274,10 +274,10 @@ bracket_again fold t s rest (B.plain {t = u} {es = es} {s = set} n i m) = plain 
     plain (c ∷ v) n i f =
         chosen_false _ _ _ _ n
         (ap (set_of fold same) (inside_again i (length (v ++ rest) + 1) rest (omega (arith, length-append v rest)))
-            ∙ rw (members_again m) refl)
+        ∙ rw (members_again m) refl)
 bracket_again fold t s rest (B.negated {t = u} {es = es} {s = set} i m) =
     ap (set_of fold complement) (inside_again i (length (u ++ rest)) rest (omega (arith, length-append u rest)))
-        ∙ rw (members_again m) refl
+    ∙ rw (members_again m) refl
 
 pub bracket_front : (fold : Bool) (t : List ℕ) (s : Bytes) → IsBracket fold t s → (u : List ℕ) × (t ≡ 91 ∷ u)
 bracket_front fold t s (B.plain {t = u} n i m) = (u, refl)
@@ -310,9 +310,15 @@ set_taken fold f n t s rest e = go (inside_at n true t) refl e
         → members_of Fresh es ≡ o → option_and_then (with_rest r) o ≡ Some (s, rest) → Result
     found es r g None m h = absurd (differ h)
     found es r g (Some x) m h =
-        let (w, tw, i) = inside_takes n true t es r g in
-        (w, es, x, tw ∙ ap (λ y. w ++ y) (ap left_or h), i, members_take (length es) es x (omega arith) m,
-            ap bytes_or h)
+        let (w, tw, i) = inside_takes n true t es r g in (
+          w,
+          es,
+          x,
+          tw ∙ ap (λ y. w ++ y) (ap left_or h),
+          i,
+          members_take (length es) es x (omega arith) m,
+          ap bytes_or h,
+        )
 
     go : (o : Elements) → inside_at n true t ≡ o → set_of fold f o ≡ Some (s, rest) → Result
     go None g h = absurd (differ h)
@@ -327,13 +333,18 @@ bracket_takes fold [] s rest e = absurd (differ e)
     differ e = cc
 bracket_takes fold (c ∷ t) s rest e = elim (chosen (eqb c 94) _ _ _ e) [
   | inl h ↦ (
-      let (w, es, set, tw, i, m, f) = set_taken fold complement (length t) t s rest h.1 in
-      (91 ∷ 94 ∷ w, rw (eqb-true c 94 h.0) (ap (λ y. 91 ∷ 94 ∷ y) tw),
-          subst (IsBracket fold (91 ∷ 94 ∷ w)) f (B.negated i m)))
+      let (w, es, set, tw, i, m, f) = set_taken fold complement (length t) t s rest h.1 in (
+        91 ∷ 94 ∷ w,
+        rw (eqb-true c 94 h.0) (ap (λ y. 91 ∷ 94 ∷ y) tw),
+        subst (IsBracket fold (91 ∷ 94 ∷ w)) f (B.negated i m),
+      ))
   | inr h ↦ (
-      let (w, es, set, tw, i, m, f) = set_taken fold same (length t + 1) (c ∷ t) s rest h.1 in
-      (91 ∷ w, ap (λ y. 91 ∷ y) tw, subst (IsBracket fold (91 ∷ w)) f
-          (B.plain (no_caret w tw (inside_some i) h.0) i m)))
+      let (w, es, set, tw, i, m, f) = set_taken fold same (length t + 1) (c ∷ t) s rest h.1 in (
+        91 ∷ w,
+        ap (λ y. 91 ∷ y) tw,
+        subst (IsBracket fold (91 ∷ w)) f
+            (B.plain (no_caret w tw (inside_some i) h.0) i m),
+      ))
 ]
   where
     no_caret : (w : List ℕ) → c ∷ t ≡ w ++ rest → (b : ℕ) × (u : List ℕ) × (w ≡ b ∷ u) → eqb c 94 ≡ false

@@ -77,6 +77,6 @@ left_close whole text r first at h c x =
     let p = pred_of x.steps (let l = x.enough in omega arith) in
     x.reads
     ∙ (ap (rest_of r) (ap (λ k. inside_at k first (drop at text)) p.1
-        ∙ (ap (inside_at (suc p.0) first) (next text at h)
-        ∙ inside_close p.0 first (get_or text at 0) (drop (at + 1) text) c))
+    ∙ (ap (inside_at (suc p.0) first) (next text at h)
+    ∙ inside_close p.0 first (get_or text at 0) (drop (at + 1) text) c))
     ∙ ap (option_and_then (λ s. Some (s, drop (at + 1) text))) (finish_is r))

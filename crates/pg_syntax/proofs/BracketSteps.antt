@@ -60,7 +60,7 @@ put_mode r Fresh a es = refl
 put_mode r (Held a) d es =
     over r.bad r.set (is_dash d) (members_of (Dashed a d) es) (unite (member a) (members_of (Held d) es))
     ∙ choose (λ x. read x es) (is_dash d) (go r (Dashed a d)) (add r (member a) (Held d)) _ _ refl
-        (added r.bad r.set (member a) (members_of (Held d) es) r (Held d) es refl refl refl)
+    (added r.bad r.set (member a) (members_of (Held d) es) r (Held d) es refl refl refl)
 put_mode r (Dashed a d) b es = added r.bad r.set (range_of (end_point a) (end_point b))
     (members_of Ranged es) r Ranged es refl refl refl
 put_mode r Ranged d es =
@@ -93,9 +93,9 @@ finish_mode r (Held a) = added r.bad r.set (member a) (Some empty) r Fresh [] re
 finish_mode r (Dashed a d) =
     let s = add r (member a) Fresh in
     let step : reads r.bad r.set (unite (member a) (unite (member d) (Some empty))) ≡ reads s.bad s.set
-        (unite (member d) (Some empty)) = two r.bad r.set (member a) (unite (member d) (Some empty)) r refl refl in
+    (unite (member d) (Some empty)) = two r.bad r.set (member a) (unite (member d) (Some empty)) r refl refl in
     step ∙ (added s.bad s.set (member d) (Some empty) s Fresh [] refl refl refl
-        ∙ (mode_add s (member d) Fresh [] ∙ whole (add s (member d) Fresh).bad (add s (member d) Fresh).set))
+    ∙ (mode_add s (member d) Fresh [] ∙ whole (add s (member d) Fresh).bad (add s (member d) Fresh).set))
   where
     two : (bad : Bool) (s : Bytes) (o rest : Option Bytes) (r : Reading) → r.bad ≡ bad → r.set ≡ s
         → reads bad s (unite o rest) ≡ reads (add r o Fresh).bad (add r o Fresh).set rest
@@ -121,7 +121,7 @@ pub ranged : (low high : ℕ) (a b : Option ℕ) (s : Bytes) → Some low ≡ a 
 ranged low high a b s e f h g =
     let t : leb low high ≡ true = grind (arith, nat_tests) in
     ap Some g ∙ (sym (ap (λ x. cond x (Some (between low high)) None) t)
-        ∙ (ap (λ x. range_of x (Some high)) e ∙ ap (range_of a) f))
+    ∙ (ap (λ x. range_of x (Some high)) e ∙ ap (range_of a) f))
 
 skip : {A : Type 0} (b : Bool) (x y : A) → b ≡ false → cond b x y ≡ y
 skip b x y h = ap (λ c. cond c x y) h

@@ -37,10 +37,10 @@ unfolding bracket
 by_rest fold [] = sym (ap (λ o. shaped_by false fold (rest_of unread o)) (nothing 0 true))
 by_rest fold (c ∷ t) =
     ap (λ x. cond (eqb c 94) x (set_of fold same (inside_at (length t + 1) true (c ∷ t))))
-        (turned fold (inside_at (length t) true t))
+    (turned fold (inside_at (length t) true t))
     ∙ ap (λ x. cond (eqb c 94) (shaped_by true fold (rest_of unread (inside_at (length t) true t))) x)
     (plain fold (inside_at (length t + 1) true (c ∷ t))
-        ∙ ap (λ n. shaped_by false fold (rest_of unread (inside_at n true (c ∷ t)))) (add-one (length t)))
+    ∙ ap (λ n. shaped_by false fold (rest_of unread (inside_at n true (c ∷ t)))) (add-one (length t)))
 
 pub whole_is : (fold : Bool) (text : List ℕ) (at : ℕ) (turn : Bool) (start : ℕ) → drop at text ≡ 91 ∷ drop (at + 1) text
     → turn ≡ negates (drop (at + 1) text) → start ≡ cond turn (at + 2) (at + 1)
@@ -61,9 +61,9 @@ whole_is fold text at turn start s n e = ap (bracket fold) s
         let k : at + 1 + 1 ≡ start = let g : start ≡ at + 2 = f in omega arith in
         let d : drop 1 (drop (at + 1) text) ≡ drop start text = drop-drop 1 (at + 1) text ∙ ap (λ n. drop n text) k in
         ap (λ t. shaped_by true fold (rest_of unread (inside_at (length t) true t))) d
-            ∙ ap (λ k. shaped_by true fold (rest_of unread (inside_at k true (drop start text))))
-            (length-drop start text)
+        ∙ ap (λ k. shaped_by true fold (rest_of unread (inside_at k true (drop start text))))
+        (length-drop start text)
     go false f =
         ap (λ k. shaped_by false fold (rest_of unread (inside_at (length (drop k text)) true (drop k text)))) (sym f)
-            ∙ ap (λ k. shaped_by false fold (rest_of unread (inside_at k true (drop start text))))
-            (length-drop start text)
+        ∙ ap (λ k. shaped_by false fold (rest_of unread (inside_at k true (drop start text))))
+        (length-drop start text)

@@ -102,7 +102,7 @@ byte_token Basic fold s before after rest b at beyond o =
     let e2 = h2.0 in
     let e3 = h3.0 in
     let e4 : (eqb b 42 && is_some s.level.item) ≡ false =
-        and_false _ _ (λ e. ap is_some (at.free (o.3 (eqb-true b 42 e)))) in
+    and_false _ _ (λ e. ap is_some (at.free (o.3 (eqb-true b 42 e)))) in
     let e5 : (eqb b 94 && is_none (last s.level)) ≡ false = and_false _ _ (λ e. at.inside (o.1 (eqb-true b 94 e))) in
     let e6 : (eqb b 36 && ends rest) ≡ false = and_false _ _ (λ e. beyond.more (o.2 (eqb-true b 36 e))) in
     rw (e1, e2, e3, e4, e5, e6) refl
@@ -119,7 +119,7 @@ byte_token Extended fold s before after rest b at beyond o =
     let h10 = not_or (eqb b 36) _ h9.1 in
     let h11 = not_or (eqb b 124) _ h10.1 in
     let close : (eqb b 41 && grouped s.outer) ≡ false =
-        and_false _ _ (λ e. not_grouped s.outer (o.1 (eqb-true b 41 e))) in
+    and_false _ _ (λ e. not_grouped s.outer (o.1 (eqb-true b 41 e))) in
     rw (h1.0, h2.0, h3.0, h5.0, h6.0, h7.0, h8.0, h4.0, close, h11.0, h9.0, h10.0) refl
 
 dot_token : (syntax : Syntax) (fold : Bool) (s : State) (rest : List ℕ)
@@ -152,7 +152,7 @@ bracket_token syntax fold s text rest set b =
     let f = bracket_front fold text set b in
     subst (λ x. token syntax fold s (x ++ rest) ≡ Some (Part (Set set), rest)) (sym f.1)
     (bracket_at syntax fold s f.0 rest set
-        (subst (λ x. bracket fold (x ++ rest) ≡ Some (set, rest)) f.1 (bracket_again fold text set rest b)))
+    (subst (λ x. bracket fold (x ++ rest) ≡ Some (set, rest)) f.1 (bracket_again fold text set rest b)))
 
 dollar_token : (syntax : Syntax) (fold : Bool) (s : State) (rest : List ℕ) → syntax ≡ Extended
     → token syntax fold s (36 ∷ rest) ≡ Some (Part End, rest)
@@ -273,8 +273,11 @@ mark_front (G.interval b) x = refl
 
 beyond_front : (front after rest : List ℕ) → ((x : List ℕ) → ends (front ++ x) ≡ false)
     → BeyondBasic (front ++ after) (front ++ rest)
-beyond_front front after rest h = record { more = λ _. h rest; over =
-    λ e. absurd (false≢true (sym (h after) ∙ ap ends e)) }
+beyond_front front after rest h = record {
+  more = λ _. h rest;
+  over =
+      λ e. absurd (false≢true (sym (h after) ∙ ap ends e));
+}
 
 beyond_piece : (syntax : Syntax) (fold : Bool) (before text after rest : List ℕ) (p : Pattern) (d : ℕ)
     → Piece syntax fold before text after p d → Beyond syntax (text ++ after) (text ++ rest)
@@ -316,8 +319,11 @@ item_plain : {fold : Bool} {before text after : List ℕ} {p : Pattern} {d : ℕ
     → before ≡ [] → text ≡ 94 ∷ [] → ⊥
 item_plain (G.atom a) eb et = atom_plain a eb et
 item_plain (G.marked {text = text} {mark = mark} i m) eb et =
-    elim (append_one text mark 94 et) [ inl e ↦ nonempty text (item_front i) e | inr e ↦ nonempty mark
-        (mark_front m) e ]
+    elim (append_one text mark 94 et) [
+      | inl e ↦ nonempty text (item_front i) e
+      | inr e ↦ nonempty mark
+          (mark_front m) e
+    ]
 
 pub append_empty : (a b : List ℕ) → a ++ b ≡ [] → b ≡ []
 append_empty [] b e = e
@@ -360,15 +366,15 @@ module _ (syntax : Syntax) (fold : Bool) where
         → (p : Pattern) → Completes syntax fold (add q s) rest p → Completes syntax fold s (text ++ rest) p
     atom_passes (G.byte {before = before} {after = next} {b = b} o) s e at rest beyond p c =
         goes (byte_token syntax fold s before next rest b at beyond
-            (subst (λ k. IsOrdinary syntax k before b next) (sym e) o)) refl c
+        (subst (λ k. IsOrdinary syntax k before b next) (sym e) o)) refl c
     atom_passes (G.escape {b = b} h) s e at rest beyond p c = goes (escape_token syntax fold s b rest h) refl c
     atom_passes G.dot s e at rest beyond p c = goes (dot_token syntax fold s rest) refl c
     atom_passes (G.bracket {text = text} {s = set} h) s e at rest beyond p c =
         goes (bracket_token syntax fold s text rest set h) refl c
     atom_passes (G.group {text = text} {p = q} {d = d} lt b) s e at rest beyond p c =
         subst (λ y. Completes syntax fold s y p)
-            (sym (append_assoc (opening syntax) (text ++ closing syntax) rest
-            ∙ ap (λ y. opening syntax ++ y) (append_assoc text (closing syntax) rest)))
+        (sym (append_assoc (opening syntax) (text ++ closing syntax) rest
+        ∙ ap (λ y. opening syntax ++ y) (append_assoc text (closing syntax) rest)))
         (goes (open_token syntax fold s (text ++ (closing syntax ++ rest))) (opens s d e lt)
         (body_passes b (s.level ∷ s.outer) (ap suc e) (closing syntax ++ rest) (close_tail syntax rest) p
         (λ l w. goes (close_token syntax fold s.level l s.outer rest) (ap (popped (s.level ∷ s.outer)) w) c)))
@@ -391,31 +397,34 @@ module _ (syntax : Syntax) (fold : Bool) where
         → Completes syntax fold s (text ++ rest) p
     piece_passes (G.item {before = before} {text = text} {after = next} {p = q} {d = d} i) s e at rest beyond p c =
         item_passes i s e at rest beyond p
-            (c (with_item q s.level) refl refl (at_item syntax fold before text next q d s.level i))
+        (c (with_item q s.level) refl refl (at_item syntax fold before text next q d s.level i))
     piece_passes (G.begin x) s e at rest beyond p c =
         goes (begin_token syntax fold s rest x at) refl
-            (c (with_anchor Begin s.level) refl (cat_none _) (at_anchor syntax [] 94 Begin s.level))
+        (c (with_anchor Begin s.level) refl (cat_none _) (at_anchor syntax [] 94 Begin s.level))
     piece_passes (G.end {before = before} x) s e at rest beyond p c =
         goes (end_token syntax fold s rest x beyond) refl
-            (c (with_anchor End s.level) refl (cat_none _) (at_anchor syntax before 36 End s.level))
+        (c (with_anchor End s.level) refl (cat_none _) (at_anchor syntax before 36 End s.level))
     piece_passes (G.caret {before = before} x) s e at rest beyond p c =
         goes (caret_token syntax fold s rest x) refl
-            (c (with_anchor Begin s.level) refl (cat_none _) (at_anchor syntax before 94 Begin s.level))
+        (c (with_anchor Begin s.level) refl (cat_none _) (at_anchor syntax before 94 Begin s.level))
 
     seq_passes : {text after : List ℕ} {q : Pattern} {d : ℕ} → Seq syntax fold text after q d
         → (outer : List Level) (alts : Option Pattern) → length outer ≡ d → (rest : List ℕ) → Beyond syntax after rest
         → (p : Pattern) → ((l : Level) → l.alternatives ≡ alts → last l ≡ Some q → At syntax l text
         → Completes syntax fold (record { outer = outer; level = l }) rest p)
-        → Completes syntax fold (record { outer = outer; level =
-        record { alternatives = alts; sequence = None; item = None } }) (text ++ rest) p
+        → Completes syntax fold (record {
+          outer = outer;
+          level =
+              record { alternatives = alts; sequence = None; item = None };
+        }) (text ++ rest) p
     seq_passes (G.first h) outer alts e rest beyond p c =
         piece_passes h (record { outer = outer; level = record { alternatives = alts; sequence = None; item = None } })
-            e (at_fresh syntax alts) rest beyond p c
+        e (at_fresh syntax alts) rest beyond p c
     seq_passes (G.more {text = text} {next = next} {after = rest_of} {p = q} {q = r} {d = d} h k) outer alts e rest
         beyond p c =
         subst (λ y. Completes syntax fold
-            (record { outer = outer; level = record { alternatives = alts; sequence = None; item = None } }) y p)
-            (sym (append_assoc text next rest))
+        (record { outer = outer; level = record { alternatives = alts; sequence = None; item = None } }) y p)
+        (sym (append_assoc text next rest))
         (seq_passes h outer alts e (next ++ rest) (beyond_piece syntax fold text next rest_of rest r d k) p
         (λ l ea el at. piece_passes k (record { outer = outer; level = l }) e at rest beyond p
         (λ m ea' el' at'. c m (ea' ∙ ea) (el' ∙ ap (λ x. cat x (Some r)) el) at')))
@@ -428,10 +437,10 @@ module _ (syntax : Syntax) (fold : Bool) where
         seq_passes h outer None e rest (beyond_tail syntax rest tail) p (λ l ea el at. c l (rw (ea, el) refl))
     body_passes (G.bar {text = text} {next = next} {p = q} {q = r} x b h) outer e rest tail p c =
         subst (λ y. Completes syntax fold (record { outer = outer; level = fresh }) y p)
-            (sym (append_assoc text (124 ∷ next) rest))
+        (sym (append_assoc text (124 ∷ next) rest))
         (body_passes b outer e (124 ∷ next ++ rest) (tail_extended syntax _ x) p
         (λ l w. goes (bar_token syntax fold (record { outer = outer; level = l }) (next ++ rest) x)
-            (ap (barred (record { outer = outer; level = l })) w)
+        (ap (barred (record { outer = outer; level = l })) w)
         (seq_passes h outer (Some q) e rest (beyond_tail syntax rest tail) p (λ m ea el at. c m (rw (ea, el) refl)))))
 
 -- What is spelled is read to the end.

@@ -92,9 +92,11 @@ number_takes (c ∷ t) m rest e = elim (chosen (digit c) _ _ _ e) [
       let (ds, f, a, v) = digits_taken (10 * 0 + (c - 48)) t in
       let x = number_from (10 * 0 + (c - 48)) t in
       let is : number_from 0 (c ∷ t) ≡ x = chosen_true _ _ _ _ h.0 refl in
-      let (xm, xr, le) = small_is x m rest (sym (ap small is) ∙ h.1) in
-      (c ∷ ds, ap (λ y. c ∷ y) (f ∙ ap (λ y. ds ++ y) xr),
-          record { some = not_nil ds; digits = rw h.0 a; value = v ∙ xm; small = le }))
+      let (xm, xr, le) = small_is x m rest (sym (ap small is) ∙ h.1) in (
+        c ∷ ds,
+        ap (λ y. c ∷ y) (f ∙ ap (λ y. ds ++ y) xr),
+        record { some = not_nil ds; digits = rw h.0 a; value = v ∙ xm; small = le },
+      ))
   | inr h ↦ no_number m rest h.1
 ]
   where
@@ -109,8 +111,11 @@ strip_takes : (cs t rest : List ℕ) → strip cs t ≡ Some rest → t ≡ cs +
 strip_takes [] t rest e = cc
 strip_takes (c ∷ cs) [] rest e = cc
 strip_takes (c ∷ cs) (b ∷ t) rest e = elim
-    (chosen (eqb b c) _ _ _ e) [ inl h ↦ (let f = strip_takes cs t rest h.1 in let g = eqb-true b c h.0 in cc) | inr h ↦
-    no h.1 ]
+    (chosen (eqb b c) _ _ _ e) [
+      | inl h ↦ (let f = strip_takes cs t rest h.1 in let g = eqb-true b c h.0 in cc)
+      | inr h ↦
+          no h.1
+    ]
   where
     no : ◌≡◌ {A = Option (List ℕ)} None (Some rest) → b ∷ t ≡ c ∷ cs ++ rest
     no e = cc
@@ -131,8 +136,13 @@ bounds_again c cs d k t m n rest (I.at_least {t = u} {m = m'} h) =
 bounds_again c cs d k t m n rest (I.from_to {t = u} {u = v} {m = m'} {n = n'} h g le) =
     ap (bounds (c ∷ cs)) (append_assoc u (44 ∷ v) (c ∷ cs ++ rest)) ∙
     (ap (least_at (c ∷ cs)) (number_again u m' 44 (v ++ (c ∷ cs ++ rest)) h refl) ∙
-    rw (strip_other 44 c cs (v ++ (c ∷ cs ++ rest)) k, not_closed v g, number_again v n' c (cs ++ rest) g d, within,
-        strip_again (c ∷ cs) rest) refl)
+    rw (
+      strip_other 44 c cs (v ++ (c ∷ cs ++ rest)) k,
+      not_closed v g,
+      number_again v n' c (cs ++ rest) g d,
+      within,
+      strip_again (c ∷ cs) rest,
+    ) refl)
   where
     within : leb m' n' ≡ true
     within = grind (arith, nat_tests)
@@ -167,9 +177,11 @@ closed_is close m m' n n' t rest e = go (strip close t) refl e
         × (n ≡ n') × (t ≡ close ++ rest)
     go None f h = no_bounds _ h
     go (Some r) f h =
-        let g : r ≡ rest = ap (λ (x : Bounds). elim x [ None ↦ rest | Some y ↦ y.2 ]) h in
-        (ap (λ (x : Bounds). elim x [ None ↦ m' | Some y ↦ y.0 ]) h,
-            ap (λ (x : Bounds). elim x [ None ↦ n' | Some y ↦ y.1 ]) h, strip_takes close t rest (f ∙ ap Some g))
+        let g : r ≡ rest = ap (λ (x : Bounds). elim x [ None ↦ rest | Some y ↦ y.2 ]) h in (
+          ap (λ (x : Bounds). elim x [ None ↦ m' | Some y ↦ y.0 ]) h,
+          ap (λ (x : Bounds). elim x [ None ↦ n' | Some y ↦ y.1 ]) h,
+          strip_takes close t rest (f ∙ ap Some g),
+        )
 
 pub bounds_take : (close t : List ℕ) (m : ℕ) (n : Option ℕ) (rest : List ℕ) → bounds close t ≡ Some (m, n, rest)
     → (w : List ℕ) × (t ≡ (w ++ close) ++ rest) × IsBounds w m n
@@ -184,10 +196,12 @@ bounds_take close t m n rest e = least (number_at t) refl e
       | inl y ↦ (
           let (km, xn, xt) = closed_is close k m (Some x.0) n x.1 rest y.1 in
           let (v, vu, number) = number_takes u x.0 x.1 g in
-          let le = leb-true k x.0 y.0 in
-          (w ++ 44 ∷ v, joined w u v x.1 f vu xt,
-              subst (λ z. IsBounds (w ++ 44 ∷ v) z n) km
-              (subst (λ z. IsBounds (w ++ 44 ∷ v) k z) xn (I.from_to h number le))))
+          let le = leb-true k x.0 y.0 in (
+            w ++ 44 ∷ v,
+            joined w u v x.1 f vu xt,
+            subst (λ z. IsBounds (w ++ 44 ∷ v) z n) km
+                (subst (λ z. IsBounds (w ++ 44 ∷ v) k z) xn (I.from_to h number le)),
+          ))
       | inr y ↦ no_bounds _ y.1
     ]
       where
@@ -203,10 +217,12 @@ bounds_take close t m n rest e = least (number_at t) refl e
           let comma : t ≡ w ++ 44 ∷ u = f ∙ ap (λ z. w ++ z ∷ u) (eqb-true c 44 y.0) in
           elim (or_is (closed_by close k None u) _ _ y.1) [
             | inl z ↦ (
-                let (km, xn, xt) = closed_is close k m None n u rest z in
-                (w ++ 44 ∷ [], open_end w u comma xt,
-                    subst (λ y. IsBounds (w ++ 44 ∷ []) y n) km
-                    (subst (λ y. IsBounds (w ++ 44 ∷ []) k y) xn (I.at_least h))))
+                let (km, xn, xt) = closed_is close k m None n u rest z in (
+                  w ++ 44 ∷ [],
+                  open_end w u comma xt,
+                  subst (λ y. IsBounds (w ++ 44 ∷ []) y n) km
+                      (subst (λ y. IsBounds (w ++ 44 ∷ []) k y) xn (I.at_least h)),
+                ))
             | inr z ↦ upper w u k h comma (number_at u) refl z
           ])
       | inr y ↦ no_bounds _ y.1
@@ -221,9 +237,11 @@ bounds_take close t m n rest e = least (number_at t) refl e
         let (w, tw, number) = number_takes t x.0 x.1 f in
         elim (or_is (closed_by close x.0 (Some x.0) x.1) _ _ h) [
           | inl z ↦ (
-              let (km, xn, xt) = closed_is close x.0 m (Some x.0) n x.1 rest z in
-              (w, tw ∙ (ap (λ y. w ++ y) xt ∙ sym (append_assoc w close rest)),
-                  subst (λ y. IsBounds w y n) km (subst (λ y. IsBounds w x.0 y) xn (I.exactly number))))
+              let (km, xn, xt) = closed_is close x.0 m (Some x.0) n x.1 rest z in (
+                w,
+                tw ∙ (ap (λ y. w ++ y) xt ∙ sym (append_assoc w close rest)),
+                subst (λ y. IsBounds w y n) km (subst (λ y. IsBounds w x.0 y) xn (I.exactly number)),
+              ))
           | inr z ↦ most w x.1 x.0 number tw z
         ]
 

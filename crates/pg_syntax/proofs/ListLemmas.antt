@@ -51,7 +51,7 @@ split-more new done text start len p e =
     ∙ append_assoc done (take ((start + len) - start) (drop start text) ∷ []) (split (drop (start + len + 1) text))
     ∙ ap (λ t. done ++ t) (ap (λ n. take n (drop start text) ∷ split (drop (start + len + 1) text)) (cut start len)
     ∙ sym (split-found (drop start text) len (rest-is text start (Some len) e)
-        ∙ ap (λ t. take len (drop start text) ∷ split t) (behind text start len)))
+    ∙ ap (λ t. take len (drop start text) ∷ split t) (behind text start len)))
 
 pub lines-more : (new done : List (List ℕ)) (text : List ℕ) (start len : ℕ)
     → new ≡ done ++ take ((start + len) - start) (drop start text) ∷ []
@@ -62,7 +62,7 @@ lines-more new done text start len p e =
     ∙ append_assoc done (take ((start + len) - start) (drop start text) ∷ []) (lines 10 (drop (start + len + 1) text))
     ∙ ap (λ t. done ++ t) (ap (λ n. take n (drop start text) ∷ lines 10 (drop (start + len + 1) text)) (cut start len)
     ∙ sym (lines-found (drop start text) len (rest-is text start (Some len) e)
-        ∙ ap (λ t. take len (drop start text) ∷ lines 10 t) (behind text start len)))
+    ∙ ap (λ t. take len (drop start text) ∷ lines 10 t) (behind text start len)))
 
 pub split-end : (text : List ℕ) (start : ℕ) → position newline (take (length text - start) (drop start text)) ≡ None
     → take (length text - start) (drop start text) ∷ [] ≡ split (drop start text)
@@ -87,8 +87,11 @@ take-push xs i x h e = take_more xs i x h ∙ ap (λ y. take i xs ++ y ∷ []) e
 
 pub within-more : (text : List ℕ) (start len : ℕ) → start ≤ length text
     → position newline (take (length text - start) (drop start text)) ≡ Some len → start + len + 1 ≤ length text
-within-more text start len h e = omega (arith, found-within (drop start text) len (rest-is text start (Some len) e),
-    length-drop start text)
+within-more text start len h e = omega (
+  arith,
+  found-within (drop start text) len (rest-is text start (Some len) e),
+  length-drop start text,
+)
 
 -- the texts up to a place, and all of them
 pub texts-more : (texts : List (Bor (List ℕ))) (i : ℕ) (d : Bor (List ℕ)) → i < length texts
@@ -99,7 +102,7 @@ pub texts-whole : (texts : List (Bor (List ℕ))) (i : ℕ) (d : Bor (List ℕ))
     → bytes_of texts ≡ bytes_of (take i texts) ++ (get_or texts i d).now ∷ bytes_of (drop (i + 1) texts)
 texts-whole texts i d h =
     ap bytes_of (sym (take-append-drop (i + 1) texts))
-        ∙ (map-append (λ s. s.now) (take (i + 1) texts) (drop (i + 1) texts)
+    ∙ (map-append (λ s. s.now) (take (i + 1) texts) (drop (i + 1) texts)
     ∙ (ap (λ t. t ++ bytes_of (drop (i + 1) texts)) (texts-more texts i d h)
     ∙ append_assoc (bytes_of (take i texts)) ((get_or texts i d).now ∷ []) (bytes_of (drop (i + 1) texts))))
 

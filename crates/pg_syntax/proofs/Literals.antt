@@ -79,4 +79,4 @@ module _ (fold : Bool) where
   literal_more text at p q r s t h e f k m l =
       subst (λ u. Literal fold u r) (sym (take_more text at 0 h))
       (subst (Literal fold (take at text ++ get_or text at 0 ∷ []))
-          (sym (e ∙ ap (Cat p) (f ∙ ap Set (k ∙ ap (folded fold) m)))) (G.more l (get_or text at 0)))
+      (sym (e ∙ ap (Cat p) (f ∙ ap Set (k ∙ ap (folded fold) m)))) (G.more l (get_or text at 0)))

@@ -136,9 +136,12 @@ repeat_told syntax fold s text k rest e = go (bounds (unbrace syntax) text) refl
     go None b h = nothing_found (λ x y. Told syntax fold s (brace syntax ++ text) x y) k rest h
     go (Some (m, n, t)) b h =
         let told = bounds_take (unbrace syntax) text m n t b in
-        found (λ x y. Told syntax fold s (brace syntax ++ text) x y) (Repeat m n) k t rest h
-        (brace syntax ++ (told.0 ++ unbrace syntax), ap (λ y. brace syntax ++ y) told.1
-            ∙ sym (append_assoc (brace syntax) (told.0 ++ unbrace syntax) t), (front syntax _, G.interval told.2))
+        found (λ x y. Told syntax fold s (brace syntax ++ text) x y) (Repeat m n) k t rest h (
+          brace syntax ++ (told.0 ++ unbrace syntax),
+          ap (λ y. brace syntax ++ y) told.1
+              ∙ sym (append_assoc (brace syntax) (told.0 ++ unbrace syntax) t),
+          (front syntax _, G.interval told.2),
+        )
 
 -- one byte that isn't a backslash
 plain_front : (syntax : Syntax) (b : ℕ) → eqb b 92 ≡ false → NotEnd syntax (b ∷ [])
@@ -204,16 +207,26 @@ basic_told fold s b t k rest e = elim (chosen (eqb b 92) _ _ _ e) [
             (42 ∷ [], refl, (plain_front Basic 42 refl, G.star)))
         | inr h4 ↦ elim (chosen (eqb b 94 && is_none (last s.level)) _ _ _ h4.1) [
           | inl h ↦ same_byte (λ x. Told Basic fold s (x ∷ t) k rest) b 94 (both _ _ h.0).0
-              (found (λ x y. Told Basic fold s (94 ∷ t) x y) (Anchor Begin) k t rest h.1
-              (94 ∷ [], refl, (plain_front Basic 94 refl,
-              λ before next at fine. (begins before next (at.1 (both _ _ h.0).1)).0,
-              λ before at. (begins before [] (at.1 (both _ _ h.0).1)).1)))
+              (found (λ x y. Told Basic fold s (94 ∷ t) x y) (Anchor Begin) k t rest h.1 (
+                94 ∷ [],
+                refl,
+                (
+                  plain_front Basic 94 refl,
+                  λ before next at fine. (begins before next (at.1 (both _ _ h.0).1)).0,
+                  λ before at. (begins before [] (at.1 (both _ _ h.0).1)).1,
+                ),
+              ))
           | inr h5 ↦ elim (chosen (eqb b 36 && ends t) _ _ _ h5.1) [
             | inl h ↦ same_byte (λ x. Told Basic fold s (x ∷ t) k rest) b 36 (both _ _ h.0).0
-                (found (λ x y. Told Basic fold s (36 ∷ t) x y) (Anchor End) k t rest h.1
-                (36 ∷ [], refl, (plain_front Basic 36 refl,
-                λ before next at fine. (closes before next (fine.1 (both _ _ h.0).1) (both _ _ h.0).1).0,
-                λ before at. inl (both _ _ h.0).1)))
+                (found (λ x y. Told Basic fold s (36 ∷ t) x y) (Anchor End) k t rest h.1 (
+                  36 ∷ [],
+                  refl,
+                  (
+                    plain_front Basic 36 refl,
+                    λ before next at fine. (closes before next (fine.1 (both _ _ h.0).1) (both _ _ h.0).1).0,
+                    λ before at. inl (both _ _ h.0).1,
+                  ),
+                ))
             | inr h6 ↦ found (λ x y. Told Basic fold s (b ∷ t) x y) (Part (Set (folded fold (one b)))) k t rest h6.1 (
               b ∷ [],
               refl,
@@ -241,8 +254,11 @@ basic_told fold s b t k rest e = elim (chosen (eqb b 92) _ _ _ e) [
 
     closes : (before next : List ℕ) → next ≡ [] → ends t ≡ true
         → Piece Basic fold before (36 ∷ []) next End (length s.outer) × Stop Basic (ends t) (before ++ 36 ∷ [])
-    closes before next en e = (subst (λ x. Piece Basic fold before (36 ∷ []) x End (length s.outer)) (sym en)
-        (G.end refl), inl e)
+    closes before next en e = (
+      subst (λ x. Piece Basic fold before (36 ∷ []) x End (length s.outer)) (sym en)
+          (G.end refl),
+      inl e,
+    )
 
 extended_told : (fold : Bool) (s : State) (b : ℕ) (t : List ℕ) (k : Token) (rest : List ℕ)
     → extended_token fold s b t ≡ Some (k, rest) → Told Extended fold s (b ∷ t) k rest
@@ -285,19 +301,31 @@ extended_told fold s b t k rest e = elim (chosen (eqb b 92) _ _ _ e) [
                         (124 ∷ [], refl, (plain_front Extended 124 refl, refl, refl)))
                     | inr n124 ↦ elim (chosen (eqb b 94) _ _ _ n124.1) [
                       | inl h ↦ same_byte (λ x. Told Extended fold s (x ∷ t) k rest) b 94 h.0
-                          (found (λ x y. Told Extended fold s (94 ∷ t) x y) (Anchor Begin) k t rest h.1
-                          (94 ∷ [], refl, (plain_front Extended 94 refl, λ before next at fine. G.caret refl,
-                          λ before at. tt)))
+                          (found (λ x y. Told Extended fold s (94 ∷ t) x y) (Anchor Begin) k t rest h.1 (
+                            94 ∷ [],
+                            refl,
+                            (
+                              plain_front Extended 94 refl,
+                              λ before next at fine. G.caret refl,
+                              λ before at. tt,
+                            ),
+                          ))
                       | inr n94 ↦ elim (chosen (eqb b 36) _ _ _ n94.1) [
                         | inl h ↦ same_byte (λ x. Told Extended fold s (x ∷ t) k rest) b 36 h.0
                             (found (λ x y. Told Extended fold s (36 ∷ t) x y) (Part End) k t rest h.1
                             (36 ∷ [], refl, (plain_front Extended 36 refl, λ before next at fine. G.dollar refl)))
                         | inr n36 ↦ found (λ x y. Told Extended fold s (b ∷ t) x y)
-                            (Part (Set (folded fold (one b)))) k t rest n36.1
-                            (b ∷ [], refl, (plain_front Extended b n92.0,
-                            λ before next at fine. G.byte
-                            (rw (n92.0, n91.0, n46.0, n40.0, n42.0, n43.0, n63.0, n123.0, n94.0, n36.0, n124.0) refl,
-                            λ eb. grouped_not s.outer (second (eqb b 41) (grouped s.outer) (eq-eqb b 41 eb) n41g.0))))
+                            (Part (Set (folded fold (one b)))) k t rest n36.1 (
+                              b ∷ [],
+                              refl,
+                              (
+                                plain_front Extended b n92.0,
+                                λ before next at fine. G.byte (
+                                  rw (n92.0, n91.0, n46.0, n40.0, n42.0, n43.0, n63.0, n123.0, n94.0, n36.0, n124.0) refl,
+                                  λ eb. grouped_not s.outer (second (eqb b 41) (grouped s.outer) (eq-eqb b 41 eb) n41g.0),
+                                ),
+                              ),
+                            )
                       ]
                     ]
                   ]
@@ -365,12 +393,12 @@ module _ (syntax : Syntax) (fold : Bool) where
       let g : text ≡ r.1 = r.2 ∙ ap (λ y. y ++ r.1) r.4 in
       subst (λ y. Seq syntax fold text after y d) h
       (subst (λ y. Seq syntax fold y after i d) (sym g)
-          (G.first (G.item (subst (λ y. Item syntax fold y r.1 after i d) r.4 (r.5 after f)))))
+      (G.first (G.item (subst (λ y. Item syntax fold y r.1 after i d) r.4 (r.5 after f)))))
   run_seq d (Some x) (Some i) text e p r c after f =
       let h : Cat x i ≡ p = cc in
       subst (λ y. Seq syntax fold text after y d) h
       (subst (λ y. Seq syntax fold y after (Cat x i) d) (sym r.2)
-          (G.more (r.4.1 (r.1 ++ after) (λ z. r.3 (append_front r.1 after z))) (G.item (r.5 after f))))
+      (G.more (r.4.1 (r.1 ++ after) (λ z. r.3 (append_front r.1 after z))) (G.item (r.5 after f))))
 
   run_none : (d : ℕ) (q i : Option Pattern) (text : List ℕ) (e : Bool) → Run d i q text e → cat q i ≡ None → text ≡ []
   run_none d None None text e r c = r
@@ -436,16 +464,24 @@ module _ (syntax : Syntax) (fold : Bool) where
           run ++ w,
           rw eq' (append_assoc bars run w),
           b,
-          (run, w, refl, ne, before run (cat q i) refl r,
-              λ after f. new run after (position syntax fold (length ls) a q i run e r g) f),
+          (
+            run,
+            w,
+            refl,
+            ne,
+            before run (cat q i) refl r,
+            λ after f. new run after (position syntax fold (length ls) a q i run e r g) f,
+          ),
         ),
       )
     where
       before : (run : List ℕ) (o : Option Pattern) → cat q i ≡ o → Run syntax fold (length ls) i q run e
           → Before syntax fold (length ls) o run
       before run None c r = run_none syntax fold (length ls) q i run e r c
-      before run (Some x) c r = (run_some syntax fold (length ls) q i run e r (ap is_none c),
-          λ after z. run_seq syntax fold (length ls) q i run e x r c after (g after z))
+      before run (Some x) c r = (
+        run_some syntax fold (length ls) q i run e r (ap is_none c),
+        λ after z. run_seq syntax fold (length ls) q i run e x r c after (g after z),
+      )
 
   anchor_held : (ls : List Level) (a q i : Option Pattern) (text w : List ℕ) (e e' : Bool) (p : Pattern)
       → Held syntax fold ls a q i text e → GoesOn syntax e → w ≢ []
@@ -454,23 +490,31 @@ module _ (syntax : Syntax) (fold : Bool) where
       → ((before : List ℕ) → Position syntax (record { alternatives = a; sequence = q; item = i }) before
       → Stop syntax e' (before ++ w)) → Held syntax fold ls a (cat (cat q i) (Some p)) None (text ++ w) e'
   anchor_held ls a q i text w e e' p h g ne new stop =
-      let (t, u, eq, outer, (bars, run, eq', b, r)) = h in
-      (t, u ++ w, rw eq (append_assoc t u w), outer,
-          (bars, run ++ w, rw eq' (append_assoc bars run w), b, go run (cat q i) refl r))
+      let (t, u, eq, outer, (bars, run, eq', b, r)) = h in (
+        t,
+        u ++ w,
+        rw eq (append_assoc t u w),
+        outer,
+        (bars, run ++ w, rw eq' (append_assoc bars run w), b, go run (cat q i) refl r),
+      )
     where
       go : (run : List ℕ) (o : Option Pattern) → cat q i ≡ o → Run syntax fold (length ls) i q run e
           → Run syntax fold (length ls) None (cat o (Some p)) (run ++ w) e'
       go run None c r =
           let at = position syntax fold (length ls) a q i run e r g in
-          let z : run ≡ [] = run_none syntax fold (length ls) q i run e r c in
-          (λ y. ne (append_empty run w y), stop run at,
-              λ after f. subst (λ y. Seq syntax fold y after p (length ls)) (ap (λ y. y ++ w) (sym z))
-              (G.first (subst (λ y. Piece syntax fold y w after p (length ls)) z (new run after at f))))
+          let z : run ≡ [] = run_none syntax fold (length ls) q i run e r c in (
+            λ y. ne (append_empty run w y),
+            stop run at,
+            λ after f. subst (λ y. Seq syntax fold y after p (length ls)) (ap (λ y. y ++ w) (sym z))
+                (G.first (subst (λ y. Piece syntax fold y w after p (length ls)) z (new run after at f))),
+          )
       go run (Some x) c r =
-          let at = position syntax fold (length ls) a q i run e r g in
-          (λ y. ne (append_empty run w y), stop run at,
-              λ after f. G.more (run_seq syntax fold (length ls) q i run e x r c (w ++ after)
-              (g (w ++ after) (λ y. ne (append_front w after y)))) (new run after at f))
+          let at = position syntax fold (length ls) a q i run e r g in (
+            λ y. ne (append_empty run w y),
+            stop run at,
+            λ after f. G.more (run_seq syntax fold (length ls) q i run e x r c (w ++ after)
+                (g (w ++ after) (λ y. ne (append_front w after y)))) (new run after at f),
+          )
 
   mark_held : (ls : List Level) (a q : Option Pattern) (x : Pattern) (text w : List ℕ) (e e' : Bool) (m : ℕ)
       (n : Option ℕ) → Held syntax fold ls a q (Some x) text e → GoesOn syntax e → w ≢ [] → Mark syntax w m n
@@ -502,7 +546,7 @@ module _ (syntax : Syntax) (fold : Bool) where
   level_body d None q i text e p h f c =
       let (bars, run, eq, b, r) = h in
       subst (λ y. Body syntax fold y p d) (sym (eq ∙ ap (λ y. y ++ run) b))
-          (G.single (run_seq syntax fold d q i run e p r c [] f))
+      (G.single (run_seq syntax fold d q i run e p r c [] f))
   level_body d (Some x) q i text e p h f c = go (cat q i) refl c
     where
       go : (o : Option Pattern) → cat q i ≡ o → alt (Some x) o ≡ Some p → Body syntax fold text p d
@@ -512,7 +556,7 @@ module _ (syntax : Syntax) (fold : Bool) where
           let v : Alt x y ≡ p = cc in
           subst (λ o. Body syntax fold text o d) v
           (subst (λ o. Body syntax fold o (Alt x y) d)
-              (sym (eq ∙ (ap (λ o. o ++ run) eqt ∙ append_assoc t (124 ∷ []) run)))
+          (sym (eq ∙ (ap (λ o. o ++ run) eqt ∙ append_assoc t (124 ∷ []) run)))
           (G.bar ext b (run_seq syntax fold d q i run e y r z [] f)))
 
   -- the state after a token
@@ -546,10 +590,13 @@ module _ (syntax : Syntax) (fold : Bool) where
       → StateHeld s text (ending syntax (opening syntax ++ rest)) → StateHeld s' (text ++ opening syntax) e
   open_held s s' text rest e x h = elim (chosen (ltb (length s.outer) 100) _ _ _ x) [
     | inl f ↦ same_state (λ y. StateHeld y (text ++ opening syntax) e) _ s' f.1 (
-        let (t, u, eq, outer, level) = subst (λ y. StateHeld s text y) (open_ending syntax rest) h in
-        (text ++ opening syntax, [], sym (append-nil (text ++ opening syntax)),
-            (t, u, rw eq (append_assoc t u (opening syntax)), ltb-true (length s.outer) 100 f.0, outer, level),
-            ([], [], refl, refl, refl)))
+        let (t, u, eq, outer, level) = subst (λ y. StateHeld s text y) (open_ending syntax rest) h in (
+          text ++ opening syntax,
+          [],
+          sym (append-nil (text ++ opening syntax)),
+          (t, u, rw eq (append_assoc t u (opening syntax)), ltb-true (length s.outer) 100 f.0, outer, level),
+          ([], [], refl, refl, refl),
+        ))
     | inr f ↦ none_some f.1
   ]
     where
@@ -566,11 +613,11 @@ module _ (syntax : Syntax) (fold : Bool) where
       same_state (λ y. StateHeld y (text ++ closing syntax) e) _ s' x (
       let (T, U, eq, (t, u, eqT, lt, outer, levelheld), inner) = h in
       let body : Body syntax fold U p (suc (length ls)) =
-          level_body (suc (length ls)) a q i U _ p inner (close_fine syntax rest) z in
+      level_body (suc (length ls)) a q i U _ p inner (close_fine syntax rest) z in
       subst (λ y. StateHeld (record { outer = ls; level = with_item p l }) y e) (whole_text t u U T eqT eq)
       (add_held ls l.alternatives l.sequence l.item (t ++ u) (opening syntax ++ (U ++ closing syntax)) false e p
-          (t, u, refl, outer, levelheld) (goes_on_false syntax) (not_nil syntax (U ++ closing syntax))
-          (λ before after at f. G.atom (G.group lt body))))
+      (t, u, refl, outer, levelheld) (goes_on_false syntax) (not_nil syntax (U ++ closing syntax))
+      (λ before after at f. G.atom (G.group lt body))))
     where
       whole_text : (t u U T : List ℕ) → T ≡ t ++ (u ++ opening syntax) → text ≡ T ++ U
           → (t ++ u) ++ (opening syntax ++ (U ++ closing syntax)) ≡ text ++ closing syntax
@@ -589,35 +636,39 @@ module _ (syntax : Syntax) (fold : Bool) where
       subst (λ y. Held syntax fold y (Some p) None None (text ++ 124 ∷ []) e') (sym so) (
       let (t, u, eq, outer, level) = h in
       let body : Body syntax fold u p (length ls) =
-          level_body (length ls) a q i u e p level (bar_fine syntax e ext) z in
-      (t, u ++ 124 ∷ [], rw eq (append_assoc t u (124 ∷ [])), outer,
-          (u ++ 124 ∷ [], [], sym (append-nil _), (ext, u, refl, body), refl))))
+      level_body (length ls) a q i u e p level (bar_fine syntax e ext) z in (
+        t,
+        u ++ 124 ∷ [],
+        rw eq (append_assoc t u (124 ∷ [])),
+        outer,
+        (u ++ 124 ∷ [], [], sym (append-nil _), (ext, u, refl, body), refl),
+      )))
 
   step_held : (s s' : State) (k : Token) (text w rest : List ℕ) → Means syntax fold s w rest k → after k s ≡ Some s'
       → StateHeld s text (ending syntax (w ++ rest)) → StateHeld s' (text ++ w) (ending syntax rest)
   step_held s s' (Part p) text w rest m e h =
       same_state (λ y. StateHeld y (text ++ w) (ending syntax rest)) _ s' e
       (add_held s.outer s.level.alternatives s.level.sequence s.level.item text w _ (ending syntax rest) p h
-          (goes_on syntax w rest m.0) (not_empty syntax w m.0) (λ before after at f. G.atom (m.1 before after at f)))
+      (goes_on syntax w rest m.0) (not_empty syntax w m.0) (λ before after at f. G.atom (m.1 before after at f)))
   step_held s s' (Anchor p) text w rest m e h =
       same_state (λ y. StateHeld y (text ++ w) (ending syntax rest)) _ s' e
       (anchor_held s.outer s.level.alternatives s.level.sequence s.level.item text w _ (ending syntax rest) p h
-          (goes_on syntax w rest m.0) (not_empty syntax w m.0) m.1 m.2)
+      (goes_on syntax w rest m.0) (not_empty syntax w m.0) m.1 m.2)
   step_held s s' (Repeat x n) text w rest m e h =
       repeat_held s.outer s.level.alternatives s.level.sequence s.level.item s' text w _ (ending syntax rest) x n e h
-          (goes_on syntax w rest m.0) (not_empty syntax w m.0) m.1
+      (goes_on syntax w rest m.0) (not_empty syntax w m.0) m.1
   step_held s s' Open text w rest m e h =
       subst (λ y. StateHeld s' (text ++ y) (ending syntax rest)) (sym m.1)
       (open_held s s' text rest (ending syntax rest) e
-          (subst (λ y. StateHeld s text (ending syntax (y ++ rest))) m.1 h))
+      (subst (λ y. StateHeld s text (ending syntax (y ++ rest))) m.1 h))
   step_held s s' Close text w rest m e h =
       subst (λ y. StateHeld s' (text ++ y) (ending syntax rest)) (sym m)
       (close_held s.outer s.level.alternatives s.level.sequence s.level.item _ s' text rest (ending syntax rest) refl e
-          (subst (λ y. StateHeld s text (ending syntax (y ++ rest))) m h))
+      (subst (λ y. StateHeld s text (ending syntax (y ++ rest))) m h))
   step_held s s' Bar text w rest m e h =
       subst (λ y. StateHeld s' (text ++ y) (ending syntax rest)) (sym m.2)
       (bar_held s.outer s.level.alternatives s.level.sequence s.level.item _ s s' text _
-          (ending syntax rest) refl m.1 refl e h)
+      (ending syntax rest) refl m.1 refl e h)
 
   next_is : (s s' : State) (t rest : List ℕ) → next syntax fold s t ≡ Some (s', rest) → (k : Token)
       × (token syntax fold s t ≡ Some (k, rest)) × (after k s ≡ Some s')
@@ -647,10 +698,10 @@ module _ (syntax : Syntax) (fold : Bool) where
       let (t, u, eq, outer, level) = h in
       let e : text ++ [] ≡ u = append-nil text ∙ (eq ∙ ap (λ y. y ++ u) outer) in
       subst (λ y. Body syntax fold y p 0) (sym e)
-          (level_body 0 l.alternatives l.sequence l.item u _ p level (end_fine syntax) w)
+      (level_body 0 l.alternatives l.sequence l.item u _ p level (end_fine syntax) w)
   sound (step {s = s} {s' = s'} {t = t} {rest = rest} {p = p} e c) text h =
       let (k, found_it, stepped) = next_is s s' t rest e in
       let (w, eq, m) = told syntax fold s t k rest found_it in
       subst (λ y. Body syntax fold y p 0) (append_assoc text w rest ∙ ap (λ y. text ++ y) (sym eq))
       (sound c (text ++ w) (step_held s s' k text w rest m stepped
-          (subst (λ y. StateHeld s text (ending syntax y)) eq h)))
+      (subst (λ y. StateHeld s text (ending syntax y)) eq h)))

@@ -29,7 +29,7 @@ split-at (b ∷ text) (suc end) l e h =
     ap (λ t. cond t ([] ∷ split text) (onto_first b (split text))) (h 0 (omega arith))
     ∙ (ap (onto_first b) (split-at text end (omega arith) e (later b text end h))
     ∙ ap (λ n. (b ∷ take end text) ∷ split (drop n (b ∷ text)))
-        (let f : suc (end + 1) ≡ suc end + 1 = omega arith in f))
+    (let f : suc (end + 1) ≡ suc end + 1 = omega arith in f))
 
 lines-at : (text : List ℕ) (end : ℕ) → end < length text → newline (get_or text end 0) ≡ true → NoneBefore text end
     → lines 10 text ≡ take end text ∷ lines 10 (drop (end + 1) text)
@@ -39,7 +39,7 @@ lines-at (b ∷ text) (suc end) l e h =
     ap (λ t. cond t ([] ∷ lines 10 text) (onto_first b (lines 10 text))) (h 0 (omega arith))
     ∙ (ap (onto_first b) (lines-at text end (omega arith) e (later b text end h))
     ∙ ap (λ n. (b ∷ take end text) ∷ lines 10 (drop n (b ∷ text)))
-        (let f : suc (end + 1) ≡ suc end + 1 = omega arith in f))
+    (let f : suc (end + 1) ≡ suc end + 1 = omega arith in f))
 
 split-whole : (text : List ℕ) → NoneBefore text (length text) → split text ≡ text ∷ []
 split-whole [] h = refl

@@ -101,7 +101,7 @@ placed_up : (o : Ordering) (n x : Text) (xs more : List Text) → slice_cmp nat_
 placed_up Less n x xs more e up above from = (
   All-cons (λ y. slice_cmp nat_cmp n y ≡ Less) x xs e
       (All-weaker (λ y. slice_cmp nat_cmp x y ≡ Less) (λ y. slice_cmp nat_cmp n y ≡ Less)
-          (λ y h. nat_list_cmp_total.trans n x y e h) xs up.0),
+      (λ y h. nat_list_cmp_total.trans n x y e h) xs up.0),
   up,
 )
 placed_up Equal n x xs more e up above from = up
@@ -153,14 +153,18 @@ inside_by a depth path None e below = (Fault path CannotList ∷ [], inside_fail
 inside_by a depth path (Some c) e below =
     let xs = in_order c.names in
     let f = names_some a depth path c xs (in_order_up c.names) below (length xs) (omega arith) in
-    let Q : List Text → Type 0 = λ t. Adds (SomeGive a depth path c t) [] f.0 in
-    (f.0, some_all a depth path c xs e (in_order_has c.names) [] f.0
-        (subst Q (take_all (length xs) xs (omega arith)) f.1))
+    let Q : List Text → Type 0 = λ t. Adds (SomeGive a depth path c t) [] f.0 in (
+      f.0,
+      some_all a depth path c xs e (in_order_has c.names) [] f.0
+          (subst Q (take_all (length xs) xs (omega arith)) f.1),
+    )
 
 entry_by : (a : Answers) (depth : ℕ) (path : Text) (o : Option FileKind) → a.kind path false ≡ o
     → (o ≡ Some Directory → HasItems (EntryGives a depth path)) → HasItems (EntryGives a depth path)
-entry_by a depth path None e directory = (Fault path CannotOpen ∷ [],
-    entry_leaf a depth path None (Some (Fault path CannotOpen)) e refl (λ k d. cc) [] _ refl)
+entry_by a depth path None e directory = (
+  Fault path CannotOpen ∷ [],
+  entry_leaf a depth path None (Some (Fault path CannotOpen)) e refl (λ k d. cc) [] _ refl,
+)
 entry_by a depth path (Some Regular) e directory =
     (File path ∷ [], entry_leaf a depth path (Some Regular) (Some (File path)) e refl (λ k d. cc) [] _ refl)
 entry_by a depth path (Some Link) e directory =
@@ -188,14 +192,22 @@ directory_has a r path s k false t = (Fault path IsDirectory ∷ [], operand_ref
 
 kind_has : (a : Answers) (r : Bool) (path : Text) → is_standard_input path ≡ false → (o : Option FileKind)
     → a.kind path true ≡ o → HasItems (OperandGives a r path)
-kind_has a r path s None k = (Fault path CannotOpen ∷ [],
-    operand_kind a r path None (Fault path CannotOpen) s k refl (λ d. cc) [] _ refl)
-kind_has a r path s (Some Regular) k = (File path ∷ [],
-    operand_kind a r path (Some Regular) (File path) s k refl (λ d. cc) [] _ refl)
-kind_has a r path s (Some Link) k = (Fault path CannotOpen ∷ [],
-    operand_kind a r path (Some Link) (Fault path CannotOpen) s k refl (λ d. cc) [] _ refl)
-kind_has a r path s (Some Other) k = (File path ∷ [],
-    operand_kind a r path (Some Other) (File path) s k refl (λ d. cc) [] _ refl)
+kind_has a r path s None k = (
+  Fault path CannotOpen ∷ [],
+  operand_kind a r path None (Fault path CannotOpen) s k refl (λ d. cc) [] _ refl,
+)
+kind_has a r path s (Some Regular) k = (
+  File path ∷ [],
+  operand_kind a r path (Some Regular) (File path) s k refl (λ d. cc) [] _ refl,
+)
+kind_has a r path s (Some Link) k = (
+  Fault path CannotOpen ∷ [],
+  operand_kind a r path (Some Link) (Fault path CannotOpen) s k refl (λ d. cc) [] _ refl,
+)
+kind_has a r path s (Some Other) k = (
+  File path ∷ [],
+  operand_kind a r path (Some Other) (File path) s k refl (λ d. cc) [] _ refl,
+)
 kind_has a r path s (Some Directory) k = directory_has a r path s k r refl
 
 operand_has : (a : Answers) (r : Bool) (path : Text) (b : Bool) → is_standard_input path ≡ b

@@ -32,10 +32,10 @@ module _ {P : Type 0} (cmp : P → P → Ordering) (G : P → Found → Type 0) 
   table_join old more a b = record {
     ascending = ascending_append (λ p q. cmp p.0 q.0) old (map (at_place f) more) a.ascending
         (ascending_map (λ p q. names_cmp p.0 q.0) (λ p q. cmp p.0 q.0) (at_place f)
-            (λ p q. x.up p.0 q.0) more b.ascending)
+        (λ p q. x.up p.0 q.0) more b.ascending)
         (all_from_contains (λ p. All (λ q. cmp p.0 q.0 ≡ Less) (map (at_place f) more)) old
         (λ p h. All-map (λ q. cmp p.0 q.0 ≡ Less) (at_place f) more
-            (λ k d s. x.apart p.0 p.1 (get_or more k d).0 ((a.exact p.0 p.1).0 h))));
+        (λ k d s. x.apart p.0 p.1 (get_or more k d).0 ((a.exact p.0 p.1).0 h))));
     exact = λ p i. (
       (λ h. elim (Contains-append_cases old (map (at_place f) more) (p, i) h) [
         | inl c ↦ x.in_old p i ((a.exact p i).0 c)
@@ -49,7 +49,7 @@ module _ {P : Type 0} (cmp : P → P → Ordering) (G : P → Found → Type 0) 
         | inr s ↦
             let Q : P → Type 0 = λ y. Contains (map (at_place f) more) (y, i) in
             Contains-append_right old (map (at_place f) more) (p, i)
-                (subst Q (sym s.1) (contains_map (at_place f) more (s.0, i) ((b.exact s.0 i).1 s.2)))
+            (subst Q (sym s.1) (contains_map (at_place f) more (s.0, i) ((b.exact s.0 i).1 s.2)))
       ]),
     );
   }
@@ -68,7 +68,7 @@ items_join cmp G F H f x items more a b = record {
   are =
       let second : _ × Found → Found = λ e. e.1 in
       ap (λ t. t ++ more) a.are ∙ (ap (λ t. map second a.rows ++ t) (b.are ∙ sym (seconds f b.rows))
-          ∙ sym (map-append second a.rows (map (at_place f) b.rows)));
+      ∙ sym (map-append second a.rows (map (at_place f) b.rows)));
 }
 
 pub items_same : {P : Type 0} (cmp : P → P → Ordering) (G H : P → Found → Type 0)
@@ -84,8 +84,12 @@ items_same cmp G H same items a = record {
 
 pub adds_same : (G H : Names → Found → Type 0) → ((ns : Names) (i : Found) → G ns i ↔ H ns i) → (old new : List Found)
     → Adds G old new → Adds H old new
-adds_same G H same old new a = record { items = a.items; are = items_same names_cmp G H same a.items a.are; joined =
-    a.joined }
+adds_same G H same old new a = record {
+  items = a.items;
+  are = items_same names_cmp G H same a.items a.are;
+  joined =
+      a.joined;
+}
 
 -- a place alone, with none below it
 

@@ -54,7 +54,7 @@ entry_same : (a : Answers) (depth : ℕ) (path : Text) → a.kind path false ≡
 entry_same a depth path k d [] i =
     let e : entry_gives a depth path (a.kind path false) ≡ directory_gives path (a.content path) =
     ap (entry_gives a depth path) k ∙ ap (λ b. cond b (Some (Fault path TooDeep))
-        (directory_gives path (a.content path))) (shallow depth d) in
+    (directory_gives path (a.content path))) (shallow depth d) in
     along (sym e)
 entry_same a depth path k d (n ∷ ns) i = (λ h. (k, d, h.0, h.1), λ h. (h.2, h.3))
 
@@ -78,7 +78,7 @@ operand_same a r path s t k [] i =
     let e : operand_item a r path ≡ directory_gives path (a.content path) =
     ap (λ b. cond b (Some (File path)) (operand_gives a r path (a.kind path true))) s
     ∙ (ap (operand_gives a r path) k ∙ ap
-        (λ b. cond b (directory_gives path (a.content path)) (Some (Fault path IsDirectory))) t) in
+    (λ b. cond b (directory_gives path (a.content path)) (Some (Fault path IsDirectory))) t) in
     along (sym e)
 operand_same a r path s t k (n ∷ ns) i = (λ h. (s, t, k, h.0, h.1), λ h. (h.3, h.4))
 
@@ -236,7 +236,7 @@ first_more a ops r k items new s e =
     let Q : List Found → Type 0 = λ t. ItemsOf place_cmp (FirstGive a ops r (k + 1)) t in
     subst Q (sym e.joined)
     (items_join place_cmp (FirstGive a ops r k) (OperandGives a r (get_or ops k [])) (FirstGive a ops r (k + 1))
-        (λ ns. (k, ns))
+    (λ ns. (k, ns))
     (record {
       up = place_up k;
       apart = λ p i ns g. ap (λ o. ordering_then o (names_cmp p.1 ns)) (below_is p.0 k g.0);
@@ -260,7 +260,7 @@ pub operand_standard : (a : Answers) (r : Bool) (path : Text) → is_standard_in
     → new ≡ old ++ File path ∷ [] → Adds (OperandGives a r path) old new
 operand_standard a r path e old new s =
     operand_leaf a r path (Some (File path))
-        (ap (λ b. cond b (Some (File path)) (operand_gives a r path (a.kind path true))) e)
+    (ap (λ b. cond b (Some (File path)) (operand_gives a r path (a.kind path true))) e)
     (λ f t k. let clash : true ≡ false = sym e ∙ f in cc) old new s
 
 by_kind : (a : Answers) (r : Bool) (path : Text) (kind : Option FileKind) → is_standard_input path ≡ false
@@ -280,5 +280,5 @@ pub operand_refused : (a : Answers) (r : Bool) (path : Text) → is_standard_inp
 operand_refused a r path s e k old new t =
     operand_leaf a r path (Some (Fault path IsDirectory))
     (by_kind a r path (Some Directory) s k
-        ∙ ap (λ b. cond b (directory_gives path (a.content path)) (Some (Fault path IsDirectory))) e)
+    ∙ ap (λ b. cond b (directory_gives path (a.content path)) (Some (Fault path IsDirectory))) e)
     (λ f u d. let clash : true ≡ false = sym u ∙ e in cc) old new t

@@ -9,12 +9,12 @@ use Rattle.pg_board.proofs.board.finish.Goals.{Then-found-from, Else-found-from}
 ends_low : (g : Over) (c : Then-found-from g) → Ends c.args.size c.args.whole.me.0.seats c.word-found.result
 ends_low g c = subst (λ (z : BoardSize). Ends z c.args.whole.me.0.seats c.word-found.result) c.requires.word.3
     (ends _ _ _ _ _ c.word-found.result c.close_with-closed.ensures.values.2
-        (c.requires.all ∙ sym (ap (λ (z : BoardSize). z.seats) c.requires.word.3)) c.word-found.ensures)
+    (c.requires.all ∙ sym (ap (λ (z : BoardSize). z.seats) c.requires.word.3)) c.word-found.ensures)
 
 ends_high : (g : Over) (c : Else-found-from g) → Ends c.args.size c.args.whole.me.0.seats c.word-found.result
 ends_high g c = subst (λ (z : BoardSize). Ends z c.args.whole.me.0.seats c.word-found.result) c.requires.word.3
     (ends _ _ _ _ _ c.word-found.result c.close_with-closed.ensures.values.2
-        (c.requires.all ∙ sym (ap (λ (z : BoardSize). z.seats) c.requires.word.3)) c.word-found.ensures)
+    (c.requires.all ∙ sym (ap (λ (z : BoardSize). z.seats) c.requires.word.3)) c.word-found.ensures)
 
 pub returns-then-found-from-clause-drawn : goal.returns-then-found-from-clause-drawn
 returns-then-found-from-clause-drawn g c = let m : min c.word-found.result c.args.size.limit ≡ c.word-found.result =

@@ -35,7 +35,7 @@ loop-seat-preserved g c =
     let joined = c.join_seat.ensures in let was : List Draws = c.loop-seat.whole.me.0.seats in
     let now_is : c.join_seat.new.seat.me.0.seats ≡ draws_of seat ∷ was =
     ap (λ (m : Me (Unit {0}) TokenView). m.0.seats) joined.2
-        ∙ ap (λ (l : List Draws). l ++ was) c.into_token-token.ensures.seats in
+    ∙ ap (λ (l : List Draws). l ++ was) c.into_token-token.ensures.seats in
     record {
       table = joined.0 ∙ i.table;
       some_seat = λ none_left. let l : ◌≡◌ {A = ℕ} (length was + 1) 0 =

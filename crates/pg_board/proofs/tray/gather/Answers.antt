@@ -12,7 +12,7 @@ use Rattle.pg_board.proofs.tray.gather.Goals as goal
 pub absorb-requires-clause-queue : goal.absorb-requires-clause-queue
 absorb-requires-clause-queue g c =
     let T : Type 0 = g.row.T.Denot in let A : Type 0 = g.row.A.Denot in let i = c.loop-pass.invariant in let back =
-        c.into_ticket-back.ensures in
+    c.into_ticket-back.ensures in
     let IsOf : PutView T A → Type 0 = λ p. p.tray ≡ c.args.queue.now in
     let rest : List (PutView T A) = c.pop.new.self.items in let pass : PutView T A = c.in-Some.pass in
     let e : ◌≡◌ {A = List (PutView T A)} c.loop-pass.passes.items (rest ++ pass ∷ []) = c.in-Some.ensures.items in
@@ -25,7 +25,7 @@ absorb-requires-clause-rule g c = brings_back _ _ _ _ c.loop-pass.invariant.take
 pub loop-pass-preserved : goal.loop-pass-preserved
 loop-pass-preserved g c =
     let T : Type 0 = g.row.T.Denot in let A : Type 0 = g.row.A.Denot in let i = c.loop-pass.invariant in let back =
-        c.into_ticket-back.ensures in let joined = c.absorb.ensures in
+    c.into_ticket-back.ensures in let joined = c.absorb.ensures in
     let IsOf : PutView T A → Type 0 = λ p. p.tray ≡ c.args.queue.now in
     let rest : List (PutView T A) = c.pop.new.self.items in let pass : PutView T A = c.in-Some.pass in
     let e : ◌≡◌ {A = List (PutView T A)} c.loop-pass.passes.items (rest ++ pass ∷ []) = c.in-Some.ensures.items in
@@ -33,7 +33,7 @@ loop-pass-preserved g c =
     let put : PutView T A → List T = λ p. p.put in
     let lists : lists_of c.absorb.new.pass.me.view.client.passes ≡ pass.put ∷ lists_of was =
     ap (λ (v : PassView T). lists_of v.passes) joined.rule
-        ∙ ap (λ (ps : List (Puts T)). lists_of (ps ++ was)) back.puts.1 in
+    ∙ ap (λ (ps : List (Puts T)). lists_of (ps ++ was)) back.puts.1 in
     record {
       ticket = joined.queue.0;
       takers = ap (λ (v : PassView T). v.takers) joined.rule ∙ i.takers;

@@ -11,5 +11,5 @@ returns c =
     let other = c.complement-other.ensures ∙ ap complement c.between.ensures in
     c.complement.ensures
     ∙ (ap complement (c.union.ensures ∙ (ap (λ s. union s letters) other
-        ∙ ap (union (complement graph)) c.alnum.ensures))
+    ∙ ap (union (complement graph)) c.alnum.ensures))
     ∙ complement-punct)

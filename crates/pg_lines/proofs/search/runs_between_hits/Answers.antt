@@ -23,7 +23,7 @@ loop-line-init g c = record {
   short = c.requires.short;
   passed = λ trees spelled.
       passed_none (search_of c.args.query.now.text trees) c.args.bytes.now c.new-runs.result.items
-          c.new-runs.ensures.items;
+      c.new-runs.ensures.items;
 }
 
 pub loop-line-preserved : goal.loop-line-preserved

@@ -72,7 +72,7 @@ push_line_parts-requires-clause-one g c =
     let gathered = i.gathered own.0 own.1 in
     let found = next_of c.args.query.now.text own.0 c.loop-line.run.span.end
     (drop c.loop-line.run.span.end c.args.bytes.now) c.in-Some.line c.requires.upright
-        (c.in-Some.ensures.some own.0 own.1) in
+    (c.in-Some.ensures.some own.0 own.1) in
     let one = line_one q bytes runs run gathered line found in
     (one.0, line_short q bytes runs run gathered line found i.short, one.2)
 
@@ -97,19 +97,19 @@ loop-line-preserved g c =
       needles = subst (λ n. AreNeedles text bytes n c.next_hit.new.needles) (sym longer.stop) c.in-Some.ensures.needles;
       short = subst Short (sym longer.stop)
           (short_behind (search_of text own.0) bytes run.span.end 0 _
-              (next_of c.args.query.now.text own.0 c.loop-line.run.span.end
+          (next_of c.args.query.now.text own.0 c.loop-line.run.span.end
           (drop c.loop-line.run.span.end c.args.bytes.now) c.in-Some.line c.requires.upright
-              (c.in-Some.ensures.some own.0 own.1)).1 i.short);
+          (c.in-Some.ensures.some own.0 own.1)).1 i.short);
       gathered = λ trees spelled. longer.gathered (search_of text trees) c.terminator-end.ensures
           (i.gathered trees spelled) (next_of c.args.query.now.text trees c.loop-line.run.span.end
           (drop c.loop-line.run.span.end c.args.bytes.now) c.in-Some.line c.requires.upright
-              (c.in-Some.ensures.some trees spelled));
+          (c.in-Some.ensures.some trees spelled));
       parts = λ trees spelled.
           let q = search_of text trees in
           let gathered = i.gathered trees spelled in
           let found = next_of c.args.query.now.text trees c.loop-line.run.span.end
           (drop c.loop-line.run.span.end c.args.bytes.now) c.in-Some.line c.requires.upright
-              (c.in-Some.ensures.some trees spelled) in
+          (c.in-Some.ensures.some trees spelled) in
           let gathered' = longer.gathered q c.terminator-end.ensures gathered found in
           let one = line_one q bytes runs run gathered line found in
           let put : List Part = cond text.pieces (map (part_at line.start number) (parts q one.0)) [] in
@@ -125,7 +125,7 @@ returns-clause-runs g c = λ trees spelled.
     let P : List Run → Type 0 = λ runs. AreRuns q 0 0 c.args.bytes.now runs in
     subst P (sym c.in_ok-push_run.ensures) (gathered_all q c.args.bytes.now c.loop-line.runs.items c.loop-line.run
     (c.loop-line.invariant.gathered trees spelled)
-        (none_of c.args.query.now.text trees (drop c.loop-line.run.span.end c.args.bytes.now) c.requires.upright
+    (none_of c.args.query.now.text trees (drop c.loop-line.run.span.end c.args.bytes.now) c.requires.upright
     (c.in_default.ensures.none trees spelled)))
 
 pub returns-clause-parts : goal.returns-clause-parts
@@ -134,7 +134,7 @@ returns-clause-parts g c = λ trees spelled.
     c.loop-line.invariant.parts trees spelled
     ∙ parts_of_all q c.args.bytes.now c.loop-line.runs.items c.loop-line.run
     (c.loop-line.invariant.gathered trees spelled)
-        (none_of c.args.query.now.text trees (drop c.loop-line.run.span.end c.args.bytes.now) c.requires.upright
+    (none_of c.args.query.now.text trees (drop c.loop-line.run.span.end c.args.bytes.now) c.requires.upright
     (c.in_default.ensures.none trees spelled))
 
 pub returns-clause-lines : goal.returns-clause-lines

@@ -31,28 +31,28 @@ pub add-returns-in-Empty : goal.add-returns-in-Empty
 add-returns-in-Empty g t c =
     let inv = c.loop-tree.invariant in
     finished_leaf _ _ _ _ _ _ Empty (Jump _) _ c.finish.result inv.has inv.completes inv.size
-        (pattern-empty _ c.in-Empty.is)
+    (pattern-empty _ c.in-Empty.is)
     inv.has.gap_in.next_in (λ u e h. h) refl (jump_apart _) c.finish.ensures
 
 pub add-returns-in-Set : goal.add-returns-in-Set
 add-returns-in-Set g t c =
     let inv = c.loop-tree.invariant in
     finished_leaf _ _ _ _ _ _ (Set _) (Read _ _) _ c.finish-in-Set.result inv.has inv.completes inv.size
-        (pattern-set _ _ c.in-Set.is)
+    (pattern-set _ _ c.in-Set.is)
     inv.has.gap_in.next_in (λ u e h. (_, refl, h)) refl (read_apart _ _) c.finish-in-Set.ensures
 
 pub add-returns-in-Begin : goal.add-returns-in-Begin
 add-returns-in-Begin g t c =
     let inv = c.loop-tree.invariant in
     finished_leaf _ _ _ _ _ _ Begin (AtBegin _) _ c.finish-in-Begin.result inv.has inv.completes inv.size
-        (pattern-begin _ c.in-Begin.is)
+    (pattern-begin _ c.in-Begin.is)
     inv.has.gap_in.next_in (λ u e h. h) refl (begin_apart _) c.finish-in-Begin.ensures
 
 pub add-returns-in-End : goal.add-returns-in-End
 add-returns-in-End g t c =
     let inv = c.loop-tree.invariant in
     finished_leaf _ _ _ _ _ _ End (AtEnd _) _ c.finish-in-End.result inv.has inv.completes inv.size
-        (pattern-end _ c.in-End.is)
+    (pattern-end _ c.in-End.is)
     inv.has.gap_in.next_in (λ u e h. h) refl (end_apart _) c.finish-in-End.ensures
 
 pub add-loop-tree-preserved-in-Cat : goal.add-loop-tree-preserved-in-Cat
@@ -98,7 +98,7 @@ add-returns-then-is_without_states g t c =
     let completes = rw is at inv.completes in
     finished _ _ _ _ c.loop-tree.gap _ _ _ _ _ inv.has completes
     (nothing_added _ (Rep (pattern c.in-Rep.inner.value) c.in-Rep.least c.in-Rep.most) _ proper none inv.has.gap_in.tidy
-        inv.has.gap_in.next_in)
+    inv.has.gap_in.next_in)
     c.fill-entry.ensures size
 
 pub add-loop-tree-preserved : goal.add-loop-tree-preserved
@@ -129,7 +129,7 @@ open_repetition-returns-in_ok-copies-in-None g t c =
     rw c.in-None.is
     (narrowed_at _ _ c.args.gap _ _ _ _ _ _ opened.place opened.second
     (loop_narrowed _ _ _ _ _ _ _ _ _ _ c.requires.gap_in c.in_ok-turn-in-None.ensures c.in_ok-copies-in-None.ensures
-        opened.filled))
+    opened.filled))
 
 pub open_repetition-add_copies-requires-in-Some : goal.open_repetition-add_copies-requires-in-Some
 open_repetition-add_copies-requires-in-Some g t c κs within =
@@ -140,16 +140,16 @@ open_repetition-add_copies-requires-in-Some g t c κs within =
     let room = rw c.in-Some.is at c.requires.fits in
     let all = shared c.args.least (c.in-Some.most - c.args.least - 1) c.in-Some.most (size_of r) (omega arith) in
     let fits : length c.push-in-Some.new.states.items + c.args.least * size_of r ≤ 65536 =
-        omega (arith, few.size, len, all, room) in
+    omega (arith, few.size, len, all, room) in
     let inside : c.in_ok-place-in-Some.place < length c.push-in-Some.new.states.items =
-        omega (arith, len, push.place) in
+    omega (arith, len, push.place) in
     let tidy = pushed_tidy _ _ _ _ push few.tidy tt in
     search (rules, fits, inside, tidy)
 
 pub open_repetition-open_hole-requires-in-Some : goal.open_repetition-open_hole-requires-in-Some
 open_repetition-open_hole-requires-in-Some g t c =
     hole_behind_options _ _ _ _ _ _ _ c.args.gap _ _ _ c.requires.gap_in c.in_ok-others-in-Some.ensures
-        c.in_ok-place-in-Some.ensures
+    c.in_ok-place-in-Some.ensures
     c.in_ok-copies-in-Some.ensures
 
 pub open_repetition-returns-in_ok-copies-in-Some : goal.open_repetition-returns-in_ok-copies-in-Some
@@ -158,7 +158,7 @@ open_repetition-returns-in_ok-copies-in-Some g t c =
     rw c.in-Some.is
     (narrowed_at _ _ c.args.gap _ _ _ _ _ _ opened.place opened.second
     (option_narrowed _ _ _ _ _ _ _ _ _ _ _ _ _ _ (omega arith)
-        (omega arith) c.requires.gap_in c.in_ok-others-in-Some.ensures
+    (omega arith) c.requires.gap_in c.in_ok-others-in-Some.ensures
     c.in_ok-place-in-Some.ensures c.in_ok-copies-in-Some.ensures opened.filled))
 
 pub open_repetition-returns-in_ok-next-in-Some-2 : goal.open_repetition-returns-in_ok-next-in-Some-2
@@ -168,13 +168,13 @@ open_repetition-returns-in_ok-next-in-Some-2 g t c =
     let same : c.in-Some-2.count ≡ c.in-Some.most = cc in
     rw c.in-Some-2.is
     (copies_narrowed _ _ _ c.args.least c.in-Some-2.count (c.in-Some-2.count - 1) c.args.gap _ (omega (arith, some))
-        (omega (arith, proper.1))
+    (omega (arith, proper.1))
     c.in_ok-next-in-Some-2.ensures)
 
 pub add_copies-returns-then-len-before : goal.add_copies-returns-then-len-before
 add_copies-returns-then-len-before g t c =
     rest_added _ _ _ _ c.loop-i.i _ _ _ _ c.requires.proper (omega arith) c.loop-i.invariant c.in_ok-entry.ensures
-        (omega arith)
+    (omega arith)
 
 pub add_copies-loop-i-preserved : goal.add_copies-loop-i-preserved
 add_copies-loop-i-preserved g t c = copy_added _ _ _ _ _ _ _ _ c.loop-i.invariant c.in_ok-entry.ensures

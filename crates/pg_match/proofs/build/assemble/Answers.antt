@@ -14,7 +14,7 @@ pub add-requires-clause-proper : goal.add-requires-clause-proper
 add-requires-clause-proper g c =
     let trees = c.args.trees.now in
     let read = slice_get_read trees (length trees) c.loop-i.i c.index-trees-i.result refl
-        (omega arith) c.index-trees-i.is in
+    (omega arith) c.index-trees-i.is in
     each_proper (map pattern trees) c.requires.proper c.loop-i.i (pattern c.index-trees-i.result)
     (slice_get-map pattern trees c.loop-i.i ∙ ap (option_map pattern) read)
 
@@ -22,7 +22,7 @@ pub add-requires-clause-fits : goal.add-requires-clause-fits
 add-requires-clause-fits g c =
     let trees = c.args.trees.now in
     let read = slice_get_read trees (length trees) c.loop-i.i c.index-trees-i.result refl
-        (omega arith) c.index-trees-i.is in
+    (omega arith) c.index-trees-i.is in
     let fits = room_for (map pattern trees) c.loop-i.i (pattern c.index-trees-i.result)
     (slice_get-map pattern trees c.loop-i.i ∙ ap (option_map pattern) read) in
     omega (arith, fits, c.loop-i.invariant.size, c.requires.small)
@@ -31,7 +31,7 @@ pub push-requires-else-i-eq0 : goal.push-requires-else-i-eq0
 push-requires-else-i-eq0 g c =
     let trees = c.args.trees.now in
     let read = slice_get_read trees (length trees) c.loop-i.i c.index-trees-i.result refl
-        (omega arith) c.index-trees-i.is in
+    (omega arith) c.index-trees-i.is in
     let fits = room_for (map pattern trees) c.loop-i.i (pattern c.index-trees-i.result)
     (slice_get-map pattern trees c.loop-i.i ∙ ap (option_map pattern) read) in
     omega (arith, fits, c.loop-i.invariant.size, c.requires.small, c.in_ok-entry.ensures.size, c.if-i-eq0.false)
@@ -40,15 +40,15 @@ pub loop-i-preserved : goal.loop-i-preserved
 loop-i-preserved g c =
     let trees = c.args.trees.now in
     let read = slice_get_read trees (length trees) c.loop-i.i c.index-trees-i.result refl
-        (omega arith) c.index-trees-i.is in
+    (omega arith) c.index-trees-i.is in
     let here : slice_get (map pattern trees) c.loop-i.i ≡ Some (pattern c.index-trees-i.result) =
-        slice_get-map pattern trees c.loop-i.i ∙ ap (option_map pattern) read in
+    slice_get-map pattern trees c.loop-i.i ∙ ap (option_map pattern) read in
     elim c.if-i-eq0.branch [
       | then-i-eq0 w ↦ rw (w.states-is, w.start-is)
           (building_one _ _ _ _ _ _ _ w.if-i-eq0.true c.loop-i.invariant c.in_ok-entry.ensures here)
       | else-i-eq0+in_ok-start w ↦ rw (w.states-is, w.start-is)
           (building_more _ _ _ _ _ _ _ _ _ w.if-i-eq0.false c.loop-i.invariant c.in_ok-entry.ensures
-              w.in_ok-start.ensures here)
+          w.in_ok-start.ensures here)
     ]
 
 pub returns-clause-runs : goal.returns-clause-runs

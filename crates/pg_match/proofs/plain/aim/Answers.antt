@@ -25,18 +25,18 @@ loop-k-preserved g c =
     let k = c.loop-k.k in
     let lt : c.loop-k.k < c.args.current.now.len = omega arith in
     let e : c.index-state.result.now ≡ listed now k =
-        read_listed (members c.args.current.now) c.loop-k.k _ c.requires.good lt c.index-state.ensures in
+    read_listed (members c.args.current.now) c.loop-k.k _ c.requires.good lt c.index-state.ensures in
     let n = listed_in now k c.requires.good lt in
     let inside : c.index-state.result.now < length c.args.states.now = omega (arith, e, n) in
     elim c.match-states-state.branch [
       | in-Read+then-contains w ↦
           let is = rw e at (stands _ _ _ inside w.in-Read.is) in
           rw w.next-is (aimed_next t b now _ _ k w.in-Read.set w.in-Read.to c.loop-k.invariant lt c.requires.good is
-              (sym w.if-contains.ensures) w.insert.ensures)
+          (sym w.if-contains.ensures) w.insert.ensures)
       | in-Read+else-contains w ↦
           let is = rw e at (stands _ _ _ inside w.in-Read.is) in
           rw w.next-is (aimed_over t b now _ k c.loop-k.invariant
-              (aimed_refused t b now k w.in-Read.set w.in-Read.to is (sym w.if-contains.ensures)))
+          (aimed_refused t b now k w.in-Read.set w.in-Read.to is (sym w.if-contains.ensures)))
       | in_default w ↦
           let st = get_or t c.index-state.result.now Fail in
           let is = subst (λ q. slice_get t q ≡ Some st) e (stands _ _ _ inside refl) in

@@ -21,7 +21,7 @@ loop-next-preserved g c =
     let e = read_listed (members c.loop-next.set) c.loop-next.next _ good c.loop-next-test.true c.index-from.ensures in
     closing_next _ _ _ _ _ _ _ c.loop-next.invariant c.loop-next-test.true
     (subst (λ q. Spread c.args.states.now c.args.first c.args.last (members c.loop-next.set)
-        (members c.spread.new.set) q) e c.spread.ensures)
+    (members c.spread.new.set) q) e c.spread.ensures)
 
 pub returns : goal.returns
 returns g c = all_closed _ _ _ _ _ _ c.loop-next.invariant c.loop-next-test.false

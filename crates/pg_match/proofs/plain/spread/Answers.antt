@@ -14,7 +14,7 @@ returns-then-first g c = begin_spread _ _ _ _ _ _ _
 pub returns-else-first : goal.returns-else-first
 returns-else-first g c =
     none_spread _ _ _ _ _ _ (stands _ _ _ c.requires.within c.in-AtBegin.is)
-        (λ r e. true≢false (sym e.0 ∙ c.if-first.false)) c.requires.good
+    (λ r e. true≢false (sym e.0 ∙ c.if-first.false)) c.requires.good
 
 pub returns-then-last : goal.returns-then-last
 returns-then-last g c = end_spread _ _ _ _ _ _ _
@@ -23,12 +23,12 @@ returns-then-last g c = end_spread _ _ _ _ _ _ _
 pub returns-else-last : goal.returns-else-last
 returns-else-last g c =
     none_spread _ _ _ _ _ _ (stands _ _ _ c.requires.within c.in-AtEnd.is)
-        (λ r e. true≢false (sym e.0 ∙ c.if-last.false)) c.requires.good
+    (λ r e. true≢false (sym e.0 ∙ c.if-last.false)) c.requires.good
 
 pub returns-in-Split : goal.returns-in-Split
 returns-in-Split g c =
     split_spread _ _ _ _ _ _ _ _ _ (stands _ _ _ c.requires.within c.in-Split.is) c.insert-in-Split.ensures
-        c.insert-in-Split-2.ensures
+    c.insert-in-Split-2.ensures
 
 pub returns-in-Read : goal.returns-in-Read
 returns-in-Read g c =

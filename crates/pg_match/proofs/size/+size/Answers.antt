@@ -19,7 +19,7 @@ loop-tree-preserved-in-Cat-1 g t c =
       small = omega (arith, c.capped-total.ensures);
       same = rw (c.capped-total.ensures, c.size.ensures, c.deref.ensures, c.deref-tree.ensures)
           (inv.same ∙ ap (λ p. min (c.loop-tree.times * size_of p + c.loop-tree.total) 65537) is
-              ∙ sym (cut_part 65537 _ _ _ _));
+          ∙ sym (cut_part 65537 _ _ _ _));
     }
 
 pub loop-tree-preserved-in-Alt-1 : goal.loop-tree-preserved-in-Alt-1
@@ -32,10 +32,14 @@ loop-tree-preserved-in-Alt-1 g t c =
       proper = rw c.deref-tree-in-Alt.ensures proper.0;
       few = inv.few;
       small = omega (arith, c.capped-total-in-Alt.ensures);
-      same = rw (c.capped-total-in-Alt.ensures, c.size-in-Alt.ensures, c.deref-in-Alt.ensures,
-          c.deref-tree-in-Alt.ensures)
+      same = rw (
+        c.capped-total-in-Alt.ensures,
+        c.size-in-Alt.ensures,
+        c.deref-in-Alt.ensures,
+        c.deref-tree-in-Alt.ensures,
+      )
           (inv.same ∙ ap (λ p. min (c.loop-tree.times * size_of p + c.loop-tree.total) 65537) is
-              ∙ sym (cut_choice 65537 _ _ _ _));
+          ∙ sym (cut_choice 65537 _ _ _ _));
     }
 
 pub loop-tree-preserved-in-None : goal.loop-tree-preserved-in-None
@@ -50,7 +54,7 @@ loop-tree-preserved-in-None g t c =
       small = omega (arith, c.capped-total-in-None.ensures);
       same = rw (c.capped-times.ensures, c.capped-total-in-None.ensures, c.from.ensures, c.deref-tree-in-None.ensures)
           (inv.same ∙ ap (λ p. min (c.loop-tree.times * size_of p + c.loop-tree.total) 65537) is
-              ∙ sym (cut_loop 65537 _ _ _ _));
+          ∙ sym (cut_loop 65537 _ _ _ _));
     }
 
 pub loop-tree-preserved : goal.loop-tree-preserved
@@ -63,8 +67,13 @@ loop-tree-preserved g t c =
       proper = rw c.deref-tree-in-Some.ensures proper.0;
       few = omega (arith, c.capped-times-in-Some.ensures);
       small = omega (arith, c.capped-total-in-Some.ensures);
-      same = rw (c.capped-times-in-Some.ensures, c.capped-total-in-Some.ensures, c.from-in-Some.ensures,
-          c.from-in-Some-2.ensures, c.deref-tree-in-Some.ensures)
+      same = rw (
+        c.capped-times-in-Some.ensures,
+        c.capped-total-in-Some.ensures,
+        c.from-in-Some.ensures,
+        c.from-in-Some-2.ensures,
+        c.deref-tree-in-Some.ensures,
+      )
           (inv.same ∙ ap (λ p. min (c.loop-tree.times * size_of p + c.loop-tree.total) 65537) is
-              ∙ sym (cut_copies 65537 _ _ _ _ _));
+          ∙ sym (cut_copies 65537 _ _ _ _ _));
     }

@@ -10,7 +10,7 @@ pub size-one-requires : goal.size-one-requires
 size-one-requires g c =
     let trees = c.args.trees.now in
     let read = slice_get_read trees (length trees) c.loop-i.i c.index-trees-i.result refl
-        (omega arith) c.index-trees-i.is in
+    (omega arith) c.index-trees-i.is in
     each_proper (map pattern trees) c.requires c.loop-i.i (pattern c.index-trees-i.result)
     (slice_get-map pattern trees c.loop-i.i ∙ ap (option_map pattern) read)
 
@@ -18,7 +18,7 @@ pub loop-i-preserved : goal.loop-i-preserved
 loop-i-preserved g c =
     let trees = c.args.trees.now in
     let read = slice_get_read trees (length trees) c.loop-i.i c.index-trees-i.result refl
-        (omega arith) c.index-trees-i.is in
+    (omega arith) c.index-trees-i.is in
     let more = more_size (map pattern trees) c.loop-i.i (pattern c.index-trees-i.result)
     (slice_get-map pattern trees c.loop-i.i ∙ ap (option_map pattern) read) in
     elim c.if-i-eq0.branch [

@@ -10,17 +10,17 @@ returns-in-Jump g c = jump_followed _ _ _ _ _ _ _ _ (stands _ _ _ c.requires.wit
 pub returns-then-place-eq0 : goal.returns-then-place-eq0
 returns-then-place-eq0 g c =
     begin_followed _ _ _ _ _ _ _ _ (stands _ _ _ c.requires.within c.in-AtBegin.is) c.if-place-eq0.true
-        c.insert-then-place-eq0.ensures
+    c.insert-then-place-eq0.ensures
 
 pub returns-else-place-eq0 : goal.returns-else-place-eq0
 returns-else-place-eq0 g c =
     not_begin_followed _ _ _ _ _ _ _ (stands _ _ _ c.requires.within c.in-AtBegin.is) c.if-place-eq0.false
-        c.requires.good
+    c.requires.good
 
 pub returns-then-place-line : goal.returns-then-place-line
 returns-then-place-line g c =
     end_followed _ _ _ _ _ _ _ _ (stands _ _ _ c.requires.within c.in-AtEnd.is) c.if-place-line.true
-        c.insert-then-place-line.ensures
+    c.insert-then-place-line.ensures
 
 pub returns-else-place-line : goal.returns-else-place-line
 returns-else-place-line g c =
@@ -29,7 +29,7 @@ returns-else-place-line g c =
 pub returns-in-Split : goal.returns-in-Split
 returns-in-Split g c =
     split_followed _ _ _ _ _ _ _ _ _ _ (stands _ _ _ c.requires.within c.in-Split.is) c.insert-in-Split.ensures
-        c.insert-in-Split-2.ensures
+    c.insert-in-Split-2.ensures
 
 pub returns-in-Read : goal.returns-in-Read
 returns-in-Read g c =

@@ -24,7 +24,7 @@ loop-next-preserved g c =
     let e = read_listed s c.loop-next.next _ good c.loop-next-test.true c.index-from.ensures in
     reaching_next _ _ _ _ _ _ _ _ _ c.loop-next.invariant c.loop-next-test.true
     (subst (λ q. Followed c.args.states.now c.args.line.now c.args.place s (members c.follow.new.set) q c.args.mark) e
-        c.follow.ensures)
+    c.follow.ensures)
 
 pub insert-requires-clause-good : goal.insert-requires-clause-good
 insert-requires-clause-good g c = c.requires.good

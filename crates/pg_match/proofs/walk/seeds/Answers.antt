@@ -10,7 +10,7 @@ returns g c =
     rw c.truncate.ensures.items
     (seeds_found c.args.states.now (0 ∷ 0 ∷ []) 1 (members c.in_ok-set.set) (members c.reach.new.set) c.args.start 1
     (λ e. omega arith) (λ e. omega arith) c.in_ok-set.ensures.empty
-        (size ∙ c.in_ok-set.ensures.size) c.reach.ensures.reached c.reach.ensures.paths)
+    (size ∙ c.in_ok-set.ensures.size) c.reach.ensures.reached c.reach.ensures.paths)
 
 pub returns-in_err-set : goal.returns-in_err-set
 returns-in_err-set g c = IfOk-from_err c.from_residual.result _ c.from_residual.ensures.0

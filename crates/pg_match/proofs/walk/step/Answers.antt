@@ -30,21 +30,21 @@ pub reach-requires-clause-some : goal.reach-requires-clause-some
 reach-requires-clause-some g c =
     let lt : c.loop-k.k < c.args.current.now.len = omega arith in
     let r = read_thread (members c.args.current.now) c.loop-k.k _ _ c.requires.good lt c.index-state.ensures
-        c.index-mark.ensures in
+    c.index-mark.ensures in
     omega (arith, r.1, r.3)
 
 pub reach-requires-clause-below : goal.reach-requires-clause-below
 reach-requires-clause-below g c =
     let lt : c.loop-k.k < c.args.current.now.len = omega arith in
     let r = read_thread (members c.args.current.now) c.loop-k.k _ _ c.requires.good lt c.index-state.ensures
-        c.index-mark.ensures in
+    c.index-mark.ensures in
     λ q. let b = c.loop-k.invariant.below c.loop-k.k (omega arith) lt q in omega (arith, r.1, b)
 
 pub loop-k-preserved : goal.loop-k-preserved
 loop-k-preserved g c =
     let lt : c.loop-k.k < c.args.current.now.len = omega arith in
     let r = read_thread (members c.args.current.now) c.loop-k.k _ _ c.requires.good lt c.index-state.ensures
-        c.index-mark.ensures in
+    c.index-mark.ensures in
     let inside : c.index-state.result.now < length c.args.states.now = omega (arith, r.0, r.2) in
     let byte = slice_get-get_or c.args.line.now c.args.place 0 c.requires.place in
     let t = c.args.states.now in
@@ -66,7 +66,7 @@ loop-k-preserved g c =
           rw w.next-is
           (stepping_over t l i now limit _ _ c.loop-k.invariant
           (λ q early e. byte_none t l i now limit q0 w.in-Read.to _ q w.in-Read.set is byte
-              (sym w.if-contains.ensures) e))
+          (sym w.if-contains.ensures) e))
       | then-mark-limit+in_default w ↦
           let st = get_or t c.index-state.result.now Fail in
           let is = subst (λ q. slice_get t q ≡ Some st) r.0 (stands _ _ _ inside refl) in

@@ -26,17 +26,17 @@ loop-worker-preserved g c =
     let worked : P (record { seat = seat; pass = pass; scratch = scratch }) = subst P same (all_last P rest w all) in
     let more = works_more t c.loop-worker.seats.items c.loop-worker.passes.items seat pass i.works worked.0 in
     let seats_spent : Any IsSpent (c.loop-worker.seats.items ++ seat ∷ [])
-        → Any IsSpent c.push_reserved.new.self.items = subst (λ (l : List SeatView). Any IsSpent l) (sym s.items) in
+    → Any IsSpent c.push_reserved.new.self.items = subst (λ (l : List SeatView). Any IsSpent l) (sym s.items) in
     record {
       worked = all_front P rest w all;
       works = subst (λ (l : List SeatView). AreWorks t l c.push_reserved-in-Some.new.self.items) (sym s.items)
           (subst (λ (l : List (PutView Searched A)). AreWorks t (c.loop-worker.seats.items ++ seat ∷ []) l)
-              (sym p.items) more);
+          (sym p.items) more);
       spent = ⊎_elim
           (λ before. ⊎_elim (λ left. inl left)
-              (λ last. inr (seats_spent (any_last IsSpent c.loop-worker.seats.items seat (subst WasSpent same last))))
-              (any_split WasSpent rest w (subst
-              (λ (l : List (Worker A)). Any WasSpent l) c.in-Some.ensures.items before)))
+          (λ last. inr (seats_spent (any_last IsSpent c.loop-worker.seats.items seat (subst WasSpent same last))))
+          (any_split WasSpent rest w (subst
+          (λ (l : List (Worker A)). Any WasSpent l) c.in-Some.ensures.items before)))
           (λ done. inr (seats_spent (any_front IsSpent c.loop-worker.seats.items seat done)))
           i.spent;
       fits = subst (λ (l : List Room). All IsFit l) (sym k.items)
@@ -44,8 +44,10 @@ loop-worker-preserved g c =
       same = (let a = i.same in let l = s.len in let m = p.len in omega arith);
       count = (let a = i.count in let b = c.in-Some.ensures.cases in let l = s.len in omega arith);
       back = (let a = i.back in let b = c.in-Some.ensures.cases in let l = k.len in omega arith);
-      room = ((let a = i.room.0 in let l = s.capacity in omega arith),
-          (let a = i.room.1 in let l = p.capacity in omega arith));
+      room = (
+        (let a = i.room.0 in let l = s.capacity in omega arith),
+        (let a = i.room.1 in let l = p.capacity in omega arith),
+      );
     }
 
 pub loop-worker-init : goal.loop-worker-init

@@ -19,18 +19,18 @@ loop-seat-preserved g c =
     let IsFit : Room → Type 0 = λ s. Fits s (arc_value c.args.round.query.now).machine in
     let P : Worker A → Type 0 = HasWorked (task_of c.args.round) in
     let seats : All IsNewSeat (c.pop.new.self.items ++ c.in-Some.seat ∷ []) =
-        subst (λ (l : List SeatView). All IsNewSeat l) c.in-Some.ensures.items i.seats in
+    subst (λ (l : List SeatView). All IsNewSeat l) c.in-Some.ensures.items i.seats in
     let passes : All IsNewPass (c.pop-in-Some.new.self.items ++ c.in-Some-pop.pass ∷ []) =
-        subst (λ (l : List (PutView Searched A)). All IsNewPass l) c.in-Some-pop.ensures.items i.passes in
+    subst (λ (l : List (PutView Searched A)). All IsNewPass l) c.in-Some-pop.ensures.items i.passes in
     let fits : All IsFit (c.pop-in-Some-2.new.self.items ++ c.in-Some-pop-2.scratch ∷ []) =
-        subst (λ (l : List Room). All IsFit l) c.in-Some-pop-2.ensures.items i.fits in
+    subst (λ (l : List Room). All IsFit l) c.in-Some-pop-2.ensures.items i.fits in
     let seat : IsNewSeat c.in-Some.seat = all_last IsNewSeat c.pop.new.self.items c.in-Some.seat seats in
     let pass : IsNewPass c.in-Some-pop.pass =
-        all_last IsNewPass c.pop-in-Some.new.self.items c.in-Some-pop.pass passes in
+    all_last IsNewPass c.pop-in-Some.new.self.items c.in-Some-pop.pass passes in
     let fit : IsFit c.in-Some-pop-2.scratch =
-        all_last IsFit c.pop-in-Some-2.new.self.items c.in-Some-pop-2.scratch fits in
+    all_last IsFit c.pop-in-Some-2.new.self.items c.in-Some-pop-2.scratch fits in
     let new : P record { seat = c.in-Some.seat; pass = c.in-Some-pop.pass; scratch = c.in-Some-pop-2.scratch } =
-        (fresh_work (task_of c.args.round) c.in-Some.seat c.in-Some-pop.pass seat pass, fit) in
+    (fresh_work (task_of c.args.round) c.in-Some.seat c.in-Some-pop.pass seat pass, fit) in
     record {
       seats = all_front IsNewSeat c.pop.new.self.items c.in-Some.seat seats;
       passes = all_front IsNewPass c.pop-in-Some.new.self.items c.in-Some-pop.pass passes;

@@ -9,9 +9,14 @@ use Rattle.pg_round.proofs.ReceiptLemmas.{handing_none, handing_more, broken_mor
 use Rattle.pg_round.proofs.receiving.deliver.Goals as goal
 
 pub loop-init : goal.loop-init
-loop-init g c = (tt, tt, (λ i. c.args.delivered.lists), (λ i. g.W.Sink.failures c.args.out.now),
-    λ past st n s. handing_none (g.S.Collector.stands c.args.collector.now) past c.args.delivered.out
-    (g.W.Sink.taken c.args.out.now) st s)
+loop-init g c = (
+  tt,
+  tt,
+  (λ i. c.args.delivered.lists),
+  (λ i. g.W.Sink.failures c.args.out.now),
+  λ past st n s. handing_none (g.S.Collector.stands c.args.collector.now) past c.args.delivered.out
+      (g.W.Sink.taken c.args.out.now) st s,
+)
 
 pub loop-preserved : goal.loop-preserved
 loop-preserved g c =
@@ -24,9 +29,9 @@ loop-preserved g c =
       got.calm ∙ i.3,
       λ past st n s.
           handing_more (g.S.Collector.stands c.loop.collector)
-              (g.S.Collector.stands c.receive.new.collector) past c.args.delivered.out c.loop.delivered.out
-              c.next-in-loop.new.self.out c.in-Some-next.found (g.W.Sink.taken c.args.out.now)
-              (g.W.Sink.taken c.loop.out) (g.W.Sink.taken c.receive.new.out)
+          (g.S.Collector.stands c.receive.new.collector) past c.args.delivered.out c.loop.delivered.out
+          c.next-in-loop.new.self.out c.in-Some-next.found (g.W.Sink.taken c.args.out.now)
+          (g.W.Sink.taken c.loop.out) (g.W.Sink.taken c.receive.new.out)
           (i.4 past st n s) (ap (λ (v : DeliveredView Searched). v.out) gave) (λ p h m e. got.ok p h m) n,
     )
 
@@ -37,9 +42,9 @@ returns-in_err-receive-in-Some-next-clause-err g c = λ past st n s.
     let b = g.W.Sink.taken c.args.out.now in let a = g.W.Sink.taken c.receive.new.out in
     let h = i.4 past st n s in
     on_err (HasBroken past b a (g.W.Sink.failures c.args.out.now) (g.W.Sink.failures c.receive.new.out))
-        c.from_residual.result
+    c.from_residual.result
     (broken_more (g.S.Collector.stands c.loop.collector) past h.0 b (g.W.Sink.taken c.loop.out) a
-        (g.W.Sink.failures c.args.out.now) (g.W.Sink.failures c.loop.out) (g.W.Sink.failures c.receive.new.out)
+    (g.W.Sink.failures c.args.out.now) (g.W.Sink.failures c.loop.out) (g.W.Sink.failures c.receive.new.out)
     h.2 i.3 (λ p k m e. c.in_err-receive-in-Some-next.ensures.err p k m) n)
 
 pub returns-in-None-next-clause-ok : goal.returns-in-None-next-clause-ok
@@ -47,24 +52,24 @@ returns-in-None-next-clause-ok g c = λ past st n s.
     let i = c.loop.invariant in
     let m = g.W.Sink.taken c.loop.out in let a = g.W.Sink.taken c.drain.new.out in
     let merge : IsMerge c.args.delivered.lists c.loop.delivered.out =
-        subst (λ (ls : List (List Searched)). IsMerge ls c.loop.delivered.out) i.2 c.in-None-next.ensures.none.1 in
+    subst (λ (ls : List (List Searched)). IsMerge ls c.loop.delivered.out) i.2 c.in-None-next.ensures.none.1 in
     delivered_done (g.S.Collector.stands c.loop.collector)
-        (g.S.Collector.stands c.drain.new.self) past c.args.delivered.lists c.args.delivered.out c.loop.delivered.out
-        c.drain.result (g.W.Sink.taken c.args.out.now) m a
+    (g.S.Collector.stands c.drain.new.self) past c.args.delivered.lists c.args.delivered.out c.loop.delivered.out
+    c.drain.result (g.W.Sink.taken c.args.out.now) m a
     (i.4 past st n s) merge (λ p h no e. drain_ok (g.S.Collector.stands c.drain.new.self) p c.drain.result m a
-        (c.drain.ensures.safe p h) (c.drain.ensures.drained p h)) n
+    (c.drain.ensures.safe p h) (c.drain.ensures.drained p h)) n
 
 pub returns-in-None-next-clause-err : goal.returns-in-None-next-clause-err
 returns-in-None-next-clause-err g c = λ past st n s.
     let i = c.loop.invariant in
     let b = g.W.Sink.taken c.args.out.now in let m = g.W.Sink.taken c.loop.out in let a =
-        g.W.Sink.taken c.drain.new.out in
+    g.W.Sink.taken c.drain.new.out in
     let f = g.W.Sink.failures c.args.out.now in let f' = g.W.Sink.failures c.loop.out in let f'' =
-        g.W.Sink.failures c.drain.new.out in
+    g.W.Sink.failures c.drain.new.out in
     let h = i.4 past st n s in
     broken_done (g.S.Collector.stands c.loop.collector) past h.0 c.drain.result b m a f f' f'' h.2 i.3
     (λ p k no e. drain_err (g.S.Collector.stands c.drain.new.self) p c.drain.result m a f' f'' no
-        (c.drain.ensures.safe p k) c.drain.ensures.cause (c.drain.ensures.drained p k)) n
+    (c.drain.ensures.safe p k) c.drain.ensures.cause (c.drain.ensures.drained p k)) n
 
 pub receive-requires : goal.receive-requires
 receive-requires g c = record { sees = c.requires.sees }

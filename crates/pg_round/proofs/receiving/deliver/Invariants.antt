@@ -11,4 +11,4 @@ invariant-loop g l =
     × (g.W.Sink.failures l.out ≡ g.W.Sink.failures l.initial.out)
     × ((past : Past) → g.S.Collector.stands l.initial.collector past → past.failed ≡ false → IsSafe past past.written →
     Handing (g.S.Collector.stands l.collector) past l.fn.delivered.out l.delivered.out (g.W.Sink.taken l.initial.out)
-        (g.W.Sink.taken l.out))
+    (g.W.Sink.taken l.out))

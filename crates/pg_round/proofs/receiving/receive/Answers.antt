@@ -12,9 +12,9 @@ returns-clause-ok g c = λ past st n.
     let b = g.W.Sink.taken c.args.out.now in let a = g.W.Sink.taken c.drain.new.out in
     let p = arrived past c.args.found in
     let h = subst (λ (r : Searched). g.S.Collector.stands c.arrive.new.self (arrived past r))
-        (c.requires.sees c.args.found) (c.arrive.ensures.stands past st) in
+    (c.requires.sees c.args.found) (c.arrive.ensures.stands past st) in
     map_ok (HasWritten stands p [] b a) (HasReceived stands past (c.args.found ∷ []) b a) c.drain.result
-        (λ k. (k.0, k.1, k.2))
+    (λ k. (k.0, k.1, k.2))
     (drain_ok stands p c.drain.result b a (c.drain.ensures.safe p h) (c.drain.ensures.drained p h))
 
 pub returns-clause-err : goal.returns-clause-err
@@ -22,10 +22,10 @@ returns-clause-err g c = λ past st n.
     let stands = g.S.Collector.stands c.drain.new.self in
     let p = arrived past c.args.found in
     let h = subst (λ (r : Searched). g.S.Collector.stands c.arrive.new.self (arrived past r))
-        (c.requires.sees c.args.found) (c.arrive.ensures.stands past st) in
+    (c.requires.sees c.args.found) (c.arrive.ensures.stands past st) in
     drain_err stands p c.drain.result (g.W.Sink.taken c.args.out.now) (g.W.Sink.taken c.drain.new.out)
-        (g.W.Sink.failures c.args.out.now) (g.W.Sink.failures c.drain.new.out) n
-        (c.drain.ensures.safe p h) c.drain.ensures.cause (c.drain.ensures.drained p h)
+    (g.W.Sink.failures c.args.out.now) (g.W.Sink.failures c.drain.new.out) n
+    (c.drain.ensures.safe p h) c.drain.ensures.cause (c.drain.ensures.drained p h)
 
 pub returns-clause-calm : goal.returns-clause-calm
 returns-clause-calm g c = c.drain.ensures.no_failure

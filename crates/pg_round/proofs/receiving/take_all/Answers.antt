@@ -13,8 +13,8 @@ loop-init g c = record {
   failures = refl;
   got = λ past st n s.
       subst (λ (l : List Searched). HasReceived (g.S.Collector.stands c.args.collector.now) past l
-          (g.W.Sink.taken c.args.out.now) (g.W.Sink.taken c.args.out.now)) (sym c.requires.take.1)
-          (received_none (g.S.Collector.stands c.args.collector.now) past (g.W.Sink.taken c.args.out.now) st s);
+      (g.W.Sink.taken c.args.out.now) (g.W.Sink.taken c.args.out.now)) (sym c.requires.take.1)
+      (received_none (g.S.Collector.stands c.args.collector.now) past (g.W.Sink.taken c.args.out.now) st s);
   ready = c.requires.reader;
   read = λ r f h. h;
 }
@@ -31,10 +31,10 @@ loop-preserved-in-Some-take g c =
       failures = got.calm ∙ i.failures;
       got = λ past st n s.
           subst (λ (l : List Searched). HasReceived (g.S.Collector.stands c.receive.new.collector) past l
-              (g.W.Sink.taken c.args.out.now) (g.W.Sink.taken c.receive.new.out)) (sym took.some)
+          (g.W.Sink.taken c.args.out.now) (g.W.Sink.taken c.receive.new.out)) (sym took.some)
           (received_more (g.S.Collector.stands c.loop.collector)
-              (g.S.Collector.stands c.receive.new.collector) past c.loop.take.taken (c.in-Some-take.found ∷ [])
-              (g.W.Sink.taken c.args.out.now) (g.W.Sink.taken c.loop.out) (g.W.Sink.taken c.receive.new.out)
+          (g.S.Collector.stands c.receive.new.collector) past c.loop.take.taken (c.in-Some-take.found ∷ [])
+          (g.W.Sink.taken c.args.out.now) (g.W.Sink.taken c.loop.out) (g.W.Sink.taken c.receive.new.out)
           (i.got past st n s) (λ p h m e. got.ok p h m) n);
       ready = i.ready;
       read = i.read;

@@ -11,7 +11,7 @@ invariant-loop g l = record {
   failures : g.W.Sink.failures l.out ≡ g.W.Sink.failures l.initial.out;
   got : (past : Past) → g.S.Collector.stands l.initial.collector past → past.failed ≡ false → IsSafe past past.written →
       HasReceived (g.S.Collector.stands l.collector) past l.take.taken (g.W.Sink.taken l.initial.out)
-          (g.W.Sink.taken l.out);
+      (g.W.Sink.taken l.out);
   ready : g.D.Reader.ready l.reader l.from;
   read : (r : g.row.D.Denot) → (f : g.row.F.Denot) →
       g.D.Reader.reaches r f l.initial.reader l.initial.from → g.D.Reader.reaches r f l.reader l.from;

@@ -90,7 +90,7 @@ pub returns-in_err-deliver : goal.returns-in_err-deliver
 returns-in_err-deliver g c =
     let p = err_from_is_err_and c.from_residual-in_err-deliver.result c.from_residual-in_err-deliver.ensures.1 in
     let b = g.W.Sink.taken c.args.out.now in let m = g.W.Sink.taken c.search_all.new.out in let a =
-        g.W.Sink.taken c.deliver.new.out in
+    g.W.Sink.taken c.deliver.new.out in
     let e = c.in_ok-workers.ensures in
     let mid = g.S.Collector.stands c.search_all.new.collector in let taken = c.search_all.new.take.taken in
     let f = g.W.Sink.failures c.args.out.now in
@@ -111,9 +111,9 @@ returns-in_err-deliver g c =
 pub returns : goal.returns
 returns g c =
     let b = g.W.Sink.taken c.args.out.now in let m = g.W.Sink.taken c.search_all.new.out in let a =
-        g.W.Sink.taken c.deliver.new.out in
+    g.W.Sink.taken c.deliver.new.out in
     let mid = g.S.Collector.stands c.search_all.new.collector in let last =
-        g.S.Collector.stands c.deliver.new.collector in
+    g.S.Collector.stands c.deliver.new.collector in
     let left = c.in_ok-delivered.delivered in
     let e = c.in_ok-workers.ensures in
     let opened = c.in_ok-board.ensures.workers.0 in let lent = c.in_ok-board.ensures.scratches.1 in

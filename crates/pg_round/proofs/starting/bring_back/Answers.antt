@@ -10,7 +10,9 @@ pub returns : goal.returns
 returns g c =
     let P : Worker g.row.A.Denot → Type 0 = HasWorked (task_of c.args.round) in
     let h : IfOk c.match-started.outcome P =
-    elim c.match-started.branch [ in-Running w ↦ search rules | in-Ended w ↦ search rules ] in
-    (c.in_ok-push.ensures.len, subst (λ (l : List (Worker g.row.A.Denot)). All P l) (sym c.in_ok-push.ensures.items)
-        (all_more P c.args.workers.now.items c.in_ok-outcome.field-0 c.requires.worked
-        (IfOk-at_ok P c.in_ok-outcome.was h)))
+    elim c.match-started.branch [ in-Running w ↦ search rules | in-Ended w ↦ search rules ] in (
+      c.in_ok-push.ensures.len,
+      subst (λ (l : List (Worker g.row.A.Denot)). All P l) (sym c.in_ok-push.ensures.items)
+          (all_more P c.args.workers.now.items c.in_ok-outcome.field-0 c.requires.worked
+          (IfOk-at_ok P c.in_ok-outcome.was h)),
+    )

@@ -9,7 +9,7 @@ pub start-requires-clause-worked : goal.start-requires-clause-worked
 start-requires-clause-worked g c κs within =
     let P : Worker g.row.A.Denot → Type 0 = HasWorked (task_of c.args.round) in
     all_last P c.pop.new.self.items c.in-Some.worker
-        (subst (λ (l : List (Worker g.row.A.Denot)). All P l) c.in-Some.ensures.items c.loop-alloc.invariant.worked)
+    (subst (λ (l : List (Worker g.row.A.Denot)). All P l) c.in-Some.ensures.items c.loop-alloc.invariant.worked)
 
 pub loop-alloc-preserved : goal.loop-alloc-preserved
 loop-alloc-preserved g c =
@@ -35,7 +35,7 @@ loop-alloc-init g c =
     let A : Type 0 = g.row.A.Denot in
     let Q : Started A → Type 0 = IsStarted c.args.round in
     let s = c.in_ok-all.ensures in let a = s.len in let d = s.exact in let l = c.len.ensures in let q =
-        c.requires.worked.1 in
+    c.requires.worked.1 in
     record {
       least = omega arith;
       count = omega arith;

@@ -26,7 +26,7 @@ search-requires-clause-worked g c =
     let P : Worker g.row.A.Denot → Type 0 = HasWorked (task_of c.args.round) in
     let n = c.in_ok-started.ensures.worked.1 in let l = c.start_all.new.workers.ok.0 in
     all_at P c.start_all.new.workers.items 1 c.index_mut.result.now c.in_ok-started.ensures.worked.0
-        (omega arith) c.index_mut.ensures.value
+    (omega arith) c.index_mut.ensures.value
 
 pub returns-in_err-search : goal.returns-in_err-search
 returns-in_err-search g c = IfOk-from_err c.from_residual-in_err-search.result _ c.from_residual-in_err-search.ensures.0
@@ -38,11 +38,11 @@ pub join_all-requires-clause-worked : goal.join_all-requires-clause-worked
 join_all-requires-clause-worked g c =
     let P : Worker g.row.A.Denot → Type 0 = HasWorked (task_of c.args.round) in
     All-set P c.start_all.new.workers.items 1 c.search.new.worker c.in_ok-search.ensures.worked
-        c.in_ok-started.ensures.worked.0
+    c.in_ok-started.ensures.worked.0
 
 pub returns : goal.returns
 returns g c =
     let n = c.in_ok-started.ensures.worked.1 in let s = c.in_ok-started.ensures.started.0 in
     let size : vec_len c.start_all.new.workers + vec_len c.in_ok-started.started ≡ vec_len c.args.workers =
-        omega arith in
+    omega arith in
     IfOk-weaker c.join_all.result _ _ (λ back h. (h.0 ∙ size, h.1)) c.join_all.ensures

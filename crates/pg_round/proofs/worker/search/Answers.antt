@@ -6,9 +6,15 @@ use Rattle.pg_round.proofs.worker.search.Goals as goal
 pub returns-clause-worked : goal.returns-clause-worked
 returns-clause-worked g c =
     let w = c.requires.worked in let same = c.work.ensures.same in
-    on_ok_weaker c.work.result (λ h. ((same.0, same.1,
+    on_ok_weaker c.work.result (λ h. (
+      (
+        same.0,
+        same.1,
         grown (task_of c.args.round) c.args.worker.now.seat.drawn c.work.new.seat.drawn c.args.worker.now.pass.put
-        c.work.new.pass.put w.0.2 h.1), c.work.ensures.fits)) c.work.ensures.ok
+            c.work.new.pass.put w.0.2 h.1,
+      ),
+      c.work.ensures.fits,
+    )) c.work.ensures.ok
 
 pub work-requires-clause-ready : goal.work-requires-clause-ready
 work-requires-clause-ready g c = c.requires.ready

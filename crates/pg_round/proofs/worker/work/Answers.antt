@@ -5,8 +5,14 @@ use Rattle.pg_round.proofs.GrowLemmas.{grow_none, grow_more, grow_short}
 use Rattle.pg_round.proofs.worker.work.Goals as goal
 
 pub loop-init : goal.loop-init
-loop-init g c = (tt, tt, c.requires.same.0, c.requires.same.1, c.requires.fits,
-    grow_none (task_of c.args.round) c.args.seat.now.drawn c.args.pass.now.put)
+loop-init g c = (
+  tt,
+  tt,
+  c.requires.same.0,
+  c.requires.same.1,
+  c.requires.fits,
+  grow_none (task_of c.args.round) c.args.seat.now.drawn c.args.pass.now.put,
+)
 
 pub loop-preserved : goal.loop-preserved
 loop-preserved g c =

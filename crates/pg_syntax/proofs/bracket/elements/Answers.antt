@@ -16,14 +16,19 @@ returns-then-not-first c =
     let text = c.args.text.now in
     let at = c.loop-at.at in
     let done = left_close _ text _ c.loop-at.first at c.loop-at-test.true
-        (closes (get_or text at 0) c.loop-at.first c.if-text-at-eq93.true c.if-not-first.true) c.loop-at.invariant.left
-        in
+    (closes (get_or text at 0) c.loop-at.first c.if-text-at-eq93.true c.if-not-first.true) c.loop-at.invariant.left
+    in
     elim c.match-finish.branch [
-      | in-Ok w ↦ rw w.result-is (done ∙ ap (option_and_then (λ s. Some (s, drop (at + 1) text))) w.in-Ok.ensures.reads,
-          omega (arith, c.loop-at.invariant.above), omega (arith, c.loop-at-test.true))
-      | in-Err w ↦ rw w.result-is (done ∙ ap
-          (option_and_then (λ s. Some (s, drop (at + 1) text))) w.in-Err.ensures.reads,
-          w.in-Err.ensures.placed text c.loop-at.invariant.placed)
+      | in-Ok w ↦ rw w.result-is (
+        done ∙ ap (option_and_then (λ s. Some (s, drop (at + 1) text))) w.in-Ok.ensures.reads,
+        omega (arith, c.loop-at.invariant.above),
+        omega (arith, c.loop-at-test.true),
+      )
+      | in-Err w ↦ rw w.result-is (
+        done ∙ ap
+            (option_and_then (λ s. Some (s, drop (at + 1) text))) w.in-Err.ensures.reads,
+        w.in-Err.ensures.placed text c.loop-at.invariant.placed,
+      )
     ]
 
 pub returns-in_default : goal.returns-in_default
@@ -34,9 +39,10 @@ returns-in_default c =
     elim c.else-text-at-eq93.branch [
       | else-text-at-eq93-via-then-text-at-eq93+else-not-first w ↦ grind (arith, nat_tests, w.if-not-first.false)
       | else-text-at-eq93-via-else-text-at-eq93 w ↦ grind (arith, nat_tests, w.if-text-at-eq93.false)
-    ] in
-    (left_none _ text _ c.loop-at.first at c.loop-at-test.true differs c.in_default.ensures c.loop-at.invariant.left,
-        c.requires.stands)
+    ] in (
+      left_none _ text _ c.loop-at.first at c.loop-at-test.true differs c.in_default.ensures c.loop-at.invariant.left,
+      c.requires.stands,
+    )
 
 pub loop-at-preserved : goal.loop-at-preserved
 loop-at-preserved c =
@@ -58,5 +64,7 @@ loop-at-preserved c =
     }
 
 pub returns : goal.returns
-returns c = (left_end _ c.args.text.now _ c.loop-at.first c.loop-at.at c.loop-at-test.false c.loop-at.invariant.left,
-    c.requires.stands)
+returns c = (
+  left_end _ c.args.text.now _ c.loop-at.first c.loop-at.at c.loop-at-test.false c.loop-at.invariant.left,
+  c.requires.stands,
+)

@@ -22,10 +22,10 @@ loop-at-preserved c =
       reads =
           c.loop-at.invariant.reads
           ∙ (ap (with_front (take (at - from) (drop from text)))
-              (until_later c.args.mark text at c.loop-at-test.true differs)
+          (until_later c.args.mark text at c.loop-at-test.true differs)
           ∙ (front_more (take (at - from) (drop from text)) (get_or text at 0) (until c.args.mark (drop (at + 1) text))
           ∙ ap (λ w. with_front w (until c.args.mark (drop (at + 1) text)))
-              (sym (front_take text from at c.loop-at.invariant.above (omega arith)))));
+          (sym (front_take text from at c.loop-at.invariant.above (omega arith)))));
     }
 
 pub returns : goal.returns

@@ -16,10 +16,10 @@ returns-in-Err-clause-refused g c =
           (bytes_of texts) _ c.in-Err.fault _ w.pattern-is w.in-OutOfMemory.is c.in-Err.ensures.refused
       | in_default w ↦
           let number : c.match-fault.pattern ≡ length (map pattern trees.items) + 1 =
-              omega (arith, w.pattern-is, w.len.ensures, trees.ok.0, length-map trees.items pattern) in
+          omega (arith, w.pattern-is, w.len.ensures, trees.ok.0, length-map trees.items pattern) in
           first-refused c.args.kind c.args.fold texts c.loop-text.text-index _
-              (map pattern trees.items) c.in-Err.fault _ c.loop-text-test.true number w.in_default.not-OutOfMemory
-              c.loop-text.invariant c.in-Err.ensures.refused
+          (map pattern trees.items) c.in-Err.fault _ c.loop-text-test.true number w.in_default.not-OutOfMemory
+          c.loop-text.invariant c.in-Err.ensures.refused
     ]
 
 pub loop-text-preserved : goal.loop-text-preserved

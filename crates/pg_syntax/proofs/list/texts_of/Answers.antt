@@ -13,9 +13,9 @@ loop-list-preserved g c =
     let i = c.loop-list.list-index in
     let list = c.list-item.result in
     let one_more = ap (λ xs. patterns (map patterns_of xs))
-        (take-push lists i list c.loop-list-test.true (sym c.list-item.is))
-        ∙ (ap patterns (map-push patterns_of (take i lists) list)
-        ∙ patterns-push (map patterns_of (take i lists)) (patterns_of list)) in
+    (take-push lists i list c.loop-list-test.true (sym c.list-item.is))
+    ∙ (ap patterns (map-push patterns_of (take i lists) list)
+    ∙ patterns-push (map patterns_of (take i lists)) (patterns_of list)) in
     c.in_ok-push_texts.ensures ∙ (ap (λ t. t ++ patterns_in (patterns_of list)) c.loop-list.invariant ∙ sym one_more)
 
 pub loop-list-init : goal.loop-list-init

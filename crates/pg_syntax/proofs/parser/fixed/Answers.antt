@@ -12,7 +12,7 @@ returns-then-is_empty-clause-spelled g c =
     let text = c.args.text.now in
     let none : length text ≡ 0 = eqb-true _ _ (sym c.is_empty.ensures ∙ c.if-is_empty.true) in
     subst (IsSpelled Fixed c.args.fold text) (sym (pattern-empty _))
-        (empty_spelled c.args.fold text (empty_text text none))
+    (empty_spelled c.args.fold text (empty_text text none))
 
 pub returns-clause-spelled : goal.returns-clause-spelled
 returns-clause-spelled g c = literal_spelled c.args.fold c.args.text.now _ (omega arith) c.in_ok-tree.ensures

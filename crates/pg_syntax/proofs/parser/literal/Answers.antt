@@ -10,5 +10,5 @@ loop-at-init g c = literal_first c.args.fold c.args.text.now _ (bytes c.folded.r
 pub loop-at-preserved : goal.loop-at-preserved
 loop-at-preserved g c =
     literal_more c.args.fold c.args.text.now c.loop-at.at _ _ _
-        (bytes c.folded-in-loop-at.result) _ c.loop-at-test.true c.in_ok-tree.ensures
-        (pattern-set _ _) c.folded-in-loop-at.ensures c.one-in-loop-at.ensures c.loop-at.invariant
+    (bytes c.folded-in-loop-at.result) _ c.loop-at-test.true c.in_ok-tree.ensures
+    (pattern-set _ _) c.folded-in-loop-at.ensures c.one-in-loop-at.ensures c.loop-at.invariant

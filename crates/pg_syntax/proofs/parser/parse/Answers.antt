@@ -9,4 +9,4 @@ pub returns-then-len-eq0-clause-spelled : goal.returns-then-len-eq0-clause-spell
 returns-then-len-eq0-clause-spelled g c =
     let source = c.args.source in
     subst (IsSpelled (kind_of source.syntax) source.fold source.text.now) (sym (pattern-empty _))
-        (empty_spelled _ _ source.text.now (empty_text source.text.now c.if-len-eq0.true))
+    (empty_spelled _ _ source.text.now (empty_text source.text.now c.if-len-eq0.true))

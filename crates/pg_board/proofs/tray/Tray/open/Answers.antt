@@ -17,13 +17,13 @@ another-new-requires-clause-rule g c = makes_pass _ _ c.loop-number.invariant.ta
 pub loop-number-preserved : goal.loop-number-preserved
 loop-number-preserved g c =
     let T : Type 0 = g.row.T.Denot in let A : Type 0 = g.row.A.Denot in let i = c.loop-number.invariant in let new =
-        c.another-new.ensures in let pushed = c.push_reserved.ensures in
+    c.another-new.ensures in let pushed = c.push_reserved.ensures in
     let n : ℕ = vec_len c.loop-number.passes in let queue : SegId A = c.in_ok-queue.queue in let fresh : PutView T A =
-        put_view queue [] in
+    put_view queue [] in
     let values : first_values c.another-new.result.me.view.client.passes ≡ [] =
-        ap (λ (v : PassView T). first_values v.passes) new.rule.1 in
+    ap (λ (v : PassView T). first_values v.passes) new.rule.1 in
     let same : put_view record { web = c.another-new.result.web; heap = c.another-new.result.heap }
-        (first_values c.another-new.result.me.view.client.passes) ≡ fresh =
+    (first_values c.another-new.result.me.view.client.passes) ≡ fresh =
     λ j. put_view record { web = new.queue.2.0.0 j; heap = new.queue.2.0.1 j } (values j) in
     record {
       ticket = new.queue.0;

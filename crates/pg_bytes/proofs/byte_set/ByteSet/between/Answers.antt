@@ -9,9 +9,9 @@ returns c =
     let first = c.args.first in
     let last = c.args.last in
     let above = c.complement-beyond.ensures
-        ∙ ap complement (c.below.ensures ∙ ap (λ n. below (n + 1)) c.from.ensures) in
+    ∙ ap complement (c.below.ensures ∙ ap (λ n. below (n + 1)) c.from.ensures) in
     let under = c.below-2.ensures ∙ ap below c.from-2.ensures in
     c.complement.ensures
     ∙ (ap complement (c.union.ensures ∙ (ap (λ s. union s (bytes c.below-2.result)) above
-        ∙ ap (union (complement (below (last + 1)))) under))
+    ∙ ap (union (complement (below (last + 1)))) under))
     ∙ complement-outside first last (omega arith))

@@ -8,5 +8,5 @@ pub returns : goal.returns
 returns c =
     let ws = c.args.self.now.words in
     ap (λ k. in_words (set ws k (bit_or (get_or ws k 0) (1 * 2 ^ (c.args.byte % 64) % 18446744073709551616))))
-        c.from.ensures
+    c.from.ensures
     ∙ in_words-set ws c.args.byte (search rules) (omega arith)

@@ -67,7 +67,7 @@ returns-clause-ok g c = λ past s.
     let short = subst L is c.in-Some.ensures.value in
     let size = ap (λ n. self.total + n) (sym (length-take-le c.args.count (room_of self) c.requires)) in
     fed_stands self _ past piece _ _ _ s refl refl refl refl refl size
-        (chosen_some _ _ c.in-Some.line short).1 refl refl
+    (chosen_some _ _ c.in-Some.line short).1 refl refl
     c.in_ok-blocks.ensures.ok (no_long self past piece c.in-Some.line s short)
 
 pub returns-clause-line : goal.returns-clause-line

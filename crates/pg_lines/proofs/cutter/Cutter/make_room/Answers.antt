@@ -19,7 +19,7 @@ invariant_of-self g c =
       within = omega (arith, self.within, longer, self.rest.ok.0, c.resize.new.self.ok.0);
       unfinished =
           subst P (sym (front_grown _ self.filled len old _ _ self.within grown c.resize.ensures.items))
-              self.unfinished;
+          self.unfinished;
       few = self.few;
       numbers = self.numbers;
       line_fits = self.line_fits;

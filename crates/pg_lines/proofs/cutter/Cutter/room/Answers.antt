@@ -17,6 +17,9 @@ returns g c =
     let self = c.args.self.now in
     let P : ℕ → Type 0 = λ n. c.slice_mut.result.now ≡ take (n - self.filled) (drop self.filled self.rest.items) in (
       (refl, λ w. same_facts self (with_items_from self.rest self.filled w) (_, _, _, _, _, _) (_, _, _, _, _, _)),
-      record { lends = tt; value = subst P self.rest.ok.0 c.slice_mut.ensures.value
-          ∙ take_rest self.rest.items self.filled },
+      record {
+        lends = tt;
+        value = subst P self.rest.ok.0 c.slice_mut.ensures.value
+            ∙ take_rest self.rest.items self.filled;
+      },
     )

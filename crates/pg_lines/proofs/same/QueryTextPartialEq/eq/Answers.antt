@@ -10,5 +10,5 @@ unfolding same_text
 returns g c =
     let kind = c.eq-kind.ensures ∙ kind-same c.self.inside.kind c.other.inside.kind in
     let lists = c.eq-lists.ensures ∙ pointwise-map patterns_of same_patterns c.self.inside.lists.items
-        c.other.inside.lists.items in
+    c.other.inside.lists.items in
     rw (← c.self.view_is, ← c.other.view_is, kind, lists) refl

@@ -73,7 +73,7 @@ settle-requires-clause-closed g c =
     let l = c.args.line.now in
     let end : c.loop-place.place ≡ length l = omega arith in
     (subst (λ p. Searching m l c.args.from p (buffers c.loop-place.sets) c.loop-place.best) end
-        c.loop-place.invariant.search).alive.closed
+    c.loop-place.invariant.search).alive.closed
 
 pub returns-clause-best : goal.returns-clause-best
 returns-clause-best g c =
@@ -81,7 +81,7 @@ returns-clause-best g c =
     let l = c.args.line.now in
     let end : c.loop-place.place ≡ length l = omega arith in
     let search = subst (λ p. Searching m l c.args.from p (buffers c.loop-place.sets) c.loop-place.best) end
-        c.loop-place.invariant.search in
+    c.loop-place.invariant.search in
     let both = settled m l c.args.from (length l) (buffers c.loop-place.sets) (buffers c.settle.new.sets)
     c.loop-place.best
     c.requires.runs search c.requires.from_in c.settle.result c.settle.ensures.judged c.settle.ensures.seeded in

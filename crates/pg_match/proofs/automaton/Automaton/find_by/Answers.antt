@@ -10,7 +10,7 @@ pub returns-in-Known-clause-best : goal.returns-in-Known-clause-best
 returns-in-Known-clause-best g c =
     let s = c.in-Known.ensures in
     best_later (nfa c.args.self.now) c.args.line.now c.args.from _
-        (Some (c.in-Known.start, c.in-Known.start + 1)) s.0 s.2 (c.is_one_byte.ensures c.if-is_one_byte.true)
+    (Some (c.in-Known.start, c.in-Known.start + 1)) s.0 s.2 (c.is_one_byte.ensures c.if-is_one_byte.true)
 
 pub returns-in-Known-2-clause-best : goal.returns-in-Known-2-clause-best
 returns-in-Known-2-clause-best g c =

@@ -31,9 +31,9 @@ returns-clause-memory g c =
     let new = remembered c.add.new.self in
     let s = members c.begin.new.sets.current in
     memory_added (nfa c.args.self.now) old new s true c.add.result
-        (c.refresh.ensures (nfa c.args.self.now) c.requires.memory)
+    (c.refresh.ensures (nfa c.args.self.now) c.requires.memory)
     (λ t. subst (λ n. Grown n old new s true) c.begin.ensures.room.now_size (c.add.ensures.grown t))
-        (λ f. ap remembered (c.add.ensures.full f))
+    (λ f. ap remembered (c.add.ensures.full f))
     (λ z. c.begin.ensures.starts)
 
 pub returns-then-memory-gt0-clause-room : goal.returns-then-memory-gt0-clause-room

@@ -26,7 +26,7 @@ pub returns-clause-fresh : goal.returns-clause-fresh
 returns-clause-fresh g c = λ t.
     let aimed = rw c.deref.ensures.value at c.aim.ensures in
     aimed_at_none (nfa c.args.self.now) c.args.byte (members c.args.sets.now.current)
-        (members c.aim.new.next) c.requires.room.now aimed (eqb-true _ 0 t)
+    (members c.aim.new.next) c.requires.room.now aimed (eqb-true _ 0 t)
 
 pub aim-requires-clause-good : goal.aim-requires-clause-good
 aim-requires-clause-good g c = c.requires.room.now

@@ -21,5 +21,5 @@ returns-then-may_end g c = λ behind.
     ] in
     best_one m l i (get_or l i 0) c.args.self.now.seeds.items c.requires.seeds c.requires.runs
     (slice_get-get_or l i 0 (omega (arith, c.if-place-line.false))) c.if-place-eq0.false
-        (omega (arith, c.if-place-line.false))
+    (omega (arith, c.if-place-line.false))
     bounds.0 bounds.1 (c.ends_behind.ensures behind)

@@ -13,20 +13,23 @@ returns-then-hits_before-clause-memory g c =
     let r = c.args.row in
     let s = members c.load.new.set in
     memory_marked m old (remembered c.mark.new.self) r c.args.byte 1 c.requires.memory c.mark.ensures c.requires.known
-        (omega arith)
-    (inr (inl (refl, hit_there m c.args.byte (In old r) (Has s) c.load.ensures.same
-        (c.hits_before.ensures.0 c.if-hits_before.true))))
+    (omega arith)
+    (inr (inl (
+      refl,
+      hit_there m c.args.byte (In old r) (Has s) c.load.ensures.same
+          (c.hits_before.ensures.0 c.if-hits_before.true),
+    )))
 
 pub returns-then-hits_before-clause-learned : goal.returns-then-hits_before-clause-learned
 returns-then-hits_before-clause-learned g c =
     hit_there (nfa c.args.self.now) c.args.byte (In (remembered c.args.memory.now) c.args.row)
-        (Has (members c.load.new.set)) c.load.ensures.same
+    (Has (members c.load.new.set)) c.load.ensures.same
     (c.hits_before.ensures.0 c.if-hits_before.true)
 
 pub returns-then-to-eq0-clause-learned : goal.returns-then-to-eq0-clause-learned
 returns-then-to-eq0-clause-learned g c =
     learned_lost (nfa c.args.self.now) (remembered c.args.memory.now)
-        (remembered c.keep-to.new.memory) c.args.row c.args.byte
+    (remembered c.keep-to.new.memory) c.args.row c.args.byte
     (members c.load.new.set) (members c.go-is_fresh.new.sets.current) c.load.ensures.same
     (λ h. true≢false (sym (c.hits_before.ensures.1 h) ∙ c.if-hits_before.false)) c.go-is_fresh.ensures.goes
 
@@ -40,12 +43,12 @@ returns-clause-memory g c =
     let more = c.keep-to.ensures.keeps.more in
     let known = c.requires.known in
     memory_marked m mid (remembered c.mark-2.new.self) c.args.row c.args.byte _ c.keep-to.ensures.memory
-        c.mark-2.ensures (omega arith) (omega arith)
+    c.mark-2.ensures (omega arith) (omega arith)
     (told_row m old mid c.args.row c.args.byte k _ (members c.load.new.set)
-        (members c.go-is_fresh.new.sets.current) refl some c.keep-to.ensures.known
+    (members c.go-is_fresh.new.sets.current) refl some c.keep-to.ensures.known
     c.requires.known c.keep-to.ensures.keeps c.load.ensures.same
     (λ h. true≢false (sym (c.hits_before.ensures.1 h) ∙ c.if-hits_before.false)) c.go-is_fresh.ensures.goes
-        (c.keep-to.ensures.same some)
+    (c.keep-to.ensures.same some)
     (λ f. c.go-is_fresh.ensures.fresh (sym (c.keep-to.ensures.fresh some) ∙ f)))
 
 pub returns-clause-learned : goal.returns-clause-learned
@@ -57,10 +60,10 @@ returns-clause-learned g c =
     let k = c.keep-to.result in
     let some : 1 ≤ k = omega (arith, c.if-to-eq0.false) in
     learned_row m old mid new c.args.row c.args.byte k _ (members c.load.new.set)
-        (members c.go-is_fresh.new.sets.current) refl c.keep-to.ensures.known
+    (members c.go-is_fresh.new.sets.current) refl c.keep-to.ensures.known
     (mark_keeps mid new _ _ c.mark-2.ensures) c.load.ensures.same
     (λ h. true≢false (sym (c.hits_before.ensures.1 h) ∙ c.if-hits_before.false)) c.go-is_fresh.ensures.goes
-        (c.keep-to.ensures.same some)
+    (c.keep-to.ensures.same some)
 
 pub overflow_mul-row : goal.overflow_mul-row
 overflow_mul-row g c = omega arith

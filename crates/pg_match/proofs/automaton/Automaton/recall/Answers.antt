@@ -11,7 +11,7 @@ use Rattle.pg_match.proofs.automaton.Automaton.recall.Goals as goal
 pub search_on-requires-clause-stands : goal.search_on-requires-clause-stands
 search_on-requires-clause-stands g c =
     stands_first (nfa c.args.self.now) c.args.line.now (Has (members c.first.new.sets.current))
-        (c.first.ensures.full c.if-not-first.true).1
+    (c.first.ensures.full c.if-not-first.true).1
 
 pub loop-sets-init : goal.loop-sets-init
 loop-sets-init g c =
@@ -31,7 +31,7 @@ pub finish-requires-clause-visits : goal.finish-requires-clause-visits
 finish-requires-clause-visits g c =
     let size = c.args.self.now.states.ok.0 in
     visits_small c.loop-sets.place (length c.args.self.now.states.items) c.loop-sets.sets.visits
-        c.loop-sets.invariant.visits
+    c.loop-sets.invariant.visits
     (omega (arith, c.loop-sets.invariant.within)) (omega arith)
 
 pub returns-then-here-line-clause-exact : goal.returns-then-here-line-clause-exact
@@ -50,16 +50,16 @@ pub returns-then-here-line-clause-visits : goal.returns-then-here-line-clause-vi
 returns-then-here-line-clause-visits g c =
     let n : ℕ = length c.args.self.now.states.items in
     let v = visits_on c.loop-sets.place c.walk-at.result.1 n c.loop-sets.sets.visits c.finish.new.sets.visits
-        c.loop-sets.invariant.visits
+    c.loop-sets.invariant.visits
     c.walk-at.ensures.onward c.finish.ensures.visits in
     visits_later (c.walk-at.result.1 + 1) (length c.args.line.now) n c.finish.new.sets.visits v
-        (omega (arith, c.if-here-line.true))
+    (omega (arith, c.if-here-line.true))
 
 pub learn-requires-clause-visits : goal.learn-requires-clause-visits
 learn-requires-clause-visits g c =
     let size = c.args.self.now.states.ok.0 in
     let v = visits_small c.loop-sets.place
-        (length c.args.self.now.states.items) c.loop-sets.sets.visits c.loop-sets.invariant.visits
+    (length c.args.self.now.states.items) c.loop-sets.sets.visits c.loop-sets.invariant.visits
     (omega (arith, c.loop-sets.invariant.within)) (omega arith) in
     omega (arith, v)
 
@@ -84,10 +84,10 @@ returns-in-Hit-clause-visits g c =
     let fewer = few u c.in-Hit.ensures.room.now in
     let size = c.in-Hit.ensures.room.now_size in
     let v = visits_on c.loop-sets.place c.walk-at.result.1 n c.loop-sets.sets.visits c.learn.new.sets.visits
-        c.loop-sets.invariant.visits
+    c.loop-sets.invariant.visits
     c.walk-at.ensures.onward (omega (arith, c.in-Hit.ensures.visits)) in
     visits_later (c.walk-at.result.1 + 1) (length c.args.line.now) n c.learn.new.sets.visits v
-        (omega (arith, c.walk-at.ensures.within))
+    (omega (arith, c.walk-at.ensures.within))
 
 pub loop-sets-preserved : goal.loop-sets-preserved
 loop-sets-preserved g c =
@@ -128,13 +128,13 @@ search_on-requires-in-Lost-clause-stands g c =
     let s = c.walk-at.ensures.stands 0 (omega arith) c.loop-sets.invariant.stands in
     let learned = c.in-Lost.ensures.learned in
     stands_next m l 0 p _ (In mem (c.walk-at.result.0 / 256))
-        (Has (members c.learn.new.sets.current)) byte lt s learned.1 (omega arith) c.requires.runs learned.0
+    (Has (members c.learn.new.sets.current)) byte lt s learned.1 (omega arith) c.requires.runs learned.0
 
 pub search_on-requires-in-Lost-clause-visits : goal.search_on-requires-in-Lost-clause-visits
 search_on-requires-in-Lost-clause-visits g c =
     let n : ℕ = length c.args.self.now.states.items in
     let v = visits_later c.loop-sets.place c.walk-at.result.1 n c.loop-sets.sets.visits c.loop-sets.invariant.visits
-        c.walk-at.ensures.onward in
+    c.walk-at.ensures.onward in
     omega (arith, v, c.in-Lost.ensures.visits)
 
 pub overflow_add-here : goal.overflow_add-here

@@ -15,7 +15,7 @@ returns-then-next-eq-HIT g c =
     let read = get_or_read mem.steps (c.args.state + b) c.index-next.result.now inside c.index-next.ensures 0 in
     finishes_hit m b (In mem (c.args.state / 256)) c.requires.runs
     (told_hit m mem c.args.state c.index-next.result.now b c.requires.memory c.requires.row lt read
-        c.if-next-eq-HIT.true)
+    c.if-next-eq-HIT.true)
 
 pub index-requires : goal.index-requires
 index-requires g c =
@@ -26,7 +26,7 @@ index-requires g c =
     let inside = in_table m mem c.args.state b c.requires.memory c.requires.row lt in
     let read = get_or_read mem.steps (c.args.state + b) c.index-next.result.now inside c.index-next.ensures 0 in
     let next = row_next m mem c.args.state c.index-next.result.now b c.requires.memory c.requires.row lt read
-        (omega (arith, c.if-next-lt256.false)) in
+    (omega (arith, c.if-next-lt256.false)) in
     let size = c.args.memory.now.ends.ok.0 in
     omega (arith, next.0.known, c.requires.memory.shape.few, c.requires.memory.shape.ends_size)
 
@@ -40,9 +40,9 @@ returns g c =
     let inside = in_table m mem c.args.state b c.requires.memory c.requires.row lt in
     let read = get_or_read mem.steps (c.args.state + b) v inside c.index-next.ensures 0 in
     let next = row_next m mem c.args.state v b c.requires.memory c.requires.row lt read
-        (omega (arith, c.if-next-lt256.false)) in
+    (omega (arith, c.if-next-lt256.false)) in
     let there : v / 256 < length mem.ends =
-        omega (arith, next.0.known, c.requires.memory.shape.few, c.requires.memory.shape.ends_size) in
+    omega (arith, next.0.known, c.requires.memory.shape.few, c.requires.memory.shape.ends_size) in
     let at_end = get_or_read mem.ends (v / 256) c.index.result.now there c.index.ensures None in
     finishes_if m mem b (In mem (c.args.state / 256))
-        (v / 256) c.index.result.now c.requires.runs c.requires.memory next.1 (next.2, next.3) at_end
+    (v / 256) c.index.result.now c.requires.runs c.requires.memory next.1 (next.2, next.3) at_end

@@ -16,7 +16,7 @@ returns-then-hits_before-clause-exact g c = (
       let p = c.loop-place.place in
       let lt : p < length l = omega arith in
       run_before (nfa c.args.self.now) l 0 p _
-          (Has (members c.loop-place.sets.current)) c.loop-place.invariant.stands c.requires.runs
+      (Has (members c.loop-place.sets.current)) c.loop-place.invariant.stands c.requires.runs
       (slice_get-get_or l p 0 lt) lt (c.hits_before.ensures.0 c.if-hits_before.true),
   λ run. refl,
 )
@@ -45,9 +45,9 @@ returns-clause-exact g c =
     let end : c.loop-place.place ≡ length l = omega arith in
     let S = Has (members c.loop-place.sets.current) in
     ended_so m l 0 S c.hits_at_end.result c.is_empty.result c.requires.runs
-        (subst (λ p. Stands m l 0 p S) end c.loop-place.invariant.stands)
+    (subst (λ p. Stands m l 0 p S) end c.loop-place.invariant.stands)
     (λ t. eqb-true (length l) 0 (sym c.is_empty.ensures ∙ t))
-        (λ e. c.is_empty.ensures ∙ eq-eqb (length l) 0 e) c.hits_at_end.ensures.answer
+    (λ e. c.is_empty.ensures ∙ eq-eqb (length l) 0 e) c.hits_at_end.ensures.answer
 
 pub bounds-line-place : goal.bounds-line-place
 bounds-line-place g c = omega arith

@@ -17,12 +17,12 @@ follow_rows-state-requires-clause-skimmed g c =
       | then-from-eq0 w ↦
           rw (w.first-is, w.if-from-eq0.true)
           (skim_first m mem l c.saturating_sub.result c.requires.memory
-              (omega (arith, c.if-memory-eq0.false)) c.requires.bytes
+          (omega (arith, c.if-memory-eq0.false)) c.requires.bytes
           (omega (arith, w.if-from-eq0.true)))
       | else-from-eq0 w ↦
           rw w.first-is
           (skim_later m mem l c.args.from c.saturating_sub.result c.requires.memory w.if-from-eq0.false
-              c.requires.from_in (omega arith))
+          c.requires.from_in (omega arith))
     ]
 
 pub loop-place-init : goal.loop-place-init
@@ -41,7 +41,7 @@ index-requires g c =
     let b = get_or l p 0 in
     let lt : b < 256 = omega (arith, c.type_inv.line p) in
     let read = get_or_read mem.steps (at + b) v
-        (in_table m mem at b c.requires.memory s.row lt) c.index-next.ensures 0 in
+    (in_table m mem at b c.requires.memory s.row lt) c.index-next.ensures 0 in
     let big : 256 ≤ v = omega (arith, c.if-next-lt256.false) in
     let row = row_next m mem at v b c.requires.memory s.row lt read big in
     let size = c.args.memory.now.fresh.ok.0 in
@@ -60,15 +60,15 @@ loop-place-preserved-then-index g c =
     let b = get_or l p 0 in
     let lt : b < 256 = omega (arith, c.type_inv.line p) in
     let read = get_or_read mem.steps (at + b) v
-        (in_table m mem at b c.requires.memory s.row lt) c.index-next.ensures 0 in
+    (in_table m mem at b c.requires.memory s.row lt) c.index-next.ensures 0 in
     let big : 256 ≤ v = omega (arith, c.if-next-lt256.false) in
     let row = row_next m mem at v b c.requires.memory s.row lt read big in
     let size = c.args.memory.now.fresh.ok.0 in
     let inside : v / 256 < length mem.fresh =
-        omega (arith, row.0.known, c.requires.memory.shape.few, c.requires.memory.shape.fresh_size) in
+    omega (arith, row.0.known, c.requires.memory.shape.few, c.requires.memory.shape.fresh_size) in
     let fresh = get_or_read mem.fresh (v / 256) c.index.result.now inside c.index.ensures false in
     skim_fresh m mem l c.args.from p at c.loop-place.start v b c.requires.runs c.requires.memory lt
-        (slice_get-get_or l p 0 (omega arith)) more read big s
+    (slice_get-get_or l p 0 (omega arith)) more read big s
     (sym fresh ∙ c.if-index.true)
 
 pub loop-place-preserved : goal.loop-place-preserved
@@ -84,10 +84,10 @@ loop-place-preserved g c =
     let b = get_or l p 0 in
     let lt : b < 256 = omega (arith, c.type_inv.line p) in
     let read = get_or_read mem.steps (at + b) v
-        (in_table m mem at b c.requires.memory s.row lt) c.index-next.ensures 0 in
+    (in_table m mem at b c.requires.memory s.row lt) c.index-next.ensures 0 in
     let big : 256 ≤ v = omega (arith, c.if-next-lt256.false) in
     skim_on m mem l c.args.from p at c.loop-place.start v b c.requires.runs c.requires.memory lt
-        (slice_get-get_or l p 0 (omega arith)) more read big s
+    (slice_get-get_or l p 0 (omega arith)) more read big s
 
 pub returns-in-Some-false : goal.returns-in-Some-false
 returns-in-Some-false g c = λ run.

@@ -11,11 +11,11 @@ returns-clause-grown g c = λ t.
     let s = members c.args.set.now in
     let shape = c.requires.shape in
     let start = get_or_read mem.cuts (mem.count + 1) c.index.result.now
-        (omega (arith, shape.cuts_size, shape.few)) c.index.ensures 0 in
+    (omega (arith, shape.cuts_size, shape.few)) c.index.ensures 0 in
     let end : c.loop-k.k ≡ s.len = omega arith in
     let copy = subst (λ v. Copying mem (remembered c.loop-k.self) s c.index.result.now v) end c.loop-k.invariant in
     grown _ mem (remembered c.loop-k.self) _ s c.index.result.now c.args.is_fresh shape c.requires.good refl start
-        c.if-self-eq-SETS.false (let e = c.len.ensures in omega (arith, c.if-len-start.false, e)) copy
+    c.if-self-eq-SETS.false (let e = c.len.ensures in omega (arith, c.if-len-start.false, e)) copy
     refl refl refl refl refl refl
 
 pub overflow_add-self : goal.overflow_add-self
@@ -72,7 +72,7 @@ overflow_sub-len g c =
     let mem = remembered c.args.self.now in
     let shape = c.requires.shape in
     let start = get_or_read mem.cuts (mem.count + 1) c.index.result.now
-        (omega (arith, shape.cuts_size, shape.few)) c.index.ensures 0 in
+    (omega (arith, shape.cuts_size, shape.few)) c.index.ensures 0 in
     omega (arith, shape.room, c.len.ensures)
 
 pub index-requires-in-loop-k : goal.index-requires-in-loop-k

@@ -12,17 +12,17 @@ loop-k-preserved g c =
     let row = c.args.row in
     let shape = c.requires.shape in
     let start = get_or_read mem.cuts row c.index.result.now
-        (omega (arith, shape.cuts_size, shape.few)) c.index.ensures 0 in
+    (omega (arith, shape.cuts_size, shape.few)) c.index.ensures 0 in
     let end = get_or_read mem.cuts (row + 1) c.index-2.result.now
-        (omega (arith, shape.cuts_size, shape.few)) c.index-2.ensures 0 in
+    (omega (arith, shape.cuts_size, shape.few)) c.index-2.ensures 0 in
     let up = shape.upto (row + 1) (omega arith) in
     let rm = shape.room in
     let long = list_long s c.requires.good in
     let x = get_or_read mem.pool (c.index.result.now + c.loop-k.k) c.index-in-loop-k.result.now
-        (omega (arith, shape.pool_size)) c.index-in-loop-k.ensures 0 in
+    (omega (arith, shape.pool_size)) c.index-in-loop-k.ensures 0 in
     let y = get_or_read s.order c.loop-k.k c.index-in-loop-k-2.result.now (omega arith) c.index-in-loop-k-2.ensures 0 in
     below_more (λ j. get_or mem.pool (c.index.result.now + j) 0 ≡ get_or s.order j 0) _ c.loop-k.invariant
-        (omega (arith, x, y, c.if-index.false))
+    (omega (arith, x, y, c.if-index.false))
 
 pub returns : goal.returns
 returns g c = λ t.
@@ -30,9 +30,9 @@ returns g c = λ t.
     let row = c.args.row in
     let shape = c.requires.shape in
     let start = get_or_read mem.cuts row c.index.result.now
-        (omega (arith, shape.cuts_size, shape.few)) c.index.ensures 0 in
+    (omega (arith, shape.cuts_size, shape.few)) c.index.ensures 0 in
     let end = get_or_read mem.cuts (row + 1) c.index-2.result.now
-        (omega (arith, shape.cuts_size, shape.few)) c.index-2.ensures 0 in
+    (omega (arith, shape.cuts_size, shape.few)) c.index-2.ensures 0 in
     same_list mem row c.index.result.now (members c.args.set.now) c.requires.good start (c.if-start-set.false ∙ end)
     (λ j lt. c.loop-k.invariant j (omega arith))
 
@@ -66,9 +66,9 @@ index-requires-in-loop-k g c =
     let row = c.args.row in
     let shape = c.requires.shape in
     let start = get_or_read mem.cuts row c.index.result.now
-        (omega (arith, shape.cuts_size, shape.few)) c.index.ensures 0 in
+    (omega (arith, shape.cuts_size, shape.few)) c.index.ensures 0 in
     let end = get_or_read mem.cuts (row + 1) c.index-2.result.now
-        (omega (arith, shape.cuts_size, shape.few)) c.index-2.ensures 0 in
+    (omega (arith, shape.cuts_size, shape.few)) c.index-2.ensures 0 in
     let up = shape.upto (row + 1) (omega arith) in
     let rm = shape.room in
     omega (arith, c.if-start-set.false, shape.pool_size)

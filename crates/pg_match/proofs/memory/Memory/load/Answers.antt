@@ -11,15 +11,15 @@ insert-requires-clause-within g c =
     let row = c.args.row in
     let shape = c.requires.shape in
     let start = get_or_read mem.cuts row c.index.result.now
-        (omega (arith, shape.cuts_size, shape.few)) c.index.ensures 0 in
+    (omega (arith, shape.cuts_size, shape.few)) c.index.ensures 0 in
     let end = get_or_read mem.cuts (row + 1) c.index-2.result.now
-        (omega (arith, shape.cuts_size, shape.few)) c.index-2.ensures 0 in
+    (omega (arith, shape.cuts_size, shape.few)) c.index-2.ensures 0 in
     let up = shape.upto (row + 1) (omega arith) in
     let rm = shape.room in
     let lt : c.loop-k.k < length mem.pool = omega (arith, shape.pool_size) in
     let x = get_or_read mem.pool c.loop-k.k c.index-in-loop-k.result.now lt c.index-in-loop-k.ensures 0 in
     let w = shape.within row c.index-in-loop-k.result.now c.requires.known
-        (c.loop-k.k, omega arith, omega arith, sym x) in
+    (c.loop-k.k, omega arith, omega arith, sym x) in
     omega (arith, w, c.loop-k.invariant.size)
 
 pub loop-k-preserved : goal.loop-k-preserved
@@ -28,16 +28,16 @@ loop-k-preserved g c =
     let row = c.args.row in
     let shape = c.requires.shape in
     let start = get_or_read mem.cuts row c.index.result.now
-        (omega (arith, shape.cuts_size, shape.few)) c.index.ensures 0 in
+    (omega (arith, shape.cuts_size, shape.few)) c.index.ensures 0 in
     let end = get_or_read mem.cuts (row + 1) c.index-2.result.now
-        (omega (arith, shape.cuts_size, shape.few)) c.index-2.ensures 0 in
+    (omega (arith, shape.cuts_size, shape.few)) c.index-2.ensures 0 in
     let up = shape.upto (row + 1) (omega arith) in
     let rm = shape.room in
     let lt : c.loop-k.k < length mem.pool = omega (arith, shape.pool_size) in
     let x = get_or_read mem.pool c.loop-k.k c.index-in-loop-k.result.now lt c.index-in-loop-k.ensures 0 in
     loading_next mem row (members c.args.set.now) (members c.loop-k.set)
-        (members c.insert.new.self) c.loop-k.k c.index-in-loop-k.result.now c.loop-k.invariant
-        (omega arith) x c.insert.ensures
+    (members c.insert.new.self) c.loop-k.k c.index-in-loop-k.result.now c.loop-k.invariant
+    (omega arith) x c.insert.ensures
 
 pub returns-clause-same : goal.returns-clause-same
 returns-clause-same g c =
@@ -45,9 +45,9 @@ returns-clause-same g c =
     let row = c.args.row in
     let shape = c.requires.shape in
     let start = get_or_read mem.cuts row c.index.result.now
-        (omega (arith, shape.cuts_size, shape.few)) c.index.ensures 0 in
+    (omega (arith, shape.cuts_size, shape.few)) c.index.ensures 0 in
     let end = get_or_read mem.cuts (row + 1) c.index-2.result.now
-        (omega (arith, shape.cuts_size, shape.few)) c.index-2.ensures 0 in
+    (omega (arith, shape.cuts_size, shape.few)) c.index-2.ensures 0 in
     let ord = shape.order row c.requires.known in
     let upper : c.loop-k.k ≤ c.index-2.result.now = c.loop-k.auto.k-end (omega arith) in
     let inv = c.loop-k.invariant in
@@ -87,9 +87,9 @@ index-requires-in-loop-k g c =
     let row = c.args.row in
     let shape = c.requires.shape in
     let start = get_or_read mem.cuts row c.index.result.now
-        (omega (arith, shape.cuts_size, shape.few)) c.index.ensures 0 in
+    (omega (arith, shape.cuts_size, shape.few)) c.index.ensures 0 in
     let end = get_or_read mem.cuts (row + 1) c.index-2.result.now
-        (omega (arith, shape.cuts_size, shape.few)) c.index-2.ensures 0 in
+    (omega (arith, shape.cuts_size, shape.few)) c.index-2.ensures 0 in
     let up = shape.upto (row + 1) (omega arith) in
     let rm = shape.room in
     omega (arith, shape.pool_size)
@@ -100,7 +100,7 @@ loop-k-init g c =
     let row = c.args.row in
     let shape = c.requires.shape in
     let start = get_or_read mem.cuts row c.index.result.now
-        (omega (arith, shape.cuts_size, shape.few)) c.index.ensures 0 in
+    (omega (arith, shape.cuts_size, shape.few)) c.index.ensures 0 in
     record {
       good = c.clear.ensures.good;
       size = omega arith;

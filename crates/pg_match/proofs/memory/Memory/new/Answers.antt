@@ -21,7 +21,7 @@ returns g c =
     blank_table c.args.states _ (omega (arith, c.in_ok-steps.ensures.len)) (omega (arith, c.in_ok-ends.ensures.len))
     (omega (arith, c.in_ok-pool.ensures.len))
     (omega (arith, c.in_ok-cuts.ensures.len)) (omega (arith, c.in_ok-fresh.ensures.len)) refl (zeros _ 65792 s)
-        (nones _ 257 l)
+    (nones _ 257 l)
     (zero 0 ∙ sym (zero 1)) (omega (arith, zero 1))
 
 pub overflow_mul-vec : goal.overflow_mul-vec

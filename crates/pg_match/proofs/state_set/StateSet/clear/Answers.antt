@@ -13,17 +13,17 @@ index_mut-requires g c =
     let lt : c.loop-k.k < old.len = omega arith in
     let inside = listed_in old c.loop-k.k c.requires lt in
     let same : listed (members c.loop-k.self) c.loop-k.k ≡ listed old c.loop-k.k =
-        ap (λ s. slice_index s c.loop-k.k) c.loop-k.invariant.order in
+    ap (λ s. slice_index s c.loop-k.k) c.loop-k.invariant.order in
     let n : length c.loop-k.self.order.items ≡ length old.order = ap length c.loop-k.invariant.order in
     let room = c.requires.room in
     let read = get_or_read c.loop-k.self.order.items c.loop-k.k _
-        (omega (arith, list_long old c.requires)) c.index-state.ensures 0 in
+    (omega (arith, list_long old c.requires)) c.index-state.ensures 0 in
     omega (arith, read, same, inside)
 
 pub returns-clause-good : goal.returns-clause-good
 returns-clause-good g c =
     let len : length c.loop-k.self.order.items ≡ length c.args.self.now.order.items =
-        ap length c.loop-k.invariant.order in
+    ap length c.loop-k.invariant.order in
     let room = c.requires.room in
     empty_good _ (omega arith) refl (λ q. elim (cases_lt 0 (mark (members c.loop-k.self) q)) [
       | inl some ↦

@@ -8,7 +8,7 @@ pub index_mut-requires : goal.index_mut-requires
 index_mut-requires g c =
     let none : mark (members c.args.self.now) c.args.state ≡ 0 = grind arith in
     let r = has_room (members c.args.self.now) c.args.state c.requires.good
-        (omega arith) none c.args.mark c.requires.some in
+    (omega arith) none c.args.mark c.requires.some in
     omega (arith, r.0)
 
 pub returns-then-index-eq0 : goal.returns-then-index-eq0

@@ -6,5 +6,7 @@ use Rattle.pg_rows.specs.contracts.history.History.{the_row}
 
 pub sync : (A : RattleType) → IsSync A → IsSync (the_row A)
 unfolding part_of
-sync A a = record { shared = λ h b o κ q vs.
-    (cell_keyless q (raw_all (the_row A).mir) vs b o, ((λ _. (tt, ((λ _. (tt, tt)), tt))), tt)) }
+sync A a = record {
+  shared = λ h b o κ q vs.
+      (cell_keyless q (raw_all (the_row A).mir) vs b o, ((λ _. (tt, ((λ _. (tt, tt)), tt))), tt));
+}

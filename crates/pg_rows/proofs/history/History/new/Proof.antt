@@ -20,7 +20,7 @@ new_spec 𝓤 𝓛 𝓜 𝓡 wired A LA =
     let y : W.Ghost = ((κs, qs, bounds, a, tt), g) in
     let made : R.Denot = record { kind = record {}; items = [] } in
     qed 𝓛 ((raw (alive 𝓛 T.signature κs qs) ⊛ ‵ (owns (types_at T.signature.params κs) a y.0.4)) ∷ raw
-        ((c κs a).requires g) ∷ []) ∵
+    ((c κs a).requires g) ∷ []) ∵
     keep ! (0 ∷ []) $ split ! $
     enter ! _ _ _ _ _ $ alloc_all ! (λ l. pass_all ! refl tt $
     sets ! (agg ! (no_more !)) refl (tt, tt) $
@@ -29,5 +29,5 @@ new_spec 𝓤 𝓛 𝓜 𝓡 wired A LA =
     suffices ! _ (ends_at 𝓛 T hs c y one_none made tt tt) $ says ! refl $
     -- [the tokens; the parameters], and then the value that was made
     pure_i ! (R.own_val made (one_none ∷ [])) ((λ vss. (tt, ((λ uss. (tt, tt)), tt))), tt)
-        (((none ∷ [], tt), (refl, ((tt, (refl, tt)), tt))), tt) $
+    (((none ∷ [], tt), (refl, ((tt, (refl, tt)), tt))), tt) $
     move ! (1 ∷ 2 ∷ 0 ∷ []) $ done !))

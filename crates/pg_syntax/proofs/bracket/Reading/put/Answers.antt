@@ -7,6 +7,7 @@ returns-else-is_dash-clause-placed c = λ text p a l.
 
 pub returns-in-Dashed-clause-placed : goal.returns-in-Dashed-clause-placed
 returns-in-Dashed-clause-placed c = λ text p a l.
-    let q = rw c.in-Dashed.is at p.1 in
-    (c.add-in-Dashed.ensures.placed text p.0 (c.range_fault.ensures text q a),
-        at_within text c.in-Dashed.start c.in-Dashed.held q)
+    let q = rw c.in-Dashed.is at p.1 in (
+      c.add-in-Dashed.ensures.placed text p.0 (c.range_fault.ensures text q a),
+      at_within text c.in-Dashed.start c.in-Dashed.held q,
+    )

@@ -24,9 +24,11 @@ returns c =
     ] in
     let e : number_from 0 (drop c.args.at text) ≡ (c.loop-end.value, drop end text) =
     c.loop-end.invariant.3.2 ∙ (ap (λ m. number_from m (drop end text)) (sym v)
-        ∙ number_stops c.loop-end.value (drop end text) none) in
+    ∙ number_stops c.loop-end.value (drop end text) none) in
     let shorter : length (drop end text) < length (drop c.args.at text) =
-        omega (arith, length-drop end text, length-drop c.args.at text) in
-    let more : c.args.at < end = omega arith in
-    (number_found (drop c.args.at text) (drop end text) c.loop-end.value e shorter c.if-value-gt255.false, more,
-        c.loop-end.invariant.1)
+    omega (arith, length-drop end text, length-drop c.args.at text) in
+    let more : c.args.at < end = omega arith in (
+      number_found (drop c.args.at text) (drop end text) c.loop-end.value e shorter c.if-value-gt255.false,
+      more,
+      c.loop-end.invariant.1,
+    )
