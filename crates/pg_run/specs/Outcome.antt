@@ -97,8 +97,7 @@ IsOfAFile TooLong = Unit {0}
 
 -- A run broke off by a fault that has its cause: its output is a beginning of that of every list of files that goes on
 -- from what was given, and the fault lines are a beginning of those of what was given. Where a file is at fault,
--- nothing
--- is lost of those before it.
+-- nothing is lost of those before it.
 pub record BreaksOff (text : SearchText) (setup : Setup) (past : FilesPast) (out out' told told' : Stream)
     (fault : RunFault) : Type 0 where
   pub cause : HasCause fault text setup past out out' told told'
