@@ -10,8 +10,8 @@ group is tried alone, as is one that touches anything but bodies: there any open
 
 A NAME is a crate or an edit, `late-double-taken` or `pg_seq/late-double-taken`; none: all. With --all those of
 `must-fail/` are tried too, and with --keep what each check said is kept in FOLDER. The command of the toolchain is
-`rt`, or what RT names. A crate that was not proved yet is proved first. The last line is `N refused, M not`; the
-status is 0 only where M is 0 and N is not.
+`rt`, or what RT names. A crate that was not proved yet is proved first; no other check of it may run meanwhile. The
+last line is `N refused, M not`; the status is 0 only where M is 0 and N is not.
 
 With --read nothing is checked: each edit is only looked up in the code, which tells those that a change has made stale.
 The last line is `N passed, M failed` then.
