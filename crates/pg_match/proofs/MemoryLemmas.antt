@@ -11,7 +11,7 @@ use Rattle.pg_match.specs.Automata.{Nfa, IsRunnable}
 use Rattle.pg_match.specs.StateSets.{Members, mark, listed, IsGood, Inserted}
 use Rattle.pg_match.specs.Steps.{Has, Goes, Starts, HitBefore, AnswersEnd, ReadsNone}
 use Rattle.pg_match.specs.Stands.{Stands, HasRun}
-use Rattle.pg_match.specs.Memories.{Remembered, cut, ended, fresh_at, In, Same, IsShape, Told, IsMemoryOf, IsBlank}
+use Rattle.pg_match.specs.Memories.{Remembered, cut, ended, fresh_at, In, Same, IsShape, Told, IsMemoryOf, IsHopeless, IsBlank}
 use Rattle.pg_match.specs.Memories.{Keeps, Grown, SameSets, Marked, MarkedEnd, IsAtRow, StandsAt, Learned, Finishes}
 use Rattle.pg_match.specs.declared.recall.Next.TheVariants.{Row, Lost}
 use Rattle.pg_match.proofs.StateSetLemmas.{listed_in}
@@ -215,15 +215,26 @@ starts_same m S U s g = record {
   still = λ q h r edge. (s r).0 (g.still q ((s q).1 h) r edge);
 }
 
+stands_at : (m : Nfa) (l : List ℕ) (from p : ℕ) (S U : ℕ → Type 0) → Same S U → Stands m l from p S → Stands m l from p U
+stands_at m l from p S U same s = record {
+  sound = λ q h. s.sound q ((same q).1 h);
+  complete = λ v n j ge le o run past.
+      let c = s.complete v n j ge le o run past in (c.0, c.1, (same c.0).0 c.2, c.3);
+  closed = λ lt q r h edge. (same r).0 (s.closed lt q r ((same q).1 h) edge);
+  none = s.none;
+}
+
 told_moves : (m : Nfa) (old new : Remembered) (r b v : ℕ) → Keeps old new → r ≤ old.count → Told m old r b v
     → Told m new r b v
 told_moves m old new r b v k le (inl zero_v) = inl zero_v
 told_moves m old new r b v k le (inr (inl hit)) = inr (inl (hit.0, ((k.sets r le 0).0 hit.1.0, hit.1.1)))
-told_moves m old new r b v k le (inr (inr go)) =
+told_moves m old new r b v k le (inr (inr (inl dead))) =
+    inr (inr (inl (dead.0, λ l from p lt s. dead.1 l from p lt (stands_at m l from p (In new r) (In old r) (same_back (In old r) (In new r) (k.sets r le)) s))))
+told_moves m old new r b v k le (inr (inr (inr go))) =
     let from = k.sets r le in
     let to = k.sets go.0 go.3 in
     let more = k.more in
-    inr (inr (
+    inr (inr (inr (
       go.0,
       go.1,
       go.2,
@@ -231,7 +242,7 @@ told_moves m old new r b v k le (inr (inr go)) =
       λ h. go.4 ((from 0).1 h.0, h.1),
       goes_same m b (In old r) (In new r) (In old go.0) (In new go.0) from to go.5,
       λ f q y h read. go.6 (sym (k.fresh go.0 go.3) ∙ f) q y ((from q).1 h) read,
-    ))
+    )))
 
 -- the memory of a table that keeps the rows, where each cell is blank, or is an old one, or is told
 moved : (m : Nfa) (old new : Remembered) → IsMemoryOf m old → IsShape (length m.states) new → Keeps old new
@@ -415,12 +426,15 @@ row_next m mem state v b is s lt read big =
       | inl zero_v ↦ absurd (omega arith)
       | inr rest ↦ elim rest [
         | inl hit ↦ absurd (omega (arith, hit.0))
-        | inr go ↦ (
-          at_row mem v go.0 go.1 go.3,
-          go.4,
-          subst (λ k. Goes m b (In mem (state / 256)) (In mem k)) (sym (row_of v go.0 go.1)) go.5,
-          λ f. go.6 (subst (λ k. fresh_at mem k ≡ true) (row_of v go.0 go.1) f),
-        )
+        | inr more ↦ elim more [
+          | inl dead ↦ absurd (omega (arith, dead.0))
+          | inr go ↦ (
+            at_row mem v go.0 go.1 go.3,
+            go.4,
+            subst (λ k. Goes m b (In mem (state / 256)) (In mem k)) (sym (row_of v go.0 go.1)) go.5,
+            λ f. go.6 (subst (λ k. fresh_at mem k ≡ true) (row_of v go.0 go.1) f),
+          )
+        ]
       ]
     ]
 
@@ -571,7 +585,7 @@ pub told_row : (m : Nfa) (old mid : Remembered) (r b k v : ℕ) (s u : Members) 
     → (fresh_at mid k ≡ true → ReadsNone m b (Has s)) → Told m mid r b v
 told_row m old mid r b k v s u e ge le le_r keeps from missed goes to fresh =
     let back = same_on (Has s) (In old r) (In mid r) (same_back (In old r) (Has s) from) (keeps.sets r le_r) in
-    inr (inr (
+    inr (inr (inr (
       k,
       e,
       ge,
@@ -579,7 +593,7 @@ told_row m old mid r b k v s u e ge le le_r keeps from missed goes to fresh =
       λ h. missed (hit_there m b (Has s) (In mid r) back h),
       goes_same m b (Has s) (In mid r) (Has u) (In mid k) back to goes,
       λ f q y h read. fresh f q y ((back q).1 h) read,
-    ))
+    )))
 
 pub learned_row : (m : Nfa) (old mid new : Remembered) (r b k v : ℕ) (s u : Members) → v ≡ 256 * k → k ≤ mid.count
     → Keeps mid new → Same (In old r) (Has s) → (HitBefore m b (Has s) → ⊥) → Goes m b (Has s) (Has u)
@@ -611,8 +625,35 @@ told_hit m mem state v b is s lt read one =
     let here : v ≡ slice_index mem.steps (256 * (state / 256) + b) = read ∙ ap (slice_index mem.steps) cell in
     elim (subst (Told m mem (state / 256) b) (sym here) (is.told (state / 256) b s.known lt)) [
       | inl zero_v ↦ absurd (omega arith)
-      | inr rest ↦ elim rest [ inl hit ↦ hit.1 | inr go ↦ absurd (omega (arith, go.1, go.2)) ]
+      | inr rest ↦ elim rest [
+        | inl hit ↦ hit.1
+        | inr more ↦ elim more [ inl dead ↦ absurd (omega (arith, dead.0)) | inr go ↦ absurd (omega (arith, go.1, go.2)) ]
+      ]
     ]
+
+-- and where none does, there or behind it
+pub told_dead : (m : Nfa) (mem : Remembered) (state v b : ℕ) → IsMemoryOf m mem → IsAtRow mem state → b < 256
+    → v ≡ slice_index mem.steps (state + b) → v ≡ 2 → IsHopeless m b (In mem (state / 256))
+told_dead m mem state v b is s lt read two =
+    let cell : state + b ≡ 256 * (state / 256) + b = ap (λ u. u + b) s.row in
+    let here : v ≡ slice_index mem.steps (256 * (state / 256) + b) = read ∙ ap (slice_index mem.steps) cell in
+    elim (subst (Told m mem (state / 256) b) (sym here) (is.told (state / 256) b s.known lt)) [
+      | inl zero_v ↦ absurd (omega arith)
+      | inr rest ↦ elim rest [
+        | inl hit ↦ absurd (omega (arith, hit.0))
+        | inr more ↦ elim more [ inl dead ↦ dead.1 | inr go ↦ absurd (omega (arith, go.1, go.2)) ]
+      ]
+    ]
+
+-- the same of the set that was fetched
+pub hopeless_there : (m : Nfa) (b : ℕ) (S U : ℕ → Type 0) → Same U S → IsHopeless m b S → IsHopeless m b U
+hopeless_there m b S U same h = λ l from p lt s. h l from p lt (stands_at m l from p U S same s)
+
+pub finishes_dead : (m : Nfa) (b : ℕ) (S : ℕ → Type 0) → IsHopeless m b S → Finishes m b S false
+finishes_dead m b S h = λ l from p s byte end begun. (
+  λ yes. absurd (true≢false (sym yes)),
+  λ run. absurd (h l from p (omega (arith, end)) s byte run),
+)
 
 pub ended_so : (m : Nfa) (l : List ℕ) (from : ℕ) (S : ℕ → Type 0) (answer first : Bool) → IsRunnable m
     → Stands m l from (length l) S

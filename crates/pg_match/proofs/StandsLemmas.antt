@@ -13,7 +13,8 @@ use Rattle.pg_match.specs.Machines.{Agrees}
 use Rattle.pg_match.specs.Searches.{RunsFrom}
 use Rattle.pg_match.specs.StateSets.{Members, mark}
 use Rattle.pg_match.specs.Steps.{Reads, Has, Closed, Goes, Starts, HitBefore, HitAtEnd, NoHitAtEnd, AnswersEnd}
-use Rattle.pg_match.specs.Steps.{begins_after, ends_before}
+use Rattle.pg_match.specs.Steps.{begins_after, ends_before, Still, IsStill, IsQuiet, IsSpent}
+use Rattle.pg_match.specs.Memories.{IsHopeless}
 use Rattle.pg_match.specs.Stands.{Stands, HasRun}
 use Rattle.pg_match.proofs.SearchLemmas.{edge_moves, runs_forward}
 use Rattle.pg_match.proofs.StepLemmas.{edge_still}
@@ -100,6 +101,29 @@ ends_last Whole l p e = e
 ends_at_last : (o : Bounds) (l : List ℕ) → MayEnd o l (length l)
 ends_at_last o l = ends_last o l (length l) refl
 
+quiet_edge : (o : Option State) (l : List ℕ) (i r k : ℕ) → (i ≡ 0 → ⊥) → IsQuiet o → Edge o l i r k
+    → Still false false o r × (k ≡ i)
+quiet_edge None l i r k inside quiet e = absurd e
+quiet_edge (Some Fail) l i r k inside quiet e = absurd e
+quiet_edge (Some Accept) l i r k inside quiet e = absurd quiet
+quiet_edge (Some (Jump x)) l i r k inside quiet e = (e.0, e.1)
+quiet_edge (Some (Read s x)) l i r k inside quiet e = absurd quiet
+quiet_edge (Some (AtBegin x)) l i r k inside quiet e = absurd (inside e.0)
+quiet_edge (Some (AtEnd x)) l i r k inside quiet e = absurd quiet
+quiet_edge (Some (Split x y)) l i r k inside quiet e = (e.0, e.1)
+
+-- no run leads from a state of a set that is spent
+quiet_run : (m : Nfa) (l : List ℕ) (U : ℕ → Type 0) → IsStill m.states false false U
+    → ((q : ℕ) → U q → IsQuiet (slice_get m.states q)) → (n q i j : ℕ) → (i ≡ 0 → ⊥) → U q → Runs m.states l n q i j → ⊥
+quiet_run m l U still quiet zero q i j inside here run = subst IsQuiet run.0 (quiet q here)
+quiet_run m l U still quiet (suc n) q i j inside here run =
+    let e = quiet_edge (slice_get m.states q) l i run.0 run.1 inside (quiet q here) run.2 in
+    quiet_run m l U still quiet n run.0 i j inside (still q here run.0 e.0)
+    (subst (λ k. Runs m.states l n run.0 k j) e.1 run.3)
+
+begins_whole : (o : Bounds) (l : List ℕ) (i : ℕ) → o ≡ Whole → MayBegin o l i → i ≡ 0
+begins_whole o l i is h = subst (λ o. MayBegin o l i) is h
+
 module _ (m : Nfa) (l : List ℕ) where
   pub stands_first : (S : ℕ → Type 0) → Starts m S → Stands m l 0 0 S
   stands_first S s = record {
@@ -184,6 +208,31 @@ module _ (m : Nfa) (l : List ℕ) where
             subst (λ v. Runs m.states l k run.0 v j) moves run.3,
           )
         ]
+
+    -- where a byte leads to a set that is spent, no match ends before the byte or behind it
+    pub no_run_behind : IsRunnable m → (HitBefore m b S → ⊥) → IsSpent m U → HasRun m l from → ⊥
+    no_run_behind is_m missed spent (i, j, ge, le, within, run) = elim (cases_lt j p) [
+      | inl before ↦ s.none i j ge le before run
+      | inr past ↦ elim (cases_lt p i) [
+        | inl new ↦
+            let inside : (i ≡ 0 → ⊥) = (λ e. absurd (omega (arith, e, new))) in
+            elim spent.later [
+              | inl here ↦ quiet_run m l U g.still spent.quiet run.2.0 m.start i j inside here run.2.1
+              | inr whole ↦ inside (begins_whole m.bounds l i whole run.0)
+            ]
+        | inr old ↦
+            let c = s.complete i run.2.0 j ge old run.0 run.2.1 past in
+            elim (cases_lt p j) [
+              | inl further ↦
+                  let x = crosses c.1 c.0 j c.2 c.3 (omega (arith, further)) in
+                  quiet_run m l U g.still spent.quiet x.1 x.0 (p + 1) j (λ e. absurd (omega (arith, e))) x.2 x.3
+              | inr near ↦
+                  let same : j ≡ p = omega (arith, near, past) in
+                  let there = subst (λ v. Runs m.states l c.1 c.0 p v) same c.3 in
+                  missed (ends_here p S (s.closed lt) is_m c.1 c.0 c.2 there, ended m.bounds l p b is lt (subst (MayEnd m.bounds l) same run.1))
+            ]
+      ]
+    ]
 
     pub stands_next : from ≤ p + 1 → IsRunnable m → (HitBefore m b S → ⊥) → Stands m l from (p + 1) U
     stands_next begun_here is_m missed = record {
@@ -278,3 +327,8 @@ pub none_so : (m : Nfa) (patterns : List Pattern) (l : List ℕ) → Agrees m pa
     → (IsTrue false ↔ HasHit patterns m.bounds l)
 none_so m patterns l a none =
     (λ t. absurd (true≢false (sym t)), λ h. absurd (true≢false (sym (a.complete l h.0 h.1 h.2.matched).0 ∙ none)))
+
+pub hopeless : (m : Nfa) (b : ℕ) (S U : ℕ → Type 0) → IsRunnable m → (HitBefore m b S → ⊥) → Goes m b S U → IsSpent m U
+    → IsHopeless m b S
+hopeless m b S U is missed goes spent = λ l from p lt s byte run.
+    no_run_behind m l from p b S U byte lt s goes is missed spent run

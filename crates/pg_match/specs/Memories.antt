@@ -6,7 +6,7 @@ use Rattle.pg_match.specs.StateSets.{Members}
 use Rattle.pg_match.specs.Steps.{Has, Starts, Goes, HitBefore, AnswersEnd, ReadsNone}
 use Rattle.pg_match.specs.Stands.{Stands, HasRun, NoneBefore}
 use Rattle.pg_match.specs.declared.recall.Next.{Next}
-use Rattle.pg_match.specs.declared.recall.Next.TheVariants.{Hit, Row, Lost}
+use Rattle.pg_match.specs.declared.recall.Next.TheVariants.{Hit, Row, Lost, Dead}
 use Rattle.pg_match.specs.declared.skim.Skim.{Skim}
 use Rattle.pg_match.specs.declared.skim.Skim.TheVariants.{NoHit, Known, Unknown}
 
@@ -54,13 +54,17 @@ pub record IsShape (n : ℕ) (t : Remembered) : Type 0 where
   pub room : cut t (t.count + 1) ≤ length t.pool
   pub within : (r q : ℕ) → r ≤ t.count → In t r q → q < n
 
+-- where the set stands before the byte, no match ends there or behind it
+abbrev pub IsHopeless : Nfa → ℕ → (ℕ → Type 0) → Type 0
+IsHopeless m b S = (l : List ℕ) (from p : ℕ) → p < length l → Stands m l from p S → slice_get l p ≡ Some b → HasRun m l from → ⊥
+
 -- what is known of a row and a byte: nothing, that a match ends before the byte, or that none does and which row is
 -- next, which is fresh only if no state of the row reads the byte
 abbrev pub Told : Nfa → Remembered → ℕ → ℕ → ℕ → Type 0
 Told m t r b v =
-    (v ≡ 0) ⊎ (((v ≡ 1) × HitBefore m b (In t r))
+    (v ≡ 0) ⊎ (((v ≡ 1) × HitBefore m b (In t r)) ⊎ (((v ≡ 2) × IsHopeless m b (In t r))
     ⊎ ((k : ℕ) × (v ≡ 256 * k) × (1 ≤ k) × (k ≤ t.count) × (HitBefore m b (In t r) → ⊥) × Goes m b (In t r) (In t k)
-    × (fresh_at t k ≡ true → ReadsNone m b (In t r))))
+    × (fresh_at t k ≡ true → ReadsNone m b (In t r)))))
 
 -- what is remembered is true of the automaton, for every line
 pub record IsMemoryOf (m : Nfa) (t : Remembered) : Type 0 where
@@ -128,6 +132,7 @@ Learned m old new r b s Hit = HitBefore m b (In old r)
 Learned m old new r b s (Row v) =
     IsAtRow new v × (HitBefore m b (In old r) → ⊥) × Goes m b (In old r) (In new (v / 256))
     × Same (Has s) (In new (v / 256))
+Learned m old new r b s Dead = IsHopeless m b (In old r)
 Learned m old new r b s Lost = (HitBefore m b (In old r) → ⊥) × Goes m b (In old r) (Has s)
 
 -- where the row's set stands before a line's last byte, the answer is whether the line has a match

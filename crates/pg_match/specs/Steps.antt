@@ -146,3 +146,19 @@ NoHitAtEnd m first S =
 abbrev pub AnswersEnd : Nfa → Bool → (ℕ → Type 0) → Bool → Type 0
 AnswersEnd m first S true = HitAtEnd m first S
 AnswersEnd m first S false = NoHitAtEnd m first S
+
+-- the state reads nothing, and no match ends there, also where the line ends
+abbrev pub IsQuiet : Option State → Type 0
+IsQuiet None = Unit {0}
+IsQuiet (Some Fail) = Unit {0}
+IsQuiet (Some Accept) = ⊥
+IsQuiet (Some (Jump x)) = Unit {0}
+IsQuiet (Some (Read s x)) = ⊥
+IsQuiet (Some (AtBegin x)) = Unit {0}
+IsQuiet (Some (AtEnd x)) = ⊥
+IsQuiet (Some (Split x y)) = Unit {0}
+
+-- the states of the set lead to nothing, nor do runs that begin further right
+pub record IsSpent (m : Nfa) (S : ℕ → Type 0) : Type 0 where
+  pub quiet : (q : ℕ) → S q → IsQuiet (slice_get m.states q)
+  pub later : S m.start ⊎ (m.bounds ≡ Whole)

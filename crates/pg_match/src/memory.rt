@@ -25,6 +25,9 @@ const PATIENCE: usize = 262_144;
 /// A match ends before the byte. Greater steps are 256 times the next row.
 pub(crate) const HIT: u32 = 1;
 
+/// No match ends before the byte or anywhere behind it.
+pub(crate) const DEAD: u32 = 2;
+
 /// Sets of states, and where each byte leads from them. A text may lead to more sets than there is room for. Then the
 /// table is begun anew, so that it has those that are met now.
 pub struct Memory<A: Allocator = Global> {

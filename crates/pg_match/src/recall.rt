@@ -1,18 +1,21 @@
 //! The search for any match at all, by remembered sets.
-ghost use Rattle.std.specs.Prelude.{◌≡◌, ℕ, ◌+◌, ◌*◌, ◌/◌, ◌<◌, ◌≤◌, ◌^◌, ◌↔◌, length, IsTrue, IfSome, List, false};
+ghost use Rattle.std.specs.Prelude.{◌≡◌, ℕ, ◌+◌, ◌*◌, ◌/◌, ◌<◌, ◌≤◌, ◌^◌, ◌↔◌, ◌⊎◌, length, IsTrue, IfSome, List, false, slice_get};
 ghost use Rattle.pg_syntax.specs.Patterns.{Pattern};
 ghost use Rattle.pg_match.specs.Automata.{IsRunnable};
 ghost use Rattle.pg_match.specs.Hits.{HasHit};
 ghost use Rattle.pg_match.specs.Machines.{Agrees};
+ghost use Rattle.pg_match.specs.declared.bounds.Bounds.TheVariants.{Whole};
 ghost use Rattle.pg_match.specs.StateSets.{IsGood, HaveRoom};
 ghost use Rattle.pg_match.specs.Stands.{HasRun};
-ghost use Rattle.pg_match.specs.Steps.{Has, Starts};
+ghost use Rattle.pg_match.specs.Steps.{Has, Starts, IsQuiet, IsSpent};
 ghost use Rattle.pg_match.specs.Memories.{IsMemoryOf, In, fresh_at, Same, Keeps, IsAtRow, StandsAt, Learned, Finishes};
 ghost use Rattle.pg_match.specs.Views.{nfa, members, buffers, remembered, Remembers};
 
 use crate::automaton::Automaton;
-use crate::memory::{HIT, Memory};
+use crate::bounds::Bounds;
+use crate::memory::{DEAD, HIT, Memory};
 use crate::search::StateSets;
+use crate::state::State;
 use crate::state_set::StateSet;
 use std::alloc::Allocator;
 
@@ -25,9 +28,59 @@ pub(crate) enum Next {
     Row(u32),
     /// It leads to a set for which there is no room.
     Lost,
+    /// No match ends before it or anywhere behind it.
+    Dead,
+}
+
+/// Whether a state is where a match ends, reads a byte, or goes on where the line ends.
+fn is_alive(states: &[State], state: u32) -> bool
+    requires { state < length states.now }
+    ensures { result ≡ false → IsQuiet (slice_get states.now state) }
+{
+    match states[state as usize] {
+        State::Accept | State::Read(_, _) | State::AtEnd(_) => true,
+        State::Fail | State::Jump(_) | State::AtBegin(_) | State::Split(_, _) => false,
+    }
+}
+
+/// Whether no state of a set is alive.
+fn are_quiet<A: Allocator>(states: &[State], set: &StateSet<A>) -> bool
+    requires good { IsGood (members set.now) }
+    requires size { length set.now.marks.items ≡ length states.now }
+    ensures { IsTrue result → (q : ℕ) → Has (members set.now) q → IsQuiet (slice_get states.now q) }
+{
+    for k in 0..set.len {
+        if is_alive(states, set.order[k]) {
+            return false;
+        }
+    }
+    true
 }
 
 impl<A: Allocator> Automaton<A> {
+    /// Whether runs that begin further right do so in a set, or not at all.
+    fn begins_in(&self, set: &StateSet<A>) -> bool
+        requires runs { IsRunnable (nfa self.now) }
+        requires size { length set.now.marks.items ≡ length self.now.states.items }
+        ensures { IsTrue result → Has (members set.now) self.now.start ⊎ (self.now.bounds ≡ Whole) }
+    {
+        match self.bounds {
+            Bounds::Whole => true,
+            Bounds::Any | Bounds::Word => set.marks[self.start as usize] != 0,
+        }
+    }
+
+    /// Whether no match ends at a place inside a line whose set this is, or anywhere behind it, as far as the states
+    /// tell.
+    fn is_dead(&self, set: &StateSet<A>) -> bool
+        requires runs { IsRunnable (nfa self.now) }
+        requires good { IsGood (members set.now) }
+        requires size { length set.now.marks.items ≡ length self.now.states.items }
+        ensures { IsTrue result → IsSpent (nfa self.now) (Has (members set.now)) }
+    {
+        self.begins_in(set) && are_quiet(&self.states, set)
+    }
+
     /// The row of a set, fresh or not, or 0 where there is no room.
     fn keep(&self, memory: &mut Memory<A>, set: &StateSet<A>, is_fresh: bool) -> usize
         requires memory { IsMemoryOf (nfa self.now) (remembered memory.old) }
@@ -75,12 +128,19 @@ impl<A: Allocator> Automaton<A> {
         if memory.steps[256 * row + byte as usize] == HIT {
             return Next::Hit;
         }
+        if memory.steps[256 * row + byte as usize] == DEAD {
+            return Next::Dead;
+        }
         memory.load(row, &mut sets.current);
         if self.hits_before(&sets.current, byte) {
             memory.mark(row, byte, HIT);
             return Next::Hit;
         }
         let is_fresh = self.go(sets, byte);
+        if self.is_dead(&sets.current) {
+            memory.mark(row, byte, DEAD);
+            return Next::Dead;
+        }
         let to = self.keep(memory, &sets.current, is_fresh);
         if to == 0 {
             return Next::Lost;
@@ -174,6 +234,9 @@ impl<A: Allocator> Automaton<A> {
         if next == HIT {
             return Some(true);
         }
+        if next == DEAD {
+            return Some(false);
+        }
         if next < 256 {
             return None;
         }
@@ -210,6 +273,7 @@ impl<A: Allocator> Automaton<A> {
                 answer
             }
             Next::Lost => self.hits_at_end(sets, false),
+            Next::Dead => false,
         }
     }
 
@@ -238,6 +302,7 @@ impl<A: Allocator> Automaton<A> {
             }
             match self.learn(sets, memory, (at / 256) as usize, line[here]) {
                 Next::Hit => return true,
+                Next::Dead => return false,
                 Next::Row(next) => {
                     state = next;
                     place = here + 1;

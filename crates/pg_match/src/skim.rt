@@ -12,7 +12,7 @@ ghost use Rattle.pg_match.specs.Memories.{IsMemoryOf, IsAtRow, In, Finishes, Has
 ghost use Rattle.pg_match.specs.Views.{nfa, buffers, remembered, HasSeeds, Remembers};
 
 use crate::automaton::Automaton;
-use crate::memory::{HIT, Memory};
+use crate::memory::{DEAD, HIT, Memory};
 use crate::recall::Next;
 use crate::search::StateSets;
 use crate::state::State;
@@ -105,6 +105,9 @@ impl<A: Allocator> Automaton<A> {
             if next == HIT {
                 return Skim::Known(start);
             }
+            if next == DEAD {
+                return Skim::NoHit;
+            }
             if next < 256 {
                 return Skim::Unknown(start);
             }
@@ -158,7 +161,7 @@ impl<A: Allocator> Automaton<A> {
                     state = next;
                     place = here + 1;
                 }
-                Next::Hit => return,
+                Next::Hit | Next::Dead => return,
                 Next::Lost => {
                     memory.lose(line.len() - here);
                     return;

@@ -3,7 +3,8 @@ use Rattle.std.proofs.Common.{◌≤◌, ◌∙◌, arith, sym, refl, inl, inr, 
 use Rattle.pg_match.specs.Memories.{In}
 use Rattle.pg_match.specs.Steps.{Has}
 use Rattle.pg_match.specs.Views.{nfa, members, remembered}
-use Rattle.pg_match.proofs.MemoryLemmas.{memory_marked, mark_keeps, hit_there, told_row, learned_row, learned_lost}
+use Rattle.pg_match.proofs.MemoryLemmas.{memory_marked, mark_keeps, hit_there, told_row, learned_row, learned_lost, hopeless_there}
+use Rattle.pg_match.proofs.StandsLemmas.{hopeless}
 use Rattle.pg_match.proofs.automaton.Automaton.learn.Goals as goal
 
 pub returns-then-hits_before-clause-memory : goal.returns-then-hits_before-clause-memory
@@ -197,5 +198,33 @@ returns-then-index-eq-HIT-clause-learned g c =
     c.index.ensures 0 in
     elim (c.requires.memory.told c.args.row c.args.byte c.requires.known (omega arith)) [
       | inl none ↦ absurd (omega arith)
-      | inr rest ↦ elim rest [ inl hit ↦ hit.1 | inr go ↦ absurd (omega (arith, go.1, go.2)) ]
+      | inr rest ↦ elim rest [
+        | inl hit ↦ hit.1
+        | inr more ↦ elim more [ inl dead ↦ absurd (omega (arith, dead.0)) | inr go ↦ absurd (omega (arith, go.1, go.2)) ]
+      ]
     ]
+
+pub returns-then-is_dead-clause-memory : goal.returns-then-is_dead-clause-memory
+returns-then-is_dead-clause-memory g c =
+    let m = nfa c.args.self.now in
+    let old = remembered c.args.memory.now in
+    let r = c.args.row in
+    let s = Has (members c.load.new.set) in
+    memory_marked m old (remembered c.mark-then-is_dead.new.self) r c.args.byte 2 c.requires.memory
+    c.mark-then-is_dead.ensures c.requires.known (omega arith)
+    (inr (inr (inl (
+      refl,
+      hopeless_there m c.args.byte s (In old r) c.load.ensures.same
+          (hopeless m c.args.byte s (Has (members c.go-is_fresh.new.sets.current)) c.requires.runs
+          (λ h. true≢false (sym (c.hits_before.ensures.1 h) ∙ c.if-hits_before.false)) c.go-is_fresh.ensures.goes
+          (c.is_dead.ensures c.if-is_dead.true)),
+    ))))
+
+pub returns-then-is_dead-clause-learned : goal.returns-then-is_dead-clause-learned
+returns-then-is_dead-clause-learned g c =
+    let m = nfa c.args.self.now in
+    let s = Has (members c.load.new.set) in
+    hopeless_there m c.args.byte s (In (remembered c.args.memory.now) c.args.row) c.load.ensures.same
+    (hopeless m c.args.byte s (Has (members c.go-is_fresh.new.sets.current)) c.requires.runs
+    (λ h. true≢false (sym (c.hits_before.ensures.1 h) ∙ c.if-hits_before.false)) c.go-is_fresh.ensures.goes
+    (c.is_dead.ensures c.if-is_dead.true))

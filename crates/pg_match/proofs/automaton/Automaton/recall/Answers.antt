@@ -1,4 +1,4 @@
-use Rattle.std.proofs.Common.{◌<◌, ◌+◌, ◌/◌, ℕ, length, arith, refl}
+use Rattle.std.proofs.Common.{◌<◌, ◌+◌, ◌/◌, ℕ, length, arith, refl, sym, true≢false}
 use Rattle.std.proofs.lemmas.Option.{slice_get-get_or}
 use Rattle.pg_match.specs.Memories.{In}
 use Rattle.pg_match.specs.Steps.{Has}
@@ -76,6 +76,28 @@ returns-in-Hit-clause-exact g c =
           run_before m l 0 p _ (In mem (c.walk-at.result.0 / 256)) s c.requires.runs byte lt c.in-Hit.ensures.learned),
       λ run. refl,
     )
+
+pub returns-in-Dead-clause-exact : goal.returns-in-Dead-clause-exact
+returns-in-Dead-clause-exact g c =
+    let l = c.args.line.now in
+    let p = c.walk-at.result.1 in
+    let lt : p < length l = c.walk-at.ensures.within in
+    let s = c.walk-at.ensures.stands 0 (omega arith) c.loop-sets.invariant.stands in (
+      λ yes. absurd (true≢false (sym yes)),
+      λ run. absurd (c.in-Dead.ensures.learned l 0 p lt s (slice_get-get_or l p 0 lt) run),
+    )
+
+pub returns-in-Dead-clause-visits : goal.returns-in-Dead-clause-visits
+returns-in-Dead-clause-visits g c =
+    let n : ℕ = length c.args.self.now.states.items in
+    let u = members c.learn.new.sets.current in
+    let fewer = few u c.in-Dead.ensures.room.now in
+    let size = c.in-Dead.ensures.room.now_size in
+    let v = visits_on c.loop-sets.place c.walk-at.result.1 n c.loop-sets.sets.visits c.learn.new.sets.visits
+    c.loop-sets.invariant.visits
+    c.walk-at.ensures.onward (omega (arith, c.in-Dead.ensures.visits)) in
+    visits_later (c.walk-at.result.1 + 1) (length c.args.line.now) n c.learn.new.sets.visits v
+    (omega (arith, c.walk-at.ensures.within))
 
 pub returns-in-Hit-clause-visits : goal.returns-in-Hit-clause-visits
 returns-in-Hit-clause-visits g c =
