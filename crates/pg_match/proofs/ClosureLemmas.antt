@@ -9,7 +9,7 @@ use Rattle.pg_match.proofs.StateSetLemmas.{listed_in, list_long}
 use Rattle.pg_match.specs.Automata.{Edge}
 use Rattle.pg_bytes.specs.ByteSets.{bytes}
 use Rattle.pg_bytes.specs.declared.byte_set.ByteSet.{ByteSet}
-use Rattle.pg_match.specs.StateSets.{Members, mark, listed, IsGood, IsEmpty, Inserted}
+use Rattle.pg_match.specs.StateSets.{Members, mark, listed, IsGood, IsEmpty, Inserted, Counted}
 use Rattle.pg_match.specs.Closures.{Leads, ClosedAt, IsClosed, IsOrdered, AllBelow, Path, AreSeeds, Sown, Followed}
 use Rattle.pg_match.specs.Closures.{Reached, Reaching, Stepped, Stepping}
 use Rattle.pg_match.specs.declared.state.State.{State}
@@ -28,11 +28,12 @@ module _ (t : List State) (l : List ℕ) (i : ℕ) where
     all = λ r e. absurd (none r e);
     list = λ k h. refl;
     longer = omega arith;
+    counted = refl;
   }
 
-  pub followed_one : (s u : Members) (q y start : ℕ) → Inserted s u y start → Edge (slice_get t q) l i y i
+  pub followed_one : (s u : Members) (q y start : ℕ) → Inserted s u y start → Counted s u → Edge (slice_get t q) l i y i
       → ((r : ℕ) → Edge (slice_get t q) l i r i → r ≡ y) → Followed t l i s u q start
-  followed_one s u q y start ins edge only = record {
+  followed_one s u q y start ins counted edge only = record {
     good = ins.good;
     size = ins.size;
     kept = ins.kept;
@@ -43,12 +44,13 @@ module _ (t : List State) (l : List ℕ) (i : ℕ) where
     all = λ r e. subst (λ v. 0 < mark u v) (sym (only r e)) ins.here;
     list = ins.list;
     longer = ins.longer;
+    counted = counted;
   }
 
   pub followed_two : (s u v : Members) (q y z start : ℕ) → Inserted s u y start → Inserted u v z start
-      → Edge (slice_get t q) l i y i → Edge (slice_get t q) l i z i
+      → Counted s u → Counted u v → Edge (slice_get t q) l i y i → Edge (slice_get t q) l i z i
       → ((r : ℕ) → Edge (slice_get t q) l i r i → (r ≡ y) ⊎ (r ≡ z)) → Followed t l i s v q start
-  followed_two s u v q y z start one two to_y to_z only =
+  followed_two s u v q y z start one two counted more to_y to_z only =
       let fresh : (r : ℕ) → mark s r ≡ 0 → 0 < mark v r
       → (mark v r ≡ start) × Edge (slice_get t q) l i r i × ((k : ℕ) × (s.len ≤ k) × (k < v.len) × (listed v k ≡ r)) =
       λ r none h. elim (cases_lt 0 (mark u r)) [
@@ -87,32 +89,33 @@ module _ (t : List State) (l : List ℕ) (i : ℕ) where
         ];
         list = λ k h. let n = one.longer in two.list k (omega arith) ∙ one.list k h;
         longer = let a = one.longer in let b = two.longer in omega arith;
+        counted = omega arith;
       }
 
   abbrev On : Option State → ℕ → Type 0
   On o r = Edge o l i r i
 
   pub jump_followed : (s u : Members) (q y start : ℕ) → slice_get t q ≡ Some (Jump y) → Inserted s u y start
-      → Followed t l i s u q start
-  jump_followed s u q y start is ins =
-      followed_one s u q y start ins (subst (λ o. On o y) (sym is) (refl, refl)) (λ r e. (subst (λ o. On o r) is e).0)
+      → Counted s u → Followed t l i s u q start
+  jump_followed s u q y start is ins counted =
+      followed_one s u q y start ins counted (subst (λ o. On o y) (sym is) (refl, refl)) (λ r e. (subst (λ o. On o r) is e).0)
 
   pub begin_followed : (s u : Members) (q y start : ℕ) → slice_get t q ≡ Some (AtBegin y) → i ≡ 0 → Inserted s u y start
-      → Followed t l i s u q start
-  begin_followed s u q y start is first ins =
-      followed_one s u q y start ins (subst (λ o. On o y) (sym is) (first, refl, refl))
+      → Counted s u → Followed t l i s u q start
+  begin_followed s u q y start is first ins counted =
+      followed_one s u q y start ins counted (subst (λ o. On o y) (sym is) (first, refl, refl))
       (λ r e. (subst (λ o. On o r) is e).1)
 
   pub end_followed : (s u : Members) (q y start : ℕ) → slice_get t q ≡ Some (AtEnd y) → i ≡ length l
-      → Inserted s u y start → Followed t l i s u q start
-  end_followed s u q y start is last ins =
-      followed_one s u q y start ins (subst (λ o. On o y) (sym is) (last, refl, refl))
+      → Inserted s u y start → Counted s u → Followed t l i s u q start
+  end_followed s u q y start is last ins counted =
+      followed_one s u q y start ins counted (subst (λ o. On o y) (sym is) (last, refl, refl))
       (λ r e. (subst (λ o. On o r) is e).1)
 
   pub split_followed : (s u v : Members) (q y z start : ℕ) → slice_get t q ≡ Some (Split y z) → Inserted s u y start
-      → Inserted u v z start → Followed t l i s v q start
-  split_followed s u v q y z start is one two =
-      followed_two s u v q y z start one two (subst (λ o. On o y) (sym is) (inl refl, refl))
+      → Inserted u v z start → Counted s u → Counted u v → Followed t l i s v q start
+  split_followed s u v q y z start is one two counted more =
+      followed_two s u v q y z start one two counted more (subst (λ o. On o y) (sym is) (inl refl, refl))
       (subst (λ o. On o z) (sym is) (inr refl, refl))
       (λ r e. (subst (λ o. On o r) is e).0)
 
@@ -167,10 +170,11 @@ module _ (t : List State) (l : List ℕ) (i : ℕ) where
       (omega (arith, c.0), omega (arith, c.1))
 
   -- before any state is followed
-  pub reaching_first : (s u : Members) (x start : ℕ) → Inserted s u x start → IsGood s → IsClosed t l i s → IsOrdered s
+  pub reaching_first : (s u : Members) (x start : ℕ) → Inserted s u x start → Counted s u → IsGood s → IsClosed t l i s
+      → IsOrdered s
       → AllBelow s start
       → Reaching t l i s u x start s.len
-  reaching_first s u x start ins good closed ordered below =
+  reaching_first s u x start ins counted good closed ordered below =
       let below' = below_more s u start ins.kept (λ q z h. (ins.fresh q z h).1) below in
       let self : (q : ℕ) → q ≡ x → Leads t l x i q i =
       λ q e. subst (λ v. Leads t l x i v i) (sym e) (λ n j run. (n, run)) in
@@ -190,6 +194,7 @@ module _ (t : List State) (l : List ℕ) (i : ℕ) where
           | inl old ↦ inl (closed_kept s u ins.kept q old (closed q old))
           | inr none ↦ let f = ins.fresh q (omega arith) h in inr (s.len, omega arith, omega (arith, f.3), f.2)
         ];
+        counted = counted;
       }
 
   pub reaching_next : (s u v : Members) (x start k : ℕ) → Reaching t l i s u x start k → k < u.len
@@ -246,6 +251,7 @@ module _ (t : List State) (l : List ℕ) (i : ℕ) where
           ]
           | inr none ↦ let g = f.fresh q (omega arith) h in let w = g.2 in inr (w.0, omega (arith, w.1), w.2, w.3)
         ];
+        counted = omega (arith, r.counted, f.counted);
       }
 
   pub reached : (s u : Members) (x start k : ℕ) → Reaching t l i s u x start k → u.len ≤ k → Reached t l i s u x start
@@ -261,6 +267,7 @@ module _ (t : List State) (l : List ℕ) (i : ℕ) where
     kept = r.kept;
     fresh = r.fresh;
     here = r.here;
+    counted = r.counted;
   }
 
 -- Inside a line one place is like another.
@@ -323,12 +330,13 @@ module _ (t : List State) where
     kept = λ q h. refl;
     fresh = λ q z h. absurd (omega arith);
     here = λ j lt. absurd (omega arith);
+    counted = refl;
   }
 
   pub sown_next : (seeds : List ℕ) (s u v : Members) (start k : ℕ) → Sown seeds s u start k
-      → Inserted u v (slice_index seeds k) start
+      → Inserted u v (slice_index seeds k) start → Counted u v
       → Sown seeds s v start (k + 1)
-  sown_next seeds s u v start k r ins =
+  sown_next seeds s u v start k r ins counted =
       let below' = below_more t [] 0 u v start ins.kept (λ q z h. (ins.fresh q z h).1) r.below in
       record {
         good = ins.good;
@@ -345,6 +353,7 @@ module _ (t : List State) where
           | inl same ↦ subst (λ w. 0 < mark v (slice_index seeds w)) (sym same) ins.here
           | inr other ↦ let h = r.here j (omega arith) in let e = ins.kept (slice_index seeds j) h in omega arith
         ];
+        counted = omega (arith, r.counted, counted);
       }
 
   -- all seeds make what a walk from the start makes
@@ -370,6 +379,7 @@ module _ (t : List State) where
         let f = r.fresh q z h in
         (f.0, subst (λ w. Leads t l x i w i) f.1.2 (are.leads l i a b f.1.0 f.1.1));
     here = subst (λ w. 0 < mark u w) are.first.2 (r.here are.first.0 are.first.1);
+    counted = r.counted;
   }
 
 -- what the code reads of a state

@@ -15,3 +15,4 @@ pub mod PartLaws
 pub mod Examples
 pub mod PatternLemmas
 pub mod SizeLemmas
+pub mod HistorySteps

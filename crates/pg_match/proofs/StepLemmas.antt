@@ -6,7 +6,7 @@ use Rattle.std.proofs.lemmas.Bool.{cases_eq, cases_lt}
 use Rattle.pg_bytes.specs.ByteSets.{bytes}
 use Rattle.pg_bytes.specs.declared.byte_set.ByteSet.{ByteSet}
 use Rattle.pg_match.specs.Automata.{Nfa, Edge}
-use Rattle.pg_match.specs.StateSets.{Members, mark, listed, IsGood, IsEmpty, Inserted}
+use Rattle.pg_match.specs.StateSets.{Members, mark, listed, IsGood, IsEmpty, Inserted, Counted}
 use Rattle.pg_match.specs.Steps.{Still, Reads, LeadsStill, Has, HasStill, Spread, Closed, Closing, Aimed, Goes, Starts}
 use Rattle.pg_match.specs.Steps.{ReadsNone, begins_after}
 use Rattle.pg_match.specs.declared.state.State.{State}
@@ -52,11 +52,12 @@ module _ (t : List State) (f e : Bool) where
     all = λ r h. absurd (none r h);
     list = λ k h. refl;
     longer = omega arith;
+    counted = refl;
   }
 
-  pub spread_one : (s u : Members) (q y : ℕ) → Inserted s u y 1 → Still f e (slice_get t q) y
+  pub spread_one : (s u : Members) (q y : ℕ) → Inserted s u y 1 → Counted s u → Still f e (slice_get t q) y
       → ((r : ℕ) → Still f e (slice_get t q) r → r ≡ y) → Spread t f e s u q
-  spread_one s u q y ins edge only = record {
+  spread_one s u q y ins counted edge only = record {
     good = ins.good;
     size = ins.size;
     kept = λ r h. let a = ins.kept r h in omega arith;
@@ -65,12 +66,14 @@ module _ (t : List State) (f e : Bool) where
     all = λ r h. subst (λ v. 0 < mark u v) (sym (only r h)) ins.here;
     list = ins.list;
     longer = ins.longer;
+    counted = counted;
   }
 
-  pub spread_two : (s u v : Members) (q y z : ℕ) → Inserted s u y 1 → Inserted u v z 1 → Still f e (slice_get t q) y
+  pub spread_two : (s u v : Members) (q y z : ℕ) → Inserted s u y 1 → Inserted u v z 1 → Counted s u → Counted u v
+      → Still f e (slice_get t q) y
       → Still f e (slice_get t q) z
       → ((r : ℕ) → Still f e (slice_get t q) r → (r ≡ y) ⊎ (r ≡ z)) → Spread t f e s v q
-  spread_two s u v q y z one two to_y to_z only = record {
+  spread_two s u v q y z one two counted more to_y to_z only = record {
     good = two.good;
     size = two.size ∙ one.size;
     kept = λ r h. let a = one.kept r h in let b = two.kept r (omega arith) in omega arith;
@@ -92,29 +95,31 @@ module _ (t : List State) (f e : Bool) where
     ];
     list = λ k h. let n = one.longer in two.list k (omega arith) ∙ one.list k h;
     longer = let a = one.longer in let b = two.longer in omega arith;
+    counted = omega arith;
   }
 
   abbrev On : Option State → ℕ → Type 0
   On o r = Still f e o r
 
-  pub jump_spread : (s u : Members) (q y : ℕ) → slice_get t q ≡ Some (Jump y) → Inserted s u y 1 → Spread t f e s u q
-  jump_spread s u q y is ins = spread_one s u q y ins (subst (λ o. On o y) (sym is) refl)
+  pub jump_spread : (s u : Members) (q y : ℕ) → slice_get t q ≡ Some (Jump y) → Inserted s u y 1 → Counted s u
+      → Spread t f e s u q
+  jump_spread s u q y is ins counted = spread_one s u q y ins counted (subst (λ o. On o y) (sym is) refl)
       (λ r h. subst (λ o. On o r) is h)
 
   pub begin_spread : (s u : Members) (q y : ℕ) → slice_get t q ≡ Some (AtBegin y) → IsTrue f → Inserted s u y 1
-      → Spread t f e s u q
-  begin_spread s u q y is first ins = spread_one s u q y ins (subst (λ o. On o y) (sym is) (first, refl))
+      → Counted s u → Spread t f e s u q
+  begin_spread s u q y is first ins counted = spread_one s u q y ins counted (subst (λ o. On o y) (sym is) (first, refl))
       (λ r h. (subst (λ o. On o r) is h).1)
 
   pub end_spread : (s u : Members) (q y : ℕ) → slice_get t q ≡ Some (AtEnd y) → IsTrue e → Inserted s u y 1
-      → Spread t f e s u q
-  end_spread s u q y is last ins = spread_one s u q y ins (subst (λ o. On o y) (sym is) (last, refl))
+      → Counted s u → Spread t f e s u q
+  end_spread s u q y is last ins counted = spread_one s u q y ins counted (subst (λ o. On o y) (sym is) (last, refl))
       (λ r h. (subst (λ o. On o r) is h).1)
 
   pub split_spread : (s u v : Members) (q y z : ℕ) → slice_get t q ≡ Some (Split y z) → Inserted s u y 1
-      → Inserted u v z 1 → Spread t f e s v q
-  split_spread s u v q y z is one two =
-      spread_two s u v q y z one two (subst (λ o. On o y) (sym is) (inl refl)) (subst (λ o. On o z) (sym is) (inr refl))
+      → Inserted u v z 1 → Counted s u → Counted u v → Spread t f e s v q
+  split_spread s u v q y z is one two counted more =
+      spread_two s u v q y z one two counted more (subst (λ o. On o y) (sym is) (inl refl)) (subst (λ o. On o z) (sym is) (inr refl))
       (λ r h. subst (λ o. On o r) is h)
 
   pub none_spread : (s : Members) (q : ℕ) (st : State) → slice_get t q ≡ Some st → ((r : ℕ) → On (Some st) r → ⊥)
@@ -130,6 +135,7 @@ module _ (t : List State) (f e : Bool) where
     upto = omega arith;
     done = λ q h. let g = good.found q h in inr (g.0, omega arith, g.1, g.2);
     longer = omega arith;
+    counted = refl;
   }
 
   pub closing_next : (s u v : Members) (k : ℕ) → Closing t f e s u k → k < u.len → Spread t f e u v (listed u k)
@@ -160,6 +166,7 @@ module _ (t : List State) (f e : Bool) where
       | inr none ↦ let a = g.fresh q (omega arith) h in let w = a.1 in inr (w.0, let b = w.1 in omega arith, w.2, w.3)
     ];
     longer = let a = c.longer in let b = g.longer in omega arith;
+    counted = omega (arith, c.counted, g.counted);
   }
 
   pub all_closed : (s u : Members) (k : ℕ) → Closing t f e s u k → u.len ≤ k → Closed t f e s u
@@ -170,6 +177,7 @@ module _ (t : List State) (f e : Bool) where
     fresh = c.fresh;
     still = λ q h. elim (c.done q h) [ inl all ↦ all | inr later ↦ absurd (omega (arith, later.1, later.2)) ];
     longer = c.longer;
+    counted = c.counted;
   }
 
 reads_none : (o : Option State) (b r : ℕ) → ((s : ByteSet) (x : ℕ) → o ≡ Some (Read s x) → ⊥) → Reads o b r → ⊥

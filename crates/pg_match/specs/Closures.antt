@@ -1,7 +1,7 @@
 -- How the set of a position is made.
 use Rattle.std.specs.Prelude.{◌≡◌, ◌≢◌, ℕ, zero, suc, ◌+◌, ◌<◌, ◌≤◌, ◌⊎◌, List, length, slice_get, slice_index}
 use Rattle.pg_match.specs.Automata.{Edge, Runs}
-use Rattle.pg_match.specs.StateSets.{Members, mark, listed, IsGood}
+use Rattle.pg_match.specs.StateSets.{Members, mark, listed, IsGood, Counted}
 use Rattle.pg_match.specs.declared.state.State.{State}
 
 -- each run from q at k makes one from x at i
@@ -41,6 +41,7 @@ pub record Followed (t : List State) (l : List ℕ) (i : ℕ) (old new : Members
   pub all : (r : ℕ) → Edge (slice_get t q) l i r i → 0 < mark new r
   pub list : (k : ℕ) → k < old.len → listed new k ≡ listed old k
   pub longer : old.len ≤ new.len
+  pub counted : Counted old new
 
 -- x was added with this start, and all that it leads to at i
 pub record Reached (t : List State) (l : List ℕ) (i : ℕ) (old new : Members) (x start : ℕ) : Type 0 where
@@ -52,6 +53,7 @@ pub record Reached (t : List State) (l : List ℕ) (i : ℕ) (old new : Members)
   pub kept : (q : ℕ) → 0 < mark old q → mark new q ≡ mark old q
   pub fresh : (q : ℕ) → mark old q ≡ 0 → 0 < mark new q → (mark new q ≡ start) × Leads t l x i q i
   pub here : 0 < mark new x
+  pub counted : Counted old new
 
 -- each state that is new is at the end of a path from x
 abbrev pub HasPaths : List State → List ℕ → ℕ → Members → Members → ℕ → Type 0
@@ -71,6 +73,7 @@ pub record Reaching (t : List State) (l : List ℕ) (i : ℕ) (old new : Members
   pub left : (j : ℕ) → k ≤ j → j < new.len
       → (mark new (listed new j) ≡ start) × Leads t l x i (listed new j) i × ((n : ℕ) × Path t l i n x (listed new j))
   pub done : (q : ℕ) → 0 < mark new q → ClosedAt t l i new q ⊎ ((j : ℕ) × (k ≤ j) × (j < new.len) × (listed new j ≡ q))
+  pub counted : Counted old new
 
 -- the states that those with a start of mark most `limit` lead to by the byte at i
 pub record Stepped (t : List State) (l : List ℕ) (i : ℕ) (now next : Members) (limit : ℕ) : Type 0 where
@@ -116,3 +119,4 @@ pub record Sown (seeds : List ℕ) (old new : Members) (start k : ℕ) : Type 0 
   pub fresh : (q : ℕ) → mark old q ≡ 0 → 0 < mark new q
       → (mark new q ≡ start) × ((j : ℕ) × (j < k) × (slice_index seeds j ≡ q))
   pub here : (j : ℕ) → j < k → 0 < mark new (slice_index seeds j)
+  pub counted : Counted old new

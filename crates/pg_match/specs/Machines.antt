@@ -20,10 +20,16 @@ pub record IsMachineOf (m : Nfa) (patterns : List Pattern) (bounds : Bounds) : T
   pub same_bounds : m.bounds ≡ bounds
   pub size : length m.states ≡ list_size patterns
 
--- what a scratch was made for, and how often the last search added a state to the set of a place
+-- some patterns and bounds are those of the machine
+abbrev pub IsOfSome : Nfa → Type 0
+IsOfSome m = (patterns : List Pattern) × (bounds : Bounds) × IsMachineOf m patterns bounds
+
+-- what a scratch was made for, how often the last search added a state to the set of a place, and how often all
+-- searches did
 pub record Room : Type 0 where
   pub machine : Nfa
   pub visits : ℕ
+  pub added : ℕ
 
 -- the scratch was made for this very machine
 abbrev pub Fits : Room → Nfa → Type 0

@@ -1,11 +1,13 @@
 -- The set of states of one place of a line.
 use Rattle.std.specs.Prelude.{◌≡◌, ℕ, ◌+◌, ◌<◌, ◌≤◌, ◌==◌, not, List, length, count_by, slice_index}
 
--- the states in the order in which they were added, for each state its mark, and how many states there are
+-- the states in the order in which they were added, for each state its mark, how many states there are, and how many
+-- were ever added, with those that were taken out
 pub record Members : Type 0 where
   pub order : List ℕ
   pub marks : List ℕ
   pub len : ℕ
+  pub added : ℕ
 
 -- the mark of a state: the place where its match begins, plus one; 0 where it isn't in the set
 abbrev pub mark : Members → ℕ → ℕ
@@ -37,6 +39,14 @@ pub record Inserted (old new : Members) (q m : ℕ) : Type 0 where
   pub list : (k : ℕ) → k < old.len → listed new k ≡ listed old k
   pub longer : old.len ≤ new.len
   pub last : (k : ℕ) → old.len ≤ k → k < new.len → (mark old q ≡ 0) × (listed new k ≡ q) × (mark new q ≡ m)
+
+-- each state that the set has more was counted as added, and nothing else
+abbrev pub Counted : Members → Members → Type 0
+Counted old new = new.added + old.len ≡ old.added + new.len
+
+-- the set was made anew, and each of its states was counted as added, and nothing else
+abbrev pub CountedAnew : Members → Members → Type 0
+CountedAnew old new = new.added ≡ old.added + new.len
 
 -- the sets of two places
 pub record Buffers : Type 0 where

@@ -5,7 +5,7 @@ use Rattle.pg_bytes.specs.ByteSets.{bytes}
 use Rattle.pg_match.specs.Automata.{Nfa, Runs}
 use Rattle.pg_match.specs.Bounds.{is_word_byte}
 use Rattle.pg_match.specs.Closures.{Leads}
-use Rattle.pg_match.specs.StateSets.{Members, mark, listed, IsGood}
+use Rattle.pg_match.specs.StateSets.{Members, mark, listed, IsGood, Counted}
 use Rattle.pg_match.specs.declared.bounds.Bounds.{Bounds}
 use Rattle.pg_match.specs.declared.bounds.Bounds.TheVariants.{Any, Word, Whole}
 use Rattle.pg_match.specs.declared.state.State.{State}
@@ -60,6 +60,7 @@ pub record Spread (t : List State) (first last : Bool) (old new : Members) (q : 
   pub all : (r : ℕ) → Still first last (slice_get t q) r → Has new r
   pub list : (k : ℕ) → k < old.len → listed new k ≡ listed old k
   pub longer : old.len ≤ new.len
+  pub counted : Counted old new
 
 -- all that the states lead to was added
 pub record Closed (t : List State) (first last : Bool) (old new : Members) : Type 0 where
@@ -69,6 +70,7 @@ pub record Closed (t : List State) (first last : Bool) (old new : Members) : Typ
   pub fresh : (r : ℕ) → Has new r → (q : ℕ) × Has old q × LeadsStill t first last q r
   pub still : IsStill t first last (Has new)
   pub longer : old.len ≤ new.len
+  pub counted : Counted old new
 
 -- the same in the middle of it: the states from place k of the list on are still to be followed
 pub record Closing (t : List State) (first last : Bool) (old new : Members) (k : ℕ) : Type 0 where
@@ -80,6 +82,7 @@ pub record Closing (t : List State) (first last : Bool) (old new : Members) (k :
   pub done : (q : ℕ) → Has new q
       → HasStill t first last (Has new) q ⊎ ((j : ℕ) × (k ≤ j) × (j < new.len) × (listed new j ≡ q))
   pub longer : old.len ≤ new.len
+  pub counted : Counted old new
 
 -- the states that the byte leads to from the first k states, without what these lead to
 pub record Aimed (t : List State) (b : ℕ) (now next : Members) (k : ℕ) : Type 0 where

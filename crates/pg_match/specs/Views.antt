@@ -7,16 +7,24 @@ use Rattle.pg_match.specs.declared.state_set.StateSet.{StateSet}
 use Rattle.pg_match.specs.declared.search.StateSets.{StateSets}
 use Rattle.pg_match.specs.Memories.{Remembered, IsMemoryOf}
 use Rattle.pg_match.specs.declared.memory.Memory.{Memory}
-use Rattle.std.specs.Prelude.{Option, Some, None}
+use Rattle.std.specs.Prelude.{◌≡◌, ℕ, ◌+◌, Option, Some, None, length}
 
 abbrev pub nfa : {A : Type 0} → Automaton A → Nfa
 nfa m = record { states = m.states.items; start = m.start; bounds = m.bounds; some = m.some }
 
 abbrev pub members : {A : Type 0} → StateSet A → Members
-members s = record { order = s.order.items; marks = s.marks.items; len = s.len }
+members s = record { order = s.order.items; marks = s.marks.items; len = s.len; added = length s.added.items }
 
 abbrev pub buffers : {A : Type 0} → StateSets A → Buffers
 buffers s = record { current = members s.current; next = members s.next }
+
+-- how many states were ever added to the sets of places
+abbrev pub added : {A : Type 0} → StateSets A → ℕ
+added s = (members s.current).added + (members s.next).added
+
+-- the number of visits grew by as much as states were added
+abbrev pub Tells : {A : Type 0} → StateSets A → StateSets A → Type 0
+Tells old new = new.visits + added old ≡ old.visits + added new
 
 -- what the automaton keeps as its seeds are the seeds of its start
 abbrev pub HasSeeds : {A : Type 0} → Automaton A → Type 0

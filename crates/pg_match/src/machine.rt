@@ -5,7 +5,7 @@ ghost use Rattle.pg_syntax.specs.Patterns.{Pattern, IsProper};
 ghost use Rattle.pg_syntax.specs.Trees.{pattern};
 ghost use Rattle.pg_match.specs.Sizes.{list_size};
 ghost use Rattle.pg_match.specs.Hits.{HasHit, HasNoNext, IsNext};
-ghost use Rattle.pg_match.specs.Machines.{IsMachineOf, Fits};
+ghost use Rattle.pg_match.specs.Machines.{IsMachineOf, IsOfSome, Fits};
 ghost use Rattle.pg_match.specs.declared.bounds.Bounds.{Bounds};
 
 use crate::automaton::Automaton;
@@ -40,13 +40,15 @@ pub struct Machine<A: Allocator = Global> {
 impl<A: Allocator> Model for Machine<A> {
     ghost use Rattle.std.specs.Arc.{arc_value};
     ghost use Rattle.pg_match.specs.Automata.{Nfa, IsRunnable};
+    ghost use Rattle.pg_match.specs.Machines.{IsOfSome};
     ghost use Rattle.pg_match.specs.Views.{nfa, HasSeeds};
 
     ghost Value = { Nfa };
 
     ghost view = { λ m. nfa (arc_value m.automaton) };
 
-    ghost invariant = { λ m. IsRunnable (nfa (arc_value m.automaton)) × HasSeeds (arc_value m.automaton) };
+    ghost invariant = { λ m. IsRunnable (nfa (arc_value m.automaton)) × HasSeeds (arc_value m.automaton)
+        × IsOfSome (nfa (arc_value m.automaton)) };
 }
 
 /// The room that searches with one machine need, so that they ask for no memory, and what they remember from line to
@@ -73,11 +75,15 @@ impl<A: Allocator> Model for Scratch<A> {
     ghost use Rattle.std.specs.Arc.{arc_value};
     ghost use Rattle.pg_match.specs.Machines.{Room};
     ghost use Rattle.pg_match.specs.StateSets.{HaveRoom};
-    ghost use Rattle.pg_match.specs.Views.{nfa, buffers, Remembers};
+    ghost use Rattle.pg_match.specs.Views.{nfa, buffers, added, Remembers};
 
     ghost Value = { Room };
 
-    ghost view = { λ s. record { machine = nfa (arc_value s.automaton); visits = s.sets.visits } };
+    ghost view = { λ s. record {
+      machine = nfa (arc_value s.automaton);
+      visits = s.sets.visits;
+      added = added s.sets;
+    } };
 
     ghost invariant = { λ s. HaveRoom (buffers s.sets) (length (nfa (arc_value s.automaton)).states)
         × Remembers s.memory (nfa (arc_value s.automaton)) };
@@ -126,6 +132,8 @@ impl<A: Allocator> Machine<A> {
             → (IsTrue result ↔ HasHit patterns bounds line.now) }
         ensures visits { (patterns : List Pattern) (bounds : Bounds) → IsMachineOf self.now patterns bounds
             → scratch.new.visits ≤ (length line.now + 1) * list_size patterns }
+        ensures counted { scratch.new.added ≡ scratch.old.added + scratch.new.visits }
+        ensures some { IsOfSome self.now }
     {
         let automaton: &Automaton<A> = &self.automaton;
         automaton.selects(&mut scratch.sets, &mut scratch.memory, line)
@@ -149,6 +157,8 @@ impl<A: Allocator> Machine<A> {
             (λ b. IsNext patterns bounds line.now from b.0 b.1) }
         ensures visits { (patterns : List Pattern) (bounds : Bounds) → IsMachineOf self.now patterns bounds
             → scratch.new.visits ≤ (length line.now + 1) * list_size patterns }
+        ensures counted { scratch.new.added ≡ scratch.old.added + scratch.new.visits }
+        ensures some { IsOfSome self.now }
     {
         let automaton: &Automaton<A> = &self.automaton;
         automaton.next_piece(&mut scratch.sets, &mut scratch.memory, line, from)
@@ -197,7 +207,7 @@ impl<A: Allocator> Scratch<A> {
         automaton.is_same(&machine.automaton)
     }
 
-    /// How often the last search added a state to the set of a place.
+    /// How often the last search added a state to the set of a place. A set whose step is remembered takes none.
     pub fn visits(&self) -> u128
         ensures { result ≡ self.now.visits }
     {

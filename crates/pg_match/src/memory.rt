@@ -118,12 +118,13 @@ impl<A: Allocator> Memory<A> {
         ensures good { IsGood (members set.new) }
         ensures size { length set.new.marks.items ≡ length set.old.marks.items }
         ensures same { Same (In (remembered self.now) row) (Has (members set.new)) }
+        ensures added { (members set.new).added ≡ (members set.old).added }
     {
         set.clear();
         let start = self.cuts[row] as usize;
         let end = self.cuts[row + 1] as usize;
         for k in start..end {
-            set.insert(self.pool[k], 1);
+            set.fetch(self.pool[k]);
         }
     }
 

@@ -1,11 +1,11 @@
 //! The search for any match at all, which needs no marks.
 ghost use Rattle.std.specs.Prelude.{◌≡◌, ◌+◌, ◌*◌, ◌<◌, ◌≤◌, ◌^◌, ◌↔◌, length, IsTrue};
 ghost use Rattle.pg_match.specs.Automata.{IsTidy, IsRunnable};
-ghost use Rattle.pg_match.specs.StateSets.{IsGood, HaveRoom};
+ghost use Rattle.pg_match.specs.StateSets.{IsGood, HaveRoom, CountedAnew};
 ghost use Rattle.pg_match.specs.Steps.{Spread, Closed, Aimed, Has, Goes, Starts, HitBefore, AnswersEnd, ReadsNone};
 ghost use Rattle.pg_match.specs.Steps.{begins_after, ends_before};
 ghost use Rattle.pg_match.specs.Stands.{Stands, HasRun};
-ghost use Rattle.pg_match.specs.Views.{nfa, members, buffers};
+ghost use Rattle.pg_match.specs.Views.{nfa, members, buffers, Tells};
 
 use crate::automaton::Automaton;
 use crate::bounds::{Bounds, is_word_byte};
@@ -72,7 +72,8 @@ fn aim<A: Allocator>(states: &[State], byte: u8, current: &StateSet<A>, next: &m
     requires size { length current.now.marks.items ≡ length states.now }
     requires next_good { IsGood (members next.old) }
     requires next_size { length next.old.marks.items ≡ length states.now }
-    ensures { Aimed states.now byte (members current.now) (members next.new) current.now.len }
+    ensures aimed { Aimed states.now byte (members current.now) (members next.new) current.now.len }
+    ensures counted { CountedAnew (members next.old) (members next.new) }
 {
     next.clear();
     for k in 0..current.len {
@@ -118,6 +119,7 @@ impl<A: Allocator> Automaton<A> {
         ensures room { HaveRoom (buffers sets.new) (length self.now.states.items) }
         ensures starts { Starts (nfa self.now) (Has (members sets.new.current)) }
         ensures visits { sets.new.visits ≡ sets.old.visits + sets.new.current.len }
+        ensures told { Tells sets.old sets.new }
     {
         sets.current.clear();
         sets.current.insert(self.start, 1);
@@ -135,6 +137,7 @@ impl<A: Allocator> Automaton<A> {
         ensures goes { Goes (nfa self.now) byte (Has (members sets.old.current)) (Has (members sets.new.current)) }
         ensures fresh { IsTrue result → ReadsNone (nfa self.now) byte (Has (members sets.old.current)) }
         ensures visits { sets.new.visits ≡ sets.old.visits + sets.new.current.len }
+        ensures told { Tells sets.old sets.new }
     {
         aim(&self.states, byte, &sets.current, &mut sets.next);
         let is_fresh = sets.next.len == 0;
@@ -164,6 +167,7 @@ impl<A: Allocator> Automaton<A> {
         ensures room { HaveRoom (buffers sets.new) (length self.now.states.items) }
         ensures answer { AnswersEnd (nfa self.now) is_empty (Has (members sets.old.current)) result }
         ensures visits { sets.new.visits + sets.old.current.len ≡ sets.old.visits + sets.new.current.len }
+        ensures told { Tells sets.old sets.new }
     {
         let before = sets.current.len;
         close(&self.states, &mut sets.current, is_empty, true);
@@ -182,6 +186,7 @@ impl<A: Allocator> Automaton<A> {
         ensures room { HaveRoom (buffers sets.new) (length self.now.states.items) }
         ensures exact { IsTrue result ↔ HasRun (nfa self.now) line.now 0 }
         ensures visits { sets.new.visits ≤ (length line.now + 1) * length self.now.states.items }
+        ensures told { Tells sets.old sets.new }
     {
         for place in from..line.len() {
             let byte = line[place];
@@ -202,6 +207,7 @@ impl<A: Allocator> Automaton<A> {
         ensures room { HaveRoom (buffers sets.new) (length self.now.states.items) }
         ensures exact { IsTrue result ↔ HasRun (nfa self.now) line.now 0 }
         ensures visits { sets.new.visits ≤ (length line.now + 1) * length self.now.states.items }
+        ensures told { Tells sets.old sets.new }
     {
         self.begin(sets);
         self.search_on(sets, line, 0)

@@ -9,7 +9,7 @@ ghost use Rattle.pg_match.specs.StateSets.{IsGood, HaveRoom};
 ghost use Rattle.pg_match.specs.Stands.{HasRun};
 ghost use Rattle.pg_match.specs.Steps.{Has, Starts, IsQuiet, IsSpent};
 ghost use Rattle.pg_match.specs.Memories.{IsMemoryOf, In, fresh_at, Same, Keeps, IsAtRow, StandsAt, Learned, Finishes};
-ghost use Rattle.pg_match.specs.Views.{nfa, members, buffers, remembered, Remembers};
+ghost use Rattle.pg_match.specs.Views.{nfa, members, buffers, remembered, added, Remembers, Tells};
 
 use crate::automaton::Automaton;
 use crate::bounds::Bounds;
@@ -124,6 +124,7 @@ impl<A: Allocator> Automaton<A> {
             (members sets.new.current) result }
         ensures some { 1 ≤ memory.new.count }
         ensures visits { sets.new.visits ≤ sets.old.visits + sets.new.current.len }
+        ensures told { Tells sets.old sets.new }
     {
         if memory.steps[256 * row + byte as usize] == HIT {
             return Next::Hit;
@@ -211,6 +212,7 @@ impl<A: Allocator> Automaton<A> {
         ensures room { HaveRoom (buffers sets.new) (length self.now.states.items) }
         ensures memory { IsMemoryOf (nfa self.now) (remembered memory.new) }
         ensures visits { sets.new.visits ≤ sets.old.visits + length self.now.states.items }
+        ensures told { Tells sets.old sets.new }
         ensures some { IsTrue result → 1 ≤ memory.new.count }
         ensures full { result ≡ false → (sets.new.visits ≡ sets.old.visits + sets.new.current.len)
             × Starts (nfa self.now) (Has (members sets.new.current)) }
@@ -261,6 +263,7 @@ impl<A: Allocator> Automaton<A> {
         ensures memory { IsMemoryOf (nfa self.now) (remembered memory.new) }
         ensures finishes { Finishes (nfa self.now) byte (In (remembered memory.old) (state / 256)) result }
         ensures visits { sets.new.visits ≤ sets.old.visits + length self.now.states.items }
+        ensures told { Tells sets.old sets.new }
     {
         if let Some(answer) = self.recall_end(memory, state, byte) {
             return answer;
@@ -289,6 +292,7 @@ impl<A: Allocator> Automaton<A> {
         ensures memory { IsMemoryOf (nfa self.now) (remembered memory.new) }
         ensures exact { IsTrue result ↔ HasRun (nfa self.now) line.now 0 }
         ensures visits { sets.new.visits ≤ (length line.now + 1) * length self.now.states.items }
+        ensures told { Tells sets.old sets.new }
     {
         if !self.first(sets, memory) {
             return self.search_on(sets, line, 0);
@@ -331,6 +335,7 @@ impl<A: Allocator> Automaton<A> {
         ensures exact { (patterns : List Pattern) → Agrees (nfa self.now) patterns
             → (IsTrue result ↔ HasHit patterns self.now.bounds line.now) }
         ensures visits { sets.new.visits ≤ (length line.now + 1) * length self.now.states.items }
+        ensures told { added sets.new ≡ added sets.old + sets.new.visits }
     {
         sets.visits = 0;
         if !self.some {

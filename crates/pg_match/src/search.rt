@@ -6,10 +6,10 @@ ghost use Rattle.pg_match.specs.Automata.{IsRunnable};
 ghost use Rattle.pg_match.specs.Bounds.{MayBegin, MayEnd};
 ghost use Rattle.pg_match.specs.Hits.{HasHit, HasNoNext, IsNext};
 ghost use Rattle.pg_match.specs.Machines.{Agrees};
-ghost use Rattle.pg_match.specs.StateSets.{IsGood, HaveRoom};
+ghost use Rattle.pg_match.specs.StateSets.{IsGood, HaveRoom, Counted};
 ghost use Rattle.pg_match.specs.Closures.{IsClosed, IsOrdered, AllBelow, Sown, Stepped};
 ghost use Rattle.pg_match.specs.Searches.{Seeded, IsBest, judged, limit_of, ending};
-ghost use Rattle.pg_match.specs.Views.{nfa, members, buffers, HasSeeds};
+ghost use Rattle.pg_match.specs.Views.{nfa, members, buffers, added, HasSeeds};
 
 use crate::automaton::Automaton;
 use crate::state_set::StateSet;
@@ -120,8 +120,9 @@ impl<A: Allocator> Automaton<A> {
         requires below { AllBelow (members set.old) (place + 1) }
         requires place { place ≤ length line.now }
         requires short { length line.now ≤ 2 ^ 30 }
-        ensures { Seeded self.now.states.items line.now self.now.start (MayBegin self.now.bounds line.now) place wanted
+        ensures seeded { Seeded self.now.states.items line.now self.now.start (MayBegin self.now.bounds line.now) place wanted
             (members set.old) (members set.new) }
+        ensures counted { Counted (members set.old) (members set.new) }
     {
         if wanted && self.bounds.may_begin(line, place) {
             if place == 0 || place == line.len() {
@@ -148,6 +149,7 @@ impl<A: Allocator> Automaton<A> {
             wanted (members sets.old.current) (members sets.new.current) }
         ensures room { HaveRoom (buffers sets.new) (length self.now.states.items) }
         ensures visits { sets.new.visits ≡ sets.old.visits + sets.new.current.len }
+        ensures counted { added sets.new + sets.old.current.len ≡ added sets.old + sets.new.current.len }
     {
         self.seed(line, place, &mut sets.current, wanted);
         sets.visits += sets.current.len as u128;
@@ -177,6 +179,7 @@ impl<A: Allocator> Automaton<A> {
         ensures room { HaveRoom (buffers sets.new) (length self.now.states.items) }
         ensures judged { result ≡ judged place (ending (nfa self.now) line.now place (members sets.old.current)) best }
         ensures visits { sets.new.visits ≡ sets.old.visits + sets.new.current.len }
+        ensures counted { added sets.new + sets.old.current.len ≡ added sets.old + sets.new.current.len }
     {
         let best = judge(place, self.ending(&sets.current, line, place), best);
         self.fill(sets, line, place, best.is_none());
@@ -218,6 +221,7 @@ impl<A: Allocator> Automaton<A> {
             (members sets.new.current) (limit_of best) }
         ensures room { HaveRoom (buffers sets.new) (length self.now.states.items) }
         ensures visits { sets.new.visits ≡ sets.old.visits }
+        ensures counted { added sets.new ≡ added sets.old + sets.new.current.len }
     {
         step(
             &self.states,
@@ -246,6 +250,7 @@ impl<A: Allocator> Automaton<A> {
         ensures best { IsBest self.now.states.items line.now self.now.start (MayBegin self.now.bounds line.now)
             (MayEnd self.now.bounds line.now) from (length line.now + 1) result }
         ensures visits { sets.new.visits ≤ (length line.now + 1) * length self.now.states.items }
+        ensures told { added sets.new ≡ added sets.old + sets.new.visits }
     {
         sets.current.clear();
         sets.visits = 0;

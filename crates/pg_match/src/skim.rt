@@ -9,7 +9,7 @@ ghost use Rattle.pg_match.specs.StateSets.{HaveRoom};
 ghost use Rattle.pg_match.specs.Searches.{IsBest};
 ghost use Rattle.pg_match.specs.Steps.{EndsBehind};
 ghost use Rattle.pg_match.specs.Memories.{IsMemoryOf, IsAtRow, In, Finishes, HasSkimmed, Skimmed};
-ghost use Rattle.pg_match.specs.Views.{nfa, buffers, remembered, HasSeeds, Remembers};
+ghost use Rattle.pg_match.specs.Views.{nfa, buffers, remembered, added, HasSeeds, Remembers, Tells};
 
 use crate::automaton::Automaton;
 use crate::memory::{DEAD, HIT, Memory};
@@ -136,6 +136,7 @@ impl<A: Allocator> Automaton<A> {
         ensures room { HaveRoom (buffers sets.new) (length self.now.states.items) }
         ensures memory { IsMemoryOf (nfa self.now) (remembered memory.new) }
         ensures visits { sets.new.visits ≤ (length line.now + 1) * length self.now.states.items }
+        ensures told { Tells sets.old sets.new }
     {
         let size = self.states.len() as u128;
         let most = line.len() as u128 * size;
@@ -227,6 +228,7 @@ impl<A: Allocator> Automaton<A> {
         ensures best { IsBest self.now.states.items line.now self.now.start (MayBegin self.now.bounds line.now)
             (MayEnd self.now.bounds line.now) from (length line.now + 1) result }
         ensures visits { sets.new.visits ≤ (length line.now + 1) * length self.now.states.items }
+        ensures told { added sets.new ≡ added sets.old + sets.new.visits }
     {
         match self.skim(memory, line, from) {
             Skim::NoHit => {
@@ -266,6 +268,7 @@ impl<A: Allocator> Automaton<A> {
             → MatchOption result (HasNoNext patterns self.now.bounds line.now from)
             (λ b. IsNext patterns self.now.bounds line.now from b.0 b.1) }
         ensures visits { sets.new.visits ≤ (length line.now + 1) * length self.now.states.items }
+        ensures told { added sets.new ≡ added sets.old + sets.new.visits }
     {
         match memory {
             Some(memory) if !line.is_empty() => self.find_by(sets, memory, line, from),

@@ -1,7 +1,8 @@
 //! The set of states of one place of a line.
-ghost use Rattle.std.specs.Prelude.{◌≡◌, ◌<◌, ℕ, IfOk, IsTrue, length};
-ghost use Rattle.pg_match.specs.StateSets.{IsGood, Inserted, IsEmpty, mark};
+ghost use Rattle.std.specs.Prelude.{◌≡◌, ◌<◌, ℕ, IfOk, IsTrue, length, take};
+ghost use Rattle.pg_match.specs.StateSets.{IsGood, Inserted, Counted, IsEmpty, mark};
 
+use crate::history::History;
 use std::alloc::{AllocError, Allocator, Global};
 
 /// A set of states, in the order in which they were added, with a mark for each.
@@ -13,6 +14,8 @@ pub struct StateSet<A: Allocator = Global> {
     pub marks: Vec<u32, A>,
     /// How many states are in the set.
     pub len: usize,
+    /// The states that were ever added, each as `()`. It takes no memory.
+    added: History<()>,
 }
 
 impl<A: Allocator> StateSet<A> {
@@ -32,7 +35,22 @@ impl<A: Allocator> StateSet<A> {
             order,
             marks,
             len: 0,
+            added: History::new(),
         })
+    }
+
+    /// Its states, in the order in which they were added.
+    pub fn into_states(self) -> Vec<u32, A>
+        ensures { result.items ≡ take self.len self.order.items }
+    {
+        let StateSet {
+            mut order,
+            marks: _marks,
+            len,
+            added: _added,
+        } = self;
+        order.truncate(len);
+        order
     }
 
     /// Takes all states out.
@@ -42,6 +60,7 @@ impl<A: Allocator> StateSet<A> {
         ensures good { IsGood (members self.new) }
         ensures empty { IsEmpty (members self.new) }
         ensures size { length self.new.marks.items ≡ length self.old.marks.items }
+        ensures added { (members self.new).added ≡ (members self.old).added }
     {
         for k in 0..self.len {
             let state = self.order[k];
@@ -59,17 +78,34 @@ impl<A: Allocator> StateSet<A> {
         self.len == 0 || self.len == 1 && self.order[0] == 0
     }
 
-    /// Adds a state with a mark, unless it is there.
+    /// Adds a state with a mark, unless it is there. This alone is counted as a visit.
     #[inline(always)]
     pub fn insert(&mut self, state: u32, mark: u32)
         requires good { IsGood (members self.old) }
         requires within { state < length self.old.marks.items }
         requires some { 0 < mark }
-        ensures { Inserted (members self.old) (members self.new) state mark }
+        ensures inserted { Inserted (members self.old) (members self.new) state mark }
+        ensures counted { Counted (members self.old) (members self.new) }
     {
         if self.marks[state as usize] == 0 {
             self.order[self.len] = state;
             self.marks[state as usize] = mark;
+            self.len += 1;
+            self.added.push(&());
+        }
+    }
+
+    /// Fetches a state of a set that is remembered, unless it is there. It is no visit.
+    #[inline(always)]
+    pub fn fetch(&mut self, state: u32)
+        requires good { IsGood (members self.old) }
+        requires within { state < length self.old.marks.items }
+        ensures inserted { Inserted (members self.old) (members self.new) state 1 }
+        ensures added { (members self.new).added ≡ (members self.old).added }
+    {
+        if self.marks[state as usize] == 0 {
+            self.order[self.len] = state;
+            self.marks[state as usize] = 1;
             self.len += 1;
         }
     }

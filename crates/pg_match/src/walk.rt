@@ -1,7 +1,7 @@
 //! The set of states of a place, and how the set of the next place is made from it.
 ghost use Rattle.std.specs.Prelude.{◌≡◌, ◌<◌, length, IfOk};
 ghost use Rattle.pg_match.specs.Automata.{IsTidy};
-ghost use Rattle.pg_match.specs.StateSets.{IsGood};
+ghost use Rattle.pg_match.specs.StateSets.{IsGood, CountedAnew};
 ghost use Rattle.pg_match.specs.Closures.{AreSeeds, HasPaths, Followed, Reached};
 ghost use Rattle.pg_match.specs.Closures.{Stepped, IsClosed, IsOrdered, AllBelow};
 ghost use Rattle.pg_match.specs.Views.{members};
@@ -89,13 +89,7 @@ pub(crate) fn seeds<A: Allocator + Copy>(
 {
     let mut set = StateSet::new(alloc, states.len())?;
     reach(states, &[0, 0], 1, &mut set, start, 1);
-    let StateSet {
-        mut order,
-        marks: _marks,
-        len,
-    } = set;
-    order.truncate(len);
-    Ok(order)
+    Ok(set.into_states())
 }
 
 /// Makes the set of the place behind a byte, from the states whose mark is at most a limit.
@@ -115,7 +109,8 @@ pub(crate) fn step<A: Allocator>(
     requires next_good { IsGood (members next.old) }
     requires next_size { length next.old.marks.items ≡ length states.now }
     requires place { place < length line.now }
-    ensures { Stepped states.now line.now place (members current.now) (members next.new) limit }
+    ensures stepped { Stepped states.now line.now place (members current.now) (members next.new) limit }
+    ensures counted { CountedAnew (members next.old) (members next.new) }
 {
     next.clear();
     let byte = line[place];

@@ -28,26 +28,37 @@ loop-k-preserved g c =
     read_listed (members c.args.current.now) c.loop-k.k _ c.requires.good lt c.index-state.ensures in
     let n = listed_in now k c.requires.good lt in
     let inside : c.index-state.result.now < length c.args.states.now = omega (arith, e, n) in
-    elim c.match-states-state.branch [
-      | in-Read+then-contains w ↦
-          let is = rw e at (stands _ _ _ inside w.in-Read.is) in
-          rw w.next-is (aimed_next t b now _ _ k w.in-Read.set w.in-Read.to c.loop-k.invariant lt c.requires.good is
-          (sym w.if-contains.ensures) w.insert.ensures)
-      | in-Read+else-contains w ↦
-          let is = rw e at (stands _ _ _ inside w.in-Read.is) in
-          rw w.next-is (aimed_over t b now _ k c.loop-k.invariant
-          (aimed_refused t b now k w.in-Read.set w.in-Read.to is (sym w.if-contains.ensures)))
-      | in_default w ↦
-          let st = get_or t c.index-state.result.now Fail in
-          let is = subst (λ q. slice_get t q ≡ Some st) e (stands _ _ _ inside refl) in
-          rw w.next-is (aimed_over t b now _ k c.loop-k.invariant (aimed_none t b now k st is w.in_default.not-Read))
-    ]
+    record {
+      aimed = elim c.match-states-state.branch [
+        | in-Read+then-contains w ↦
+            let is = rw e at (stands _ _ _ inside w.in-Read.is) in
+            rw w.next-is (aimed_next t b now _ _ k w.in-Read.set w.in-Read.to c.loop-k.invariant.aimed lt c.requires.good is
+            (sym w.if-contains.ensures) w.insert.ensures.inserted)
+        | in-Read+else-contains w ↦
+            let is = rw e at (stands _ _ _ inside w.in-Read.is) in
+            rw w.next-is (aimed_over t b now _ k c.loop-k.invariant.aimed
+            (aimed_refused t b now k w.in-Read.set w.in-Read.to is (sym w.if-contains.ensures)))
+        | in_default w ↦
+            let st = get_or t c.index-state.result.now Fail in
+            let is = subst (λ q. slice_get t q ≡ Some st) e (stands _ _ _ inside refl) in
+            rw w.next-is (aimed_over t b now _ k c.loop-k.invariant.aimed (aimed_none t b now k st is w.in_default.not-Read))
+      ];
+      counted = elim c.match-states-state.branch [
+        | in-Read+then-contains w ↦ rw w.next-is (omega (
+          arith,
+          c.loop-k.invariant.counted,
+          w.insert.ensures.counted,
+        ))
+        | in-Read+else-contains w ↦ rw w.next-is c.loop-k.invariant.counted
+        | in_default w ↦ rw w.next-is c.loop-k.invariant.counted
+      ];
+    }
 
 pub offset_bounds-states-state : goal.offset_bounds-states-state
 offset_bounds-states-state g c = omega arith
 
 pub insert-requires-clause-good : goal.insert-requires-clause-good
-insert-requires-clause-good g c = c.loop-k.invariant.good
+insert-requires-clause-good g c = c.loop-k.invariant.aimed.good
 
 pub clear-requires : goal.clear-requires
 clear-requires g c = c.requires.next_good
@@ -61,16 +72,22 @@ insert-requires-clause-within g c =
     let e = read_listed (members c.args.current.now) c.loop-k.k _ c.requires.good lt c.index-state.ensures in
     let n = listed_in (members c.args.current.now) c.loop-k.k c.requires.good lt in
     let to = rw c.in-Read.is at (c.requires.tidy c.index-state.result.now Fail (omega (arith, e, n))) in
-    omega (arith, to, c.loop-k.invariant.size)
+    omega (arith, to, c.loop-k.invariant.aimed.size)
 
 pub insert-requires-clause-some : goal.insert-requires-clause-some
 insert-requires-clause-some g c = omega arith
 
 pub loop-k-init : goal.loop-k-init
-loop-k-init g c = aimed_first _ _ _ _ c.clear.ensures.good c.clear.ensures.empty (omega arith)
+loop-k-init g c = record {
+  aimed = aimed_first _ _ _ _ c.clear.ensures.good c.clear.ensures.empty (omega arith);
+  counted = omega (arith, c.clear.ensures.added, c.clear.ensures.empty.0);
+}
 
-pub returns : goal.returns
-returns g c =
+pub returns-clause-aimed : goal.returns-clause-aimed
+returns-clause-aimed g c =
     let end : c.loop-k.k ≡ c.args.current.now.len = omega arith in
     subst (λ k. Aimed c.args.states.now c.args.byte (members c.args.current.now) (members c.loop-k.next) k) end
-    c.loop-k.invariant
+    c.loop-k.invariant.aimed
+
+pub returns-clause-counted : goal.returns-clause-counted
+returns-clause-counted g c = c.loop-k.invariant.counted

@@ -5,11 +5,12 @@ use Rattle.pg_match.specs.declared.state.State.TheVariants.{Fail, Accept, Read}
 use Rattle.pg_match.proofs.plain.spread.Goals as goal
 
 pub returns-in-Jump : goal.returns-in-Jump
-returns-in-Jump g c = jump_spread _ _ _ _ _ _ _ (stands _ _ _ c.requires.within c.in-Jump.is) c.insert.ensures
+returns-in-Jump g c = jump_spread _ _ _ _ _ _ _ (stands _ _ _ c.requires.within c.in-Jump.is)
+    c.insert.ensures.inserted c.insert.ensures.counted
 
 pub returns-then-first : goal.returns-then-first
 returns-then-first g c = begin_spread _ _ _ _ _ _ _
-    (stands _ _ _ c.requires.within c.in-AtBegin.is) c.if-first.true c.insert-then-first.ensures
+    (stands _ _ _ c.requires.within c.in-AtBegin.is) c.if-first.true c.insert-then-first.ensures.inserted c.insert-then-first.ensures.counted
 
 pub returns-else-first : goal.returns-else-first
 returns-else-first g c =
@@ -18,7 +19,7 @@ returns-else-first g c =
 
 pub returns-then-last : goal.returns-then-last
 returns-then-last g c = end_spread _ _ _ _ _ _ _
-    (stands _ _ _ c.requires.within c.in-AtEnd.is) c.if-last.true c.insert-then-last.ensures
+    (stands _ _ _ c.requires.within c.in-AtEnd.is) c.if-last.true c.insert-then-last.ensures.inserted c.insert-then-last.ensures.counted
 
 pub returns-else-last : goal.returns-else-last
 returns-else-last g c =
@@ -27,8 +28,8 @@ returns-else-last g c =
 
 pub returns-in-Split : goal.returns-in-Split
 returns-in-Split g c =
-    split_spread _ _ _ _ _ _ _ _ _ (stands _ _ _ c.requires.within c.in-Split.is) c.insert-in-Split.ensures
-    c.insert-in-Split-2.ensures
+    split_spread _ _ _ _ _ _ _ _ _ (stands _ _ _ c.requires.within c.in-Split.is) c.insert-in-Split.ensures.inserted
+    c.insert-in-Split-2.ensures.inserted c.insert-in-Split.ensures.counted c.insert-in-Split-2.ensures.counted
 
 pub returns-in-Read : goal.returns-in-Read
 returns-in-Read g c =

@@ -5,12 +5,13 @@ use Rattle.pg_match.specs.declared.state.State.TheVariants.{Fail, Accept, Read}
 use Rattle.pg_match.proofs.walk.follow.Goals as goal
 
 pub returns-in-Jump : goal.returns-in-Jump
-returns-in-Jump g c = jump_followed _ _ _ _ _ _ _ _ (stands _ _ _ c.requires.within c.in-Jump.is) c.insert.ensures
+returns-in-Jump g c = jump_followed _ _ _ _ _ _ _ _ (stands _ _ _ c.requires.within c.in-Jump.is)
+    c.insert.ensures.inserted c.insert.ensures.counted
 
 pub returns-then-place-eq0 : goal.returns-then-place-eq0
 returns-then-place-eq0 g c =
     begin_followed _ _ _ _ _ _ _ _ (stands _ _ _ c.requires.within c.in-AtBegin.is) c.if-place-eq0.true
-    c.insert-then-place-eq0.ensures
+    c.insert-then-place-eq0.ensures.inserted c.insert-then-place-eq0.ensures.counted
 
 pub returns-else-place-eq0 : goal.returns-else-place-eq0
 returns-else-place-eq0 g c =
@@ -20,7 +21,7 @@ returns-else-place-eq0 g c =
 pub returns-then-place-line : goal.returns-then-place-line
 returns-then-place-line g c =
     end_followed _ _ _ _ _ _ _ _ (stands _ _ _ c.requires.within c.in-AtEnd.is) c.if-place-line.true
-    c.insert-then-place-line.ensures
+    c.insert-then-place-line.ensures.inserted c.insert-then-place-line.ensures.counted
 
 pub returns-else-place-line : goal.returns-else-place-line
 returns-else-place-line g c =
@@ -28,8 +29,8 @@ returns-else-place-line g c =
 
 pub returns-in-Split : goal.returns-in-Split
 returns-in-Split g c =
-    split_followed _ _ _ _ _ _ _ _ _ _ (stands _ _ _ c.requires.within c.in-Split.is) c.insert-in-Split.ensures
-    c.insert-in-Split-2.ensures
+    split_followed _ _ _ _ _ _ _ _ _ _ (stands _ _ _ c.requires.within c.in-Split.is) c.insert-in-Split.ensures.inserted
+    c.insert-in-Split-2.ensures.inserted c.insert-in-Split.ensures.counted c.insert-in-Split-2.ensures.counted
 
 pub returns-in-Read : goal.returns-in-Read
 returns-in-Read g c =

@@ -7,7 +7,8 @@ use Rattle.pg_match.proofs.walk.reach.Goals as goal
 
 pub loop-next-init : goal.loop-next-init
 loop-next-init g c =
-    reaching_first _ _ _ _ _ _ _ c.insert.ensures c.requires.good c.requires.closed c.requires.ordered c.requires.below
+    reaching_first _ _ _ _ _ _ _ c.insert.ensures.inserted c.insert.ensures.counted c.requires.good c.requires.closed
+    c.requires.ordered c.requires.below
 
 pub follow-requires-clause-within : goal.follow-requires-clause-within
 follow-requires-clause-within g c =

@@ -1,4 +1,5 @@
-use Rattle.std.proofs.Common.{arith, refl, length, ◌≡◌}
+use Rattle.std.proofs.Common.{arith, ap, refl, length, ◌≡◌}
+use Rattle.pg_match.specs.Views.{members}
 use Rattle.pg_match.proofs.automaton.Automaton.advance.Goals as goal
 
 pub limit-requires : goal.limit-requires
@@ -26,17 +27,17 @@ pub step-requires-clause-tidy : goal.step-requires-clause-tidy
 step-requires-clause-tidy g c = rw c.deref.ensures.value c.requires.runs.tidy
 
 pub returns-clause-stepped : goal.returns-clause-stepped
-returns-clause-stepped g c = rw c.swap.ensures.x_after (rw (c.deref.ensures.value, c.limit.ensures) at c.step.ensures)
+returns-clause-stepped g c = rw c.swap.ensures.x_after (rw (c.deref.ensures.value, c.limit.ensures) at c.step.ensures.stepped)
 
 pub returns-clause-room : goal.returns-clause-room
 returns-clause-room g c =
     let size : length c.step.new.next.marks.items ≡ length c.args.self.now.states.items = omega (
       arith,
-      c.step.ensures.size,
+      c.step.ensures.stepped.size,
       c.requires.room.now_size,
     ) in
     record {
-      now = rw c.swap.ensures.x_after c.step.ensures.good;
+      now = rw c.swap.ensures.x_after c.step.ensures.stepped.good;
       next = rw c.swap.ensures.y_after
           c.requires.room.now;
       now_size = rw c.swap.ensures.x_after size;
@@ -46,3 +47,10 @@ returns-clause-room g c =
 
 pub returns-clause-visits : goal.returns-clause-visits
 returns-clause-visits g c = refl
+
+pub returns-clause-counted : goal.returns-clause-counted
+returns-clause-counted g c =
+    let x = ap (λ s. (members s).added) c.swap.ensures.x_after in
+    let y = ap (λ s. (members s).added) c.swap.ensures.y_after in
+    let len = ap (λ s. (members s).len) c.swap.ensures.x_after in
+    omega (arith, x, y, len, c.step.ensures.counted)

@@ -14,7 +14,7 @@ pub insert-requires-clause-some : goal.insert-requires-clause-some
 insert-requires-clause-some g c = omega arith
 
 pub close-requires-clause-good : goal.close-requires-clause-good
-close-requires-clause-good g c = c.insert.ensures.good
+close-requires-clause-good g c = c.insert.ensures.inserted.good
 
 pub close-requires-clause-size : goal.close-requires-clause-size
 close-requires-clause-size g c = omega arith
@@ -27,3 +27,7 @@ close-requires-clause-tidy g c = rw c.deref.ensures.value c.requires.runs.tidy
 
 pub returns-clause-visits : goal.returns-clause-visits
 returns-clause-visits g c = refl
+
+pub returns-clause-told : goal.returns-clause-told
+returns-clause-told g c =
+    omega (arith, c.clear.ensures.added, c.clear.ensures.empty.0, c.insert.ensures.counted, c.close.ensures.counted)

@@ -28,4 +28,4 @@ pub seed-requires-clause-size : goal.seed-requires-clause-size
 seed-requires-clause-size g c = c.requires.room.now_size
 
 pub returns-clause-seeded : goal.returns-clause-seeded
-returns-clause-seeded g c = c.seed.ensures
+returns-clause-seeded g c = c.seed.ensures.seeded

@@ -65,6 +65,14 @@ loop-place-preserved g c =
       search = searched m l c.args.from p u v c.settle-best.result short
           both.0 both.1 c.advance.ensures.stepped c.advance.ensures.room;
       visits = omega (arith, bound, fewer, c.loop-place.invariant.visits);
+      counted = omega (
+        arith,
+        c.loop-place.invariant.counted,
+        c.settle-best.ensures.visits,
+        c.settle-best.ensures.counted,
+        c.advance.ensures.visits,
+        c.advance.ensures.counted,
+      );
     }
 
 pub settle-requires-clause-closed : goal.settle-requires-clause-closed
@@ -197,6 +205,7 @@ loop-place-init g c =
         so_far = λ s j ge lt past run. absurd (omega arith);
       };
       visits = omega arith;
+      counted = omega (arith, clear.added, clear.empty.0);
     }
 
 pub advance-requires-clause-limit : goal.advance-requires-clause-limit
@@ -211,3 +220,11 @@ advance-requires-clause-limit g c =
     c.loop-place.invariant.search (omega arith) c.settle-best.result c.settle-best.ensures.judged
     c.settle-best.ensures.seeded in
     limit_small m.states l m.start B E c.args.from (p + 1) c.settle-best.result both.1 (omega arith)
+
+pub returns-then-is_over-clause-told : goal.returns-then-is_over-clause-told
+returns-then-is_over-clause-told g c =
+    omega (arith, c.loop-place.invariant.counted, c.settle-best.ensures.visits, c.settle-best.ensures.counted)
+
+pub returns-clause-told : goal.returns-clause-told
+returns-clause-told g c =
+    omega (arith, c.loop-place.invariant.counted, c.settle.ensures.visits, c.settle.ensures.counted)

@@ -1,5 +1,5 @@
-use Rattle.std.proofs.Common.{◌-◌, ◌*◌, ◌≤◌, length}
-use Rattle.pg_match.specs.Views.{nfa, buffers}
+use Rattle.std.proofs.Common.{◌≡◌, ◌+◌, ◌-◌, ◌*◌, ◌≤◌, length}
+use Rattle.pg_match.specs.Views.{nfa, buffers, added}
 use Rattle.pg_match.proofs.SearchLemmas.{Searching}
 use Rattle.pg_match.proofs.automaton.Automaton.find.Given as goal
 
@@ -7,4 +7,5 @@ abbrev pub invariant-loop-place : goal.invariant-loop-place
 invariant-loop-place g l = record {
   search : Searching (nfa l.self) l.line l.from l.place (buffers l.sets) l.best;
   visits : l.sets.visits ≤ (l.place - l.from) * length l.self.states.items;
+  counted : added l.sets ≡ added l.fn.sets + l.sets.visits + l.sets.current.len;
 }

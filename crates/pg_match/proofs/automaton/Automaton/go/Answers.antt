@@ -9,11 +9,11 @@ pub returns-clause-goes : goal.returns-clause-goes
 returns-clause-goes g c =
     let m = nfa c.args.self.now in
     let now = members c.args.sets.now.current in
-    let aimed = rw c.deref.ensures.value at c.aim.ensures in
+    let aimed = rw c.deref.ensures.value at c.aim.ensures.aimed in
     elim c.if-begins_after.branch [
       | then-begins_after w ↦
           let all = rw (c.deref-2.ensures.value, w.sets-is) at c.close.ensures in
-          let ins = rw c.swap.ensures.x_after at w.insert.ensures in
+          let ins = rw c.swap.ensures.x_after at w.insert.ensures.inserted in
           gone_seeded m c.args.byte now c.requires.room.now _ _ _ aimed
           (sym c.begins_after.ensures ∙ w.if-begins_after.true) ins all
       | else-begins_after w ↦
@@ -24,7 +24,7 @@ returns-clause-goes g c =
 
 pub returns-clause-fresh : goal.returns-clause-fresh
 returns-clause-fresh g c = λ t.
-    let aimed = rw c.deref.ensures.value at c.aim.ensures in
+    let aimed = rw c.deref.ensures.value at c.aim.ensures.aimed in
     aimed_at_none (nfa c.args.self.now) c.args.byte (members c.args.sets.now.current)
     (members c.aim.new.next) c.requires.room.now aimed (eqb-true _ 0 t)
 
@@ -47,10 +47,10 @@ pub aim-requires-clause-tidy : goal.aim-requires-clause-tidy
 aim-requires-clause-tidy g c = rw c.deref.ensures.value c.requires.runs.tidy
 
 pub insert-requires-clause-good : goal.insert-requires-clause-good
-insert-requires-clause-good g c = rw c.swap.ensures.x_after c.aim.ensures.good
+insert-requires-clause-good g c = rw c.swap.ensures.x_after c.aim.ensures.aimed.good
 
 pub insert-requires-clause-within : goal.insert-requires-clause-within
-insert-requires-clause-within g c = rw c.swap.ensures.x_after (omega (arith, c.requires.runs.start, c.aim.ensures.size))
+insert-requires-clause-within g c = rw c.swap.ensures.x_after (omega (arith, c.requires.runs.start, c.aim.ensures.aimed.size))
 
 pub close-requires-clause-tidy : goal.close-requires-clause-tidy
 close-requires-clause-tidy g c = rw c.deref-2.ensures.value c.requires.runs.tidy
@@ -58,8 +58,8 @@ close-requires-clause-tidy g c = rw c.deref-2.ensures.value c.requires.runs.tidy
 pub close-requires-clause-good : goal.close-requires-clause-good
 close-requires-clause-good g c =
     elim c.if-begins_after.branch [
-      | then-begins_after w ↦ rw w.sets-is w.insert.ensures.good
-      | else-begins_after w ↦ rw (w.sets-is, c.swap.ensures.x_after) c.aim.ensures.good
+      | then-begins_after w ↦ rw w.sets-is w.insert.ensures.inserted.good
+      | else-begins_after w ↦ rw (w.sets-is, c.swap.ensures.x_after) c.aim.ensures.aimed.good
     ]
 
 pub close-requires-clause-size : goal.close-requires-clause-size
@@ -67,13 +67,13 @@ close-requires-clause-size g c =
     elim c.if-begins_after.branch [
       | then-begins_after w ↦ rw (w.sets-is, c.deref-2.ensures.value) (omega (
         arith,
-        w.insert.ensures.size,
+        w.insert.ensures.inserted.size,
         ap (λ s. length (members s).marks) c.swap.ensures.x_after,
-        c.aim.ensures.size,
+        c.aim.ensures.aimed.size,
       ))
       | else-begins_after w ↦ rw (w.sets-is, c.deref-2.ensures.value, c.swap.ensures.x_after) (omega (
         arith,
-        c.aim.ensures.size,
+        c.aim.ensures.aimed.size,
       ))
     ]
 
@@ -96,7 +96,7 @@ returns-clause-room g c =
           c.swap.ensures.y_after,
         ) c.requires.room.now;
         now_size = rw (w.sets-is) at close.size ∙
-            w.insert.ensures.size ∙ ap (λ s. length (members s).marks) c.swap.ensures.x_after ∙ c.aim.ensures.size ∙
+            w.insert.ensures.inserted.size ∙ ap (λ s. length (members s).marks) c.swap.ensures.x_after ∙ c.aim.ensures.aimed.size ∙
             c.requires.room.now_size;
         next_size = rw (w.sets-is, c.swap.ensures.y_after) c.requires.room.now_size;
       }
@@ -107,7 +107,32 @@ returns-clause-room g c =
           c.swap.ensures.y_after,
         ) c.requires.room.now;
         now_size = rw (w.sets-is) at close.size ∙ ap (λ s. length
-            (members s).marks) c.swap.ensures.x_after ∙ c.aim.ensures.size ∙ c.requires.room.now_size;
+            (members s).marks) c.swap.ensures.x_after ∙ c.aim.ensures.aimed.size ∙ c.requires.room.now_size;
         next_size = rw (w.sets-is, c.swap.ensures.y_after) c.requires.room.now_size;
       }
+    ]
+
+pub returns-clause-told : goal.returns-clause-told
+returns-clause-told g c =
+    let x = ap (λ s. (members s).added) c.swap.ensures.x_after in
+    let y = ap (λ s. (members s).added) c.swap.ensures.y_after in
+    let len = ap (λ s. (members s).len) c.swap.ensures.x_after in
+    elim c.if-begins_after.branch [
+      | then-begins_after w ↦ rw w.sets-is (omega (
+        arith,
+        x,
+        y,
+        len,
+        rw w.sets-is at c.close.ensures.counted,
+        w.insert.ensures.counted,
+        c.aim.ensures.counted,
+      ))
+      | else-begins_after w ↦ rw w.sets-is (omega (
+        arith,
+        x,
+        y,
+        len,
+        rw w.sets-is at c.close.ensures.counted,
+        c.aim.ensures.counted,
+      ))
     ]

@@ -21,3 +21,6 @@ close-requires-clause-good g c = c.requires.room.now
 
 pub close-requires-clause-tidy : goal.close-requires-clause-tidy
 close-requires-clause-tidy g c = rw c.deref.ensures.value c.requires.runs.tidy
+
+pub returns-clause-told : goal.returns-clause-told
+returns-clause-told g c = omega (arith, c.close.ensures.counted, c.close.ensures.longer)

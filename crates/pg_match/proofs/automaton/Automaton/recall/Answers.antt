@@ -25,6 +25,7 @@ loop-sets-init g c =
       row = at_row mem 256 1 refl one;
       stands = stands_first (nfa c.args.self.now) c.args.line.now (In mem 1) (c.first.ensures.memory.first one);
       visits = let v = c.first.ensures.visits in omega arith;
+      told = c.first.ensures.told;
     }
 
 pub finish-requires-clause-visits : goal.finish-requires-clause-visits
@@ -136,6 +137,7 @@ loop-sets-preserved g c =
       visits = visits_on c.loop-sets.place p n c.loop-sets.sets.visits c.learn.new.sets.visits
           c.loop-sets.invariant.visits
           c.walk-at.ensures.onward (omega (arith, c.in-Row.ensures.visits));
+      told = omega (arith, c.loop-sets.invariant.told, c.in-Row.ensures.told);
     }
 
 pub search_on-requires-in-Lost-clause-stands : goal.search_on-requires-in-Lost-clause-stands
@@ -301,3 +303,19 @@ pub search_on-requires-clause-visits : goal.search_on-requires-clause-visits
 search_on-requires-clause-visits g c =
     let full = c.first.ensures.full c.if-not-first.true in
     omega (arith, full.0, c.requires.visits)
+
+pub returns-then-not-first-clause-told : goal.returns-then-not-first-clause-told
+returns-then-not-first-clause-told g c = omega (arith, c.first.ensures.told, c.search_on.ensures.told)
+
+pub returns-then-here-line-clause-told : goal.returns-then-here-line-clause-told
+returns-then-here-line-clause-told g c = omega (arith, c.loop-sets.invariant.told, c.finish.ensures.told)
+
+pub returns-in-Hit-clause-told : goal.returns-in-Hit-clause-told
+returns-in-Hit-clause-told g c = omega (arith, c.loop-sets.invariant.told, c.in-Hit.ensures.told)
+
+pub returns-in-Dead-clause-told : goal.returns-in-Dead-clause-told
+returns-in-Dead-clause-told g c = omega (arith, c.loop-sets.invariant.told, c.in-Dead.ensures.told)
+
+pub returns-in-Lost-clause-told : goal.returns-in-Lost-clause-told
+returns-in-Lost-clause-told g c =
+    omega (arith, c.loop-sets.invariant.told, c.in-Lost.ensures.told, c.search_on-in-Lost.ensures.told)

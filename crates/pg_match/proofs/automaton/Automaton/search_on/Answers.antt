@@ -36,6 +36,7 @@ loop-place-preserved g c =
           c.loop-place.invariant.stands c.go.ensures.goes (omega arith) c.requires.runs
           (λ h. true≢false (sym (c.hits_before.ensures.1 h) ∙ c.if-hits_before.false));
       visits = let v = c.loop-place.invariant.visits in let w = c.go.ensures.visits in omega arith;
+      told = omega (arith, c.loop-place.invariant.told, c.go.ensures.told);
     }
 
 pub returns-clause-exact : goal.returns-clause-exact
@@ -77,7 +78,7 @@ pub returns-clause-room : goal.returns-clause-room
 returns-clause-room g c = c.hits_at_end.ensures.room
 
 pub loop-place-init : goal.loop-place-init
-loop-place-init g c = record { room = c.requires.room; stands = c.requires.stands; visits = c.requires.visits }
+loop-place-init g c = record { room = c.requires.room; stands = c.requires.stands; visits = c.requires.visits; told = refl }
 
 pub go-requires-clause-visits : goal.go-requires-clause-visits
 go-requires-clause-visits g c =
@@ -114,3 +115,9 @@ returns-clause-visits g c =
       end.visits,
       end.room.now_size,
     )) (omega arith)
+
+pub returns-then-hits_before-clause-told : goal.returns-then-hits_before-clause-told
+returns-then-hits_before-clause-told g c = c.loop-place.invariant.told
+
+pub returns-clause-told : goal.returns-clause-told
+returns-clause-told g c = omega (arith, c.loop-place.invariant.told, c.hits_at_end.ensures.told)

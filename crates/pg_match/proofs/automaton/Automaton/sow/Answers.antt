@@ -24,4 +24,4 @@ loop-k-preserved g c =
     let read = get_or_read seeds c.loop-k.k _ lt c.index-state.ensures 0 in
     sown_next c.args.self.now.states.items seeds _ _ _ _ c.loop-k.k c.loop-k.invariant
     (subst (λ q. Inserted (members c.loop-k.set) (members c.insert.new.self) q (c.args.place + 1)) read
-    c.insert.ensures)
+    c.insert.ensures.inserted) c.insert.ensures.counted

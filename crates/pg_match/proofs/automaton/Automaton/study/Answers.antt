@@ -63,6 +63,7 @@ loop-sets-preserved g c =
           (length c.args.self.now.states.items) c.len-size.result c.loop-sets.sets.visits c.learn.new.sets.visits _
           (c.len-size.ensures ∙ c.args.self.now.states.ok.0) c.if-sets-most-2.false
           c.in-Row.ensures.visits (omega arith);
+      told = omega (arith, c.loop-sets.invariant.told, c.in-Row.ensures.told);
     }
 
 pub returns-in-Hit : goal.returns-in-Hit
@@ -76,6 +77,7 @@ returns-in-Hit g c =
           (length c.args.self.now.states.items) c.len-size.result c.loop-sets.sets.visits c.learn.new.sets.visits _
           (c.len-size.ensures ∙ c.args.self.now.states.ok.0) c.if-sets-most-2.false
           c.learn.ensures.visits (omega arith);
+      told = omega (arith, c.loop-sets.invariant.told, c.learn.ensures.told);
     }
 
 pub overflow_cast-size : goal.overflow_cast-size
@@ -198,6 +200,7 @@ loop-sets-init g c =
       ];
       visits = visits_whole _ _ _ _ _ (c.len-size.ensures ∙ c.args.self.now.states.ok.0) c.if-sets-most.false
           first.visits;
+      told = first.told;
     }
 
 pub returns-then-sets-most-clause-room : goal.returns-then-sets-most-clause-room
@@ -208,3 +211,12 @@ returns-then-sets-most-clause-memory g c = c.requires.memory
 
 pub returns-then-sets-most-clause-visits : goal.returns-then-sets-most-clause-visits
 returns-then-sets-most-clause-visits g c = c.requires.visits
+
+pub returns-then-sets-most-2-clause-told : goal.returns-then-sets-most-2-clause-told
+returns-then-sets-most-2-clause-told g c = c.loop-sets.invariant.told
+
+pub returns-then-here-line-clause-told : goal.returns-then-here-line-clause-told
+returns-then-here-line-clause-told g c = omega (arith, c.loop-sets.invariant.told, c.finish.ensures.told)
+
+pub returns-in-Lost-clause-told : goal.returns-in-Lost-clause-told
+returns-in-Lost-clause-told g c = omega (arith, c.loop-sets.invariant.told, c.learn.ensures.told)

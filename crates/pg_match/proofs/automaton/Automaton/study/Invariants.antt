@@ -1,7 +1,7 @@
 use Rattle.std.proofs.Common.{◌+◌, ◌-◌, ◌*◌, ◌<◌, ◌≤◌, length}
 use Rattle.pg_match.specs.Memories.{IsMemoryOf, IsAtRow}
 use Rattle.pg_match.specs.StateSets.{HaveRoom}
-use Rattle.pg_match.specs.Views.{nfa, buffers, remembered}
+use Rattle.pg_match.specs.Views.{nfa, buffers, remembered, Tells}
 use Rattle.pg_match.proofs.automaton.Automaton.study.Given as goal
 
 abbrev pub invariant-loop-sets : goal.invariant-loop-sets
@@ -12,6 +12,7 @@ invariant-loop-sets g l = record {
   within : l.place < length l.line;
   row : IsAtRow (remembered l.memory) l.state;
   visits : l.sets.visits ≤ (length l.line + 1) * length l.self.states.items;
+  told : Tells l.fn.sets l.sets;
 }
 
 abbrev pub decreases-loop-sets : goal.decreases-loop-sets

@@ -35,7 +35,7 @@ returns-clause-good g c =
 
 pub loop-k-init : goal.loop-k-init
 loop-k-init g c =
-    record { order = refl; same_len = refl; size = refl; left = λ q some. (some, λ j lt. absurd (omega arith)) }
+    record { order = refl; same_len = refl; same_added = refl; size = refl; left = λ q some. (some, λ j lt. absurd (omega arith)) }
 
 pub returns-clause-size : goal.returns-clause-size
 returns-clause-size g c = c.loop-k.invariant.size
@@ -57,3 +57,6 @@ returns-clause-empty g c = (
     | inr none ↦ omega arith
   ],
 )
+
+pub returns-clause-added : goal.returns-clause-added
+returns-clause-added g c = c.loop-k.invariant.same_added

@@ -11,7 +11,7 @@ index_mut-requires g c =
     (omega arith) none c.args.mark c.requires.some in
     omega (arith, r.0)
 
-pub returns-then-index-eq0 : goal.returns-then-index-eq0
-returns-then-index-eq0 g c =
+pub returns-then-index-eq0-clause-inserted : goal.returns-then-index-eq0-clause-inserted
+returns-then-index-eq0-clause-inserted g c =
     let none : mark (members c.args.self.now) c.args.state ≡ 0 = grind arith in
     new_inserted _ _ _ _ c.requires.good (omega arith) c.requires.some none refl refl refl
