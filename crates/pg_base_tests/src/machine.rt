@@ -86,9 +86,41 @@ fn shown_visits(
     format!(in alloc; "({is_selected}, {part:?})")
 }
 
+/// How many states a search of a line visits: whether it is selected, or its first matched part. The scratch is the
+/// machine's, and the line has at most 2^30 bytes.
+fn visits_of(search: &mut Search, line: &[u8], is_of_part: bool) -> u128
+    requires fits { Fits search.old.scratch search.old.machine }
+    requires short { length line.now ≤ 2 ^ 30 }
+    ensures fits { Fits search.new.scratch search.new.machine }
+{
+    if is_of_part {
+        search.machine.next_piece(&mut search.scratch, line, 0);
+    } else {
+        search.machine.selects(&mut search.scratch, line);
+    }
+    search.scratch.visits()
+}
+
+/// Shows how many states two searches of a line visit, one like the other, and two for its first matched part.
+fn counted(alloc: Global, search: &mut Search, line: &[u8]) -> Result<String, AllocError>
+    requires fits { Fits search.old.scratch search.old.machine }
+    requires short { length line.now ≤ 2 ^ 30 }
+{
+    let first = visits_of(search, line, false);
+    let again = visits_of(search, line, false);
+    let part = visits_of(search, line, true);
+    let part_again = visits_of(search, line, true);
+    format!(in alloc; "{first} {again} {part} {part_again}")
+}
+
 /// Shows what a search of a line visits, as a row asks.
 pub(crate) fn searched(rt: &impl Abort, alloc: Global, word: &str, asked: &str) -> String {
     let (text, rest) = cut(asked, " on ");
+    if let Some(line) = rest.strip_suffix(" counted") {
+        let line = line_of(rt, alloc, line);
+        let mut search = machine_of(rt, alloc, word, &repeated(rt, alloc, text));
+        return counted(alloc, &mut search, &line).expect(rt, "memory");
+    }
     let (line, most) = cut(rest, " within ");
     let most: u128 = most.parse().expect(rt, "a number");
     let line = line_of(rt, alloc, line);
@@ -113,6 +145,18 @@ none :1 on a:1 within 2 => (false, None)";
 fn visits(rt: HostRuntime) {
     assert_rows(&rt, rt.alloc(), Question::Visits, VISITS);
     next_piece_is_one();
+}
+
+/// The same, and exactly how many states the first search visits, and the same search once more; then those for the
+/// first matched part. `a` begins in one state, and behind it are that one and the end of the match; a part has its own
+/// run alone. `a*b` begins in three states, which it has behind each `a` too, and behind `b` it also has the end.
+const COUNTS: &str = "any a:1 on a:1 counted => 3 0 2 2
+any a*b:1 on aab:1 counted => 13 0 10 10
+any a*b:1 on a:10000 counted => 12 0 0 0";
+
+#[test]
+fn counts(rt: HostRuntime) {
+    assert_rows(&rt, rt.alloc(), Question::Visits, COUNTS);
 }
 
 /// The same of trees that are deep or large. No machine has more than 65,536 states.

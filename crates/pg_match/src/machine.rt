@@ -185,7 +185,9 @@ impl<A: Allocator> Scratch<A> {
     pub fn new(alloc: A, machine: &Machine<A>) -> Result<Scratch<A>, AllocError>
     where
         A: Copy,
-        ensures { IfOk result (λ scratch. Fits scratch machine.now) }
+        ensures fits { IfOk result (λ scratch. Fits scratch machine.now) }
+        ensures visits { IfOk result (λ scratch. scratch.visits ≡ 0) }
+        ensures added { IfOk result (λ scratch. scratch.added ≡ 0) }
     {
         let automaton = Arc::try_clone(&machine.automaton)?;
         let states: &Automaton<A> = &machine.automaton;

@@ -39,7 +39,9 @@ impl<A: Allocator> StateSets<A> {
     pub fn new(alloc: A, states: usize) -> Result<StateSets<A>, AllocError>
     where
         A: Copy,
-        ensures { IfOk result (λ s. HaveRoom (buffers s) states) }
+        ensures room { IfOk result (λ s. HaveRoom (buffers s) states) }
+        ensures visits { IfOk result (λ s. s.visits ≡ 0) }
+        ensures added { IfOk result (λ s. added s ≡ 0) }
     {
         let current = StateSet::new(alloc, states)?;
         let next = StateSet::new(alloc, states)?;

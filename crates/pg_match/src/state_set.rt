@@ -28,6 +28,7 @@ impl<A: Allocator> StateSet<A> {
         ensures good { IfOk result (λ s. IsGood (members s)) }
         ensures empty { IfOk result (λ s. IsEmpty (members s)) }
         ensures size { IfOk result (λ s. length s.marks.items ≡ states) }
+        ensures added { IfOk result (λ s. (members s).added ≡ 0) }
     {
         let order = vec![in alloc; 0u32; states]?;
         let marks = vec![in alloc; 0u32; states]?;
