@@ -47,7 +47,7 @@ no_content x e = absurd (differ e)
     differ : ◌≡◌ {A = Content} None (Some x) → ⊥
     differ e = cc
 
-until_takes : (c : ℕ) (t w rest : List ℕ) → until c t ≡ Some (w, rest) → (t ≡ w ++ (c ∷ 93 ∷ rest))
+pub until_takes : (c : ℕ) (t w rest : List ℕ) → until c t ≡ Some (w, rest) → (t ≡ w ++ (c ∷ 93 ∷ rest))
     × (has_end c w ≡ false)
 until_takes c [] w rest e = no_content _ e
 until_takes c (a ∷ []) w rest e = no_content _ e

@@ -135,21 +135,19 @@ spelled-length kind fold [] (q ∷ trees) h = absurd h
 spelled-length kind fold (t ∷ texts) [] h = absurd h
 spelled-length kind fold (t ∷ texts) (q ∷ trees) h = ap suc (spelled-length kind fold texts trees h.1)
 
-memory-place : (kind : Kind) (k : FaultKind) (text : List ℕ) (at : ℕ) → k ≡ OutOfMemory → Place kind k text at → at ≡ 0
-memory-place kind k text at e h = go kind (subst (λ x. Place kind x text at) e h)
+no-memory-place : (kind : Kind) (k : FaultKind) (text : List ℕ) (at : ℕ) → k ≡ OutOfMemory → Place kind k text at → ⊥
+no-memory-place kind k text at e h = go kind (subst (λ x. Place kind x text at) e h)
   where
-    go : (kind : Kind) → Place kind OutOfMemory text at → at ≡ 0
+    go : (kind : Kind) → Place kind OutOfMemory text at → ⊥
     go K.Basic h = h
     go K.Extended h = h
-    go K.Fixed h = absurd (let e = h.0 in let f : ⊥ = cc in f)
+    go K.Fixed h = let e = h.0 in cc
 
 -- the one fault of this kind is a refused growth
 memory-fault : (kind : Kind) (fold : Bool) (text : List ℕ) (f : SyntaxFault) → f.kind ≡ OutOfMemory
     → IsFault kind fold text f → f ≡ out_of_memory
 memory-fault kind fold text f e (inl h) = h
-memory-fault kind fold text f e (inr r) = let z =
-    memory-place kind f.kind text f.at e r.place in ap (λ k. record { kind = k; at = f.at }) e
-    ∙ ap (λ n. record { kind = OutOfMemory; at = n }) z
+memory-fault kind fold text f e (inr r) = absurd (no-memory-place kind f.kind text f.at e r.place)
 
 pub memory-refused : (kind : Kind) (fold : Bool) (texts : List (List ℕ)) (text : List ℕ) (f : SyntaxFault) (n : ℕ)
     → n ≡ 0 → f.kind ≡ OutOfMemory → IsFault kind fold text f

@@ -1,6 +1,6 @@
 -- What stands where the parts of a bracket are read.
-use Rattle.std.specs.Prelude.{ℕ, ◌≡◌, ◌≤◌, ◌<◌, List, [], ◌∷◌, length, drop, Option, Some, None, ◌⊎◌}
-use Rattle.pg_syntax.specs.Places.{Stands}
+use Rattle.std.specs.Prelude.{ℕ, ◌≡◌, ◌≢◌, ◌≤◌, ◌<◌, List, [], ◌∷◌, length, drop, Option, Some, None, ◌⊎◌}
+use Rattle.pg_syntax.specs.Places.{Stands, StandsInBracket, HasRange, IsBadRange}
 use Rattle.pg_syntax.specs.Brackets as B
 use Rattle.pg_syntax.specs.BracketViews.{element}
 use Rattle.pg_syntax.specs.declared.element.Element.{Element}
@@ -29,7 +29,7 @@ BracketPlace BackReference text at = ⊥
 BracketPlace UnmatchedBracket text at = Stands text at (91 ∷ [])
 BracketPlace BadClass text at = Stands text at (91 ∷ 58 ∷ [])
 BracketPlace BadCollating text at = Stands text at (91 ∷ 61 ∷ []) ⊎ Stands text at (91 ∷ 46 ∷ [])
-BracketPlace BadRange text at = at < length text
+BracketPlace BadRange text at = IsBadRange text at
 BracketPlace UnmatchedGroup text at = ⊥
 BracketPlace BadInterval text at = ⊥
 BracketPlace NothingToRepeat text at = ⊥
@@ -47,17 +47,32 @@ abbrev pub FaultPlaced : List ℕ → Option SyntaxFault → Type 0
 FaultPlaced text None = Unit {0}
 FaultPlaced text (Some f) = FaultPlace text f
 
--- the element that is held, or that began the range, stands where it says
-abbrev pub ModePlaced : List ℕ → Mode → Type 0
-ModePlaced text Fresh = Unit {0}
-ModePlaced text (Held at a) = At text at a
-ModePlaced text (Dashed at a) = At text at a
-ModePlaced text (Ranged at) = at < length text
-ModePlaced text (Barred at) = at < length text
+-- an element stands at this offset, inside a bracket, and this follows it
+pub record Holds (text : List ℕ) (at : ℕ) (a : Element) (rest : List ℕ) : Type 0 where
+  pub stands : At text at a
+  pub inside : StandsInBracket text at
+  pub front : B.IsFront (element a) (drop at text) rest
 
--- the fault of a reading, and the element that it holds, stand where it says
-abbrev pub Placed : List ℕ → Reading → Type 0
-Placed text r = FaultPlaced text r.fault × ModePlaced text r.mode
+-- a range begins at this offset, and this follows it, or is another one that begins where a range ended
+abbrev pub EndsRange : List ℕ → ℕ → List ℕ → Type 0
+EndsRange text at rest = ((low high : B.Element) × HasRange text at low high rest) ⊎ IsBadRange text at
+
+-- the element that is held, or that began the range, stands where it says, and this follows what was read
+abbrev pub ModePlaced : List ℕ → List ℕ → Mode → Type 0
+ModePlaced text rest Fresh = Unit {0}
+ModePlaced text rest (Held at a) = Holds text at a rest
+ModePlaced text rest (Dashed at a) = Holds text at a (45 ∷ rest)
+ModePlaced text rest (Ranged at) = EndsRange text at rest
+ModePlaced text rest (Barred at) = EndsRange text at (45 ∷ rest)
+
+-- the fault of a reading, and the element that it holds, stand where it says, and this follows what was read
+abbrev pub Placed : List ℕ → List ℕ → Reading → Type 0
+Placed text rest r = FaultPlaced text r.fault × ModePlaced text rest r.mode
+
+-- an element stands where a reading goes on; behind the first one it is no `]`
+pub record GoesOn (text : List ℕ) (mode : Mode) (at : ℕ) (a : Element) (rest : List ℕ) : Type 0 where
+  pub holds : Holds text at a rest
+  pub inner : (mode ≡ Fresh) ⊎ (element a ≢ B.Single 93)
 
 -- the element that is found at an offset, and the offset after it
 abbrev pub FindsElement : List ℕ → ℕ → Option (Element × ℕ) → Option (B.Element × List ℕ) → Type 0

@@ -1,5 +1,5 @@
 -- Bracket expressions (XBD 9.3.5, 9.4.5).
-use Rattle.std.specs.Prelude.{ℕ, ◌≡◌, ◌≤◌, Bool, true, false, not, ◌&&◌, ◌||◌, ◌==◌, List, []}
+use Rattle.std.specs.Prelude.{ℕ, ◌≡◌, ◌≤◌, ◌<◌, Bool, true, false, not, ◌&&◌, ◌||◌, ◌==◌, List, []}
 use Rattle.std.specs.Prelude.{◌∷◌, ◌++◌, Option, Some, None, option_and_then, if◌then◌else◌}
 use Rattle.pg_bytes.specs.Sets.{Bytes, empty, one, between, union, complement}
 use Rattle.pg_bytes.specs.Classes.{class}
@@ -31,6 +31,12 @@ pub data Inside : Bool → List ℕ → List Element → Type 0 where
       → has_end c content ≡ false → Inside false t es
       → Inside first (91 ∷ c ∷ content ++ (c ∷ 93 ∷ t)) (Enclosed c content ∷ es)
 
+-- The element stands at the front of a text, and this follows it. A byte is no element where it begins an enclosed one.
+abbrev pub IsFront : Element → List ℕ → List ℕ → Type 0
+IsFront (Single b) text rest = (text ≡ b ∷ rest) × (((b == 91) && opens rest) ≡ false)
+IsFront (Enclosed c content) text rest =
+    (text ≡ 91 ∷ c ∷ content ++ (c ∷ 93 ∷ rest)) × (opens (c ∷ []) ≡ true) × (has_end c content ≡ false)
+
 -- the byte of a content of one byte
 abbrev pub only_byte : List ℕ → Option ℕ
 only_byte [] = None
@@ -47,6 +53,10 @@ member (Enclosed c content) = if c == 58 then class content else option_and_then
 abbrev pub end_point : Element → Option ℕ
 end_point (Single b) = Some b
 end_point (Enclosed c content) = if c == 46 then only_byte content else None
+
+-- no range goes from one element to another: one of them can't end a range, or the second stands below the first
+abbrev pub HaveNoRange : Element → Element → Type 0
+HaveNoRange low high = (m n : ℕ) → end_point low ≡ Some m → end_point high ≡ Some n → n < m
 
 -- the single byte `-`
 abbrev pub is_dash : Element → Bool

@@ -1,6 +1,7 @@
 -- What stands where a fault is found.
-use Rattle.std.specs.Prelude.{ℕ, ◌≡◌, ◌≤◌, ◌<◌, List, [], ◌∷◌, ◌++◌, length, drop, ◌⊎◌}
+use Rattle.std.specs.Prelude.{ℕ, ◌≡◌, ◌≢◌, ◌≤◌, ◌<◌, List, [], ◌∷◌, ◌++◌, length, drop, ◌⊎◌}
 use Rattle.pg_syntax.specs.Grammar.{opening, closing, brace}
+use Rattle.pg_syntax.specs.Brackets.{Element, Single, IsFront, HaveNoRange}
 use Rattle.pg_syntax.specs.Machine.{LeavesOpen, LeavesEmpty}
 use Rattle.pg_syntax.specs.declared.token.Syntax.{Syntax}
 use Rattle.pg_syntax.specs.declared.token.Syntax.TheVariants as S
@@ -21,9 +22,36 @@ Stands text at w = (rest : List ℕ) × (drop at text ≡ w ++ rest)
 abbrev pub IsPastLongest : List ℕ → ℕ → Type 0
 IsPastLongest text at = (at ≡ 4096) × (4096 < length text)
 
--- a fault of this kind can stand at this offset of an expression: a backslash; `[`, or `[` with a mark; some byte; what
--- closes a group; what begins an interval; what repeats; what opens a group; a bar; or the end of a text that leaves a
--- group open, or its last alternative empty
+-- a bracket begins before this offset
+abbrev pub StandsInBracket : List ℕ → ℕ → Type 0
+StandsInBracket text at = (bracket : ℕ) × (bracket < at) × Stands text bracket (91 ∷ [])
+
+-- a `-` and one more element, which is no `]`, stand at the front
+pub record IsRangedOn (text : List ℕ) : Type 0 where
+  pub next : Element
+  pub from : List ℕ
+  pub rest : List ℕ
+  pub dash : text ≡ 45 ∷ from
+  pub front : IsFront next from rest
+  pub inner : next ≢ Single 93
+
+-- An element, a `-` and one more element stand at this offset of a text, inside a bracket, and this follows them. The
+-- second one is no `]`, which would close the bracket.
+pub record HasRange (text : List ℕ) (at : ℕ) (low high : Element) (rest : List ℕ) : Type 0 where
+  pub inside : StandsInBracket text at
+  pub from : List ℕ
+  pub begins : IsFront low (drop at text) (45 ∷ from)
+  pub ends : IsFront high from rest
+  pub inner : high ≢ Single 93
+
+-- at this offset a range begins that no range can be, or behind which another one would begin
+abbrev pub IsBadRange : List ℕ → ℕ → Type 0
+IsBadRange text at =
+    (low high : Element) × (rest : List ℕ) × HasRange text at low high rest × (HaveNoRange low high ⊎ IsRangedOn rest)
+
+-- a fault of this kind can stand at this offset of an expression: a backslash; `[`, or `[` with a mark; a range that
+-- can't be; what closes a group; what begins an interval; what repeats; what opens a group; a bar; or the end of a text
+-- that leaves a group open, or its last alternative empty. No text is at fault for want of memory.
 abbrev pub PlaceIn : Syntax → FaultKind → List ℕ → ℕ → Type 0
 PlaceIn syntax TrailingBackslash text at = drop at text ≡ 92 ∷ []
 PlaceIn syntax BadEscape text at = Stands text at (92 ∷ [])
@@ -31,7 +59,7 @@ PlaceIn syntax BackReference text at = (d : ℕ) × (49 ≤ d) × (d ≤ 57) × 
 PlaceIn syntax UnmatchedBracket text at = Stands text at (91 ∷ [])
 PlaceIn syntax BadClass text at = Stands text at (91 ∷ 58 ∷ [])
 PlaceIn syntax BadCollating text at = Stands text at (91 ∷ 61 ∷ []) ⊎ Stands text at (91 ∷ 46 ∷ [])
-PlaceIn syntax BadRange text at = at < length text
+PlaceIn syntax BadRange text at = IsBadRange text at
 PlaceIn syntax UnmatchedGroup text at =
     ((syntax ≡ Basic) × Stands text at (closing Basic)) ⊎ ((at ≡ length text) × LeavesOpen syntax text)
 PlaceIn syntax BadInterval text at = Stands text at (brace syntax)
@@ -42,7 +70,7 @@ PlaceIn syntax EmptyOperand text at =
     Stands text at (closing syntax)
     ⊎ (((syntax ≡ Extended) × Stands text at (124 ∷ [])) ⊎ ((at ≡ length text) × LeavesEmpty syntax text))
 PlaceIn syntax TooDeep text at = Stands text at (opening syntax)
-PlaceIn syntax OutOfMemory text at = at ≡ 0
+PlaceIn syntax OutOfMemory text at = ⊥
 PlaceIn syntax TooLong text at = IsPastLongest text at
 
 -- A fault of this kind can stand at this offset of a text. A fixed string can only be too long.

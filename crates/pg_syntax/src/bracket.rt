@@ -5,7 +5,7 @@ ghost use Rattle.pg_bytes.specs.ByteSets.{bytes};
 ghost use Rattle.pg_syntax.specs.Brackets.{negates};
 ghost use Rattle.pg_syntax.specs.BracketReading.{bracket, shape, elements_from, add, put, finish};
 ghost use Rattle.pg_syntax.specs.BracketViews.{element, reading};
-ghost use Rattle.pg_syntax.specs.BracketPlaces.{At, FaultPlace, FaultPlaced, Placed};
+ghost use Rattle.pg_syntax.specs.BracketPlaces.{GoesOn, FaultPlace, FaultPlaced, Placed};
 ghost use Rattle.pg_syntax.specs.Places.{Stands};
 ghost use Rattle.pg_syntax.specs.Tokens.{FindsSet};
 
@@ -44,8 +44,8 @@ impl<'a> Reading<'a> {
         ensures reads { reading self.new ≡
             add (reading self.old) (option_map bytes part) (reading self.old).mode }
         ensures mode { self.new.mode ≡ self.old.mode }
-        ensures placed { (text : List ℕ) →
-            FaultPlaced text self.old.fault → FaultPlace text fault → FaultPlaced text self.new.fault }
+        ensures placed { (text : List ℕ) → FaultPlaced text self.old.fault →
+            (part ≡ None → FaultPlace text fault) → FaultPlaced text self.new.fault }
     {
         match part {
             Some(set) => self.set = self.set.union(set),
@@ -64,8 +64,8 @@ impl<'a> Reading<'a> {
     /// Reads one more element, which stands at an offset.
     fn put(&mut self, at: usize, next: Element<'a>)
         ensures reads { reading self.new ≡ put (reading self.old) (element next.entry) }
-        ensures placed { (text : List ℕ) →
-            Placed text self.old → At text at next.entry → at < length text → Placed text self.new }
+        ensures placed { (text rest : List ℕ) → Placed text (drop at text) self.old →
+            GoesOn text self.old.mode at next.entry rest → Placed text rest self.new }
     {
         match self.mode {
             Mode::Fresh => self.mode = Mode::Held(at, next),
@@ -106,7 +106,7 @@ impl<'a> Reading<'a> {
         ensures reads { MatchResult result
             (λ s. finish (reading self.entry) ≡ Some (bytes s))
             (λ _. finish (reading self.entry) ≡ None) }
-        ensures placed { (text : List ℕ) → Placed text self.entry → IfErr result (FaultPlace text) }
+        ensures placed { (text rest : List ℕ) → Placed text rest self.entry → IfErr result (FaultPlace text) }
     {
         match self.mode {
             Mode::Fresh => {}
@@ -129,6 +129,7 @@ impl<'a> Reading<'a> {
 /// `bracket`.
 fn elements(text: &[u8], bracket: usize, start: usize) -> Result<(ByteSet, usize), SyntaxFault>
     requires stands { Stands text.now bracket (91 ∷ []) }
+    requires inside { bracket < start }
     requires within { start ≤ length text.now }
     ensures { FindsSet text.now start result (elements_from text.now start) }
 {

@@ -6,6 +6,7 @@ ghost use Rattle.pg_syntax.specs.Brackets.{member, end_point, is_dash, only_byte
 ghost use Rattle.pg_syntax.specs.BracketReading.{range_of, until, element_at, SingleAt, EnclosedAt};
 ghost use Rattle.pg_syntax.specs.BracketViews.{element};
 ghost use Rattle.pg_syntax.specs.BracketPlaces.{At, FaultPlace, FindsElement};
+ghost use Rattle.pg_syntax.specs.Places.{IsBadRange};
 ghost use Rattle.pg_syntax.specs.Reads.{EndsContent};
 
 use crate::fault::{FaultKind, SyntaxFault};
@@ -77,7 +78,8 @@ impl<'a> Element<'a> {
 
     /// The fault of an element that stands for no bytes, at its offset.
     pub(crate) fn fault(self, at: usize) -> SyntaxFault
-        ensures { (text : List ℕ) → At text at self.entry → FaultPlace text result }
+        ensures { (text : List ℕ) →
+            member (element self.entry) ≡ None → At text at self.entry → FaultPlace text result }
     {
         let kind = match self {
             Element::Single(_) => FaultKind::BadRange,
@@ -94,8 +96,8 @@ impl<'a> Element<'a> {
 
     /// The fault of the range from this element, at `start`, to the last one, at `at`.
     pub(crate) fn range_fault(self, start: usize, last: Element, at: usize) -> SyntaxFault
-        ensures { (text : List ℕ) →
-            At text start self.entry → At text at last.entry → FaultPlace text result }
+        ensures { (text : List ℕ) → At text start self.entry → At text at last.entry →
+            IsBadRange text start → FaultPlace text result }
     {
         if self.member().is_none() {
             return self.fault(start);

@@ -24,7 +24,8 @@ pub enum FaultKind {
     /// `[=` and `=]`, or `[.` and `.]`, enclose other than one byte. The fault stands at the inner `[`.
     BadCollating,
     /// A range in a bracket ends below its start, starts or ends with a class or an equivalence class,
-    /// or begins where another one ended. The fault stands at the element that begins it.
+    /// or begins where another one ended. The fault stands at the element that begins it; in the last case,
+    /// at the one that begins the range before it.
     BadRange,
     /// A `\)` of a basic expression closes no group: the fault stands at it. Or a group is still open
     /// where the text ends: it stands there.

@@ -1,8 +1,9 @@
 use Rattle.std.proofs.Common.{ℕ, ◌≡◌, ◌+◌, ◌&&◌, Bool, true, false, not, eqb, drop, get_or, Some, option_and_then, ap}
-use Rattle.std.proofs.Common.{◌∙◌, arith}
+use Rattle.std.proofs.Common.{◌∙◌, inr, refl, arith}
 use Rattle.std.proofs.lemmas.Bool.Decides.{nat_tests}
 use Rattle.pg_syntax.specs.BracketViews.{element, reading}
 use Rattle.pg_syntax.proofs.BracketRuns.{left_more, left_none, left_end, left_close}
+use Rattle.pg_syntax.proofs.BracketAt.{front_of, inner}
 use Rattle.pg_syntax.proofs.bracket.elements.Goals as goal
 use Rattle.pg_syntax.proofs.bracket.elements.Goals.{in-Ok, in-Err}
 use Rattle.pg_syntax.proofs.bracket.elements.Goals.{else-text-at-eq93-via-then-text-at-eq93+else-not-first}
@@ -27,7 +28,7 @@ returns-then-not-first c =
       | in-Err w ↦ rw w.result-is (
         done ∙ ap
             (option_and_then (λ s. Some (s, drop (at + 1) text))) w.in-Err.ensures.reads,
-        w.in-Err.ensures.placed text c.loop-at.invariant.placed,
+        w.in-Err.ensures.placed text (drop at text) c.loop-at.invariant.placed,
       )
     ]
 
@@ -60,7 +61,17 @@ loop-at-preserved c =
       left = left_more _ text (reading c.loop-at.reading) c.loop-at.first at c.in-Some.after
           (element c.in-Some.next) c.loop-at-test.true e.2 differs e.0
           (reading c.put.new.self) c.put.ensures.reads c.loop-at.invariant.left;
-      placed = c.put.ensures.placed text c.loop-at.invariant.placed e.1 c.loop-at-test.true;
+      begun = inr refl;
+      placed = c.put.ensures.placed text (drop c.in-Some.after text) c.loop-at.invariant.placed (record {
+        holds = record {
+          stands = e.1;
+          inside = (c.args.bracket, omega (arith, c.loop-at.invariant.above), c.requires.stands);
+          front = front_of (drop at text) (element c.in-Some.next) (drop c.in-Some.after text) e.0;
+        };
+        inner = inner text at c.loop-at.first (element c.in-Some.next) (drop c.in-Some.after text) c.loop-at.reading.mode
+            c.loop-at-test.true c.loop-at.invariant.begun differs
+            (front_of (drop at text) (element c.in-Some.next) (drop c.in-Some.after text) e.0);
+      });
     }
 
 pub returns : goal.returns

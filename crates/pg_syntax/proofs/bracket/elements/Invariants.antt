@@ -1,4 +1,5 @@
-use Rattle.std.proofs.Common.{◌≤◌, ◌-◌, length}
+use Rattle.std.proofs.Common.{◌≡◌, ◌⊎◌, false, ◌≤◌, ◌-◌, length, drop}
+use Rattle.pg_syntax.specs.declared.bracket.Mode.TheVariants.{Fresh}
 use Rattle.pg_syntax.specs.BracketReading.{elements_from}
 use Rattle.pg_syntax.specs.BracketViews.{reading}
 use Rattle.pg_syntax.specs.BracketPlaces.{Placed}
@@ -10,7 +11,8 @@ invariant-loop-at l = record {
   above : l.fn.start ≤ l.at;
   within : l.at ≤ length l.text;
   left : Left (elements_from l.text l.fn.start) l.text (reading l.reading) l.first l.at;
-  placed : Placed l.text l.reading;
+  begun : (l.reading.mode ≡ Fresh) ⊎ (l.first ≡ false);
+  placed : Placed l.text (drop l.at l.text) l.reading;
 }
 
 abbrev pub decreases-loop-at : goal.decreases-loop-at

@@ -1,13 +1,24 @@
-use Rattle.pg_syntax.proofs.BracketAt.{at_within}
+use Rattle.std.proofs.Common.{ap, sym, ◌∙◌, option_map, inl, inr}
+use Rattle.pg_bytes.specs.ByteSets.{bytes}
+use Rattle.pg_syntax.specs.BracketViews.{element}
+use Rattle.pg_syntax.proofs.BracketAt.{ends_range, ranged_on, behind_dash, behind_range, no_range}
 use Rattle.pg_syntax.proofs.bracket.Reading.put.Goals as goal
 
-pub returns-else-is_dash-clause-placed : goal.returns-else-is_dash-clause-placed
-returns-else-is_dash-clause-placed c = λ text p a l.
-    (c.add.ensures.placed text p.0 (c.fault.ensures text (rw c.in-Held.is at p.1)), a)
-
 pub returns-in-Dashed-clause-placed : goal.returns-in-Dashed-clause-placed
-returns-in-Dashed-clause-placed c = λ text p a l.
-    let q = rw c.in-Dashed.is at p.1 in (
-      c.add-in-Dashed.ensures.placed text p.0 (c.range_fault.ensures text q a),
-      at_within text c.in-Dashed.start c.in-Dashed.held q,
+returns-in-Dashed-clause-placed c = λ text rest p k.
+    let held = rw c.in-Dashed.is at p.1 in
+    let low = element c.in-Dashed.held in
+    let high = element c.args.next in
+    let inner = behind_dash _ text c.in-Dashed.start c.args.at c.in-Dashed.held c.args.next rest c.in-Dashed.is k in
+    let range = ends_range text c.in-Dashed.start c.args.at c.in-Dashed.held c.args.next rest held k.holds inner in (
+      c.add-in-Dashed.ensures.placed text p.0 (λ none. c.range_fault.ensures text held.stands k.holds.stands
+          (low, high, rest, range, inl (no_range low high (sym c.range.ensures ∙ ap (option_map bytes) none)))),
+      inl (low, high, range),
     )
+
+pub returns-in-Barred-clause-placed : goal.returns-in-Barred-clause-placed
+returns-in-Barred-clause-placed c = λ text rest p k.
+    let range = rw c.in-Barred.is at p.1 in
+    let inner = behind_range _ text c.in-Barred.start c.args.at c.args.next rest c.in-Barred.is k in
+    let bad = ranged_on text c.in-Barred.start c.args.at c.args.next rest range k.holds inner in
+    (c.add-in-Barred.ensures.placed text p.0 (λ none. bad), inr bad)
