@@ -39,14 +39,14 @@ clear_behind end size xs h i low high e =
     h (i + 1) low (omega arith) (ends_at end xs (i + 1) (omega arith) (omega arith) (ap (λ n. get_or xs n 0) back ∙ e))
 
 -- bytes with no terminator there
-unfinished_by : (end size : ℕ) (xs : List ℕ) → 0 < size
+pub unfinished_by : (end size : ℕ) (xs : List ℕ) → 0 < size
     → ((i : ℕ) → size ≤ i + 1 → i < length xs → get_or xs i 0 ≡ end → ⊥) → IsUnfinished end size xs
 unfinished_by end size xs some clear n low high ends =
     let e = end_at end xs n high ends in
     clear (n - 1) (omega (arith, e.0)) (omega (arith, e.0)) e.1
 
 -- bytes whose first terminator there is the last byte
-finished_by : (end size : ℕ) (xs : List ℕ) (k : ℕ) → size ≤ k + 1 → k < length xs → get_or xs k 0 ≡ end
+pub finished_by : (end size : ℕ) (xs : List ℕ) (k : ℕ) → size ≤ k + 1 → k < length xs → get_or xs k 0 ≡ end
     → ((i : ℕ) → size ≤ i + 1 → i < k → get_or xs i 0 ≡ end → ⊥) → 0 < size → IsFinished end size (take (k + 1) xs)
 finished_by end size xs k low high e clear some =
     let len = length-take-le (k + 1) xs (omega arith) in

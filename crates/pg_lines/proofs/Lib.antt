@@ -1,4 +1,5 @@
 pub mod CountLemmas
+pub mod CutExists
 pub mod CutLaws
 pub mod CutLemmas
 pub mod CutterLemmas

@@ -1,5 +1,5 @@
 -- What a text is compiled to, and why one can't be.
-use Rattle.std.specs.Prelude.{◌<◌, List}
+use Rattle.std.specs.Prelude.{◌<◌, ◌≤◌, List}
 use Rattle.pg_syntax.specs.ListResults.{IsFirstRefused}
 use Rattle.pg_match.specs.Automata.{Nfa}
 use Rattle.pg_match.specs.Machines.{IsMachineOf}
@@ -13,10 +13,11 @@ pub record Compiled : Type 0 where
   pub text : SearchText
   pub machine : Nfa
 
--- the patterns spell trees, and the automaton is theirs
+-- the patterns spell trees, the automaton is theirs, and they ask for at most 65,536 states
 abbrev pub IsCompiled : Compiled → Type 0
 IsCompiled q =
     (trees : List Pattern) × AreTreesOf q.text trees × IsMachineOf q.machine trees (bounds_of q.text)
+    × (list_size trees ≤ 65536)
 
 -- Why a text isn't compiled: some pattern spells no tree, and the fault is the first such one's; or all spell trees,
 -- which ask for more than 65,536 states; or a request for memory was refused.

@@ -1,5 +1,5 @@
 //! Laws of the definitions that contracts cite. They speak of all values, and a call does nothing.
-ghost use Rattle.std.specs.Prelude.{◌≡◌, ℕ, List};
+ghost use Rattle.std.specs.Prelude.{◌≡◌, ◌<◌, ℕ, List};
 ghost use Rattle.pg_lines.specs.Lines.{lines, AreLines};
 ghost use Rattle.pg_lines.specs.Search.{Search, HasItsTrees};
 ghost use Rattle.pg_lines.specs.Selection.{SelectsIsSelected};
@@ -22,8 +22,10 @@ pub fn selection_is_decided()
     ensures { (q : Search) (line : List ℕ) → SelectsIsSelected q line }
 {}
 
-/// The cut of a file is a cutting of it, and two cuts by a size are the same.
+/// A file has a cut for each size but 0, and one alone, which is a cutting of it.
 pub fn cuts_are_one()
+    ensures exist { (end size file : ℕ) (bytes : List ℕ) → 0 < size →
+        (blocks : List BlockData) × IsCut end size bytes blocks × AreNumbered file 0 blocks }
     ensures cutting { (end size : ℕ) (bytes : List ℕ) (blocks : List BlockData) → IsCut end size bytes blocks →
         IsCutting end bytes blocks }
     ensures one { (end size file : ℕ) (bytes : List ℕ) (blocks others : List BlockData)

@@ -2,6 +2,8 @@ pub mod NearLemmas
 pub mod PutLemmas
 pub mod TrailLemmas
 pub mod FoldLemmas
+pub mod CursorLaws
+pub mod EnoughLemmas
 pub mod StretchLemmas
 pub mod ProgressLemmas
 pub mod BlockLemmas

@@ -5,7 +5,7 @@ use Rattle.pg_lines.specs.Search.{Search, terminator}
 use Rattle.pg_lines.specs.Lines.{lines}
 use Rattle.pg_rows.specs.declared.format.Format.{Format}
 use Rattle.pg_rows.specs.Output.{when}
-use Rattle.pg_rows.specs.Trail.{Trail, no_lines, run_rows, run_pieces}
+use Rattle.pg_rows.specs.Trail.{Trail, no_lines, trail_of, run_rows, run_pieces}
 
 -- whether the run had a row before the file, the file's name, and what is remembered of its lines
 pub record Cursor : Type 0 where
@@ -15,6 +15,10 @@ pub record Cursor : Type 0 where
 
 abbrev pub at_start : Cursor
 at_start = record { earlier = false; name = []; trail = no_lines }
+
+-- behind the first lines of a file
+abbrev pub cursor_after : Search → Format → List ℕ → Bool → List (List ℕ) → Cursor
+cursor_after q format name earlier ls = record { earlier = earlier; name = name; trail = trail_of q format ls }
 
 -- the rows of a block
 abbrev pub block_rows : Search → Format → Cursor → List ℕ → List ℕ

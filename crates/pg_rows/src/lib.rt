@@ -3,6 +3,7 @@
 
 mod format;
 mod history;
+mod laws;
 mod mem_sink;
 mod places;
 mod prefix;
@@ -15,6 +16,7 @@ mod writer;
 
 pub use format::{Format, Mode};
 pub use history::History;
+pub use laws::{blocks_give_the_rows, trails_tell_enough};
 pub use mem_sink::MemSink;
 pub use prefix::Prefix;
 pub use printer::{Printed, Printer};

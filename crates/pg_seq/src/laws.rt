@@ -7,8 +7,8 @@ ghost use Rattle.pg_lines.specs.Searched.{Searched};
 ghost use Rattle.pg_rows.specs.declared.format.Format.{Format};
 ghost use Rattle.pg_rows.specs.Output.{Entry, HasRoom, has_selected, is_quiet, output, status};
 ghost use Rattle.pg_rows.specs.Enough.{lines_suffice};
-ghost use Rattle.pg_seq.specs.Plan.{IsPlan, Begins, announced};
-ghost use Rattle.pg_seq.specs.History.{Past, plan, handed, answer, is_taken, taken_of};
+ghost use Rattle.pg_seq.specs.Plan.{IsPlan, Begins, announced, entries_of};
+ghost use Rattle.pg_seq.specs.History.{Past, IsComplete, plan, handed, answer, is_taken, taken_of};
 ghost use Rattle.pg_rows.specs.Sink.{IsBeginning};
 ghost use Rattle.pg_seq.specs.Settled.{IsSettled, AreLeftRightly, AreLonger, GiveTheSame};
 ghost use Rattle.pg_seq.specs.declared.answers.Arrival.TheVariants.{Taken};
@@ -18,6 +18,13 @@ pub fn handed_out_begins()
     ensures { (past : Past) → HasRoom past.format → IsPlan (terminator past.query) (plan past) →
         (entries : List Entry) → Begins (terminator past.query) (plan past) entries →
         IsBeginning (handed past) (output past.query past.format entries) }
+{}
+
+/// Once no file is open and the result of each announced block was taken, the whole output of the plan's files may be
+/// handed out.
+pub fn complete_output_is_whole()
+    ensures { (past : Past) → IsComplete past →
+        handed past ≡ output past.query past.format (entries_of (plan past)) }
 {}
 
 /// The first arrival of an announced block's result under the query is taken.

@@ -1,5 +1,9 @@
+use Rattle.pg_lines.proofs.CutExists.{cut_exists}
 use Rattle.pg_lines.proofs.CutLaws.{cut_is_cutting, cuts_are_one}
 use Rattle.pg_lines.proofs.laws.cuts_are_one.Goals as goal
+
+pub returns-clause-exist : goal.returns-clause-exist
+returns-clause-exist c = cut_exists
 
 pub returns-clause-cutting : goal.returns-clause-cutting
 returns-clause-cutting c = cut_is_cutting

@@ -1,0 +1,30 @@
+//! Laws of the definitions that contracts cite. They speak of all values, and a call does nothing.
+ghost use Rattle.std.specs.Prelude.{◌≡◌, ◌++◌, ℕ, Bool, List, []};
+ghost use Rattle.pg_lines.specs.Search.{Search, terminator};
+ghost use Rattle.pg_lines.specs.Lines.{AreWhole, lines};
+ghost use Rattle.pg_rows.specs.declared.format.Format.{Format};
+ghost use Rattle.pg_rows.specs.declared.format.Mode.{Mode};
+ghost use Rattle.pg_rows.specs.Output.{HasRoom, file_rows, rows_in, when};
+ghost use Rattle.pg_rows.specs.Trail.{trail_of};
+ghost use Rattle.pg_rows.specs.Cursor.{block_rows, counted, cursor_after, named};
+ghost use Rattle.pg_rows.specs.Enough.{lines_suffice, trail_suffices};
+
+/// The rows that a file's lines add one after the other, by what is remembered of the lines before each, are the
+/// file's rows, and so are those that its blocks add. The limit of the format isn't 0.
+pub fn blocks_give_the_rows()
+    ensures whole { (q : Search) (format : Format) (name bytes : List ℕ) (ended earlier : Bool) → HasRoom format →
+        file_rows q format name bytes ended earlier ≡ rows_in format.mode
+        (block_rows q format (cursor_after q format name earlier []) bytes)
+        (when ended (counted format (cursor_after q format name earlier (lines (terminator q) bytes))))
+        (when ended (named format (cursor_after q format name earlier (lines (terminator q) bytes)))) }
+    ensures joined { (q : Search) (format : Format) (name front bytes : List ℕ) (earlier : Bool) →
+        AreWhole (terminator q) front → block_rows q format (cursor_after q format name earlier []) (front ++ bytes)
+        ≡ block_rows q format (cursor_after q format name earlier []) front ++ block_rows q format
+        (cursor_after q format name earlier (lines (terminator q) front)) bytes }
+{}
+
+/// What is remembered of a file's lines tells whether they suffice. The limit of the format isn't 0.
+pub fn trails_tell_enough()
+    ensures { (q : Search) (format : Format) (mode : Mode) (ls : List (List ℕ)) → HasRoom format →
+        trail_suffices mode format (trail_of q format ls) ≡ lines_suffice mode q format ls }
+{}
