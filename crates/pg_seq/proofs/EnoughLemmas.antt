@@ -1,20 +1,12 @@
 -- Whether enough was read, by what is remembered of the open file.
-use Rattle.std.proofs.Common.{◌≡◌, ℕ, ◌+◌, inl, inr, Bool, true, false, not, ◌&&◌, nat_lt, Option, List, [], ◌∷◌}
-use Rattle.std.proofs.Common.{length}
-use Rattle.std.proofs.Common.{refl, sym, ap, ◌∙◌, arith}
-use Rattle.std.specs.List.{count_by, list_any}
-use Rattle.std.proofs.lemmas.Bool.{false≢true, lt-ltb, le-ltb, cases_lt}
+use Rattle.std.proofs.Common.{◌≡◌, Bool, true, false, ◌&&◌, List, [], ◌∷◌}
+use Rattle.std.proofs.Common.{refl, sym, ap, ◌∙◌}
+use Rattle.std.proofs.lemmas.Bool.{false≢true}
 use Rattle.pg_lines.specs.Search.{Search, terminator}
 use Rattle.pg_lines.specs.Lines.{lines}
-use Rattle.pg_lines.specs.Selection.{selects}
 use Rattle.pg_rows.specs.declared.format.Format.{Format}
-use Rattle.pg_rows.specs.declared.format.Mode.{Mode}
-use Rattle.pg_rows.specs.declared.format.Mode.TheVariants.{Rows, Count, List as Names, Quiet}
-use Rattle.pg_rows.specs.Output.{HasRoom, Entry, Missed, Read, is_below}
-use Rattle.pg_rows.specs.Trail.{Trail}
-use Rattle.pg_rows.specs.Enough.{is_full, is_trailed, lines_suffice, file_suffices, trail_suffices}
-use Rattle.pg_rows.proofs.TrailLemmas.{IsTrail, Quota}
-use Rattle.pg_rows.proofs.FoldLemmas.{some_counted, kept_some}
+use Rattle.pg_rows.specs.Output.{HasRoom, Entry, Missed, Read}
+use Rattle.pg_rows.specs.Enough.{file_suffices, trail_suffices}
 use Rattle.pg_rows.proofs.EnoughLemmas.{suffice_by}
 use Rattle.pg_seq.specs.Plan.{Step, Opens, Announces, Ends, Misses, IsShaped, is_open, entries_of, with_end}
 use Rattle.pg_seq.specs.Cursor.{cursor_of}
@@ -47,4 +39,4 @@ module _ (q : Search) (format : Format) (room : HasRoom format) where
       go true e =
           let f = (cursor_is q format room p h).file e in
           ap (file_suffices q format) f.entries
-          ∙ suffice_by format.mode (lines (terminator q) f.bytes) (cursor_of q format p).trail f.trail
+          ∙ suffice_by q format room format.mode (lines (terminator q) f.bytes) (cursor_of q format p).trail f.trail
