@@ -1,3 +1,4 @@
 mod ReadingLemmas
 mod WorkLemmas
 mod StatusLemmas
+pub mod ToldLemmas

@@ -1,19 +1,20 @@
 -- What a search answers, and what it writes.
-use Rattle.std.specs.Prelude.{◌≡◌, ℕ, ◌^◌, ◌⊎◌, Bool, not, ◌&&◌, List, [], ◌∷◌, length, drop}
+use Rattle.std.specs.Prelude.{◌≡◌, ℕ, ◌^◌, ◌⊎◌, Bool, not, ◌&&◌, List, [], ◌∷◌, codes, length, drop}
 use Rattle.std.specs.Prelude.{Option, Some, None, Result, Ok, Err}
 use Rattle.pg_lines.specs.Search.{Search}
 use Rattle.pg_walk.specs.Answers.{Answers as Tree}
 use Rattle.pg_walk.specs.Items.{Found}
 use Rattle.pg_walk.specs.Places.{is_standard_input}
 use Rattle.pg_walk.specs.Walks.{FilesOf}
+use Rattle.pg_walk.specs.Within.{FollowOperands}
 use Rattle.pg_walk.specs.declared.tree.FileKind.{FileKind}
 use Rattle.pg_walk.specs.declared.tree.FileKind.TheVariants.{Regular, Directory, Link, Other}
 use Rattle.pg_files.specs.Given.{Given}
-use Rattle.pg_files.specs.Listed.{asked_for, file_paths, files_past, newest_paths}
+use Rattle.pg_files.specs.Listed.{asked_for, file_paths, files_past, AreOpened, AreSpared}
 use Rattle.pg_run.specs.Outcome.{Stream, IsSearchFor, Finishes, BreaksOff}
 use Rattle.pg_run.specs.declared.fault.RunFault.{RunFault}
 use Rattle.pg_run.specs.declared.setup.Setup.{Setup}
-use Rattle.pg_command.specs.Asked.{Asked, has_names, text_of_query}
+use Rattle.pg_command.specs.Asked.{Asked, has_names, spares_output, text_of_query}
 use Rattle.pg_command.specs.Causes.{fault_of_run}
 use Rattle.pg_command.specs.Reading.{HasRead, FailsToReadAll}
 use Rattle.pg_command.specs.Told.{Tells}
@@ -35,28 +36,34 @@ IsDirectory tree (file ∷ []) directory =
 IsDirectory tree (file ∷ other ∷ files) directory = Unit {0}
 
 -- How files are searched and rows look: as asked for, with or without names, in lines of at most 2^30 bytes. A tree
--- that doesn't tell its answers may call anything a directory.
+-- that doesn't tell its answers may call anything a directory but standard input.
 pub record IsSetup (tells : Type 0) (tree : Tree) (asked : Asked) (setup : Setup) : Type 0 where
   pub directory : Bool
   pub is_directory : tells → IsDirectory tree asked.files directory
+  pub standard_input : asked.files ≡ codes "-" ∷ [] → directory ≡ Bool.false
   pub format :
       setup.format ≡ record asked.format { names = has_names asked.names asked.files asked.recursive directory }
   pub silent : setup.silent ≡ asked.silent
   pub line : setup.line ≡ 2 ^ 30
 
 -- What was searched: the -f files were read, then the operands walked over, and some first items of the walk were asked
--- for, each file by its path, and nothing else was opened. `done` says that there were no more.
+-- for, each file by its path, and nothing else was opened. `done` says that these are all. What is known of the walk is
+-- all of it where the tree tells its answers; of any other tree that the items follow the operands. A file is refused
+-- because standard output goes there only where rows are written.
 pub record Work (tells : Type 0) (tree : Tree) (asked : Asked) (past past' : List Given) : Type 0 where
   pub contents : List (List ℕ)
   pub between : List Given
   pub read : HasRead past between asked.pattern_files contents
   pub items : List Found
   pub walked : tells → FilesOf tree asked.files asked.recursive items
+  pub follow : FollowOperands asked.recursive asked.files items
   pub setup : Setup
   pub is_setup : IsSetup tells tree asked setup
   pub count : ℕ
   pub done : Bool
-  pub opened : newest_paths (length (file_paths (asked_for count items))) past' ≡ file_paths (asked_for count items)
+  pub whole : done ≡ Bool.true → count ≡ length items
+  pub opened : AreOpened (asked_for count items) past'
+  pub spared : AreSpared (spares_output asked.format.mode) (asked_for count items) past'
   pub earlier : drop (length (file_paths (asked_for count items))) past' ≡ between
 
 -- The run over all of it came to its end.
@@ -65,7 +72,9 @@ pub record Succeeds (tells : Type 0) (tree : Tree) (asked : Asked) (past past' :
   pub work : Work tells tree asked past past'
   pub search : Search
   pub is_search : IsSearchFor (text_of_query asked work.contents) search
-  pub finishes : Finishes search work.setup (files_past work.count work.done work.items past') out out' err err' status
+  pub finishes :
+      Finishes search work.setup work.items (files_past work.count work.done work.items past')
+      out out' err err' status
 
 -- Some -f file couldn't be read, and nothing was written.
 pub record FailsAtAPatternFile (asked : Asked) (past past' : List Given) (out out' err err' : Stream) (fault : Fault)

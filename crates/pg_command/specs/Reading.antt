@@ -3,8 +3,7 @@ use Rattle.std.specs.Prelude.{◌≡◌, ℕ, ◌⊎◌, false, List, [], ◌∷
 use Rattle.pg_rows.specs.Output.{Ending, Ended, Failed, Left, is_failed}
 use Rattle.pg_walk.specs.declared.item.Cause.{Cause}
 use Rattle.pg_walk.specs.declared.item.Cause.TheVariants.{ReadFailed}
-use Rattle.pg_files.specs.Given.{Given, NoFile, File}
-use Rattle.pg_files.specs.Listed.{shown_name}
+use Rattle.pg_files.specs.Given.{Given, NoFile, File, is_output, shown_name}
 use Rattle.pg_command.specs.declared.fault.Fault.{Fault}
 use Rattle.pg_command.specs.declared.fault.Fault.TheVariants.{NotText, Usage, Unreadable, Pattern, TooLarge}
 use Rattle.pg_command.specs.declared.fault.Fault.TheVariants.{OutOfMemory, WriteFailed, TooManyFiles, LineTooLong}
@@ -16,10 +15,10 @@ HasRead past past' [] (content ∷ contents) = ⊥
 HasRead past past' (path ∷ paths) [] = ⊥
 HasRead past past' (path ∷ paths) (content ∷ contents) = HasRead (File path content Ended ∷ past) past' paths contents
 
--- the path gave no file, or a read of it failed
+-- the path gave no file, though not because standard output goes there, or a read of it failed
 abbrev pub IsUnread : List ℕ → Cause → List Given → List Given → Type 0
 IsUnread path cause past past' =
-    (past' ≡ NoFile path cause ∷ past)
+    ((past' ≡ NoFile path cause ∷ past) × (is_output (NoFile path cause) ≡ false))
     ⊎ ((cause ≡ ReadFailed) × (bytes : List ℕ) × (past' ≡ File path bytes Failed ∷ past))
 
 -- the path wasn't opened, or some of its file was read

@@ -3,6 +3,7 @@ use Rattle.std.specs.Prelude.{◌≡◌, ◌<◌, ◌⊎◌, ℕ, List, ◌++◌
 use Rattle.std.specs.Fmt.{decimal}
 use Rattle.pg_syntax.specs.FaultTexts.{kind_text}
 use Rattle.pg_syntax.specs.declared.fault.ListFault.{ListFault}
+use Rattle.pg_rows.specs.Sink.{TakesPart}
 use Rattle.pg_run.specs.Outcome.{Stream}
 use Rattle.pg_run.specs.Told.{fault_line as file_line}
 use Rattle.pg_words.specs.Usage.{usage_text}
@@ -38,9 +39,11 @@ IsPlain (Unreadable name cause) = ⊥
 IsPlain (Pattern fault) = ⊥
 IsPlain fault = Unit {0}
 
--- the text was written, or standard error failed
+-- the text was written; or a beginning of it, and standard error failed
 abbrev pub TellsText : List ℕ → Stream → Stream → Type 0
-TellsText text err err' = (err'.taken ≡ err.taken ++ text) ⊎ (err.failures < err'.failures)
+TellsText text err err' =
+    ((err'.taken ≡ err.taken ++ text) × (err'.failures ≡ err.failures))
+    ⊎ (TakesPart text err.taken err'.taken × (err.failures < err'.failures))
 
 -- and so the fault's line
 abbrev pub Tells : Fault → Stream → Stream → Type 0

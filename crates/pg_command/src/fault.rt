@@ -3,7 +3,7 @@ ghost use Rattle.std.specs.Prelude.{◌≡◌, ◌<◌, ◌++◌, codes, OnErr, 
 ghost use Rattle.std.specs.List.{flat_map};
 ghost use Rattle.pg_run.specs.Told.{fault_line as file_line};
 ghost use Rattle.pg_command.specs.Causes.{fault_of_query, fault_of_run};
-ghost use Rattle.pg_command.specs.Told.{IsPlain, Tells, line_of, pattern_line, plain_line};
+ghost use Rattle.pg_command.specs.Told.{IsPlain, Tells, TellsText, line_of, pattern_line, plain_line};
 ghost use Rattle.pg_command.specs.declared.fault.Fault.TheVariants.{OutOfMemory};
 
 use itoa::Buffer;
@@ -100,40 +100,47 @@ impl<'a> Fault<'a> {
     }
 }
 
-/// Writes the line of a fault to standard error. The answer is the status that the program ends with.
+/// Writes the line of a fault to standard error; where that fails, a beginning of it. The answer is the status that the
+/// program ends with.
 pub fn report<W: Sink>(alloc: Global, fault: Fault<'_>, err: &mut W) -> u8
     ensures status { result ≡ 2 }
     ensures told { Tells fault.entry
         (record { taken = W.taken err.old; failures = W.failures err.old })
         (record { taken = W.taken err.new; failures = W.failures err.new }) }
 {
-    let _ = match fault {
+    match fault {
         Fault::Pattern(fault) => tell_pattern(alloc, fault, err),
         Fault::Unreadable(name, cause) => tell_file(alloc, name, cause, err),
         _ => tell_text(alloc, fault.text(), err),
-    };
+    }
     FAULT_STATUS
 }
 
 /// Writes a line that says what is wrong.
-fn tell_text<W: Sink>(alloc: Global, text: &str, err: &mut W) -> Result<(), WriteError>
-    ensures told { OnOk result (W.taken err.new ≡ W.taken err.old ++ plain_line text.now) }
-    ensures failure { OnErr result (W.failures err.old < W.failures err.new) }
+fn tell_text<W: Sink>(alloc: Global, text: &str, err: &mut W)
+    ensures { TellsText (plain_line text.now)
+        (record { taken = W.taken err.old; failures = W.failures err.old })
+        (record { taken = W.taken err.new; failures = W.failures err.new }) }
 {
-    tell(alloc, &[b"pargrep: ", text.as_bytes(), b"\n"], err)
+    tell_parts(alloc, &[b"pargrep: ", text.as_bytes(), b"\n"], err);
+}
+
+/// Writes a line that is given in parts.
+fn tell_parts<W: Sink>(alloc: Global, parts: &[&[u8]], err: &mut W)
+    ensures { TellsText (flat_map (λ part. part.now) parts.now)
+        (record { taken = W.taken err.old; failures = W.failures err.old })
+        (record { taken = W.taken err.new; failures = W.failures err.new }) }
+{
+    let _ = tell(alloc, parts, err);
 }
 
 /// Writes the line of a file's fault.
-fn tell_file<W: Sink>(
-    alloc: Global,
-    name: &str,
-    cause: Cause,
-    err: &mut W,
-) -> Result<(), WriteError>
-    ensures told { OnOk result (W.taken err.new ≡ W.taken err.old ++ file_line name.now cause) }
-    ensures failure { OnErr result (W.failures err.old < W.failures err.new) }
+fn tell_file<W: Sink>(alloc: Global, name: &str, cause: Cause, err: &mut W)
+    ensures { TellsText (file_line name.now cause)
+        (record { taken = W.taken err.old; failures = W.failures err.old })
+        (record { taken = W.taken err.new; failures = W.failures err.new }) }
 {
-    tell(alloc, &file_parts(name, cause.text()), err)
+    tell_parts(alloc, &file_parts(name, cause.text()), err);
 }
 
 /// The parts of the line of a file's fault, in their order.
@@ -145,12 +152,13 @@ fn file_parts<'a>(name: &'a str, text: &'a str) -> [&'a [u8]; 5]
 }
 
 /// Writes the line of a pattern's fault, with the number of the pattern and the offset of the fault.
-fn tell_pattern<W: Sink>(alloc: Global, fault: ListFault, err: &mut W) -> Result<(), WriteError>
-    ensures told { OnOk result (W.taken err.new ≡ W.taken err.old ++ pattern_line fault) }
-    ensures failure { OnErr result (W.failures err.old < W.failures err.new) }
+fn tell_pattern<W: Sink>(alloc: Global, fault: ListFault, err: &mut W)
+    ensures { TellsText (pattern_line fault)
+        (record { taken = W.taken err.old; failures = W.failures err.old })
+        (record { taken = W.taken err.new; failures = W.failures err.new }) }
 {
     let (mut number, mut offset) = (Buffer::new(), Buffer::new());
-    tell(
+    tell_parts(
         alloc,
         &[
             b"pargrep: pattern ",
@@ -162,5 +170,5 @@ fn tell_pattern<W: Sink>(alloc: Global, fault: ListFault, err: &mut W) -> Result
             b"\n",
         ],
         err,
-    )
+    );
 }

@@ -1,5 +1,5 @@
 //! The operands of a request, and whether rows have names.
-ghost use Rattle.std.specs.Prelude.{◌≡◌, map, IfOk};
+ghost use Rattle.std.specs.Prelude.{◌≡◌, ◌∷◌, [], codes, false, map, IfOk};
 ghost use Rattle.std.specs.String.{string_bytes};
 ghost use Rattle.pg_syntax.specs.Slices.{bytes_of};
 ghost use Rattle.pg_command.specs.Answers.{IsDirectory};
@@ -9,8 +9,9 @@ use std::alloc::{AllocError, Global};
 
 /// Whether the one operand is a directory, links followed. With several operands it doesn't matter.
 pub(crate) fn is_directory<T: FileTree>(tree: &T, files: &[&str]) -> Result<bool, AllocError>
-    ensures { T.tells tree.now →
+    ensures is { T.tells tree.now →
         IfOk result (IsDirectory (T.answers tree.now) (bytes_of files.now)) }
+    ensures standard_input { bytes_of files.now ≡ codes "-" ∷ [] → IfOk result (λ directory. directory ≡ false) }
 {
     let [file] = files else {
         return Ok(false);

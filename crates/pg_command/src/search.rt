@@ -3,6 +3,7 @@ ghost use Rattle.std.specs.Prelude.{◌≡◌, ◌≤◌, ◌^◌, false, map, I
 ghost use Rattle.pg_syntax.specs.Slices.{bytes_of};
 ghost use Rattle.pg_walk.specs.Items.{found};
 ghost use Rattle.pg_walk.specs.Walks.{FilesOf};
+ghost use Rattle.pg_walk.specs.Within.{FollowOperands};
 ghost use Rattle.pg_command.specs.Asked.{asked_of, has_names, spares_output};
 ghost use Rattle.pg_command.specs.Answers.{Answers, Fails, IsSetup, Succeeds};
 
@@ -111,6 +112,8 @@ fn list_files<T: FileTree, S: Store + Drop>(
     ensures store { files.new.store ≡ files.old.store }
     ensures walked { T.tells tree.now → OnOk result (FilesOf (T.answers tree.now) (asked_of request.now).files
         request.now.recursive (map found files.new.items.items)) }
+    ensures follow { OnOk result (FollowOperands request.now.recursive (asked_of request.now).files
+        (map found files.new.items.items)) }
     ensures spares { OnOk result (files.new.spares_output ≡ spares_output request.now.format.mode) }
     ensures setup { IfOk result (IsSetup (T.tells tree.now) (T.answers tree.now) (asked_of request.now)) }
 {

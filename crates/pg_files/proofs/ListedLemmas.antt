@@ -1,14 +1,16 @@
 -- The items of a walk as files that are given.
 use Rattle.std.proofs.Common.{◌≡◌, ℕ, zero, suc, ◌+◌, ◌<◌, Bool, true, false, List, [], ◌∷◌, length, map, take, drop}
 use Rattle.std.proofs.Common.{reverse, Result, Ok, Err, refl, sym, ap, subst, ◌∙◌, arith, get_or, inl}
-use Rattle.std.proofs.Common.{inr}
+use Rattle.std.proofs.Common.{inr, ◌||◌, ◌++◌}
+use Rattle.std.specs.List.{list_any}
 use Rattle.std.proofs.lemmas.Bool.{false≢true}
-use Rattle.std.proofs.lemmas.List.{take_more, reverse-append, get_or-map, length-map}
+use Rattle.std.proofs.lemmas.List.{take_more, take_all, reverse-append, map-append, get_or-map, length-map}
 use Rattle.pg_rows.specs.Output.{Left}
-use Rattle.pg_walk.specs.Items.{Found, File as AFile, Fault}
+use Rattle.pg_walk.specs.Items.{Found, File as AFile, Fault, path_in}
 use Rattle.pg_files.specs.Given.{Given, NoFile, File, FilesPast, is_reading, newest_name, gave_bytes, gave_end}
+use Rattle.pg_files.specs.Given.{AllGiven, MaySpare, is_output, name_of, shown_name}
 use Rattle.pg_files.specs.Asking.{NextGives, ReadGives, read_given}
-use Rattle.pg_files.specs.Listed.{asked_for, file_paths, newest_paths, path_of, path_in, shown, shown_name}
+use Rattle.pg_files.specs.Listed.{asked_for, file_paths, of_items, shown, AreOpened, AreSpared}
 use Rattle.pg_files.specs.Listed.{given_by, files_past, Reaches, sources}
 use Rattle.pg_files.specs.declared.files.Step.{Step}
 
@@ -82,28 +84,125 @@ read_behind into items past past' (Err e) r gives =
     ap (drop (length (file_paths items))) gives ∙ end_behind true items past r
 
 -- a path was opened after the others
-pub paths_more : (path : List ℕ) (items : List Found) (g : Given) (past : List Given) → path_of g ≡ path →
-    newest_paths (length (file_paths items)) past ≡ file_paths items →
-    newest_paths (length (file_paths (AFile path ∷ items))) (g ∷ past) ≡ file_paths (AFile path ∷ items)
+paths_more : (path : List ℕ) (items : List Found) (g : Given) (past : List Given) → name_of g ≡ path →
+    AreOpened items past → AreOpened (AFile path ∷ items) (g ∷ past)
 paths_more path items g past p are =
-    ap (λ x. x ∷ newest_paths (length (file_paths items)) past) p ∙ ap (λ xs. path ∷ xs) are
+    ap (λ x. x ∷ map name_of (of_items items past)) p ∙ ap (λ xs. path ∷ xs) are
+
+-- and it wasn't refused as the output's own, unless that was asked for
+spared_more : (spares : Bool) (path : List ℕ) (items : List Found) (g : Given) (past : List Given) →
+    MaySpare spares g → AreSpared spares items past → AreSpared spares (AFile path ∷ items) (g ∷ past)
+spared_more spares path items g past may are = λ e.
+    ap (λ b. b || list_any is_output (of_items items past)) (may e) ∙ are e
+
+same_names : (more : List ℕ) (given : List Given) (n : ℕ) →
+    map name_of (take n (gave_bytes more given)) ≡ map name_of (take n given)
+same_names more given zero = refl
+same_names more [] (suc n) = refl
+same_names more (NoFile name cause ∷ given) (suc n) = refl
+same_names more (File name bytes ending ∷ given) (suc n) = refl
+
+same_names_end : (failed : Bool) (given : List Given) (n : ℕ) →
+    map name_of (take n (gave_end failed given)) ≡ map name_of (take n given)
+same_names_end failed given zero = refl
+same_names_end failed [] (suc n) = refl
+same_names_end failed (NoFile name cause ∷ given) (suc n) = refl
+same_names_end failed (File name bytes ending ∷ given) (suc n) = refl
+
+same_names_count : (into : List ℕ) (count : ℕ) (given : List Given) (n : ℕ) →
+    map name_of (take n (read_given into count given)) ≡ map name_of (take n given)
+same_names_count into zero given n = same_names_end false given n
+same_names_count into (suc count) given n = same_names (take (suc count) into) given n
+
+-- a read opens no file
+pub opened_by_read : {E : Type 0} (into : List ℕ) (items : List Found) (past past' : List Given)
+    (result : Result ℕ E) → ReadGives into past past' result → AreOpened items past → AreOpened items past'
+opened_by_read into items past past' (Ok count) gives are =
+    ap (λ gs. map name_of (of_items items gs)) gives.1
+    ∙ same_names_count into count past (length (file_paths items)) ∙ are
+opened_by_read into items past past' (Err f) gives are =
+    ap (λ gs. map name_of (of_items items gs)) gives ∙ same_names_end true past (length (file_paths items)) ∙ are
+
+same_output : (more : List ℕ) (given : List Given) (n : ℕ) →
+    list_any is_output (take n (gave_bytes more given)) ≡ list_any is_output (take n given)
+same_output more given zero = refl
+same_output more [] (suc n) = refl
+same_output more (NoFile name cause ∷ given) (suc n) = refl
+same_output more (File name bytes ending ∷ given) (suc n) = refl
+
+same_output_end : (failed : Bool) (given : List Given) (n : ℕ) →
+    list_any is_output (take n (gave_end failed given)) ≡ list_any is_output (take n given)
+same_output_end failed given zero = refl
+same_output_end failed [] (suc n) = refl
+same_output_end failed (NoFile name cause ∷ given) (suc n) = refl
+same_output_end failed (File name bytes ending ∷ given) (suc n) = refl
+
+same_output_count : (into : List ℕ) (count : ℕ) (given : List Given) (n : ℕ) →
+    list_any is_output (take n (read_given into count given)) ≡ list_any is_output (take n given)
+same_output_count into zero given n = same_output_end false given n
+same_output_count into (suc count) given n = same_output (take (suc count) into) given n
+
+-- a read refuses no file
+pub spared_by : {E : Type 0} (into : List ℕ) (spares : Bool) (items : List Found) (past past' : List Given)
+    (result : Result ℕ E) → ReadGives into past past' result → AreSpared spares items past →
+    AreSpared spares items past'
+spared_by into spares items past past' (Ok count) gives are = λ e.
+    ap (λ gs. list_any is_output (of_items items gs)) gives.1
+    ∙ same_output_count into count past (length (file_paths items)) ∙ are e
+spared_by into spares items past past' (Err f) gives are = λ e.
+    ap (λ gs. list_any is_output (of_items items gs)) gives ∙ same_output_end true past (length (file_paths items))
+    ∙ are e
 
 abbrev head_or : List (List ℕ) → List ℕ
 head_or [] = []
 head_or (x ∷ xs) = x
 
-newest_shown : (g : Given) (given : List Given) → newest_name (shown g ∷ given) ≡ shown_name (path_of g)
+newest_shown : (g : Given) (given : List Given) → newest_name (shown g ∷ given) ≡ shown_name (name_of g)
 newest_shown (NoFile path cause) given = refl
 newest_shown (File path bytes ending) given = refl
 
 -- the newest that was given is called by the path of the newest item
 pub name_by : (item : Found) (items : List Found) (past : List Given) →
-    newest_paths (length (file_paths (item ∷ items))) past ≡ file_paths (item ∷ items) →
-    shown_name (path_in item) ≡ newest_name (given_by (item ∷ items) past)
+    AreOpened (item ∷ items) past → shown_name (path_in item) ≡ newest_name (given_by (item ∷ items) past)
 name_by (Fault path cause) items past are = refl
 name_by (AFile path) items [] are = absurd (let l : 0 ≡ length (path ∷ file_paths items) = ap length are in omega arith)
 name_by (AFile path) items (g ∷ past) are =
     sym (newest_shown g (given_by items past) ∙ ap shown_name (ap head_or are))
+
+abbrev behind_first : List (List ℕ) → List (List ℕ)
+behind_first [] = []
+behind_first (x ∷ xs) = xs
+
+name_shown : (g : Given) → name_of (shown g) ≡ shown_name (name_of g)
+name_shown (NoFile path cause) = refl
+name_shown (File path bytes ending) = refl
+
+-- items are given under their names
+names_by : (items : List Found) (past : List Given) → AreOpened items past →
+    map name_of (given_by items past) ≡ map (λ item. shown_name (path_in item)) items
+names_by [] past are = refl
+names_by (Fault path cause ∷ items) past are = ap (λ xs. shown_name path ∷ xs) (names_by items past are)
+names_by (AFile path ∷ items) [] are =
+    absurd (let l : 0 ≡ length (path ∷ file_paths items) = ap length are in omega arith)
+names_by (AFile path ∷ items) (g ∷ past) are =
+    ap (λ x. x ∷ map name_of (given_by items past)) (name_shown g ∙ ap shown_name (ap head_or are))
+    ∙ ap (λ xs. shown_name path ∷ xs) (names_by items past (ap behind_first are))
+
+map-reverse : {X Y : Type 0} (f : X → Y) (xs : List X) → map f (reverse xs) ≡ reverse (map f xs)
+map-reverse f [] = refl
+map-reverse f (x ∷ xs) =
+    ap (map f) (reverse-append (x ∷ []) xs)
+    ∙ (map-append f (reverse xs) (x ∷ [])
+    ∙ (ap (λ ys. ys ++ f x ∷ []) (map-reverse f xs) ∙ sym (reverse-append (f x ∷ []) (map f xs))))
+
+-- and so all of them, once all were asked for
+pub all_given : (items : List Found) (asked : ℕ) (past : List Given) → asked ≡ length items →
+    AreOpened (asked_for asked items) past → AllGiven items (given_by (asked_for asked items) past)
+all_given items asked past all are =
+    let whole : asked_for asked items ≡ reverse items =
+    ap reverse (ap (λ n. take n items) all ∙ take_all (length items) items (omega arith)) in
+    names_by (asked_for asked items) past are
+    ∙ (ap (map (λ item. shown_name (path_in item))) whole ∙ map-reverse (λ item. shown_name (path_in item)) items)
 
 -- What stands before and after the next item was reached.
 module _ {E : Type 0} (view : E → Found) (items : List E) (asked : ℕ) (item : E) (within : asked < length items)
@@ -117,54 +216,67 @@ module _ {E : Type 0} (view : E → Found) (items : List E) (asked : ℕ) (item 
   abbrev so_far : List Found
   so_far = asked_for asked (map view items)
 
-  abbrev AreOpened : List Found → List Given → Type 0
-  AreOpened found past = newest_paths (length (file_paths found)) past ≡ file_paths found
-
-  opened_by : (f : Found) (step : Step) (past past' : List Given) → Reaches f step past past' →
+  opened_by : (spares : Bool) (f : Found) (step : Step) (past past' : List Given) → Reaches spares f step past past' →
       AreOpened so_far past → AreOpened (f ∷ so_far) past'
-  opened_by (Fault path cause) step past past' r are = subst (AreOpened so_far) (sym r.1) are
-  opened_by (AFile path) step past past' (inl r) are =
+  opened_by spares (Fault path cause) step past past' r are = subst (AreOpened so_far) (sym r.1) are
+  opened_by spares (AFile path) step past past' (inl r) are =
       subst (AreOpened (AFile path ∷ so_far)) (sym r.1) (paths_more path so_far (File path [] Left) past refl are)
-  opened_by (AFile path) step past past' (inr r) are =
+  opened_by spares (AFile path) step past past' (inr r) are =
       subst (AreOpened (AFile path ∷ so_far)) (sym r.2) (paths_more path so_far (NoFile path r.0) past refl are)
 
-  pub next_opened : (step : Step) (past past' : List Given) → Reaches (view item) step past past' →
+  pub next_opened : (spares : Bool) (step : Step) (past past' : List Given) → Reaches spares (view item) step past past' →
       AreOpened so_far past → AreOpened (asked_for (asked + 1) (map view items)) past'
-  next_opened step past past' r are =
-      subst (λ found. AreOpened found past') (sym more) (opened_by (view item) step past past' r are)
+  next_opened spares step past past' r are =
+      subst (λ found. AreOpened found past') (sym more) (opened_by spares (view item) step past past' r are)
+
+  spare_by : (spares : Bool) (f : Found) (step : Step) (past past' : List Given) → Reaches spares f step past past' →
+      AreSpared spares so_far past → AreSpared spares (f ∷ so_far) past'
+  spare_by spares (Fault path cause) step past past' r are = subst (AreSpared spares so_far) (sym r.1) are
+  spare_by spares (AFile path) step past past' (inl r) are =
+      subst (AreSpared spares (AFile path ∷ so_far)) (sym r.1)
+      (spared_more spares path so_far (File path [] Left) past (λ e. refl) are)
+  spare_by spares (AFile path) step past past' (inr r) are =
+      subst (AreSpared spares (AFile path ∷ so_far)) (sym r.2)
+      (spared_more spares path so_far (NoFile path r.0) past r.3 are)
+
+  pub next_spared : (spares : Bool) (step : Step) (past past' : List Given) → Reaches spares (view item) step past past' →
+      AreSpared spares so_far past → AreSpared spares (asked_for (asked + 1) (map view items)) past'
+  next_spared spares step past past' r are =
+      subst (λ found. AreSpared spares found past') (sym more) (spare_by spares (view item) step past past' r are)
 
   abbrev given : Bool → List Found → List Given → FilesPast
   given done found past = record { given = given_by found past; done = done }
 
-  gives_by : (done : Bool) (f : Found) (step : Step) (past past' : List Given) → Reaches f step past past' →
+  gives_by : (spares done : Bool) (f : Found) (step : Step) (past past' : List Given) → Reaches spares f step past past' →
       NextGives step (given done so_far past) (given done (f ∷ so_far) past')
-  gives_by done (Fault path cause) step past past' r =
+  gives_by spares done (Fault path cause) step past past' r =
       subst (λ s. NextGives s (given done so_far past) (given done (Fault path cause ∷ so_far) past')) (sym r.0)
       (shown_name path, ap (λ p. given done (Fault path cause ∷ so_far) p) r.1)
-  gives_by done (AFile path) step past past' (inl r) =
+  gives_by spares done (AFile path) step past past' (inl r) =
       subst (λ s. NextGives s (given done so_far past) (given done (AFile path ∷ so_far) past')) (sym r.0)
       (shown_name path, ap (λ p. given done (AFile path ∷ so_far) p) r.1)
-  gives_by done (AFile path) step past past' (inr r) =
+  gives_by spares done (AFile path) step past past' (inr r) =
       subst (λ s. NextGives s (given done so_far past) (given done (AFile path ∷ so_far) past')) (sym r.1)
       (shown_name path, ap (λ p. given done (AFile path ∷ so_far) p) r.2)
 
-  pub next_gives : (done : Bool) (step : Step) (past past' : List Given) → Reaches (view item) step past past' →
+  pub next_gives : (spares done : Bool) (step : Step) (past past' : List Given) →
+      Reaches spares (view item) step past past' →
       NextGives step (files_past asked done (map view items) past) (files_past (asked + 1) done (map view items) past')
-  next_gives done step past past' r =
+  next_gives spares done step past past' r =
       subst (λ found. NextGives step (given done so_far past) (given done found past')) (sym more)
-      (gives_by done (view item) step past past' r)
+      (gives_by spares done (view item) step past past' r)
 
-  behind_by : (f : Found) (step : Step) (past past' : List Given) → Reaches f step past past' →
+  behind_by : (spares : Bool) (f : Found) (step : Step) (past past' : List Given) → Reaches spares f step past past' →
       drop (length (file_paths (f ∷ so_far))) past' ≡ drop (length (file_paths so_far)) past
-  behind_by (Fault path cause) step past past' r = ap (drop (length (file_paths so_far))) r.1
-  behind_by (AFile path) step past past' (inl r) = ap (drop (length (file_paths (AFile path ∷ so_far)))) r.1
-  behind_by (AFile path) step past past' (inr r) = ap (drop (length (file_paths (AFile path ∷ so_far)))) r.2
+  behind_by spares (Fault path cause) step past past' r = ap (drop (length (file_paths so_far))) r.1
+  behind_by spares (AFile path) step past past' (inl r) = ap (drop (length (file_paths (AFile path ∷ so_far)))) r.1
+  behind_by spares (AFile path) step past past' (inr r) = ap (drop (length (file_paths (AFile path ∷ so_far)))) r.2
 
-  pub next_behind : (step : Step) (past past' : List Given) → Reaches (view item) step past past' →
-      sources (asked + 1) (map view items) past' ≡ sources asked (map view items) past
-  next_behind step past past' r =
-      ap (λ found. record { items = map view items; earlier = drop (length (file_paths found)) past' }) more
-      ∙ ap (λ g. record { items = map view items; earlier = g }) (behind_by (view item) step past past' r)
+  pub next_behind : (spares : Bool) (step : Step) (past past' : List Given) → Reaches spares (view item) step past past' →
+      sources (asked + 1) (map view items) spares past' ≡ sources asked (map view items) spares past
+  next_behind spares step past past' r =
+      ap (λ found. record { items = map view items; spares = spares; earlier = drop (length (file_paths found)) past' }) more
+      ∙ ap (λ g. record { items = map view items; spares = spares; earlier = g }) (behind_by spares (view item) step past past' r)
 
   -- and then the newest is called by its path
   pub next_name : (past : List Given) → AreOpened (asked_for (asked + 1) (map view items)) past →

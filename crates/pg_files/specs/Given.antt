@@ -1,7 +1,10 @@
 -- What files gave. The newest stands first in each list.
-use Rattle.std.specs.Prelude.{ℕ, ◌+◌, Bool, true, false, if◌then◌else◌, List, [], ◌∷◌, ◌++◌, map}
-use Rattle.pg_walk.specs.Items.{Found}
+use Rattle.std.specs.Prelude.{◌≡◌, ℕ, nat_eq, ◌+◌, Bool, true, false, if◌then◌else◌, List, [], ◌∷◌, ◌++◌, map}
+use Rattle.std.specs.Prelude.{codes, reverse}
+use lib.Pointwise.{pointwise}
+use Rattle.pg_walk.specs.Items.{Found, path_in}
 use Rattle.pg_walk.specs.declared.item.Cause.{Cause}
+use Rattle.pg_walk.specs.declared.item.Cause.TheVariants.{IsOutput}
 use Rattle.pg_rows.specs.Output.{Entry, Missed, Read, Ending, Running, Ended, Failed, Left}
 
 -- a name that gives no file, and why; or a file with the bytes that its reads gave. A file whose end wasn't met and
@@ -15,9 +18,10 @@ pub record FilesPast : Type 0 where
   pub given : List Given
   pub done : Bool
 
--- the names that are looked for, and what was given of others before
+-- what is looked for, in this order; whether the file that standard output goes to is refused; and what was given before
 pub record Sources : Type 0 where
   pub items : List Found
+  pub spares : Bool
   pub earlier : List Given
 
 abbrev pub nothing_given : FilesPast
@@ -39,6 +43,27 @@ is_reading (File name bytes Running ∷ given) = false
 is_reading (File name bytes Ended ∷ given) = false
 is_reading (File name bytes Failed ∷ given) = false
 is_reading (File name bytes Left ∷ given) = true
+
+-- how a path is called in rows and fault lines
+abbrev pub shown_name : List ℕ → List ℕ
+shown_name path = if pointwise nat_eq path (codes "-") then codes "(standard input)" else path
+
+abbrev pub name_of : Given → List ℕ
+name_of (NoFile name cause) = name
+name_of (File name bytes ending) = name
+
+-- Each of the items was given under its name, in their order, and nothing else.
+abbrev pub AllGiven : List Found → List Given → Type 0
+AllGiven items given = map name_of given ≡ reverse (map (λ item. shown_name (path_in item)) items)
+
+-- it gives no file because standard output goes there
+abbrev pub is_output : Given → Bool
+is_output (NoFile name IsOutput) = true
+is_output _ = false
+
+-- that is so only where such files are to be refused
+abbrev pub MaySpare : Bool → Given → Type 0
+MaySpare spares given = spares ≡ false → is_output given ≡ false
 
 -- the name of the newest
 abbrev pub newest_name : List Given → List ℕ

@@ -1,5 +1,6 @@
 pub mod Accesses
 pub mod Asking
+pub mod DiskStore
 pub mod Given
 pub mod Listed
 pub mod MemStore

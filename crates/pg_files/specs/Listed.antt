@@ -1,17 +1,12 @@
 -- The items of a walk as files that are given, by what a store gave for their paths.
-use Rattle.std.specs.Prelude.{◌≡◌, ◌⊎◌, ℕ, nat_eq, Bool, List, [], ◌∷◌, map, length, take, drop, reverse}
-use Rattle.std.specs.Prelude.{codes, if◌then◌else◌}
-use lib.Pointwise.{pointwise}
+use Rattle.std.specs.Prelude.{◌≡◌, ◌⊎◌, ℕ, Bool, false, List, [], ◌∷◌, map, length, take, drop, reverse}
+use Rattle.std.specs.List.{list_any}
 use Rattle.pg_walk.specs.Items.{Found, File as AFile, Fault}
 use Rattle.pg_walk.specs.declared.item.Cause.{Cause}
 use Rattle.pg_rows.specs.Output.{Left}
-use Rattle.pg_files.specs.Given.{Given, NoFile, File, FilesPast, Sources}
+use Rattle.pg_files.specs.Given.{Given, NoFile, File, FilesPast, Sources, MaySpare, is_output, name_of, shown_name}
 use Rattle.pg_files.specs.declared.files.Step.{Step}
 use Rattle.pg_files.specs.declared.files.Step.TheVariants.{File as NextFile, Miss as NextMiss}
-
--- how a path is called in rows and fault lines
-abbrev pub shown_name : List ℕ → List ℕ
-shown_name path = if pointwise nat_eq path (codes "-") then codes "(standard input)" else path
 
 abbrev pub shown : Given → Given
 shown (NoFile path cause) = NoFile (shown_name path) cause
@@ -35,28 +30,30 @@ file_paths [] = []
 file_paths (Fault path cause ∷ items) = file_paths items
 file_paths (AFile path ∷ items) = path ∷ file_paths items
 
-abbrev pub path_of : Given → List ℕ
-path_of (NoFile path cause) = path
-path_of (File path bytes ending) = path
+-- what the store gave for items, the newest first
+abbrev pub of_items : List Found → List Given → List Given
+of_items items past = take (length (file_paths items)) past
 
--- the paths that were opened last, so many of them, the newest first
-abbrev pub newest_paths : ℕ → List Given → List (List ℕ)
-newest_paths count past = map path_of (take count past)
+-- the files of items were opened last, by their paths, the newest first
+abbrev pub AreOpened : List Found → List Given → Type 0
+AreOpened items past = map name_of (of_items items past) ≡ file_paths items
 
-abbrev pub path_in : Found → List ℕ
-path_in (AFile path) = path
-path_in (Fault path cause) = path
+-- none of them was refused because standard output goes there, unless that was asked for
+abbrev pub AreSpared : Bool → List Found → List Given → Type 0
+AreSpared spares items past = spares ≡ false → list_any is_output (of_items items past) ≡ false
 
 -- An item's turn came: its file was opened or gave none, or it is a fault.
-abbrev pub Reaches : Found → Step → List Given → List Given → Type 0
-Reaches (Fault path cause) step past past' = (step ≡ NextMiss cause) × (past' ≡ past)
-Reaches (AFile path) step past past' =
+abbrev pub Reaches : Bool → Found → Step → List Given → List Given → Type 0
+Reaches spares (Fault path cause) step past past' = (step ≡ NextMiss cause) × (past' ≡ past)
+Reaches spares (AFile path) step past past' =
     ((step ≡ NextFile) × (past' ≡ File path [] Left ∷ past))
-    ⊎ ((cause : Cause) × (step ≡ NextMiss cause) × (past' ≡ NoFile path cause ∷ past))
+    ⊎ ((cause : Cause) × (step ≡ NextMiss cause) × (past' ≡ NoFile path cause ∷ past)
+    × MaySpare spares (NoFile path cause))
 
 abbrev pub files_past : ℕ → Bool → List Found → List Given → FilesPast
 files_past asked done items past = record { given = given_by (asked_for asked items) past; done = done }
 
 -- what the store gave before the items' files were opened stands behind these
-abbrev pub sources : ℕ → List Found → List Given → Sources
-sources asked items past = record { items = items; earlier = drop (length (file_paths (asked_for asked items))) past }
+abbrev pub sources : ℕ → List Found → Bool → List Given → Sources
+sources asked items spares past =
+    record { items = items; spares = spares; earlier = drop (length (file_paths (asked_for asked items))) past }

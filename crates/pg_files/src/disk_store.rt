@@ -1,5 +1,8 @@
 //! The system's files.
-ghost use Rattle.std.specs.Prelude.{◌≡◌, ◌∷◌};
+ghost use Rattle.std.specs.Prelude.{◌≡◌, ◌≢◌, ◌∷◌, [], length, None, OnOk, IfErr};
+ghost use Rattle.std.specs.Io.KnownBytes.{ReadConsumes};
+ghost use Rattle.pg_files.specs.Asking.{ReadGives};
+ghost use Rattle.pg_files.specs.Store.{Opens};
 
 use crate::files::ReadFault;
 use crate::past::StorePast;
@@ -7,6 +10,7 @@ use crate::store::{OpenFault, Store};
 use pg_walk::Cause;
 use std::fs::{Metadata, OpenFile};
 use std::io::{ErrorKind, Read};
+use std::marker::Model;
 use std::os::unix::fs::MetadataExt;
 use std::rt::Files;
 use std::{fs, io};
@@ -48,12 +52,27 @@ pub struct DiskStore<R: Files + Input + Drop> {
     past: StorePast,
 }
 
+impl<R: Files + Input + Drop> Model for DiskStore<R> {
+    ghost use Rattle.pg_files.specs.DiskStore.{DiskData, left_of, opened};
+
+    ghost Value = { DiskData };
+
+    ghost view = { λ s. record {
+      past = s.past;
+      reads = opened s.source;
+      left = left_of R.Reader.remaining R.File.remaining s.source;
+    } };
+}
+
 impl<R: Files + Input + Drop> DiskStore<R> {
+    ghost use Rattle.pg_files.specs.DiskStore.{Nothing};
     ghost use Rattle.pg_files.specs.Given.{NoFile};
     ghost use Rattle.pg_files.specs.declared.store.OpenFault.TheVariants.{Refused};
 
     /// No file is open. What standard output goes to is looked at now.
-    pub fn new(rt: R) -> DiskStore<R> {
+    pub fn new(rt: R) -> DiskStore<R>
+        ensures { result ≡ record { past = []; reads = Nothing; left = None } }
+    {
         let output = regular_id(fs::metadata(&rt, "/dev/stdout"));
         DiskStore {
             rt,
@@ -76,6 +95,7 @@ impl<R: Files + Input + Drop> DiskStore<R> {
     /// Notes that a path gives no file. None is open then.
     fn refuse(&mut self, path: &str, cause: Cause) -> OpenFault
         ensures past { self.new.past ≡ NoFile path.now cause ∷ self.old.past }
+        ensures closed { self.new.reads ≡ Nothing }
         ensures fault { result ≡ Refused cause }
     {
         self.source = Source::Closed;
@@ -85,9 +105,18 @@ impl<R: Files + Input + Drop> DiskStore<R> {
 }
 
 impl<R: Files + Input + Drop> Store for DiskStore<R> {
+    ghost use Rattle.pg_files.specs.DiskStore.{Nothing, opened_by};
+    ghost use Rattle.pg_files.specs.declared.store.OpenFault.TheVariants.{OutOfMemory};
+
     ghost past = { λ s. s.past };
 
-    fn open(&mut self, path: &str, spares_output: bool) -> Result<(), OpenFault> {
+    /// Which file the system opens for a path no contract can say.
+    fn open(&mut self, path: &str, spares_output: bool) -> Result<(), OpenFault>
+        ensures opens { Opens spares_output path.now self.old.past self.new.past result }
+        ensures reads { OnOk result (self.new.reads ≡ opened_by path.now) }
+        ensures closed { IfErr result (λ fault. fault ≢ OutOfMemory → self.new.reads ≡ Nothing) }
+        ensures same { IfErr result (λ fault. fault ≡ OutOfMemory → self.new ≡ self.old) }
+    {
         if path == "-" {
             if spares_output && self.is_output_read() {
                 return Err(self.refuse(path, Cause::IsOutput));
@@ -118,7 +147,13 @@ impl<R: Files + Input + Drop> Store for DiskStore<R> {
         }
     }
 
-    fn read(&mut self, into: &mut [u8]) -> Result<usize, ReadFault> {
+    fn read(&mut self, into: &mut [u8]) -> Result<usize, ReadFault>
+        ensures given { ReadGives into.new self.old.past self.new.past result }
+        ensures size { length into.new ≡ length into.old }
+        ensures reads { self.new.reads ≡ self.old.reads }
+        // What is known to be left loses exactly the bytes that were given; none come only at its end.
+        ensures consumes { ReadConsumes self.old.left self.new.left result into.new }
+    {
         let read = match &mut self.source {
             Source::Closed => {
                 self.past.end(true);

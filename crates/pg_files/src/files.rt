@@ -1,6 +1,6 @@
 //! Files that are given one after another.
 ghost use Rattle.std.specs.Prelude.{◌≡◌, ◌<◌, false, true, length, IfOk, OnErr};
-ghost use Rattle.pg_files.specs.Given.{FilesPast, Sources, is_reading, newest_name};
+ghost use Rattle.pg_files.specs.Given.{AllGiven, FilesPast, Sources, is_reading, newest_name};
 ghost use Rattle.pg_files.specs.Asking.{NextGives, ReadGives};
 
 use pg_walk::Cause;
@@ -31,8 +31,8 @@ pub trait Files {
     /// What was given.
     ghost past: { Self → FilesPast };
 
-    /// Goes on to the next file or name, also where the one before wasn't read to its end. It isn't
-    /// called behind `Done`.
+    /// Goes on to the next file or name, also where the one before wasn't read to its end. `Done` comes once all
+    /// that is listed was given. It isn't called behind `Done`.
     ///
     /// # Errors
     ///
@@ -40,6 +40,8 @@ pub trait Files {
     fn next(&mut self) -> Result<Step, AllocError>
         requires { (past self.old).done ≡ false }
         ensures ok { IfOk result (λ step. NextGives step (past self.old) (past self.new)) }
+        ensures all { IfOk result (λ step. step ≡ Step.Done
+            → AllGiven (list self.new).items (past self.new).given) }
         ensures err { OnErr result (past self.new ≡ past self.old) }
         ensures same_list { list self.new ≡ list self.old };
 

@@ -1,7 +1,8 @@
 //! The items of a walk, given as files.
-ghost use Rattle.std.specs.Prelude.{◌≡◌, ◌≤◌, [], map, length, false, IfOk, OnErr};
-ghost use Rattle.pg_walk.specs.Items.{found};
-ghost use Rattle.pg_files.specs.Listed.{asked_for, file_paths, newest_paths, path_in, shown_name, Reaches};
+ghost use Rattle.std.specs.Prelude.{◌≡◌, ◌≤◌, [], map, length, false, true, IfOk, OnErr};
+ghost use Rattle.pg_walk.specs.Items.{found, path_in};
+ghost use Rattle.pg_files.specs.Given.{shown_name};
+ghost use Rattle.pg_files.specs.Listed.{asked_for, AreOpened, AreSpared, Reaches};
 
 use crate::files::{Files, ReadFault, Step};
 use crate::store::{OpenFault, Store};
@@ -21,8 +22,9 @@ pub struct Listed<S: Store + Drop> {
     /// Where files are opened. It opened those that were asked for, and none since.
     pub store: S,
     ghost within: { asked ≤ length items.items },
-    ghost are_opened: { newest_paths (length (file_paths (asked_for asked (map found items.items)))) (S.past store)
-        ≡ file_paths (asked_for asked (map found items.items)) },
+    ghost all_asked: { done ≡ true → asked ≡ length items.items },
+    ghost are_opened: { AreOpened (asked_for asked (map found items.items)) (S.past store) },
+    ghost are_spared: { AreSpared spares_output (asked_for asked (map found items.items)) (S.past store) },
 }
 
 impl<S: Store + Drop> Drop for Listed<S> {
@@ -73,7 +75,7 @@ impl<S: Store + Drop> Files for Listed<S> {
     ghost use Rattle.pg_walk.specs.Items.{found};
     ghost use Rattle.pg_files.specs.Listed.{files_past, sources};
 
-    ghost list = { λ s. sources s.asked (map found s.items.items) (S.past s.store) };
+    ghost list = { λ s. sources s.asked (map found s.items.items) s.spares_output (S.past s.store) };
 
     ghost past = { λ s. files_past s.asked s.done (map found s.items.items) (S.past s.store) };
 
@@ -105,7 +107,8 @@ impl<S: Store + Drop> Files for Listed<S> {
 
 /// Opens an item's file. A fault is there already.
 fn reach<S: Store>(store: &mut S, item: &Item, spares_output: bool) -> Result<Step, AllocError>
-    ensures ok { IfOk result (λ step. Reaches (found item.now) step (S.past store.old) (S.past store.new)) }
+    ensures ok { IfOk result
+        (λ step. Reaches spares_output (found item.now) step (S.past store.old) (S.past store.new)) }
     ensures err { OnErr result (S.past store.new ≡ S.past store.old) }
 {
     match item {

@@ -150,7 +150,7 @@ impl Store for MemStore {
     ghost past = { λ s. s.past };
 
     fn open(&mut self, path: &str, _spares_output: bool) -> Result<(), OpenFault>
-        ensures opens { Opens path.now self.old.past self.new.past result }
+        ensures opens { Opens _spares_output path.now self.old.past self.new.past result }
         ensures found { OnOk result (is_some (file_at (files self.old) path.now) ≡ true) }
         ensures missing { OnErr result ((file_at (files self.old) path.now ≡ None)
             × (result ≡ Err (Refused CannotOpen))) }

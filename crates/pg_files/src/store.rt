@@ -30,7 +30,7 @@ pub trait Store {
     /// `Refused` where the path gives no file, with its cause, and `OutOfMemory` where a request for
     /// memory was refused. Then nothing has changed.
     fn open(&mut self, path: &str, spares_output: bool) -> Result<(), OpenFault>
-        ensures { Opens path.now (past self.old) (past self.new) result };
+        ensures { Opens spares_output path.now (past self.old) (past self.new) result };
 
     /// Whether a read of the open file may wait for someone else, as that of a pipe or a terminal.
     /// Nothing rests on the answer but when rows are written.

@@ -135,6 +135,9 @@ no_fault x e is = absurd (cc is)
 pub no_sink_fault : {T R : Type 0} → IsErrOf {T = T} (Err OutOfMemory) SinkFails → R
 no_sink_fault is = absurd (cc is)
 
+pub no_memory_fault : {T R : Type 0} → IsErrOf {T = T} (Err SinkFails) OutOfMemory → R
+no_memory_fault is = absurd (cc is)
+
 pub map_ok : {T E : Type 0} (P Q : Type 0) (r : Result T E) → (P → Q) → OnOk r P → OnOk r Q
 map_ok P Q (Ok x) f p = f p
 map_ok P Q (Err e) f p = tt

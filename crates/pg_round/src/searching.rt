@@ -104,6 +104,7 @@ fn search_beside<
     ensures cause { (past : Past) → S.stands collector.old past → past.failed ≡ false → IsSafe past past.written →
         IsErrOf result SinkFails → W.failures out.old < W.failures out.new }
     ensures calm { OnOk result (W.failures out.new ≡ W.failures out.old) }
+    ensures memory { IsErrOf result OutOfMemory → W.failures out.new ≡ W.failures out.old }
     ensures ready { D.ready reader.new from.new }
     ensures read { (r : D) → (f : F) → D.reaches r f reader.old from.old → D.reaches r f reader.new from.new }
 {
@@ -156,6 +157,7 @@ fn search_all<
     ensures cause { (past : Past) → S.stands collector.old past → past.failed ≡ false → IsSafe past past.written →
         IsErrOf result SinkFails → W.failures out.old < W.failures out.new }
     ensures calm { OnOk result (W.failures out.new ≡ W.failures out.old) }
+    ensures memory { IsErrOf result OutOfMemory → W.failures out.new ≡ W.failures out.old }
     ensures ready { D.ready reader.new from.new }
     ensures read { (r : D) → (f : F) → D.reaches r f reader.old from.old → D.reaches r f reader.new from.new }
 {
@@ -182,8 +184,8 @@ fn search_all<
 ///
 /// # Errors
 ///
-/// `OutOfMemory` where a request for memory was refused. `Sink` where a write failed, or took no byte of a text that
-/// isn't empty. What was written until then is a beginning of what the plan gives. Scratches may be lost. The reader
+/// `OutOfMemory` where a request for memory was refused; then no write failed. `Sink` where a write failed, or took no
+/// byte of a text that isn't empty. What was written until then is a beginning of what the plan gives. Scratches may be lost. The reader
 /// and what it works on are as the steps left them that it made until then.
 pub fn search_round<
     R: Threads + Wait + Clock + Sync,
@@ -220,6 +222,7 @@ pub fn search_round<
     ensures cause { (past : Past) → S.stands collector.old past → past.failed ≡ false → IsSafe past past.written →
         IsErrOf result SinkFails → W.failures out.old < W.failures out.new }
     ensures calm { OnOk result (W.failures out.new ≡ W.failures out.old) }
+    ensures memory { IsErrOf result OutOfMemory → W.failures out.new ≡ W.failures out.old }
     ensures ready { D.ready reader.new from.new }
     ensures read { (r : D) → (f : F) → D.reaches r f reader.old from.old → D.reaches r f reader.new from.new }
     ensures scratches { OnOk result ((vec_len scratches.new ≡ vec_len scratches.old)

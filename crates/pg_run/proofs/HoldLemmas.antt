@@ -3,7 +3,7 @@ use Rattle.std.proofs.Common.{◌≡◌, ℕ, ◌<◌, Bool, true, false, ◌&&�
 use Rattle.std.proofs.Common.{List, [], ◌∷◌, ◌++◌, length, refl, sym, ap, ◌∙◌, subst, arith, append_assoc}
 use Rattle.std.specs.List.{Contains, list_all}
 use Rattle.std.specs.Option.{IsSome, MatchOption}
-use Rattle.std.specs.Result.{IsErr, IsErrAnd, IsErrOf, IfErr, OnOk}
+use Rattle.std.specs.Result.{IsErr, IsErrAnd, IsErrOf, IfErr, OnErr, OnOk}
 use Rattle.std.specs.Arc.{arc_value}
 use Rattle.std.proofs.lemmas.Bool.{eq-eqb, false≢true}
 use Rattle.std.proofs.lemmas.List.{append-nil, get_or_at, length_push}
@@ -121,11 +121,11 @@ module _ {A : Type 0} {engine : Engine A} {aim : Aim} {steps : List Step} {out :
 
   -- where memory is lacking
   pub broke_now : Broke aim steps out OutOfMemory
-  broke_now = record { cause = tt; part = (h.written, h.safe, h.got) }
+  broke_now = record { cause = tt; part = (h.written, h.safe, h.got); calm = h.calm }
 
   -- or for one more step
   pub broke_step : (s : Step) → May aim steps s → Broke aim (s ∷ steps) out OutOfMemory
-  broke_step s m = record { cause = tt; part = (h.written, safe_step s m, h.got) }
+  broke_step s m = record { cause = tt; part = (h.written, safe_step s m, h.got); calm = h.calm }
 
   -- what breaks off a plan breaks off one with a step more
   pub broke_before : (s : Step) → May aim steps s → (out' : Stream) (fault : RunFault) → Broke aim steps out' fault
@@ -137,6 +137,7 @@ module _ {A : Type 0} {engine : Engine A} {aim : Aim} {steps : List Step} {out :
       begins_trans _ _ _ k.part.1 (plan_begins aim.query (format_of aim) room_of steps (s ∷ []) (m.0, shaped_of)),
       k.part.2,
     );
+    calm = k.calm;
   }
 
   -- a step that gives no result
@@ -280,6 +281,7 @@ module _ {A : Type 0} {engine : Engine A} {aim : Aim} {steps : List Step} {out :
           subst P handed_is d.1,
           more ∙ (ap (λ xs. xs ++ text) h.got ∙ append_assoc aim.out.taken h.written text),
         );
+        calm = tt;
       }
   broke_drained text out' Failed more d cause = absurd (false≢true d.0)
 
@@ -310,6 +312,10 @@ err_by (Err x) P e h p = subst P (sym h) p
 pub ok_of_err : {T E : Type 0} (r : Result T E) (P : Type 0) → IsErr r → OnOk r P
 ok_of_err (Ok x) P h = absurd (false≢true h)
 ok_of_err (Err e) P h = tt
+
+pub on_err_of : {T E : Type 0} (r : Result T E) (P : Type 0) → P → OnErr r P
+on_err_of (Ok x) P h = tt
+on_err_of (Err e) P h = h
 
 pub if_err_too : {T E : Type 0} (r : Result T E) (P Q : E → Type 0) → ((e : E) → P e → Q e) → IfErr r P → IfErr r Q
 if_err_too (Ok x) P Q f h = tt

@@ -29,7 +29,7 @@ use Rattle.pg_run.specs.Lengths.{IsTooLong}
 use Rattle.pg_run.specs.Told.{faults_of, fault_line}
 use Rattle.pg_files.specs.Asking.{read_given}
 use Rattle.pg_run.specs.Faults.{fault_of_cut}
-use Rattle.pg_run.specs.Outcome.{Stream, GoesOn, GotWholeLines, IsOfAFile}
+use Rattle.pg_run.specs.Outcome.{Stream, GoesOn, GotWholeLines, IsOfAFile, NoneFailed}
 use Rattle.pg_run.specs.Cover.{is_left, IsReading}
 use Rattle.pg_run.specs.Holding.{Aim, Holds, May, Broke, SearchCause, IsWritten, IsWrittenFirst, format_of, output_of}
 use Rattle.pg_run.specs.Reading.{InFile, HasCut, IsLost, CutCause, IsWhole, Between, Breaks, IsSafe, ReadCause}
@@ -137,6 +137,15 @@ read_cause OutOfMemory aim given out c = tt
 read_cause Sink aim given out c = c
 read_cause TooManyFiles aim given out c = absurd c
 read_cause TooLong aim given out c = absurd c
+
+-- no write failed
+pub none_failed : (fault : RunFault) (before after : Stream) → after.failures ≡ before.failures
+    → NoneFailed fault before after
+none_failed (Query why) before after e = e
+none_failed OutOfMemory before after e = e
+none_failed Sink before after e = tt
+none_failed TooManyFiles before after e = e
+none_failed TooLong before after e = e
 
 -- a search that breaks off is no file's fault
 pub none_at_fault : (fault : RunFault) (aim : Aim) (out : Stream) → SearchCause fault aim out → IsOfAFile fault → ⊥
@@ -359,6 +368,7 @@ module _ {A : Type 0} {reader : FileReader A} {engine : Engine A} {aim : Aim} {g
           reads_block h.cuts b more g s,
         )) on);
     lines = λ of. absurd (none_at_fault fault aim out' k.cause of);
+    calm = k.calm;
   }
 
   -- what was written is a beginning, whatever the reader reads on
@@ -376,6 +386,7 @@ module _ {A : Type 0} {reader : FileReader A} {engine : Engine A} {aim : Aim} {g
     cause = read_cause fault aim given' out' k.cause;
     written = begins_still reader' given' out' c k.part;
     lines = λ of. absurd (none_at_fault fault aim out' k.cause of);
+    calm = k.calm;
   }
 
   -- The next block.
@@ -448,8 +459,8 @@ module _ {A : Type 0} {reader : FileReader A} {engine : Engine A} {aim : Aim} {g
 
   -- the cutter took no more
   refused_breaks : (out' : Stream) (cut : CutFault) → reader.came ≡ Refused cut → IsWritten aim h.steps out'
-      → Breaks aim given out' (fault_of_cut cut)
-  refused_breaks out' cut e w =
+      → out'.failures ≡ aim.out.failures → Breaks aim given out' (fault_of_cut cut)
+  refused_breaks out' cut e w calm =
       let c = h.cuts in
       let L : Came → Type 0 = λ came. IsLost came aim given c.lost in
       let R : Came → Type 0 =
@@ -461,13 +472,14 @@ module _ {A : Type 0} {reader : FileReader A} {engine : Engine A} {aim : Aim} {g
         lines = λ of.
             left_lines aim h.steps given c.name (joined c.fed.taken) c.rest (room_of h.holds)
             (subst R e c.reads) out' w;
+        calm = none_failed (fault_of_cut cut) aim.out out' calm;
       }
 
   -- what was cut was searched first
   pub refused_last : (out' : Stream) (cut : CutFault) (fault answer : RunFault) → reader.came ≡ Refused cut
       → fault ≡ fault_of_cut cut → IsWrittenFirst aim h.steps out' fault answer → Breaks aim given out' answer
   refused_last out' cut fault answer e is (inl w) =
-      subst (Breaks aim given out') (sym (w.0 ∙ is)) (refused_breaks out' cut e w.1)
+      subst (Breaks aim given out') (sym (w.0 ∙ is)) (refused_breaks out' cut e w.1 w.2)
   refused_last out' cut fault answer e is (inr k) = rest_breaks reader given out' answer h.cuts k
 
 -- A file that may be read further.

@@ -26,7 +26,7 @@ use Rattle.pg_seq.specs.Plan.{opened}
 use Rattle.pg_seq.specs.Standing.{Stands}
 use Rattle.pg_seq.proofs.BeginLemmas.{shape_of}
 use Rattle.pg_seq.proofs.StandLemmas.{all_push}
-use Rattle.pg_run.specs.Outcome.{Stream}
+use Rattle.pg_run.specs.Outcome.{Stream, NoneFailed}
 use Rattle.pg_run.specs.Holding.{Aim, Holds, IsWritten, Broke, SearchCause, past_of, format_of, output_of, waiting}
 use Rattle.pg_round.specs.Results.{HasResult, HasAll, HasShortLines}
 use Rattle.pg_round.specs.Receipts.{arrivals, IsSafe, HasRound, HasFailed}
@@ -261,9 +261,11 @@ module _ {A : Type 0} {engine : Engine A} {aim : Aim} {steps : List Step} {out :
   -- or failed
   pub round_failed : (out' : Stream) (fault : RoundFault) → HasFailed past out.taken out'.taken
       → (IsErrOf {T = Unit {0}} (Err fault) RoundSink → out.failures < out'.failures)
+      → (IsErrOf {T = Unit {0}} (Err fault) NoMemory → out'.failures ≡ out.failures)
       → Broke aim steps out' (fault_of_round fault)
-  round_failed out' fault f rose = record {
+  round_failed out' fault f rose calm = record {
     cause = cause_of fault rose;
+    calm = calm_of fault calm;
     part = (
       h.written ++ f.0,
       safe_out f.0 f.1.1,
@@ -275,3 +277,8 @@ module _ {A : Type 0} {engine : Engine A} {aim : Aim} {steps : List Step} {out :
           → SearchCause (fault_of_round fault) aim out'
       cause_of NoMemory rose = tt
       cause_of RoundSink rose = let more : out.failures < out'.failures = rose refl in omega (arith, more, h.calm)
+
+      calm_of : (fault : RoundFault) → (IsErrOf {T = Unit {0}} (Err fault) NoMemory → out'.failures ≡ out.failures)
+          → NoneFailed (fault_of_round fault) aim.out out'
+      calm_of NoMemory calm = calm refl ∙ h.calm
+      calm_of RoundSink calm = tt

@@ -14,7 +14,7 @@ use Rattle.pg_walk.specs.declared.item.Cause.TheVariants.{ReadFailed}
 use Rattle.pg_rows.specs.declared.format.Format.{Format}
 use Rattle.pg_rows.specs.declared.format.Mode.{Mode}
 use Rattle.pg_rows.specs.declared.format.Mode.TheVariants.{Rows, Count, List as Names, Quiet}
-use Rattle.pg_rows.specs.Output.{Entry, Missed, Read, Running, Left, output, status, when, is_quiet, has_selected}
+use Rattle.pg_rows.specs.Output.{Entry, Missed, Read, Running, Ended, Failed, Left, output, status, when, is_quiet, has_selected}
 use Rattle.pg_rows.specs.Output.{file_rows, rows_in, line_rows, piece_rows, is_nothing}
 use Rattle.pg_rows.specs.Enough.{is_enough, file_suffices}
 use Rattle.pg_rows.specs.Sink.{TakesPart}
@@ -27,6 +27,9 @@ use Rattle.pg_run.specs.Outcome.{IsOfAFile}
 use Rattle.pg_run.specs.Holding.{Aim, Holds, Broke, IsWritten, IsWrittenFirst, format_of, output_of}
 use Rattle.pg_run.specs.Cover.{IsReading}
 use Rattle.pg_run.specs.Reading.{InFile, IsLost, Between, IsTold, Breaks, IsSafe, ReadCause, StopCause, Stops, IsDone}
+use Rattle.pg_run.specs.Reading.{AreReadRightly, StopsBehind, Went}
+use Rattle.pg_seq.specs.Settled.{AreLeftRightly}
+use Rattle.pg_walk.specs.Items.{Found}
 use Rattle.pg_run.specs.Reading.{ending_after}
 use Rattle.pg_run.specs.declared.engine.Engine.{Engine}
 use Rattle.pg_run.specs.declared.reader.FileReader.{FileReader}
@@ -38,7 +41,7 @@ use Rattle.pg_run.specs.declared.fault.RunFault.TheVariants.{Query, OutOfMemory,
 use Rattle.pg_run.proofs.CoverLemmas.{follows_begins, covers_alike, covers_same, covers_left, later_begins}
 use Rattle.pg_run.proofs.StepLemmas.{opens, misses}
 use Rattle.pg_run.proofs.HoldLemmas.{room_of, shaped_of}
-use Rattle.pg_run.proofs.ReadingLemmas.{safe_by, read_cause, none_at_fault, takes_all}
+use Rattle.pg_run.proofs.ReadingLemmas.{safe_by, read_cause, none_at_fault, none_failed, takes_all}
 
 -- What was told.
 
@@ -162,6 +165,7 @@ stops_reading aim given given' out told fault b t before =
       written = b.written;
       lines = b.lines;
       faults = part_before aim given given' told grown.0 t grown.1;
+      calm = (b.calm, none_failed fault aim.told told t.calm);
     }
 
 -- a line couldn't be told
@@ -174,16 +178,18 @@ stops_telling aim given given' out told told' silent line set safe t e part rose
   written = safe;
   lines = λ of. absurd of;
   faults = part_told aim given given' told told' silent line set t e part;
+  calm = (tt, tt);
 }
 
 -- memory is lacking
 pub stops_memory : (aim : Aim) (given : List Given) (out told : Stream) → IsSafe aim given out.taken
-    → IsTold aim given told → Stops aim given out told OutOfMemory
-stops_memory aim given out told safe t = record {
+    → out.failures ≡ aim.out.failures → IsTold aim given told → Stops aim given out told OutOfMemory
+stops_memory aim given out told safe calm t = record {
   cause = tt;
   written = safe;
   lines = λ of. absurd of;
   faults = told_all aim given told t;
+  calm = (calm, t.calm);
 }
 
 -- while no file is open, no file's lines suffice
@@ -326,12 +332,14 @@ module _ {A : Type 0} {engine : Engine A} {aim : Aim} {given : List Given} {out 
         cause = omega (arith, e, h.holds.count, h.number);
         written = unopened_safe name out'.taken (takes_all aim h.steps out' w.1);
         lines = λ of. unopened_lines out' name w.1;
+        calm = w.2;
       } in
       subst (Breaks aim (File name [] Left ∷ given) out') (sym w.0) many
   unnumbered out' name answer e (inr k) = record {
     cause = read_cause answer aim (File name [] Left ∷ given) out' k.cause;
     written = unopened_safe name out'.taken k.part;
     lines = λ of. absurd (none_at_fault answer aim out' k.cause of);
+    calm = k.calm;
   }
 
   -- between files it is enough only with -q and a selected line
@@ -395,11 +403,50 @@ told_new aim = record {
   calm = refl;
 }
 
-module _ {A : Type 0} {engine : Engine A} {aim : Aim} {past : FilesPast} {out told : Stream}
-    (d : IsDone engine aim past out told) where
+-- what was given before the newest was read as far as was needed
+left_before : (q : Search) (format : Format) (given : List Entry) → AreLeftRightly q format given
+    → AreLeftRightly q format (drop 1 given)
+left_before q format [] left = tt
+left_before q format (Missed name ∷ given) left = left
+left_before q format (Read name bytes Running ∷ given) left = left
+left_before q format (Read name bytes Ended ∷ given) left = left
+left_before q format (Read name bytes Failed ∷ given) left = left
+left_before q format (Read name bytes Left ∷ given) left = left.1
+
+entries_before : (given : List Given) → drop 1 (entries_given given) ≡ entries_given (drop 1 given)
+entries_before [] = refl
+entries_before (g ∷ given) = refl
+
+pub rightly_left : (aim : Aim) (given : List Given) → AreLeftRightly aim.query (format_of aim) (entries_given given)
+    → AreLeftRightly aim.query (format_of aim) (entries_given (drop 1 given))
+rightly_left aim given left =
+    let P : List Entry → Type 0 = λ es. AreLeftRightly aim.query (format_of aim) es in
+    subst P (entries_before given) (left_before aim.query (format_of aim) (entries_given given) left)
+
+-- files that were all read as far as was needed, and perhaps one more
+pub read_rightly : {A : Type 0} {engine : Engine A} {aim : Aim} {given : List Given} {out : Stream}
+    → (b : Between engine aim given out)
+    → (is_quiet (format_of aim).mode ≡ true → EndsAtSelected aim.query (entries_given given))
+    → (is_quiet (format_of aim).mode ≡ true → list_any (has_selected aim.query) (entries_given given) ≡ false)
+    → (given' : List Given) → Went given given' → AreReadRightly aim given'
+read_rightly {aim = aim} {given = given} b quiet none given' (inl e) =
+    let left = covers_left aim.query (format_of aim) (entries_of b.steps) (entries_given given) (room_of b.holds)
+    b.covers in
+    subst (AreReadRightly aim) (sym e) (record { left = rightly_left aim given left; quiet = quiet })
+read_rightly {aim = aim} {given = given} b quiet none given' (inr e) =
+    let P : List Given → Type 0 = λ gs. AreLeftRightly aim.query (format_of aim) (entries_given gs) in
+    record {
+      left =
+          subst P (sym e)
+          (covers_left aim.query (format_of aim) (entries_of b.steps) (entries_given given) (room_of b.holds) b.covers);
+      quiet = λ q. ends_at aim given' given e (none q);
+    }
+
+module _ {A : Type 0} {engine : Engine A} {aim : Aim} {listed : List Found} {past : FilesPast} {out told : Stream}
+    (d : IsDone engine aim listed past out told) where
   pub done_finishes : (out' : Stream) (answer : ℕ) → IsWritten aim d.rests.0.steps out'
       → answer ≡ status aim.query (format_of aim) (entries_of d.rests.0.steps) → out'.failures ≡ aim.out.failures
-      → Finishes aim.query aim.setup past aim.out out' aim.told told answer
+      → Finishes aim.query aim.setup listed past aim.out out' aim.told told answer
   done_finishes out' answer written answered calm =
       let b = d.rests.0 in
       let room = room_of b.holds in
@@ -415,9 +462,11 @@ module _ {A : Type 0} {engine : Engine A} {aim : Aim} {past : FilesPast} {out to
       }
 
   pub done_breaks : (out' : Stream) (fault : RunFault) → Broke aim d.rests.0.steps out' fault
-      → Stops aim past.given out' told fault
+      → StopsBehind aim past.given out' told fault
   done_breaks out' fault k =
       let b = d.rests.0 in
+      let left = covers_left aim.query (format_of aim) (entries_of b.steps) (entries_given past.given)
+      (room_of b.holds) b.covers in (
       record {
         cause = stop_cause fault aim past.given out' told (read_cause fault aim past.given out' k.cause);
         written = safe_by aim b.steps past.given out'.taken k.part (λ files on.
@@ -425,7 +474,10 @@ module _ {A : Type 0} {engine : Engine A} {aim : Aim} {past : FilesPast} {out to
             (room_of b.holds) (inl b.covers) on);
         lines = λ of. absurd (none_at_fault fault aim out' k.cause of);
         faults = told_all aim past.given told d.rests.1;
-      }
+        calm = (k.calm, none_failed fault aim.told told d.rests.1.calm);
+      },
+      record { left = rightly_left aim past.given left; quiet = d.quiet },
+      )
 
 -- what a run is for, where the patterns have these trees
 abbrev pub aim_for : SearchText → List Pattern → Setup → (out told : Stream) → Aim
@@ -435,15 +487,19 @@ pub breaks_off : (text : SearchText) (setup : Setup) (past : FilesPast) (out out
     (fault : RunFault)
     → (trees : List Pattern) × AreTreesOf text trees
     → ((trees : List Pattern) → AreTreesOf text trees
-    → Stops (aim_for text trees setup out told) past.given out' told' fault)
+    → StopsBehind (aim_for text trees setup out told) past.given out' told' fault)
     → BreaksOff text setup past out out' told told' fault
 breaks_off text setup past out out' told told' fault own stops =
-    let s = stops own.0 own.1 in
+    let s = (stops own.0 own.1).0 in
     record {
       cause = has_cause fault (aim_for text own.0 setup out told) past out' told' s.cause;
-      written = λ trees spelled. (stops trees spelled).written;
-      lines = λ of trees spelled. (stops trees spelled).lines of;
+      written = λ trees spelled. (stops trees spelled).0.written;
+      lines = λ of trees spelled. (stops trees spelled).0.lines of;
       faults = s.faults;
+      left = λ trees spelled. (stops trees spelled).1.left;
+      quiet = λ trees spelled. (stops trees spelled).1.quiet;
+      spelled = inl own;
+      calm = s.calm;
     }
 
 none_taken : (text before : List ℕ) → TakesPart text before before
@@ -469,20 +525,26 @@ breaks_first text setup past out told fault new cause =
           none_taken (output (search_of text trees) setup.format files) out.taken;
       lines = λ of. absurd (no_file_yet fault text setup out told cause of);
       faults = none_taken (told_of setup.silent past.given) told.taken;
+      left = λ trees spelled. subst (λ (p : FilesPast).
+          AreLeftRightly (search_of text trees) setup.format (entries_given (drop 1 p.given))) (sym new) tt;
+      quiet = λ trees spelled _. subst (λ (p : FilesPast).
+          EndsAtSelected (search_of text trees) (entries_given p.given)) (sym new) tt;
+      spelled = inr (new, refl, refl);
+      calm = (none_failed fault out out refl, none_failed fault told told refl);
     }
 
 -- a run is for the search that its text and trees make
-pub finishes_for : (r : Result ℕ RunFault) (text : SearchText) (setup : Setup) (past : FilesPast)
+pub finishes_for : (r : Result ℕ RunFault) (text : SearchText) (setup : Setup) (listed : List Found) (past : FilesPast)
     (out out' told told' : Stream) (own : (trees : List Pattern) × AreTreesOf text trees)
-    → IfOk r (Finishes (search_of text own.0) setup past out out' told told')
-    → IfOk r (λ answer. (q : Search) × IsSearchFor text q × Finishes q setup past out out' told told' answer)
-finishes_for (Ok answer) text setup past out out' told told' own f = (search_of text own.0, (refl, own.1), f)
-finishes_for (Err fault) text setup past out out' told told' own f = tt
+    → IfOk r (Finishes (search_of text own.0) setup listed past out out' told told')
+    → IfOk r (λ answer. (q : Search) × IsSearchFor text q × Finishes q setup listed past out out' told told' answer)
+finishes_for (Ok answer) text setup listed past out out' told told' own f = (search_of text own.0, (refl, own.1), f)
+finishes_for (Err fault) text setup listed past out out' told told' own f = tt
 
 pub breaks_for : (r : Result ℕ RunFault) (text : SearchText) (setup : Setup) (past : FilesPast)
     (out out' told told' : Stream) (own : (trees : List Pattern) × AreTreesOf text trees)
     → ((trees : List Pattern) → AreTreesOf text trees
-    → IfErr r (Stops (aim_for text trees setup out told) past.given out' told'))
+    → IfErr r (StopsBehind (aim_for text trees setup out told) past.given out' told'))
     → IfErr r (BreaksOff text setup past out out' told told')
 breaks_for (Ok answer) text setup past out out' told told' own stops = tt
 breaks_for (Err fault) text setup past out out' told told' own stops =

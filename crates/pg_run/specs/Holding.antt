@@ -10,7 +10,7 @@ use Rattle.pg_rows.specs.Sink.{IsBeginning, TakesPart}
 use Rattle.pg_seq.specs.Plan.{Step, MayFollow, opened, announced, entries_of}
 use Rattle.pg_seq.specs.History.{Past, Event, plan_of, taken_of, is_taken}
 use Rattle.pg_seq.specs.Standing.{Stands}
-use Rattle.pg_run.specs.Outcome.{Stream}
+use Rattle.pg_run.specs.Outcome.{Stream, NoneFailed}
 use Rattle.pg_run.specs.declared.engine.Engine.{Engine}
 use Rattle.pg_run.specs.declared.setup.Setup.{Setup}
 use Rattle.pg_run.specs.declared.fault.RunFault.{RunFault}
@@ -82,7 +82,9 @@ SearchCause TooLong aim out = ⊥
 pub record Broke (aim : Aim) (steps : List Step) (out : Stream) (fault : RunFault) : Type 0 where
   pub cause : SearchCause fault aim out
   pub part : TakesPart (output_of aim steps) aim.out.taken out.taken
+  pub calm : NoneFailed fault aim.out out
 
--- all was written and the fault is answered, or that broke off
+-- all was written, no write failed and the fault is answered; or that broke off
 abbrev pub IsWrittenFirst : Aim → List Step → Stream → (fault answer : RunFault) → Type 0
-IsWrittenFirst aim steps out fault answer = ((answer ≡ fault) × IsWritten aim steps out) ⊎ Broke aim steps out answer
+IsWrittenFirst aim steps out fault answer =
+    ((answer ≡ fault) × IsWritten aim steps out × (out.failures ≡ aim.out.failures)) ⊎ Broke aim steps out answer

@@ -1,5 +1,5 @@
 -- What a run did, by what its files gave.
-use Rattle.std.specs.Prelude.{◌≡◌, ◌⊎◌, ℕ, ◌<◌, ◌-◌, ◌^◌, true, false, List, [], ◌∷◌, ◌++◌}
+use Rattle.std.specs.Prelude.{◌≡◌, ◌⊎◌, ℕ, ◌<◌, ◌-◌, ◌^◌, true, false, List, [], ◌∷◌, ◌++◌, drop}
 use Rattle.std.specs.List.{list_any}
 use Rattle.pg_lines.specs.Search.{Search, SearchText, Pattern, AreTreesOf, HasItsTrees}
 use Rattle.pg_lines.specs.Search.{search_of, terminator, terminator_of}
@@ -11,7 +11,8 @@ use Rattle.pg_rows.specs.Output.{Entry, Missed, Read, Ending, Running, Ended, Fa
 use Rattle.pg_rows.specs.Output.{has_selected, output, status}
 use Rattle.pg_rows.specs.Sink.{TakesPart}
 use Rattle.pg_seq.specs.Settled.{AreLeftRightly}
-use Rattle.pg_files.specs.Given.{FilesPast, nothing_given, entries_given, files_given}
+use Rattle.pg_walk.specs.Items.{Found}
+use Rattle.pg_files.specs.Given.{AllGiven, FilesPast, nothing_given, entries_given, files_given}
 use Rattle.pg_run.specs.Lengths.{IsTooLong}
 use Rattle.pg_run.specs.Told.{told_of}
 use Rattle.pg_run.specs.declared.setup.Setup.{Setup}
@@ -27,10 +28,10 @@ pub record Stream : Type 0 where
 abbrev pub IsSearchFor : SearchText → Search → Type 0
 IsSearchFor text q = (q.text ≡ text) × HasItsTrees q
 
--- there is no more, or with -q a line was selected
-abbrev pub AsksToTheEnd : Search → Setup → FilesPast → Type 0
-AsksToTheEnd q setup past =
-    (past.done ≡ true)
+-- all that was listed was given, each item under its name, or with -q a line was selected
+abbrev pub AsksToTheEnd : Search → Setup → List Found → FilesPast → Type 0
+AsksToTheEnd q setup listed past =
+    ((past.done ≡ true) × AllGiven listed past.given)
     ⊎ ((is_quiet setup.format.mode ≡ true) × (list_any (has_selected q) (entries_given past.given) ≡ true))
 
 -- no name was asked for behind a file with a selected line
@@ -38,15 +39,15 @@ abbrev pub EndsAtSelected : Search → List Entry → Type 0
 EndsAtSelected q [] = Unit {0}
 EndsAtSelected q (last ∷ entries) = list_any (has_selected q) entries ≡ false
 
--- A run came to its end: its output is that of what files gave, and so are the fault lines and the status. Files were
--- asked for to the end, with -q up to one with a selected line, and each was read to its end, but where some whole
+-- A run came to its end: its output is that of what files gave, and so are the fault lines and the status. All that was
+-- listed was given, with -q up to a file with a selected line, and each file was read to its end, but where some whole
 -- lines at its front were enough.
-pub record Finishes (q : Search) (setup : Setup) (past : FilesPast) (out out' told told' : Stream) (answer : ℕ)
-    : Type 0 where
+pub record Finishes (q : Search) (setup : Setup) (listed : List Found) (past : FilesPast)
+    (out out' told told' : Stream) (answer : ℕ) : Type 0 where
   pub written : out'.taken ≡ out.taken ++ output q setup.format (entries_given past.given)
   pub faults : told'.taken ≡ told.taken ++ told_of setup.silent past.given
   pub answered : answer ≡ status q setup.format (entries_given past.given)
-  pub asked : AsksToTheEnd q setup past
+  pub asked : AsksToTheEnd q setup listed past
   pub quiet : is_quiet setup.format.mode ≡ true → EndsAtSelected q (entries_given past.given)
   pub left : AreLeftRightly q setup.format (entries_given past.given)
   pub no_failure : (out'.failures ≡ out.failures) × (told'.failures ≡ told.failures)
@@ -95,9 +96,22 @@ IsOfAFile Sink = ⊥
 IsOfAFile TooManyFiles = Unit {0}
 IsOfAFile TooLong = Unit {0}
 
+-- no write failed, unless that is the fault
+abbrev pub NoneFailed : RunFault → Stream → Stream → Type 0
+NoneFailed Sink before after = Unit {0}
+NoneFailed (Query why) before after = after.failures ≡ before.failures
+NoneFailed OutOfMemory before after = after.failures ≡ before.failures
+NoneFailed TooManyFiles before after = after.failures ≡ before.failures
+NoneFailed TooLong before after = after.failures ≡ before.failures
+
+-- what was given before the newest
+abbrev pub earlier_given : FilesPast → List Entry
+earlier_given past = entries_given (drop 1 past.given)
+
 -- A run broke off by a fault that has its cause: its output is a beginning of that of every list of files that goes on
 -- from what was given, and the fault lines are a beginning of those of what was given. Where a file is at fault,
--- nothing is lost of those before it.
+-- nothing is lost of those before it. Each file before the newest was read to its end, but where lines at its front were
+-- enough, and with -q no line of these was selected. Nothing was asked for or written where the patterns spell no trees.
 pub record BreaksOff (text : SearchText) (setup : Setup) (past : FilesPast) (out out' told told' : Stream)
     (fault : RunFault) : Type 0 where
   pub cause : HasCause fault text setup past out out' told told'
@@ -107,3 +121,10 @@ pub record BreaksOff (text : SearchText) (setup : Setup) (past : FilesPast) (out
   pub lines : IsOfAFile fault → (trees : List Pattern) → AreTreesOf text trees →
       GotWholeLines (search_of text trees) setup.format (entries_given past.given) out out'
   pub faults : TakesPart (told_of setup.silent past.given) told.taken told'.taken
+  pub left : (trees : List Pattern) → AreTreesOf text trees →
+      AreLeftRightly (search_of text trees) setup.format (earlier_given past)
+  pub quiet : (trees : List Pattern) → AreTreesOf text trees → is_quiet setup.format.mode ≡ true →
+      EndsAtSelected (search_of text trees) (entries_given past.given)
+  pub spelled : ((trees : List Pattern) × AreTreesOf text trees)
+      ⊎ ((past ≡ nothing_given) × (out' ≡ out) × (told' ≡ told))
+  pub calm : NoneFailed fault out out' × NoneFailed fault told told'

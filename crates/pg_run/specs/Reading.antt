@@ -12,7 +12,9 @@ use Rattle.pg_seq.specs.Plan.{Step, is_open, opened, last_blocks, entries_of}
 use Rattle.pg_files.specs.Given.{Given, FilesPast, Sources, entries_given, files_given}
 use Rattle.pg_run.specs.Lengths.{IsTooLong}
 use Rattle.pg_run.specs.Told.{told_of}
-use Rattle.pg_run.specs.Outcome.{Stream, GoesOn, EndsAtSelected, AsksToTheEnd, GotWholeLines, IsOfAFile}
+use Rattle.pg_run.specs.Outcome.{Stream, GoesOn, EndsAtSelected, AsksToTheEnd, GotWholeLines, IsOfAFile, NoneFailed}
+use Rattle.pg_seq.specs.Settled.{AreLeftRightly}
+use Rattle.pg_walk.specs.Items.{Found}
 use Rattle.pg_run.specs.Cover.{Covers, IsReading}
 use Rattle.pg_run.specs.Holding.{Aim, Holds, format_of}
 use Rattle.pg_run.specs.declared.engine.Engine.{Engine}
@@ -126,6 +128,7 @@ pub record Breaks (aim : Aim) (given : List Given) (out : Stream) (fault : RunFa
   pub cause : ReadCause fault aim given out
   pub written : IsSafe aim given out.taken
   pub lines : IsOfAFile fault → GotWholeLines aim.query (format_of aim) (entries_given given) aim.out out
+  pub calm : NoneFailed fault aim.out out
 
 -- why a run broke off
 abbrev pub StopCause : RunFault → Aim → List Given → (out told : Stream) → Type 0
@@ -141,6 +144,20 @@ pub record Stops (aim : Aim) (given : List Given) (out told : Stream) (fault : R
   pub written : IsSafe aim given out.taken
   pub lines : IsOfAFile fault → GotWholeLines aim.query (format_of aim) (entries_given given) aim.out out
   pub faults : TakesPart (told_of aim.setup.silent given) aim.told.taken told.taken
+  pub calm : NoneFailed fault aim.out out × NoneFailed fault aim.told told
+
+-- each file before the newest was read as far as was needed, and with -q no line of these was selected
+pub record AreReadRightly (aim : Aim) (given : List Given) : Type 0 where
+  pub left : AreLeftRightly aim.query (format_of aim) (entries_given (drop 1 given))
+  pub quiet : is_quiet (format_of aim).mode ≡ true → EndsAtSelected aim.query (entries_given given)
+
+-- it broke off, behind files that were read as far as was needed
+abbrev pub StopsBehind : Aim → List Given → (out told : Stream) → RunFault → Type 0
+StopsBehind aim given out told fault = Stops aim given out told fault × AreReadRightly aim given
+
+-- nothing more was given, or one more name or file
+abbrev pub Went : List Given → List Given → Type 0
+Went given given' = (given' ≡ given) ⊎ (drop 1 given' ≡ given)
 
 -- one more name or file was given, or there is no more
 abbrev pub Goes : Bool → FilesPast → FilesPast → Type 0
@@ -148,7 +165,8 @@ Goes true past past' = (drop 1 past'.given ≡ past.given) × (past'.done ≡ pa
 Goes false past past' = (past'.given ≡ past.given) × (past'.done ≡ true)
 
 -- all that is needed was given, searched and told
-pub record IsDone {A : Type 0} (engine : Engine A) (aim : Aim) (past : FilesPast) (out told : Stream) : Type 0 where
+pub record IsDone {A : Type 0} (engine : Engine A) (aim : Aim) (listed : List Found) (past : FilesPast)
+    (out told : Stream) : Type 0 where
   pub rests : Rests engine aim past.given out told
-  pub asked : AsksToTheEnd aim.query aim.setup past
+  pub asked : AsksToTheEnd aim.query aim.setup listed past
   pub quiet : is_quiet (format_of aim).mode ≡ true → EndsAtSelected aim.query (entries_given past.given)

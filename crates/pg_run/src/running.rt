@@ -5,11 +5,11 @@ ghost use Rattle.std.specs.List.{flat_map};
 ghost use Rattle.pg_lines.specs.Search.{Search, Pattern, AreTreesOf, HasItsTrees};
 ghost use Rattle.pg_rows.specs.Output.{Left, when};
 ghost use Rattle.pg_rows.specs.Sink.{TakesPart};
-ghost use Rattle.pg_files.specs.Given.{Given, NoFile, File, nothing_given};
+ghost use Rattle.pg_files.specs.Given.{AllGiven, Given, NoFile, File, nothing_given};
 ghost use Rattle.pg_run.specs.Told.{fault_line};
 ghost use Rattle.pg_run.specs.Outcome.{Stream, IsSearchFor, Finishes, BreaksOff, HasCause};
 ghost use Rattle.pg_run.specs.Holding.{Aim, Holds, stream};
-ghost use Rattle.pg_run.specs.Reading.{InFile, Between, Rests, Stops, Goes, IsDone};
+ghost use Rattle.pg_run.specs.Reading.{InFile, Between, Rests, Stops, StopsBehind, Goes, Went, IsDone};
 ghost use Rattle.pg_run.specs.declared.reader.Came.TheVariants.{More};
 ghost use Rattle.pg_run.specs.declared.fault.RunFault.TheVariants.{Sink as SinkFailed};
 
@@ -210,6 +210,9 @@ fn take_next<
     requires rests { (aim : Aim) × Rests engine.old aim (F.past files.old).given
         (stream (W.taken out.old) (W.failures out.old)) (stream (E.taken faults.old) (E.failures faults.old)) }
     ensures goes { IfOk result (λ more. Goes more (F.past files.old) (F.past files.new)) }
+    ensures all { IfOk result (λ more. more ≡ false
+        → AllGiven (F.list files.new).items (F.past files.new).given) }
+    ensures went { OnErr result (Went (F.past files.old).given (F.past files.new).given) }
     ensures same_list { F.list files.new ≡ F.list files.old }
     ensures ok { (aim : Aim) → Rests engine.old aim (F.past files.old).given
         (stream (W.taken out.old) (W.failures out.old)) (stream (E.taken faults.old) (E.failures faults.old)) →
@@ -256,11 +259,11 @@ fn all_files<
     ensures same_list { F.list files.new ≡ F.list files.old }
     ensures ok { (aim : Aim) → Rests engine.old aim [] (stream (W.taken out.old) (W.failures out.old))
         (stream (E.taken faults.old) (E.failures faults.old)) →
-        OnOk result (IsDone engine.new aim (F.past files.new) (stream (W.taken out.new) (W.failures out.new))
-        (stream (E.taken faults.new) (E.failures faults.new))) }
+        OnOk result (IsDone engine.new aim (F.list files.new).items (F.past files.new)
+        (stream (W.taken out.new) (W.failures out.new)) (stream (E.taken faults.new) (E.failures faults.new))) }
     ensures err { (aim : Aim) → Rests engine.old aim [] (stream (W.taken out.old) (W.failures out.old))
         (stream (E.taken faults.old) (E.failures faults.old)) →
-        IfErr result (Stops aim (F.past files.new).given (stream (W.taken out.new) (W.failures out.new))
+        IfErr result (StopsBehind aim (F.past files.new).given (stream (W.taken out.new) (W.failures out.new))
         (stream (E.taken faults.new) (E.failures faults.new))) }
 {
     for _ in rt.forever() {
@@ -296,12 +299,12 @@ fn search_files<
     ensures same_list { F.list files.new ≡ F.list files.old }
     ensures ok { (aim : Aim) → Rests engine.old aim [] (stream (W.taken out.old) (W.failures out.old))
         (stream (E.taken faults.old) (E.failures faults.old)) →
-        IfOk result (Finishes aim.query aim.setup (F.past files.new)
+        IfOk result (Finishes aim.query aim.setup (F.list files.new).items (F.past files.new)
         aim.out (stream (W.taken out.new) (W.failures out.new))
         aim.told (stream (E.taken faults.new) (E.failures faults.new))) }
     ensures err { (aim : Aim) → Rests engine.old aim [] (stream (W.taken out.old) (W.failures out.old))
         (stream (E.taken faults.old) (E.failures faults.old)) →
-        IfErr result (Stops aim (F.past files.new).given (stream (W.taken out.new) (W.failures out.new))
+        IfErr result (StopsBehind aim (F.past files.new).given (stream (W.taken out.new) (W.failures out.new))
         (stream (E.taken faults.new) (E.failures faults.new))) }
 {
     let mut reader = FileReader::new(engine.alloc);
@@ -314,7 +317,7 @@ fn search_files<
 /// asks for to `out`. `faults` gets a line for each name that gives no file and each file whose reading
 /// failed, at once; the others go on. The answer is the exit status: 0 where a line was selected, 1
 /// where none was, and 2 where a name was missed or a reading failed; but with -q 0 where a line was
-/// selected. Nothing was asked of the files yet.
+/// selected. Nothing was asked of the files yet, and at the end all that they list was given.
 ///
 /// A file isn't read further, and with -q no further one is asked for, once nothing that stands behind
 /// changes what is written. Not more of a file is held than two rounds of blocks and what one read gives.
@@ -327,9 +330,9 @@ fn search_files<
 /// `Query` where a pattern is no expression or all ask for too many states; then nothing was asked for
 /// or written. `Sink` where a write failed or took no byte, `TooLong` where a line is longer than the
 /// setup allows or a file has more than 2^62 bytes, `TooManyFiles` at file number 2^32, and
-/// `OutOfMemory` where a request for memory was refused. `out` and `faults` got beginnings of what they
-/// would have got; at `TooLong` and `TooManyFiles` `out` got all of the output of the files before the one that is at
-/// fault.
+/// `OutOfMemory` where a request for memory was refused. Where the fault isn't `Sink`, no write failed. `out` and
+/// `faults` got beginnings of what they would have got; at `TooLong` and `TooManyFiles` `out` got all of the output of
+/// the files before the one that is at fault.
 pub fn run<
     R: Threads + Wait + Clock + Sync,
     A: Allocator + Copy + Send + Sync,
@@ -349,7 +352,7 @@ pub fn run<
 ) -> Result<u8, RunFault>
     requires { F.past files.old ≡ nothing_given }
     ensures ok { IfOk result (λ status. (q : Search) × IsSearchFor text q
-        × Finishes q setup (F.past files.new)
+        × Finishes q setup (F.list files.new).items (F.past files.new)
         (record { taken = W.taken out.old; failures = W.failures out.old })
         (record { taken = W.taken out.new; failures = W.failures out.new })
         (record { taken = E.taken faults.old; failures = E.failures faults.old })

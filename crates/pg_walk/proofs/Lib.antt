@@ -5,3 +5,4 @@ pub mod Steps
 pub mod Only
 pub mod Exists
 pub mod Examples
+pub mod WithinLemmas

@@ -9,6 +9,7 @@ ghost use Rattle.pg_walk.specs.Places.{child};
 ghost use Rattle.pg_walk.specs.Walks.{Ascending, FilesOf};
 ghost use Rattle.pg_walk.specs.Descent.{EntryGives, OperandGives, InsideGives, Adds};
 ghost use Rattle.pg_walk.specs.Items.{found};
+ghost use Rattle.pg_walk.specs.Within.{AddsOf, AddsWithin, FollowOperands};
 
 use crate::item::{Cause, Item};
 use crate::tree::{FileKind, FileTree, Listing, LookFault};
@@ -82,9 +83,11 @@ fn entry<A: Allocator + Copy, T: FileTree>(
     items: &mut Vec<Item<A>, A>,
 ) -> Result<(), AllocError>
     requires { depth ≤ 257 }
-    ensures { T.tells tree.now → OnOk result (Adds
+    ensures gives { T.tells tree.now → OnOk result (Adds
         (EntryGives (T.answers tree.now) depth (string_bytes path))
         (map found items.old.items) (map found items.new.items)) }
+    ensures within { OnOk result
+        (AddsWithin (string_bytes path) (map found items.old.items) (map found items.new.items)) }
 {
     match look(tree, path.as_str(), false) {
         Ok(FileKind::Regular) => add(items, Item::File(path)),
@@ -112,9 +115,11 @@ fn inside<A: Allocator + Copy, T: FileTree>(
     items: &mut Vec<Item<A>, A>,
 ) -> Result<(), AllocError>
     requires { depth ≤ 256 }
-    ensures { T.tells tree.now → OnOk result (Adds
+    ensures gives { T.tells tree.now → OnOk result (Adds
         (InsideGives (T.answers tree.now) depth (string_bytes path))
         (map found items.old.items) (map found items.new.items)) }
+    ensures within { OnOk result
+        (AddsWithin (string_bytes path) (map found items.old.items) (map found items.new.items)) }
 {
     let listing = match list(alloc, tree, path.as_str()) {
         Ok(listing) => listing,
@@ -141,9 +146,11 @@ fn operand<A: Allocator + Copy, T: FileTree>(
     recursive: bool,
     items: &mut Vec<Item<A>, A>,
 ) -> Result<(), AllocError>
-    ensures { T.tells tree.now → OnOk result (Adds
+    ensures gives { T.tells tree.now → OnOk result (Adds
         (OperandGives (T.answers tree.now) recursive (string_bytes path))
         (map found items.old.items) (map found items.new.items)) }
+    ensures belongs { OnOk result
+        (AddsOf recursive (string_bytes path) (map found items.old.items) (map found items.new.items)) }
 {
     if path.as_str() == "-" {
         return add(items, Item::File(path));
@@ -183,9 +190,12 @@ pub fn walk<A: Allocator + Copy, B: Allocator, T: FileTree>(
     operands: &[String<B>],
     recursive: bool,
 ) -> Result<Vec<Item<A>, A>, AllocError>
-    ensures { T.tells tree.now → IfOk result (λ items.
+    ensures gives { T.tells tree.now → IfOk result (λ items.
         FilesOf (T.answers tree.now) (map string_bytes operands.now) recursive
         (map found items.items)) }
+    // Of any tree, also one that doesn't tell its answers.
+    ensures follows { IfOk result (λ items.
+        FollowOperands recursive (map string_bytes operands.now) (map found items.items)) }
 {
     let mut items = Vec::new(alloc);
     for name in operands {

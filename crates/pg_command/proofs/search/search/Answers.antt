@@ -10,6 +10,7 @@ use Rattle.pg_command.specs.declared.fault.Fault.{Fault}
 use Rattle.pg_command.proofs.ReadingLemmas.{if_err}
 use Rattle.pg_command.proofs.StatusLemmas.{finishes_small}
 use Rattle.pg_command.proofs.WorkLemmas.{work_of}
+use Rattle.std.proofs.lemmas.List.{length-map}
 use Rattle.std.proofs.lemmas.Result.{IfOk-from_err}
 use Rattle.pg_command.proofs.search.search.Goals as goal
 
@@ -36,10 +37,14 @@ returns-in_err-run-clause-fault g c =
     if_err P _ c.from_residual-in_err-run.result c.from_residual-in_err-run.ensures.1
     (λ fault h. subst P (sym h) (inr (inr (record {
       work = work_of tells tree asked past between past' contents read listed items c.in_ok-setup.ensures.walked
-          c.in_ok-setup.setup c.in_ok-setup.ensures.setup c.list_files.new.files.asked c.run.new.files.asked
-          c.run.new.files.done c.in_ok-setup.ensures.fresh.0 c.run.new.files.are_opened
+          c.in_ok-setup.ensures.follow c.in_ok-setup.setup c.in_ok-setup.ensures.setup c.list_files.new.files.asked
+          c.run.new.files.asked c.run.new.files.done c.list_files.new.files.spares_output
+          c.run.new.files.spares_output c.in_ok-setup.ensures.fresh.0 c.in_ok-setup.ensures.spares
+          (λ d. c.run.new.files.all_asked d ∙ sym (length-map c.run.new.files.items.items found))
+          c.run.new.files.are_opened c.run.new.files.are_spared
           (c.in_err-run.ensures.same_list
-          ∙ ap (λ store. sources c.list_files.new.files.asked listed (g.S.Store.past store))
+          ∙ ap (λ store. sources c.list_files.new.files.asked listed c.list_files.new.files.spares_output
+          (g.S.Store.past store))
           c.in_ok-setup.ensures.store);
       run = c.in_err-run.field-0.0;
       is = refl;
@@ -65,10 +70,14 @@ returns-clause-success g c =
     let done = c.in_ok-run.ensures.ok in
     record {
       work = work_of tells tree asked past between past' contents read listed items c.in_ok-setup.ensures.walked
-          c.in_ok-setup.setup c.in_ok-setup.ensures.setup c.list_files.new.files.asked c.run.new.files.asked
-          c.run.new.files.done c.in_ok-setup.ensures.fresh.0 c.run.new.files.are_opened
+          c.in_ok-setup.ensures.follow c.in_ok-setup.setup c.in_ok-setup.ensures.setup c.list_files.new.files.asked
+          c.run.new.files.asked c.run.new.files.done c.list_files.new.files.spares_output
+          c.run.new.files.spares_output c.in_ok-setup.ensures.fresh.0 c.in_ok-setup.ensures.spares
+          (λ d. c.run.new.files.all_asked d ∙ sym (length-map c.run.new.files.items.items found))
+          c.run.new.files.are_opened c.run.new.files.are_spared
           (c.in_ok-run.ensures.same_list
-          ∙ ap (λ store. sources c.list_files.new.files.asked listed (g.S.Store.past store))
+          ∙ ap (λ store. sources c.list_files.new.files.asked listed c.list_files.new.files.spares_output
+          (g.S.Store.past store))
           c.in_ok-setup.ensures.store);
       search = done.0;
       is_search = subst (λ t. IsSearchFor t done.0) text done.1;

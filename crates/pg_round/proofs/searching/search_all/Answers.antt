@@ -1,7 +1,7 @@
 use Rattle.std.proofs.Common.{◌≡◌, true, arith}
 use Rattle.std.proofs.lemmas.List.Elements.{All-set}
 use Rattle.std.proofs.lemmas.Result.{err_from_is_err_and}
-use Rattle.pg_round.specs.declared.searching.RoundFault.TheVariants.{Sink as SinkFails}
+use Rattle.pg_round.specs.declared.searching.RoundFault.TheVariants.{OutOfMemory, Sink as SinkFails}
 use Rattle.pg_round.specs.declared.worker.Worker.{Worker}
 use Rattle.pg_round.specs.Workers.{task_of, HasWorked}
 use Rattle.pg_round.proofs.ListLemmas.{all_at, any_first}
@@ -23,6 +23,7 @@ returns-in_err-workers g c =
       err = e.err;
       cause = λ past st n s is. e.cause past st n s (same_fault c.in_err-workers.field-0.0 SinkFails is);
       calm = tt;
+      memory = λ is. e.memory (same_fault c.in_err-workers.field-0.0 OutOfMemory is);
       ready = e.ready;
       read = e.read;
     })
@@ -41,6 +42,7 @@ returns-in_err-search g c =
           (e.ok past st n s);
       cause = λ past st n s is. no_sink_fault is;
       calm = tt;
+      memory = λ is. e.calm;
       ready = e.ready;
       read = e.read;
     })
@@ -102,3 +104,6 @@ returns-clause-spent g c =
     let P : Worker g.row.A.Denot → Type 0 = λ w. w.seat.spent ≡ true in
     let n = c.in_ok-workers.ensures.worked.0 in let q = c.requires.worked.1 in let l = c.in_ok-workers.workers.ok.0 in
     any_first P c.in_ok-workers.workers.items c.search.new.worker (omega arith) c.in_ok-search.ensures.spent
+
+pub returns-clause-memory : goal.returns-clause-memory
+returns-clause-memory g c = λ is. no_fault _ _ is

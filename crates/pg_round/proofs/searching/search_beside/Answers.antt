@@ -3,7 +3,7 @@ use Rattle.std.proofs.lemmas.Result.{IfOk-at_ok, err_from_is_err_and}
 use Rattle.pg_lines.specs.Searched.{Searched}
 use Rattle.pg_round.specs.Receipts.{HasReceived}
 use Rattle.pg_round.specs.Reading.{HasGoneOn}
-use Rattle.pg_round.proofs.ReceiptLemmas.{received_none, failed_after, took_ok, took_err, no_fault, no_sink_fault}
+use Rattle.pg_round.proofs.ReceiptLemmas.{received_none, failed_after, took_ok, took_err, no_fault, no_memory_fault, no_sink_fault}
 use Rattle.pg_round.proofs.searching.search_beside.Goals as goal
 
 pub returns-then-len-lt2 : goal.returns-then-len-lt2
@@ -17,6 +17,7 @@ returns-then-len-lt2 g c =
       err = λ past st n s. tt;
       cause = λ past st n s is. no_fault _ _ is;
       calm = refl;
+      memory = λ is. no_fault _ _ is;
       ready = c.requires.reader;
       read = λ r f h. h;
     }
@@ -39,6 +40,7 @@ returns-in_err-taken g c =
       cause = λ past st n s is. (took_err c.stream-back.result.1 _ stands last c.stream-back.new.take.taken b a f f'
           e.took c.in_err-taken.was past st n s).1;
       calm = tt;
+      memory = λ is. no_memory_fault is;
       ready = e.ready;
       read = λ r f h. e.read r f h;
     })
@@ -62,6 +64,7 @@ returns-in_err-back g c =
           c.in_ok-taken.was past st n s);
       cause = λ past st n s is. no_sink_fault is;
       calm = tt;
+      memory = λ is. IfOk-at_ok _ c.in_ok-taken.was e.calm;
       ready = e.ready;
       read = λ r f h. e.read r f h;
     })
@@ -111,3 +114,6 @@ stream-back-requires-clause-reader g c κs within = c.requires.reader
 
 pub returns-clause-calm : goal.returns-clause-calm
 returns-clause-calm g c = IfOk-at_ok _ c.in_ok-taken.was c.stream-back.ensures.calm
+
+pub returns-clause-memory : goal.returns-clause-memory
+returns-clause-memory g c = λ is. no_fault _ _ is

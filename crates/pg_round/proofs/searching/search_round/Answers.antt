@@ -1,11 +1,11 @@
-use Rattle.std.proofs.Common.{◌∙◌, List, ap, sym, subst, arith, ℕ, ◌≡◌, ◌+◌, ◌<◌, ◌≤◌}
+use Rattle.std.proofs.Common.{◌∙◌, List, ap, refl, sym, subst, arith, ℕ, ◌≡◌, ◌+◌, ◌<◌, ◌≤◌}
 use Rattle.std.specs.Arc.{arc_value}
 use Rattle.std.proofs.lemmas.Result.{err_from_is_err_and}
 use Rattle.pg_lines.specs.Searched.{Searched}
 use Rattle.pg_round.specs.Receipts.{HasDelivered}
-use Rattle.pg_round.specs.declared.searching.RoundFault.TheVariants.{Sink as SinkFails}
+use Rattle.pg_round.specs.declared.searching.RoundFault.TheVariants.{OutOfMemory, Sink as SinkFails}
 use Rattle.pg_round.proofs.ReceiptLemmas.{broken_more, failed_none, failed_after}
-use Rattle.pg_round.proofs.ReceiptLemmas.{round_done, same_fault, no_fault, no_sink_fault}
+use Rattle.pg_round.proofs.ReceiptLemmas.{round_done, same_fault, no_fault, no_memory_fault, no_sink_fault}
 use Rattle.pg_round.proofs.searching.search_round.Goals as goal
 
 -- what was lent is back
@@ -51,6 +51,7 @@ returns-in_err-board g c =
       err = λ past st n s. failed_none past (g.W.Sink.taken c.args.out.now) s;
       cause = λ past st n s is. no_sink_fault is;
       calm = tt;
+      memory = λ is. refl;
       ready = c.requires.reader;
       read = λ r f h. h;
       scratches = tt;
@@ -65,6 +66,7 @@ returns-in_err-workers g c =
       err = e.err;
       cause = λ past st n s is. e.cause past st n s (same_fault c.in_err-workers.field-0.0 SinkFails is);
       calm = tt;
+      memory = λ is. e.memory (same_fault c.in_err-workers.field-0.0 OutOfMemory is);
       ready = e.ready;
       read = e.read;
       scratches = tt;
@@ -81,6 +83,7 @@ returns-in_err-delivered g c =
           (e.ok past st n s);
       cause = λ past st n s is. no_sink_fault is;
       calm = tt;
+      memory = λ is. e.calm;
       ready = e.ready;
       read = e.read;
       scratches = tt;
@@ -103,6 +106,7 @@ returns-in_err-deliver g c =
       cause = λ past st n s is. (broken_more mid past taken b m a f f' f'' (e.ok past st n s) e.calm
           c.in_err-deliver.ensures.err n).1;
       calm = tt;
+      memory = λ is. no_memory_fault is;
       ready = e.ready;
       read = e.read;
       scratches = tt;
@@ -127,6 +131,7 @@ returns g c =
       err = λ past st n s. tt;
       cause = λ past st n s is. no_fault _ _ is;
       calm = c.in_ok-deliver.ensures.calm ∙ e.calm;
+      memory = λ is. no_fault _ _ is;
       ready = e.ready;
       read = e.read;
       scratches = (scratches_back _ _ _ _ _ _ opened lent back given, c.in_ok-delivered.ensures.fits);

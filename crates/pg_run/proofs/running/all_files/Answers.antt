@@ -2,9 +2,9 @@ use Rattle.std.proofs.Common.{◌∙◌, Bool, List, inl, inr, sym, subst}
 use Rattle.pg_files.specs.Given.{Given, entries_given}
 use Rattle.pg_run.specs.Outcome.{EndsAtSelected}
 use Rattle.pg_run.specs.Holding.{stream}
-use Rattle.pg_run.specs.Reading.{Goes, Stops}
+use Rattle.pg_run.specs.Reading.{Goes, StopsBehind}
 use Rattle.pg_run.proofs.HoldLemmas.{err_by, ok_of_err}
-use Rattle.pg_run.proofs.RunLemmas.{between_enough, between_more, ends_at}
+use Rattle.pg_run.proofs.RunLemmas.{between_enough, between_more, ends_at, read_rightly}
 use Rattle.pg_run.proofs.running.all_files.Goals as goal
 
 pub returns-then-enough-clause-same_list : goal.returns-then-enough-clause-same_list
@@ -29,9 +29,13 @@ pub returns-in_err-take_next-clause-err : goal.returns-in_err-take_next-clause-e
 returns-in_err-take_next-clause-err g c = λ aim start.
     let out' = stream (g.W.Sink.taken c.take_next.new.out) (g.W.Sink.failures c.take_next.new.out) in
     let told' = stream (g.E.Sink.taken c.take_next.new.faults) (g.E.Sink.failures c.take_next.new.faults) in
-    err_by c.from_residual.result (Stops aim (g.F.Files.past c.take_next.new.files).given out' told')
+    let r = c.loop.invariant.rests aim start in
+    let b = r.0.0 in
+    let few = sym (c.enough.ensures aim b.steps _ b.holds) ∙ c.if-enough.false in
+    err_by c.from_residual.result (StopsBehind aim (g.F.Files.past c.take_next.new.files).given out' told')
     c.in_err-take_next.field-0.0 c.from_residual.ensures.1
-    (c.in_err-take_next.ensures.err aim (c.loop.invariant.rests aim start).0)
+    (c.in_err-take_next.ensures.err aim r.0, read_rightly b r.1 (between_more b few)
+    (g.F.Files.past c.take_next.new.files).given c.in_err-take_next.ensures.went)
 
 pub returns-then-not-branch-clause-ok : goal.returns-then-not-branch-clause-ok
 returns-then-not-branch-clause-ok g c = λ aim start.
@@ -41,7 +45,7 @@ returns-then-not-branch-clause-ok g c = λ aim start.
     let Q : List Given → Type 0 = λ gs. EndsAtSelected aim.query (entries_given gs) in
     record {
       rests = c.in_ok-take_next.ensures.ok aim r.0;
-      asked = inl goes.1;
+      asked = inl (goes.1, c.in_ok-take_next.ensures.all c.if-not-branch.true);
       quiet = λ m. subst Q (sym goes.0) (r.1 m);
     }
 

@@ -33,7 +33,7 @@ returns-in_err-miss-clause-err g c = λ aim given out rests.
     let ok = c.in_ok-tell_fault.ensures in
     err_by c.from_residual-in_err-miss.result (Stops aim more out told') OutOfMemory
     c.from_residual-in_err-miss.ensures.1
-    (stops_memory aim more out told' (unmissed_safe rests.0 c.args.name.now c.args.cause)
+    (stops_memory aim more out told' (unmissed_safe rests.0 c.args.name.now c.args.cause) rests.0.holds.calm
     (told_by aim given more told told' c.args.engine.now.setup.silent (fault_line c.args.name.now c.args.cause)
     (ap (λ s. s.silent) rests.0.holds.set) rests.1 refl ok.ok ok.calm))
 

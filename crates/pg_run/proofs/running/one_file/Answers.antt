@@ -40,7 +40,7 @@ returns-in_err-open_file-clause-err g c = λ aim given name is rests.
     err_by c.from_residual.result (Stops aim (g.F.Files.past c.args.files.now).given out told) OutOfMemory
     c.from_residual.ensures.1
     (subst P (sym is)
-    (stops_memory aim more out told (unopened_safe rests.0 name out.taken (taken_part rests.0))
+    (stops_memory aim more out told (unopened_safe rests.0 name out.taken (taken_part rests.0)) rests.0.holds.calm
     (told_same aim given more told rests.1 refl)))
 
 pub read_file-requires-clause-in_file : goal.read_file-requires-clause-in_file

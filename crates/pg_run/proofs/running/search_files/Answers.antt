@@ -1,6 +1,6 @@
 use Rattle.std.proofs.lemmas.Result.{IfOk-from_err}
 use Rattle.pg_run.specs.Holding.{stream}
-use Rattle.pg_run.specs.Reading.{Stops}
+use Rattle.pg_run.specs.Reading.{StopsBehind}
 use Rattle.pg_run.proofs.HoldLemmas.{err_by}
 use Rattle.pg_run.proofs.RunLemmas.{done_breaks, done_finishes}
 use Rattle.pg_run.proofs.running.search_files.Goals as goal
@@ -22,7 +22,7 @@ pub returns-in_err-all_files-clause-err : goal.returns-in_err-all_files-clause-e
 returns-in_err-all_files-clause-err g c = λ aim start.
     let out' = stream (g.W.Sink.taken c.all_files.new.out) (g.W.Sink.failures c.all_files.new.out) in
     let told' = stream (g.E.Sink.taken c.all_files.new.faults) (g.E.Sink.failures c.all_files.new.faults) in
-    err_by c.from_residual.result (Stops aim (g.F.Files.past c.all_files.new.files).given out' told')
+    err_by c.from_residual.result (StopsBehind aim (g.F.Files.past c.all_files.new.files).given out' told')
     c.in_err-all_files.field-0.0 c.from_residual.ensures.1 (c.in_err-all_files.ensures.err aim start)
 
 pub finish-requires-clause-holds : goal.finish-requires-clause-holds
@@ -45,7 +45,7 @@ returns-in_err-status-clause-err g c = λ aim start.
     let d = c.in_ok-all_files.ensures.ok aim start in
     let given = (g.F.Files.past c.all_files.new.files).given in
     let fault = c.in_err-status.field-0.0 in
-    err_by c.from_residual-in_err-status.result (Stops aim given out' told') fault
+    err_by c.from_residual-in_err-status.result (StopsBehind aim given out' told') fault
     c.from_residual-in_err-status.ensures.1
     (done_breaks d out' fault (c.in_err-status.ensures.err aim d.rests.0.steps d.rests.0.holds))
 

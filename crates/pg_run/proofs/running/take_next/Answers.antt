@@ -1,11 +1,11 @@
-use Rattle.std.proofs.Common.{◌≡◌, ◌∙◌, List, ◌∷◌, ap, drop, subst, sym}
+use Rattle.std.proofs.Common.{◌≡◌, ◌∙◌, List, ◌∷◌, ap, drop, inl, inr, subst, sym}
 use Rattle.pg_files.specs.Given.{Given, NoFile, FilesPast, newest_name}
 use Rattle.pg_files.specs.Asking.{NextGives}
 use Rattle.pg_run.specs.Holding.{stream}
 use Rattle.pg_run.specs.Reading.{Rests, Stops}
 use Rattle.pg_files.specs.declared.files.Step.{Step}
 use Rattle.pg_run.specs.declared.fault.RunFault.TheVariants.{OutOfMemory}
-use Rattle.pg_run.proofs.HoldLemmas.{err_by, ok_of_err}
+use Rattle.pg_run.proofs.HoldLemmas.{err_by, ok_of_err, on_err_of}
 use Rattle.pg_run.proofs.RunLemmas.{between_safe, stops_memory}
 use Rattle.std.proofs.lemmas.Result.{IfOk-from_err}
 use Rattle.pg_run.proofs.running.take_next.Goals as goal
@@ -18,7 +18,7 @@ returns-in_err-next-clause-err g c = λ aim rests.
     let P : FilesPast → Type 0 = λ p. Stops aim p.given out told OutOfMemory in
     err_by c.from_residual.result (Stops aim (g.F.Files.past c.next.new.self).given out told) OutOfMemory
     c.from_residual.ensures.1
-    (subst P (sym c.in_err-next.ensures.err) (stops_memory aim given out told (between_safe rests.0) rests.1))
+    (subst P (sym c.in_err-next.ensures.err) (stops_memory aim given out told (between_safe rests.0) rests.0.holds.calm rests.1))
 
 pub returns-in_ok-miss-in-Miss-clause-ok : goal.returns-in_ok-miss-in-Miss-clause-ok
 returns-in_ok-miss-in-Miss-clause-ok g c = λ aim rests.
@@ -156,3 +156,34 @@ returns-in_err-miss-in-Miss-clause-err g c = λ aim rests.
 
 pub next-requires : goal.next-requires
 next-requires g c = c.requires.done
+
+pub returns-in_err-next-clause-all : goal.returns-in_err-next-clause-all
+returns-in_err-next-clause-all g c = IfOk-from_err c.from_residual.result _ c.from_residual.ensures.0
+
+pub returns-in_err-next-clause-went : goal.returns-in_err-next-clause-went
+returns-in_err-next-clause-went g c =
+    on_err_of c.from_residual.result _ (inl (ap (λ p. p.given) c.in_err-next.ensures.err))
+
+pub returns-in-Done-clause-all : goal.returns-in-Done-clause-all
+returns-in-Done-clause-all g c = λ _. c.in_ok-next.ensures.all c.in-Done.is
+
+pub returns-in_err-miss-in-Miss-clause-all : goal.returns-in_err-miss-in-Miss-clause-all
+returns-in_err-miss-in-Miss-clause-all g c =
+    IfOk-from_err c.from_residual-in_err-miss-in-Miss.result _ c.from_residual-in_err-miss-in-Miss.ensures.0
+
+pub returns-in_err-miss-in-Miss-clause-went : goal.returns-in_err-miss-in-Miss-clause-went
+returns-in_err-miss-in-Miss-clause-went g c =
+    let S : Step → Type 0 = λ s. NextGives s (g.F.Files.past c.args.files.now) (g.F.Files.past c.next.new.self) in
+    let e = subst S c.in-Miss.is c.in_ok-next.ensures.ok in
+    on_err_of c.from_residual-in_err-miss-in-Miss.result _ (inr (ap (λ p. drop 1 p.given) e.1))
+
+pub returns-in_err-one_file-in-File-clause-all : goal.returns-in_err-one_file-in-File-clause-all
+returns-in_err-one_file-in-File-clause-all g c =
+    IfOk-from_err c.from_residual-in_err-one_file-in-File.result _ c.from_residual-in_err-one_file-in-File.ensures.0
+
+pub returns-in_err-one_file-in-File-clause-went : goal.returns-in_err-one_file-in-File-clause-went
+returns-in_err-one_file-in-File-clause-went g c =
+    let S : Step → Type 0 = λ s. NextGives s (g.F.Files.past c.args.files.now) (g.F.Files.past c.next.new.self) in
+    let e = subst S c.in-File.is c.in_ok-next.ensures.ok in
+    on_err_of c.from_residual-in_err-one_file-in-File.result _
+    (inr (c.in_err-one_file-in-File.ensures.before ∙ ap (λ p. drop 1 p.given) e.1))

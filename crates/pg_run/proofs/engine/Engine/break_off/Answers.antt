@@ -5,7 +5,9 @@ pub flush-requires-clause-holds : goal.flush-requires-clause-holds
 flush-requires-clause-holds g c κs within = c.requires.holds
 
 pub returns-in-Ok : goal.returns-in-Ok
-returns-in-Ok g c = λ aim steps h. inl (refl, (c.in-Ok.ensures.ok aim steps h).1)
+returns-in-Ok g c = λ aim steps h.
+    let ok = c.in-Ok.ensures.ok aim steps h in
+    inl (refl, ok.1, ok.0.calm)
 
 pub returns-in-Err : goal.returns-in-Err
 returns-in-Err g c = λ aim steps h. inr (c.in-Err.ensures.err aim steps h)

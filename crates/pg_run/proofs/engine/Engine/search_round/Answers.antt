@@ -34,7 +34,7 @@ returns-in_err-search_round-clause-err g c = λ aim steps h.
     err_by c.from_residual-in_err-search_round.result (Broke aim steps out') (fault_of_round fault)
     c.from_residual-in_err-search_round.ensures.1
     (round_failed h out' fault (c.in_err-search_round.ensures.err past h.stands refl (safe_now h))
-    (c.in_err-search_round.ensures.cause past h.stands refl (safe_now h)))
+    (c.in_err-search_round.ensures.cause past h.stands refl (safe_now h)) c.in_err-search_round.ensures.memory)
 
 pub returns-clause-ok : goal.returns-clause-ok
 returns-clause-ok g c = λ aim steps h.

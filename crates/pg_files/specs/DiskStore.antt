@@ -1,0 +1,33 @@
+-- What a store of the system's files shows.
+use Rattle.std.specs.Prelude.{ℕ, nat_eq, List, Option, None, codes, if◌then◌else◌}
+use lib.Pointwise.{pointwise}
+use Rattle.pg_files.specs.Given.{Given}
+use Rattle.pg_files.specs.declared.disk_store.Source.{Source}
+use Rattle.pg_files.specs.declared.disk_store.Source.TheVariants.{Closed, Standard, Open}
+
+-- what is read: nothing, standard input, or a file
+pub data Opened : Type 0 where
+  Nothing : Opened
+  StandardInput : Opened
+  AFile : Opened
+
+-- what the files gave, what is open, and the bytes that it is known to have left
+pub record DiskData : Type 0 where
+  pub past : List Given
+  pub reads : Opened
+  pub left : Option (List ℕ)
+
+-- a path opens a file, and `-` standard input
+abbrev pub opened_by : List ℕ → Opened
+opened_by path = if pointwise nat_eq path (codes "-") then StandardInput else AFile
+
+abbrev pub opened : {I F : Type 0} → Source I F → Opened
+opened Closed = Nothing
+opened (Standard input) = StandardInput
+opened (Open file) = AFile
+
+-- what a source has left, by what its readers have left
+abbrev pub left_of : {I F : Type 0} → (I → Option (List ℕ)) → (F → Option (List ℕ)) → Source I F → Option (List ℕ)
+left_of of_input of_file Closed = None
+left_of of_input of_file (Standard input) = of_input input
+left_of of_input of_file (Open file) = of_file file
