@@ -1,4 +1,4 @@
-mod ReadingLemmas
-mod WorkLemmas
-mod StatusLemmas
+pub mod ReadingLemmas
+pub mod WorkLemmas
+pub mod StatusLemmas
 pub mod ToldLemmas

@@ -4,6 +4,7 @@ use Rattle.std.specs.List.{list_any}
 use Rattle.pg_lines.specs.Search.{Search}
 use Rattle.pg_rows.specs.declared.format.Format.{Format}
 use Rattle.pg_rows.specs.Output.{Entry, status, is_quiet, has_selected, is_bad}
+use Rattle.pg_walk.specs.Items.{Found}
 use Rattle.pg_files.specs.Given.{FilesPast, entries_given}
 use Rattle.pg_run.specs.Outcome.{Finishes, Stream}
 use Rattle.pg_run.specs.declared.setup.Setup.{Setup}
@@ -19,7 +20,7 @@ status_small q format entries =
     chosen (is_quiet format.mode && list_any (has_selected q) entries) (list_any is_bad entries)
     (list_any (has_selected q) entries)
 
-pub finishes_small : {q : Search} {setup : Setup} {past : FilesPast} {out out' told told' : Stream} {answer : ℕ}
-    → Finishes q setup past out out' told told' answer → answer ≤ 2
-finishes_small {q} {setup} {past} done =
+pub finishes_small : {q : Search} {setup : Setup} {listed : List Found} {past : FilesPast}
+    {out out' told told' : Stream} {answer : ℕ} → Finishes q setup listed past out out' told told' answer → answer ≤ 2
+finishes_small {q} {setup} {listed} {past} done =
     subst (λ n. n ≤ 2) (sym done.answered) (status_small q setup.format (entries_given past.given))

@@ -1,5 +1,5 @@
 //! The faults of the program.
-ghost use Rattle.std.specs.Prelude.{◌≡◌, ◌<◌, ◌++◌, codes, OnErr, OnOk};
+ghost use Rattle.std.specs.Prelude.{◌≡◌, ◌++◌, codes};
 ghost use Rattle.std.specs.List.{flat_map};
 ghost use Rattle.pg_run.specs.Told.{fault_line as file_line};
 ghost use Rattle.pg_command.specs.Causes.{fault_of_query, fault_of_run};
@@ -8,7 +8,7 @@ ghost use Rattle.pg_command.specs.declared.fault.Fault.TheVariants.{OutOfMemory}
 
 use itoa::Buffer;
 use pg_lines::{ListFault, QueryFault};
-use pg_rows::{Sink, WriteError};
+use pg_rows::Sink;
 use pg_run::{RunFault, tell};
 use pg_walk::Cause;
 use pg_words::UsageFault;
@@ -158,17 +158,26 @@ fn tell_pattern<W: Sink>(alloc: Global, fault: ListFault, err: &mut W)
         (record { taken = W.taken err.new; failures = W.failures err.new }) }
 {
     let (mut number, mut offset) = (Buffer::new(), Buffer::new());
-    tell_parts(
-        alloc,
-        &[
-            b"pargrep: pattern ",
-            number.format(fault.pattern).as_bytes(),
-            b": ",
-            fault.fault.kind.text().as_bytes(),
-            b" at ",
-            offset.format(fault.fault.at).as_bytes(),
-            b"\n",
-        ],
-        err,
+    let parts = pattern_parts(
+        number.format(fault.pattern),
+        fault.fault.kind.text(),
+        offset.format(fault.fault.at),
     );
+    tell_parts(alloc, &parts, err);
+}
+
+/// The parts of the line of a pattern's fault, in their order.
+fn pattern_parts<'a>(number: &'a str, text: &'a str, offset: &'a str) -> [&'a [u8]; 7]
+    ensures { flat_map (λ part. part.now) result ≡ codes "pargrep: pattern " ++ number.now ++ codes ": " ++ text.now
+        ++ codes " at " ++ offset.now ++ codes "\n" }
+{
+    [
+        b"pargrep: pattern ",
+        number.as_bytes(),
+        b": ",
+        text.as_bytes(),
+        b" at ",
+        offset.as_bytes(),
+        b"\n",
+    ]
 }

@@ -467,16 +467,16 @@ module _ {A : Type 0} {engine : Engine A} {aim : Aim} {listed : List Found} {pas
       let b = d.rests.0 in
       let left = covers_left aim.query (format_of aim) (entries_of b.steps) (entries_given past.given)
       (room_of b.holds) b.covers in (
-      record {
-        cause = stop_cause fault aim past.given out' told (read_cause fault aim past.given out' k.cause);
-        written = safe_by aim b.steps past.given out'.taken k.part (λ files on.
-            follows_begins aim.query (format_of aim) (entries_of b.steps) (entries_given past.given) files
-            (room_of b.holds) (inl b.covers) on);
-        lines = λ of. absurd (none_at_fault fault aim out' k.cause of);
-        faults = told_all aim past.given told d.rests.1;
-        calm = (k.calm, none_failed fault aim.told told d.rests.1.calm);
-      },
-      record { left = rightly_left aim past.given left; quiet = d.quiet },
+        record {
+          cause = stop_cause fault aim past.given out' told (read_cause fault aim past.given out' k.cause);
+          written = safe_by aim b.steps past.given out'.taken k.part (λ files on.
+              follows_begins aim.query (format_of aim) (entries_of b.steps) (entries_given past.given) files
+              (room_of b.holds) (inl b.covers) on);
+          lines = λ of. absurd (none_at_fault fault aim out' k.cause of);
+          faults = told_all aim past.given told d.rests.1;
+          calm = (k.calm, none_failed fault aim.told told d.rests.1.calm);
+        },
+        record { left = rightly_left aim past.given left; quiet = d.quiet },
       )
 
 -- what a run is for, where the patterns have these trees

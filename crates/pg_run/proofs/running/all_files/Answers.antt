@@ -33,9 +33,11 @@ returns-in_err-take_next-clause-err g c = λ aim start.
     let b = r.0.0 in
     let few = sym (c.enough.ensures aim b.steps _ b.holds) ∙ c.if-enough.false in
     err_by c.from_residual.result (StopsBehind aim (g.F.Files.past c.take_next.new.files).given out' told')
-    c.in_err-take_next.field-0.0 c.from_residual.ensures.1
-    (c.in_err-take_next.ensures.err aim r.0, read_rightly b r.1 (between_more b few)
-    (g.F.Files.past c.take_next.new.files).given c.in_err-take_next.ensures.went)
+    c.in_err-take_next.field-0.0 c.from_residual.ensures.1 (
+      c.in_err-take_next.ensures.err aim r.0,
+      read_rightly b r.1 (between_more b few)
+          (g.F.Files.past c.take_next.new.files).given c.in_err-take_next.ensures.went,
+    )
 
 pub returns-then-not-branch-clause-ok : goal.returns-then-not-branch-clause-ok
 returns-then-not-branch-clause-ok g c = λ aim start.
