@@ -1,16 +1,16 @@
 -- The states of one position.
-use Rattle.std.proofs.Common.{◌≡◌, ◌≢◌, ℕ, zero, suc, ◌+◌, ◌<◌, ◌≤◌, ◌⊎◌, inl, inr, List, [], length, take, get_or}
+use Rattle.std.proofs.Common.{◌≡◌, ◌≢◌, ℕ, zero, suc, ◌+◌, ◌<◌, ◌≤◌, ◌⊎◌, inl, inr, List, length, take, get_or}
 use Rattle.std.proofs.Common.{Option, Some, None, true, false, true≢false, refl, sym, ap, ◌∙◌, subst, arith}
 use Rattle.std.specs.Prelude.{slice_get, slice_index}
 use Rattle.std.proofs.lemmas.Bool.{cases_eq, cases_lt}
 use Rattle.std.proofs.lemmas.List.{get_or-take, length-take-le}
 use Rattle.std.proofs.lemmas.Option.{slice_get-get_or}
-use Rattle.pg_match.proofs.StateSetLemmas.{listed_in, list_long}
+use Rattle.pg_match.proofs.StateSetLemmas.{listed_in, list_long, few}
 use Rattle.pg_match.specs.Automata.{Edge}
 use Rattle.pg_bytes.specs.ByteSets.{bytes}
 use Rattle.pg_bytes.specs.declared.byte_set.ByteSet.{ByteSet}
 use Rattle.pg_match.specs.StateSets.{Members, mark, listed, IsGood, IsEmpty, Inserted, Counted}
-use Rattle.pg_match.specs.Closures.{Leads, ClosedAt, IsClosed, IsOrdered, AllBelow, Path, AreSeeds, Sown, Followed}
+use Rattle.pg_match.specs.Closures.{Leads, ClosedAt, IsClosed, IsOrdered, AllBelow, Path, AreSeeds, Followed}
 use Rattle.pg_match.specs.Closures.{Reached, Reaching, Stepped, Stepping}
 use Rattle.pg_match.specs.declared.state.State.{State}
 use Rattle.pg_match.specs.declared.state.State.TheVariants.{Fail, Accept, Jump, Read, AtBegin, AtEnd, Split}
@@ -270,24 +270,22 @@ module _ (t : List State) (l : List ℕ) (i : ℕ) where
     counted = r.counted;
   }
 
--- Inside a line one place is like another.
-inside_edge : (o : Option State) (l m : List ℕ) (i j q : ℕ) → i ≢ 0 → i ≢ length l → j ≢ 0 → j ≢ length m
-    → Edge o l i q i → Edge o m j q j
-inside_edge None l m i j q a b c d e = absurd e
-inside_edge (Some Fail) l m i j q a b c d e = absurd e
-inside_edge (Some Accept) l m i j q a b c d e = absurd e
-inside_edge (Some (Jump x)) l m i j q a b c d e = (e.0, refl)
-inside_edge (Some (Read s x)) l m i j q a b c d e = absurd (omega (arith, e.4))
-inside_edge (Some (AtBegin x)) l m i j q a b c d e = absurd (a e.0)
-inside_edge (Some (AtEnd x)) l m i j q a b c d e = absurd (b e.0)
-inside_edge (Some (Split x y)) l m i j q a b c d e = (e.0, refl)
+-- What holds inside one line without a byte holds at each place.
+inside_edge : (o : Option State) (l m : List ℕ) (i j q : ℕ) → i ≢ 0 → i ≢ length l → Edge o l i q i → Edge o m j q j
+inside_edge None l m i j q a b e = absurd e
+inside_edge (Some Fail) l m i j q a b e = absurd e
+inside_edge (Some Accept) l m i j q a b e = absurd e
+inside_edge (Some (Jump x)) l m i j q a b e = (e.0, refl)
+inside_edge (Some (Read s x)) l m i j q a b e = absurd (omega (arith, e.4))
+inside_edge (Some (AtBegin x)) l m i j q a b e = absurd (a e.0)
+inside_edge (Some (AtEnd x)) l m i j q a b e = absurd (b e.0)
+inside_edge (Some (Split x y)) l m i j q a b e = (e.0, refl)
 
 module _ (t : List State) where
-  inside_path : (l m : List ℕ) (i j n x q : ℕ) → i ≢ 0 → i ≢ length l → j ≢ 0 → j ≢ length m → Path t l i n x q
-      → Path t m j n x q
-  inside_path l m i j zero x q a b c d p = p
-  inside_path l m i j (suc n) x q a b c d p =
-      (p.0, inside_path l m i j n x p.0 a b c d p.1, inside_edge (slice_get t p.0) l m i j q a b c d p.2)
+  inside_path : (l m : List ℕ) (i j n x q : ℕ) → i ≢ 0 → i ≢ length l → Path t l i n x q → Path t m j n x q
+  inside_path l m i j zero x q a b p = p
+  inside_path l m i j (suc n) x q a b p =
+      (p.0, inside_path l m i j n x p.0 a b p.1, inside_edge (slice_get t p.0) l m i j q a b p.2)
 
   path_leads : (l : List ℕ) (i n x q : ℕ) → Path t l i n x q → Leads t l x i q i
   path_leads l i zero x q p = subst (λ w. Leads t l x i w i) p (λ k j run. (k, run))
@@ -304,83 +302,22 @@ module _ (t : List State) where
       let at : (k : ℕ) → k < u.len → slice_index (take u.len u.order) k ≡ listed u k =
       λ k lt. get_or-take u.len u.order k 0 lt in
       record {
+        few = omega (arith, len, few u r.good);
         inside = λ k lt. let in' = listed_in u k r.good (omega arith) in let e = at k (omega arith) in omega arith;
         first = let f = r.good.found x r.here in (f.0, omega (arith, f.1, len), at f.0 f.1 ∙ f.2);
         closed = λ m j c d k q lt e.
             let k_in : k < u.len = omega arith in
-            let edge = inside_edge (slice_get t (listed u k)) m l j i q c d a b
+            let edge = inside_edge (slice_get t (listed u k)) m l j i q c d
             (subst (λ w. Edge (slice_get t w) m j q j) (at k k_in) e) in
             let here = r.closed (listed u k) (r.good.is_in k k_in) q edge in
             let f = r.good.found q here.0 in
             (f.0, omega (arith, f.1, len), at f.0 f.1 ∙ f.2);
-        leads = λ m j c d k lt.
+        leads = λ m j k lt.
             let k_in : k < u.len = omega arith in
             let p = paths (listed u k) (empty.1 (listed u k)) (r.good.is_in k k_in) in
             subst (λ w. Leads t m x j w j) (sym (at k k_in))
-            (path_leads m j p.0 x (listed u k) (inside_path l m i j p.0 x (listed u k) a b c d p.1));
+            (path_leads m j p.0 x (listed u k) (inside_path l m i j p.0 x (listed u k) a b p.1));
       }
-
-  pub sown_first : (seeds : List ℕ) (s : Members) (start : ℕ) → IsGood s → IsOrdered s → AllBelow s start
-      → Sown seeds s s start 0
-  sown_first seeds s start good ordered below = record {
-    good = good;
-    size = refl;
-    ordered = ordered;
-    below = below;
-    kept = λ q h. refl;
-    fresh = λ q z h. absurd (omega arith);
-    here = λ j lt. absurd (omega arith);
-    counted = refl;
-  }
-
-  pub sown_next : (seeds : List ℕ) (s u v : Members) (start k : ℕ) → Sown seeds s u start k
-      → Inserted u v (slice_index seeds k) start → Counted u v
-      → Sown seeds s v start (k + 1)
-  sown_next seeds s u v start k r ins counted =
-      let below' = below_more t [] 0 u v start ins.kept (λ q z h. (ins.fresh q z h).1) r.below in
-      record {
-        good = ins.good;
-        size = ins.size ∙ r.size;
-        ordered = ordered_more t [] 0 u v start r.good r.ordered below' ins.list ins.kept
-            (λ j ge lt. let n = ins.last j ge lt in ap (mark v) n.1 ∙ n.2);
-        below = below';
-        kept = λ q h. let a = r.kept q h in ins.kept q (omega arith) ∙ a;
-        fresh = λ q z h. elim (cases_lt 0 (mark u q)) [
-          | inl old ↦ let f = r.fresh q z old in (ins.kept q old ∙ f.0, (f.1.0, omega (arith, f.1.1), f.1.2))
-          | inr none ↦ let f = ins.fresh q (omega arith) h in (f.1, (k, omega arith, sym f.0))
-        ];
-        here = λ j lt. elim (cases_eq j k) [
-          | inl same ↦ subst (λ w. 0 < mark v (slice_index seeds w)) (sym same) ins.here
-          | inr other ↦ let h = r.here j (omega arith) in let e = ins.kept (slice_index seeds j) h in omega arith
-        ];
-        counted = omega (arith, r.counted, counted);
-      }
-
-  -- all seeds make what a walk from the start makes
-  pub sown_reached : (l : List ℕ) (i : ℕ) (seeds : List ℕ) (s u : Members) (x start : ℕ) → AreSeeds t x seeds → i ≢ 0
-      → i ≢ length l
-      → IsClosed t l i s → Sown seeds s u start (length seeds) → Reached t l i s u x start
-  sown_reached l i seeds s u x start are a b closed r = record {
-    good = r.good;
-    size = r.size;
-    closed = λ q h. elim (cases_lt 0 (mark s q)) [
-      | inl old ↦ closed_kept t l i s u r.kept q old (closed q old)
-      | inr none ↦
-          let f = r.fresh q (omega arith) h in
-          λ p e.
-          let c = are.closed l i a b f.1.0 p f.1.1 (subst (λ w. Edge (slice_get t w) l i p i) (sym f.1.2) e) in
-          let le = r.below p in
-          (subst (λ w. 0 < mark u w) c.2 (r.here c.0 c.1), omega (arith, f.0))
-    ];
-    ordered = r.ordered;
-    below = r.below;
-    kept = r.kept;
-    fresh = λ q z h.
-        let f = r.fresh q z h in
-        (f.0, subst (λ w. Leads t l x i w i) f.1.2 (are.leads l i a b f.1.0 f.1.1));
-    here = subst (λ w. 0 < mark u w) are.first.2 (r.here are.first.0 are.first.1);
-    counted = r.counted;
-  }
 
 -- what the code reads of a state
 pub stands : (t : List State) (q : ℕ) (st : State) → q < length t → get_or t q Fail ≡ st → slice_get t q ≡ Some st

@@ -6,6 +6,7 @@ pub mod ClosureLemmas
 pub mod SearchLemmas
 pub mod StepLemmas
 pub mod StandsLemmas
+pub mod StartLemmas
 pub mod MemoryLemmas
 pub mod SkimLemmas
 pub mod BuildLemmas

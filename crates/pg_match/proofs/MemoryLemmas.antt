@@ -2,7 +2,8 @@
 use Rattle.std.proofs.Common.{◌≡◌, ◌≢◌, ℕ, zero, suc, ◌+◌, ◌-◌, ◌*◌, ◌/◌, ◌^◌, ◌<◌, ◌≤◌, ◌⊎◌, ◌↔◌, inl, inr, List}
 use Rattle.std.proofs.Common.{length, get_or, set, replicate, Bool, true, false, true≢false, Option, Some, None, refl}
 use Rattle.std.proofs.Common.{sym, ap, ◌∙◌, subst, arith, IsTrue, length-set, get_or-set_same, get_or-set_other}
-use Rattle.std.specs.Prelude.{IfSome, slice_index, slice_get}
+use Rattle.std.specs.Prelude.{IfSome, IfOk, slice_index, slice_get, Result, Ok, Err}
+use Rattle.std.specs.Result.{result_ok}
 use Rattle.std.proofs.lemmas.List.{get_or_read}
 use Rattle.std.proofs.lemmas.Option.{slice_get-get_or}
 use Rattle.std.proofs.lemmas.Bool.{cases_eq, cases_lt}
@@ -13,6 +14,8 @@ use Rattle.pg_match.specs.Steps.{Has, Goes, Starts, HitBefore, AnswersEnd, Reads
 use Rattle.pg_match.specs.Stands.{Stands, HasRun}
 use Rattle.pg_match.specs.Memories.{Remembered, cut, ended, fresh_at, In, Same, IsShape, Told, IsMemoryOf, IsHopeless, IsBlank}
 use Rattle.pg_match.specs.Memories.{Keeps, Grown, SameSets, Marked, MarkedEnd, IsAtRow, StandsAt, Learned, Finishes}
+use Rattle.pg_match.specs.Views.{remembered, Remembers}
+use Rattle.pg_match.specs.declared.memory.Memory.{Memory}
 use Rattle.pg_match.specs.declared.recall.Next.TheVariants.{Row, Lost}
 use Rattle.pg_match.proofs.StateSetLemmas.{listed_in}
 use Rattle.pg_match.proofs.StandsLemmas.{stands_next, run_before, run_at_end, no_run}
@@ -215,7 +218,7 @@ starts_same m S U s g = record {
   still = λ q h r edge. (s r).0 (g.still q ((s q).1 h) r edge);
 }
 
-stands_at : (m : Nfa) (l : List ℕ) (from p : ℕ) (S U : ℕ → Type 0) → Same S U → Stands m l from p S → Stands m l from p U
+pub stands_at : (m : Nfa) (l : List ℕ) (from p : ℕ) (S U : ℕ → Type 0) → Same S U → Stands m l from p S → Stands m l from p U
 stands_at m l from p S U same s = record {
   sound = λ q h. s.sound q ((same q).1 h);
   complete = λ v n j ge le o run past.
@@ -683,3 +686,9 @@ pub finishes_if : (m : Nfa) (mem : Remembered) (b : ℕ) (S : ℕ → Type 0) (k
 finishes_if m mem b S k None is mem_of missed goes e = tt
 finishes_if m mem b S k (Some answer) is mem_of missed goes e =
     finishes_end m b S (In mem k) answer is missed goes.0 (mem_of.told_end k answer (sym e)).1
+
+-- what a new table remembers, or none
+pub new_remembers : {A E : Type 0} (r : Result (Memory A) E) (n : ℕ) (m : Nfa)
+    → IfOk r (λ t. IsBlank n (remembered t)) → n ≡ length m.states → Remembers (result_ok r) m
+new_remembers (Ok t) n m blank same = blank_memory m (remembered t) (subst (λ k. IsBlank k (remembered t)) same blank)
+new_remembers (Err e) n m blank same = tt

@@ -1,19 +1,20 @@
 -- From one position to the next.
 use Rattle.std.proofs.Common.{◌≡◌, ℕ, zero, suc, ◌+◌, ◌<◌, ◌≤◌, ◌⊎◌, inl, inr, List, length, Option}
-use Rattle.std.proofs.Common.{Some, None, Bool, true, false, true≢false, cond, ◌^◌, refl, sym}
+use Rattle.std.proofs.Common.{Some, None, Bool, true, false, true≢false, cond, ◌^◌, refl, sym, ap}
 use Rattle.std.proofs.Common.{◌∙◌, subst, arith}
 use Rattle.std.specs.Prelude.{slice_get, IsTrue, MatchOption, is_none, is_some, nat_lt, nat_le}
 use Rattle.std.proofs.lemmas.Bool.Decides.{not_from_Decides}
 use Rattle.std.proofs.lemmas.Bool.{cases_eq, cases_lt, leb-true, leb-false, ltb-true, ltb-false}
 use Rattle.pg_match.specs.Automata.{Edge, Runs, Nfa, IsRunnable}
 use Rattle.pg_match.specs.StateSets.{Members, mark, IsGood, IsEmpty, Buffers, HaveRoom}
-use Rattle.pg_match.specs.Closures.{IsClosed, Stepped}
+use Rattle.pg_match.specs.Closures.{IsClosed, Stepped, Reached}
 use Rattle.pg_match.specs.Bounds.{MayBegin, MayEnd, may_end}
 use Rattle.pg_match.proofs.TestLemmas.{end_decided}
 use Rattle.pg_match.specs.Hits.{Hit, HasNoNext, IsNext}
 use Rattle.pg_syntax.specs.Patterns.{Pattern}
 use Rattle.pg_match.specs.Machines.{Agrees}
-use Rattle.pg_match.specs.Searches.{Early, RunsFrom, IsBest, Alive, Seeded, winner, judged, limit_of, ending}
+use Rattle.pg_match.specs.Searches.{Early, RunsFrom, IsBest, Alive, Seeded, Advanced, start_bound, winner}
+use Rattle.pg_match.specs.Searches.{judged, limit_of, ending}
 use Rattle.pg_match.specs.declared.state.State.{State}
 use Rattle.pg_match.specs.declared.state.State.TheVariants.{Fail, Accept, Jump, Read, AtBegin, AtEnd, Split}
 
@@ -27,6 +28,21 @@ edge_moves (Some (Read s x)) l i r k e = inr e.4
 edge_moves (Some (AtBegin x)) l i r k e = inl e.2
 edge_moves (Some (AtEnd x)) l i r k e = inl e.2
 edge_moves (Some (Split x y)) l i r k e = inl e.1
+
+pub start_few : (p : ℕ) → start_bound p ≤ p + 1
+start_few zero = omega arith
+start_few (suc p) = omega arith
+
+pub start_later : (p : ℕ) → 0 < p → start_bound p ≡ p
+start_later zero h = absurd (omega arith)
+start_later (suc p) h = refl
+
+pub start_next : (p : ℕ) → start_bound (p + 1) ≡ p + 1
+start_next p = start_later (p + 1) (omega arith)
+
+pub start_all : (p : ℕ) → p ≤ start_bound p
+start_all zero = omega arith
+start_all (suc p) = omega arith
 
 module _ (t : List State) (l : List ℕ) where
   pub runs_forward : (n q i j : ℕ) → Runs t l n q i j → i ≤ j
@@ -80,10 +96,25 @@ module _ (t : List State) (l : List ℕ) where
       complete = λ s n j ge lt. absurd (omega arith);
     }
 
-    pub alive_seeded : (p : ℕ) (now new : Members) (wanted : Bool) (best : Option (ℕ × ℕ))
-        → Alive t l x B from p p now best
+    -- the set of a line's first place, with the start there
+    pub alive_begun : (none now : Members) (best : Option (ℕ × ℕ)) → from ≡ 0 → B 0 → IsEmpty none
+        → length none.marks ≡ length t → Reached t l 0 none now x 1 → Alive t l x B from 1 0 now best
+    alive_begun none now best is_zero may empty size r = record {
+      good = r.good;
+      size = r.size ∙ size;
+      closed = r.closed;
+      ordered = r.ordered;
+      sound = λ q h. let f = r.fresh q (empty.1 q) h in (0, f.0, omega arith, omega arith, may, f.1);
+      complete = λ s n j ge lt begins early run past.
+          let first : s ≡ 0 = omega arith in
+          (x, n, r.here, omega (arith, r.below x), subst (λ v. Runs t l n x v j) first run);
+    }
+
+    -- what starts at p lead to by a byte was added behind it
+    alive_seeded : (p : ℕ) (now new : Members) (wanted : Bool) (best : Option (ℕ × ℕ))
+        → Alive t l x B from p (p + 1) now best
         → Seeded t l x B p wanted now new → from ≤ p → (wanted ≡ false → Early best p → ⊥)
-        → Alive t l x B from (p + 1) p new best
+        → Alive t l x B from (p + 1) (p + 1) new best
     alive_seeded p now new wanted best a s p_in late = record {
       good = s.good;
       size = s.size ∙ a.size;
@@ -95,8 +126,9 @@ module _ (t : List State) (l : List ℕ) where
       ];
       complete = λ v n j ge lt begins early run past. elim (cases_eq v p) [
         | inl same ↦
-            let w = seed wanted refl (subst B same begins) (subst (Early best) same early) in
-            (x, n, w.0, omega (arith, w.1), subst (λ i. Runs t l n x i j) same run)
+            let w = seed wanted refl (subst B same begins) (subst (Early best) same early) n j
+            (subst (λ i. Runs t l n x i j) same run) past in
+            (w.0, w.1, w.2, omega (arith, w.3), w.4)
         | inr other ↦
             let b = a.complete v n j ge (omega arith) begins early run past in
             let k = s.kept b.0 b.2 in
@@ -104,7 +136,8 @@ module _ (t : List State) (l : List ℕ) where
       ];
     }
       where
-        seed : (w : Bool) → w ≡ wanted → B p → Early best p → (0 < mark new x) × (mark new x ≤ p + 1)
+        seed : (w : Bool) → w ≡ wanted → B p → Early best p → (n j : ℕ) → Runs t l n x p j → p + 1 ≤ j
+            → (q : ℕ) × (m : ℕ) × (0 < mark new q) × (mark new q ≤ p + 1) × Runs t l m q (p + 1) j
         seed true e begins early = s.here (sym e) begins
         seed false e begins early = absurd (late (sym e) early)
 
@@ -119,11 +152,11 @@ module _ (t : List State) (l : List ℕ) where
       complete = λ s n j ge lt begins early run past. a.complete s n j ge lt begins (mono s early) run past;
     }
 
-    pub alive_stepped : (p limit : ℕ) (now next : Members) (best : Option (ℕ × ℕ))
-        → Alive t l x B from (p + 1) p now best
+    alive_stepped : (p upto limit : ℕ) (now next : Members) (best : Option (ℕ × ℕ)) → upto ≤ p + 1
+        → Alive t l x B from upto p now best
         → Stepped t l p now next limit → ((s : ℕ) → s ≤ p → Early best s → s + 1 ≤ limit)
-        → Alive t l x B from (p + 1) (p + 1) next best
-    alive_stepped p limit now next best a step wide = record {
+        → Alive t l x B from upto (p + 1) next best
+    alive_stepped p upto limit now next best few a step wide = record {
       good = step.good;
       size = step.size ∙ a.size;
       closed = step.closed;
@@ -139,17 +172,34 @@ module _ (t : List State) (l : List ℕ) where
           (c.0, c.1, c.2, omega (arith, c.3, b.3), c.4);
     }
 
+    pub alive_advanced : (p limit : ℕ) (now next : Members) (wanted : Bool) (best : Option (ℕ × ℕ))
+        → Alive t l x B from (start_bound p) p now best → Advanced t l x B p wanted now next limit → from ≤ p
+        → (wanted ≡ false → Early best p → ⊥) → ((s : ℕ) → s ≤ p → Early best s → s + 1 ≤ limit)
+        → Alive t l x B from (start_bound (p + 1)) (p + 1) next best
+    alive_advanced p limit now next wanted best a adv p_in late wide =
+        let mid = adv.0 in
+        let stepped = alive_stepped p (start_bound p) limit now mid best (start_few p) a adv.1 wide in
+        subst (λ u. Alive t l x B from u (p + 1) next best) (sym (start_next p)) (elim adv.2 [
+          | inl first ↦
+              let u : start_bound p ≡ p + 1 = ap start_bound first.0 ∙ omega (arith, first.0) in
+              subst (λ s. Alive t l x B from (p + 1) (p + 1) s best) (sym first.1)
+              (subst (λ u. Alive t l x B from u (p + 1) mid best) u stepped)
+          | inr later ↦
+              alive_seeded p mid next wanted best
+              (subst (λ u. Alive t l x B from u (p + 1) mid best) (start_later p later.0) stepped) later.1 p_in late
+        ])
+
     -- the start of the match that ends at p, if there is one: no run to p starts earlier
-    pub none_earlier : (p : ℕ) (now : Members) (best : Option (ℕ × ℕ)) → Alive t l x B from p p now best
+    pub none_earlier : (p : ℕ) (now : Members) (best : Option (ℕ × ℕ)) → Alive t l x B from (start_bound p) p now best
         → ((q : ℕ) → slice_get t q ≡ Some Accept → q ≡ 0) → (s n : ℕ) → from ≤ s → s < p → B s → Early best s
         → Runs t l n x s p
         → (0 < mark now 0) × (mark now 0 ≤ s + 1)
     none_earlier p now best a only s n ge lt begins early run =
-        let b = a.complete s n p ge lt begins early run (omega arith) in
+        let b = a.complete s n p ge (omega (arith, start_all p)) begins early run (omega arith) in
         let e = ends_here p now a.closed only b.1 b.0 b.2 b.4 in
         (e.0, omega (arith, e.1, b.3))
 
-    pub run_here : (p : ℕ) (now : Members) (best : Option (ℕ × ℕ)) → Alive t l x B from p p now best
+    pub run_here : (p : ℕ) (now : Members) (best : Option (ℕ × ℕ)) → Alive t l x B from (start_bound p) p now best
         → slice_get t 0 ≡ Some Accept
         → (s : ℕ) → mark now 0 ≡ s + 1 → (from ≤ s) × B s × ((n : ℕ) × Runs t l n x s p)
     run_here p now best a accept s e =
@@ -266,7 +316,7 @@ module _ (t : List State) (l : List ℕ) where
 
     -- no state is left but the one where matches end
     pub over : (p : ℕ) (now : Members) (c : ℕ × ℕ) (end : ℕ) → IsBest t l x B E from (p + 1) (Some c)
-        → Alive t l x B from (p + 1) p now (Some c) → slice_get t 0 ≡ Some Accept → ((q : ℕ) → 0 < mark now q → q ≡ 0)
+        → Alive t l x B from (start_bound p) p now (Some c) → slice_get t 0 ≡ Some Accept → ((q : ℕ) → 0 < mark now q → q ≡ 0)
         → p + 1 ≤ end → IsBest t l x B E from end (Some c)
     over p now c end b a accept last le = (
       b.0,
@@ -278,7 +328,7 @@ module _ (t : List State) (l : List ℕ) where
         | inr after ↦ elim (cases_lt c.0 s) [
           | inl later ↦ (omega arith, λ e. absurd (omega arith))
           | inr early ↦
-              let w = a.complete s run.2.0 j ge (omega (arith, b.1, b.2)) run.0 early run.2.1 (omega arith) in
+              let w = a.complete s run.2.0 j ge (omega (arith, b.1, b.2, start_all p)) run.0 early run.2.1 (omega arith) in
               let ends = subst (λ q. slice_get t q ≡ Some Accept) (sym (last w.0 w.2)) accept in
               absurd (omega (arith, stays w.1 w.0 p j ends w.4))
         ]
@@ -287,7 +337,7 @@ module _ (t : List State) (l : List ℕ) where
 
 -- what `settle` judges is what is found
 pub found_here : (m : Nfa) (l : List ℕ) (from p : ℕ) (now : Members) (best : Option (ℕ × ℕ)) → IsRunnable m
-    → Alive m.states l m.start (MayBegin m.bounds l) from p p now best
+    → Alive m.states l m.start (MayBegin m.bounds l) from (start_bound p) p now best
     → Found m.states l m.start (MayBegin m.bounds l) (MayEnd m.bounds l) from p (ending m l p now) best
 found_here m l from p now best is a = go (may_end m.bounds l p) refl
   where
@@ -314,7 +364,7 @@ limit_small t l x B E from p (Some s) b short = omega (arith, b.1, b.2)
 
 -- what a search keeps: the set of the position, and the best before it
 pub record Searching (m : Nfa) (l : List ℕ) (from p : ℕ) (s : Buffers) (best : Option (ℕ × ℕ)) : Type 0 where
-  pub alive : Alive m.states l m.start (MayBegin m.bounds l) from p p s.current best
+  pub alive : Alive m.states l m.start (MayBegin m.bounds l) from (start_bound p) p s.current best
   pub next : IsGood s.next
   pub next_size : length s.next.marks ≡ length m.states
   pub so_far : IsBest m.states l m.start (MayBegin m.bounds l) (MayEnd m.bounds l) from p best
@@ -324,18 +374,15 @@ not_late : (t : List State) (l : List ℕ) (x : ℕ) (B E : ℕ → Type 0) (fro
 not_late t l x B E from p None b none early = true≢false none
 not_late t l x B E from p (Some c) b none early = omega (arith, b.1, b.2)
 
-module _ (m : Nfa) (l : List ℕ) (from p : ℕ) (s u : Buffers) (best : Option (ℕ × ℕ)) (is : IsRunnable m)
-    (g : Searching m l from p s best) (le : from ≤ p) where
-  -- what holds once the set of p is complete, and the match that ends there is judged
+-- what holds once the match that ends at p is judged
+module _ (m : Nfa) (l : List ℕ) (from p : ℕ) (s : Buffers) (best : Option (ℕ × ℕ)) (is : IsRunnable m)
+    (g : Searching m l from p s best) where
   abbrev Settled : Option (ℕ × ℕ) → Type 0
-  Settled after = Alive m.states l m.start (MayBegin m.bounds l) from (p + 1) p u.current after
+  Settled after = Alive m.states l m.start (MayBegin m.bounds l) from (start_bound p) p s.current after
       × IsBest m.states l m.start (MayBegin m.bounds l) (MayEnd m.bounds l) from (p + 1) after
 
-  abbrev SeededFor : Option (ℕ × ℕ) → Type 0
-  SeededFor after = Seeded m.states l m.start (MayBegin m.bounds l) p (is_none after) s.current u.current
-
-  settled_here : SeededFor (judged p (ending m l p s.current) best) → Settled (judged p (ending m l p s.current) best)
-  settled_here seeded =
+  settled_here : Settled (judged p (ending m l p s.current) best)
+  settled_here =
       let t = m.states in
       let B = MayBegin m.bounds l in
       let E = MayEnd m.bounds l in
@@ -343,28 +390,28 @@ module _ (m : Nfa) (l : List ℕ) (from p : ℕ) (s u : Buffers) (best : Option 
       let after = judged p start best in
       let b = best_judged t l m.start B E from p start best g.so_far
       (found_here m l from p s.current best is g.alive) in
-      let a = alive_judged t l m.start B E from p p s.current best after g.alive
+      let a = alive_judged t l m.start B E from p (start_bound p) s.current best after g.alive
       (λ v early. judged_early t l m.start B E from p start v best early) in
-      let late = not_late t l m.start B E from p after b in
-      (alive_seeded t l m.start B E from p s.current u.current (is_none after) after a seeded le late, b)
+      (a, b)
 
-  pub settled : (after : Option (ℕ × ℕ)) → after ≡ judged p (ending m l p s.current) best → SeededFor after
-      → Settled after
-  settled after same = subst (λ b. SeededFor b → Settled b) (sym same) settled_here
+  pub settled : (after : Option (ℕ × ℕ)) → after ≡ judged p (ending m l p s.current) best → Settled after
+  settled after same = subst Settled (sym same) settled_here
 
 wide : (t : List State) (l : List ℕ) (x : ℕ) (B E : ℕ → Type 0) (from p : ℕ) (best : Option (ℕ × ℕ)) → p < 2 ^ 31
     → (s : ℕ) → s ≤ p → Early best s → s + 1 ≤ limit_of best
 wide t l x B E from p None short s le early = omega arith
 wide t l x B E from p (Some c) short s le early = omega arith
 
-pub searched : (m : Nfa) (l : List ℕ) (from p : ℕ) (s u : Buffers) (best : Option (ℕ × ℕ)) → p < 2 ^ 31
-    → Alive m.states l m.start (MayBegin m.bounds l) from (p + 1) p s.current best
+pub searched : (m : Nfa) (l : List ℕ) (from p : ℕ) (s u : Buffers) (best : Option (ℕ × ℕ)) → p < 2 ^ 31 → from ≤ p
+    → Alive m.states l m.start (MayBegin m.bounds l) from (start_bound p) p s.current best
     → IsBest m.states l m.start (MayBegin m.bounds l) (MayEnd m.bounds l) from (p + 1) best
-    → Stepped m.states l p s.current u.current (limit_of best) → HaveRoom u (length m.states)
+    → Advanced m.states l m.start (MayBegin m.bounds l) p (is_none best) s.current u.current (limit_of best)
+    → HaveRoom u (length m.states)
     → Searching m l from (p + 1) u best
-searched m l from p s u best short a b step fits = record {
-  alive = alive_stepped m.states l m.start (MayBegin m.bounds l) (MayEnd m.bounds l) from p
-      (limit_of best) s.current u.current best a step
+searched m l from p s u best short p_in a b advanced fits = record {
+  alive = alive_advanced m.states l m.start (MayBegin m.bounds l) (MayEnd m.bounds l) from p
+      (limit_of best) s.current u.current (is_none best) best a advanced p_in
+      (not_late m.states l m.start (MayBegin m.bounds l) (MayEnd m.bounds l) from p best b)
       (wide m.states l m.start (MayBegin m.bounds l) (MayEnd m.bounds l) from p best short);
   next = fits.next;
   next_size = fits.next_size;
@@ -373,7 +420,7 @@ searched m l from p s u best short a b step fits = record {
 
 -- a span was found, and nothing is left that may win over it
 pub search_over : (m : Nfa) (l : List ℕ) (from p : ℕ) (now : Members) (best : Option (ℕ × ℕ)) → IsRunnable m
-    → Alive m.states l m.start (MayBegin m.bounds l) from (p + 1) p now best
+    → Alive m.states l m.start (MayBegin m.bounds l) from (start_bound p) p now best
     → IsBest m.states l m.start (MayBegin m.bounds l) (MayEnd m.bounds l) from (p + 1) best
     → ((q : ℕ) → 0 < mark now q → q ≡ 0) → p ≤ length l → is_some best ≡ true
     → IsBest m.states l m.start (MayBegin m.bounds l) (MayEnd m.bounds l) from (length l + 1) best

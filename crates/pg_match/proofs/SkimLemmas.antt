@@ -186,7 +186,7 @@ best_one m l i b seeds are is_m is some lt begins ends behind =
       omega arith,
       omega arith,
       omega arith,
-      (begins, ends, are.leads l i some (omega arith) k.0 k.1 1 (i + 1) run),
+      (begins, ends, are.leads l i k.0 k.1 1 (i + 1) run),
       λ s j ge before within other. (
         ge,
         λ e.

@@ -53,7 +53,7 @@ byte_at l p b is = get_or_from_slice_get l p b 0 is
 back : (p : ℕ) → p + 1 - 1 ≡ p
 back p = omega arith
 
-begins : (o : Bounds) (l : List ℕ) (p b : ℕ) → slice_get l p ≡ Some b → IsTrue (begins_after o b) → MayBegin o l (p + 1)
+pub begins : (o : Bounds) (l : List ℕ) (p b : ℕ) → slice_get l p ≡ Some b → IsTrue (begins_after o b) → MayBegin o l (p + 1)
 begins Any l p b is h = tt
 begins Word l p b is h = inr (ap (λ v. is_word_byte (slice_index l v)) (back p)
     ∙ not_word (is_word_byte (slice_index l p)) (ap (λ v. not (is_word_byte v)) (byte_at l p b is) ∙ h))
@@ -63,7 +63,7 @@ begins Word l p b is h = inr (ap (λ v. is_word_byte (slice_index l v)) (back p)
     not_word false e = refl
 begins Whole l p b is h = absurd (true≢false (sym h))
 
-begun : (o : Bounds) (l : List ℕ) (p b : ℕ) → slice_get l p ≡ Some b → MayBegin o l (p + 1) → IsTrue (begins_after o b)
+pub begun : (o : Bounds) (l : List ℕ) (p b : ℕ) → slice_get l p ≡ Some b → MayBegin o l (p + 1) → IsTrue (begins_after o b)
 begun Any l p b is h = refl
 begun Word l p b is (inl h) = absurd (omega arith)
 begun Word l p b is (inr h) =
@@ -88,7 +88,7 @@ ended Word l p b is lt (inl h) = absurd (omega arith)
 ended Word l p b is lt (inr h) = ap (λ v. not (is_word_byte v)) (sym (byte_at l p b is)) ∙ ap not h
 ended Whole l p b is lt h = absurd (omega arith)
 
-begins_first : (o : Bounds) (l : List ℕ) → MayBegin o l 0
+pub begins_first : (o : Bounds) (l : List ℕ) → MayBegin o l 0
 begins_first Any l = tt
 begins_first Word l = inl refl
 begins_first Whole l = refl

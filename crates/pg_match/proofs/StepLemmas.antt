@@ -180,7 +180,7 @@ module _ (t : List State) (f e : Bool) where
     counted = c.counted;
   }
 
-reads_none : (o : Option State) (b r : ℕ) → ((s : ByteSet) (x : ℕ) → o ≡ Some (Read s x) → ⊥) → Reads o b r → ⊥
+pub reads_none : (o : Option State) (b r : ℕ) → ((s : ByteSet) (x : ℕ) → o ≡ Some (Read s x) → ⊥) → Reads o b r → ⊥
 reads_none None b r not_so h = h
 reads_none (Some Fail) b r not_so h = h
 reads_none (Some Accept) b r not_so h = h

@@ -99,24 +99,13 @@ pub record Stepping (t : List State) (l : List ℕ) (i : ℕ) (now next : Member
       → Edge (slice_get t (listed now j)) l i r (i + 1)
       → (0 < mark next r) × (mark next r ≤ mark now (listed now j))
 
--- The states that x leads to, without a byte, at any place that is neither the start nor the end of a line.
+-- The states that x leads to, without a byte, at any place that is neither the start nor the end of a line. It leads to
+-- them there too.
 pub record AreSeeds (t : List State) (x : ℕ) (seeds : List ℕ) : Type 0 where
+  pub few : length seeds ≤ length t
   pub inside : (k : ℕ) → k < length seeds → slice_index seeds k < length t
   pub first : (k : ℕ) × (k < length seeds) × (slice_index seeds k ≡ x)
   pub closed : (l : List ℕ) (i : ℕ) → i ≢ 0 → i ≢ length l → (k r : ℕ) → k < length seeds
       → Edge (slice_get t (slice_index seeds k)) l i r i
       → (j : ℕ) × (j < length seeds) × (slice_index seeds j ≡ r)
-  pub leads : (l : List ℕ) (i : ℕ) → i ≢ 0 → i ≢ length l → (k : ℕ) → k < length seeds
-      → Leads t l x i (slice_index seeds k) i
-
--- the first k seeds were added
-pub record Sown (seeds : List ℕ) (old new : Members) (start k : ℕ) : Type 0 where
-  pub good : IsGood new
-  pub size : length new.marks ≡ length old.marks
-  pub ordered : IsOrdered new
-  pub below : AllBelow new start
-  pub kept : (q : ℕ) → 0 < mark old q → mark new q ≡ mark old q
-  pub fresh : (q : ℕ) → mark old q ≡ 0 → 0 < mark new q
-      → (mark new q ≡ start) × ((j : ℕ) × (j < k) × (slice_index seeds j ≡ q))
-  pub here : (j : ℕ) → j < k → 0 < mark new (slice_index seeds j)
-  pub counted : Counted old new
+  pub leads : (l : List ℕ) (i k : ℕ) → k < length seeds → Leads t l x i (slice_index seeds k) i

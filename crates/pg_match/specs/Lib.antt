@@ -14,6 +14,7 @@ pub mod StateSets
 pub mod Closures
 pub mod Searches
 pub mod Steps
+pub mod Starts
 pub mod Stands
 pub mod Memories
 pub mod Views

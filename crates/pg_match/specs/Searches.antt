@@ -1,10 +1,10 @@
 -- What a search has found so far, and what it may still find.
-use Rattle.std.specs.Prelude.{◌≡◌, ℕ, zero, suc, ◌+◌, ◌-◌, ◌^◌, ◌<◌, ◌≤◌, Bool, List, length}
+use Rattle.std.specs.Prelude.{◌≡◌, ℕ, zero, suc, ◌+◌, ◌-◌, ◌^◌, ◌<◌, ◌≤◌, ◌⊎◌, Bool, List, length}
 use Rattle.std.specs.Prelude.{Option, Some, None, nat_lt, nat_le, if◌then◌else◌, IsTrue}
 use Rattle.pg_match.specs.Bounds.{may_end}
 use Rattle.pg_match.specs.Automata.{Nfa, Runs}
 use Rattle.pg_match.specs.StateSets.{Members, mark, IsGood}
-use Rattle.pg_match.specs.Closures.{Leads, IsClosed, IsOrdered}
+use Rattle.pg_match.specs.Closures.{Leads, IsClosed, IsOrdered, Stepped}
 use Rattle.pg_match.specs.declared.state.State.{State}
 
 -- a start that may still win
@@ -35,16 +35,29 @@ pub record Alive (t : List State) (l : List ℕ) (x : ℕ) (B : ℕ → Type 0) 
   pub complete : (s n j : ℕ) → from ≤ s → s < upto → B s → Early best s → Runs t l n x s j → p ≤ j
       → (q : ℕ) × (m : ℕ) × (0 < mark now q) × (mark now q ≤ s + 1) × Runs t l m q p j
 
--- x was added at p, if it is wanted and B allows it
+-- the starts before this place are in the set of a place: those before the place, and at a line's first place the one
+-- there
+abbrev pub start_bound : ℕ → ℕ
+start_bound zero = 1
+start_bound (suc p) = suc p
+
+-- what x leads to by the byte at p was added to the set behind it, if x is wanted and B allows it at p
 pub record Seeded (t : List State) (l : List ℕ) (x : ℕ) (B : ℕ → Type 0) (p : ℕ) (wanted : Bool)
     (old new : Members) : Type 0 where
   pub good : IsGood new
   pub size : length new.marks ≡ length old.marks
-  pub closed : IsClosed t l p new
+  pub closed : IsClosed t l (p + 1) new
   pub ordered : IsOrdered new
   pub kept : (q : ℕ) → 0 < mark old q → mark new q ≡ mark old q
-  pub fresh : (q : ℕ) → mark old q ≡ 0 → 0 < mark new q → (mark new q ≡ p + 1) × B p × Leads t l x p q p
-  pub here : IsTrue wanted → B p → (0 < mark new x) × (mark new x ≤ p + 1)
+  pub fresh : (q : ℕ) → mark old q ≡ 0 → 0 < mark new q → (mark new q ≡ p + 1) × B p × Leads t l x p q (p + 1)
+  pub here : IsTrue wanted → B p → (n j : ℕ) → Runs t l n x p j → p + 1 ≤ j
+      → (q : ℕ) × (m : ℕ) × (0 < mark new q) × (mark new q ≤ p + 1) × Runs t l m q (p + 1) j
+
+-- the set behind p was made, with what starts at p lead to, but at a line's first place, where they are in the set of p
+abbrev pub Advanced : List State → List ℕ → ℕ → (ℕ → Type 0) → ℕ → Bool → Members → Members → ℕ → Type 0
+Advanced t l x B p wanted now next limit =
+    (mid : Members) × Stepped t l p now mid limit
+    × (((p ≡ 0) × (next ≡ mid)) ⊎ ((0 < p) × Seeded t l x B p wanted mid next))
 
 -- the span from s to p, unless the best so far starts earlier
 abbrev pub winner : ℕ → ℕ → Option (ℕ × ℕ) → Option (ℕ × ℕ)

@@ -2,6 +2,7 @@
 use Rattle.pg_match.specs.Automata.{Nfa}
 use Rattle.pg_match.specs.StateSets.{Members, Buffers}
 use Rattle.pg_match.specs.Closures.{AreSeeds}
+use Rattle.pg_match.specs.Starts.{AreStarts}
 use Rattle.pg_match.specs.declared.automaton.Automaton.{Automaton}
 use Rattle.pg_match.specs.declared.state_set.StateSet.{StateSet}
 use Rattle.pg_match.specs.declared.search.StateSets.{StateSets}
@@ -29,6 +30,10 @@ Tells old new = new.visits + added old ≡ old.visits + added new
 -- what the automaton keeps as its seeds are the seeds of its start
 abbrev pub HasSeeds : {A : Type 0} → Automaton A → Type 0
 HasSeeds m = AreSeeds m.states.items m.start m.seeds.items
+
+-- what the automaton keeps for each byte is what the byte leads to from the seeds
+abbrev pub HasStarts : {A : Type 0} → Automaton A → Type 0
+HasStarts m = AreStarts m.states.items m.seeds.items m.starts.targets.items m.starts.cuts.items m.starts.accepts
 
 abbrev pub remembered : {A : Type 0} → Memory A → Remembered
 remembered t = record {

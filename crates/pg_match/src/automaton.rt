@@ -2,6 +2,7 @@
 ghost use Rattle.std.specs.Prelude.{◌≡◌, ◌↔◌, IsTrue};
 
 use crate::bounds::Bounds;
+use crate::starts::Starts;
 use crate::state::{State, is_same_table};
 use std::alloc::{Allocator, Global};
 
@@ -11,6 +12,8 @@ pub struct Automaton<A: Allocator = Global> {
     pub start: u32,
     /// The states that a run may be in before its first byte, where it starts inside a line.
     pub seeds: Vec<u32, A>,
+    /// Where each byte leads to from these.
+    pub starts: Starts<A>,
     pub bounds: Bounds,
     /// Whether there is a pattern. Without one nothing matches.
     pub some: bool,
@@ -22,6 +25,7 @@ impl<A: Allocator> Drop for Automaton<A> {
             states: _,
             start: _,
             seeds: _,
+            starts: _,
             bounds: _,
             some: _,
         } = self;

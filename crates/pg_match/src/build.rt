@@ -7,11 +7,12 @@ ghost use Rattle.pg_match.specs.Automata.{IsTidy, IsRunnable, target_below};
 ghost use Rattle.pg_match.specs.Tables.{Pushed, Added, AddedCopies, AddedOptional};
 ghost use Rattle.pg_match.specs.Gaps.{IsHole, IsFilled, Finished, IsGap, Narrowed};
 ghost use Rattle.pg_match.specs.Machines.{IsMachineOf};
-ghost use Rattle.pg_match.specs.Views.{nfa, HasSeeds};
+ghost use Rattle.pg_match.specs.Views.{nfa, HasSeeds, HasStarts};
 
 use crate::automaton::Automaton;
 use crate::bounds::Bounds;
 use crate::size::size;
+use crate::starts::starts_of;
 use crate::state::State;
 use crate::walk::seeds;
 use pg_syntax::Tree;
@@ -46,6 +47,7 @@ pub(crate) fn assemble<A: Allocator + Copy>(
     requires small { list_size (map pattern trees.now) ≤ 65536 }
     ensures runs { IfOk result (λ m. IsRunnable (nfa m)) }
     ensures seeds { IfOk result HasSeeds }
+    ensures starts { IfOk result HasStarts }
     ensures built { IfOk result (λ m. IsMachineOf (nfa m) (map pattern trees.now) bounds) }
 {
     let mut states = Vec::new(alloc);
@@ -60,10 +62,12 @@ pub(crate) fn assemble<A: Allocator + Copy>(
         }
     }
     let seeds = seeds(alloc, &states, start)?;
+    let starts = starts_of(alloc, &states, &seeds)?;
     Ok(Automaton {
         states,
         start,
         seeds,
+        starts,
         bounds,
         some: !trees.is_empty(),
     })

@@ -20,6 +20,7 @@ mod recall;
 mod search;
 mod size;
 mod skim;
+mod starts;
 mod state;
 mod state_set;
 mod walk;

@@ -1,11 +1,12 @@
 //! The search for any match at all, which needs no marks.
-ghost use Rattle.std.specs.Prelude.{◌≡◌, ◌+◌, ◌*◌, ◌<◌, ◌≤◌, ◌^◌, ◌↔◌, length, IsTrue};
+ghost use Rattle.std.specs.Prelude.{◌≡◌, ◌+◌, ◌*◌, ◌<◌, ◌≤◌, ◌^◌, ◌↔◌, length, IsTrue, false};
 ghost use Rattle.pg_match.specs.Automata.{IsTidy, IsRunnable};
 ghost use Rattle.pg_match.specs.StateSets.{IsGood, HaveRoom, CountedAnew};
 ghost use Rattle.pg_match.specs.Steps.{Spread, Closed, Aimed, Has, Goes, Starts, HitBefore, AnswersEnd, ReadsNone};
 ghost use Rattle.pg_match.specs.Steps.{begins_after, ends_before};
 ghost use Rattle.pg_match.specs.Stands.{Stands, HasRun};
-ghost use Rattle.pg_match.specs.Views.{nfa, members, buffers, Tells};
+ghost use Rattle.pg_match.specs.Starts.{WithSeeds, Planted, GoesOn};
+ghost use Rattle.pg_match.specs.Views.{nfa, members, buffers, HasSeeds, HasStarts, Tells};
 
 use crate::automaton::Automaton;
 use crate::bounds::{Bounds, is_word_byte};
@@ -175,11 +176,85 @@ impl<A: Allocator> Automaton<A> {
         sets.current.marks[0] != 0
     }
 
-    /// Goes on from the set of a place without what is remembered.
+    /// Adds the states that a byte leads to from the seeds.
+    fn plant(&self, next: &mut StateSet<A>, byte: u8)
+        requires runs { IsRunnable (nfa self.now) }
+        requires seeds { HasSeeds self.now }
+        requires starts { HasStarts self.now }
+        requires good { IsGood (members next.old) }
+        requires size { length next.old.marks.items ≡ length self.now.states.items }
+        ensures { Planted self.now.states.items self.now.seeds.items byte (members next.old) (members next.new) }
+    {
+        let (first, last) = self.starts.row(byte);
+        for k in first..last {
+            let target = self.starts.targets[k];
+            next.insert(target, 1);
+        }
+    }
+
+    /// Goes on to the set behind a byte as `go` does, but for starts behind it. Those before it are added only as far as
+    /// they read the byte, and only where a match may begin there.
+    fn go_on(&self, sets: &mut StateSets<A>, byte: u8, begins: bool)
+        requires runs { IsRunnable (nfa self.now) }
+        requires seeds { HasSeeds self.now }
+        requires starts { HasStarts self.now }
+        requires room { HaveRoom (buffers sets.old) (length self.now.states.items) }
+        requires visits { sets.old.visits < 2 ^ 100 }
+        ensures room { HaveRoom (buffers sets.new) (length self.now.states.items) }
+        ensures goes { GoesOn self.now.states.items self.now.seeds.items byte (IsTrue begins)
+            (Has (members sets.old.current)) (Has (members sets.new.current)) }
+        ensures visits { sets.new.visits ≡ sets.old.visits + sets.new.current.len }
+        ensures told { Tells sets.old sets.new }
+    {
+        aim(&self.states, byte, &sets.current, &mut sets.next);
+        if begins {
+            self.plant(&mut sets.next, byte);
+        }
+        mem::swap(&mut sets.current, &mut sets.next);
+        close(&self.states, &mut sets.current, false, false);
+        sets.visits += sets.current.len as u128;
+    }
+
+    /// Whether a match ends right before a byte, of the runs in a set or of one that starts there, if a match may begin.
+    fn hits_here(&self, set: &StateSet<A>, byte: u8, begins: bool) -> bool
+        requires runs { IsRunnable (nfa self.now) }
+        requires starts { HasStarts self.now }
+        requires size { length set.now.marks.items ≡ length self.now.states.items }
+        ensures { IsTrue result ↔ HitBefore (nfa self.now) byte
+            (WithSeeds self.now.seeds.items (IsTrue begins) (Has (members set.now))) }
+    {
+        self.bounds.ends_before(byte) && (set.marks[0] != 0 || begins && self.starts.accepts)
+    }
+
+    /// Whether a match ends where a line does that isn't empty, of the runs in a set or of one that starts there, if a
+    /// match may begin. The set gets what needs the line's end.
+    fn hits_behind(&self, sets: &mut StateSets<A>, begins: bool) -> bool
+        requires runs { IsRunnable (nfa self.now) }
+        requires seeds { HasSeeds self.now }
+        requires room { HaveRoom (buffers sets.old) (length self.now.states.items) }
+        requires visits { sets.old.visits < 2 ^ 99 }
+        ensures room { HaveRoom (buffers sets.new) (length self.now.states.items) }
+        ensures answer { AnswersEnd (nfa self.now) false
+            (WithSeeds self.now.seeds.items (IsTrue begins) (Has (members sets.old.current))) result }
+        ensures visits { sets.new.visits + sets.old.current.len ≡ sets.old.visits + sets.new.current.len }
+        ensures told { Tells sets.old sets.new }
+    {
+        if begins {
+            let before = sets.current.len;
+            sets.current.insert(self.start, 1);
+            sets.visits += (sets.current.len - before) as u128;
+        }
+        self.hits_at_end(sets, false)
+    }
+
+    /// Goes on from the set of a place behind the first byte without what is remembered.
     pub(crate) fn search_on(&self, sets: &mut StateSets<A>, line: &[u8], from: usize) -> bool
         requires runs { IsRunnable (nfa self.now) }
+        requires seeds { HasSeeds self.now }
+        requires starts { HasStarts self.now }
         requires room { HaveRoom (buffers sets.old) (length self.now.states.items) }
         requires short { length line.now ≤ 2 ^ 30 }
+        requires later { 1 ≤ from }
         requires from_in { from ≤ length line.now }
         requires stands { Stands (nfa self.now) line.now 0 from (Has (members sets.old.current)) }
         requires visits { sets.old.visits ≤ from * length self.now.states.items + sets.old.current.len }
@@ -190,17 +265,44 @@ impl<A: Allocator> Automaton<A> {
     {
         for place in from..line.len() {
             let byte = line[place];
-            if self.hits_before(&sets.current, byte) {
+            let begins = self.bounds.may_begin(line, place);
+            if self.hits_here(&sets.current, byte, begins) {
                 return true;
             }
-            self.go(sets, byte);
+            self.go_on(sets, byte, begins);
         }
-        self.hits_at_end(sets, line.is_empty())
+        let begins = self.bounds.may_begin(line, line.len());
+        self.hits_behind(sets, begins)
+    }
+
+    /// Goes on from the set of a line's first place without what is remembered. The line isn't empty.
+    pub(crate) fn search_first(&self, sets: &mut StateSets<A>, line: &[u8]) -> bool
+        requires runs { IsRunnable (nfa self.now) }
+        requires seeds { HasSeeds self.now }
+        requires starts { HasStarts self.now }
+        requires room { HaveRoom (buffers sets.old) (length self.now.states.items) }
+        requires short { length line.now ≤ 2 ^ 30 }
+        requires bytes { 1 ≤ length line.now }
+        requires begun { Starts (nfa self.now) (Has (members sets.old.current)) }
+        requires visits { sets.old.visits ≡ sets.old.current.len }
+        ensures room { HaveRoom (buffers sets.new) (length self.now.states.items) }
+        ensures exact { IsTrue result ↔ HasRun (nfa self.now) line.now 0 }
+        ensures visits { sets.new.visits ≤ (length line.now + 1) * length self.now.states.items }
+        ensures told { Tells sets.old sets.new }
+    {
+        let byte = line[0];
+        if self.hits_before(&sets.current, byte) {
+            return true;
+        }
+        self.go(sets, byte);
+        self.search_on(sets, line, 1)
     }
 
     /// Whether some span of the line is a hit, without what is remembered.
     pub(crate) fn search(&self, sets: &mut StateSets<A>, line: &[u8]) -> bool
         requires runs { IsRunnable (nfa self.now) }
+        requires seeds { HasSeeds self.now }
+        requires starts { HasStarts self.now }
         requires room { HaveRoom (buffers sets.old) (length self.now.states.items) }
         requires short { length line.now ≤ 2 ^ 30 }
         requires visits { sets.old.visits ≡ 0 }
@@ -210,6 +312,9 @@ impl<A: Allocator> Automaton<A> {
         ensures told { Tells sets.old sets.new }
     {
         self.begin(sets);
-        self.search_on(sets, line, 0)
+        if line.is_empty() {
+            return self.hits_at_end(sets, true);
+        }
+        self.search_first(sets, line)
     }
 }

@@ -9,7 +9,7 @@ ghost use Rattle.pg_match.specs.StateSets.{IsGood, HaveRoom};
 ghost use Rattle.pg_match.specs.Stands.{HasRun};
 ghost use Rattle.pg_match.specs.Steps.{Has, Starts, IsQuiet, IsSpent};
 ghost use Rattle.pg_match.specs.Memories.{IsMemoryOf, In, fresh_at, Same, Keeps, IsAtRow, StandsAt, Learned, Finishes};
-ghost use Rattle.pg_match.specs.Views.{nfa, members, buffers, remembered, added, Remembers, Tells};
+ghost use Rattle.pg_match.specs.Views.{nfa, members, buffers, remembered, added, HasSeeds, HasStarts, Remembers, Tells};
 
 use crate::automaton::Automaton;
 use crate::bounds::Bounds;
@@ -283,6 +283,8 @@ impl<A: Allocator> Automaton<A> {
     /// Whether some span of a line that isn't empty is a hit, by what is remembered.
     fn recall(&self, sets: &mut StateSets<A>, memory: &mut Memory<A>, line: &[u8]) -> bool
         requires runs { IsRunnable (nfa self.now) }
+        requires seeds { HasSeeds self.now }
+        requires starts { HasStarts self.now }
         requires room { HaveRoom (buffers sets.old) (length self.now.states.items) }
         requires memory { IsMemoryOf (nfa self.now) (remembered memory.old) }
         requires bytes { 1 ≤ length line.now }
@@ -295,7 +297,7 @@ impl<A: Allocator> Automaton<A> {
         ensures told { Tells sets.old sets.new }
     {
         if !self.first(sets, memory) {
-            return self.search_on(sets, line, 0);
+            return self.search_first(sets, line);
         }
         let mut state = 256;
         let mut place = 0;
@@ -327,6 +329,8 @@ impl<A: Allocator> Automaton<A> {
         line: &[u8],
     ) -> bool
         requires runs { IsRunnable (nfa self.now) }
+        requires seeds { HasSeeds self.now }
+        requires starts { HasStarts self.now }
         requires room { HaveRoom (buffers sets.old) (length self.now.states.items) }
         requires memory { Remembers memory.old (nfa self.now) }
         requires short { length line.now ≤ 2 ^ 30 }

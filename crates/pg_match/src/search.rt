@@ -1,15 +1,16 @@
 //! The search of a line, one place after the other.
 ghost use Rattle.std.specs.Prelude.{◌≡◌, ◌+◌, ◌*◌, ◌^◌, ◌<◌, ◌≤◌, ◌↔◌, List};
-ghost use Rattle.std.specs.Prelude.{length, is_none, IsTrue, MatchOption, IfOk};
+ghost use Rattle.std.specs.Prelude.{length, is_none, IsTrue, MatchOption, IfOk, None};
 ghost use Rattle.pg_syntax.specs.Patterns.{Pattern};
 ghost use Rattle.pg_match.specs.Automata.{IsRunnable};
 ghost use Rattle.pg_match.specs.Bounds.{MayBegin, MayEnd};
 ghost use Rattle.pg_match.specs.Hits.{HasHit, HasNoNext, IsNext};
 ghost use Rattle.pg_match.specs.Machines.{Agrees};
-ghost use Rattle.pg_match.specs.StateSets.{IsGood, HaveRoom, Counted};
-ghost use Rattle.pg_match.specs.Closures.{IsClosed, IsOrdered, AllBelow, Sown, Stepped};
-ghost use Rattle.pg_match.specs.Searches.{Seeded, IsBest, judged, limit_of, ending};
-ghost use Rattle.pg_match.specs.Views.{nfa, members, buffers, added, HasSeeds};
+ghost use Rattle.pg_match.specs.StateSets.{IsGood, HaveRoom};
+ghost use Rattle.pg_match.specs.Closures.{IsClosed, IsOrdered, AllBelow, Stepped};
+ghost use Rattle.pg_match.specs.Starts.{Sown};
+ghost use Rattle.pg_match.specs.Searches.{Alive, Advanced, IsBest, start_bound, judged, limit_of, ending};
+ghost use Rattle.pg_match.specs.Views.{nfa, members, buffers, added, HasSeeds, HasStarts, Tells};
 
 use crate::automaton::Automaton;
 use crate::state_set::StateSet;
@@ -91,108 +92,28 @@ fn limit(best: Option<(usize, usize)>) -> u32
 }
 
 impl<A: Allocator> Automaton<A> {
-    /// Adds the seeds, at a place inside a line.
-    #[inline(always)]
-    fn sow(&self, place: usize, set: &mut StateSet<A>)
-        requires seeds { HasSeeds self.now }
-        requires good { IsGood (members set.old) }
-        requires size { length set.old.marks.items ≡ length self.now.states.items }
-        requires ordered { IsOrdered (members set.old) }
-        requires below { AllBelow (members set.old) (place + 1) }
-        requires short { place ≤ 2 ^ 30 }
-        ensures { Sown self.now.seeds.items (members set.old) (members set.new)
-            (place + 1) (length self.now.seeds.items) }
-    {
-        let mark = place as u32 + 1;
-        for k in 0..self.seeds.len() {
-            let state = self.seeds[k];
-            set.insert(state, mark);
-        }
-    }
-
-    /// Adds the start, where a match may begin.
-    #[inline(always)]
-    fn seed(&self, line: &[u8], place: usize, set: &mut StateSet<A>, wanted: bool)
+    /// Begins a search at a place: takes all states out, and adds the start if a line begins there. Starts at other places
+    /// are added behind their first byte.
+    fn enter(&self, sets: &mut StateSets<A>, line: &[u8], from: usize)
         requires runs { IsRunnable (nfa self.now) }
-        requires seeds { HasSeeds self.now }
-        requires good { IsGood (members set.old) }
-        requires size { length set.old.marks.items ≡ length self.now.states.items }
-        requires closed { IsClosed self.now.states.items line.now place (members set.old) }
-        requires ordered { IsOrdered (members set.old) }
-        requires below { AllBelow (members set.old) (place + 1) }
-        requires place { place ≤ length line.now }
-        requires short { length line.now ≤ 2 ^ 30 }
-        ensures seeded { Seeded self.now.states.items line.now self.now.start (MayBegin self.now.bounds line.now) place wanted
-            (members set.old) (members set.new) }
-        ensures counted { Counted (members set.old) (members set.new) }
-    {
-        if wanted && self.bounds.may_begin(line, place) {
-            if place == 0 || place == line.len() {
-                reach(&self.states, line, place, set, self.start, place as u32 + 1);
-            } else {
-                self.sow(place, set);
-            }
-        }
-    }
-
-    /// Completes the set of a place.
-    #[inline(always)]
-    fn fill(&self, sets: &mut StateSets<A>, line: &[u8], place: usize, wanted: bool)
-        requires runs { IsRunnable (nfa self.now) }
-        requires seeds { HasSeeds self.now }
         requires room { HaveRoom (buffers sets.old) (length self.now.states.items) }
-        requires closed { IsClosed self.now.states.items line.now place (members sets.old.current) }
-        requires ordered { IsOrdered (members sets.old.current) }
-        requires below { AllBelow (members sets.old.current) (place + 1) }
-        requires place { place ≤ length line.now }
-        requires short { length line.now ≤ 2 ^ 30 }
-        requires visits { sets.old.visits < 2 ^ 100 }
-        ensures seeded { Seeded self.now.states.items line.now self.now.start (MayBegin self.now.bounds line.now) place
-            wanted (members sets.old.current) (members sets.new.current) }
+        ensures alive { Alive self.now.states.items line.now self.now.start (MayBegin self.now.bounds line.now) from
+            (start_bound from) from (members sets.new.current) None }
         ensures room { HaveRoom (buffers sets.new) (length self.now.states.items) }
-        ensures visits { sets.new.visits ≡ sets.old.visits + sets.new.current.len }
-        ensures counted { added sets.new + sets.old.current.len ≡ added sets.old + sets.new.current.len }
+        ensures visits { sets.new.visits ≡ sets.new.current.len }
+        ensures told { added sets.new ≡ added sets.old + sets.new.visits }
     {
-        self.seed(line, place, &mut sets.current, wanted);
-        sets.visits += sets.current.len as u128;
-    }
-
-    /// Judges the match that ends at a place, and completes the place's set. A start there is of no use once there is
-    /// a best span, which starts earlier.
-    #[inline(always)]
-    fn settle(
-        &self,
-        sets: &mut StateSets<A>,
-        line: &[u8],
-        place: usize,
-        best: Option<(usize, usize)>,
-    ) -> Option<(usize, usize)>
-        requires runs { IsRunnable (nfa self.now) }
-        requires seeds { HasSeeds self.now }
-        requires room { HaveRoom (buffers sets.old) (length self.now.states.items) }
-        requires closed { IsClosed self.now.states.items line.now place (members sets.old.current) }
-        requires ordered { IsOrdered (members sets.old.current) }
-        requires below { AllBelow (members sets.old.current) (place + 1) }
-        requires place { place ≤ length line.now }
-        requires short { length line.now ≤ 2 ^ 30 }
-        requires visits { sets.old.visits < 2 ^ 100 }
-        ensures seeded { Seeded self.now.states.items line.now self.now.start (MayBegin self.now.bounds line.now) place
-            (is_none result) (members sets.old.current) (members sets.new.current) }
-        ensures room { HaveRoom (buffers sets.new) (length self.now.states.items) }
-        ensures judged { result ≡ judged place (ending (nfa self.now) line.now place (members sets.old.current)) best }
-        ensures visits { sets.new.visits ≡ sets.old.visits + sets.new.current.len }
-        ensures counted { added sets.new + sets.old.current.len ≡ added sets.old + sets.new.current.len }
-    {
-        let best = judge(place, self.ending(&sets.current, line, place), best);
-        self.fill(sets, line, place, best.is_none());
-        best
+        sets.current.clear();
+        if from == 0 {
+            reach(&self.states, line, 0, &mut sets.current, self.start, 1);
+        }
+        sets.visits = sets.current.len as u128;
     }
 
     /// The mark of the match that ends at `place`, or 0.
     #[inline(always)]
     fn ending(&self, set: &StateSet<A>, line: &[u8], place: usize) -> u32
         requires runs { IsRunnable (nfa self.now) }
-        requires seeds { HasSeeds self.now }
         requires size { length set.now.marks.items ≡ length self.now.states.items }
         requires place { place ≤ length line.now }
         ensures { result ≡ ending (nfa self.now) line.now place (members set.now) }
@@ -204,7 +125,31 @@ impl<A: Allocator> Automaton<A> {
         }
     }
 
-    /// Goes on to the next place.
+    /// Adds what the byte at a place leads to from a start there.
+    #[inline(always)]
+    fn sow(&self, line: &[u8], place: usize, next: &mut StateSet<A>)
+        requires runs { IsRunnable (nfa self.now) }
+        requires seeds { HasSeeds self.now }
+        requires starts { HasStarts self.now }
+        requires good { IsGood (members next.old) }
+        requires size { length next.old.marks.items ≡ length self.now.states.items }
+        requires closed { IsClosed self.now.states.items line.now (place + 1) (members next.old) }
+        requires ordered { IsOrdered (members next.old) }
+        requires below { AllBelow (members next.old) (place + 1) }
+        requires place { place < length line.now }
+        requires short { length line.now ≤ 2 ^ 30 }
+        ensures { Sown self.now.states.items line.now place self.now.seeds.items (members next.old) (members next.new)
+            (place + 1) }
+    {
+        let mark = place as u32 + 1;
+        let (first, last) = self.starts.row(line[place]);
+        for k in first..last {
+            let target = self.starts.targets[k];
+            reach(&self.states, line, place + 1, next, target, mark);
+        }
+    }
+
+    /// Goes on to the next place. A start is of no use once there is a best span, which starts earlier.
     #[inline(always)]
     fn advance(
         &self,
@@ -215,15 +160,19 @@ impl<A: Allocator> Automaton<A> {
     )
         requires runs { IsRunnable (nfa self.now) }
         requires seeds { HasSeeds self.now }
+        requires starts { HasStarts self.now }
         requires room { HaveRoom (buffers sets.old) (length self.now.states.items) }
         requires ordered { IsOrdered (members sets.old.current) }
+        requires below { AllBelow (members sets.old.current) (place + 1) }
         requires place { place < length line.now }
+        requires short { length line.now ≤ 2 ^ 30 }
         requires limit { limit_of best < 2 ^ 32 }
-        ensures stepped { Stepped self.now.states.items line.now place (members sets.old.current)
-            (members sets.new.current) (limit_of best) }
+        requires visits { sets.old.visits < 2 ^ 100 }
+        ensures advanced { Advanced self.now.states.items line.now self.now.start (MayBegin self.now.bounds line.now)
+            place (is_none best) (members sets.old.current) (members sets.new.current) (limit_of best) }
         ensures room { HaveRoom (buffers sets.new) (length self.now.states.items) }
-        ensures visits { sets.new.visits ≡ sets.old.visits }
-        ensures counted { added sets.new ≡ added sets.old + sets.new.current.len }
+        ensures visits { sets.new.visits ≡ sets.old.visits + sets.new.current.len }
+        ensures told { Tells sets.old sets.new }
     {
         step(
             &self.states,
@@ -233,7 +182,11 @@ impl<A: Allocator> Automaton<A> {
             &mut sets.next,
             limit(best),
         );
+        if place > 0 && best.is_none() && self.bounds.may_begin(line, place) {
+            self.sow(line, place, &mut sets.next);
+        }
         mem::swap(&mut sets.current, &mut sets.next);
+        sets.visits += sets.current.len as u128;
     }
 
     /// The best span from a place on, by runs of the automaton.
@@ -245,6 +198,7 @@ impl<A: Allocator> Automaton<A> {
     ) -> Option<(usize, usize)>
         requires runs { IsRunnable (nfa self.now) }
         requires seeds { HasSeeds self.now }
+        requires starts { HasStarts self.now }
         requires room { HaveRoom (buffers sets.old) (length self.now.states.items) }
         requires short { length line.now ≤ 2 ^ 30 }
         requires from_in { from ≤ length line.now }
@@ -254,16 +208,19 @@ impl<A: Allocator> Automaton<A> {
         ensures visits { sets.new.visits ≤ (length line.now + 1) * length self.now.states.items }
         ensures told { added sets.new ≡ added sets.old + sets.new.visits }
     {
-        sets.current.clear();
-        sets.visits = 0;
+        self.enter(sets, line, from);
         let mut best = None;
         for place in from..line.len() {
-            best = self.settle(sets, line, place, best);
+            best = judge(place, self.ending(&sets.current, line, place), best);
             if best.is_some() && sets.current.is_over() {
                 return best;
             }
             self.advance(sets, line, place, best);
         }
-        self.settle(sets, line, line.len(), best)
+        judge(
+            line.len(),
+            self.ending(&sets.current, line, line.len()),
+            best,
+        )
     }
 }

@@ -9,7 +9,7 @@ ghost use Rattle.pg_match.specs.StateSets.{HaveRoom};
 ghost use Rattle.pg_match.specs.Searches.{IsBest};
 ghost use Rattle.pg_match.specs.Steps.{EndsBehind};
 ghost use Rattle.pg_match.specs.Memories.{IsMemoryOf, IsAtRow, In, Finishes, HasSkimmed, Skimmed};
-ghost use Rattle.pg_match.specs.Views.{nfa, buffers, remembered, added, HasSeeds, Remembers, Tells};
+ghost use Rattle.pg_match.specs.Views.{nfa, buffers, remembered, added, HasSeeds, HasStarts, Remembers, Tells};
 
 use crate::automaton::Automaton;
 use crate::memory::{DEAD, HIT, Memory};
@@ -218,6 +218,7 @@ impl<A: Allocator> Automaton<A> {
     ) -> Option<(usize, usize)>
         requires runs { IsRunnable (nfa self.now) }
         requires seeds { HasSeeds self.now }
+        requires starts { HasStarts self.now }
         requires room { HaveRoom (buffers sets.old) (length self.now.states.items) }
         requires memory { IsMemoryOf (nfa self.now) (remembered memory.old) }
         requires bytes { 1 ≤ length line.now }
@@ -258,6 +259,7 @@ impl<A: Allocator> Automaton<A> {
     ) -> Option<(usize, usize)>
         requires runs { IsRunnable (nfa self.now) }
         requires seeds { HasSeeds self.now }
+        requires starts { HasStarts self.now }
         requires room { HaveRoom (buffers sets.old) (length self.now.states.items) }
         requires memory { Remembers memory.old (nfa self.now) }
         requires short { length line.now ≤ 2 ^ 30 }

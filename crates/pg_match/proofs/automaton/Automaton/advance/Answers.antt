@@ -1,56 +1,53 @@
-use Rattle.std.proofs.Common.{arith, ap, refl, length, ◌≡◌}
-use Rattle.pg_match.specs.Views.{members}
+use Rattle.std.proofs.Common.{◌≡◌, ℕ, Bool, not, Option, None, Some, false, ◌<◌, ◌∙◌, ap, arith, inl, inr, refl, sym, true≢false}
+use Rattle.std.specs.Prelude.{is_none, is_some}
+use Rattle.pg_match.specs.Bounds.{MayBegin}
+use Rattle.pg_match.specs.Views.{nfa, members}
+use Rattle.pg_match.proofs.StartLemmas.{seeded, unseeded}
 use Rattle.pg_match.proofs.automaton.Automaton.advance.Goals as goal
+use Rattle.pg_match.proofs.automaton.Automaton.advance.Goals.{then-place-gt0+then-is_none+then-may_begin, else-place-gt0}
+use Rattle.pg_match.proofs.automaton.Automaton.advance.Goals.{else-place-gt0-via-then-place-gt0+then-is_none+else-may_begin}
+use Rattle.pg_match.proofs.automaton.Automaton.advance.Goals.{else-place-gt0-via-then-place-gt0+else-is_none}
+use Rattle.pg_match.proofs.automaton.Automaton.advance.Goals.{else-place-gt0-via-else-place-gt0}
 
-pub limit-requires : goal.limit-requires
-limit-requires g c = omega arith
+not_none : (o : Option (ℕ × ℕ)) (r : Bool) → is_some o ≡ not r → r ≡ false → is_none o ≡ false
+not_none None r same other = absurd (true≢false (sym (same ∙ ap not other)))
+not_none (Some s) r same other = refl
 
-pub step-requires-clause-good : goal.step-requires-clause-good
-step-requires-clause-good g c = c.requires.room.now
-
-pub step-requires-clause-size : goal.step-requires-clause-size
-step-requires-clause-size g c = omega arith
-
-pub step-requires-clause-ordered : goal.step-requires-clause-ordered
-step-requires-clause-ordered g c = c.requires.ordered
-
-pub step-requires-clause-next_good : goal.step-requires-clause-next_good
-step-requires-clause-next_good g c = c.requires.room.next
-
-pub step-requires-clause-next_size : goal.step-requires-clause-next_size
-step-requires-clause-next_size g c = omega arith
-
-pub step-requires-clause-place : goal.step-requires-clause-place
-step-requires-clause-place g c = omega arith
-
-pub step-requires-clause-tidy : goal.step-requires-clause-tidy
-step-requires-clause-tidy g c = rw c.deref.ensures.value c.requires.runs.tidy
-
-pub returns-clause-stepped : goal.returns-clause-stepped
-returns-clause-stepped g c = rw c.swap.ensures.x_after (rw (c.deref.ensures.value, c.limit.ensures) at c.step.ensures.stepped)
-
-pub returns-clause-room : goal.returns-clause-room
-returns-clause-room g c =
-    let size : length c.step.new.next.marks.items ≡ length c.args.self.now.states.items = omega (
-      arith,
-      c.step.ensures.stepped.size,
-      c.requires.room.now_size,
-    ) in
-    record {
-      now = rw c.swap.ensures.x_after c.step.ensures.stepped.good;
-      next = rw c.swap.ensures.y_after
-          c.requires.room.now;
-      now_size = rw c.swap.ensures.x_after size;
-      next_size = rw c.swap.ensures.y_after
-          c.requires.room.now_size;
-    }
-
-pub returns-clause-visits : goal.returns-clause-visits
-returns-clause-visits g c = refl
-
-pub returns-clause-counted : goal.returns-clause-counted
-returns-clause-counted g c =
-    let x = ap (λ s. (members s).added) c.swap.ensures.x_after in
-    let y = ap (λ s. (members s).added) c.swap.ensures.y_after in
-    let len = ap (λ s. (members s).len) c.swap.ensures.x_after in
-    omega (arith, x, y, len, c.step.ensures.counted)
+pub returns-clause-advanced : goal.returns-clause-advanced
+returns-clause-advanced g c =
+    let m = nfa c.args.self.now in
+    let l = c.args.line.now in
+    let p = c.args.place in
+    let x = m.start in
+    let B = MayBegin m.bounds l in
+    let mid = members c.step.new.next in
+    let step = rw (c.deref.ensures.value, c.limit.ensures) at c.step.ensures.stepped in
+    let wanted = is_none c.args.best in
+    elim c.if-place-gt0.branch [
+      | then-place-gt0+then-is_none+then-may_begin w ↦
+          let some : 0 < p = w.if-place-gt0.true in
+          let sown = seeded m.states l x p B c.args.self.now.seeds.items c.requires.seeds mid _ wanted
+          (λ e. omega arith) (λ e. omega (arith, c.requires.place)) (w.may_begin.ensures.0 w.if-may_begin.true)
+          w.sow.ensures in
+          rw (c.swap.ensures.x_after, w.sets-is) (mid, step, inr (some, sown))
+      | else-place-gt0 w ↦
+          rw (c.swap.ensures.x_after, w.sets-is) (
+            mid,
+            step,
+            elim w.else-place-gt0.branch [
+              | else-place-gt0-via-then-place-gt0+then-is_none+else-may_begin v ↦
+                  inr (
+                    v.if-place-gt0.true,
+                    unseeded m.states l x p B mid wanted step.good step.closed step.ordered
+                        (λ w may. true≢false (sym (v.may_begin.ensures.1 may) ∙ v.if-may_begin.false)),
+                  )
+              | else-place-gt0-via-then-place-gt0+else-is_none v ↦
+                  inr (
+                    v.if-place-gt0.true,
+                    unseeded m.states l x p B mid wanted step.good step.closed step.ordered
+                        (λ is may. true≢false (sym is ∙ not_none c.args.best _ v.is_none.ensures v.if-is_none.false)),
+                  )
+              | else-place-gt0-via-else-place-gt0 v ↦ inl (omega (arith, v.if-place-gt0.false), refl)
+            ],
+          )
+    ]

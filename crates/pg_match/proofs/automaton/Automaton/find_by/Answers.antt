@@ -102,3 +102,9 @@ returns-in-Unknown-clause-memory g c = c.study.ensures.memory
 
 pub returns-in-Unknown-clause-visits : goal.returns-in-Unknown-clause-visits
 returns-in-Unknown-clause-visits g c = c.study.ensures.visits
+
+pub find-requires-clause-starts : goal.find-requires-clause-starts
+find-requires-clause-starts g c = c.requires.starts
+
+pub find-best-requires-clause-starts : goal.find-best-requires-clause-starts
+find-best-requires-clause-starts g c = c.requires.starts

@@ -51,3 +51,9 @@ returns-in_default-clause-room g c = c.find.ensures.room
 
 pub returns-in_default-clause-visits : goal.returns-in_default-clause-visits
 returns-in_default-clause-visits g c = c.find.ensures.visits
+
+pub find_by-requires-clause-starts : goal.find_by-requires-clause-starts
+find_by-requires-clause-starts g c = c.requires.starts
+
+pub find-requires-clause-starts : goal.find-requires-clause-starts
+find-requires-clause-starts g c = c.requires.starts

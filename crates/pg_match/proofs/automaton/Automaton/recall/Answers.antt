@@ -8,10 +8,13 @@ use Rattle.pg_match.proofs.StandsLemmas.{stands_first, stands_next, run_before}
 use Rattle.pg_match.proofs.MemoryLemmas.{at_row, visits_small, visits_later, visits_on}
 use Rattle.pg_match.proofs.automaton.Automaton.recall.Goals as goal
 
-pub search_on-requires-clause-stands : goal.search_on-requires-clause-stands
-search_on-requires-clause-stands g c =
-    stands_first (nfa c.args.self.now) c.args.line.now (Has (members c.first.new.sets.current))
-    (c.first.ensures.full c.if-not-first.true).1
+pub search_first-requires-clause-begun : goal.search_first-requires-clause-begun
+search_first-requires-clause-begun g c = (c.first.ensures.full c.if-not-first.true).1
+
+pub search_first-requires-clause-visits : goal.search_first-requires-clause-visits
+search_first-requires-clause-visits g c =
+    let full = c.first.ensures.full c.if-not-first.true in
+    omega (arith, full.0, c.requires.visits)
 
 pub loop-sets-init : goal.loop-sets-init
 loop-sets-init g c =
@@ -140,8 +143,8 @@ loop-sets-preserved g c =
       told = omega (arith, c.loop-sets.invariant.told, c.in-Row.ensures.told);
     }
 
-pub search_on-requires-in-Lost-clause-stands : goal.search_on-requires-in-Lost-clause-stands
-search_on-requires-in-Lost-clause-stands g c =
+pub search_on-requires-clause-stands : goal.search_on-requires-clause-stands
+search_on-requires-clause-stands g c =
     let m = nfa c.args.self.now in
     let l = c.args.line.now in
     let mem = remembered c.loop-sets.memory in
@@ -154,8 +157,8 @@ search_on-requires-in-Lost-clause-stands g c =
     stands_next m l 0 p _ (In mem (c.walk-at.result.0 / 256))
     (Has (members c.learn.new.sets.current)) byte lt s learned.1 (omega arith) c.requires.runs learned.0
 
-pub search_on-requires-in-Lost-clause-visits : goal.search_on-requires-in-Lost-clause-visits
-search_on-requires-in-Lost-clause-visits g c =
+pub search_on-requires-clause-visits : goal.search_on-requires-clause-visits
+search_on-requires-clause-visits g c =
     let n : ℕ = length c.args.self.now.states.items in
     let v = visits_later c.loop-sets.place c.walk-at.result.1 n c.loop-sets.sets.visits c.loop-sets.invariant.visits
     c.walk-at.ensures.onward in
@@ -197,26 +200,14 @@ first-requires-clause-memory g c = c.requires.memory
 pub first-requires-clause-visits : goal.first-requires-clause-visits
 first-requires-clause-visits g c = omega arith
 
-pub search_on-requires-clause-runs : goal.search_on-requires-clause-runs
-search_on-requires-clause-runs g c = c.requires.runs
-
-pub search_on-requires-clause-room : goal.search_on-requires-clause-room
-search_on-requires-clause-room g c = c.first.ensures.room
-
-pub search_on-requires-clause-short : goal.search_on-requires-clause-short
-search_on-requires-clause-short g c = omega arith
-
-pub search_on-requires-clause-from_in : goal.search_on-requires-clause-from_in
-search_on-requires-clause-from_in g c = omega arith
-
 pub returns-then-not-first-clause-room : goal.returns-then-not-first-clause-room
-returns-then-not-first-clause-room g c = c.search_on.ensures.room
+returns-then-not-first-clause-room g c = c.search_first.ensures.room
 
 pub returns-then-not-first-clause-memory : goal.returns-then-not-first-clause-memory
 returns-then-not-first-clause-memory g c = c.first.ensures.memory
 
 pub returns-then-not-first-clause-exact : goal.returns-then-not-first-clause-exact
-returns-then-not-first-clause-exact g c = c.search_on.ensures.exact
+returns-then-not-first-clause-exact g c = c.search_first.ensures.exact
 
 pub returns-then-not-first-clause-visits : goal.returns-then-not-first-clause-visits
 returns-then-not-first-clause-visits g c = omega arith
@@ -275,23 +266,23 @@ returns-in-Hit-clause-room g c = c.learn.ensures.room
 pub returns-in-Hit-clause-memory : goal.returns-in-Hit-clause-memory
 returns-in-Hit-clause-memory g c = c.learn.ensures.memory
 
-pub search_on-requires-in-Lost-clause-runs : goal.search_on-requires-in-Lost-clause-runs
-search_on-requires-in-Lost-clause-runs g c = c.requires.runs
+pub search_on-requires-clause-runs : goal.search_on-requires-clause-runs
+search_on-requires-clause-runs g c = c.requires.runs
 
-pub search_on-requires-in-Lost-clause-room : goal.search_on-requires-in-Lost-clause-room
-search_on-requires-in-Lost-clause-room g c = c.learn.ensures.room
+pub search_on-requires-clause-room : goal.search_on-requires-clause-room
+search_on-requires-clause-room g c = c.learn.ensures.room
 
-pub search_on-requires-in-Lost-clause-short : goal.search_on-requires-in-Lost-clause-short
-search_on-requires-in-Lost-clause-short g c = omega arith
+pub search_on-requires-clause-short : goal.search_on-requires-clause-short
+search_on-requires-clause-short g c = omega arith
 
-pub search_on-requires-in-Lost-clause-from_in : goal.search_on-requires-in-Lost-clause-from_in
-search_on-requires-in-Lost-clause-from_in g c = omega arith
+pub search_on-requires-clause-from_in : goal.search_on-requires-clause-from_in
+search_on-requires-clause-from_in g c = omega arith
 
 pub returns-in-Lost-clause-room : goal.returns-in-Lost-clause-room
-returns-in-Lost-clause-room g c = c.search_on-in-Lost.ensures.room
+returns-in-Lost-clause-room g c = c.search_on.ensures.room
 
 pub returns-in-Lost-clause-exact : goal.returns-in-Lost-clause-exact
-returns-in-Lost-clause-exact g c = c.search_on-in-Lost.ensures.exact
+returns-in-Lost-clause-exact g c = c.search_on.ensures.exact
 
 pub returns-in-Lost-clause-visits : goal.returns-in-Lost-clause-visits
 returns-in-Lost-clause-visits g c = omega arith
@@ -299,13 +290,8 @@ returns-in-Lost-clause-visits g c = omega arith
 pub returns-in-Lost-clause-memory : goal.returns-in-Lost-clause-memory
 returns-in-Lost-clause-memory g c = rw c.lose.ensures c.in-Lost.ensures.memory
 
-pub search_on-requires-clause-visits : goal.search_on-requires-clause-visits
-search_on-requires-clause-visits g c =
-    let full = c.first.ensures.full c.if-not-first.true in
-    omega (arith, full.0, c.requires.visits)
-
 pub returns-then-not-first-clause-told : goal.returns-then-not-first-clause-told
-returns-then-not-first-clause-told g c = omega (arith, c.first.ensures.told, c.search_on.ensures.told)
+returns-then-not-first-clause-told g c = omega (arith, c.first.ensures.told, c.search_first.ensures.told)
 
 pub returns-then-here-line-clause-told : goal.returns-then-here-line-clause-told
 returns-then-here-line-clause-told g c = omega (arith, c.loop-sets.invariant.told, c.finish.ensures.told)
@@ -318,4 +304,28 @@ returns-in-Dead-clause-told g c = omega (arith, c.loop-sets.invariant.told, c.in
 
 pub returns-in-Lost-clause-told : goal.returns-in-Lost-clause-told
 returns-in-Lost-clause-told g c =
-    omega (arith, c.loop-sets.invariant.told, c.in-Lost.ensures.told, c.search_on-in-Lost.ensures.told)
+    omega (arith, c.loop-sets.invariant.told, c.in-Lost.ensures.told, c.search_on.ensures.told)
+
+pub search_first-requires-clause-runs : goal.search_first-requires-clause-runs
+search_first-requires-clause-runs g c = c.requires.runs
+
+pub search_first-requires-clause-seeds : goal.search_first-requires-clause-seeds
+search_first-requires-clause-seeds g c = c.requires.seeds
+
+pub search_first-requires-clause-starts : goal.search_first-requires-clause-starts
+search_first-requires-clause-starts g c = c.requires.starts
+
+pub search_first-requires-clause-short : goal.search_first-requires-clause-short
+search_first-requires-clause-short g c = c.requires.short
+
+pub search_first-requires-clause-bytes : goal.search_first-requires-clause-bytes
+search_first-requires-clause-bytes g c = c.requires.bytes
+
+pub search_on-requires-clause-seeds : goal.search_on-requires-clause-seeds
+search_on-requires-clause-seeds g c = c.requires.seeds
+
+pub search_on-requires-clause-starts : goal.search_on-requires-clause-starts
+search_on-requires-clause-starts g c = c.requires.starts
+
+pub search_first-requires-clause-room : goal.search_first-requires-clause-room
+search_first-requires-clause-room g c = c.first.ensures.room

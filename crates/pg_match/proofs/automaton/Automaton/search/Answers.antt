@@ -1,32 +1,18 @@
+use Rattle.std.proofs.Common.{◌∙◌, length, true, refl, sym, subst}
+use Rattle.std.proofs.lemmas.Bool.{eqb-true}
+use Rattle.pg_match.specs.Stands.{Stands}
 use Rattle.pg_match.specs.Steps.{Has}
 use Rattle.pg_match.specs.Views.{nfa, members}
 use Rattle.pg_match.proofs.StandsLemmas.{stands_first}
+use Rattle.pg_match.proofs.MemoryLemmas.{ended_so}
 use Rattle.pg_match.proofs.automaton.Automaton.search.Goals as goal
 
-pub search_on-requires-clause-stands : goal.search_on-requires-clause-stands
-search_on-requires-clause-stands g c =
-    stands_first (nfa c.args.self.now) c.args.line.now (Has (members c.begin.new.sets.current)) c.begin.ensures.starts
-
-pub begin-requires-clause-runs : goal.begin-requires-clause-runs
-begin-requires-clause-runs g c = c.requires.runs
-
-pub begin-requires-clause-room : goal.begin-requires-clause-room
-begin-requires-clause-room g c = c.requires.room
-
-pub search_on-requires-clause-runs : goal.search_on-requires-clause-runs
-search_on-requires-clause-runs g c = c.requires.runs
-
-pub search_on-requires-clause-short : goal.search_on-requires-clause-short
-search_on-requires-clause-short g c = c.requires.short
-
-pub search_on-requires-clause-room : goal.search_on-requires-clause-room
-search_on-requires-clause-room g c = c.begin.ensures.room
-
-pub returns-clause-room : goal.returns-clause-room
-returns-clause-room g c = c.search_on.ensures.room
-
-pub returns-clause-exact : goal.returns-clause-exact
-returns-clause-exact g c = c.search_on.ensures.exact
-
-pub returns-clause-visits : goal.returns-clause-visits
-returns-clause-visits g c = c.search_on.ensures.visits
+pub returns-then-is_empty-clause-exact : goal.returns-then-is_empty-clause-exact
+returns-then-is_empty-clause-exact g c =
+    let m = nfa c.args.self.now in
+    let l = c.args.line.now in
+    let S = Has (members c.begin.new.sets.current) in
+    let none = eqb-true (length l) 0 (sym c.is_empty.ensures ∙ c.if-is_empty.true) in
+    ended_so m l 0 S c.hits_at_end.result true c.requires.runs
+    (subst (λ p. Stands m l 0 p S) (sym none) (stands_first m l S c.begin.ensures.starts))
+    (λ t. none) (λ e. refl) c.hits_at_end.ensures.answer

@@ -59,3 +59,15 @@ returns-in_default-clause-room g c = c.search.ensures.room
 
 pub returns-in_default-clause-visits : goal.returns-in_default-clause-visits
 returns-in_default-clause-visits g c = c.search.ensures.visits
+
+pub recall-requires-clause-seeds : goal.recall-requires-clause-seeds
+recall-requires-clause-seeds g c = c.requires.seeds
+
+pub recall-requires-clause-starts : goal.recall-requires-clause-starts
+recall-requires-clause-starts g c = c.requires.starts
+
+pub search-requires-clause-seeds : goal.search-requires-clause-seeds
+search-requires-clause-seeds g c = c.requires.seeds
+
+pub search-requires-clause-starts : goal.search-requires-clause-starts
+search-requires-clause-starts g c = c.requires.starts

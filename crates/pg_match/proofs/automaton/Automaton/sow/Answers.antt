@@ -1,27 +1,58 @@
-use Rattle.std.proofs.Common.{◌+◌, ◌<◌, length, arith, subst}
+use Rattle.std.proofs.Common.{◌<◌, ◌+◌, length, arith, subst}
 use Rattle.std.proofs.lemmas.List.{get_or_read}
-use Rattle.pg_match.specs.StateSets.{Inserted}
+use Rattle.std.proofs.lemmas.Option.{slice_get-get_or}
+use Rattle.std.specs.Prelude.{slice_get, slice_index}
+use Rattle.pg_match.specs.Closures.{Reached}
 use Rattle.pg_match.specs.Views.{members}
-use Rattle.pg_match.proofs.ClosureLemmas.{sown_first, sown_next}
+use Rattle.pg_match.proofs.StartLemmas.{sowing_next, sown, read_inside}
+use Rattle.pg_match.proofs.StandsLemmas.{reads_edge}
 use Rattle.pg_match.proofs.automaton.Automaton.sow.Goals as goal
 
-pub insert-requires-clause-within : goal.insert-requires-clause-within
-insert-requires-clause-within g c =
-    let seeds = c.args.self.now.seeds.items in
-    let lt : c.loop-k.k < length seeds = omega arith in
-    let read = get_or_read seeds c.loop-k.k _ lt c.index-state.ensures 0 in
-    let inside = c.requires.seeds.inside c.loop-k.k lt in
-    let size = c.loop-k.invariant.size in
-    omega (arith, read, inside, size, c.requires.size)
-
-pub loop-k-init : goal.loop-k-init
-loop-k-init g c = sown_first c.args.self.now.states.items _ _ _ c.requires.good c.requires.ordered c.requires.below
+pub reach-requires-clause-within : goal.reach-requires-clause-within
+reach-requires-clause-within g c =
+    let m = c.args.self.now in
+    let b = slice_index c.args.line.now c.args.place in
+    let byte : b < 256 = omega (arith, c.type_inv.line c.args.place) in
+    let up = c.requires.starts.below.upto b byte in
+    let lt : c.loop-k.k < length m.starts.targets.items = omega (arith, c.row-first.ensures.last) in
+    let read = get_or_read m.starts.targets.items c.loop-k.k _ lt c.index-target.ensures 0 in
+    let w = c.requires.starts.below.from b c.loop-k.k byte (omega (arith, c.row-first.ensures.first, c.loop-k.auto.k))
+    (omega (arith, c.row-first.ensures.last)) in
+    let inside = read_inside m.states.items _ b _ c.requires.runs.tidy (c.requires.seeds.inside w.0 w.1) w.2 in
+    omega (arith, read, inside, c.deref.ensures.len)
 
 pub loop-k-preserved : goal.loop-k-preserved
 loop-k-preserved g c =
-    let seeds = c.args.self.now.seeds.items in
-    let lt : c.loop-k.k < length seeds = omega arith in
-    let read = get_or_read seeds c.loop-k.k _ lt c.index-state.ensures 0 in
-    sown_next c.args.self.now.states.items seeds _ _ _ _ c.loop-k.k c.loop-k.invariant
-    (subst (λ q. Inserted (members c.loop-k.set) (members c.insert.new.self) q (c.args.place + 1)) read
-    c.insert.ensures.inserted) c.insert.ensures.counted
+    let m = c.args.self.now in
+    let l = c.args.line.now in
+    let p = c.args.place in
+    let b = slice_index l p in
+    let k = c.loop-k.k in
+    let t = m.states.items in
+    let targets = m.starts.targets.items in
+    let byte : b < 256 = omega (arith, c.type_inv.line p) in
+    let up = c.requires.starts.below.upto b byte in
+    let lt : k < length targets = omega (arith, c.row-first.ensures.last) in
+    let read = get_or_read targets k _ lt c.index-target.ensures 0 in
+    let w = c.requires.starts.below.from b k byte (omega (arith, c.row-first.ensures.first, c.loop-k.auto.k))
+    (omega (arith, c.row-first.ensures.last)) in
+    let is = slice_get-get_or l p 0 c.requires.place in
+    let u = members c.loop-k.next in
+    let v = members c.reach.new.set in
+    let reached = rw c.deref.ensures.value at c.reach.ensures.reached in
+    sowing_next t l p m.seeds.items targets (members c.args.next.now) (p + 1) c.row-first.result.0 u v k
+    c.loop-k.invariant (subst (λ q. Reached t l (p + 1) u v q (p + 1)) read reached) w.0 w.1
+    (reads_edge (slice_get t (slice_index m.seeds.items w.0)) l p b (slice_index targets k) is w.2)
+
+pub returns : goal.returns
+returns g c =
+    let m = c.args.self.now in
+    let l = c.args.line.now in
+    let p = c.args.place in
+    let b = slice_index l p in
+    let byte : b < 256 = omega (arith, c.type_inv.line p) in
+    let is = slice_get-get_or l p 0 c.requires.place in
+    sown m.states.items l p m.seeds.items m.starts.targets.items (members c.args.next.now) (p + 1)
+    c.row-first.result.0 (members c.loop-k.next) c.loop-k.k b m.starts.cuts.items c.loop-k.invariant
+    c.requires.starts.below byte is c.row-first.ensures.first
+    (omega (arith, c.row-first.ensures.last, c.loop-k-test.false))

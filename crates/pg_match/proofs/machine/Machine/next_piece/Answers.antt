@@ -19,6 +19,9 @@ next_piece-requires-clause-runs g c = rw c.deref-automaton.ensures c.self.invari
 pub next_piece-requires-clause-seeds : goal.next_piece-requires-clause-seeds
 next_piece-requires-clause-seeds g c = rw c.deref-automaton.ensures c.self.invariant.1
 
+pub next_piece-requires-clause-starts : goal.next_piece-requires-clause-starts
+next_piece-requires-clause-starts g c = rw c.deref-automaton.ensures c.self.invariant.2
+
 pub returns-clause-next : goal.returns-clause-next
 returns-clause-next g c =
     λ patterns bounds is.

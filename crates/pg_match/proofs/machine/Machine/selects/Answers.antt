@@ -21,3 +21,9 @@ selects-requires-clause-short g c = c.requires.short
 
 pub selects-requires-clause-runs : goal.selects-requires-clause-runs
 selects-requires-clause-runs g c = rw c.deref-automaton.ensures c.self.invariant.0
+
+pub selects-requires-clause-seeds : goal.selects-requires-clause-seeds
+selects-requires-clause-seeds g c = rw c.deref-automaton.ensures c.self.invariant.1
+
+pub selects-requires-clause-starts : goal.selects-requires-clause-starts
+selects-requires-clause-starts g c = rw c.deref-automaton.ensures c.self.invariant.2

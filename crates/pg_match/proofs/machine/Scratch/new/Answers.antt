@@ -1,4 +1,9 @@
 use Rattle.std.proofs.lemmas.Result.{IfOk-from_err}
+use Rattle.std.proofs.Common.{◌≡◌, ◌∙◌, ap, length, subst, sym}
+use Rattle.std.specs.Arc.{arc_value}
+use Rattle.pg_match.specs.StateSets.{HaveRoom}
+use Rattle.pg_match.specs.Views.{nfa, buffers}
+use Rattle.pg_match.proofs.MemoryLemmas.{new_remembers}
 use Rattle.pg_match.proofs.machine.Scratch.new.Goals as goal
 
 pub returns-in_err-automaton-clause-fits : goal.returns-in_err-automaton-clause-fits
@@ -18,3 +23,13 @@ returns-in_err-sets-clause-visits g c = IfOk-from_err c.from_residual-in_err-set
 
 pub returns-in_err-sets-clause-added : goal.returns-in_err-sets-clause-added
 returns-in_err-sets-clause-added g c = IfOk-from_err c.from_residual-in_err-sets.result _ c.from_residual-in_err-sets.ensures.0
+
+pub invariant_of-result : goal.invariant_of-result
+invariant_of-result g c =
+    let states = c.deref-states.result.now.states in
+    let m = nfa (arc_value c.in_ok-automaton.automaton) in
+    let same : length states.items ≡ length m.states =
+    ap (λ a. length (nfa a).states) (c.deref-states.ensures ∙ sym c.in_ok-automaton.ensures) in
+    let room = c.in_ok-sets.ensures.room in
+    let memory = new_remembers c.new-2.result c.len-2.result m c.new-2.ensures (c.len-2.ensures ∙ states.ok.0 ∙ same) in
+    (subst (HaveRoom (buffers c.in_ok-sets.sets)) (c.len.ensures ∙ states.ok.0 ∙ same) room, rw c.ok-memory.ensures.value memory)

@@ -1,0 +1,28 @@
+use Rattle.std.proofs.Common.{◌<◌, ◌∙◌, length, arith, sym, refl, true≢false}
+use Rattle.std.proofs.lemmas.Option.{slice_get-get_or}
+use Rattle.pg_match.specs.Steps.{Has}
+use Rattle.pg_match.specs.Views.{nfa, members}
+use Rattle.pg_match.proofs.StandsLemmas.{stands_first, stands_next, run_before}
+use Rattle.pg_match.proofs.automaton.Automaton.search_first.Goals as goal
+
+pub returns-then-hits_before-clause-exact : goal.returns-then-hits_before-clause-exact
+returns-then-hits_before-clause-exact g c = (
+  λ t.
+      let m = nfa c.args.self.now in
+      let l = c.args.line.now in
+      let S = Has (members c.args.sets.now.current) in
+      let lt : 0 < length l = omega (arith, c.requires.bytes) in
+      run_before m l 0 0 _ S (stands_first m l S c.requires.begun) c.requires.runs (slice_get-get_or l 0 0 lt) lt
+      (c.hits_before.ensures.0 c.if-hits_before.true),
+  λ run. refl,
+)
+
+pub search_on-requires-clause-stands : goal.search_on-requires-clause-stands
+search_on-requires-clause-stands g c =
+    let m = nfa c.args.self.now in
+    let l = c.args.line.now in
+    let S = Has (members c.args.sets.now.current) in
+    let lt : 0 < length l = omega (arith, c.requires.bytes) in
+    stands_next m l 0 0 _ S (Has (members c.go.new.sets.current)) (slice_get-get_or l 0 0 lt) lt
+    (stands_first m l S c.requires.begun) c.go.ensures.goes (omega arith) c.requires.runs
+    (λ h. true≢false (sym (c.hits_before.ensures.1 h) ∙ c.if-hits_before.false))
