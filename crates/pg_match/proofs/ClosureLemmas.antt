@@ -98,7 +98,8 @@ module _ (t : List State) (l : List ℕ) (i : ℕ) where
   pub jump_followed : (s u : Members) (q y start : ℕ) → slice_get t q ≡ Some (Jump y) → Inserted s u y start
       → Counted s u → Followed t l i s u q start
   jump_followed s u q y start is ins counted =
-      followed_one s u q y start ins counted (subst (λ o. On o y) (sym is) (refl, refl)) (λ r e. (subst (λ o. On o r) is e).0)
+      followed_one s u q y start ins counted (subst (λ o. On o y) (sym is) (refl, refl))
+      (λ r e. (subst (λ o. On o r) is e).0)
 
   pub begin_followed : (s u : Members) (q y start : ℕ) → slice_get t q ≡ Some (AtBegin y) → i ≡ 0 → Inserted s u y start
       → Counted s u → Followed t l i s u q start

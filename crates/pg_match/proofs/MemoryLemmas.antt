@@ -12,8 +12,9 @@ use Rattle.pg_match.specs.Automata.{Nfa, IsRunnable}
 use Rattle.pg_match.specs.StateSets.{Members, mark, listed, IsGood, Inserted}
 use Rattle.pg_match.specs.Steps.{Has, Goes, Starts, HitBefore, AnswersEnd, ReadsNone}
 use Rattle.pg_match.specs.Stands.{Stands, HasRun}
-use Rattle.pg_match.specs.Memories.{Remembered, cut, ended, fresh_at, In, Same, IsShape, Told, IsMemoryOf, IsHopeless, IsBlank}
-use Rattle.pg_match.specs.Memories.{Keeps, Grown, SameSets, Marked, MarkedEnd, IsAtRow, StandsAt, Learned, Finishes}
+use Rattle.pg_match.specs.Memories.{Remembered, cut, ended, fresh_at, In, Same, IsShape, Told, IsMemoryOf}
+use Rattle.pg_match.specs.Memories.{IsHopeless, IsBlank, Keeps, Grown, SameSets, Marked, MarkedEnd, IsAtRow}
+use Rattle.pg_match.specs.Memories.{StandsAt, Learned, Finishes}
 use Rattle.pg_match.specs.Views.{remembered, Remembers}
 use Rattle.pg_match.specs.declared.memory.Memory.{Memory}
 use Rattle.pg_match.specs.declared.recall.Next.TheVariants.{Row, Lost}
@@ -218,7 +219,8 @@ starts_same m S U s g = record {
   still = λ q h r edge. (s r).0 (g.still q ((s q).1 h) r edge);
 }
 
-pub stands_at : (m : Nfa) (l : List ℕ) (from p : ℕ) (S U : ℕ → Type 0) → Same S U → Stands m l from p S → Stands m l from p U
+pub stands_at : (m : Nfa) (l : List ℕ) (from p : ℕ) (S U : ℕ → Type 0) → Same S U → Stands m l from p S
+    → Stands m l from p U
 stands_at m l from p S U same s = record {
   sound = λ q h. s.sound q ((same q).1 h);
   complete = λ v n j ge le o run past.
@@ -232,7 +234,8 @@ told_moves : (m : Nfa) (old new : Remembered) (r b v : ℕ) → Keeps old new �
 told_moves m old new r b v k le (inl zero_v) = inl zero_v
 told_moves m old new r b v k le (inr (inl hit)) = inr (inl (hit.0, ((k.sets r le 0).0 hit.1.0, hit.1.1)))
 told_moves m old new r b v k le (inr (inr (inl dead))) =
-    inr (inr (inl (dead.0, λ l from p lt s. dead.1 l from p lt (stands_at m l from p (In new r) (In old r) (same_back (In old r) (In new r) (k.sets r le)) s))))
+    let back = same_back (In old r) (In new r) (k.sets r le) in
+    inr (inr (inl (dead.0, λ l from p lt s. dead.1 l from p lt (stands_at m l from p (In new r) (In old r) back s))))
 told_moves m old new r b v k le (inr (inr (inr go))) =
     let from = k.sets r le in
     let to = k.sets go.0 go.3 in
@@ -630,7 +633,8 @@ told_hit m mem state v b is s lt read one =
       | inl zero_v ↦ absurd (omega arith)
       | inr rest ↦ elim rest [
         | inl hit ↦ hit.1
-        | inr more ↦ elim more [ inl dead ↦ absurd (omega (arith, dead.0)) | inr go ↦ absurd (omega (arith, go.1, go.2)) ]
+        | inr more ↦
+            elim more [ inl dead ↦ absurd (omega (arith, dead.0)) | inr go ↦ absurd (omega (arith, go.1, go.2)) ]
       ]
     ]
 

@@ -316,7 +316,8 @@ module _ (t : List State) (l : List ℕ) where
 
     -- no state is left but the one where matches end
     pub over : (p : ℕ) (now : Members) (c : ℕ × ℕ) (end : ℕ) → IsBest t l x B E from (p + 1) (Some c)
-        → Alive t l x B from (start_bound p) p now (Some c) → slice_get t 0 ≡ Some Accept → ((q : ℕ) → 0 < mark now q → q ≡ 0)
+        → Alive t l x B from (start_bound p) p now (Some c) → slice_get t 0 ≡ Some Accept
+        → ((q : ℕ) → 0 < mark now q → q ≡ 0)
         → p + 1 ≤ end → IsBest t l x B E from end (Some c)
     over p now c end b a accept last le = (
       b.0,
@@ -328,7 +329,8 @@ module _ (t : List State) (l : List ℕ) where
         | inr after ↦ elim (cases_lt c.0 s) [
           | inl later ↦ (omega arith, λ e. absurd (omega arith))
           | inr early ↦
-              let w = a.complete s run.2.0 j ge (omega (arith, b.1, b.2, start_all p)) run.0 early run.2.1 (omega arith) in
+              let w = a.complete s run.2.0 j ge (omega (arith, b.1, b.2, start_all p)) run.0 early run.2.1
+              (omega arith) in
               let ends = subst (λ q. slice_get t q ≡ Some Accept) (sym (last w.0 w.2)) accept in
               absurd (omega (arith, stays w.1 w.0 p j ends w.4))
         ]

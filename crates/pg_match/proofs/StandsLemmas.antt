@@ -53,7 +53,8 @@ byte_at l p b is = get_or_from_slice_get l p b 0 is
 back : (p : ℕ) → p + 1 - 1 ≡ p
 back p = omega arith
 
-pub begins : (o : Bounds) (l : List ℕ) (p b : ℕ) → slice_get l p ≡ Some b → IsTrue (begins_after o b) → MayBegin o l (p + 1)
+pub begins : (o : Bounds) (l : List ℕ) (p b : ℕ) → slice_get l p ≡ Some b → IsTrue (begins_after o b)
+    → MayBegin o l (p + 1)
 begins Any l p b is h = tt
 begins Word l p b is h = inr (ap (λ v. is_word_byte (slice_index l v)) (back p)
     ∙ not_word (is_word_byte (slice_index l p)) (ap (λ v. not (is_word_byte v)) (byte_at l p b is) ∙ h))
@@ -63,7 +64,8 @@ begins Word l p b is h = inr (ap (λ v. is_word_byte (slice_index l v)) (back p)
     not_word false e = refl
 begins Whole l p b is h = absurd (true≢false (sym h))
 
-pub begun : (o : Bounds) (l : List ℕ) (p b : ℕ) → slice_get l p ≡ Some b → MayBegin o l (p + 1) → IsTrue (begins_after o b)
+pub begun : (o : Bounds) (l : List ℕ) (p b : ℕ) → slice_get l p ≡ Some b → MayBegin o l (p + 1)
+    → IsTrue (begins_after o b)
 begun Any l p b is h = refl
 begun Word l p b is (inl h) = absurd (omega arith)
 begun Word l p b is (inr h) =
@@ -229,7 +231,8 @@ module _ (m : Nfa) (l : List ℕ) where
               | inr near ↦
                   let same : j ≡ p = omega (arith, near, past) in
                   let there = subst (λ v. Runs m.states l c.1 c.0 p v) same c.3 in
-                  missed (ends_here p S (s.closed lt) is_m c.1 c.0 c.2 there, ended m.bounds l p b is lt (subst (MayEnd m.bounds l) same run.1))
+                  let end = subst (MayEnd m.bounds l) same run.1 in
+                  missed (ends_here p S (s.closed lt) is_m c.1 c.0 c.2 there, ended m.bounds l p b is lt end)
             ]
       ]
     ]

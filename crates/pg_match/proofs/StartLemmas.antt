@@ -1,7 +1,7 @@
 -- Starts, and what the next byte leads to from them.
 use Rattle.std.proofs.Common.{◌≡◌, ◌≢◌, ℕ, zero, suc, ◌+◌, ◌<◌, ◌≤◌, ◌↔◌, inl, inr, List, [], ◌∷◌, ◌++◌, length}
-use Rattle.std.proofs.Common.{get_or, set, Option, Some, Bool, true, false, true≢false, refl, sym, ap, ◌∙◌, subst, arith}
-use Rattle.std.proofs.Common.{IsTrue, length-append, get_or-set_same, get_or-set_other}
+use Rattle.std.proofs.Common.{get_or, set, Option, Some, Bool, true, false, true≢false, refl, sym, ap, ◌∙◌, subst}
+use Rattle.std.proofs.Common.{arith, IsTrue, length-append, get_or-set_same, get_or-set_other}
 use Rattle.std.specs.Prelude.{slice_get, slice_index}
 use Rattle.std.proofs.lemmas.Bool.{cases_eq, cases_lt}
 use Rattle.std.proofs.lemmas.List.{get_or_append_left}
@@ -94,7 +94,8 @@ module _ (t : List State) (seeds : List ℕ) (b : ℕ) (old : List ℕ) where
           | inr other ↦
               let before : j < length new = omega (arith, len) in
               let w = g.from j ge before in
-              (w.0, omega (arith, w.1), subst (λ v. Reads (Seed w.0) b v) (sym (pushed_before new after x push j before)) w.2)
+              let e = pushed_before new after x push j before in
+              (w.0, omega (arith, w.1), subst (λ v. Reads (Seed w.0) b v) (sym e) w.2)
         ];
         all = λ i r lt h. elim (cases_eq i k) [
           | inl same ↦
@@ -150,7 +151,8 @@ module _ (t : List State) (seeds : List ℕ) where
               let high = same (b + 1) (omega arith) in
               let up = a.upto b lt' in
               let w = a.from b j lt' (omega (arith, low)) (omega (arith, high)) in
-              (w.0, w.1, subst (λ v. Reads (slice_get t (slice_index seeds w.0)) b v) (sym (g.kept j (omega (arith, high, up)))) w.2)
+              let e = g.kept j (omega (arith, high, up)) in
+              (w.0, w.1, subst (λ v. Reads (slice_get t (slice_index seeds w.0)) b v) (sym e) w.2)
         ];
         all = λ b k r lt inside h. elim (cases_eq b n) [
           | inl is ↦
@@ -376,7 +378,8 @@ module _ (t : List State) (seeds : List ℕ) (b : ℕ) (begins : Bool) (now : Me
     still = c.still;
   }
 
-pub with_so : (seeds : List ℕ) (B C : Type 0) (S : ℕ → Type 0) → B ↔ C → Same (WithSeeds seeds B S) (WithSeeds seeds C S)
+pub with_so : (seeds : List ℕ) (B C : Type 0) (S : ℕ → Type 0) → B ↔ C
+    → Same (WithSeeds seeds B S) (WithSeeds seeds C S)
 with_so seeds B C S same q = (
   λ h. elim h [ inl old ↦ inl old | inr seed ↦ inr (same.0 seed.0, seed.1) ],
   λ h. elim h [ inl old ↦ inl old | inr seed ↦ inr (same.1 seed.0, seed.1) ],

@@ -108,7 +108,8 @@ module _ (t : List State) (f e : Bool) where
 
   pub begin_spread : (s u : Members) (q y : ℕ) → slice_get t q ≡ Some (AtBegin y) → IsTrue f → Inserted s u y 1
       → Counted s u → Spread t f e s u q
-  begin_spread s u q y is first ins counted = spread_one s u q y ins counted (subst (λ o. On o y) (sym is) (first, refl))
+  begin_spread s u q y is first ins counted =
+      spread_one s u q y ins counted (subst (λ o. On o y) (sym is) (first, refl))
       (λ r h. (subst (λ o. On o r) is h).1)
 
   pub end_spread : (s u : Members) (q y : ℕ) → slice_get t q ≡ Some (AtEnd y) → IsTrue e → Inserted s u y 1
@@ -119,7 +120,8 @@ module _ (t : List State) (f e : Bool) where
   pub split_spread : (s u v : Members) (q y z : ℕ) → slice_get t q ≡ Some (Split y z) → Inserted s u y 1
       → Inserted u v z 1 → Counted s u → Counted u v → Spread t f e s v q
   split_spread s u v q y z is one two counted more =
-      spread_two s u v q y z one two counted more (subst (λ o. On o y) (sym is) (inl refl)) (subst (λ o. On o z) (sym is) (inr refl))
+      spread_two s u v q y z one two counted more (subst (λ o. On o y) (sym is) (inl refl))
+      (subst (λ o. On o z) (sym is) (inr refl))
       (λ r h. subst (λ o. On o r) is h)
 
   pub none_spread : (s : Members) (q : ℕ) (st : State) → slice_get t q ≡ Some st → ((r : ℕ) → On (Some st) r → ⊥)

@@ -56,7 +56,8 @@ pub record IsShape (n : ℕ) (t : Remembered) : Type 0 where
 
 -- where the set stands before the byte, no match ends there or behind it
 abbrev pub IsHopeless : Nfa → ℕ → (ℕ → Type 0) → Type 0
-IsHopeless m b S = (l : List ℕ) (from p : ℕ) → p < length l → Stands m l from p S → slice_get l p ≡ Some b → HasRun m l from → ⊥
+IsHopeless m b S =
+    (l : List ℕ) (from p : ℕ) → p < length l → Stands m l from p S → slice_get l p ≡ Some b → HasRun m l from → ⊥
 
 -- what is known of a row and a byte: nothing, that a match ends before the byte, or that none does and which row is
 -- next, which is fresh only if no state of the row reads the byte

@@ -21,8 +21,8 @@ pub record Targeted (t : List State) (seeds : List ℕ) (b : ℕ) (old new : Lis
   pub all : (i r : ℕ) → i < k → Reads (slice_get t (slice_index seeds i)) b r
       → (j : ℕ) × (length old ≤ j) × (j < length new) × (slice_index new j ≡ r)
 
--- the states that the bytes below n lead to from the seeds, one byte behind the other, and where those of each begin and
--- end
+-- the states that the bytes below n lead to from the seeds, one byte behind the other, and where those of each begin
+-- and end
 pub record StartsBelow (t : List State) (seeds targets cuts : List ℕ) (n : ℕ) : Type 0 where
   pub upto : (b : ℕ) → b < n → slice_index cuts (b + 1) ≤ length targets
   pub from : (b j : ℕ) → b < n → slice_index cuts b ≤ j → j < slice_index cuts (b + 1)
@@ -63,8 +63,8 @@ pub record Planted (t : List State) (seeds : List ℕ) (b : ℕ) (old new : Memb
 abbrev pub WithSeeds : List ℕ → Type 0 → (ℕ → Type 0) → ℕ → Type 0
 WithSeeds seeds B S q = S q ⊎ (B × ((k : ℕ) × (k < length seeds) × (slice_index seeds k ≡ q)))
 
--- From S, and from the seeds if a match may begin before the byte, the byte leads to U, but for starts behind it and for
--- what needs the line's end.
+-- From S, and from the seeds if a match may begin before the byte, the byte leads to U, but for starts behind it and
+-- for what needs the line's end.
 pub record GoesOn (t : List State) (seeds : List ℕ) (b : ℕ) (B : Type 0) (S U : ℕ → Type 0) : Type 0 where
   pub comes : (r : ℕ) → U r
       → (q : ℕ) × (y : ℕ) × WithSeeds seeds B S q × Reads (slice_get t q) b y × LeadsStill t false false y r

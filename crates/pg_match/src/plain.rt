@@ -192,8 +192,8 @@ impl<A: Allocator> Automaton<A> {
         }
     }
 
-    /// Goes on to the set behind a byte as `go` does, but for starts behind it. Those before it are added only as far as
-    /// they read the byte, and only where a match may begin there.
+    /// Goes on to the set behind a byte as `go` does, but for starts behind it. Those before it are added only as far
+    /// as they read the byte, and only where a match may begin there.
     fn go_on(&self, sets: &mut StateSets<A>, byte: u8, begins: bool)
         requires runs { IsRunnable (nfa self.now) }
         requires seeds { HasSeeds self.now }
@@ -215,7 +215,8 @@ impl<A: Allocator> Automaton<A> {
         sets.visits += sets.current.len as u128;
     }
 
-    /// Whether a match ends right before a byte, of the runs in a set or of one that starts there, if a match may begin.
+    /// Whether a match ends right before a byte, of the runs in a set or of one that starts there, if a match may
+    /// begin.
     fn hits_here(&self, set: &StateSet<A>, byte: u8, begins: bool) -> bool
         requires runs { IsRunnable (nfa self.now) }
         requires starts { HasStarts self.now }

@@ -92,8 +92,8 @@ fn limit(best: Option<(usize, usize)>) -> u32
 }
 
 impl<A: Allocator> Automaton<A> {
-    /// Begins a search at a place: takes all states out, and adds the start if a line begins there. Starts at other places
-    /// are added behind their first byte.
+    /// Begins a search at a place: takes all states out, and adds the start if a line begins there. Starts at other
+    /// places are added behind their first byte.
     fn enter(&self, sets: &mut StateSets<A>, line: &[u8], from: usize)
         requires runs { IsRunnable (nfa self.now) }
         requires room { HaveRoom (buffers sets.old) (length self.now.states.items) }

@@ -5,8 +5,8 @@ ghost use Rattle.pg_match.specs.Starts.{AreStarts, Targeted, HasEnd};
 use crate::state::State;
 use std::alloc::{AllocError, Allocator, Global};
 
-/// For each byte the states that it leads to from a seed, so that a search doesn't look at the seeds that can't read the
-/// byte.
+/// For each byte the states that it leads to from a seed, so that a search doesn't look at the seeds that can't read
+/// the byte.
 pub struct Starts<A: Allocator = Global> {
     /// Those of byte 0, of byte 1 and so on, one behind the other. There are at most 256 times as many as seeds.
     pub targets: Vec<u32, A>,

@@ -32,7 +32,8 @@ loop-k-preserved g c =
       aimed = elim c.match-states-state.branch [
         | in-Read+then-contains w ↦
             let is = rw e at (stands _ _ _ inside w.in-Read.is) in
-            rw w.next-is (aimed_next t b now _ _ k w.in-Read.set w.in-Read.to c.loop-k.invariant.aimed lt c.requires.good is
+            rw w.next-is (aimed_next t b now _ _ k w.in-Read.set w.in-Read.to c.loop-k.invariant.aimed lt
+            c.requires.good is
             (sym w.if-contains.ensures) w.insert.ensures.inserted)
         | in-Read+else-contains w ↦
             let is = rw e at (stands _ _ _ inside w.in-Read.is) in
@@ -41,7 +42,8 @@ loop-k-preserved g c =
         | in_default w ↦
             let st = get_or t c.index-state.result.now Fail in
             let is = subst (λ q. slice_get t q ≡ Some st) e (stands _ _ _ inside refl) in
-            rw w.next-is (aimed_over t b now _ k c.loop-k.invariant.aimed (aimed_none t b now k st is w.in_default.not-Read))
+            rw w.next-is (aimed_over t b now _ k c.loop-k.invariant.aimed
+            (aimed_none t b now k st is w.in_default.not-Read))
       ];
       counted = elim c.match-states-state.branch [
         | in-Read+then-contains w ↦ rw w.next-is (omega (

@@ -10,7 +10,8 @@ returns-in-Jump g c = jump_spread _ _ _ _ _ _ _ (stands _ _ _ c.requires.within 
 
 pub returns-then-first : goal.returns-then-first
 returns-then-first g c = begin_spread _ _ _ _ _ _ _
-    (stands _ _ _ c.requires.within c.in-AtBegin.is) c.if-first.true c.insert-then-first.ensures.inserted c.insert-then-first.ensures.counted
+    (stands _ _ _ c.requires.within c.in-AtBegin.is) c.if-first.true
+    c.insert-then-first.ensures.inserted c.insert-then-first.ensures.counted
 
 pub returns-else-first : goal.returns-else-first
 returns-else-first g c =
@@ -19,7 +20,8 @@ returns-else-first g c =
 
 pub returns-then-last : goal.returns-then-last
 returns-then-last g c = end_spread _ _ _ _ _ _ _
-    (stands _ _ _ c.requires.within c.in-AtEnd.is) c.if-last.true c.insert-then-last.ensures.inserted c.insert-then-last.ensures.counted
+    (stands _ _ _ c.requires.within c.in-AtEnd.is) c.if-last.true
+    c.insert-then-last.ensures.inserted c.insert-then-last.ensures.counted
 
 pub returns-else-last : goal.returns-else-last
 returns-else-last g c =

@@ -16,7 +16,8 @@ is_alive-requires g c =
     omega (arith, e, n, c.requires.size)
 
 pub index-requires : goal.index-requires
-index-requires g c = let long = list_long (members c.args.set.now) c.requires.good in omega (arith, long, c.loop-k-test.true)
+index-requires g c =
+    let long = list_long (members c.args.set.now) c.requires.good in omega (arith, long, c.loop-k-test.true)
 
 pub loop-k-preserved : goal.loop-k-preserved
 loop-k-preserved g c = λ j low.
@@ -34,4 +35,5 @@ loop-k-preserved g c = λ j low.
 pub returns : goal.returns
 returns g c = λ yes q here.
     let found = c.requires.good.found q here in
-    subst (λ n. IsQuiet (slice_get c.args.states.now n)) found.2 (c.loop-k.invariant found.0 (omega (arith, found.1, c.loop-k-test.false)))
+    subst (λ n. IsQuiet (slice_get c.args.states.now n)) found.2
+    (c.loop-k.invariant found.0 (omega (arith, found.1, c.loop-k-test.false)))

@@ -59,7 +59,8 @@ loop-k-preserved g c =
             let is = rw r.0 at (stands _ _ _ inside w.in-Read.is) in
             let reached = rw r.1 at w.reach.ensures.reached in
             rw w.next-is
-            (stepping_next t l i now limit _ _ _ w.in-Read.to c.loop-k.invariant.stepping lt c.requires.good c.requires.ordered
+            (stepping_next t l i now limit _ _ _ w.in-Read.to c.loop-k.invariant.stepping lt c.requires.good
+            c.requires.ordered
             (byte_edge t l i now limit q0 w.in-Read.to _ w.in-Read.set is byte (sym w.if-contains.ensures))
             (λ q e. byte_only t l i now limit q0 w.in-Read.to q w.in-Read.set is e) reached)
         | then-mark-limit+in-Read+else-contains w ↦

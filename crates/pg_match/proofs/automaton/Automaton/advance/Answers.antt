@@ -1,11 +1,15 @@
-use Rattle.std.proofs.Common.{◌≡◌, ℕ, Bool, not, Option, None, Some, false, ◌<◌, ◌∙◌, ap, arith, inl, inr, refl, sym, true≢false}
+use Rattle.std.proofs.Common.{◌≡◌, ℕ, Bool, not, Option, None, Some, false, ◌<◌, ◌∙◌, ap, arith, inl, inr, refl, sym}
+use Rattle.std.proofs.Common.{true≢false}
 use Rattle.std.specs.Prelude.{is_none, is_some}
 use Rattle.pg_match.specs.Bounds.{MayBegin}
 use Rattle.pg_match.specs.Views.{nfa, members}
 use Rattle.pg_match.proofs.StartLemmas.{seeded, unseeded}
 use Rattle.pg_match.proofs.automaton.Automaton.advance.Goals as goal
-use Rattle.pg_match.proofs.automaton.Automaton.advance.Goals.{then-place-gt0+then-is_none+then-may_begin, else-place-gt0}
-use Rattle.pg_match.proofs.automaton.Automaton.advance.Goals.{else-place-gt0-via-then-place-gt0+then-is_none+else-may_begin}
+use Rattle.pg_match.proofs.automaton.Automaton.advance.Goals.{then-place-gt0+then-is_none+then-may_begin}
+use Rattle.pg_match.proofs.automaton.Automaton.advance.Goals.{else-place-gt0}
+use Rattle.pg_match.proofs.automaton.Automaton.advance.Goals.{
+  else-place-gt0-via-then-place-gt0+then-is_none+else-may_begin,
+}
 use Rattle.pg_match.proofs.automaton.Automaton.advance.Goals.{else-place-gt0-via-then-place-gt0+else-is_none}
 use Rattle.pg_match.proofs.automaton.Automaton.advance.Goals.{else-place-gt0-via-else-place-gt0}
 

@@ -50,7 +50,8 @@ pub insert-requires-clause-good : goal.insert-requires-clause-good
 insert-requires-clause-good g c = rw c.swap.ensures.x_after c.aim.ensures.aimed.good
 
 pub insert-requires-clause-within : goal.insert-requires-clause-within
-insert-requires-clause-within g c = rw c.swap.ensures.x_after (omega (arith, c.requires.runs.start, c.aim.ensures.aimed.size))
+insert-requires-clause-within g c =
+    rw c.swap.ensures.x_after (omega (arith, c.requires.runs.start, c.aim.ensures.aimed.size))
 
 pub close-requires-clause-tidy : goal.close-requires-clause-tidy
 close-requires-clause-tidy g c = rw c.deref-2.ensures.value c.requires.runs.tidy
@@ -96,7 +97,8 @@ returns-clause-room g c =
           c.swap.ensures.y_after,
         ) c.requires.room.now;
         now_size = rw (w.sets-is) at close.size ∙
-            w.insert.ensures.inserted.size ∙ ap (λ s. length (members s).marks) c.swap.ensures.x_after ∙ c.aim.ensures.aimed.size ∙
+            w.insert.ensures.inserted.size ∙ ap (λ s. length (members s).marks) c.swap.ensures.x_after ∙
+            c.aim.ensures.aimed.size ∙
             c.requires.room.now_size;
         next_size = rw (w.sets-is, c.swap.ensures.y_after) c.requires.room.now_size;
       }

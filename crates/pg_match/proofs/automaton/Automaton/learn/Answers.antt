@@ -3,7 +3,8 @@ use Rattle.std.proofs.Common.{◌≤◌, ◌∙◌, arith, sym, refl, inl, inr, 
 use Rattle.pg_match.specs.Memories.{In}
 use Rattle.pg_match.specs.Steps.{Has}
 use Rattle.pg_match.specs.Views.{nfa, members, remembered}
-use Rattle.pg_match.proofs.MemoryLemmas.{memory_marked, mark_keeps, hit_there, told_row, learned_row, learned_lost, hopeless_there}
+use Rattle.pg_match.proofs.MemoryLemmas.{memory_marked, mark_keeps, hit_there, told_row, learned_row, learned_lost}
+use Rattle.pg_match.proofs.MemoryLemmas.{hopeless_there}
 use Rattle.pg_match.proofs.StandsLemmas.{hopeless}
 use Rattle.pg_match.proofs.automaton.Automaton.learn.Goals as goal
 
@@ -200,7 +201,8 @@ returns-then-index-eq-HIT-clause-learned g c =
       | inl none ↦ absurd (omega arith)
       | inr rest ↦ elim rest [
         | inl hit ↦ hit.1
-        | inr more ↦ elim more [ inl dead ↦ absurd (omega (arith, dead.0)) | inr go ↦ absurd (omega (arith, go.1, go.2)) ]
+        | inr more ↦
+            elim more [ inl dead ↦ absurd (omega (arith, dead.0)) | inr go ↦ absurd (omega (arith, go.1, go.2)) ]
       ]
     ]
 

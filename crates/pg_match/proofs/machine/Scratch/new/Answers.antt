@@ -16,13 +16,16 @@ pub returns-in_err-automaton-clause-added : goal.returns-in_err-automaton-clause
 returns-in_err-automaton-clause-added g c = IfOk-from_err c.from_residual.result _ c.from_residual.ensures.0
 
 pub returns-in_err-sets-clause-fits : goal.returns-in_err-sets-clause-fits
-returns-in_err-sets-clause-fits g c = IfOk-from_err c.from_residual-in_err-sets.result _ c.from_residual-in_err-sets.ensures.0
+returns-in_err-sets-clause-fits g c =
+    IfOk-from_err c.from_residual-in_err-sets.result _ c.from_residual-in_err-sets.ensures.0
 
 pub returns-in_err-sets-clause-visits : goal.returns-in_err-sets-clause-visits
-returns-in_err-sets-clause-visits g c = IfOk-from_err c.from_residual-in_err-sets.result _ c.from_residual-in_err-sets.ensures.0
+returns-in_err-sets-clause-visits g c =
+    IfOk-from_err c.from_residual-in_err-sets.result _ c.from_residual-in_err-sets.ensures.0
 
 pub returns-in_err-sets-clause-added : goal.returns-in_err-sets-clause-added
-returns-in_err-sets-clause-added g c = IfOk-from_err c.from_residual-in_err-sets.result _ c.from_residual-in_err-sets.ensures.0
+returns-in_err-sets-clause-added g c =
+    IfOk-from_err c.from_residual-in_err-sets.result _ c.from_residual-in_err-sets.ensures.0
 
 pub invariant_of-result : goal.invariant_of-result
 invariant_of-result g c =
@@ -31,5 +34,8 @@ invariant_of-result g c =
     let same : length states.items ≡ length m.states =
     ap (λ a. length (nfa a).states) (c.deref-states.ensures ∙ sym c.in_ok-automaton.ensures) in
     let room = c.in_ok-sets.ensures.room in
-    let memory = new_remembers c.new-2.result c.len-2.result m c.new-2.ensures (c.len-2.ensures ∙ states.ok.0 ∙ same) in
-    (subst (HaveRoom (buffers c.in_ok-sets.sets)) (c.len.ensures ∙ states.ok.0 ∙ same) room, rw c.ok-memory.ensures.value memory)
+    let size = c.len-2.ensures ∙ states.ok.0 ∙ same in
+    let memory = new_remembers c.new-2.result c.len-2.result m c.new-2.ensures size in (
+      subst (HaveRoom (buffers c.in_ok-sets.sets)) (c.len.ensures ∙ states.ok.0 ∙ same) room,
+      rw c.ok-memory.ensures.value memory,
+    )

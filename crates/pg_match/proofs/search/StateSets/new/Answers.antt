@@ -11,13 +11,16 @@ pub returns-in_err-current-clause-added : goal.returns-in_err-current-clause-add
 returns-in_err-current-clause-added g c = IfOk-from_err c.from_residual.result _ c.from_residual.ensures.0
 
 pub returns-in_err-next-clause-room : goal.returns-in_err-next-clause-room
-returns-in_err-next-clause-room g c = IfOk-from_err c.from_residual-in_err-next.result _ c.from_residual-in_err-next.ensures.0
+returns-in_err-next-clause-room g c =
+    IfOk-from_err c.from_residual-in_err-next.result _ c.from_residual-in_err-next.ensures.0
 
 pub returns-in_err-next-clause-visits : goal.returns-in_err-next-clause-visits
-returns-in_err-next-clause-visits g c = IfOk-from_err c.from_residual-in_err-next.result _ c.from_residual-in_err-next.ensures.0
+returns-in_err-next-clause-visits g c =
+    IfOk-from_err c.from_residual-in_err-next.result _ c.from_residual-in_err-next.ensures.0
 
 pub returns-in_err-next-clause-added : goal.returns-in_err-next-clause-added
-returns-in_err-next-clause-added g c = IfOk-from_err c.from_residual-in_err-next.result _ c.from_residual-in_err-next.ensures.0
+returns-in_err-next-clause-added g c =
+    IfOk-from_err c.from_residual-in_err-next.result _ c.from_residual-in_err-next.ensures.0
 
 pub returns-clause-room : goal.returns-clause-room
 returns-clause-room g c =

@@ -35,7 +35,13 @@ returns-clause-good g c =
 
 pub loop-k-init : goal.loop-k-init
 loop-k-init g c =
-    record { order = refl; same_len = refl; same_added = refl; size = refl; left = λ q some. (some, λ j lt. absurd (omega arith)) }
+    record {
+      order = refl;
+      same_len = refl;
+      same_added = refl;
+      size = refl;
+      left = λ q some. (some, λ j lt. absurd (omega arith));
+    }
 
 pub returns-clause-size : goal.returns-clause-size
 returns-clause-size g c = c.loop-k.invariant.size
