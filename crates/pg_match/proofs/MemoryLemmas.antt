@@ -13,8 +13,8 @@ use Rattle.pg_match.specs.StateSets.{Members, mark, listed, IsGood, Inserted}
 use Rattle.pg_match.specs.Steps.{Has, Goes, Starts, HitBefore, AnswersEnd, ReadsNone}
 use Rattle.pg_match.specs.Stands.{Stands, HasRun}
 use Rattle.pg_match.specs.Memories.{Remembered, cut, ended, fresh_at, In, Same, IsShape, Told, IsMemoryOf}
-use Rattle.pg_match.specs.Memories.{IsHopeless, IsBlank, Keeps, Grown, SameSets, Marked, MarkedEnd, IsAtRow}
-use Rattle.pg_match.specs.Memories.{StandsAt, Learned, Finishes}
+use Rattle.pg_match.specs.Memories.{IsUnknown, IsHopeless, IsBlank, Keeps, Grown, SameSets, Marked, MarkedEnd}
+use Rattle.pg_match.specs.Memories.{IsAtRow, StandsAt, Learned, Finishes}
 use Rattle.pg_match.specs.Views.{remembered, Remembers}
 use Rattle.pg_match.specs.declared.memory.Memory.{Memory}
 use Rattle.pg_match.specs.declared.recall.Next.TheVariants.{Row, Lost}
@@ -229,9 +229,12 @@ stands_at m l from p S U same s = record {
   none = s.none;
 }
 
+nothing_known : (v : ℕ) → v ≡ 0 → IsUnknown v
+nothing_known v zero_v = (omega arith, λ one. omega arith, λ two. omega arith)
+
 told_moves : (m : Nfa) (old new : Remembered) (r b v : ℕ) → Keeps old new → r ≤ old.count → Told m old r b v
     → Told m new r b v
-told_moves m old new r b v k le (inl zero_v) = inl zero_v
+told_moves m old new r b v k le (inl unknown) = inl unknown
 told_moves m old new r b v k le (inr (inl hit)) = inr (inl (hit.0, ((k.sets r le 0).0 hit.1.0, hit.1.1)))
 told_moves m old new r b v k le (inr (inr (inl dead))) =
     let back = same_back (In old r) (In new r) (k.sets r le) in
@@ -264,7 +267,7 @@ moved m old new is shape k cells past ends first =
       shape = shape;
       told = λ r b le lt. elim (cells r b le lt) [
         | inl same ↦ elim (cases_lt old.count r) [
-          | inl new_row ↦ inl (same ∙ is.blank (256 * r + b) (omega arith))
+          | inl new_row ↦ inl (nothing_known _ (same ∙ is.blank (256 * r + b) (omega arith)))
           | inr old_row ↦
               let le' : r ≤ old.count = omega arith in
               subst (Told m new r b) (sym same) (told_moves m old new r b _ k le' (is.told r b le' lt))
@@ -429,7 +432,7 @@ row_next m mem state v b is s lt read big =
     let here : v ≡ slice_index mem.steps (256 * (state / 256) + b) = read ∙ ap (slice_index mem.steps) cell in
     let told = subst (Told m mem (state / 256) b) (sym here) (is.told (state / 256) b s.known lt) in
     elim told [
-      | inl zero_v ↦ absurd (omega arith)
+      | inl unknown ↦ absurd (omega (arith, unknown.0))
       | inr rest ↦ elim rest [
         | inl hit ↦ absurd (omega (arith, hit.0))
         | inr more ↦ elim more [
@@ -568,7 +571,7 @@ blank_memory m mem b =
     let none = b.count in
     record {
       shape = b.shape;
-      told = λ r c le lt. inl (b.steps (256 * r + c));
+      told = λ r c le lt. inl (nothing_known _ (b.steps (256 * r + c)));
       blank = λ i le. b.steps i;
       told_end = λ r answer e. absurd (no_some answer (sym (b.ends r) ∙ e));
       first = λ some. absurd (omega arith);
@@ -630,7 +633,7 @@ told_hit m mem state v b is s lt read one =
     let cell : state + b ≡ 256 * (state / 256) + b = ap (λ u. u + b) s.row in
     let here : v ≡ slice_index mem.steps (256 * (state / 256) + b) = read ∙ ap (slice_index mem.steps) cell in
     elim (subst (Told m mem (state / 256) b) (sym here) (is.told (state / 256) b s.known lt)) [
-      | inl zero_v ↦ absurd (omega arith)
+      | inl unknown ↦ absurd (unknown.1 one)
       | inr rest ↦ elim rest [
         | inl hit ↦ hit.1
         | inr more ↦
@@ -645,7 +648,7 @@ told_dead m mem state v b is s lt read two =
     let cell : state + b ≡ 256 * (state / 256) + b = ap (λ u. u + b) s.row in
     let here : v ≡ slice_index mem.steps (256 * (state / 256) + b) = read ∙ ap (slice_index mem.steps) cell in
     elim (subst (Told m mem (state / 256) b) (sym here) (is.told (state / 256) b s.known lt)) [
-      | inl zero_v ↦ absurd (omega arith)
+      | inl unknown ↦ absurd (unknown.2 two)
       | inr rest ↦ elim rest [
         | inl hit ↦ absurd (omega (arith, hit.0))
         | inr more ↦ elim more [ inl dead ↦ dead.1 | inr go ↦ absurd (omega (arith, go.1, go.2)) ]

@@ -385,6 +385,12 @@ with_so seeds B C S same q = (
   λ h. elim h [ inl old ↦ inl old | inr seed ↦ inr (same.1 seed.0, seed.1) ],
 )
 
+pub plain_whole : (seeds : List ℕ) (S : ℕ → Type 0) → Same S (WithSeeds seeds (IsTrue false) S)
+plain_whole seeds S q = (
+  λ h. inl h,
+  λ h. elim h [ inl old ↦ old | inr seed ↦ absurd (true≢false (sym seed.0)) ],
+)
+
 module _ (m : Nfa) (seeds : List ℕ) (are : AreSeeds m.states m.start seeds) where
   -- the whole sets go on as those without the starts do
   pub goes_whole : (l : List ℕ) (p b : ℕ) (B : Type 0) (S U : ℕ → Type 0) → slice_get l p ≡ Some b

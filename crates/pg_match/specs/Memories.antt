@@ -1,5 +1,5 @@
 -- Sets of states that are remembered, and where each byte leads from them.
-use Rattle.std.specs.Prelude.{◌≡◌, ℕ, ◌+◌, ◌*◌, ◌/◌, ◌<◌, ◌≤◌, ◌⊎◌, ◌↔◌, Bool, IsTrue, List, length, Option, Some, None}
+use Rattle.std.specs.Prelude.{◌≡◌, ◌≢◌, ℕ, ◌+◌, ◌*◌, ◌/◌, ◌<◌, ◌≤◌, ◌⊎◌, ◌↔◌, Bool, IsTrue, List, length, Option, Some, None}
 use Rattle.std.specs.Prelude.{slice_get, slice_index, slice_index_or, slice_set, true, false}
 use Rattle.pg_match.specs.Automata.{Nfa}
 use Rattle.pg_match.specs.StateSets.{Members}
@@ -59,11 +59,15 @@ abbrev pub IsHopeless : Nfa → ℕ → (ℕ → Type 0) → Type 0
 IsHopeless m b S =
     (l : List ℕ) (from p : ℕ) → p < length l → Stands m l from p S → slice_get l p ≡ Some b → HasRun m l from → ⊥
 
+-- nothing is known of a step, or only that there was no room for the set that it leads to
+abbrev pub IsUnknown : ℕ → Type 0
+IsUnknown v = (v < 256) × (v ≢ 1) × (v ≢ 2)
+
 -- what is known of a row and a byte: nothing, that a match ends before the byte, or that none does and which row is
 -- next, which is fresh only if no state of the row reads the byte
 abbrev pub Told : Nfa → Remembered → ℕ → ℕ → ℕ → Type 0
 Told m t r b v =
-    (v ≡ 0) ⊎ (((v ≡ 1) × HitBefore m b (In t r)) ⊎ (((v ≡ 2) × IsHopeless m b (In t r))
+    IsUnknown v ⊎ (((v ≡ 1) × HitBefore m b (In t r)) ⊎ (((v ≡ 2) × IsHopeless m b (In t r))
     ⊎ ((k : ℕ) × (v ≡ 256 * k) × (1 ≤ k) × (k ≤ t.count) × (HitBefore m b (In t r) → ⊥) × Goes m b (In t r) (In t k)
     × (fresh_at t k ≡ true → ReadsNone m b (In t r)))))
 

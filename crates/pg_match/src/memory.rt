@@ -28,10 +28,13 @@ pub(crate) const HIT: u32 = 1;
 /// No match ends before the byte or anywhere behind it.
 pub(crate) const DEAD: u32 = 2;
 
+/// There was no room for the set that the byte leads to, since the table was begun.
+pub(crate) const LOST: u32 = 3;
+
 /// Sets of states, and where each byte leads from them. A text may lead to more sets than there is room for. Then the
 /// table is begun anew, so that it has those that are met now.
 pub struct Memory<A: Allocator = Global> {
-    /// For 256 times a row, plus a byte: 0 where nothing is known yet, `HIT`, or 256 times the next row.
+    /// For 256 times a row, plus a byte: 0 where nothing is known yet, `HIT`, `DEAD`, `LOST`, or 256 times the next row.
     pub steps: Vec<u32, A>,
     /// For each row whether a match ends where a line ends that isn't empty.
     pub ends: Vec<Option<bool>, A>,

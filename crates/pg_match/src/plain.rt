@@ -1,6 +1,7 @@
 //! The search for any match at all, which needs no marks.
 ghost use Rattle.std.specs.Prelude.{◌≡◌, ◌+◌, ◌*◌, ◌<◌, ◌≤◌, ◌^◌, ◌↔◌, length, IsTrue, false};
 ghost use Rattle.pg_match.specs.Automata.{IsTidy, IsRunnable};
+ghost use Rattle.pg_match.specs.Bounds.{MayBegin};
 ghost use Rattle.pg_match.specs.StateSets.{IsGood, HaveRoom, CountedAnew};
 ghost use Rattle.pg_match.specs.Steps.{Spread, Closed, Aimed, Has, Goes, Starts, HitBefore, AnswersEnd, ReadsNone};
 ghost use Rattle.pg_match.specs.Steps.{begins_after, ends_before};
@@ -194,7 +195,7 @@ impl<A: Allocator> Automaton<A> {
 
     /// Goes on to the set behind a byte as `go` does, but for starts behind it. Those before it are added only as far
     /// as they read the byte, and only where a match may begin there.
-    fn go_on(&self, sets: &mut StateSets<A>, byte: u8, begins: bool)
+    pub(crate) fn go_on(&self, sets: &mut StateSets<A>, byte: u8, begins: bool)
         requires runs { IsRunnable (nfa self.now) }
         requires seeds { HasSeeds self.now }
         requires starts { HasStarts self.now }
@@ -248,7 +249,7 @@ impl<A: Allocator> Automaton<A> {
         self.hits_at_end(sets, false)
     }
 
-    /// Goes on from the set of a place behind the first byte without what is remembered.
+    /// Goes on from the set of a place behind the first byte, but for starts there, without what is remembered.
     pub(crate) fn search_on(&self, sets: &mut StateSets<A>, line: &[u8], from: usize) -> bool
         requires runs { IsRunnable (nfa self.now) }
         requires seeds { HasSeeds self.now }
@@ -257,7 +258,8 @@ impl<A: Allocator> Automaton<A> {
         requires short { length line.now ≤ 2 ^ 30 }
         requires later { 1 ≤ from }
         requires from_in { from ≤ length line.now }
-        requires stands { Stands (nfa self.now) line.now 0 from (Has (members sets.old.current)) }
+        requires stands { Stands (nfa self.now) line.now 0 from
+            (WithSeeds self.now.seeds.items (MayBegin self.now.bounds line.now from) (Has (members sets.old.current))) }
         requires visits { sets.old.visits ≤ from * length self.now.states.items + sets.old.current.len }
         ensures room { HaveRoom (buffers sets.new) (length self.now.states.items) }
         ensures exact { IsTrue result ↔ HasRun (nfa self.now) line.now 0 }

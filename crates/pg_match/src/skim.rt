@@ -12,7 +12,7 @@ ghost use Rattle.pg_match.specs.Memories.{IsMemoryOf, IsAtRow, In, Finishes, Has
 ghost use Rattle.pg_match.specs.Views.{nfa, buffers, remembered, added, HasSeeds, HasStarts, Remembers, Tells};
 
 use crate::automaton::Automaton;
-use crate::memory::{DEAD, HIT, Memory};
+use crate::memory::{DEAD, HIT, LOST, Memory};
 use crate::recall::Next;
 use crate::search::StateSets;
 use crate::state::State;
@@ -155,6 +155,10 @@ impl<A: Allocator> Automaton<A> {
             }
             if here + 1 == line.len() {
                 self.finish(sets, memory, at, line[here]);
+                return;
+            }
+            if memory.steps[at as usize + line[here] as usize] == LOST {
+                memory.lose(line.len() - here);
                 return;
             }
             match self.learn(sets, memory, (at / 256) as usize, line[here]) {

@@ -31,7 +31,7 @@ returns-then-hits_before-clause-learned g c =
 pub returns-then-to-eq0-clause-learned : goal.returns-then-to-eq0-clause-learned
 returns-then-to-eq0-clause-learned g c =
     learned_lost (nfa c.args.self.now) (remembered c.args.memory.now)
-    (remembered c.keep-to.new.memory) c.args.row c.args.byte
+    (remembered c.mark-then-to-eq0.new.self) c.args.row c.args.byte
     (members c.load.new.set) (members c.go-is_fresh.new.sets.current) c.load.ensures.same
     (λ h. true≢false (sym (c.hits_before.ensures.1 h) ∙ c.if-hits_before.false)) c.go-is_fresh.ensures.goes
 
@@ -140,7 +140,12 @@ pub returns-then-to-eq0-clause-room : goal.returns-then-to-eq0-clause-room
 returns-then-to-eq0-clause-room g c = c.go-is_fresh.ensures.room
 
 pub returns-then-to-eq0-clause-memory : goal.returns-then-to-eq0-clause-memory
-returns-then-to-eq0-clause-memory g c = c.keep-to.ensures.memory
+returns-then-to-eq0-clause-memory g c =
+    let mid = remembered c.keep-to.new.memory in
+    let more = c.keep-to.ensures.keeps.more in
+    memory_marked (nfa c.args.self.now) mid (remembered c.mark-then-to-eq0.new.self) c.args.row c.args.byte 3
+    c.keep-to.ensures.memory c.mark-then-to-eq0.ensures (omega arith) (omega arith)
+    (inl (omega arith, λ one. omega arith, λ two. omega arith))
 
 pub returns-then-to-eq0-clause-some : goal.returns-then-to-eq0-clause-some
 returns-then-to-eq0-clause-some g c = omega arith
@@ -198,7 +203,7 @@ returns-then-index-eq-HIT-clause-learned g c =
     let read = get_or_read mem.steps (256 * c.args.row + c.args.byte) c.index.result.now (omega arith)
     c.index.ensures 0 in
     elim (c.requires.memory.told c.args.row c.args.byte c.requires.known (omega arith)) [
-      | inl none ↦ absurd (omega arith)
+      | inl unknown ↦ absurd (unknown.1 (sym read ∙ c.if-index-eq-HIT.true))
       | inr rest ↦ elim rest [
         | inl hit ↦ hit.1
         | inr more ↦

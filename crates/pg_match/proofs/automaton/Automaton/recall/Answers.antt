@@ -6,6 +6,7 @@ use Rattle.pg_match.specs.Views.{nfa, members, remembered}
 use Rattle.pg_match.proofs.StateSetLemmas.{few}
 use Rattle.pg_match.proofs.StandsLemmas.{stands_first, stands_next, run_before}
 use Rattle.pg_match.proofs.MemoryLemmas.{at_row, visits_small, visits_later, visits_on}
+use Rattle.pg_match.proofs.StartLemmas.{stands_whole}
 use Rattle.pg_match.proofs.automaton.Automaton.recall.Goals as goal
 
 pub search_first-requires-clause-begun : goal.search_first-requires-clause-begun
@@ -154,8 +155,10 @@ search_on-requires-clause-stands g c =
     let byte = slice_get-get_or l p 0 lt in
     let s = c.walk-at.ensures.stands 0 (omega arith) c.loop-sets.invariant.stands in
     let learned = c.in-Lost.ensures.learned in
-    stands_next m l 0 p _ (In mem (c.walk-at.result.0 / 256))
-    (Has (members c.learn.new.sets.current)) byte lt s learned.1 (omega arith) c.requires.runs learned.0
+    let U = Has (members c.learn.new.sets.current) in
+    stands_whole m c.args.self.now.seeds.items c.requires.seeds l 0 (p + 1) U (omega arith) (omega arith)
+    (stands_next m l 0 p _ (In mem (c.walk-at.result.0 / 256)) U byte lt s learned.1 (omega arith) c.requires.runs
+    learned.0)
 
 pub search_on-requires-clause-visits : goal.search_on-requires-clause-visits
 search_on-requires-clause-visits g c =
@@ -288,7 +291,7 @@ pub returns-in-Lost-clause-visits : goal.returns-in-Lost-clause-visits
 returns-in-Lost-clause-visits g c = omega arith
 
 pub returns-in-Lost-clause-memory : goal.returns-in-Lost-clause-memory
-returns-in-Lost-clause-memory g c = rw c.lose.ensures c.in-Lost.ensures.memory
+returns-in-Lost-clause-memory g c = rw c.lose-in-Lost.ensures c.in-Lost.ensures.memory
 
 pub returns-then-not-first-clause-told : goal.returns-then-not-first-clause-told
 returns-then-not-first-clause-told g c = omega (arith, c.first.ensures.told, c.search_first.ensures.told)
@@ -329,3 +332,7 @@ search_on-requires-clause-starts g c = c.requires.starts
 
 pub search_first-requires-clause-room : goal.search_first-requires-clause-room
 search_first-requires-clause-room g c = c.first.ensures.room
+
+pub leave-requires-clause-stands : goal.leave-requires-clause-stands
+leave-requires-clause-stands g c = rw c.lose.ensures
+    (c.walk-at.ensures.stands 0 (omega arith) c.loop-sets.invariant.stands)

@@ -3,6 +3,7 @@ use Rattle.std.proofs.lemmas.Option.{slice_get-get_or}
 use Rattle.pg_match.specs.Steps.{Has}
 use Rattle.pg_match.specs.Views.{nfa, members}
 use Rattle.pg_match.proofs.StandsLemmas.{stands_first, stands_next, run_before}
+use Rattle.pg_match.proofs.StartLemmas.{stands_whole}
 use Rattle.pg_match.proofs.automaton.Automaton.search_first.Goals as goal
 
 pub returns-then-hits_before-clause-exact : goal.returns-then-hits_before-clause-exact
@@ -23,6 +24,8 @@ search_on-requires-clause-stands g c =
     let l = c.args.line.now in
     let S = Has (members c.args.sets.now.current) in
     let lt : 0 < length l = omega (arith, c.requires.bytes) in
-    stands_next m l 0 0 _ S (Has (members c.go.new.sets.current)) (slice_get-get_or l 0 0 lt) lt
-    (stands_first m l S c.requires.begun) c.go.ensures.goes (omega arith) c.requires.runs
-    (λ h. true≢false (sym (c.hits_before.ensures.1 h) ∙ c.if-hits_before.false))
+    let U = Has (members c.go.new.sets.current) in
+    stands_whole m c.args.self.now.seeds.items c.requires.seeds l 0 1 U (omega arith) (omega arith)
+    (stands_next m l 0 0 _ S U (slice_get-get_or l 0 0 lt) lt (stands_first m l S c.requires.begun)
+    c.go.ensures.goes (omega arith) c.requires.runs
+    (λ h. true≢false (sym (c.hits_before.ensures.1 h) ∙ c.if-hits_before.false)))

@@ -6,7 +6,7 @@ use Rattle.pg_match.specs.Starts.{WithSeeds}
 use Rattle.pg_match.specs.Steps.{Has}
 use Rattle.pg_match.specs.Views.{nfa, members}
 use Rattle.pg_match.proofs.StandsLemmas.{stands_next, run_before}
-use Rattle.pg_match.proofs.StartLemmas.{goes_whole, stands_whole, with_so}
+use Rattle.pg_match.proofs.StartLemmas.{goes_whole, with_so}
 use Rattle.pg_match.proofs.StateSetLemmas.{few}
 use Rattle.pg_match.proofs.MemoryLemmas.{ended_so, stands_at, visits_small, visits_later}
 use Rattle.pg_match.proofs.automaton.Automaton.search_on.Goals as goal
@@ -58,8 +58,7 @@ loop-place-preserved g c =
 pub loop-place-init : goal.loop-place-init
 loop-place-init g c = record {
   room = c.requires.room;
-  stands = stands_whole (nfa c.args.self.now) c.args.self.now.seeds.items c.requires.seeds c.args.line.now 0
-      c.args.from (Has (members c.args.sets.now.current)) (omega arith) (omega arith) c.requires.stands;
+  stands = c.requires.stands;
   visits = c.requires.visits;
   told = refl;
 }

@@ -177,7 +177,7 @@ pub returns-in-Lost-clause-room : goal.returns-in-Lost-clause-room
 returns-in-Lost-clause-room g c = c.learn.ensures.room
 
 pub returns-in-Lost-clause-memory : goal.returns-in-Lost-clause-memory
-returns-in-Lost-clause-memory g c = rw c.lose.ensures c.in-Lost.ensures.memory
+returns-in-Lost-clause-memory g c = rw c.lose-in-Lost.ensures c.in-Lost.ensures.memory
 
 pub overflow_mul-most : goal.overflow_mul-most
 overflow_mul-most g c =
