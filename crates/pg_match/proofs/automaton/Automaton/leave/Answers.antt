@@ -1,4 +1,4 @@
-use Rattle.std.proofs.Common.{◌<◌, ◌/◌, ◌∙◌, IsTrue, false, length, arith, sym, refl, true≢false}
+use Rattle.std.proofs.Common.{◌/◌, ◌∙◌, IsTrue, false, arith, sym, refl, true≢false}
 use Rattle.std.proofs.lemmas.Option.{slice_get-get_or}
 use Rattle.pg_match.specs.Memories.{In}
 use Rattle.pg_match.specs.Starts.{WithSeeds}
@@ -6,7 +6,7 @@ use Rattle.pg_match.specs.Steps.{Has}
 use Rattle.pg_match.specs.Views.{nfa, members, remembered}
 use Rattle.pg_match.proofs.StandsLemmas.{stands_next, run_before}
 use Rattle.pg_match.proofs.StartLemmas.{goes_whole, plain_whole}
-use Rattle.pg_match.proofs.MemoryLemmas.{stands_at, visits_small, visits_later}
+use Rattle.pg_match.proofs.MemoryLemmas.{stands_at}
 use Rattle.pg_match.proofs.automaton.Automaton.leave.Goals as goal
 
 pub returns-then-hits_before-clause-exact : goal.returns-then-hits_before-clause-exact
