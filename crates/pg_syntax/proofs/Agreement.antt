@@ -53,7 +53,9 @@ module _ (syntax : Syntax) (fold : Bool) where
   spelled G.nothing n = absurd (n refl)
   spelled (G.some {text = text} {p = p} h e) n = complete syntax fold text p (body_of syntax fold text p e)
 
+  pub expressed : (text : List ℕ) (p : Pattern) → Completes syntax fold start text p → Body syntax fold text p 0
+  expressed text p c = sound syntax fold c [] ([], [], refl, refl, ([], [], refl, refl, refl))
+
   pub read : (text : List ℕ) (p : Pattern) → length text ≤ 4096 → Completes syntax fold start text p
       → Spells (kind_of syntax) fold text p
-  read text p l c = G.some l (of_body syntax fold text p
-      (sound syntax fold c [] ([], [], refl, refl, ([], [], refl, refl, refl))))
+  read text p l c = G.some l (of_body syntax fold text p (expressed text p c))

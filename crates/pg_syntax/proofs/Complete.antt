@@ -190,7 +190,7 @@ unfolding basic_token extended_token basic_escape
 open_token Basic fold s rest = refl
 open_token Extended fold s rest = refl
 
-close_token : (syntax : Syntax) (fold : Bool) (l m : Level) (outer : List Level) (rest : List ℕ)
+pub close_token : (syntax : Syntax) (fold : Bool) (l m : Level) (outer : List Level) (rest : List ℕ)
     → token syntax fold (record { outer = l ∷ outer; level = m }) (closing syntax ++ rest) ≡ Some (Close, rest)
 unfolding basic_token extended_token basic_escape
 close_token Basic fold l m outer rest = refl

@@ -14,4 +14,5 @@ pub mod ListLemmas
 pub mod Braces
 pub mod TreeLemmas
 pub mod Literals
+pub mod Onward
 pub mod TokenLoop

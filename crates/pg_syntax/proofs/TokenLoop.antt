@@ -8,7 +8,8 @@ use Rattle.pg_syntax.specs.Grammar.{Spells, Expression, Body, Mark, opening, clo
 use Rattle.pg_syntax.specs.Machine as M
 use Rattle.pg_syntax.proofs.Proper.{spelled_proper}
 use Rattle.pg_syntax.specs.Machine.{State, Token, Level, start, whole, grouped, token, after, next, Completes, done}
-use Rattle.pg_syntax.specs.Machine.{step, Leads, onward}
+use Rattle.pg_syntax.specs.Machine.{step}
+use Rattle.pg_syntax.proofs.Onward.{Leads, onward, open_end, leaves_open, leaves_empty}
 use Rattle.pg_syntax.specs.Places.{Place, PlaceIn}
 use Rattle.pg_syntax.specs.Results.{IsSpelled, IsRefused, IsFault}
 use Rattle.pg_syntax.specs.Expressions.{kind_of}
@@ -69,10 +70,6 @@ module _ (syntax : Syntax) (fold : Bool) where
       → Spells (kind_of syntax) fold text p → ⊥
   no_state text s t rest k n m e f keeps = nothing_spelled text s t n m (next_no_state s t rest k e f) keeps
 
-  open_end : (s : State) (p : Pattern) → grouped s.outer ≡ true → Completes syntax fold s [] p → ⊥
-  open_end s p g (done w) = false≢true g
-  open_end s p g (step f c) = cc
-
   empty_end : (s : State) (p : Pattern) → whole s.level ≡ None → Completes syntax fold s [] p → ⊥
   empty_end s p g (done w) = cc
   empty_end s p g (step f c) = cc
@@ -81,9 +78,9 @@ module _ (syntax : Syntax) (fold : Bool) where
       → Keeps syntax fold text s [] → Leads syntax fold text s []
       → IsRefused (kind_of syntax) fold text (record { kind = UnmatchedGroup; at = length text })
   in_group text s l n g keeps leads = record {
-    none = λ p h. open_end s p g ((keeps p).0 (spelled syntax fold h n));
+    none = λ p h. open_end syntax fold s p g ((keeps p).0 (spelled syntax fold h n));
     place = place_of syntax UnmatchedGroup text _
-        (inr (refl, record { fold = fold; state = s; leads = leads; «open» = g }));
+        (inr (refl, leaves_open syntax fold text s g leads));
     long = λ h. absurd (omega arith);
   }
 
@@ -93,7 +90,7 @@ module _ (syntax : Syntax) (fold : Bool) where
   empty_operand text s l n o g keeps leads = record {
     none = λ p h. empty_end s p g ((keeps p).0 (spelled syntax fold h n));
     place = place_of syntax EmptyOperand text _
-        (inr (inr (refl, record { fold = fold; state = s; leads = leads; closed = o; empty = g })));
+        (inr (inr (refl, leaves_empty syntax fold text s o leads)));
     long = λ h. absurd (omega arith);
   }
 

@@ -198,24 +198,3 @@ pub data Completes (syntax : Syntax) (fold : Bool) : State → List ℕ → Patt
   done : {l : Level} {p : Pattern} → whole l ≡ Some p → Completes syntax fold (record { outer = []; level = l }) [] p
   step : {s s' : State} {t rest : List ℕ} {p : Pattern} → next syntax fold s t ≡ Some (s', rest)
       → Completes syntax fold s' rest p → Completes syntax fold s t p
-
--- Read from its start, the text leads to the state, and this rest is left.
-pub data Leads (syntax : Syntax) (fold : Bool) (text : List ℕ) : State → List ℕ → Type 0 where
-  begin : Leads syntax fold text start text
-  onward : {s s' : State} {t rest : List ℕ} → Leads syntax fold text s t → next syntax fold s t ≡ Some (s', rest)
-      → Leads syntax fold text s' rest
-
--- a group is open where the text ends
-pub record LeavesOpen (syntax : Syntax) (text : List ℕ) : Type 0 where
-  pub fold : Bool
-  pub state : State
-  pub leads : Leads syntax fold text state []
-  pub «open» : grouped state.outer ≡ true
-
--- no group is open where the text ends, and its last alternative is empty
-pub record LeavesEmpty (syntax : Syntax) (text : List ℕ) : Type 0 where
-  pub fold : Bool
-  pub state : State
-  pub leads : Leads syntax fold text state []
-  pub closed : grouped state.outer ≡ false
-  pub empty : whole state.level ≡ None

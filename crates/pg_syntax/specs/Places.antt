@@ -1,8 +1,8 @@
 -- What stands where a fault is found.
-use Rattle.std.specs.Prelude.{ℕ, ◌≡◌, ◌≢◌, ◌≤◌, ◌<◌, List, [], ◌∷◌, ◌++◌, length, drop, ◌⊎◌}
-use Rattle.pg_syntax.specs.Grammar.{opening, closing, brace}
+use Rattle.std.specs.Prelude.{ℕ, zero, suc, ◌≡◌, ◌≢◌, ◌≤◌, ◌<◌, Bool, List, [], ◌∷◌, ◌++◌, length, drop, ◌⊎◌}
+use Rattle.pg_syntax.specs.Patterns.{Pattern}
+use Rattle.pg_syntax.specs.Grammar.{opening, closing, brace, Body}
 use Rattle.pg_syntax.specs.Brackets.{Element, Single, IsFront, HaveNoRange}
-use Rattle.pg_syntax.specs.Machine.{LeavesOpen, LeavesEmpty}
 use Rattle.pg_syntax.specs.declared.token.Syntax.{Syntax}
 use Rattle.pg_syntax.specs.declared.token.Syntax.TheVariants as S
 use Rattle.pg_syntax.specs.declared.token.Syntax.TheVariants.{Basic, Extended}
@@ -48,6 +48,27 @@ pub record HasRange (text : List ℕ) (at : ℕ) (low high : Element) (rest : Li
 abbrev pub IsBadRange : List ℕ → ℕ → Type 0
 IsBadRange text at =
     (low high : Element) × (rest : List ℕ) × HasRange text at low high rest × (HaveNoRange low high ⊎ IsRangedOn rest)
+
+-- what closes this many groups
+abbrev pub closings : Syntax → ℕ → List ℕ
+closings syntax zero = []
+closings syntax (suc groups) = closing syntax ++ closings syntax groups
+
+-- A group is open where the text ends: one more byte, an `a`, makes it no expression, but that byte and what closes one
+-- group or more behind it do.
+pub record LeavesOpen (syntax : Syntax) (text : List ℕ) : Type 0 where
+  pub fold : Bool
+  pub groups : ℕ
+  pub some : 0 < groups
+  pub pattern : Pattern
+  pub closed : Body syntax fold (text ++ 97 ∷ closings syntax groups) pattern 0
+  pub needed : (p : Pattern) → Body syntax fold (text ++ 97 ∷ []) p 0 → ⊥
+
+-- the last alternative is empty where the text ends: one more byte, an `a`, makes it an expression
+pub record LeavesEmpty (syntax : Syntax) (text : List ℕ) : Type 0 where
+  pub fold : Bool
+  pub pattern : Pattern
+  pub filled : Body syntax fold (text ++ 97 ∷ []) pattern 0
 
 -- a fault of this kind can stand at this offset of an expression: a backslash; `[`, or `[` with a mark; a range that
 -- can't be; what closes a group; what begins an interval; what repeats; what opens a group; a bar; or the end of a text

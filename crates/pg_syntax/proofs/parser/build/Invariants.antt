@@ -1,5 +1,5 @@
 use Rattle.std.proofs.Common.{◌≡◌, ◌-◌, ◌≤◌, length, drop}
-use Rattle.pg_syntax.specs.Machine.{Leads}
+use Rattle.pg_syntax.proofs.Onward.{Leads}
 use Rattle.pg_syntax.specs.States.{state_of}
 use Rattle.pg_syntax.proofs.TokenLoop.{Keeps}
 use Rattle.pg_syntax.proofs.parser.build.Given as goal
