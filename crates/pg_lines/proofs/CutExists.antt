@@ -21,7 +21,13 @@ record First (end size : ℕ) (xs : List ℕ) (m : ℕ) : Type 0 where
 seek : (end size : ℕ) (xs : List ℕ) (m : ℕ) → Clear end size xs m ⊎ First end size xs m
 seek end size xs zero = inl (λ i l h e. omega arith)
 seek end size xs (suc m) = elim (seek end size xs m) [
-  | inr f ↦ inr (record { offset = f.offset; low = f.low; high = omega (arith, f.high); is_end = f.is_end; clear = f.clear })
+  | inr f ↦ inr (record {
+    offset = f.offset;
+    low = f.low;
+    high = omega (arith, f.high);
+    is_end = f.is_end;
+    clear = f.clear;
+  })
   | inl none ↦ elim (cases_lt (m + 1) size) [
     | inl below ↦ inl (λ i l h e. none i l (omega arith) e)
     | inr low ↦ tested none low (eqb (get_or xs m 0) end) refl

@@ -22,7 +22,8 @@ module _ (q : Search) (format : Format) (name : List ℕ) (earlier : Bool) where
   part_behind pieces ls ms = cond pieces (run_pieces q format name (trail_of q format ls) ms)
       (run_rows q format name earlier (trail_of q format ls) ms)
 
-  part_more : (pieces : Bool) (ls ms : List (List ℕ)) → part pieces (ls ++ ms) ≡ part pieces ls ++ part_behind pieces ls ms
+  part_more : (pieces : Bool) (ls ms : List (List ℕ))
+      → part pieces (ls ++ ms) ≡ part pieces ls ++ part_behind pieces ls ms
   part_more true ls ms = pieces_more q format name ls ms (trail_of q format ls) (trail_is q format ls)
   part_more false ls ms = rows_more q format name earlier ls ms (trail_of q format ls) (trail_is q format ls)
 

@@ -160,8 +160,7 @@ module _ (q : Search) (format : Format) where
   longer_alike (e ∷ es) [] room h l = absurd l
   longer_alike (Missed name ∷ es) (f ∷ fs) room h l =
       alike_more (Missed name) f es fs l.0 (longer_alike es fs room h l.1)
-  longer_alike (Read name bytes Running ∷ es) (f ∷ fs) room h l =
-      alike_more (Read name bytes Running) f es fs l.0 (longer_alike es fs room h l.1)
+  longer_alike (Read name bytes Running ∷ es) (f ∷ fs) room h l = absurd h
   longer_alike (Read name bytes Ended ∷ es) (f ∷ fs) room h l =
       alike_more (Read name bytes Ended) f es fs l.0 (longer_alike es fs room h l.1)
   longer_alike (Read name bytes Failed ∷ es) (f ∷ fs) room h l =

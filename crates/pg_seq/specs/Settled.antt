@@ -24,11 +24,12 @@ pub record IsLeftRightly (q : Search) (format : Format) (name bytes : List ℕ) 
   pub whole : AreWhole (terminator q) front
   pub enough : is_enough q format (Read name front Running ∷ entries) ≡ true
 
--- Each file that was left was left rightly. The last file stands first in the list.
+-- Each file was missed, or read up to its end or a failure, or left rightly: none is still read. The last file stands
+-- first in the list.
 abbrev pub AreLeftRightly : Search → Format → List Entry → Type 0
 AreLeftRightly q format [] = Unit {0}
 AreLeftRightly q format (Missed name ∷ entries) = AreLeftRightly q format entries
-AreLeftRightly q format (Read name bytes Running ∷ entries) = AreLeftRightly q format entries
+AreLeftRightly q format (Read name bytes Running ∷ entries) = ⊥
 AreLeftRightly q format (Read name bytes Ended ∷ entries) = AreLeftRightly q format entries
 AreLeftRightly q format (Read name bytes Failed ∷ entries) = AreLeftRightly q format entries
 AreLeftRightly q format (Read name bytes Left ∷ entries) =

@@ -1,7 +1,7 @@
 -- What a text becomes that is read to its end, if more of it follows.
 use Rattle.std.proofs.Common.{ℕ, ◌≡◌, ◌≢◌, ◌<◌, ◌⊎◌, inl, inr, Bool, true, false, ◌&&◌, eqb, cond, List, []}
-use Rattle.std.proofs.Common.{◌∷◌, ◌++◌, length, Option, Some, None, is_some, is_none, option_and_then, refl, sym, ap, ◌∙◌, subst}
-use Rattle.std.proofs.Common.{append_assoc, arith}
+use Rattle.std.proofs.Common.{◌∷◌, ◌++◌, length, Option, Some, None, is_some, is_none, option_and_then, refl, sym, ap}
+use Rattle.std.proofs.Common.{◌∙◌, subst, append_assoc, arith}
 use Rattle.std.proofs.lemmas.Bool.{eqb-true, false≢true}
 use Rattle.pg_bytes.specs.Sets.{Bytes, one, all}
 use Rattle.pg_syntax.specs.Patterns.{Pattern, Set, Begin, End, folded}
@@ -196,8 +196,8 @@ token_more Basic fold s b [] m k rest e = dollar (eqb b 36) refl
     dollar : (x : Bool) → eqb b 36 ≡ x → (basic_token fold s b (97 ∷ m) ≡ Some (k, rest ++ 97 ∷ m))
         ⊎ ((k ≡ Anchor End) × (rest ≡ [])
         × (basic_token fold s b (97 ∷ m) ≡ Some (Part (Set (folded fold (one b))), 97 ∷ m)))
-    dollar false h = inl (basic_grows fold s b (97 ∷ m) [] (ap (λ x. x && ends (97 ∷ m)) h ∙ sym (ap (λ x. x && true) h))
-        k rest e)
+    dollar false h = inl (basic_grows fold s b (97 ∷ m) []
+        (ap (λ x. x && ends (97 ∷ m)) h ∙ sym (ap (λ x. x && true) h)) k rest e)
     dollar true h =
         let is = eqb-true b 36 h in
         let z = last (sym (dollar_last fold s) ∙ (ap (λ x. basic_token fold s x []) (sym is) ∙ e)) in

@@ -68,8 +68,8 @@ loop-at-preserved c =
           inside = (c.args.bracket, omega (arith, c.loop-at.invariant.above), c.requires.stands);
           front = front_of (drop at text) (element c.in-Some.next) (drop c.in-Some.after text) e.0;
         };
-        inner = inner text at c.loop-at.first (element c.in-Some.next) (drop c.in-Some.after text) c.loop-at.reading.mode
-            c.loop-at-test.true c.loop-at.invariant.begun differs
+        inner = inner text at c.loop-at.first (element c.in-Some.next) (drop c.in-Some.after text)
+            c.loop-at.reading.mode c.loop-at-test.true c.loop-at.invariant.begun differs
             (front_of (drop at text) (element c.in-Some.next) (drop c.in-Some.after text) e.0);
       });
     }

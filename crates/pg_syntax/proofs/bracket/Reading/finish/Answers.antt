@@ -9,9 +9,12 @@ returns-in-Some-clause-placed c = λ text rest p.
     let q : FaultPlaced text c.match-self.self.fault = elim c.match-self.branch [
       | in-Fresh w ↦ rw w.self-is p.0
       | in-Ranged w ↦ rw w.self-is p.0
-      | in-Held w ↦ rw w.self-is (w.add.ensures.placed text p.0 (λ none. w.fault.ensures text (sym w.member.ensures ∙ ap (option_map bytes) none) (rw w.in-Held.is at p.1).stands))
+      | in-Held w ↦ rw w.self-is (w.add.ensures.placed text p.0
+          (λ none. w.fault.ensures text (sym w.member.ensures ∙ ap (option_map bytes) none)
+          (rw w.in-Held.is at p.1).stands))
       | in-Dashed w ↦ rw w.self-is (w.add-in-Dashed.ensures.placed text p.0
-          (λ none. w.fault-in-Dashed.ensures text (sym w.member-in-Dashed.ensures ∙ ap (option_map bytes) none) (rw w.in-Dashed.is at p.1).stands))
+          (λ none. w.fault-in-Dashed.ensures text (sym w.member-in-Dashed.ensures ∙ ap (option_map bytes) none)
+          (rw w.in-Dashed.is at p.1).stands))
       | in-Barred w ↦ rw w.self-is p.0
     ] in
     rw c.in-Some.is at q
