@@ -1,11 +1,12 @@
 -- Where elements stand.
-use Rattle.std.proofs.Common.{ℕ, ◌≡◌, ◌≢◌, ◌⊎◌, inl, inr, ◌<◌, Bool, true, false, ◌&&◌, eqb, leb, cond, List, [], ◌∷◌}
+use Rattle.std.proofs.Common.{ℕ, ◌≡◌, ◌≢◌, ◌⊎◌, inl, inr, ◌<◌, ◌+◌, Bool, true, false, ◌&&◌, eqb, leb, cond, List, [], ◌∷◌}
 use Rattle.std.proofs.Common.{Option, Some, None, is_some, option_and_then, refl, sym, ap, ◌∙◌, subst, length, get_or}
 use Rattle.std.proofs.Common.{not, drop, arith}
 use Rattle.std.proofs.lemmas.Bool.{eqb-true, false≢true}
 use Rattle.std.proofs.lemmas.Bool.Decides.{nat_tests}
 use Rattle.pg_bytes.specs.Sets.{Bytes, one, between}
 use Rattle.pg_syntax.specs.Brackets.{Element, Single, Enclosed, opens, IsFront, HaveNoRange}
+use Rattle.pg_syntax.specs.Brackets.{OpensBracket, negates}
 use Rattle.pg_syntax.specs.Brackets.{end_point, member, only_byte}
 use Rattle.pg_syntax.specs.BracketReading.{element_at, enclosed_at, enclosed_in, until, range_of}
 use Rattle.pg_syntax.specs.Places.{HasRange, IsBadRange}
@@ -15,6 +16,7 @@ use Rattle.pg_syntax.specs.declared.element.Element.{Element as Read}
 use Rattle.pg_syntax.specs.declared.bracket.Mode.{Mode}
 use Rattle.pg_syntax.specs.declared.bracket.Mode.TheVariants as M
 use Rattle.pg_syntax.proofs.IntervalLemmas.{chosen, both}
+use Rattle.std.proofs.lemmas.List.{drop-drop}
 use Rattle.pg_syntax.proofs.BracketContents.{next}
 use Rattle.pg_syntax.proofs.BracketLemmas.{until_takes}
 
@@ -127,13 +129,41 @@ behind_range mode text start at b rest m g = other g.inner
     other (inr n) = n
 
 -- behind the first element no `]` is one
+pub not_closing : (text : List ℕ) (at : ℕ) (first : Bool) (e : Element) (rest : List ℕ) → at < length text
+    → (eqb (get_or text at 0) 93 && not first) ≡ false → IsFront e (drop at text) rest
+    → (first ≡ true) ⊎ (e ≢ Single 93)
+not_closing text at true e rest h d k = inl refl
+not_closing text at false e rest h d k = inr (λ s. differs (get_or text at 0) refl
+    (ap (λ t. get_or t 0 0) (sym (next text at h) ∙ (subst (λ x. IsFront x (drop at text) rest) s k).0)))
+  where
+    differs : (b : ℕ) → get_or text at 0 ≡ b → b ≡ 93 → ⊥
+    differs b e n = absurd (false≢true (sym d ∙ ap (λ x. eqb x 93 && true) (e ∙ n)))
+
 pub inner : (text : List ℕ) (at : ℕ) (first : Bool) (e : Element) (rest : List ℕ) (mode : Mode) → at < length text
     → (mode ≡ M.Fresh) ⊎ (first ≡ false) → (eqb (get_or text at 0) 93 && not first) ≡ false
     → IsFront e (drop at text) rest → (mode ≡ M.Fresh) ⊎ (e ≢ Single 93)
 inner text at first e rest mode h (inl f) d k = inl f
-inner text at first e rest mode h (inr f) d k = inr (λ s. differs (get_or text at 0) refl
-    (ap (λ t. get_or t 0 0) (sym (next text at h) ∙ (subst (λ x. IsFront x (drop at text) rest) s k).0)))
+inner text at first e rest mode h (inr f) d k = elim (not_closing text at first e rest h d k) [
+  | inl t ↦ absurd (false≢true (sym f ∙ t))
+  | inr n ↦ inr n
+]
+
+pub opens_stands : (text elements : List ℕ) → OpensBracket text elements → (rest : List ℕ) × (text ≡ 91 ∷ rest)
+opens_stands text elements (inl h) = (elements, h.0)
+opens_stands text elements (inr h) = (94 ∷ elements, h)
+
+-- a bracket's elements begin behind its `[`, and a `^`
+pub opens_at : (text : List ℕ) (at : ℕ) (turn : Bool) (start : ℕ) → drop at text ≡ 91 ∷ drop (at + 1) text
+    → turn ≡ negates (drop (at + 1) text) → start ≡ cond turn (at + 2) (at + 1)
+    → OpensBracket (drop at text) (drop start text)
+opens_at text at false start s n e =
+    let same : start ≡ at + 1 = e in
+    inl (s ∙ ap (λ k. 91 ∷ drop k text) (sym same), sym (n ∙ ap (λ k. negates (drop k text)) (sym same)))
+opens_at text at true start s n e = inr (s ∙ ap (λ t. 91 ∷ t) (turned (drop (at + 1) text) refl n))
   where
-    differs : (b : ℕ) → get_or text at 0 ≡ b → b ≡ 93 → ⊥
-    differs b e n = absurd (false≢true (sym d ∙ (ap (λ x. eqb (get_or text at 0) 93 && not x) f
-        ∙ ap (λ x. eqb x 93 && true) (e ∙ n))))
+    turned : (t : List ℕ) → drop (at + 1) text ≡ t → true ≡ negates t → t ≡ 94 ∷ drop start text
+    turned [] d h = absurd (false≢true (sym h))
+    turned (b ∷ t) d h =
+        let same : at + 1 + 1 ≡ start = let g : start ≡ at + 2 = e in omega arith in
+        ap (λ x. x ∷ t) (eqb-true b 94 (sym h))
+        ∙ ap (λ u. 94 ∷ u) (sym (ap (drop 1) d) ∙ (drop-drop 1 (at + 1) text ∙ ap (λ k. drop k text) same))

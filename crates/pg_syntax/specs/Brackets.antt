@@ -1,5 +1,5 @@
 -- Bracket expressions (XBD 9.3.5, 9.4.5).
-use Rattle.std.specs.Prelude.{ℕ, ◌≡◌, ◌≤◌, ◌<◌, Bool, true, false, not, ◌&&◌, ◌||◌, ◌==◌, List, []}
+use Rattle.std.specs.Prelude.{ℕ, ◌≡◌, ◌≢◌, ◌≤◌, ◌<◌, ◌⊎◌, Bool, true, false, not, ◌&&◌, ◌||◌, ◌==◌, List, []}
 use Rattle.std.specs.Prelude.{◌∷◌, ◌++◌, Option, Some, None, option_and_then, if◌then◌else◌}
 use Rattle.pg_bytes.specs.Sets.{Bytes, empty, one, between, union, complement}
 use Rattle.pg_bytes.specs.Classes.{class}
@@ -36,6 +36,13 @@ abbrev pub IsFront : Element → List ℕ → List ℕ → Type 0
 IsFront (Single b) text rest = (text ≡ b ∷ rest) × (((b == 91) && opens rest) ≡ false)
 IsFront (Enclosed c content) text rest =
     (text ≡ 91 ∷ c ∷ content ++ (c ∷ 93 ∷ rest)) × (opens (c ∷ []) ≡ true) × (has_end c content ≡ false)
+
+-- From where they start, elements of a bracket are read up to this rest. None but the first of them is a `]`; the test
+-- says that none was read.
+pub data ReadsUpTo (start : List ℕ) : Bool → List ℕ → Type 0 where
+  begin : ReadsUpTo start true start
+  onward : {first : Bool} {e : Element} {text rest : List ℕ} → ReadsUpTo start first text → IsFront e text rest
+      → (first ≡ true) ⊎ (e ≢ Single 93) → ReadsUpTo start false rest
 
 -- the byte of a content of one byte
 abbrev pub only_byte : List ℕ → Option ℕ
@@ -83,6 +90,10 @@ pub data Members : List Element → Bytes → Type 0 where
 abbrev pub negates : List ℕ → Bool
 negates [] = false
 negates (b ∷ t) = b == 94
+
+-- a `[` stands at the front of a text, a `^` may follow, and then the elements
+abbrev pub OpensBracket : List ℕ → List ℕ → Type 0
+OpensBracket text elements = ((text ≡ 91 ∷ elements) × (negates elements ≡ false)) ⊎ (text ≡ 91 ∷ 94 ∷ elements)
 
 -- A bracket and its set. With a `^` behind the `[` it is the complement (rule 3), taken after case was folded.
 pub data IsBracket (fold : Bool) : List ℕ → Bytes → Type 0 where

@@ -2,7 +2,7 @@
 use Rattle.std.specs.Prelude.{ℕ, zero, suc, ◌≡◌, ◌≢◌, ◌≤◌, ◌<◌, Bool, List, [], ◌∷◌, ◌++◌, length, drop, ◌⊎◌}
 use Rattle.pg_syntax.specs.Patterns.{Pattern}
 use Rattle.pg_syntax.specs.Grammar.{opening, closing, brace, Body}
-use Rattle.pg_syntax.specs.Brackets.{Element, Single, IsFront, HaveNoRange}
+use Rattle.pg_syntax.specs.Brackets.{Element, Single, IsFront, HaveNoRange, OpensBracket, ReadsUpTo}
 use Rattle.pg_syntax.specs.declared.token.Syntax.{Syntax}
 use Rattle.pg_syntax.specs.declared.token.Syntax.TheVariants as S
 use Rattle.pg_syntax.specs.declared.token.Syntax.TheVariants.{Basic, Extended}
@@ -22,9 +22,10 @@ Stands text at w = (rest : List ℕ) × (drop at text ≡ w ++ rest)
 abbrev pub IsPastLongest : List ℕ → ℕ → Type 0
 IsPastLongest text at = (at ≡ 4096) × (4096 < length text)
 
--- a bracket begins before this offset
+-- the elements of a bracket that begins before are read up to this offset
 abbrev pub StandsInBracket : List ℕ → ℕ → Type 0
-StandsInBracket text at = (bracket : ℕ) × (bracket < at) × Stands text bracket (91 ∷ [])
+StandsInBracket text at = (bracket : ℕ) × (elements : List ℕ) × (first : Bool)
+    × OpensBracket (drop bracket text) elements × ReadsUpTo elements first (drop at text)
 
 -- a `-` and one more element, which is no `]`, stand at the front
 pub record IsRangedOn (text : List ℕ) : Type 0 where

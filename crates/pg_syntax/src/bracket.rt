@@ -2,11 +2,10 @@
 ghost use Rattle.std.specs.Prelude.{◌≡◌, ◌<◌, ◌≤◌, ◌+◌, ℕ, List, length, [], ◌∷◌, drop};
 ghost use Rattle.std.specs.Prelude.{option_map, MatchResult, IfErr, Some, None};
 ghost use Rattle.pg_bytes.specs.ByteSets.{bytes};
-ghost use Rattle.pg_syntax.specs.Brackets.{negates};
+ghost use Rattle.pg_syntax.specs.Brackets.{negates, OpensBracket};
 ghost use Rattle.pg_syntax.specs.BracketReading.{bracket, shape, elements_from, add, put, finish};
 ghost use Rattle.pg_syntax.specs.BracketViews.{element, reading};
 ghost use Rattle.pg_syntax.specs.BracketPlaces.{GoesOn, FaultPlace, FaultPlaced, Placed};
-ghost use Rattle.pg_syntax.specs.Places.{Stands};
 ghost use Rattle.pg_syntax.specs.Tokens.{FindsSet};
 
 use crate::element::{Element, element_at};
@@ -128,8 +127,7 @@ impl<'a> Reading<'a> {
 /// The set of the elements from an offset on, and the offset after their `]`. The bracket begins at
 /// `bracket`.
 fn elements(text: &[u8], bracket: usize, start: usize) -> Result<(ByteSet, usize), SyntaxFault>
-    requires stands { Stands text.now bracket (91 ∷ []) }
-    requires inside { bracket < start }
+    requires opens { OpensBracket (drop bracket text.now) (drop start text.now) }
     requires within { start ≤ length text.now }
     ensures { FindsSet text.now start result (elements_from text.now start) }
 {

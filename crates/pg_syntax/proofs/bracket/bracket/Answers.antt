@@ -1,4 +1,5 @@
 use Rattle.std.proofs.Common.{◌≡◌, ◌+◌, cond, ◌≤◌, refl, sym, ap, ◌∙◌, arith, drop, Some}
+use Rattle.pg_syntax.proofs.BracketAt.{opens_at}
 use Rattle.pg_syntax.proofs.BracketWholes.{whole_is, shaped_by}
 use Rattle.pg_syntax.proofs.bracket.bracket.Goals as goal
 use Rattle.pg_syntax.proofs.bracket.bracket.Goals.{then-negated, else-negated}
@@ -39,3 +40,14 @@ returns-in-Err c =
           ∙ ap (shaped_by c.negates-negated.result c.args.fold) c.in-Err.ensures.0,
       c.in-Err.ensures.1,
     )
+
+pub elements-requires-clause-opens : goal.elements-requires-clause-opens
+elements-requires-clause-opens c =
+    let at = c.args.at in
+    let start : c.if-negated.start ≡ cond c.negates-negated.result (at + 2) (at + 1) =
+    elim c.if-negated.branch [
+      | then-negated w ↦ rw (w.start-is, w.if-negated.true) refl
+      | else-negated w ↦ rw (w.start-is, w.if-negated.false) refl
+    ] in
+    opens_at c.args.text.now at c.negates-negated.result c.if-negated.start c.requires.stands c.negates-negated.ensures
+    start

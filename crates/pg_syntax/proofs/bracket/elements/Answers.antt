@@ -1,9 +1,11 @@
 use Rattle.std.proofs.Common.{ℕ, ◌≡◌, ◌+◌, ◌&&◌, Bool, true, false, not, eqb, drop, get_or, Some, option_and_then, ap}
-use Rattle.std.proofs.Common.{◌∙◌, inr, refl, arith}
+use Rattle.std.proofs.Common.{◌∙◌, ◌-◌, length, sym, inl, inr, refl, arith}
 use Rattle.std.proofs.lemmas.Bool.Decides.{nat_tests}
 use Rattle.pg_syntax.specs.BracketViews.{element, reading}
 use Rattle.pg_syntax.proofs.BracketRuns.{left_more, left_none, left_end, left_close}
-use Rattle.pg_syntax.proofs.BracketAt.{front_of, inner}
+use Rattle.pg_syntax.proofs.BracketAt.{front_of, not_closing, inner, opens_stands}
+use Rattle.pg_syntax.specs.Brackets.{begin, onward}
+use Rattle.pg_syntax.specs.BracketReading.{Fresh, inside_at, rest_of}
 use Rattle.pg_syntax.proofs.bracket.elements.Goals as goal
 use Rattle.pg_syntax.proofs.bracket.elements.Goals.{in-Ok, in-Err}
 use Rattle.pg_syntax.proofs.bracket.elements.Goals.{else-text-at-eq93-via-then-text-at-eq93+else-not-first}
@@ -42,8 +44,26 @@ returns-in_default c =
       | else-text-at-eq93-via-else-text-at-eq93 w ↦ grind (arith, nat_tests, w.if-text-at-eq93.false)
     ] in (
       left_none _ text _ c.loop-at.first at c.loop-at-test.true differs c.in_default.ensures c.loop-at.invariant.left,
-      c.requires.stands,
+      opens_stands _ _ c.requires.opens,
     )
+
+pub loop-at-init : goal.loop-at-init
+loop-at-init c =
+    let text = c.args.text.now in
+    let start = c.args.start in
+    record {
+      above = omega arith;
+      within = c.requires.within;
+      left = record {
+        steps = length text - start;
+        enough = omega arith;
+        reads = ap (λ s. rest_of (record { mode = Fresh; set = s; bad = false })
+            (inside_at (length text - start) true (drop start text))) (sym c.empty.ensures);
+      };
+      reached = begin;
+      begun = inl refl;
+      placed = (tt, tt);
+    }
 
 pub loop-at-preserved : goal.loop-at-preserved
 loop-at-preserved c =
@@ -61,11 +81,15 @@ loop-at-preserved c =
       left = left_more _ text (reading c.loop-at.reading) c.loop-at.first at c.in-Some.after
           (element c.in-Some.next) c.loop-at-test.true e.2 differs e.0
           (reading c.put.new.self) c.put.ensures.reads c.loop-at.invariant.left;
+      reached = onward c.loop-at.invariant.reached
+          (front_of (drop at text) (element c.in-Some.next) (drop c.in-Some.after text) e.0)
+          (not_closing text at c.loop-at.first (element c.in-Some.next) (drop c.in-Some.after text) c.loop-at-test.true
+          differs (front_of (drop at text) (element c.in-Some.next) (drop c.in-Some.after text) e.0));
       begun = inr refl;
       placed = c.put.ensures.placed text (drop c.in-Some.after text) c.loop-at.invariant.placed (record {
         holds = record {
           stands = e.1;
-          inside = (c.args.bracket, omega (arith, c.loop-at.invariant.above), c.requires.stands);
+          inside = (c.args.bracket, drop c.args.start text, c.loop-at.first, c.requires.opens, c.loop-at.invariant.reached);
           front = front_of (drop at text) (element c.in-Some.next) (drop c.in-Some.after text) e.0;
         };
         inner = inner text at c.loop-at.first (element c.in-Some.next) (drop c.in-Some.after text)
@@ -77,5 +101,5 @@ loop-at-preserved c =
 pub returns : goal.returns
 returns c = (
   left_end _ c.args.text.now _ c.loop-at.first c.loop-at.at c.loop-at-test.false c.loop-at.invariant.left,
-  c.requires.stands,
+  opens_stands _ _ c.requires.opens,
 )

@@ -2,6 +2,7 @@ use Rattle.std.proofs.Common.{◌≡◌, ◌⊎◌, false, ◌≤◌, ◌-◌, l
 use Rattle.pg_syntax.specs.declared.bracket.Mode.TheVariants.{Fresh}
 use Rattle.pg_syntax.specs.BracketReading.{elements_from}
 use Rattle.pg_syntax.specs.BracketViews.{reading}
+use Rattle.pg_syntax.specs.Brackets.{ReadsUpTo}
 use Rattle.pg_syntax.specs.BracketPlaces.{Placed}
 use Rattle.pg_syntax.proofs.BracketRuns.{Left}
 use Rattle.pg_syntax.proofs.bracket.elements.Given as goal
@@ -11,6 +12,7 @@ invariant-loop-at l = record {
   above : l.fn.start ≤ l.at;
   within : l.at ≤ length l.text;
   left : Left (elements_from l.text l.fn.start) l.text (reading l.reading) l.first l.at;
+  reached : ReadsUpTo (drop l.fn.start l.text) l.first (drop l.at l.text);
   begun : (l.reading.mode ≡ Fresh) ⊎ (l.first ≡ false);
   placed : Placed l.text (drop l.at l.text) l.reading;
 }
