@@ -89,7 +89,8 @@ loop-at-preserved c =
       placed = c.put.ensures.placed text (drop c.in-Some.after text) c.loop-at.invariant.placed (record {
         holds = record {
           stands = e.1;
-          inside = (c.args.bracket, drop c.args.start text, c.loop-at.first, c.requires.opens, c.loop-at.invariant.reached);
+          inside =
+              (c.args.bracket, drop c.args.start text, c.loop-at.first, c.requires.opens, c.loop-at.invariant.reached);
           front = front_of (drop at text) (element c.in-Some.next) (drop c.in-Some.after text) e.0;
         };
         inner = inner text at c.loop-at.first (element c.in-Some.next) (drop c.in-Some.after text)
