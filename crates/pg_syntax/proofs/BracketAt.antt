@@ -7,7 +7,7 @@ use Rattle.std.proofs.lemmas.Bool.Decides.{nat_tests}
 use Rattle.pg_bytes.specs.Sets.{Bytes, one, between}
 use Rattle.pg_syntax.specs.Brackets.{Element, Single, Enclosed, opens, IsFront, HaveNoRange}
 use Rattle.pg_syntax.specs.Brackets.{OpensBracket, negates}
-use Rattle.pg_syntax.specs.Brackets.{end_point, member, only_byte}
+use Rattle.pg_syntax.specs.Brackets.{end_point, is_dash, member, only_byte}
 use Rattle.pg_syntax.specs.BracketReading.{element_at, enclosed_at, enclosed_in, until, range_of}
 use Rattle.pg_syntax.specs.Places.{HasRange, IsBadRange}
 use Rattle.pg_syntax.specs.BracketPlaces.{EndsRange, Holds, GoesOn}
@@ -57,6 +57,11 @@ front_of (b ∷ t) e rest h = elim (chosen (eqb b 91 && opens t) _ _ _ h) [
     enclosed : (t : List ℕ) → opens t ≡ true → enclosed_at t ≡ Some (e, rest) → IsFront e (91 ∷ t) rest
     enclosed [] m k = absurd (false≢true m)
     enclosed (c ∷ u) m k = found c u (until c u) e rest m refl k
+
+-- a `-` that is the element at the front
+pub dash_front : (e : Element) (t rest : List ℕ) → is_dash e ≡ true → IsFront e t rest → t ≡ 45 ∷ rest
+dash_front (Single b) t rest d f = f.0 ∙ ap (λ y. y ∷ rest) (eqb-true b 45 d)
+dash_front (Enclosed c content) t rest d f = absurd (false≢true d)
 
 -- what is no range
 pub no_range : (low high : Element) → range_of (end_point low) (end_point high) ≡ None → HaveNoRange low high
@@ -139,14 +144,11 @@ not_closing text at false e rest h d k = inr (λ s. differs (get_or text at 0) r
     differs : (b : ℕ) → get_or text at 0 ≡ b → b ≡ 93 → ⊥
     differs b e n = absurd (false≢true (sym d ∙ ap (λ x. eqb x 93 && true) (e ∙ n)))
 
-pub inner : (text : List ℕ) (at : ℕ) (first : Bool) (e : Element) (rest : List ℕ) (mode : Mode) → at < length text
-    → (mode ≡ M.Fresh) ⊎ (first ≡ false) → (eqb (get_or text at 0) 93 && not first) ≡ false
-    → IsFront e (drop at text) rest → (mode ≡ M.Fresh) ⊎ (e ≢ Single 93)
-inner text at first e rest mode h (inl f) d k = inl f
-inner text at first e rest mode h (inr f) d k = elim (not_closing text at first e rest h d k) [
-  | inl t ↦ absurd (false≢true (sym f ∙ t))
-  | inr n ↦ inr n
-]
+pub inner : (first : Bool) (e : Element) (mode : Mode) → (mode ≡ M.Fresh) ⊎ (first ≡ false)
+    → (first ≡ true) ⊎ (e ≢ Single 93) → (mode ≡ M.Fresh) ⊎ (e ≢ Single 93)
+inner first e mode (inl f) k = inl f
+inner first e mode (inr f) (inl t) = absurd (false≢true (sym f ∙ t))
+inner first e mode (inr f) (inr n) = inr n
 
 pub opens_stands : (text elements : List ℕ) → OpensBracket text elements → (rest : List ℕ) × (text ≡ 91 ∷ rest)
 opens_stands text elements (inl h) = (elements, h.0)

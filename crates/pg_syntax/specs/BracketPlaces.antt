@@ -50,7 +50,7 @@ FaultPlaced text (Some f) = FaultPlace text f
 -- an element stands at this offset, inside a bracket, and this follows it
 pub record Holds (text : List ℕ) (at : ℕ) (a : Element) (rest : List ℕ) : Type 0 where
   pub stands : At text at a
-  pub inside : StandsInBracket text at
+  pub inside : StandsInBracket text at (element a)
   pub front : B.IsFront (element a) (drop at text) rest
 
 -- a range begins at this offset, and this follows it, or is another one that begins where a range ended

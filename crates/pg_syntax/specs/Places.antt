@@ -1,5 +1,5 @@
 -- What stands where a fault is found.
-use Rattle.std.specs.Prelude.{ℕ, zero, suc, ◌≡◌, ◌≢◌, ◌≤◌, ◌<◌, Bool, List, [], ◌∷◌, ◌++◌, length, drop, ◌⊎◌}
+use Rattle.std.specs.Prelude.{ℕ, zero, suc, ◌≡◌, ◌≢◌, ◌≤◌, ◌<◌, Bool, true, List, [], ◌∷◌, ◌++◌, length, drop, ◌⊎◌}
 use Rattle.pg_syntax.specs.Patterns.{Pattern}
 use Rattle.pg_syntax.specs.Grammar.{opening, closing, brace, Body}
 use Rattle.pg_syntax.specs.Brackets.{Element, Single, IsFront, HaveNoRange, OpensBracket, ReadsUpTo}
@@ -22,10 +22,12 @@ Stands text at w = (rest : List ℕ) × (drop at text ≡ w ++ rest)
 abbrev pub IsPastLongest : List ℕ → ℕ → Type 0
 IsPastLongest text at = (at ≡ 4096) × (4096 < length text)
 
--- the elements of a bracket that begins before are read up to this offset
-abbrev pub StandsInBracket : List ℕ → ℕ → Type 0
-StandsInBracket text at = (bracket : ℕ) × (elements : List ℕ) × (first : Bool)
+-- The elements of a bracket that begins before are read up to this offset, and this is the next one. Only the first one
+-- can be a `]`, which else closes the bracket.
+abbrev pub StandsInBracket : List ℕ → ℕ → Element → Type 0
+StandsInBracket text at e = (bracket : ℕ) × (elements : List ℕ) × (first : Bool)
     × OpensBracket (drop bracket text) elements × ReadsUpTo elements first (drop at text)
+    × ((first ≡ true) ⊎ (e ≢ Single 93))
 
 -- a `-` and one more element, which is no `]`, stand at the front
 pub record IsRangedOn (text : List ℕ) : Type 0 where
@@ -39,7 +41,7 @@ pub record IsRangedOn (text : List ℕ) : Type 0 where
 -- An element, a `-` and one more element stand at this offset of a text, inside a bracket, and this follows them. The
 -- second one is no `]`, which would close the bracket.
 pub record HasRange (text : List ℕ) (at : ℕ) (low high : Element) (rest : List ℕ) : Type 0 where
-  pub inside : StandsInBracket text at
+  pub inside : StandsInBracket text at low
   pub from : List ℕ
   pub begins : IsFront low (drop at text) (45 ∷ from)
   pub ends : IsFront high from rest

@@ -75,27 +75,31 @@ loop-at-preserved c =
       | else-text-at-eq93-via-else-text-at-eq93 w ↦ grind (arith, nat_tests, w.if-text-at-eq93.false)
     ] in
     let e = c.in-Some.ensures in
+    let next = element c.in-Some.next in
+    let rest = drop c.in-Some.after text in
+    let front = front_of (drop at text) next rest e.0 in
+    let kind = not_closing text at c.loop-at.first next rest c.loop-at-test.true differs front in
     record {
       above = omega (arith, e.2);
       within = e.3;
-      left = left_more _ text (reading c.loop-at.reading) c.loop-at.first at c.in-Some.after
-          (element c.in-Some.next) c.loop-at-test.true e.2 differs e.0
-          (reading c.put.new.self) c.put.ensures.reads c.loop-at.invariant.left;
-      reached = onward c.loop-at.invariant.reached
-          (front_of (drop at text) (element c.in-Some.next) (drop c.in-Some.after text) e.0)
-          (not_closing text at c.loop-at.first (element c.in-Some.next) (drop c.in-Some.after text) c.loop-at-test.true
-          differs (front_of (drop at text) (element c.in-Some.next) (drop c.in-Some.after text) e.0));
+      left = left_more _ text (reading c.loop-at.reading) c.loop-at.first at c.in-Some.after next c.loop-at-test.true e.2
+          differs e.0 (reading c.put.new.self) c.put.ensures.reads c.loop-at.invariant.left;
+      reached = onward c.loop-at.invariant.reached front kind;
       begun = inr refl;
-      placed = c.put.ensures.placed text (drop c.in-Some.after text) c.loop-at.invariant.placed (record {
+      placed = c.put.ensures.placed text rest c.loop-at.invariant.placed (record {
         holds = record {
           stands = e.1;
-          inside =
-              (c.args.bracket, drop c.args.start text, c.loop-at.first, c.requires.opens, c.loop-at.invariant.reached);
-          front = front_of (drop at text) (element c.in-Some.next) (drop c.in-Some.after text) e.0;
+          inside = (
+            c.args.bracket,
+            drop c.args.start text,
+            c.loop-at.first,
+            c.requires.opens,
+            c.loop-at.invariant.reached,
+            kind,
+          );
+          front = front;
         };
-        inner = inner text at c.loop-at.first (element c.in-Some.next) (drop c.in-Some.after text)
-            c.loop-at.reading.mode c.loop-at-test.true c.loop-at.invariant.begun differs
-            (front_of (drop at text) (element c.in-Some.next) (drop c.in-Some.after text) e.0);
+        inner = inner c.loop-at.first next c.loop-at.reading.mode c.loop-at.invariant.begun kind;
       });
     }
 

@@ -1,8 +1,10 @@
-use Rattle.std.proofs.Common.{ap, sym, ◌∙◌, option_map, inl, inr}
+use Rattle.std.proofs.Common.{ap, sym, ◌∙◌, subst, option_map, drop, inl, inr}
 use Rattle.pg_bytes.specs.ByteSets.{bytes}
 use Rattle.pg_syntax.specs.BracketViews.{element}
-use Rattle.pg_syntax.proofs.BracketAt.{ends_range, ranged_on, behind_dash, behind_range, no_range}
+use Rattle.pg_syntax.specs.BracketPlaces.{EndsRange}
+use Rattle.pg_syntax.proofs.BracketAt.{dash_front, ends_range, ranged_on, behind_dash, behind_range, no_range}
 use Rattle.pg_syntax.proofs.bracket.Reading.put.Goals as goal
+use Rattle.pg_syntax.proofs.bracket.Reading.put.Goals.{then-is_dash-2, else-is_dash-2}
 
 pub returns-in-Dashed-clause-placed : goal.returns-in-Dashed-clause-placed
 returns-in-Dashed-clause-placed c = λ text rest p k.
@@ -22,3 +24,15 @@ returns-in-Barred-clause-placed c = λ text rest p k.
     let inner = behind_range _ text c.in-Barred.start c.args.at c.args.next rest c.in-Barred.is k in
     let bad = ranged_on text c.in-Barred.start c.args.at c.args.next rest range k.holds inner in
     (c.add-in-Barred.ensures.placed text p.0 (λ none. bad), inr bad)
+
+pub returns-after-is_dash-2-clause-placed : goal.returns-after-is_dash-2-clause-placed
+returns-after-is_dash-2-clause-placed c = λ text rest p k.
+    let range = rw c.in-Ranged.is at p.1 in
+    elim c.if-is_dash-2.branch [
+      | then-is_dash-2 w ↦ rw w.self-is (
+        p.0,
+        subst (EndsRange text c.in-Ranged.start) (dash_front (element c.args.next) (drop c.args.at text) rest
+            (sym c.is_dash-in-Ranged.ensures ∙ w.if-is_dash-2.true) k.holds.front) range,
+      )
+      | else-is_dash-2 w ↦ rw w.self-is (p.0, k.holds)
+    ]
