@@ -82,8 +82,8 @@ loop-at-preserved c =
     record {
       above = omega (arith, e.2);
       within = e.3;
-      left = left_more _ text (reading c.loop-at.reading) c.loop-at.first at c.in-Some.after next c.loop-at-test.true e.2
-          differs e.0 (reading c.put.new.self) c.put.ensures.reads c.loop-at.invariant.left;
+      left = left_more _ text (reading c.loop-at.reading) c.loop-at.first at c.in-Some.after next
+          c.loop-at-test.true e.2 differs e.0 (reading c.put.new.self) c.put.ensures.reads c.loop-at.invariant.left;
       reached = onward c.loop-at.invariant.reached front kind;
       begun = inr refl;
       placed = c.put.ensures.placed text rest c.loop-at.invariant.placed (record {
