@@ -1,0 +1,5 @@
+pub mod KeyLemmas
+pub mod ChainLemmas
+pub mod WalkLemmas
+pub mod PlaceLemmas
+pub mod LongestLemmas

@@ -1,0 +1,94 @@
+use Rattle.std.proofs.Common.{◌≡◌, ◌-◌, ◌<◌, ◌≤◌, ℕ, List, [], length, map, ◌/◌, arith, sym, ap}
+use Rattle.std.proofs.Common.{subst, get_or, ◌∙◌}
+use Rattle.std.proofs.lemmas.List.{get_or_default, length-map}
+use Rattle.memchr.specs.Find.{OccursAt}
+use Rattle.pg_strings.specs.Keys.{items_of}
+use Rattle.pg_strings.proofs.WalkLemmas.{IsWalked, walk_first, walk_next, walk_ends, walk_weaker, link_falls}
+use Rattle.pg_strings.proofs.PlaceLemmas.{string_at}
+use Rattle.pg_strings.proofs.LongestLemmas.{kept_stands}
+use Rattle.pg_strings.proofs.set.StringSet.longest_at.Goals as goal
+
+pub loop-link-init : goal.loop-link-init
+loop-link-init g c =
+    let set = c.args.self.now in
+    let vecs = set.strings.items in
+    let h = c.last_key_at-key.result / 16 in
+    let P : List ℕ → Type 0 = λ string. OccursAt c.args.bytes.now string c.args.place → length string ≤ 0 in
+    let walk = walk_first P set.factor (map items_of vecs) set.chains.first.items set.chains.next.items h
+    c.index-link.result.now (omega (arith, c.last_key_at-key.ensures.few)) set.linked c.index-link.ensures in
+    record {
+      within = omega (arith, walk.0, length-map vecs items_of);
+      walked = walk.1;
+      stands = λ some. absurd (omega (arith, some));
+    }
+
+pub loop-link-smaller : goal.loop-link-smaller
+loop-link-smaller g c =
+    let set = c.args.self.now in
+    let vecs = set.strings.items in
+    let within = c.loop-link.invariant.within in
+    link_falls set.factor (map items_of vecs) set.chains.first.items set.chains.next.items c.loop-link.link
+    c.index-link-in-loop-link.result.now set.linked c.loop-link-test.true
+    (omega (arith, within, length-map vecs items_of)) c.index-link-in-loop-link.ensures
+
+pub loop-link-preserved : goal.loop-link-preserved
+loop-link-preserved g c =
+    let set = c.args.self.now in
+    let bytes = c.args.bytes.now in
+    let place = c.args.place in
+    let vecs = set.strings.items in
+    let strings = map items_of vecs in
+    let h = c.last_key_at-key.result / 16 in
+    let i = c.loop-link.link - 1 in
+    let some = c.loop-link-test.true in
+    let within = c.loop-link.invariant.within in
+    let less : i < length vecs = omega (arith, within, some) in
+    let len = length-map vecs items_of in
+    let string : get_or strings i [] ≡ c.deref.result.now =
+    string_at vecs i c.index.result.now less c.index.ensures ∙ sym c.deref.ensures.value in
+    let longer = c.longer-longest.ensures in
+    let kept = c.longer-longest.result in
+    let P : List ℕ → Type 0 = λ s. OccursAt bytes s place → length s ≤ kept in
+    let walked = walk_weaker (λ s. OccursAt bytes s place → length s ≤ c.loop-link.longest) P set.factor strings
+    c.loop-link.link h (λ s short occurs. omega (arith, short occurs, longer.low)) c.loop-link.invariant.walked in
+    let walk = walk_next P set.factor strings set.chains.first.items set.chains.next.items c.loop-link.link h
+    c.index-link-in-loop-link.result.now set.linked some (omega (arith, within, len)) walked
+    (subst P (sym string) longer.own) c.index-link-in-loop-link.ensures in
+    record {
+      within = omega (arith, walk.0, within, some);
+      walked = walk.1;
+      stands = kept_stands strings bytes place i c.loop-link.longest c.deref.result.now kept (omega (arith, less, len)) string
+          longer.low longer.stands c.loop-link.invariant.stands;
+    }
+
+pub returns-then-longest-gt0 : goal.returns-then-longest-gt0
+returns-then-longest-gt0 g c =
+    let set = c.args.self.now in
+    let strings = map items_of set.strings.items in
+    let h = c.last_key_at-key.result / 16 in
+    let P : List ℕ → Type 0 = λ s. OccursAt c.args.bytes.now s c.args.place → length s ≤ c.loop-link.longest in
+    let test = c.loop-link-test.false in
+    let end : c.loop-link.link ≡ 0 = omega (arith, test) in
+    let walked = subst (λ link. IsWalked P set.factor strings link h) end c.loop-link.invariant.walked in (
+      c.loop-link.invariant.stands c.if-longest-gt0.true,
+      λ k d less occurs. walk_ends P set.factor set.width strings c.args.bytes.now c.args.place h set.weighs set.long
+          (ap (λ n. n / 16) c.last_key_at-key.ensures.value) walked k (get_or strings k d) less
+          (get_or_default strings k (get_or strings k d) d less) occurs occurs,
+    )
+
+pub returns-else-longest-gt0 : goal.returns-else-longest-gt0
+returns-else-longest-gt0 g c =
+    let set = c.args.self.now in
+    let strings = map items_of set.strings.items in
+    let h = c.last_key_at-key.result / 16 in
+    let P : List ℕ → Type 0 = λ s. OccursAt c.args.bytes.now s c.args.place → length s ≤ c.loop-link.longest in
+    let test = c.loop-link-test.false in
+    let end : c.loop-link.link ≡ 0 = omega (arith, test) in
+    let walked = subst (λ link. IsWalked P set.factor strings link h) end c.loop-link.invariant.walked in
+    λ some.
+    let short = walk_ends P set.factor set.width strings c.args.bytes.now c.args.place h set.weighs set.long
+    (ap (λ n. n / 16) c.last_key_at-key.ensures.value) walked some.0 some.1 some.2 some.3 some.4 some.4 in
+    let long : set.width ≤ length some.1 = subst (λ t. set.width ≤ length t) some.3 (set.long some.0 some.1 some.2) in
+    let least = set.weighs.some in
+    let test' = c.if-longest-gt0.false in
+    absurd (omega (arith, short, long, least, test'))

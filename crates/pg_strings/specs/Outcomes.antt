@@ -1,0 +1,41 @@
+-- What searches for strings come to.
+use Rattle.std.specs.Prelude.{◌≡◌, ℕ, ◌+◌, ◌-◌, ◌*◌, ◌≤◌, List, Option, length, map, MatchOption}
+use Rattle.std.specs.List.{All, Any}
+use Rattle.memchr.specs.Find.{OccursAt, Nowhere, NoneBefore}
+use Rattle.pg_strings.specs.Keys.{items_of}
+use Rattle.pg_strings.specs.Sets.{SomeStands}
+use Rattle.pg_strings.specs.declared.set.StringSet.{StringSet}
+use Rattle.pg_strings.specs.declared.outcome.Outcome.{Outcome}
+use Rattle.pg_strings.specs.declared.outcome.Outcome.TheVariants.{Found, NotFound, GaveUp}
+use Rattle.pg_strings.specs.declared.outcome.Look.{Look}
+use Rattle.pg_strings.specs.declared.outcome.Look.TheVariants.{Stands, NoneStands, GaveUp as LookGaveUp}
+
+-- the strings of a set, in their order
+abbrev pub strings_of : {A : Type 0} → StringSet A → List (List ℕ)
+strings_of set = map items_of set.strings.items
+
+-- The first place from one on, up to another, where P holds; or it holds nowhere there; or up to a place that was
+-- reached it holds nowhere.
+abbrev pub IsOutcome : (ℕ → Type 0) → ℕ → ℕ → Outcome → Type 0
+IsOutcome P from stop (Found place) = NoneBefore P from stop place × P place
+IsOutcome P from stop NotFound = Nowhere P from stop
+IsOutcome P from stop (GaveUp place) = (from ≤ place) × (place ≤ stop) × Nowhere P from place
+
+-- The budget grows by 8 at most for each byte that was passed. A search that gives up has used it up, and it wasn't
+-- enough to compare all strings at each place that was looked at.
+abbrev pub IsWithinBudget : (work from stop old new : ℕ) → Outcome → Type 0
+IsWithinBudget work from stop old new (Found place) = new ≤ old + 8 * (place - from)
+IsWithinBudget work from stop old new NotFound = new ≤ old + 8 * (stop - from)
+IsWithinBudget work from stop old new (GaveUp place) = (new ≡ 0) × (old ≤ (place + 1 - from) * work)
+
+-- the longest string that stands at the place has this length; or none stands
+abbrev pub IsLongestAt : List (List ℕ) → List ℕ → ℕ → Option ℕ → Type 0
+IsLongestAt strings bytes place result = MatchOption result (SomeStands strings bytes place → ⊥)
+    (λ n. Any (λ string. OccursAt bytes string place × (length string ≡ n)) strings
+    × All (λ string. OccursAt bytes string place → length string ≤ n) strings)
+
+-- P holds, or not; or nothing is left of the budget
+abbrev pub IsLook : Type 0 → ℕ → Look → Type 0
+IsLook P left Stands = P
+IsLook P left NoneStands = P → ⊥
+IsLook P left LookGaveUp = left ≡ 0

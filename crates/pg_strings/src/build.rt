@@ -1,0 +1,57 @@
+//! How a set is made of its strings.
+ghost use Rattle.std.specs.Prelude.{◌≡◌, ◌≤◌, length, map, IfOk};
+ghost use Rattle.std.specs.List.{All};
+ghost use Rattle.pg_strings.specs.Keys.{AreLong, items_of};
+ghost use Rattle.pg_strings.specs.Outcomes.{strings_of};
+
+use crate::chains::Chains;
+use crate::key::{KEYS, SHARE, factor_of, last_key_at};
+use crate::set::StringSet;
+use std::alloc::{AllocError, Allocator};
+
+/// The length of the shortest string, at most 8.
+fn width_of<A: Allocator>(strings: &[Vec<u8, A>]) -> usize
+    requires { All (λ string. 1 ≤ length string.items) strings.now }
+    ensures range { (1 ≤ result) × (result ≤ 8) }
+    ensures long { AreLong result (map items_of strings.now) }
+{
+    let mut width = 8;
+    for string in strings {
+        width = width.min(string.len());
+    }
+    width
+}
+
+/// Flags, none of them set.
+fn no_flags<A: Allocator + Copy>(alloc: A) -> Result<Vec<bool, A>, AllocError>
+    ensures { IfOk result (λ flags. length flags.items ≡ 131072) }
+{
+    vec![in alloc; false; KEYS]
+}
+
+impl<A: Allocator> StringSet<A> {
+    /// Prepares strings, in linear time. A refused request for memory is the only error.
+    pub fn new(alloc: A, strings: Vec<Vec<u8, A>, A>) -> Result<StringSet<A>, AllocError>
+    where
+        A: Copy,
+        requires { All (λ string. 1 ≤ length string.items) strings.items }
+        ensures { IfOk result (λ set. strings_of set ≡ map items_of strings.items) }
+    {
+        let width = width_of(strings.as_slice());
+        let factor = factor_of(width);
+        let mut flags = no_flags(alloc)?;
+        let mut chains = Chains::new(alloc)?;
+        for place in 0..strings.len() {
+            let key = last_key_at(factor, &strings[place], 0);
+            flags[key] = true;
+            chains.push(key / SHARE)?;
+        }
+        Ok(StringSet {
+            strings,
+            width,
+            factor,
+            flags,
+            chains,
+        })
+    }
+}

@@ -1,0 +1,96 @@
+//! The search for the first place at which a string stands.
+ghost use Rattle.std.specs.Prelude.{◌≡◌, ◌+◌, ◌≤◌, length, false};
+ghost use Rattle.memchr.specs.Find.{Nowhere};
+ghost use Rattle.pg_strings.specs.Sets.{SomeStands, work};
+ghost use Rattle.pg_strings.specs.Outcomes.{strings_of, IsOutcome, IsWithinBudget, IsLook};
+
+use crate::budget::Budget;
+use crate::compare::stands_within;
+use crate::key::{SHARE, key_at, last_key_at};
+use crate::outcome::{Look, Outcome};
+use crate::set::StringSet;
+use std::alloc::Allocator;
+
+impl<A: Allocator> StringSet<A> {
+    /// The first place at or behind `from` at which some string stands, as far as the budget goes.
+    ///
+    /// A place is looked at in the time that comparing all strings there takes, at most. Where the budget is used up,
+    /// the search gives up.
+    pub fn find(&self, bytes: &[u8], from: usize, budget: &mut Budget) -> Outcome
+        requires { from ≤ length bytes.now }
+        ensures outcome { IsOutcome (SomeStands (strings_of self.now) bytes.now) from (length bytes.now) result }
+        ensures budget { IsWithinBudget (work (strings_of self.now)) from (length bytes.now) budget.old.left
+            budget.new.left result }
+    {
+        let mut place = from;
+        while place < bytes.len() {
+            let next = self.skip(bytes, place);
+            budget.earn(next - place);
+            if next >= bytes.len() {
+                return Outcome::NotFound;
+            }
+            match self.look_at(bytes, next, budget) {
+                Look::Stands => return Outcome::Found(next),
+                Look::NoneStands => budget.earn(1),
+                Look::GaveUp => return Outcome::GaveUp(next),
+            }
+            place = next + 1;
+        }
+        Outcome::NotFound
+    }
+
+    /// Whether some string stands at a place.
+    fn look_at(&self, bytes: &[u8], place: usize, budget: &mut Budget) -> Look
+        requires { place ≤ length bytes.now }
+        ensures look { IsLook (SomeStands (strings_of self.now) bytes.now place) budget.new.left result }
+        ensures less { budget.new.left ≤ budget.old.left }
+        ensures cost { budget.old.left ≤ budget.new.left + work (strings_of self.now) }
+    {
+        let key = last_key_at(self.factor, bytes, place);
+        let mut link = self.chains.first[key / SHARE];
+        while link > 0 {
+            if budget.left == 0 {
+                return Look::GaveUp;
+            }
+            if stands_within(&self.strings[link - 1], bytes, place, budget) {
+                return Look::Stands;
+            }
+            link = self.chains.next[link - 1];
+        }
+        Look::NoneStands
+    }
+
+    /// Whether some string may stand at a place.
+    #[inline(always)]
+    fn is_flagged(&self, bytes: &[u8], place: usize) -> bool
+        requires { place + 8 ≤ length bytes.now }
+        ensures { result ≡ false → ¬ SomeStands (strings_of self.now) bytes.now place }
+    {
+        self.flags[key_at(self.factor, bytes, place)]
+    }
+
+    /// The first place at or behind one at which some string may stand.
+    #[inline(never)]
+    fn skip(&self, bytes: &[u8], from: usize) -> usize
+        requires { from ≤ length bytes.now }
+        ensures low { from ≤ result }
+        ensures high { result ≤ length bytes.now }
+        ensures none { Nowhere (SomeStands (strings_of self.now) bytes.now) from result }
+    {
+        let mut place = from;
+        while bytes.len() - place >= 11 {
+            let one = self.is_flagged(bytes, place);
+            let two = self.is_flagged(bytes, place + 1);
+            let three = self.is_flagged(bytes, place + 2);
+            let four = self.is_flagged(bytes, place + 3);
+            if one | two | three | four {
+                break;
+            }
+            place += 4;
+        }
+        while bytes.len() - place >= 8 && !self.is_flagged(bytes, place) {
+            place += 1;
+        }
+        place
+    }
+}

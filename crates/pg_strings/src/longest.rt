@@ -1,0 +1,51 @@
+//! The longest string that stands at a place.
+ghost use Rattle.std.specs.Prelude.{◌≡◌, ◌<◌, ◌≤◌, ◌↔◌, length, IsTrue, Contains};
+ghost use Rattle.memchr.specs.Find.{OccursAt};
+ghost use Rattle.pg_strings.specs.Outcomes.{strings_of, IsLongestAt};
+
+use crate::compare::stands;
+use crate::key::{SHARE, last_key_at};
+use crate::set::StringSet;
+use std::alloc::Allocator;
+
+/// The length of a string that stands at a place, if it is greater than another length; else that one.
+#[inline(always)]
+fn longer(longest: usize, string: &[u8], bytes: &[u8], place: usize) -> usize
+    requires { place ≤ length bytes.now }
+    ensures low { longest ≤ result }
+    ensures own { OccursAt bytes.now string.now place → length string.now ≤ result }
+    ensures stands { longest < result → OccursAt bytes.now string.now place × (length string.now ≡ result) }
+{
+    if string.len() > longest && stands(string, bytes, place) {
+        string.len()
+    } else {
+        longest
+    }
+}
+
+impl<A: Allocator> StringSet<A> {
+    /// The length of the longest string that stands at a place, if any does.
+    pub fn longest_at(&self, bytes: &[u8], place: usize) -> Option<usize>
+        requires { place ≤ length bytes.now }
+        ensures { IsLongestAt (strings_of self.now) bytes.now place result }
+    {
+        let key = last_key_at(self.factor, bytes, place);
+        let mut link = self.chains.first[key / SHARE];
+        let mut longest = 0;
+        while link > 0 {
+            longest = longer(longest, &self.strings[link - 1], bytes, place);
+            link = self.chains.next[link - 1];
+        }
+        if longest > 0 { Some(longest) } else { None }
+    }
+
+    /// Whether a whole line is one of the strings.
+    pub fn contains(&self, line: &[u8]) -> bool
+        ensures { IsTrue result ↔ Contains (strings_of self.now) line.now }
+    {
+        match self.longest_at(line, 0) {
+            Some(len) => len == line.len(),
+            None => false,
+        }
+    }
+}

@@ -1,0 +1,24 @@
+//! Many strings, prepared to be looked for together.
+ghost use Rattle.std.specs.Prelude.{◌≡◌, length, map};
+ghost use Rattle.pg_strings.specs.Keys.{AreChains, AreFlagged, AreLong, Weighs, home, items_of};
+
+use crate::chains::Chains;
+use std::alloc::{Allocator, Global};
+
+/// Strings, none of them empty, prepared so that the first place is found at which one stands.
+#[derive(Drop)]
+pub struct StringSet<A: Allocator = Global> {
+    pub(crate) strings: Vec<Vec<u8, A>, A>,
+    /// How many bytes of each string its key depends on.
+    pub(crate) width: usize,
+    /// What windows are multiplied by.
+    pub(crate) factor: u64,
+    /// For each key whether it is a string's.
+    pub(crate) flags: Vec<bool, A>,
+    pub(crate) chains: Chains<A>,
+    ghost weighs: { Weighs factor width },
+    ghost long: { AreLong width (map items_of strings.items) },
+    ghost keys: { length flags.items ≡ 131072 },
+    ghost flagged: { AreFlagged factor flags.items (map items_of strings.items) },
+    ghost linked: { AreChains chains.first.items chains.next.items (map (home factor) (map items_of strings.items)) },
+}
