@@ -228,11 +228,6 @@ module _ {A : Type 0} (fold : Bool) (p : Pattern) (nothing known : Known A)
             };
       }
 
--- a list counts as many texts as it has
-texts_counted : {A : Type 0} (wanted : List (List ℕ)) (ls : List (Literal A)) → AreTexts wanted ls
-    → length ls ≡ length wanted
-texts_counted wanted ls are = sym (length-map ls (λ l. l.text.items)) ∙ ap length are.texts
-
 -- pairs are as many on both sides
 pub zip_length : {X Y : Type 0} (R : X → Y → Type 0) (xs : List X) (ys : List Y) → AllZip R xs ys
     → length xs ≡ length ys
@@ -259,18 +254,6 @@ module _ (fold : Bool) (ps : List Pattern) (texts : List (List ℕ)) (spelled : 
   text_spells =
       subst (Spells Fixed fold (get_or texts i [])) at
       (zip_at (Spells Fixed fold) texts ps i [] p spelled text_below)
-
-  -- there is room for one more of a few texts
-  pub text_fits : {A : Type 0} (ls : List (Literal A)) → length texts ≤ 8
-      → AreTexts (map (as_searched fold) (take i texts)) ls → length ls < 8
-  text_fits ls few are =
-      let less = text_below in
-      omega (
-        arith,
-        texts_counted (map (as_searched fold) (take i texts)) ls are,
-        length-map (take i texts) (as_searched fold),
-        length-take-le i texts (omega arith),
-      )
 
 module _ {A : Type 0} (fold : Bool) (bounds : Bounds) (ps : List Pattern) (i : ℕ) (p : Pattern) (below : i < length ps)
     (at : get_or ps i p ≡ p) (old new : List (Literal A)) (adds : Adds fold bounds p old new) where

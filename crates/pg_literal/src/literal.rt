@@ -14,9 +14,6 @@ use pg_match::Bounds;
 use pg_syntax::Tree;
 use std::alloc::{AllocError, Allocator, Global};
 
-/// Each text is searched for in all bytes, so that more of them cost more than the automaton does.
-const MOST: usize = 8;
-
 /// A text that each line with a hit holds, unless it holds another one that was found with it.
 #[derive(Drop)]
 pub struct Literal<A: Allocator = Global> {
@@ -27,24 +24,23 @@ pub struct Literal<A: Allocator = Global> {
 }
 
 impl<A: Allocator + Copy> Literal<A> {
-    /// At most 8 texts, of which each line holds one in which some tree matches a span within the bounds. Where no
-    /// such texts were found there is none, which tells nothing.
+    /// Texts of which each line holds one in which some tree matches a span within the bounds. Where no such texts were
+    /// found there is none, which tells nothing.
     ///
     /// With `fold` the case of letters is folded, as it was for the trees. Each tree gives one text, and each
-    /// alternative of a tree that is an alternation. The trees of at most 8 plain fixed strings give those strings, in
-    /// their order. A refused request for memory is the only error.
+    /// alternative of a tree that is an alternation. The trees of plain fixed strings give those strings, in their
+    /// order. A refused request for memory is the only error.
     pub fn of(
         alloc: A,
         trees: &[Tree<A>],
         bounds: Bounds,
         fold: bool,
     ) -> Result<Vec<Literal<A>, A>, AllocError>
-        ensures few { IfOk result (λ literals. length literals.items ≤ 8) }
         ensures needed { IfOk result (λ literals. 0 < length literals.items
             → AreNeeded fold (map pattern trees.now) bounds literals.items) }
         ensures enough { IfOk result (λ literals. AreEnough fold (map pattern trees.now) bounds literals.items) }
         ensures fixed { IfOk result (λ literals. (texts : List (List ℕ))
-            → AllZip (Spells Fixed fold) texts (map pattern trees.now) → length texts ≤ 8 → bounds ≡ Any
+            → AllZip (Spells Fixed fold) texts (map pattern trees.now) → bounds ≡ Any
             → AreTexts (map (as_searched fold) texts) literals.items) }
     {
         let mut literals = Vec::new(alloc);
@@ -58,8 +54,7 @@ impl<A: Allocator + Copy> Literal<A> {
     }
 }
 
-/// Adds the literals of a tree's alternatives, the last one first. Where one of them has none, or there are too many,
-/// the answer is false.
+/// Adds the literals of a tree's alternatives, the last one first. Where one of them has none, the answer is false.
 ///
 /// The left spine of an alternation may be as long as a text, so a loop walks it.
 fn push_literals<A: Allocator + Copy>(
@@ -69,12 +64,10 @@ fn push_literals<A: Allocator + Copy>(
     fold: bool,
     literals: &mut Vec<Literal<A>, A>,
 ) -> Result<bool, AllocError>
-    requires few { length literals.old.items ≤ 8 }
-    ensures few { length literals.new.items ≤ 8 }
     ensures adds { IfOk result (λ found. IsTrue found
         → Adds fold bounds (pattern tree.now) literals.old.items literals.new.items) }
     ensures fixed { (text : List ℕ) → Spells Fixed fold text (pattern tree.now) → bounds ≡ Any
-        → length literals.old.items < 8 → IfOk result IsTrue }
+        → IfOk result IsTrue }
 {
     let mut tree = tree;
     while let Tree::Alt(first, second) = tree {
@@ -88,7 +81,7 @@ fn push_literals<A: Allocator + Copy>(
     Ok(found)
 }
 
-/// Adds the literal of a tree. Where it has none, or there are too many, the answer is false.
+/// Adds the literal of a tree. Where it has none, the answer is false.
 fn push_literal<A: Allocator + Copy>(
     alloc: A,
     tree: &Tree<A>,
@@ -96,16 +89,11 @@ fn push_literal<A: Allocator + Copy>(
     fold: bool,
     literals: &mut Vec<Literal<A>, A>,
 ) -> Result<bool, AllocError>
-    requires few { length literals.old.items ≤ 8 }
-    ensures few { length literals.new.items ≤ 8 }
     ensures adds { IfOk result (λ found. IsTrue found
         → Adds fold bounds (pattern tree.now) literals.old.items literals.new.items) }
     ensures fixed { (text : List ℕ) → Spells Fixed fold text (pattern tree.now) → bounds ≡ Any
-        → length literals.old.items < 8 → IfOk result IsTrue }
+        → IfOk result IsTrue }
 {
-    if literals.len() == MOST {
-        return Ok(false);
-    }
     let known = with_tree(alloc, tree, fold, Known::nothing(alloc))?;
     match best_text(known, bounds) {
         Some(literal) => {

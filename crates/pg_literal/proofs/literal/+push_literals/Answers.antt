@@ -8,7 +8,7 @@ use Rattle.pg_literal.proofs.LiteralLemmas.{adds_alt}
 use Rattle.pg_literal.proofs.literal.+push_literals.Goals as goal
 
 pub returns-then-not-found-clause-fixed : goal.returns-then-not-found-clause-fixed
-returns-then-not-found-clause-fixed g t c = λ text spells any few.
+returns-then-not-found-clause-fixed g t c = λ text spells any.
     let same = c.loop-tree.invariant.fixed text spells in
     let alt = sym same.0 ∙ pattern-alt _ _ _ c.in-Alt.is in
     absurd (alt_unspelled c.args.fold _ _ text (subst (Spells Fixed c.args.fold text) alt spells))
@@ -18,7 +18,6 @@ loop-tree-preserved g t c =
     let second = rw c.deref.ensures at (c.in_ok-found.ensures.adds (search rules)) in
     record {
       below = search (rules, the_lemmas);
-      few = c.push_literals.ensures.few;
       whole = λ new rest.
           let first = rw c.deref-tree.ensures at rest in
           c.loop-tree.invariant.whole new
@@ -31,10 +30,8 @@ loop-tree-preserved g t c =
 
 pub returns : goal.returns
 returns g t c = record {
-  few = c.push_literal.ensures.few;
   adds = λ yes. c.loop-tree.invariant.whole _ (c.in_ok-found-2.ensures.adds yes);
-  fixed = λ text spells any less.
+  fixed = λ text spells any.
       let same = c.loop-tree.invariant.fixed text spells in
-      c.in_ok-found-2.ensures.fixed text (subst (Spells Fixed c.args.fold text) (sym same.0) spells) any
-      (omega (arith, ap length same.1));
+      c.in_ok-found-2.ensures.fixed text (subst (Spells Fixed c.args.fold text) (sym same.0) spells) any;
 }

@@ -13,7 +13,6 @@ decreases-push_literals g l = goal.size-push_literals g l
 abbrev pub invariant-loop-tree : goal.invariant-loop-tree
 invariant-loop-tree g l = record {
   below : size-Tree _ l.tree ≤ size-Tree _ l.fn.tree;
-  few : length l.literals.items ≤ 8;
   whole : (new : List (Literal _)) → Adds l.fold l.bounds (pattern l.tree) l.literals.items new
       → Adds l.fold l.bounds (pattern l.fn.tree) l.fn.literals.items new;
   fixed : (text : List ℕ) → Spells Fixed l.fold text (pattern l.fn.tree)

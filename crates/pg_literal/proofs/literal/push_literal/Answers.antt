@@ -10,17 +10,11 @@ returns-in_ok-push-in-Some-clause-adds g c = λ yes.
     c.in_ok-known.ensures c.args.bounds c.in-Some.literal c.args.literals.now.items c.push.new.self.items
     c.in_ok-push-in-Some.ensures.items says.text says.enough says.sure
 
-pub returns-then-len-eq-MOST-clause-few : goal.returns-then-len-eq-MOST-clause-few
-returns-then-len-eq-MOST-clause-few g c = c.requires.few
-
-pub returns-in_err-known-clause-few : goal.returns-in_err-known-clause-few
-returns-in_err-known-clause-few g c = c.requires.few
-
 pub returns-in_err-known-clause-adds : goal.returns-in_err-known-clause-adds
 returns-in_err-known-clause-adds g c = IfOk-from_err c.from_residual.result _ c.from_residual.ensures.0
 
 pub returns-in_err-known-clause-fixed : goal.returns-in_err-known-clause-fixed
-returns-in_err-known-clause-fixed g c = λ _ _ _ _. IfOk-from_err c.from_residual.result _ c.from_residual.ensures.0
+returns-in_err-known-clause-fixed g c = λ _ _ _. IfOk-from_err c.from_residual.result _ c.from_residual.ensures.0
 
 pub returns-in_err-push-in-Some-clause-adds : goal.returns-in_err-push-in-Some-clause-adds
 returns-in_err-push-in-Some-clause-adds g c =
@@ -28,4 +22,4 @@ returns-in_err-push-in-Some-clause-adds g c =
 
 pub returns-in_err-push-in-Some-clause-fixed : goal.returns-in_err-push-in-Some-clause-fixed
 returns-in_err-push-in-Some-clause-fixed g c =
-    λ _ _ _ _. IfOk-from_err c.from_residual-in_err-push-in-Some.result _ c.from_residual-in_err-push-in-Some.ensures.0
+    λ _ _ _. IfOk-from_err c.from_residual-in_err-push-in-Some.result _ c.from_residual-in_err-push-in-Some.ensures.0

@@ -3,23 +3,21 @@ use Rattle.std.proofs.lemmas.Result.{IfOk-from_err}
 use Rattle.std.proofs.lemmas.List.{length-map, take_all}
 use Rattle.pg_syntax.specs.Trees.{pattern}
 use Rattle.pg_literal.specs.Literals.{as_searched, AreTexts}
-use Rattle.pg_literal.proofs.LiteralLemmas.{hit_alone, pattern_among, text_spells, text_fits, zip_length}
+use Rattle.pg_literal.proofs.LiteralLemmas.{hit_alone, pattern_among, text_spells, zip_length}
 use Rattle.pg_literal.proofs.LiteralLemmas.{needed_more, enough_more, texts_more}
 use Rattle.pg_literal.proofs.literal.Literal.of.Goals as goal
 
 pub returns-then-not-found-clause-fixed : goal.returns-then-not-found-clause-fixed
-returns-then-not-found-clause-fixed g c = λ texts spelled few any.
+returns-then-not-found-clause-fixed g c = λ texts spelled any.
     let trees = c.args.trees.now in
     let ps = map pattern trees in
     let i = c.loop-tree.tree-index in
     let tree = c.tree-item.result in
     let below : i < length ps = omega (arith, length-map trees (pattern {A = g.row.A.Denot})) in
     let at = pattern_among pattern trees i tree c.loop-tree-test.true c.tree-item.is in
-    let room = text_fits c.args.fold ps texts spelled i (pattern tree) below at c.loop-tree.literals.items few
-    (c.loop-tree.invariant.fixed texts spelled few any) in
     let yes = c.in_ok-found.ensures.fixed (get_or texts i [])
     (text_spells c.args.fold ps texts spelled i (pattern tree) below at)
-    any room in
+    any in
     absurd (search (rules, yes))
 
 pub loop-tree-preserved : goal.loop-tree-preserved
@@ -37,11 +35,10 @@ loop-tree-preserved g c =
     let adds = c.in_ok-found.ensures.adds (search rules) in
     let known = c.loop-tree.invariant in
     record {
-      few = c.push_literals.ensures.few;
       needed = needed_more fold bounds ps i p below at old new adds known.needed;
       enough = enough_more fold bounds ps i p below at old new adds known.enough;
-      fixed = λ texts spelled few any.
-          texts_more fold bounds ps i p below at old new adds texts spelled any (known.fixed texts spelled few any);
+      fixed = λ texts spelled any.
+          texts_more fold bounds ps i p below at old new adds texts spelled any (known.fixed texts spelled any);
     }
 
 pub returns-clause-needed : goal.returns-clause-needed
@@ -52,16 +49,13 @@ returns-clause-needed g c = λ some line hit.
     (omega (arith, alone.2, length-map trees (pattern {A = g.row.A.Denot}))) alone.3 alone.4
 
 pub returns-clause-fixed : goal.returns-clause-fixed
-returns-clause-fixed g c = λ texts spelled few any.
+returns-clause-fixed g c = λ texts spelled any.
     let trees = c.args.trees.now in
-    let are = c.loop-tree.invariant.fixed texts spelled few any in
+    let are = c.loop-tree.invariant.fixed texts spelled any in
     let P : List (List ℕ) → Type 0 = λ ts. AreTexts (map (as_searched c.args.fold) ts) c.loop-tree.literals.items in
     let size = zip_length _ texts (map pattern trees) spelled in
     subst P (take_all c.loop-tree.tree-index texts
     (omega (arith, size, length-map trees (pattern {A = g.row.A.Denot})))) are
-
-pub returns-in_err-found-clause-few : goal.returns-in_err-found-clause-few
-returns-in_err-found-clause-few g c = IfOk-from_err c.from_residual.result _ c.from_residual.ensures.0
 
 pub returns-in_err-found-clause-needed : goal.returns-in_err-found-clause-needed
 returns-in_err-found-clause-needed g c = IfOk-from_err c.from_residual.result _ c.from_residual.ensures.0
@@ -72,8 +66,3 @@ returns-in_err-found-clause-enough g c = IfOk-from_err c.from_residual.result _ 
 pub returns-in_err-found-clause-fixed : goal.returns-in_err-found-clause-fixed
 returns-in_err-found-clause-fixed g c = IfOk-from_err c.from_residual.result _ c.from_residual.ensures.0
 
-pub push_literals-requires : goal.push_literals-requires
-push_literals-requires g c = record { few = c.loop-tree.invariant.few }
-
-pub returns-clause-few : goal.returns-clause-few
-returns-clause-few g c = c.loop-tree.invariant.few
