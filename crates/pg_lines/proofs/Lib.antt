@@ -17,6 +17,8 @@ pub mod LineLaws
 pub mod LineLemmas
 pub mod LongLemmas
 pub mod NeedleLemmas
+pub mod NeedleSetLemmas
+pub mod SoughtLemmas
 pub mod PartLemmas
 pub mod PatternLemmas
 pub mod RunLemmas

@@ -8,7 +8,7 @@ use Rattle.std.specs.List.{All, Any, Contains}
 use Rattle.std.proofs.lemmas.Bool.{cases_lt}
 use Rattle.std.proofs.lemmas.List.{drop_at, length-take-le, take-append-drop, length-map}
 use Rattle.std.proofs.lemmas.List.{get_or-drop, get_or-map, get_or_default}
-use Rattle.std.proofs.lemmas.List.Elements.{All-nil, All-weaker, All-contains}
+use Rattle.std.proofs.lemmas.List.Elements.{All-weaker, All-contains}
 use Rattle.memchr.specs.Find.{OccursAt, FindsNeedle}
 use Rattle.pg_literal.specs.Literals.{as_searched}
 use Rattle.pg_literal.specs.Known.{byte_as_searched}
@@ -16,17 +16,16 @@ use Rattle.pg_literal.proofs.FoldLemmas.{length_searched, searched_append}
 use Rattle.pg_lines.specs.Lines.{lines, IsLine, AreWhole, IsClear, Stops}
 use Rattle.pg_lines.specs.Literals.{LiteralData, AreLiterals}
 use Rattle.pg_lines.specs.Search.{SearchText, terminator_of}
-use Rattle.pg_lines.specs.Candidates.{AreWithout, IsFirstWith, literal_of, IsAhead, StandsAt, IsBefore, AreNeedles}
+use Rattle.pg_lines.specs.Candidates.{AreWithout, IsFirstWith, literal_of, IsAhead, StandsAt, IsBefore, IsNeedleList}
 use Rattle.pg_lines.specs.declared.needle.Needle.{Needle}
-use Rattle.pg_lines.specs.declared.needle.Needles.{Needles}
+use Rattle.pg_lines.specs.declared.needle.NeedleList.{NeedleList}
 use Rattle.pg_lines.specs.declared.needle.Place.{Place}
 use Rattle.pg_lines.specs.declared.needle.Candidate.{Candidate}
-use Rattle.pg_lines.specs.declared.span.Span.{Span}
 use Rattle.pg_lines.proofs.LiteralLemmas.{any-unmap}
 use Rattle.pg_lines.proofs.RunLemmas.{NoneBefore, nowhere_lines, without_each, line_around, place_below, line_some}
 
 -- what occurs behind a place occurs in the whole
-occurs_whole : (xs p : List ℕ) (at k : ℕ) → at ≤ length xs → OccursAt (drop at xs) p k → OccursAt xs p (at + k)
+pub occurs_whole : (xs p : List ℕ) (at k : ℕ) → at ≤ length xs → OccursAt (drop at xs) p k → OccursAt xs p (at + k)
 occurs_whole xs p at k within o = record {
   fits = let fits = o.fits in omega (arith, length-drop at xs);
   reads = λ j less.
@@ -35,7 +34,7 @@ occurs_whole xs p at k within o = record {
 }
 
 -- and the other way round
-occurs_part : (xs p : List ℕ) (at k : ℕ) → at ≤ length xs → OccursAt xs p (at + k) → OccursAt (drop at xs) p k
+pub occurs_part : (xs p : List ℕ) (at k : ℕ) → at ≤ length xs → OccursAt xs p (at + k) → OccursAt (drop at xs) p k
 occurs_part xs p at k within o = record {
   fits = let fits = o.fits in omega (arith, length-drop at xs);
   reads = λ j less.
@@ -85,7 +84,7 @@ next_some searched p at found within first = (
 )
 
 -- what stands behind a place, as it is searched
-searched_behind : (fold : Bool) (bytes searched : List ℕ) (at : ℕ) → searched ≡ as_searched fold bytes
+pub searched_behind : (fold : Bool) (bytes searched : List ℕ) (at : ℕ) → searched ≡ as_searched fold bytes
     → at ≤ length bytes → drop at searched ≡ as_searched fold (drop at bytes)
 searched_behind fold bytes searched at is within =
     ap (drop at) (is ∙ (ap (as_searched fold) (sym (take-append-drop at bytes))
@@ -108,7 +107,7 @@ plain_end text true = zero_or_newline text.zero
     zero_or_newline false = refl
 
 -- a needle stays ahead of later places
-pub ahead_later : (searched : List ℕ) (at later : ℕ) (needles : List Needle) → at ≤ later
+ahead_later : (searched : List ℕ) (at later : ℕ) (needles : List Needle) → at ≤ later
     → All (IsAhead searched at) needles → All (IsAhead searched later) needles
 ahead_later searched at later needles low all =
     All-weaker (IsAhead searched at) (IsAhead searched later) (λ n is. record {
@@ -116,8 +115,8 @@ ahead_later searched at later needles low all =
       first = λ k from o. is.first k (omega arith) o;
     }) needles all
 
-pub needles_later : {A : Type 0} (text : SearchText) (bytes : List ℕ) (at later : ℕ) (needles : Needles A) → at ≤ later
-    → AreNeedles text bytes at needles → AreNeedles text bytes later needles
+pub needles_later : {A : Type 0} (text : SearchText) (bytes : List ℕ) (at later : ℕ) (needles : NeedleList A) → at ≤ later
+    → IsNeedleList text bytes at needles → IsNeedleList text bytes later needles
 needles_later text bytes at later needles low are = record {
   literals = are.literals;
   searched = are.searched;
@@ -150,37 +149,15 @@ least_behind at needles place behind stands =
 
 -- the needles of the literals of a query, over the bytes as they are searched
 pub needles_new : {A : Type 0} (text : SearchText) (bytes : List ℕ) (literals : List LiteralData) (searched : List ℕ)
-    (needles : Needles A) → AreLiterals text literals → (0 < length literals → searched ≡ as_searched text.fold bytes)
+    (needles : NeedleList A) → AreLiterals text literals → (0 < length literals → searched ≡ as_searched text.fold bytes)
     → needles.searched.now ≡ searched → map literal_of needles.needles.items ≡ literals
-    → All (IsAhead searched 0) needles.needles.items → AreNeedles text bytes 0 needles
+    → All (IsAhead searched 0) needles.needles.items → IsNeedleList text bytes 0 needles
 needles_new text bytes literals searched needles are folded same own ahead = record {
   literals = subst (AreLiterals text) (sym own) are;
   searched = λ some.
       same ∙ folded (omega (arith, some, ap length own, length-map needles.needles.items literal_of));
   ahead = subst (λ xs. All (IsAhead xs 0) needles.needles.items) (sym same) ahead;
 }
-
--- where a line is found, the needles stay ahead of what is behind it
-pub needles_behind : {A : Type 0} (text : SearchText) (bytes : List ℕ) (at : ℕ) (needles : Needles A)
-    (line : Option Span) → AreNeedles text bytes at needles
-    → IfSome line (λ line. (at ≤ line.start) × (line.start < line.end) × (line.end ≤ length bytes))
-    → IfSome line (λ line. AreNeedles text bytes line.end needles)
-needles_behind text bytes at needles None are within = tt
-needles_behind text bytes at needles (Some line) are within =
-    needles_later text bytes at line.end needles (omega (arith, within.0, within.1)) are
-
--- where there are none, they stand anywhere
-pub given_up : {A : Type 0} (text : SearchText) (bytes : List ℕ) (needles : Needles A) (line : Option Span)
-    → needles.needles.items ≡ [] → IfSome line (λ line. AreNeedles text bytes line.end needles)
-given_up text bytes needles None none = tt
-given_up text bytes needles (Some line) none =
-    let nothing : map literal_of needles.needles.items ≡ [] = ap (map literal_of) none in
-    record {
-      literals = subst (AreLiterals text) (sym nothing)
-          (record { lines = All-nil _; needed = λ some. absurd (omega arith); enough = All-nil _ });
-      searched = λ some. absurd (omega (arith, ap length none));
-      ahead = subst (All (IsAhead needles.searched.now line.end)) (sym none) (All-nil _);
-    }
 
 module _ (fold : Bool) (bytes searched : List ℕ) (at : ℕ) (needles : List Needle)
     (is : searched ≡ as_searched fold bytes)
@@ -329,15 +306,12 @@ literals_set (m ∷ needles) (suc i) n d below same =
     ap (λ ls. literal_of m ∷ ls) (literals_set needles i n d (omega arith) same)
 
 -- needles of the same literals that were found anew
-pub needles_moved : {A : Type 0} (text : SearchText) (bytes : List ℕ) (at : ℕ) (old new : Needles A)
-    → AreNeedles text bytes at old → 0 < length old.needles.items → new.searched ≡ old.searched
+pub needles_moved : {A : Type 0} (text : SearchText) (bytes : List ℕ) (at : ℕ) (old new : NeedleList A)
+    → IsNeedleList text bytes at old → 0 < length old.needles.items → new.searched ≡ old.searched
     → map literal_of new.needles.items ≡ map literal_of old.needles.items
-    → All (IsAhead new.searched.now at) new.needles.items → AreNeedles text bytes at new
+    → All (IsAhead new.searched.now at) new.needles.items → IsNeedleList text bytes at new
 needles_moved text bytes at old new needles some searched literals ahead = record {
   literals = subst (λ ls. AreLiterals text ls) (sym literals) needles.literals;
   searched = λ _. ap (λ xs. xs.now) searched ∙ needles.searched some;
   ahead = ahead;
 }
-
-pub as_many : (new old : List Needle) → map literal_of new ≡ map literal_of old → length new ≡ length old
-as_many new old same = sym (length-map new literal_of) ∙ (ap length same ∙ length-map old literal_of)

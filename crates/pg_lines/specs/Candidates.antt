@@ -6,9 +6,14 @@ use Rattle.memchr.specs.Find.{OccursAt}
 use Rattle.pg_literal.specs.Literals.{Holds, as_searched}
 use Rattle.pg_lines.specs.Lines.{lines, AreWhole}
 use Rattle.pg_lines.specs.Search.{SearchText}
-use Rattle.pg_lines.specs.Literals.{LiteralData, HoldsOne, AreLiterals}
+use Rattle.pg_lines.specs.Literals.{LiteralData, HoldsOne, AreLiterals, set_literals}
 use Rattle.pg_lines.specs.declared.needle.Needle.{Needle}
-use Rattle.pg_lines.specs.declared.needle.Needles.{Needles}
+use Rattle.pg_lines.specs.declared.needle.NeedleList.{NeedleList}
+use Rattle.pg_lines.specs.declared.needle_set.NeedleSet.{NeedleSet}
+use Rattle.pg_lines.specs.declared.needle_set.NextLine.{NextLine}
+use Rattle.pg_lines.specs.declared.needle_set.NextLine.TheVariants.{Found, Nowhere, GaveUp}
+use Rattle.pg_lines.specs.declared.needles.Needles.{Needles}
+use Rattle.pg_lines.specs.declared.needles.Needles.TheVariants.{Few, Many, GivenUp}
 use Rattle.pg_lines.specs.declared.needle.Place.{Place}
 use Rattle.pg_lines.specs.declared.needle.Candidate.{Candidate}
 
@@ -60,7 +65,32 @@ abbrev pub IsBefore : Option Place → Needle → Type 0
 IsBefore place needle = IfSome needle.next (λ next. IsSomeAnd place (λ place. place.at ≤ next))
 
 -- literals of the search, the bytes as they are searched for in them, and where they stand from a place on
-pub record AreNeedles {A : Type 0} (text : SearchText) (bytes : List ℕ) (at : ℕ) (needles : Needles A) : Type 0 where
-  pub literals : AreLiterals text (map literal_of needles.needles.items)
-  pub searched : 0 < length needles.needles.items → needles.searched.now ≡ as_searched text.fold bytes
-  pub ahead : All (IsAhead needles.searched.now at) needles.needles.items
+pub record IsNeedleList {A : Type 0} (text : SearchText) (bytes : List ℕ) (at : ℕ) (list : NeedleList A) : Type 0 where
+  pub literals : AreLiterals text (map literal_of list.needles.items)
+  pub searched : 0 < length list.needles.items → list.searched.now ≡ as_searched text.fold bytes
+  pub ahead : All (IsAhead list.searched.now at) list.needles.items
+
+-- the same of many literals
+pub record IsNeedleSet {A : Type 0} (text : SearchText) (bytes : List ℕ) (set : NeedleSet A) : Type 0 where
+  pub literals : AreLiterals text (set_literals set.literals.now)
+  pub searched : set.searched.now ≡ as_searched text.fold bytes
+
+-- the same of either; nothing is said where they were given up
+abbrev pub AreNeedles : {A : Type 0} → SearchText → List ℕ → ℕ → Needles A → Type 0
+AreNeedles text bytes at (Few list) = IsNeedleList text bytes at list
+AreNeedles text bytes at (Many set) = IsNeedleSet text bytes set
+AreNeedles text bytes at GivenUp = Unit {0}
+
+-- the literals that are looked for
+abbrev pub literals_sought : {A : Type 0} → Needles A → List LiteralData
+literals_sought (Few list) = map literal_of list.needles.items
+literals_sought (Many set) = set_literals set.literals.now
+literals_sought GivenUp = []
+
+-- the first line that holds a literal, in bytes from a place on, if there is one and the search wasn't given up
+abbrev pub IsNextCandidate : Bool → ℕ → List LiteralData → ℕ → List ℕ → NextLine → Type 0
+IsNextCandidate fold end literals at bytes (Found found) =
+    (at ≤ found.line.start) × (found.line.start < found.line.end) × (found.line.end ≤ length bytes)
+    × IsFirstWith fold end literals at (drop at bytes) found
+IsNextCandidate fold end literals at bytes Nowhere = AreWithout fold end literals (drop at bytes)
+IsNextCandidate fold end literals at bytes GaveUp = Unit {0}

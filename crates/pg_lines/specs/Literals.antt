@@ -1,8 +1,10 @@
 -- What texts tell of the lines in which a search has a hit.
-use Rattle.std.specs.Prelude.{◌<◌, List, ℕ, Bool, IsTrue, length}
+use Rattle.std.specs.Prelude.{◌<◌, List, ℕ, Bool, IsTrue, length, map}
 use Rattle.std.specs.List.{All, Any}
 use Rattle.pg_literal.specs.Literals.{Holds}
 use Rattle.pg_literal.specs.declared.literal.Literal.{Literal}
+use Rattle.pg_strings.specs.Outcomes.{strings_of}
+use Rattle.pg_lines.specs.declared.literal_set.LiteralSet.{LiteralSet}
 use Rattle.pg_lines.specs.Lines.{IsLine}
 use Rattle.pg_lines.specs.Search.{SearchText, Pattern, AreTreesOf, search_of, terminator_of}
 use Rattle.pg_lines.specs.Selection.{HasHit}
@@ -14,6 +16,14 @@ pub record LiteralData : Type 0 where
 
 abbrev pub data_of : {A : Type 0} → Literal A → LiteralData
 data_of literal = record { text = literal.text.items; is_enough = literal.is_enough }
+
+-- a text as a literal with a flag
+abbrev pub flagged : Bool → List ℕ → LiteralData
+flagged is_enough text = record { text = text; is_enough = is_enough }
+
+-- the literals of a set, which have one flag
+abbrev pub set_literals : {A : Type 0} → LiteralSet A → List LiteralData
+set_literals set = map (flagged set.is_enough) (strings_of set.strings)
 
 -- the line holds one of the texts; with -i the line in lower case does
 abbrev pub HoldsOne : Bool → List LiteralData → List ℕ → Type 0

@@ -3,7 +3,7 @@ ghost use Rattle.std.specs.Prelude.{◌≡◌, ◌⊎◌, ◌<◌, ◌≤◌, �
 ghost use Rattle.std.specs.List.{All, Any};
 ghost use Rattle.pg_lines.specs.Search.{terminator_of};
 ghost use Rattle.pg_lines.specs.Literals.{data_of};
-ghost use Rattle.pg_lines.specs.Candidates.{literal_of, IsAhead, StandsAt, IsBefore, AreNeedles};
+ghost use Rattle.pg_lines.specs.Candidates.{literal_of, IsAhead, StandsAt, IsBefore, IsNeedleList};
 ghost use Rattle.pg_lines.specs.Candidates.{AreWithout, IsFirstWith};
 
 use crate::lines::{begin_of_line, end_of_line};
@@ -93,29 +93,29 @@ impl<'n> Needle<'n> {
     }
 }
 
-/// The needles of a query's literals, and the bytes of a block in which they are looked for.
-pub(crate) struct Needles<'n, A: Allocator> {
+/// A needle for each of some literals, and the bytes of a block in which they are looked for.
+pub(crate) struct NeedleList<'n, A: Allocator> {
     needles: Vec<Needle<'n>, A>,
     /// The block's bytes, where case is folded in lower case.
     searched: &'n [u8],
 }
 
-impl<'n, A: Allocator> Drop for Needles<'n, A> {
+impl<'n, A: Allocator> Drop for NeedleList<'n, A> {
     fn drop(self) {
-        let Needles {
+        let NeedleList {
             needles: _,
             searched: _,
         } = self;
     }
 }
 
-impl<'n, A: Allocator> Needles<'n, A> {
+impl<'n, A: Allocator> NeedleList<'n, A> {
     /// The needles of some literals.
     pub fn new(
         alloc: A,
         literals: &'n [Literal<A>],
         searched: &'n [u8],
-    ) -> Result<Needles<'n, A>, AllocError>
+    ) -> Result<NeedleList<'n, A>, AllocError>
         ensures searched { IfOk result (λ needles. needles.searched.now ≡ searched.now) }
         ensures literals { IfOk result
             (λ needles. map literal_of needles.needles.items ≡ map data_of literals.now) }
@@ -125,7 +125,7 @@ impl<'n, A: Allocator> Needles<'n, A> {
         for literal in literals {
             needles.push(Needle::new(literal, searched))?;
         }
-        Ok(Needles { needles, searched })
+        Ok(NeedleList { needles, searched })
     }
 
     /// Whether there is none.
@@ -133,13 +133,6 @@ impl<'n, A: Allocator> Needles<'n, A> {
         ensures { result ≡ (length self.now.needles.items == 0) }
     {
         self.needles.is_empty()
-    }
-
-    /// Looks for no needle from now on.
-    pub fn give_up(&mut self)
-        ensures { self.new.needles.items ≡ [] }
-    {
-        self.needles.clear();
     }
 
     /// Finds each place anew that was passed.
@@ -172,10 +165,10 @@ impl<'n, A: Allocator> Needles<'n, A> {
     /// The first line at or behind a place that holds a needle.
     pub fn next_line(&mut self, query: &Query<A>, bytes: &[u8], at: usize) -> Option<Candidate>
         requires at { at ≤ length bytes.now }
-        requires needles { AreNeedles query.now.text bytes.now at self.old }
+        requires needles { IsNeedleList query.now.text bytes.now at self.old }
         requires some { 0 < length self.old.needles.items }
-        ensures needles { AreNeedles query.now.text bytes.now at self.new }
-        ensures count { length self.new.needles.items ≡ length self.old.needles.items }
+        ensures needles { IsNeedleList query.now.text bytes.now at self.new }
+        ensures literals { map literal_of self.new.needles.items ≡ map literal_of self.old.needles.items }
         ensures within { IfSome result (λ found. (at ≤ found.line.start) × (found.line.start < found.line.end)
             × (found.line.end ≤ length bytes.now)) }
         ensures some { IfSome result (IsFirstWith query.now.text.fold (terminator_of query.now.text)

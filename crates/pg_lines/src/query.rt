@@ -1,14 +1,15 @@
 //! What is searched for.
-ghost use Rattle.std.specs.Prelude.{◌≡◌, map, All, IfOk, IfErr, IsTrue};
+ghost use Rattle.std.specs.Prelude.{◌≡◌, map, All, IfOk, IfErr, IfSome, IsTrue};
 ghost use Rattle.pg_syntax.specs.Patterns.{IsProper};
 ghost use Rattle.pg_syntax.specs.Trees.{pattern};
 ghost use Rattle.pg_lines.specs.Search.{AreTreesOf, bounds_of, terminator_of};
 ghost use Rattle.pg_lines.specs.Lines.{IsLine};
-ghost use Rattle.pg_lines.specs.Literals.{AreLiterals, data_of};
+ghost use Rattle.pg_lines.specs.Literals.{AreLiterals, data_of, set_literals};
 ghost use Rattle.pg_lines.specs.Queries.{IsCompiled, IsQueryFault};
 ghost use Rattle.pg_lines.specs.declared.query.QueryFault.TheVariants.{OutOfMemory};
 
 use crate::lines::NEWLINE;
+use crate::literal_set::{LiteralSet, few_of};
 use pg_literal::Literal;
 use pg_match::{Bounds, BuildFault, Machine};
 use pg_syntax::{FaultKind, Kind, ListFault, PatternList, Tree, parse_list};
@@ -120,7 +121,10 @@ impl From<AllocError> for QueryFault {
 pub struct Query<A: Allocator = Global> {
     text: QueryText<A>,
     machine: Machine<A>,
+    /// A few literals, if there are few.
     literals: Vec<Literal<A>, A>,
+    /// All literals, if there are many.
+    literal_set: Option<LiteralSet<A>>,
 }
 
 impl<A: Allocator> Drop for Query<A> {
@@ -129,13 +133,14 @@ impl<A: Allocator> Drop for Query<A> {
             text: _,
             machine: _,
             literals: _,
+            literal_set: _,
         } = self;
     }
 }
 
 impl<A: Allocator> Model for Query<A> {
-    ghost use Rattle.std.specs.Prelude.{map};
-    ghost use Rattle.pg_lines.specs.Literals.{AreLiterals, data_of};
+    ghost use Rattle.std.specs.Prelude.{map, IfSome};
+    ghost use Rattle.pg_lines.specs.Literals.{AreLiterals, data_of, set_literals};
     ghost use Rattle.pg_lines.specs.Queries.{Compiled, IsCompiled};
 
     ghost Value = { Compiled };
@@ -143,7 +148,8 @@ impl<A: Allocator> Model for Query<A> {
     ghost view = { λ q. record { text = q.text; machine = q.machine } };
 
     ghost invariant = { λ q. IsCompiled (record { text = q.text; machine = q.machine })
-        × AreLiterals q.text (map data_of q.literals.items) };
+        × AreLiterals q.text (map data_of q.literals.items)
+        × IfSome q.literal_set (λ set. AreLiterals q.text (set_literals set)) };
 }
 
 impl<A: Allocator> Query<A> {
@@ -164,10 +170,12 @@ impl<A: Allocator> Query<A> {
         let trees = trees_of(alloc, &text)?;
         let machine = machine_of(alloc, &text, trees.as_slice())?;
         let literals = literals_of(alloc, &text, trees.as_slice())?;
+        let literal_set = LiteralSet::of(alloc, &literals)?;
         Ok(Query {
             text,
             machine,
-            literals,
+            literals: few_of(alloc, literals),
+            literal_set,
         })
     }
 
@@ -195,13 +203,20 @@ impl<A: Allocator> Query<A> {
     }
 
     /// At most 8 texts of which each line with a hit holds one, so that only lines with one are looked at; none where
-    /// such texts weren't found. With -i they are in lower case, as those lines are where they are searched for.
+    /// such texts weren't found, or there are more of them. With -i they are in lower case, as those lines are where they are searched for.
     /// Where a text is enough, each line that holds it has a hit, and the machine isn't asked.
     pub fn literals(&self) -> &[Literal<A>]
         ensures literals { AreLiterals self.now.text (map data_of result.now) }
         ensures compiled { IsCompiled self.now }
     {
         &self.literals
+    }
+
+    /// The same texts, where there are more than 8.
+    pub(crate) fn literal_set(&self) -> Option<&LiteralSet<A>>
+        ensures { IfSome result (λ set. AreLiterals self.now.text (set_literals set.now)) }
+    {
+        self.literal_set.as_ref()
     }
 }
 

@@ -9,15 +9,17 @@ ghost use Rattle.pg_lines.specs.Search.{Search, Pattern, AreTreesOf, search_of};
 ghost use Rattle.pg_lines.specs.Search.{terminator, terminator_of, uninverted};
 ghost use Rattle.pg_lines.specs.Queries.{IsCompiled};
 ghost use Rattle.pg_lines.specs.Selection.{has_hit};
-ghost use Rattle.pg_lines.specs.Literals.{AreLiterals, data_of};
-ghost use Rattle.pg_lines.specs.Candidates.{AreNeedles};
+ghost use Rattle.pg_lines.specs.Literals.{AreLiterals, data_of, set_literals};
+ghost use Rattle.pg_lines.specs.Candidates.{AreNeedles, literals_sought};
 ghost use Rattle.pg_lines.specs.Runs.{AllLines, HasRuns};
 ghost use Rattle.pg_lines.specs.BlockParts.{HasParts};
 ghost use Rattle.pg_lines.specs.Gathered.{IsNextLine, IsGathered};
 
 use crate::block::Block;
 use crate::lines::{count_lines, line_end, text_of};
-use crate::needle::Needles;
+use crate::literal_set::LiteralSet;
+use crate::needle_set::NextLine;
+use crate::needles::Needles;
 use crate::parts::push_line_parts;
 use crate::query::Query;
 use crate::result::BlockResult;
@@ -92,7 +94,7 @@ fn next_confirmed<A: Allocator>(
 ) -> Option<Span>
     requires at { at ≤ length bytes.now }
     requires needles { AreNeedles query.now.text bytes.now at needles.old }
-    requires some { 0 < length needles.old.needles.items }
+    requires some { 0 < length (literals_sought needles.old) }
     requires fits { Fits scratch.old query.now.machine }
     requires short { AreShort (terminator_of query.now.text) (drop at bytes.now) }
     ensures needles { IfSome result (λ line. AreNeedles query.now.text bytes.now line.end needles.new) }
@@ -108,8 +110,13 @@ fn next_confirmed<A: Allocator>(
     let mut from = at;
     let mut in_vain = 0;
     while in_vain < PATIENCE {
-        let Some(found) = needles.next_line(query, bytes, from) else {
-            return None;
+        let found = match needles.next_line(query, bytes, from) {
+            NextLine::Found(found) => found,
+            NextLine::Nowhere => return None,
+            NextLine::GaveUp => {
+                *needles = Needles::GivenUp;
+                return next_matched(query, scratch, bytes, from);
+            }
         };
         let line = found.line;
         if found.is_enough || has_hit(query, scratch, text_of(end, &bytes[line.start..line.end])) {
@@ -118,7 +125,7 @@ fn next_confirmed<A: Allocator>(
         in_vain = in_vain.saturating_sub((line.start - from) / FAR) + 1;
         from = line.end;
     }
-    needles.give_up();
+    *needles = Needles::GivenUp;
     next_matched(query, scratch, bytes, from)
 }
 
@@ -333,13 +340,16 @@ fn search_by<A: Allocator + Copy>(
     alloc: A,
     query: &Query<A>,
     literals: &[Literal<A>],
+    set: Option<&LiteralSet<A>>,
     scratch: &mut Scratch<A>,
     bytes: &[u8],
     searched: &[u8],
 ) -> Result<Found<A>, AllocError>
     requires compiled { IsCompiled query.now }
     requires literals { AreLiterals query.now.text (map data_of literals.now) }
+    requires set { IfSome set (λ set. AreLiterals query.now.text (set_literals set.now)) }
     requires searched { 0 < length literals.now → searched.now ≡ as_searched query.now.text.fold bytes.now }
+    requires set_searched { IfSome set (λ _. searched.now ≡ as_searched query.now.text.fold bytes.now) }
     requires fits { Fits scratch.old query.now.machine }
     requires short { AreShort (terminator_of query.now.text) bytes.now }
     ensures fits { Fits scratch.new query.now.machine }
@@ -347,7 +357,7 @@ fn search_by<A: Allocator + Copy>(
     ensures parts { IfOk result (λ found. HasParts query.now.text bytes.now found.parts.items) }
     ensures lines { IfOk result (λ found. found.lines ≡ length (lines (terminator_of query.now.text) bytes.now)) }
 {
-    let mut needles = Needles::new(alloc, literals, searched)?;
+    let mut needles = Needles::new(alloc, literals, set, searched)?;
     selected_runs(alloc, query, &mut needles, scratch, bytes)
 }
 
@@ -366,11 +376,12 @@ fn search_bytes<A: Allocator + Copy>(
     ensures lines { IfOk result (λ found. found.lines ≡ length (lines (terminator_of query.now.text) bytes.now)) }
 {
     let literals = query.literals();
-    if query.text().fold && !literals.is_empty() {
+    let set = query.literal_set();
+    if query.text().fold && (set.is_some() || !literals.is_empty()) {
         let lowered = bytes.to_ascii_lowercase(alloc)?;
-        search_by(alloc, query, literals, scratch, bytes, &lowered)
+        search_by(alloc, query, literals, set, scratch, bytes, &lowered)
     } else {
-        search_by(alloc, query, literals, scratch, bytes, bytes)
+        search_by(alloc, query, literals, set, scratch, bytes, bytes)
     }
 }
 

@@ -1,5 +1,14 @@
 use Rattle.std.proofs.lemmas.Result.{IfOk-from_err}
+use Rattle.std.proofs.Common.{◌≡◌, arith}
+use Rattle.std.proofs.lemmas.Grind.{common_steps}
+use Rattle.pg_literal.specs.Literals.{as_searched}
+use Rattle.pg_lines.proofs.NeedleSetLemmas.{if_some}
 use Rattle.pg_lines.proofs.search.search_bytes.Goals as goal
+
+pub search_by-requires-clause-set_searched : goal.search_by-requires-clause-set_searched
+search_by-requires-clause-set_searched g c =
+    let lowered : c.deref.result.now ≡ as_searched c.args.query.now.text.fold c.args.bytes.now = grind (arith, common_steps) in
+    if_some _ c.literal_set-set.result lowered
 
 pub returns-in_err-lowered-clause-runs : goal.returns-in_err-lowered-clause-runs
 returns-in_err-lowered-clause-runs g c = IfOk-from_err c.from_residual.result _ c.from_residual.ensures.0

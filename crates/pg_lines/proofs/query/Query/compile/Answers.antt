@@ -1,5 +1,27 @@
 use Rattle.std.proofs.lemmas.Result.{IfOk-from_err}
+use Rattle.std.proofs.Common.{List, map, sym, ap, subst, inl, inr}
+use Rattle.pg_literal.specs.declared.literal.Literal.{Literal}
+use Rattle.pg_lines.specs.Literals.{AreLiterals, data_of}
+use Rattle.pg_lines.proofs.LiteralLemmas.{no_literals}
+use Rattle.pg_lines.proofs.NeedleSetLemmas.{prepared_are}
 use Rattle.pg_lines.proofs.query.Query.compile.Goals as goal
+
+pub invariant_of-result : goal.invariant_of-result
+invariant_of-result g c =
+    let text = c.args.text in
+    let literals = c.in_ok-literals.literals.items in
+    let few = c.few_of.result.items in
+    let are = c.in_ok-literals.ensures in
+    let Are : List (Literal g.row.A.Denot) → Type 0 = λ ls. AreLiterals text (map data_of ls) in
+    let seen = subst Are (sym c.deref.ensures.value) are in (
+      c.in_ok-machine.ensures.machine,
+      elim c.few_of.ensures [
+        | inl same ↦ subst Are (sym (ap (λ v. v.items) same)) are
+        | inr none ↦ subst Are (sym none) (no_literals text)
+      ],
+      prepared_are text c.deref.result.now c.in_ok-literal_set.literal_set seen c.in_ok-literal_set.ensures.strings
+          c.in_ok-literal_set.ensures.enough,
+    )
 
 pub returns-in_err-trees-clause-text : goal.returns-in_err-trees-clause-text
 returns-in_err-trees-clause-text g c = IfOk-from_err c.from_residual.result _ c.from_residual.ensures.0

@@ -3,7 +3,7 @@ use Rattle.std.specs.Option.{IfSome}
 use Rattle.std.specs.List.{Any}
 use Rattle.pg_lines.specs.Candidates.{StandsAt, IsBefore}
 use Rattle.pg_lines.specs.declared.needle.Needle.{Needle}
-use Rattle.pg_lines.proofs.needle.Needles.first.Given as goal
+use Rattle.pg_lines.proofs.needle.NeedleList.first.Given as goal
 
 -- the least place so far
 abbrev pub invariant-loop-needle : goal.invariant-loop-needle

@@ -6,7 +6,7 @@ use Rattle.std.proofs.lemmas.List.Elements.{All-push}
 use Rattle.pg_lines.specs.Literals.{data_of}
 use Rattle.pg_lines.specs.Candidates.{literal_of, IsAhead}
 use Rattle.pg_lines.specs.declared.needle.Needle.{Needle}
-use Rattle.pg_lines.proofs.needle.Needles.new.Goals as goal
+use Rattle.pg_lines.proofs.needle.NeedleList.new.Goals as goal
 
 pub loop-literal-preserved : goal.loop-literal-preserved
 loop-literal-preserved g c =

@@ -5,8 +5,8 @@ use Rattle.std.proofs.lemmas.List.{take_rest}
 use Rattle.pg_lines.specs.Lines.{IsLine}
 use Rattle.pg_lines.specs.Literals.{LiteralData}
 use Rattle.pg_lines.specs.Search.{terminator_of}
-use Rattle.pg_lines.proofs.NeedleLemmas.{nowhere_further, next_found, plain_end, needles_moved, as_many}
-use Rattle.pg_lines.proofs.needle.Needles.next_line.Goals as goal
+use Rattle.pg_lines.proofs.NeedleLemmas.{nowhere_further, next_found, plain_end, needles_moved}
+use Rattle.pg_lines.proofs.needle.NeedleList.next_line.Goals as goal
 
 pub returns-in_default-clause-none : goal.returns-in_default-clause-none
 returns-in_default-clause-none g c =
@@ -59,8 +59,8 @@ returns-clause-some g c =
 pub returns-then-is_empty-clause-needles : goal.returns-then-is_empty-clause-needles
 returns-then-is_empty-clause-needles g c = c.requires.needles
 
-pub returns-then-is_empty-clause-count : goal.returns-then-is_empty-clause-count
-returns-then-is_empty-clause-count g c = refl
+pub returns-then-is_empty-clause-literals : goal.returns-then-is_empty-clause-literals
+returns-then-is_empty-clause-literals g c = refl
 
 pub returns-then-is_empty-clause-within : goal.returns-then-is_empty-clause-within
 returns-then-is_empty-clause-within g c = tt
@@ -76,9 +76,8 @@ returns-in_default-clause-needles g c =
     needles_moved c.args.query.now.text c.args.bytes.now c.args.at c.args.self.now c.advance.new.self c.requires.needles
     c.requires.some c.advance.ensures.searched c.advance.ensures.literals c.advance.ensures.ahead
 
-pub returns-in_default-clause-count : goal.returns-in_default-clause-count
-returns-in_default-clause-count g c =
-    as_many c.advance.new.self.needles.items c.args.self.now.needles.items c.advance.ensures.literals
+pub returns-in_default-clause-literals : goal.returns-in_default-clause-literals
+returns-in_default-clause-literals g c = c.advance.ensures.literals
 
 pub returns-in_default-clause-within : goal.returns-in_default-clause-within
 returns-in_default-clause-within g c = tt
@@ -91,9 +90,8 @@ returns-clause-needles g c =
     needles_moved c.args.query.now.text c.args.bytes.now c.args.at c.args.self.now c.advance.new.self c.requires.needles
     c.requires.some c.advance.ensures.searched c.advance.ensures.literals c.advance.ensures.ahead
 
-pub returns-clause-count : goal.returns-clause-count
-returns-clause-count g c =
-    as_many c.advance.new.self.needles.items c.args.self.now.needles.items c.advance.ensures.literals
+pub returns-clause-literals : goal.returns-clause-literals
+returns-clause-literals g c = c.advance.ensures.literals
 
 pub returns-clause-none : goal.returns-clause-none
 returns-clause-none g c = tt

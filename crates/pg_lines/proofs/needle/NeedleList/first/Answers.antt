@@ -1,7 +1,7 @@
 use Rattle.std.proofs.Common.{◌≡◌, ◌<◌, List, length, get_or, subst}
 use Rattle.pg_lines.specs.declared.needle.Needle.{Needle}
 use Rattle.pg_lines.proofs.NeedleLemmas.{least_more, stands_more}
-use Rattle.pg_lines.proofs.needle.Needles.first.Goals as goal
+use Rattle.pg_lines.proofs.needle.NeedleList.first.Goals as goal
 
 pub loop-needle-preserved : goal.loop-needle-preserved
 loop-needle-preserved g c =

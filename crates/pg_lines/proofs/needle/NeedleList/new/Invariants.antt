@@ -2,7 +2,7 @@ use Rattle.std.proofs.Common.{◌≡◌, map, take}
 use Rattle.std.specs.List.{All}
 use Rattle.pg_lines.specs.Literals.{data_of}
 use Rattle.pg_lines.specs.Candidates.{literal_of, IsAhead}
-use Rattle.pg_lines.proofs.needle.Needles.new.Given as goal
+use Rattle.pg_lines.proofs.needle.NeedleList.new.Given as goal
 
 abbrev pub invariant-loop-literal : goal.invariant-loop-literal
 invariant-loop-literal g l = record {

@@ -2,7 +2,7 @@ use Rattle.std.proofs.Common.{◌≡◌, ◌≤◌, map}
 use Rattle.std.specs.Option.{IfSome}
 use Rattle.std.specs.List.{All, AllWithin}
 use Rattle.pg_lines.specs.Candidates.{literal_of, IsAhead}
-use Rattle.pg_lines.proofs.needle.Needles.advance.Given as goal
+use Rattle.pg_lines.proofs.needle.NeedleList.advance.Given as goal
 
 -- the needles so far stand at the place or further
 abbrev pub invariant-loop-needle : goal.invariant-loop-needle

@@ -4,7 +4,7 @@ use Rattle.std.proofs.lemmas.List.Elements.{All-set, AllWithin-more_set}
 use Rattle.pg_lines.specs.Candidates.{IsAhead}
 use Rattle.pg_lines.specs.declared.needle.Needle.{Needle}
 use Rattle.pg_lines.proofs.NeedleLemmas.{literals_set}
-use Rattle.pg_lines.proofs.needle.Needles.advance.Goals as goal
+use Rattle.pg_lines.proofs.needle.NeedleList.advance.Goals as goal
 
 pub loop-needle-preserved : goal.loop-needle-preserved
 loop-needle-preserved g c =

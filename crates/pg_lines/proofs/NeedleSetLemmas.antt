@@ -1,0 +1,170 @@
+-- Where one of many literals stands.
+use Rattle.std.proofs.Common.{◌≡◌, ◌<◌, ◌≤◌, ◌+◌, ◌-◌, ℕ, Bool, IsTrue, inl, inr, Vec, Option, None, Some}
+use Rattle.std.proofs.Common.{List, [], ◌∷◌, length, map, take, drop, refl, sym, ap, ◌∙◌, subst, arith, length-drop}
+use Rattle.std.specs.Option.{IfSome}
+use Rattle.std.specs.List.{All, Contains}
+use Rattle.std.proofs.lemmas.Bool.{cases_lt}
+use Rattle.std.proofs.lemmas.List.{length-map, get_or-map}
+use Rattle.std.proofs.lemmas.List.Elements.{All-contains, All-map}
+use Rattle.memchr.specs.Find.{OccursAt, Nowhere, NoneBefore as IsFirstOf}
+use Rattle.pg_literal.specs.Literals.{as_searched, Holds}
+use Rattle.pg_literal.specs.Known.{byte_as_searched}
+use Rattle.pg_literal.proofs.FoldLemmas.{length_searched}
+use Rattle.pg_strings.specs.Sets.{SomeStands}
+use Rattle.pg_lines.specs.Lines.{lines, IsLine, AreWhole, IsClear, Stops}
+use Rattle.pg_lines.specs.Search.{SearchText, terminator_of}
+use Rattle.pg_strings.specs.Keys.{items_of}
+use Rattle.pg_strings.specs.Outcomes.{strings_of}
+use Rattle.pg_literal.specs.declared.literal.Literal.{Literal}
+use Rattle.pg_lines.specs.declared.literal_set.LiteralSet.{LiteralSet}
+use Rattle.pg_lines.specs.Literals.{LiteralData, flagged, set_literals, data_of, IsEnough, AreLiterals}
+use Rattle.pg_lines.specs.Candidates.{AreWithout, IsFirstWith}
+use Rattle.pg_lines.proofs.LiteralLemmas.{any-map, any-unmap}
+use Rattle.pg_lines.proofs.NeedleLemmas.{occurs_whole, occurs_part, searched_behind, searched_length}
+use Rattle.pg_lines.proofs.RunLemmas.{NoneBefore, nowhere_lines, without_each, line_around, place_below, line_some}
+
+-- literals with one flag, which is that of each of them where it is set
+pub set_are : (text : SearchText) (literals : List LiteralData) (strings : List (List ℕ)) (enough : Bool)
+    → AreLiterals text literals → strings ≡ map (λ l. l.text) literals
+    → (IsTrue enough → All (λ l. IsTrue l.is_enough) literals) → AreLiterals text (map (flagged enough) strings)
+set_are text literals strings enough are same all =
+    let Text : LiteralData → List ℕ = λ l. l.text in
+    subst (λ ss. AreLiterals text (map (flagged enough) ss)) (sym same) (record {
+      lines = All-map (λ l. IsLine (terminator_of text) l.text) (flagged enough) (map Text literals)
+          (All-map (λ s. IsLine (terminator_of text) s) Text literals are.lines);
+      needed = λ some trees spelled line hit.
+          let held = are.needed (omega (arith, some, length-map (map Text literals) (flagged enough), length-map literals Text))
+          trees spelled line hit in
+          any-map (λ l. Holds text.fold line l.text) (flagged enough) (map Text literals)
+          (any-map (λ s. Holds text.fold line s) Text literals held);
+      enough = All-map (IsEnough text) (flagged enough) (map Text literals)
+          (All-map (λ s. IsEnough text (flagged enough s)) Text literals
+          (λ k d low yes. are.enough k d low (all yes k d low)));
+    })
+
+-- a literal of a set is a string of it
+string_of : (enough : Bool) (strings : List (List ℕ)) (l : LiteralData) → Contains (map (flagged enough) strings) l
+    → (s : List ℕ) × Contains strings s × (flagged enough s ≡ l)
+string_of enough strings l among =
+    let h = any-unmap (λ m. m ≡ l) (flagged enough) strings (among.0, l, among.1, among.2, refl) in
+    (h.1, (h.0, h.2, h.3), h.4)
+
+-- and the other way round
+to_literal : (enough : Bool) (strings : List (List ℕ)) (s : List ℕ) → Contains strings s
+    → Contains (map (flagged enough) strings) (flagged enough s)
+to_literal enough strings s among = (
+  among.0,
+  omega (arith, among.1, length-map strings (flagged enough)),
+  get_or-map (flagged enough) strings among.0 s (flagged enough s) among.1 ∙ ap (flagged enough) among.2,
+)
+
+module _ (fold : Bool) (bytes searched : List ℕ) (at : ℕ) (strings : List (List ℕ)) (enough : Bool)
+    (is : searched ≡ as_searched fold bytes) (within : at < length bytes) where
+  abbrev literals : List LiteralData
+  literals = map (flagged enough) strings
+
+  -- a place in what stands behind one
+  whole_place : (p : List ℕ) (k : ℕ) → OccursAt (as_searched fold (drop at bytes)) p k → OccursAt searched p (at + k)
+  whole_place p k o =
+      occurs_whole searched p at k (omega (arith, searched_length fold bytes searched is, within))
+      (subst (λ xs. OccursAt xs p k) (sym (searched_behind fold bytes searched at is (omega (arith, within)))) o)
+
+  part_place : (p : List ℕ) (k : ℕ) → OccursAt searched p (at + k) → OccursAt (as_searched fold (drop at bytes)) p k
+  part_place p k o =
+      subst (λ xs. OccursAt xs p k) (searched_behind fold bytes searched at is (omega (arith, within)))
+      (occurs_part searched p at k (omega (arith, searched_length fold bytes searched is, within)) o)
+
+  -- a literal stands nowhere up to a place where no string does
+  none_up_to : (stop : ℕ) → Nowhere (SomeStands strings searched) at stop → NoneBefore fold literals (drop at bytes) (stop - at)
+  none_up_to stop none l among k from to o =
+      let s = string_of enough strings l among in
+      let P : LiteralData → Type 0 = λ m. OccursAt (as_searched fold (drop at bytes)) m.text k in
+      let here = whole_place s.0 k (subst P (sym s.2) o) in
+      none (at + k) (omega arith) (omega (arith, to)) (s.1.0, s.0, s.1.1, s.1.2, here)
+
+  -- where no string stands, no line holds a literal
+  pub nowhere_behind : (end : ℕ) → Nowhere (SomeStands strings searched) at (length searched)
+      → AreWithout fold end literals (drop at bytes)
+  nowhere_behind end none =
+      without_each fold literals (lines end (drop at bytes)) (λ l among.
+      nowhere_lines fold end l.text (drop at bytes) (λ k o.
+      let before = none_up_to (length searched) none l among in
+      let size = length_searched fold (drop at bytes) in
+      let whole = searched_length fold bytes searched is in
+      let long = length-drop at bytes in
+      let low : k < length searched - at = elim (cases_lt k (length searched - at)) [
+        | inl less ↦ less
+        | inr more ↦ absurd (before 0 (omega arith) (omega (arith, whole, within)) (record {
+          fits = omega (arith, o.fits, size, whole, long, more);
+          reads = λ j less. absurd (omega (arith, less, o.fits, size, whole, long, more));
+        }))
+      ] in
+      before k (omega arith) low o))
+
+  -- the line around the first place at which a string stands
+  pub line_of_first : (E end : ℕ) (rest : List ℕ) (place start stop : ℕ) → end ≡ E → rest ≡ drop at bytes
+      → byte_as_searched fold E ≡ E → All (λ l. IsLine E l.text) literals
+      → IsFirstOf (SomeStands strings searched) at (length searched) place → SomeStands strings searched place
+      → start ≤ place - at → IsClear end rest start (place - at) → AreWhole end (take start rest)
+      → (e : ℕ) × (place - at ≤ e) × IsClear end rest (place - at) e × Stops end rest e stop
+      → IsFirstWith fold E literals at (drop at bytes)
+      (record { line = record { start = at + start; end = at + stop }; is_enough = enough })
+      × (at + start < at + stop) × (at + stop ≤ length bytes)
+  line_of_first E end rest place start stop same whole plain alone first stands before clear front ends =
+      let k = place - at in
+      let Around : ℕ → List ℕ → Type 0 = λ t xs. IsClear t xs start k × AreWhole t (take start xs)
+      × ((e : ℕ) × (k ≤ e) × IsClear t xs k e × Stops t xs e stop) in
+      let all = subst (λ t. Around t (drop at bytes)) same (subst (Around end) whole (clear, front, ends)) in
+      let s = stands.1 in
+      let among : Contains strings s = (stands.0, stands.2, stands.3) in
+      let low = first.low in
+      let from : place ≡ at + k = omega arith in
+      let o = part_place s k (subst (OccursAt searched s) from stands.4) in
+      let none = none_up_to place first.before in
+      let in_set = to_literal enough strings s among in
+      let line = All-contains (λ l. IsLine E l.text) literals (flagged enough s) alone in_set in
+      let size = length_searched fold (drop at bytes) in
+      let long = length-drop at bytes in
+      let some : 0 < length (drop at bytes) = omega (arith, long, within) in
+      let below = place_below (as_searched fold (drop at bytes)) s k o (none (flagged enough s) in_set)
+      (omega (arith, size, some)) in
+      let sides = line_some E (drop at bytes) start k all.2.0 stop before all.2.1 (omega (arith, below, size)) all.2.3 in (
+        line_around fold E literals (flagged enough s) (drop at bytes) at start k stop _ plain line in_set
+            refl o none before all.0 all.1 all.2 some refl refl,
+        omega (arith, sides.0),
+        omega (arith, sides.1, long),
+      )
+
+-- what holds of the elements seen holds of what is seen of them
+pub all_unmap : {X Y : Type 0} (P : Y → Type 0) (f : X → Y) (xs : List X) → All P (map f xs) → All (λ x. P (f x)) xs
+all_unmap P f xs all k d low =
+    subst P (get_or-map f xs k d (f d) low) (all k (f d) (omega (arith, low, length-map xs f)))
+
+-- copies of texts are as long as the texts
+pub copies_some : {A : Type 0} (copies : List (Vec ℕ A)) (literals : List (Literal A))
+    → map items_of copies ≡ map (λ literal. literal.text.items) literals
+    → All (λ literal. 1 ≤ length literal.text.items) literals → All (λ copy. 1 ≤ length copy.items) copies
+copies_some {A} copies literals same some =
+    let Some : List ℕ → Type 0 = λ s. 1 ≤ length s in
+    let Text : Literal A → List ℕ = λ l. l.text.items in
+    all_unmap Some items_of copies (subst (λ ss. All Some ss) (sym same) (All-map Some Text literals some))
+
+-- the set of a query's literals
+pub prepared_are : {A : Type 0} (text : SearchText) (literals : List (Literal A)) (set : Option (LiteralSet A))
+    → AreLiterals text (map data_of literals)
+    → IfSome set (λ set. strings_of set.strings ≡ map (λ literal. literal.text.items) literals)
+    → IfSome set (λ set. IsTrue set.is_enough → All (λ literal. IsTrue literal.is_enough) literals)
+    → IfSome set (λ set. AreLiterals text (set_literals set))
+prepared_are text found None are same all = tt
+prepared_are {A} text found (Some set) are same all =
+    set_are text (map data_of found) (strings_of set.strings) set.is_enough are
+    (same ∙ sym (map-map found)) (λ yes. All-map (λ l. IsTrue l.is_enough) data_of found (all yes))
+  where
+    map-map : (ls : List (Literal A)) → map (λ l. l.text) (map data_of ls) ≡ map (λ l. l.text.items) ls
+    map-map [] = refl
+    map-map (l ∷ ls) = ap (λ ss. l.text.items ∷ ss) (map-map ls)
+
+-- what holds anyway
+pub if_some : {X : Type 0} (P : Type 0) (o : Option X) → P → IfSome o (λ _. P)
+if_some P None p = tt
+if_some P (Some x) p = p

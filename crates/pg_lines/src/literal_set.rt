@@ -1,0 +1,77 @@
+//! Many literals, prepared to be looked for together.
+ghost use Rattle.std.specs.Prelude.{◌≡◌, ◌⊎◌, ◌<◌, ◌≤◌, [], length, map, IsTrue, IfOk, IfSome};
+ghost use Rattle.std.specs.List.{All};
+ghost use Rattle.pg_strings.specs.Keys.{items_of};
+ghost use Rattle.pg_strings.specs.Outcomes.{strings_of};
+
+use pg_literal::Literal;
+use pg_strings::StringSet;
+use std::alloc::{AllocError, Allocator, Global};
+
+/// Up to so many literals are looked for one by one.
+const FEW: usize = 8;
+
+/// Many literals, none of them empty, prepared to be looked for together.
+#[derive(Drop)]
+pub(crate) struct LiteralSet<A: Allocator = Global> {
+    pub strings: StringSet<A>,
+    /// Each of them is enough: a line that holds it has a hit.
+    pub is_enough: bool,
+    ghost some: { 0 < length (strings_of strings) },
+}
+
+/// Copies of the texts of literals.
+fn copies_of<A: Allocator + Copy>(
+    alloc: A,
+    literals: &[Literal<A>],
+) -> Result<Vec<Vec<u8, A>, A>, AllocError>
+    ensures { IfOk result (λ copies. map items_of copies.items ≡ map (λ literal. literal.text.items) literals.now) }
+{
+    let mut copies = Vec::new(alloc);
+    for literal in literals {
+        copies.push(literal.text.to_vec(alloc)?)?;
+    }
+    Ok(copies)
+}
+
+/// Whether some literal is empty.
+fn has_empty<A: Allocator>(literals: &[Literal<A>]) -> bool
+    ensures { IsTrue result ⊎ All (λ literal. 1 ≤ length literal.text.items) literals.now }
+{
+    literals.iter().any(|literal| literal.text.is_empty())
+}
+
+/// Whether each literal is enough.
+fn are_all_enough<A: Allocator>(literals: &[Literal<A>]) -> bool
+    ensures { IsTrue result → All (λ literal. IsTrue literal.is_enough) literals.now }
+{
+    literals.iter().all(|literal| literal.is_enough)
+}
+
+impl<A: Allocator + Copy> LiteralSet<A> {
+    /// The set of more than 8 literals, unless one is empty. A refused request for memory is the only error.
+    pub fn of(alloc: A, literals: &[Literal<A>]) -> Result<Option<LiteralSet<A>>, AllocError>
+        ensures strings { IfOk result (λ found. IfSome found (λ set. strings_of set.strings
+            ≡ map (λ literal. literal.text.items) literals.now)) }
+        ensures enough { IfOk result (λ found. IfSome found (λ set. IsTrue set.is_enough
+            → All (λ literal. IsTrue literal.is_enough) literals.now)) }
+    {
+        if literals.len() <= FEW || has_empty(literals) {
+            return Ok(None);
+        }
+        let strings = StringSet::new(alloc, copies_of(alloc, literals)?)?;
+        let is_enough = are_all_enough(literals);
+        Ok(Some(LiteralSet { strings, is_enough }))
+    }
+}
+
+/// At most 8 literals; none where there are more.
+pub(crate) fn few_of<A: Allocator>(alloc: A, literals: Vec<Literal<A>, A>) -> Vec<Literal<A>, A>
+    ensures { (result ≡ literals) ⊎ (result.items ≡ []) }
+{
+    if literals.len() <= FEW {
+        literals
+    } else {
+        Vec::new(alloc)
+    }
+}

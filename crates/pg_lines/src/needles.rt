@@ -1,0 +1,85 @@
+//! The literals of a query, as they are looked for in a block.
+ghost use Rattle.std.specs.Prelude.{◌≡◌, ◌<◌, ◌≤◌, ℕ, List, length, map, false, IfOk, IfSome};
+ghost use Rattle.pg_literal.specs.Literals.{as_searched};
+ghost use Rattle.pg_lines.specs.Search.{SearchText, terminator_of};
+ghost use Rattle.pg_lines.specs.Literals.{AreLiterals, data_of, set_literals};
+ghost use Rattle.pg_lines.specs.Candidates.{AreNeedles, literals_sought, IsNextCandidate};
+
+use crate::literal_set::LiteralSet;
+use crate::needle::NeedleList;
+use crate::needle_set::{NeedleSet, NextLine};
+use crate::query::Query;
+use pg_literal::Literal;
+use std::alloc::{AllocError, Allocator};
+
+/// The literals of a query, as they are looked for in a block: a few one by one, many together, or none any more.
+pub(crate) enum Needles<'n, A: Allocator> {
+    Few(NeedleList<'n, A>),
+    Many(NeedleSet<'n, A>),
+    GivenUp,
+}
+
+impl<'n, A: Allocator> Drop for Needles<'n, A> {
+    fn drop(self) {
+        match self {
+            Needles::Few(_) => {}
+            Needles::Many(_) => {}
+            Needles::GivenUp => {}
+        }
+    }
+}
+
+impl<'n, A: Allocator> Needles<'n, A> {
+    /// The needles of a set of literals, if there is one, else of a few literals.
+    pub fn new(
+        alloc: A,
+        literals: &'n [Literal<A>],
+        set: Option<&'n LiteralSet<A>>,
+        searched: &'n [u8],
+    ) -> Result<Needles<'n, A>, AllocError>
+        ensures { (text : SearchText) → (bytes : List ℕ) → AreLiterals text (map data_of literals.now)
+            → IfSome set.entry (λ set. AreLiterals text (set_literals set.now))
+            → (0 < length literals.now → searched.now ≡ as_searched text.fold bytes)
+            → IfSome set.entry (λ _. searched.now ≡ as_searched text.fold bytes)
+            → IfOk result (AreNeedles text bytes 0) }
+    {
+        match set {
+            Some(set) => Ok(Needles::Many(NeedleSet::new(set, searched))),
+            None => {
+                let list = NeedleList::new(alloc, literals, searched)?;
+                Ok(Needles::Few(list))
+            }
+        }
+    }
+
+    /// Whether there is none.
+    pub fn is_empty(&self) -> bool
+        ensures { result ≡ false → 0 < length (literals_sought self.now) }
+    {
+        match self {
+            Needles::Few(list) => list.is_empty(),
+            Needles::Many(_) => false,
+            Needles::GivenUp => true,
+        }
+    }
+
+    /// The first line at or behind a place that holds a literal.
+    pub fn next_line(&mut self, query: &Query<A>, bytes: &[u8], at: usize) -> NextLine
+        requires at { at ≤ length bytes.now }
+        requires needles { AreNeedles query.now.text bytes.now at self.old }
+        requires some { 0 < length (literals_sought self.old) }
+        ensures needles { AreNeedles query.now.text bytes.now at self.new }
+        ensures literals { literals_sought self.new ≡ literals_sought self.old }
+        ensures next { IsNextCandidate query.now.text.fold (terminator_of query.now.text)
+            (literals_sought self.new) at bytes.now result }
+    {
+        match self {
+            Needles::Few(list) => match list.next_line(query, bytes, at) {
+                Some(found) => NextLine::Found(found),
+                None => NextLine::Nowhere,
+            },
+            Needles::Many(set) => set.next_line(query, bytes, at),
+            Needles::GivenUp => NextLine::GaveUp,
+        }
+    }
+}
