@@ -1,5 +1,6 @@
-//! Tests of the crates below the search: sets of bytes, expressions, automata, and lines; walks, over trees in memory
-//! and over the system's; and what threads share: boards, trays, and the allocator that refuses requests.
+//! Tests of the crates below the search: sets of bytes and of strings, expressions, automata, and lines; walks, over
+//! trees in memory and over the system's; and what threads share: boards, trays, and the allocator that refuses
+//! requests.
 #![tactic(auto)]
 
 #[cfg(test)]
@@ -24,6 +25,8 @@ mod refused;
 mod requests;
 #[cfg(test)]
 mod rows;
+#[cfg(test)]
+mod strings;
 #[cfg(test)]
 mod syntax;
 #[cfg(test)]

@@ -109,7 +109,7 @@ fn search_for<A: Allocator + Copy>(
 
 /// Searches, each by the letters of its options, a pattern and a block; and how much is found: how many lines there
 /// are, runs of selected lines, and matched parts. Lines that aren't matched have no parts.
-const SEARCHES: [(&'static str, &'static [u8], &'static [u8], [usize; 3]); 7] = [
+const SEARCHES: [(&'static str, &'static [u8], &'static [u8], [usize; 3]); 10] = [
     ("F", b"b", b"b\nx\nb\nx\nb\nx\nb\nx\nb", [9, 5, 0]),
     ("Ev", b"x", b"b\nx\nb\nx\nb\nx\nb\nx\nb", [9, 5, 0]),
     ("Fo", b"b", b"bbbbb\nx\nb", [3, 2, 6]),
@@ -117,6 +117,24 @@ const SEARCHES: [(&'static str, &'static [u8], &'static [u8], [usize; 3]); 7] = 
     ("Fov", b"b", b"ab\nxyz\n", [2, 1, 0]),
     ("Fov", b"", b"a\n", [1, 0, 0]),
     ("Eov", b"b*", b"abb\n", [1, 0, 0]),
+    (
+        "Ff",
+        b"b\nbc\nd1\nd2\nd3\nd4\nd5\nd6\nd7\n",
+        b"a\nd7\nx\nabc\nd8",
+        [5, 2, 0],
+    ),
+    (
+        "Ffio",
+        b"BB\nbc\nd1\nd2\nd3\nd4\nd5\nd6\nd7\n",
+        b"bBB\nD7d6\nx\nABC\nd8",
+        [5, 2, 4],
+    ),
+    (
+        "Ffv",
+        b"bb\n\nd1\nd2\nd3\nd4\nd5\nd6\nd7\n",
+        b"bBB\nD7d6\nx\n",
+        [3, 0, 0],
+    ),
 ];
 
 /// Whether a block has these bytes, and is block 5 of file 7.

@@ -1,5 +1,5 @@
 //! Each request for memory is refused in turn.
-use crate::{board, cutter, disk, lines, machine, memory, tray};
+use crate::{board, cutter, disk, lines, machine, memory, strings, tray};
 use refusing::Refusing;
 use std::alloc::Global;
 use std::process::Abort;
@@ -7,7 +7,7 @@ use std::sync::Wait;
 use std::thread::Threads;
 
 /// What is tried on memory that is refused, and how many requests for memory it makes at least.
-const TRIALS: [(&'static str, u64); 9] = [
+const TRIALS: [(&'static str, u64); 10] = [
     ("board", 1),
     ("tray", 1),
     ("tray of threads", 1),
@@ -16,6 +16,7 @@ const TRIALS: [(&'static str, u64); 9] = [
     ("walk", 21),
     ("tree in memory", 4),
     ("machine", 14),
+    ("strings", 7),
     ("search", 38),
 ];
 
@@ -30,6 +31,7 @@ fn holds<R: Threads + Wait + Sync>(rt: &R, alloc: Global, heap: &Refusing, trial
         "walk" => memory::is_walked(alloc, heap),
         "tree in memory" => memory::is_added(heap),
         "machine" => machine::is_selected(heap),
+        "strings" => strings::are_prepared(heap),
         _ => lines::are_found(heap),
     }
 }

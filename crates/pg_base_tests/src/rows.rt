@@ -1,7 +1,7 @@
 //! Rows of tests. A row is a line of a text, so that a further row costs no proof. Many rows stand in several texts,
 //! for a long text takes longer than its parts.
 use crate::cutter::Way;
-use crate::{cutter, lines, literal, machine, syntax};
+use crate::{cutter, lines, literal, machine, strings, syntax};
 use percent_encoding::{CONTROLS, percent_decode, percent_encode};
 use std::alloc::{AllocError, Global};
 use std::process::Abort;
@@ -56,6 +56,7 @@ pub(crate) enum Question {
     Blocks(Way),
     SameQueries,
     Literal,
+    Strings,
     Visits,
     DeepTree,
 }
@@ -65,6 +66,7 @@ fn answer(rt: &impl Abort, alloc: Global, question: Question, kind: &str, asked:
     let text = match question {
         Question::Blocks(way) => return cutter::blocks_of(rt, alloc, way, kind, asked),
         Question::Literal => return literal::literal_of(rt, alloc, kind, asked),
+        Question::Strings => return strings::places_of(rt, alloc, kind, asked),
         Question::Visits => return machine::searched(rt, alloc, kind, asked),
         Question::SameQueries => lines::compared(rt, alloc, kind, asked),
         Question::DeepTree => syntax::deep_tree(rt, alloc, kind, asked),

@@ -33,7 +33,13 @@ set_are text literals strings enough are same all =
       lines = All-map (λ l. IsLine (terminator_of text) l.text) (flagged enough) (map Text literals)
           (All-map (λ s. IsLine (terminator_of text) s) Text literals are.lines);
       needed = λ some trees spelled line hit.
-          let held = are.needed (omega (arith, some, length-map (map Text literals) (flagged enough), length-map literals Text))
+          let held = are.needed (omega (
+            arith,
+            some,
+            length-map (map Text literals)
+                (flagged enough),
+            length-map literals Text,
+          ))
           trees spelled line hit in
           any-map (λ l. Holds text.fold line l.text) (flagged enough) (map Text literals)
           (any-map (λ s. Holds text.fold line s) Text literals held);
@@ -75,7 +81,8 @@ module _ (fold : Bool) (bytes searched : List ℕ) (at : ℕ) (strings : List (L
       (occurs_part searched p at k (omega (arith, searched_length fold bytes searched is, within)) o)
 
   -- a literal stands nowhere up to a place where no string does
-  none_up_to : (stop : ℕ) → Nowhere (SomeStands strings searched) at stop → NoneBefore fold literals (drop at bytes) (stop - at)
+  none_up_to : (stop : ℕ) → Nowhere (SomeStands strings searched) at stop
+      → NoneBefore fold literals (drop at bytes) (stop - at)
   none_up_to stop none l among k from to o =
       let s = string_of enough strings l among in
       let P : LiteralData → Type 0 = λ m. OccursAt (as_searched fold (drop at bytes)) m.text k in
@@ -128,7 +135,8 @@ module _ (fold : Bool) (bytes searched : List ℕ) (at : ℕ) (strings : List (L
       let some : 0 < length (drop at bytes) = omega (arith, long, within) in
       let below = place_below (as_searched fold (drop at bytes)) s k o (none (flagged enough s) in_set)
       (omega (arith, size, some)) in
-      let sides = line_some E (drop at bytes) start k all.2.0 stop before all.2.1 (omega (arith, below, size)) all.2.3 in (
+      let sides = line_some E (drop at bytes) start k all.2.0 stop before all.2.1 (omega
+      (arith, below, size)) all.2.3 in (
         line_around fold E literals (flagged enough s) (drop at bytes) at start k stop _ plain line in_set
             refl o none before all.0 all.1 all.2 some refl refl,
         omega (arith, sides.0),

@@ -203,8 +203,8 @@ impl<A: Allocator> Query<A> {
     }
 
     /// At most 8 texts of which each line with a hit holds one, so that only lines with one are looked at; none where
-    /// such texts weren't found, or there are more of them. With -i they are in lower case, as those lines are where they are searched for.
-    /// Where a text is enough, each line that holds it has a hit, and the machine isn't asked.
+    /// such texts weren't found, or there are more of them. With -i they are in lower case, as those lines are where
+    /// they are searched for. Where a text is enough, each line that holds it has a hit, and the machine isn't asked.
     pub fn literals(&self) -> &[Literal<A>]
         ensures literals { AreLiterals self.now.text (map data_of result.now) }
         ensures compiled { IsCompiled self.now }

@@ -16,9 +16,25 @@ pushed first next homes h within chains =
       starts = λ k low. grind (arith, common_steps, count, chains.starts k low);
       falls = λ j low. grind (arith, common_steps, count, links, chains.falls j, chains.starts h within);
       covers = λ k i low is. grind (arith, common_steps, count, links, chains.covers k i);
-      covers_before = λ i j less low same. grind (arith, common_steps, count, links, chains.covers_before i j, chains.covers h i);
+      covers_before = λ i j less low same. grind (
+        arith,
+        common_steps,
+        count,
+        links,
+        chains.covers_before i j,
+        chains.covers h i,
+      );
       own = λ k low some. grind (arith, common_steps, count, links, chains.own k low, chains.starts k low);
-      own_before = λ j low some. grind (arith, common_steps, count, links, chains.own_before j, chains.own h within, chains.falls j, chains.starts h within);
+      own_before = λ j low some. grind (
+        arith,
+        common_steps,
+        count,
+        links,
+        chains.own_before j,
+        chains.own h within,
+        chains.falls j,
+        chains.starts h within,
+      );
     }
 
 pub pushed_as : (first next homes next' : List ℕ) (h n b : ℕ) → n ≡ length homes → b ≡ slice_index first h

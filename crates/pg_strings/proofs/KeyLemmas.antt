@@ -1,8 +1,10 @@
 -- Keys of texts that stand at a place.
-use Rattle.std.proofs.Common.{◌≡◌, ℕ, zero, suc, ◌+◌, ◌-◌, ◌*◌, ◌/◌, ◌%◌, ◌^◌, ◌<◌, ◌≤◌, List, length, drop, refl, sym, ap, ◌∙◌, arith, zero-add}
+use Rattle.std.proofs.Common.{◌≡◌, ℕ, zero, suc, ◌+◌, ◌-◌, ◌*◌, ◌/◌, ◌%◌, ◌^◌, ◌<◌, ◌≤◌, List, length, drop, refl, sym}
+use Rattle.std.proofs.Common.{ap, ◌∙◌, arith, zero-add}
 use Rattle.std.specs.Prelude.{slice_index}
 use Rattle.std.specs.Int.{w64, from_le_bytes}
-use Rattle.std.proofs.Math.Nat.{add-mul-mod_self_right, mul-add, add-mul, mul_comm, mul_assoc, mul_right_comm, pow-suc, mod-add-div'}
+use Rattle.std.proofs.Math.Nat.{add-mul-mod_self_right, mul-add, add-mul, mul_comm, mul_assoc, mul_right_comm, pow-suc}
+use Rattle.std.proofs.Math.Nat.{mod-add-div'}
 use Rattle.std.proofs.lemmas.List.{get_or-drop}
 use Rattle.memchr.specs.Find.{OccursAt}
 use Rattle.pg_strings.specs.Keys.{key, Weighs}
@@ -58,7 +60,8 @@ shifted : (xs : List ℕ) (i n : ℕ) → worth xs i n ≡ 256 ^ i * behind xs i
 shifted xs i zero = shifted_none xs i
 shifted xs i (suc n) =
     worth_more xs i n
-    ∙ (ap (λ v. slice_index xs i * 256 ^ i + v) (shifted xs (suc i) n ∙ ap (λ p. p * behind xs (suc i) n) (pow-suc 256 i))
+    ∙ (ap (λ v. slice_index xs i * 256 ^ i + v) (shifted xs (suc i) n
+    ∙ ap (λ p. p * behind xs (suc i) n) (pow-suc 256 i))
     ∙ (factored (slice_index xs i) (256 ^ i) (behind xs (suc i) n)
     ∙ ap (λ v. 256 ^ i * v) (sym (behind_more xs i n))))
 
@@ -67,7 +70,8 @@ same_worth : (xs ys : List ℕ) (i n : ℕ) → ((k : ℕ) → k < i + n → sli
 same_worth xs ys i zero same = worth_zero xs i ∙ sym (worth_zero ys i)
 same_worth xs ys i (suc n) same =
     let one : slice_index xs i ≡ slice_index ys i = same i (omega arith) in
-    let later : worth xs (suc i) n ≡ worth ys (suc i) n = same_worth xs ys (suc i) n (λ k low. same k (omega (arith, low))) in
+    let later : worth xs (suc i) n ≡ worth ys (suc i) n = same_worth xs ys (suc i) n (λ k low. same k (omega
+    (arith, low))) in
     worth_more xs i n ∙ (ap (λ v. v * 256 ^ i + worth xs (suc i) n) one
     ∙ (ap (λ v. slice_index ys i * 256 ^ i + v) later ∙ sym (worth_more ys i n)))
 

@@ -1,6 +1,7 @@
 -- Where strings stand, by their keys.
 use Rattle.std.proofs.Common.{◌≡◌, ◌==◌, ℕ, ◌+◌, ◌*◌, ◌/◌, ◌<◌, ◌≤◌, ◌↔◌, ◌||◌, IsTrue, Vec, Bool, true, false}
-use Rattle.std.proofs.Common.{List, [], ◌∷◌, ◌++◌, length, map, drop, take, set, get_or, refl, sym, ap, ◌∙◌, arith, subst}
+use Rattle.std.proofs.Common.{List, [], ◌∷◌, ◌++◌, length, map, drop, take, set, get_or, refl, sym, ap, ◌∙◌, arith}
+use Rattle.std.proofs.Common.{subst}
 use Rattle.std.proofs.Common.{inl, inr, length-drop, length-take}
 use Rattle.std.specs.Prelude.{slice_index_or}
 use Rattle.std.specs.Cmp.Lexicographic.{pointwise}
@@ -60,7 +61,8 @@ pub stands_is : (bytes string s : List ℕ) (place : ℕ) (r : Bool) → place �
 stands_is bytes string s place r within is value =
     let decides = slice_eq-Decides Decides-eqb string (take (length string) s) r value in (
       λ yes.
-          let same : string ≡ take (length string) (drop place bytes) = decides.0 yes ∙ ap (λ l. take (length string) l) is in
+          let same : string ≡ take (length string) (drop place bytes) = decides.0 yes
+          ∙ ap (λ l. take (length string) l) is in
           let short = ap length same ∙ length-take (length string) (drop place bytes) in
           OccursAt-from_part bytes string place (omega (arith, short, length-drop place bytes, within)) (sym same),
       λ occurs. decides.1 (sym (ap (λ l. take (length string) l) is ∙ OccursAt-part bytes string place occurs)),
@@ -82,7 +84,8 @@ four_clear P i false false false false one two three four clear =
     ]))
 
 -- the bytes of an element
-pub string_at : {A : Type 0} (strings : List (Vec ℕ A)) (i : ℕ) (string : Vec ℕ A) → i < length strings → string ≡ get_or strings i string
+pub string_at : {A : Type 0} (strings : List (Vec ℕ A)) (i : ℕ) (string : Vec ℕ A) → i < length strings
+    → string ≡ get_or strings i string
     → get_or (map items_of strings) i [] ≡ string.items
 string_at strings i string less is = get_or-map items_of strings i string [] less ∙ ap (λ t. t.items) (sym is)
 
@@ -104,10 +107,12 @@ flagged_more factor flags strings i k less few is before =
     let kept = All-weaker (λ string. slice_index_or flags (key factor string) true ≡ true) P
     (λ string yes. set_keeps flags k (key factor string) few yes) (take i strings) before in
     subst (λ xs. All P xs) (sym (take_more strings i [] less))
-    (All-push P (take i strings) (get_or strings i []) kept (set_stands flags k (key factor (get_or strings i [])) few (sym is)))
+    (All-push P (take i strings) (get_or strings i []) kept (set_stands flags k (key factor
+    (get_or strings i [])) few (sym is)))
 
 -- the chains of one more string
-pub homes_more : (factor : ℕ) (strings : List (List ℕ)) (i k : ℕ) → i < length strings → k ≡ key factor (get_or strings i [])
+pub homes_more : (factor : ℕ) (strings : List (List ℕ)) (i k : ℕ) → i < length strings
+    → k ≡ key factor (get_or strings i [])
     → map (home factor) (take i strings) ++ (k / 16 ∷ []) ≡ map (home factor) (take (i + 1) strings)
 homes_more factor strings i k less is =
     sym (ap (λ xs. map (home factor) xs) (take_more strings i [] less)

@@ -64,7 +64,8 @@ walk_goes_on P factor strings first next link h chains some within walked last =
     }
 
 -- the walk begins at the link that was read
-pub walk_first : (P : List ℕ → Type 0) (factor : ℕ) (strings : List (List ℕ)) (first next : List ℕ) (h link : ℕ) → h < 8192
+pub walk_first : (P : List ℕ → Type 0) (factor : ℕ) (strings : List (List ℕ)) (first next : List ℕ) (h link : ℕ)
+    → h < 8192
     → AreChains first next (map (home factor) strings) → link ≡ get_or first h link
     → (link ≤ length strings) × IsWalked P factor strings link h
 walk_first P factor strings first next h link within chains read =

@@ -1,5 +1,6 @@
 -- Keys of strings, and chains of strings that may have one key.
-use Rattle.std.specs.Prelude.{◌≡◌, ℕ, ◌-◌, ◌*◌, ◌/◌, ◌%◌, ◌^◌, ◌<◌, ◌≤◌, Bool, true, List, length, slice_index, slice_index_or, Vec}
+use Rattle.std.specs.Prelude.{◌≡◌, ℕ, ◌-◌, ◌*◌, ◌/◌, ◌%◌, ◌^◌, ◌<◌, ◌≤◌, Bool, true, List, length, slice_index}
+use Rattle.std.specs.Prelude.{slice_index_or, Vec}
 use Rattle.std.specs.List.{All}
 use Rattle.std.specs.Int.{w64, from_le_bytes}
 

@@ -21,11 +21,12 @@ IsOutcome P from stop (Found place) = NoneBefore P from stop place × P place
 IsOutcome P from stop NotFound = Nowhere P from stop
 IsOutcome P from stop (GaveUp place) = (from ≤ place) × (place ≤ stop) × Nowhere P from place
 
--- The budget grows by 8 at most for each byte that was passed. A search that gives up has used it up, and it wasn't
--- enough to compare all strings at each place that was looked at.
+-- The budget grows by 8 at most for each byte that was passed, and no more of it is spent than what comparing all
+-- strings costs at each place that was looked at. A search that gives up has used it up.
 abbrev pub IsWithinBudget : (work from stop old new : ℕ) → Outcome → Type 0
-IsWithinBudget work from stop old new (Found place) = new ≤ old + 8 * (place - from)
-IsWithinBudget work from stop old new NotFound = new ≤ old + 8 * (stop - from)
+IsWithinBudget work from stop old new (Found place) =
+    (new ≤ old + 8 * (place - from)) × (old ≤ new + (place + 1 - from) * work)
+IsWithinBudget work from stop old new NotFound = (new ≤ old + 8 * (stop - from)) × (old ≤ new + (stop - from) * work)
 IsWithinBudget work from stop old new (GaveUp place) = (new ≡ 0) × (old ≤ (place + 1 - from) * work)
 
 -- the longest string that stands at the place has this length; or none stands

@@ -1,7 +1,7 @@
 //! The first place at which one of many strings stands.
 //!
-//! Each string is known by a key of its first bytes, at most eight. Where bytes have no string's key, none stands. Where
-//! they have one, the strings of a chain are compared, as far as a budget allows.
+//! Each string is known by a key of its first bytes, at most eight. Where bytes have no string's key, none stands.
+//! Where they have one, the strings of a chain are compared, as far as a budget allows.
 #![tactic(auto)]
 
 mod budget;

@@ -3,7 +3,8 @@ use Rattle.pg_lines.proofs.search.search_by.Goals as goal
 
 pub selected_runs-requires-clause-needles : goal.selected_runs-requires-clause-needles
 selected_runs-requires-clause-needles g c =
-    c.in_ok-needles.ensures c.args.query.now.text c.args.bytes.now c.requires.literals c.requires.set c.requires.searched
+    c.in_ok-needles.ensures c.args.query.now.text c.args.bytes.now c.requires.literals c.requires.set
+    c.requires.searched
     c.requires.set_searched
 
 pub returns-in_err-needles-clause-runs : goal.returns-in_err-needles-clause-runs

@@ -7,7 +7,8 @@ use Rattle.pg_lines.proofs.search.search_bytes.Goals as goal
 
 pub search_by-requires-clause-set_searched : goal.search_by-requires-clause-set_searched
 search_by-requires-clause-set_searched g c =
-    let lowered : c.deref.result.now ≡ as_searched c.args.query.now.text.fold c.args.bytes.now = grind (arith, common_steps) in
+    let lowered : c.deref.result.now ≡ as_searched c.args.query.now.text.fold c.args.bytes.now =
+    grind (arith, common_steps) in
     if_some _ c.literal_set-set.result lowered
 
 pub returns-in_err-lowered-clause-runs : goal.returns-in_err-lowered-clause-runs

@@ -57,7 +57,8 @@ loop-link-preserved g c =
     record {
       within = omega (arith, walk.0, within, some);
       walked = walk.1;
-      stands = kept_stands strings bytes place i c.loop-link.longest c.deref.result.now kept (omega (arith, less, len)) string
+      stands = kept_stands strings bytes place i c.loop-link.longest c.deref.result.now kept (omega
+          (arith, less, len)) string
           longer.low longer.stands c.loop-link.invariant.stands;
     }
 

@@ -47,14 +47,16 @@ loop-link-preserved g c =
     let len = length-map vecs items_of in
     let string = string_at vecs i c.index.result.now less c.index.ensures in
     let last : P (get_or strings i []) = λ occurs.
-    let yes : true ≡ false = sym (c.stands_within.ensures.stands.1 (subst (λ t. OccursAt c.args.bytes.now t c.args.place)
+    let yes : true ≡ false = sym (c.stands_within.ensures.stands.1 (subst
+    (λ t. OccursAt c.args.bytes.now t c.args.place)
     (string ∙ sym c.deref.ensures.value) occurs)) ∙ c.if-stands_within.false in
     cc in
     let walk = walk_next P set.factor strings set.chains.first.items set.chains.next.items c.loop-link.link h
     c.index-link-in-loop-link.result.now set.linked some (omega (arith, within, len)) c.loop-link.invariant.walked last
     c.index-link-in-loop-link.ensures in
     let less' = c.loop-link.invariant.less in
-    let size : length c.deref.result.now ≡ length (get_or strings i []) = ap length (c.deref.ensures.value ∙ sym string) in
+    let size : length c.deref.result.now ≡ length (get_or strings i []) = ap length (c.deref.ensures.value
+    ∙ sym string) in
     record {
       within = omega (arith, walk.0, within, some);
       walked = walk.1;
@@ -90,7 +92,8 @@ returns-then-stands_within-clause-cost g c =
     let some = c.loop-link-test.true in
     let less : i < length vecs = omega (arith, within, some) in
     let string = string_at vecs i c.index.result.now less c.index.ensures in
-    let size : length c.deref.result.now ≡ length (get_or strings i []) = ap length (c.deref.ensures.value ∙ sym string) in
+    let size : length c.deref.result.now ≡ length (get_or strings i []) = ap length (c.deref.ensures.value
+    ∙ sym string) in
     spent_more (λ s. 1 + length s) strings c.loop-link.link 0 c.args.budget.now.left c.loop-link.budget.left
     c.stands_within.new.budget.left some (omega (arith, within, length-map vecs items_of)) (omega arith)
     c.loop-link.invariant.cost (omega (arith, size, c.stands_within.ensures.cost))

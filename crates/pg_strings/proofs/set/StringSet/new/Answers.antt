@@ -33,12 +33,20 @@ invariant_of-result g c =
     let factor = c.factor_of-factor.result in
     let last = c.loop-place.auto.place-end in
     let all : take c.loop-place.place strings ≡ strings =
-    take_whole strings c.loop-place.place (omega (arith, last, c.loop-place-test.false, c.len-place-end.ensures, length-map vecs items_of)) in
+    take_whole strings c.loop-place.place (omega (
+      arith,
+      last,
+      c.loop-place-test.false,
+      c.len-place-end.ensures,
+      length-map vecs items_of,
+    )) in
     record {
       weighs = c.factor_of-factor.ensures;
-      long = subst (λ xs. AreLong c.width_of-width.result (map items_of xs)) c.as_slice.ensures.value c.width_of-width.ensures.long;
+      long = subst (λ xs. AreLong c.width_of-width.result (map items_of xs)) c.as_slice.ensures.value
+          c.width_of-width.ensures.long;
       keys = c.loop-place.invariant.flags;
       flagged = subst (λ xs. AreFlagged factor c.loop-place.flags.items xs) all c.loop-place.invariant.flagged;
-      linked = subst (λ xs. AreChains c.loop-place.chains.first.items c.loop-place.chains.next.items (map (home factor) xs)) all
+      linked = subst (λ xs. AreChains c.loop-place.chains.first.items c.loop-place.chains.next.items (map
+          (home factor) xs)) all
           c.loop-place.invariant.linked;
     }

@@ -11,7 +11,8 @@ loop-place-preserved g c =
       low = let low = c.loop-place.invariant.low in omega (arith, low);
       high = omega (arith, c.loop-place-test.true);
       none = nowhere_joined P c.args.from c.loop-place.place (c.loop-place.place + 4) c.loop-place.invariant.none
-          (four_clear P c.loop-place.place _ _ _ _ c.is_flagged-one.ensures c.is_flagged-two.ensures c.is_flagged-three.ensures
+          (four_clear P c.loop-place.place _ _ _ _ c.is_flagged-one.ensures c.is_flagged-two.ensures
+          c.is_flagged-three.ensures
           c.is_flagged-four.ensures c.if-one-two.false);
     }
 

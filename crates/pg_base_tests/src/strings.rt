@@ -1,0 +1,120 @@
+//! Sets of strings.
+ghost use Rattle.std.specs.Prelude.{◌≡◌, ◌≤◌, length, IfOk};
+ghost use Rattle.std.specs.List.{All};
+
+use crate::rows::{Question, assert_rows, bytes_of, cut};
+use pg_strings::{Budget, Outcome, StringSet};
+use refusing::Refusing;
+use std::alloc::{AllocError, Allocator, Global};
+use std::process::Abort;
+
+/// What is asked of strings, which `;` parts, and a text; and what a search by hand gives: for each place of the text
+/// the first place at or behind it at which a string stands, or the length of the longest string that stands there; or
+/// whether the text is one of the strings.
+const ROWS: &str = "first ab;abc;bc xxabcxbc => 2 2 2 3 6 6 6 - -
+longest ab;abc;bc xxabcxbc => - - 3 2 - - 2 - -
+first a;ab;abc abcab => 0 3 3 3 - -
+longest a;ab;abc abcab => 3 - - 2 - -
+first abcdefghij;abcdefgh;cdefghij zabcdefghij-abcdefgh-cdefghi => 1 1 3 3 12 12 12 12 12 12 12 12 12 - - - - - - - - - - - - - - - -
+longest abcdefghij;abcdefgh;cdefghij zabcdefghij-abcdefgh-cdefghi => - 10 - 8 - - - - - - - - 8 - - - - - - - - - - - - - - - -
+first foo;bar;baz fobarfoobazba => 2 2 2 5 5 5 8 8 8 - - - - -
+longest foo;bar;baz fobarfoobazba => - - 3 - - 3 - - 3 - - - - -
+first aab;aaab;ab aaaaaab => 3 3 3 3 4 5 - -
+longest aab;aaab;ab aaaaaab => - - - 4 3 2 - -
+first xyz abcxy => - - - - - -
+longest xyz abcxy => - - - - - -
+first q;qq;qqq qqqqq => 0 1 2 3 4 -
+longest q;qq;qqq qqqqq => 3 3 3 2 1 -
+line ab;abc;bc abc => yes
+line ab;abc;bc ab => yes
+line ab;abc;bc abcd => no
+line ab;abc;bc b => no
+line abcdefghij;abcdefgh abcdefghi => no
+line abcdefghij;abcdefgh abcdefghij => yes";
+
+/// The strings that `;` parts, but for empty ones.
+fn strings_of<A: Allocator + Copy>(alloc: A, text: &str) -> Result<Vec<Vec<u8, A>, A>, AllocError>
+    ensures { IfOk result (λ strings. All (λ string. 1 ≤ length string.items) strings.items) }
+{
+    let mut strings = Vec::new(alloc);
+    for part in text.split(';') {
+        let string = Vec::from_slice(alloc, part.as_bytes())?;
+        if !string.is_empty() {
+            strings.push(string)?;
+        }
+    }
+    Ok(strings)
+}
+
+fn set_of<A: Allocator + Copy>(alloc: A, text: &str) -> Result<StringSet<A>, AllocError> {
+    let strings = strings_of(alloc, text)?;
+    StringSet::new(alloc, strings)
+}
+
+fn show_place(out: &mut String, place: Option<usize>) -> Result<(), AllocError> {
+    if !out.is_empty() {
+        out.push(' ')?;
+    }
+    match place {
+        Some(place) => write!(out, "{place}"),
+        None => out.push('-'),
+    }
+}
+
+fn first_place(set: &StringSet, text: &[u8], from: usize) -> Option<usize>
+    requires { from ≤ length text.now }
+{
+    match set.find(text, from, &mut Budget { left: 1_000 }) {
+        Outcome::Found(place) => Some(place),
+        _ => None,
+    }
+}
+
+fn show_all(set: &StringSet, kind: &str, text: &[u8], out: &mut String) -> Result<(), AllocError> {
+    for place in 0..=text.len() {
+        let found = if kind == "first" {
+            first_place(set, text, place)
+        } else {
+            set.longest_at(text, place)
+        };
+        show_place(out, found)?;
+    }
+    Ok(())
+}
+
+fn answer(alloc: Global, set: &StringSet, kind: &str, text: &[u8]) -> Result<String, AllocError> {
+    let mut out = String::new(alloc);
+    if kind == "line" {
+        out.push_str(if set.contains(text) { "yes" } else { "no" })?;
+    } else {
+        show_all(set, kind, text, &mut out)?;
+    }
+    Ok(out)
+}
+
+/// The answer to a row.
+pub(crate) fn places_of(rt: &impl Abort, alloc: Global, kind: &str, asked: &str) -> String {
+    let (strings, text) = cut(asked, " ");
+    let set = set_of(alloc, strings).expect(rt, "memory");
+    answer(alloc, &set, kind, &bytes_of(rt, alloc, text)).expect(rt, "memory")
+}
+
+/// Whether a search with a budget of nothing gives up where the first string is to be compared.
+fn gives_up(set: &StringSet) -> bool {
+    set.find(b"bbbbab", 0, &mut Budget { left: 0 }) == Outcome::GaveUp(0)
+}
+
+/// Whether strings are prepared and found, or memory is wanted where a request is refused.
+pub(crate) fn are_prepared(heap: &Refusing) -> bool {
+    match set_of(heap, "ab;b1;c") {
+        Ok(set) => set.contains(b"b1") && !set.contains(b"b"),
+        Err(_) => heap.has_refused(),
+    }
+}
+
+#[test]
+fn strings_are_found(rt: HostRuntime) {
+    assert_rows(&rt, rt.alloc(), Question::Strings, ROWS);
+    let set = set_of(rt.alloc(), "ba;bb").expect(&rt, "memory");
+    assert!(&rt; gives_up(&set));
+}
