@@ -408,7 +408,7 @@ left_before : (q : Search) (format : Format) (given : List Entry) → AreLeftRig
     → AreLeftRightly q format (drop 1 given)
 left_before q format [] left = tt
 left_before q format (Missed name ∷ given) left = left
-left_before q format (Read name bytes Running ∷ given) left = left
+left_before q format (Read name bytes Running ∷ given) left = absurd left
 left_before q format (Read name bytes Ended ∷ given) left = left
 left_before q format (Read name bytes Failed ∷ given) left = left
 left_before q format (Read name bytes Left ∷ given) left = left.1
