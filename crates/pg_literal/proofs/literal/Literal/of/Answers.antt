@@ -65,4 +65,3 @@ returns-in_err-found-clause-enough g c = IfOk-from_err c.from_residual.result _ 
 
 pub returns-in_err-found-clause-fixed : goal.returns-in_err-found-clause-fixed
 returns-in_err-found-clause-fixed g c = IfOk-from_err c.from_residual.result _ c.from_residual.ensures.0
-
