@@ -9,62 +9,58 @@ INSTALL ?= install
 
 program = crates/pargrep/out/pargrep
 
-.PHONY: all check rows check-grep check-workers refuse bench bench-parts install uninstall clean toolchain
+.PHONY: all help check rows check-grep check-workers refuse bench bench-parts install uninstall clean toolchain
 
-# Proves the program and the crates that it uses, and builds it. The program is tried on one line.
-all: toolchain
-	@echo "pargrep: proving and building, which takes a few minutes the first time"
-	@cd crates/pargrep && printf 'ready\n' | $(RT) run -- -F ready - > out.log 2>&1 \
-		|| { cat out.log >&2; rm -f out.log; echo "pargrep: the build failed; what went wrong stands above" >&2; exit 1; }
-	@rm -f crates/pargrep/out.log
+all: toolchain ## Prove the program and the crates that it uses, and build it.
+	@$(PYTHON) tools/build.py $(RT)
 	@echo "pargrep: built $(program)"
 
-# The gate. `rt ci` proves every crate from nothing, tries the wrong bodies, runs the tests and builds the program; then
-# the command lines in tests/rows are run on the program. The last line counts both. The further wrong bodies under
+help: ## List the targets.
+	@sed -n 's/^\([a-z-]*\):.*## \(.*\)/\1\t\2/p' $(MAKEFILE_LIST) | expand -t 16
+
+# `rt ci` proves every crate from nothing, tries the wrong bodies, runs the tests and builds the program; then the
+# command lines in tests/rows are run on the program. The last line counts both. The further wrong bodies under
 # crates/*/refused are looked up in the code.
-check: toolchain
+check: toolchain ## The gate: prove all from nothing, try the wrong bodies, run all tests and rows.
 	@$(PYTHON) tests/gate.py $(RT) ci
 
-# Runs the command lines in tests/rows on the program.
-rows: all
+rows: all ## Run the command lines in tests/rows on the program.
 	@$(PYTHON) tests/run_rows.py
 
-# Asks the machine's own grep the same command lines.
-check-grep:
+check-grep: ## Ask the machine's own grep the same command lines.
 	@$(PYTHON) tests/run_rows.py --grep
 
-# Compares what the program writes by 1, 2, 3, 4 and 64 workers, over a tree of 20,000 files and a file of 256 MB.
-check-workers: all
+check-workers: all ## Compare outputs by 1, 2, 3, 4 and 64 workers, over 20,000 files and over 256 MB.
 	@$(PYTHON) tests/check_workers.py
 
-# Tries the wrong bodies under crates/*/refused, several functions at once. It isn't part of the gate: run it before
-# a change to a function that one of them turns. `make refuse edits="pg_seq pg_lines/long-line-taken"` tries some.
-refuse: toolchain
+# Run it before a change to a function that one of them turns. `make refuse edits="pg_seq pg_lines/long-line-taken"`
+# tries some.
+refuse: toolchain ## Try the wrong bodies under crates/*/refused, which the gate only looks up.
 	@RT="$(RT)" $(PYTHON) tests/refuse.py $(edits)
 
-# Times the program beside GNU grep.
-bench: all
+bench: all ## Time the program beside GNU grep, and ripgrep where there is one.
 	bench/search.sh $(program)
+	bench/lists.sh $(program)
 	bench/tree.sh $(program)
 	bench/memory.sh $(program)
 
-# Times crates by themselves.
-bench-parts: toolchain
+bench-parts: toolchain ## Time the automaton and the walk by themselves.
 	@cd crates/pg_bench && $(RT) run > /dev/null
 	bench/walk.sh crates/pg_bench/out/pg_bench
 	bench/patterns.sh crates/pg_bench/out/pg_bench
 
-install: all
+install: ## Install what `make` has built, with its man page. It proves nothing.
+	@test -x $(program) || { echo "pargrep: there is no $(program) yet: run make first" >&2; exit 1; }
 	$(INSTALL) -d "$(DESTDIR)$(bindir)" "$(DESTDIR)$(mandir)/man1"
 	$(INSTALL) -m 755 $(program) "$(DESTDIR)$(bindir)/pargrep"
 	$(INSTALL) -m 644 docs/man/pargrep.1 "$(DESTDIR)$(mandir)/man1/pargrep.1"
 	@echo "pargrep: installed $(DESTDIR)$(bindir)/pargrep and its man page"
 	@case ":$$PATH:" in *":$(bindir):"*) ;; *) echo "pargrep: $(bindir) is not on your PATH yet" ;; esac
 
-uninstall:
+uninstall: ## Remove what was installed.
 	rm -f "$(DESTDIR)$(bindir)/pargrep" "$(DESTDIR)$(mandir)/man1/pargrep.1"
 
-clean:
+clean: ## Remove what was built and kept.
 	rm -rf crates/*/out
 
 toolchain:
