@@ -12,7 +12,7 @@ loop-alloc-preserved g c =
     let machine = c.args.query.now.machine in
     let scratch = c.in_ok-scratch.scratch in
     let grown = c.in_ok-push.ensures.items in
-    let fits : Fits scratch machine = c.in_ok-scratch.ensures ∙ c.machine.ensures.machine in
+    let fits : Fits scratch machine = c.in_ok-scratch.ensures.fits ∙ c.machine.ensures.machine in
     let P : List Room → Type 0 = λ xs. All (λ s. Fits s machine) xs in (
       omega (arith, ap length grown, length_push old scratch, c.len.ensures, c.loop-alloc-test.true, c.requires.few.0),
       subst P (sym grown) (All-push (λ s. Fits s machine) old scratch c.loop-alloc.invariant.1 fits),
