@@ -8,6 +8,7 @@ use Rattle.std.proofs.lemmas.List.{take_more, take_all, reverse-append, map-appe
 use Rattle.pg_rows.specs.Output.{Left}
 use Rattle.pg_walk.specs.Items.{Found, File as AFile, Fault, path_in}
 use Rattle.pg_files.specs.Given.{Given, NoFile, File, FilesPast, is_reading, newest_name, gave_bytes, gave_end}
+use Rattle.pg_files.specs.Given.{Sources}
 use Rattle.pg_files.specs.Given.{AllGiven, MaySpare, is_output, name_of, shown_name}
 use Rattle.pg_files.specs.Asking.{NextGives, ReadGives, read_given}
 use Rattle.pg_files.specs.Listed.{asked_for, file_paths, of_items, shown, AreOpened, AreSpared}
@@ -224,8 +225,8 @@ module _ {E : Type 0} (view : E → Found) (items : List E) (asked : ℕ) (item 
   opened_by spares (AFile path) step past past' (inr r) are =
       subst (AreOpened (AFile path ∷ so_far)) (sym r.2) (paths_more path so_far (NoFile path r.0) past refl are)
 
-  pub next_opened : (spares : Bool) (step : Step) (past past' : List Given) → Reaches spares (view item) step past past' →
-      AreOpened so_far past → AreOpened (asked_for (asked + 1) (map view items)) past'
+  pub next_opened : (spares : Bool) (step : Step) (past past' : List Given)
+      → Reaches spares (view item) step past past' → AreOpened so_far past → AreOpened (asked_for (asked + 1) (map view items)) past'
   next_opened spares step past past' r are =
       subst (λ found. AreOpened found past') (sym more) (opened_by spares (view item) step past past' r are)
 
@@ -239,16 +240,16 @@ module _ {E : Type 0} (view : E → Found) (items : List E) (asked : ℕ) (item 
       subst (AreSpared spares (AFile path ∷ so_far)) (sym r.2)
       (spared_more spares path so_far (NoFile path r.0) past r.3 are)
 
-  pub next_spared : (spares : Bool) (step : Step) (past past' : List Given) → Reaches spares (view item) step past past' →
-      AreSpared spares so_far past → AreSpared spares (asked_for (asked + 1) (map view items)) past'
+  pub next_spared : (spares : Bool) (step : Step) (past past' : List Given)
+      → Reaches spares (view item) step past past' → AreSpared spares so_far past → AreSpared spares (asked_for (asked + 1) (map view items)) past'
   next_spared spares step past past' r are =
       subst (λ found. AreSpared spares found past') (sym more) (spare_by spares (view item) step past past' r are)
 
   abbrev given : Bool → List Found → List Given → FilesPast
   given done found past = record { given = given_by found past; done = done }
 
-  gives_by : (spares done : Bool) (f : Found) (step : Step) (past past' : List Given) → Reaches spares f step past past' →
-      NextGives step (given done so_far past) (given done (f ∷ so_far) past')
+  gives_by : (spares done : Bool) (f : Found) (step : Step) (past past' : List Given)
+      → Reaches spares f step past past' → NextGives step (given done so_far past) (given done (f ∷ so_far) past')
   gives_by spares done (Fault path cause) step past past' r =
       subst (λ s. NextGives s (given done so_far past) (given done (Fault path cause ∷ so_far) past')) (sym r.0)
       (shown_name path, ap (λ p. given done (Fault path cause ∷ so_far) p) r.1)
@@ -272,11 +273,12 @@ module _ {E : Type 0} (view : E → Found) (items : List E) (asked : ℕ) (item 
   behind_by spares (AFile path) step past past' (inl r) = ap (drop (length (file_paths (AFile path ∷ so_far)))) r.1
   behind_by spares (AFile path) step past past' (inr r) = ap (drop (length (file_paths (AFile path ∷ so_far)))) r.2
 
-  pub next_behind : (spares : Bool) (step : Step) (past past' : List Given) → Reaches spares (view item) step past past' →
-      sources (asked + 1) (map view items) spares past' ≡ sources asked (map view items) spares past
+  pub next_behind : (spares : Bool) (step : Step) (past past' : List Given)
+      → Reaches spares (view item) step past past' → sources (asked + 1) (map view items) spares past' ≡ sources asked (map view items) spares past
   next_behind spares step past past' r =
-      ap (λ found. record { items = map view items; spares = spares; earlier = drop (length (file_paths found)) past' }) more
-      ∙ ap (λ g. record { items = map view items; spares = spares; earlier = g }) (behind_by spares (view item) step past past' r)
+      let source : List Given → Sources = λ g. record { items = map view items; spares = spares; earlier = g } in
+      ap (λ found. source (drop (length (file_paths found)) past')) more
+      ∙ ap source (behind_by spares (view item) step past past' r)
 
   -- and then the newest is called by its path
   pub next_name : (past : List Given) → AreOpened (asked_for (asked + 1) (map view items)) past →

@@ -18,7 +18,8 @@ pub record FilesPast : Type 0 where
   pub given : List Given
   pub done : Bool
 
--- what is looked for, in this order; whether the file that standard output goes to is refused; and what was given before
+-- what is looked for, in this order; whether the file that standard output goes to is refused; and what was given
+-- before
 pub record Sources : Type 0 where
   pub items : List Found
   pub spares : Bool

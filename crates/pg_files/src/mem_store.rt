@@ -5,6 +5,7 @@ ghost use Rattle.pg_files.specs.Asking.{ReadGives};
 ghost use Rattle.pg_files.specs.Store.{Opens};
 
 use crate::files::ReadFault;
+use crate::listed::Listed;
 use crate::past::StorePast;
 use crate::store::{OpenFault, Store};
 use pg_walk::Cause;
@@ -34,6 +35,9 @@ impl Drop for MemFile {
         } = self;
     }
 }
+
+/// Files in memory, given in the order of some items.
+pub type MemFiles = Listed<MemStore>;
 
 /// Files in memory. Standard input is the file at `-`.
 pub struct MemStore {

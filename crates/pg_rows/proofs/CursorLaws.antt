@@ -64,5 +64,5 @@ module _ (q : Search) (format : Format) (name : List ℕ) (earlier : Bool) where
       ∙ (part_more pieces ls ms ∙ ap (λ xs. xs ++ part_behind pieces ls ms) (part_whole pieces ls)))
 
 pub trail_tells : (q : Search) (format : Format) (mode : Mode) (ls : List (List ℕ)) → HasRoom format
-    → trail_suffices mode format (trail_of q format ls) ≡ lines_suffice mode q format ls
+    → trail_suffices q.text.pieces mode format (trail_of q format ls) ≡ lines_suffice mode q format ls
 trail_tells q format mode ls room = sym (suffice_by q format room mode ls (trail_of q format ls) (trail_is q format ls))

@@ -28,15 +28,17 @@ module _ (q : Search) (format : Format) (room : HasRoom format) where
       → is_full q format ls ≡ not (is_below t.kept format.limit)
   full_by ls t h = ap not (below_same format.limit t.kept (count_by (selects q) ls) h.quota)
 
-  trailed_by : (ls : List (List ℕ)) (t : Trail) → IsTrail q format ls t → is_trailed q format ls ≡ nat_lt 0 t.countdown
-  trailed_by ls t h = h.near.coming (length ls) (omega arith) ∙ more_by (length ls) t.countdown
+  trailed_by : (ls : List (List ℕ)) (t : Trail) → IsTrail q format ls t
+      → is_trailed q format ls ≡ (not q.text.pieces && nat_lt 0 t.countdown)
+  trailed_by ls t h =
+      ap (λ b. not q.text.pieces && b) (h.near.coming (length ls) (omega arith) ∙ more_by (length ls) t.countdown)
 
   selected_by : (ls : List (List ℕ)) (t : Trail) → IsTrail q format ls t → list_any (selects q) ls ≡ nat_lt 0 t.kept
   selected_by ls t h = some_counted q ls ∙ kept_some format.limit t.kept (count_by (selects q) ls) room h.quota
 
   -- the lines suffice where what is remembered of them says so
   pub suffice_by : (m : Mode) (ls : List (List ℕ)) (t : Trail) → IsTrail q format ls t
-      → lines_suffice m q format ls ≡ trail_suffices m format t
+      → lines_suffice m q format ls ≡ trail_suffices q.text.pieces m format t
   suffice_by Rows ls t h =
       ap (λ b. b && not (is_trailed q format ls)) (full_by ls t h)
       ∙ ap (λ b. not (is_below t.kept format.limit) && not b) (trailed_by ls t h)

@@ -14,9 +14,9 @@ use Rattle.pg_rows.specs.Trail.{Trail}
 abbrev pub is_full : Search → Format → List (List ℕ) → Bool
 is_full q format ls = not (is_below (count_by (selects q) ls) format.limit)
 
--- a line behind these would be shown as the context of one of them
+-- a line behind these would be shown as the context of one of them; where parts are shown, none is (GNU grep, -o)
 abbrev pub is_trailed : Search → Format → List (List ℕ) → Bool
-is_trailed q format ls = is_shown q format ls (length ls)
+is_trailed q format ls = not q.text.pieces && is_shown q format ls (length ls)
 
 -- no line behind these changes what a file gives
 abbrev pub lines_suffice : Mode → Search → Format → List (List ℕ) → Bool
@@ -38,9 +38,11 @@ abbrev pub is_enough : Search → Format → List Entry → Bool
 is_enough q format entries =
     if is_quiet format.mode then list_any (has_selected q) entries else file_suffices q format entries
 
--- the same for code that reads line by line: by what is remembered of the open file's lines
-abbrev pub trail_suffices : Mode → Format → Trail → Bool
-trail_suffices Rows format t = not (is_below t.kept format.limit) && not (nat_lt 0 t.countdown)
-trail_suffices Count format t = not (is_below t.kept format.limit)
-trail_suffices Names format t = nat_lt 0 t.kept
-trail_suffices Quiet format t = nat_lt 0 t.kept
+-- the same for code that reads line by line: by whether parts are shown, and what is remembered of the open file's
+-- lines
+abbrev pub trail_suffices : Bool → Mode → Format → Trail → Bool
+trail_suffices pieces Rows format t =
+    not (is_below t.kept format.limit) && not (not pieces && nat_lt 0 t.countdown)
+trail_suffices pieces Count format t = not (is_below t.kept format.limit)
+trail_suffices pieces Names format t = nat_lt 0 t.kept
+trail_suffices pieces Quiet format t = nat_lt 0 t.kept

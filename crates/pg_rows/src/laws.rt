@@ -26,5 +26,5 @@ pub fn blocks_give_the_rows()
 /// What is remembered of a file's lines tells whether they suffice. The limit of the format isn't 0.
 pub fn trails_tell_enough()
     ensures { (q : Search) (format : Format) (mode : Mode) (ls : List (List ℕ)) → HasRoom format →
-        trail_suffices mode format (trail_of q format ls) ≡ lines_suffice mode q format ls }
+        trail_suffices q.text.pieces mode format (trail_of q format ls) ≡ lines_suffice mode q format ls }
 {}

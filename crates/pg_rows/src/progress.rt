@@ -93,14 +93,16 @@ impl Progress {
         }
     }
 
-    /// Whether no line behind these changes what the file gives.
-    pub fn suffices(self, format: &Format) -> bool
+    /// Whether no line behind these changes what the file gives, where `pieces` says whether the matched parts of lines
+    /// are shown and not the lines. Parts have no context.
+    pub fn suffices(self, format: &Format, pieces: bool) -> bool
         ensures { (t : Trail) → Tells self format.now t →
-            result ≡ trail_suffices format.now.mode format.now t }
+            result ≡ trail_suffices pieces format.now.mode format.now t }
     {
         let is_full = self.room(format) == Some(0);
+        let is_trailed = !pieces && self.countdown > 0;
         match format.mode {
-            Mode::Rows => is_full && self.countdown == 0,
+            Mode::Rows => is_full && !is_trailed,
             Mode::Count => is_full,
             Mode::List | Mode::Quiet => self.kept > 0,
         }

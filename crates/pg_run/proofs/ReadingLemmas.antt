@@ -333,11 +333,16 @@ module _ {A : Type 0} {reader : FileReader A} {aim : Aim} {given : List Given} {
         reads = subst R (sym same) h.reads;
       }
 
+  -- nothing was read or taken
+  pub recut_by : (reader' : FileReader A) → CutterStands reader'.cutter h.fed → reader'.came ≡ reader.came
+      → HasCut reader' aim given steps
+  recut_by reader' stands came =
+      let F : List BlockData → Type 0 = λ bs. CutterStands reader'.cutter (record h.fed { taken = bs }) in
+      none_taken reader' came (subst F (sym (append-nil h.fed.taken)) stands)
+
   pub recut : (reader' : FileReader A) → reader'.cutter ≡ reader.cutter → reader'.came ≡ reader.came
       → HasCut reader' aim given steps
-  recut reader' cutter came =
-      let F : List BlockData → Type 0 = λ bs. CutterStands reader'.cutter (record h.fed { taken = bs }) in
-      none_taken reader' came (subst F (sym (append-nil h.fed.taken)) (stands_by h.fed cutter h.cut))
+  recut reader' cutter came = recut_by reader' (stands_by h.fed cutter h.cut) came
 
   -- The last block.
 

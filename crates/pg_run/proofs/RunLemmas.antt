@@ -14,7 +14,8 @@ use Rattle.pg_walk.specs.declared.item.Cause.TheVariants.{ReadFailed}
 use Rattle.pg_rows.specs.declared.format.Format.{Format}
 use Rattle.pg_rows.specs.declared.format.Mode.{Mode}
 use Rattle.pg_rows.specs.declared.format.Mode.TheVariants.{Rows, Count, List as Names, Quiet}
-use Rattle.pg_rows.specs.Output.{Entry, Missed, Read, Running, Ended, Failed, Left, output, status, when, is_quiet, has_selected}
+use Rattle.pg_rows.specs.Output.{Entry, Missed, Read, Running, Ended, Failed, Left, output, status, when, is_quiet}
+use Rattle.pg_rows.specs.Output.{has_selected}
 use Rattle.pg_rows.specs.Output.{file_rows, rows_in, line_rows, piece_rows, is_nothing}
 use Rattle.pg_rows.specs.Enough.{is_enough, file_suffices}
 use Rattle.pg_rows.specs.Sink.{TakesPart}

@@ -110,8 +110,9 @@ earlier_given past = entries_given (drop 1 past.given)
 
 -- A run broke off by a fault that has its cause: its output is a beginning of that of every list of files that goes on
 -- from what was given, and the fault lines are a beginning of those of what was given. Where a file is at fault,
--- nothing is lost of those before it. Each file before the newest was read to its end, but where lines at its front were
--- enough, and with -q no line of these was selected. Nothing was asked for or written where the patterns spell no trees.
+-- nothing is lost of those before it. Each file before the newest was read to its end, but where lines at its front
+-- were enough, and with -q no line of these was selected. Nothing was asked for or written where the patterns spell no
+-- trees.
 pub record BreaksOff (text : SearchText) (setup : Setup) (past : FilesPast) (out out' told told' : Stream)
     (fault : RunFault) : Type 0 where
   pub cause : HasCause fault text setup past out out' told told'

@@ -1,5 +1,5 @@
 //! Searches blocks, one after another or in rounds.
-ghost use Rattle.std.specs.Prelude.{◌≡◌, ◌-◌, ◌<◌, ◌≤◌, ◌∷◌, ◌^◌, List, [], All, true, false, length};
+ghost use Rattle.std.specs.Prelude.{◌≡◌, ◌+◌, ◌-◌, ◌<◌, ◌≤◌, ◌∷◌, ◌^◌, List, [], All, true, false, length};
 ghost use Rattle.std.specs.Prelude.{IfOk, OnOk, IfErr};
 ghost use Rattle.std.specs.Arc.{arc_value};
 ghost use Rattle.pg_match.specs.Machines.{Fits};
@@ -8,6 +8,7 @@ ghost use Rattle.pg_rows.specs.Output.{status};
 ghost use Rattle.pg_run.specs.Endless.{is_endless};
 
 use crate::fault::RunFault;
+use crate::pace::{Pace, time};
 use crate::setup::Setup;
 use pg_lines::{Block, Cutter, Query, Scratch, search_block};
 use pg_round::{Gate, NothingToRead, Reader, search_round};
@@ -40,6 +41,8 @@ pub(crate) struct Engine<A: Allocator + Copy = Global> {
     scratches: Vec<Scratch<A>, A>,
     /// Whether blocks wait for a round.
     spread: bool,
+    /// How fast the last blocks were searched.
+    pace: Pace,
     /// The blocks that wait.
     round: Vec<Arc<Block<A>, A>, A>,
     sequencer: Sequencer<A>,
@@ -63,6 +66,7 @@ impl<A: Allocator + Copy> Drop for Engine<A> {
             scratch: _,
             scratches: _,
             spread: _,
+            pace: _,
             round: _,
             sequencer: _,
             spare: _,
@@ -87,30 +91,54 @@ fn is_slow<A: Allocator>(query: &Query<A>) -> bool {
             .any(|literal| !literal.is_enough && literal.text.len() < RARE)
 }
 
-/// Whether blocks are to wait for a round: where several threads may search, and that pays.
-fn is_spread<A: Allocator>(query: &Query<A>, setup: &Setup) -> bool
+/// Whether blocks are to wait for a round: where several threads may search, and that pays, by how fast the last
+/// blocks were searched, or where too few were, by the query.
+fn is_spread<A: Allocator>(query: &Query<A>, setup: &Setup, pace: Pace) -> bool
     ensures { result ≡ true → is_endless setup.now.format ≡ true }
 {
-    let pays = setup.always_spread || is_slow(query);
+    let pays = setup.always_spread || pace.is_slow.unwrap_or(is_slow(query));
     pays && setup.workers > 0 && setup.round > 1 && is_endless(setup.format)
 }
 
-/// Makes scratches for a query until there are so many, at most 65.
+/// Makes one more scratch for a query. There are fewer than 65.
+fn add_scratch<A: Allocator + Copy>(
+    alloc: A,
+    query: &Query<A>,
+    scratches: &mut Vec<Scratch<A>, A>,
+) -> Result<(), AllocError>
+    requires few { length scratches.old.items < 65 }
+    requires fits { All (λ s. Fits s query.now.machine) scratches.old.items }
+    ensures more { OnOk result (length scratches.new.items ≡ length scratches.old.items + 1) }
+    ensures few { length scratches.new.items ≤ 65 }
+    ensures fits { All (λ s. Fits s query.now.machine) scratches.new.items }
+{
+    let scratch = Scratch::new(alloc, query.machine())?;
+    scratches.push(scratch)?;
+    Ok(())
+}
+
+/// Makes scratches for a query until there are so many, 1 to 65. Where memory is refused, the thread that would have
+/// needed it is given up, but one scratch there has to be.
 fn equip<A: Allocator + Copy>(
     alloc: A,
     query: &Query<A>,
     scratches: &mut Vec<Scratch<A>, A>,
     count: usize,
 ) -> Result<(), AllocError>
-    requires few { (count ≤ 65) × (length scratches.old.items ≤ 65) }
+    requires few { (0 < count) × (count ≤ 65) × (length scratches.old.items ≤ 65) }
     requires fits { All (λ s. Fits s query.now.machine) scratches.old.items }
-    ensures enough { OnOk result (count ≤ length scratches.new.items) }
+    ensures some { OnOk result (0 < length scratches.new.items) }
     ensures few { length scratches.new.items ≤ 65 }
     ensures fits { All (λ s. Fits s query.now.machine) scratches.new.items }
 {
     while scratches.len() < count {
-        let scratch = Scratch::new(alloc, query.machine())?;
-        scratches.push(scratch)?;
+        if let Err(refusal) = add_scratch(alloc, query, scratches) {
+            return if scratches.is_empty() {
+                Err(refusal)
+            } else {
+                Ok(())
+            };
+        }
     }
     Ok(())
 }
@@ -136,7 +164,8 @@ impl<A: Allocator + Copy> Engine<A> {
             aim.setup ≡ setup → Holds engine aim [] aim.out) }
     {
         let query = Arc::new(alloc, query)?;
-        let spread = is_spread(&query, &setup);
+        let pace = Pace::new();
+        let spread = is_spread(&query, &setup, pace);
         let sequencer = Sequencer::new(alloc, Arc::try_clone(&query)?, setup.format)?;
         let scratch = Scratch::new(alloc, query.machine())?;
         Ok(Engine {
@@ -147,6 +176,7 @@ impl<A: Allocator + Copy> Engine<A> {
             scratch,
             scratches: Vec::new(alloc),
             spread,
+            pace,
             round: Vec::new(alloc),
             sequencer,
             spare: None,
@@ -210,8 +240,9 @@ impl<A: Allocator + Copy> Engine<A> {
 
     /// Searches the open file's next block and writes what may be written, or has the block wait where blocks
     /// are searched in rounds. There is room for it, and it may follow on those before it.
-    pub(crate) fn search<W: Sink, G: Gate>(
+    pub(crate) fn search<R: Clock, W: Sink, G: Gate>(
         &mut self,
+        rt: &R,
         gate: &G,
         block: Block<A>,
         out: &mut W,
@@ -234,9 +265,13 @@ impl<A: Allocator + Copy> Engine<A> {
             self.add(block)?;
             return Ok(());
         }
+        let len = block.bytes.len();
+        let begun = time(rt);
         let kept = self.take(gate, block)?;
+        let pace = self.pace.after(rt, begun, len, 1);
         self.drain(out)?;
         self.spare = memory_of(kept);
+        self.pace = pace;
         Ok(())
     }
 
@@ -262,14 +297,29 @@ impl<A: Allocator + Copy> Engine<A> {
         self.spare.take()
     }
 
-    /// How many threads are to search the blocks that wait, beside the calling one.
-    fn workers(&self) -> u32
-        ensures { result ≤ 64 }
+    /// Decides anew whether blocks are to wait for a round, unless some wait.
+    pub(crate) fn choose(&mut self)
+        ensures holds { (aim : Aim) → (steps : List Step) → (out : Stream) → Holds self.old aim steps out →
+            Holds self.new aim steps out }
     {
+        if self.round.is_empty() {
+            self.spread = is_spread(&self.query, &self.setup, self.pace);
+        }
+    }
+
+    /// How many bytes wait.
+    fn waiting(&self) -> usize {
         let mut bytes = 0usize;
         for block in &self.round {
             bytes = bytes.saturating_add(block.bytes.len());
         }
+        bytes
+    }
+
+    /// How many threads are to search so many bytes, beside the calling one.
+    fn workers(&self, bytes: usize) -> u32
+        ensures { result ≤ 64 }
+    {
         if self.setup.always_spread || bytes >= LEAST_SPREAD {
             self.setup.workers
         } else {
@@ -374,7 +424,9 @@ impl<A: Allocator + Copy + Send + Sync> Engine<A> {
             Holds self.old aim steps (stream (W.taken out.old) (W.failures out.old)) →
             IfErr result (Broke aim steps (stream (W.taken out.new) (W.failures out.new))) }
     {
-        let workers = self.workers();
+        let bytes = self.waiting();
+        let workers = self.workers(bytes);
+        let begun = time(rt);
         let mut scratches = mem::replace(&mut self.scratches, Vec::new(self.alloc));
         equip(
             self.alloc,
@@ -395,6 +447,7 @@ impl<A: Allocator + Copy + Send + Sync> Engine<A> {
             from,
             gate,
         )?;
+        self.pace = self.pace.after(rt, begun, bytes, workers + 1);
         self.scratches = scratches;
         self.round.clear();
         Ok(())

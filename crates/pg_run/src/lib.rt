@@ -3,6 +3,7 @@
 
 mod engine;
 mod fault;
+mod pace;
 mod reader;
 mod reading;
 mod running;
@@ -10,7 +11,10 @@ mod setup;
 mod telling;
 
 pub use fault::RunFault;
-pub use pg_round::{FreeGate, Gate};
+pub use pg_files::{Files, MemFiles, ReadFault, Step};
+pub use pg_lines::QueryText;
+pub use pg_round::{FreeGate, Gate, Round, work};
+pub use pg_rows::{Format, MemSink, Mode, Out, Sink};
 pub use running::run;
 pub use setup::Setup;
 pub use telling::tell;

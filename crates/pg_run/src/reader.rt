@@ -1,5 +1,5 @@
 //! Reads the open file, and cuts what comes into blocks.
-ghost use Rattle.std.specs.Prelude.{◌≡◌, ◌<◌, List, length, IfSome, IfNone, OnOk};
+ghost use Rattle.std.specs.Prelude.{◌≡◌, ◌<◌, List, vec_len, length, IfSome, IfNone, OnOk};
 ghost use Rattle.pg_lines.specs.Cutter.{Stands as CutterStands, Fed, IsDrained, IsNextBlock, AreAllBlocks, handed};
 ghost use Rattle.pg_lines.specs.Cutter.{Keeps, room_of};
 
@@ -22,6 +22,12 @@ pub(crate) enum Came {
     Refused(CutFault),
 }
 
+/// So many reads of each file are copied: of a small file the one that gives its bytes and the one that finds its end.
+const COPIED_READS: u32 = 2;
+
+/// The most bytes of a read that is copied.
+const MOST_COPIED: usize = 65_536;
+
 /// Reads the open file, and cuts what comes into blocks.
 pub(crate) struct FileReader<A: Allocator + Copy = Global> {
     alloc: A,
@@ -32,6 +38,11 @@ pub(crate) struct FileReader<A: Allocator + Copy = Global> {
     pub(crate) came: Came,
     /// So many more reads may be made beside a search.
     pub(crate) ahead: u32,
+    /// What the first reads of each file are read into: it is cleared once a run, and the cutter's own room, which is
+    /// cleared for each file, only where a file is longer. It is empty where memory for it was refused.
+    buffer: Vec<u8, A>,
+    /// So many more reads of the open file go through the buffer.
+    copied_reads: u32,
 }
 
 impl<A: Allocator + Copy> Drop for FileReader<A> {
@@ -42,6 +53,8 @@ impl<A: Allocator + Copy> Drop for FileReader<A> {
             spare: _,
             came: _,
             ahead: _,
+            buffer: _,
+            copied_reads: _,
         } = self;
     }
 }
@@ -51,20 +64,31 @@ fn no_cutter<A: Allocator + Copy>(alloc: A) -> Cutter<A> {
     Cutter::new(alloc, 0, 1, 1, 0)
 }
 
+/// A buffer of so many bytes, but of no more than are copied; an empty one where memory for it is refused.
+fn buffer_of<A: Allocator + Copy>(alloc: A, len: usize) -> Vec<u8, A> {
+    let mut buffer = Vec::new(alloc);
+    match buffer.resize(len.min(MOST_COPIED), 0) {
+        Ok(()) => buffer,
+        Err(_) => Vec::new(alloc),
+    }
+}
+
 impl<A: Allocator + Copy> FileReader<A> {
     ghost use Rattle.pg_seq.specs.Plan.{Step};
     ghost use Rattle.pg_run.specs.Holding.{Aim};
     ghost use Rattle.pg_run.specs.Reading.{HasCut, ReadsOn};
     ghost use Rattle.pg_run.specs.declared.reader.Came.TheVariants.{More};
 
-    /// A reader of no file.
-    pub(crate) fn new(alloc: A) -> FileReader<A> {
+    /// A reader of no file, for blocks of so many bytes.
+    pub(crate) fn new(alloc: A, block: u32) -> FileReader<A> {
         FileReader {
             alloc,
             cutter: no_cutter(alloc),
             spare: None,
             came: Came::End,
             ahead: 0,
+            buffer: buffer_of(alloc, block as usize),
+            copied_reads: 0,
         }
     }
 
@@ -85,6 +109,7 @@ impl<A: Allocator + Copy> FileReader<A> {
     {
         self.cutter = cutter;
         self.came = Came::More;
+        self.copied_reads = COPIED_READS;
     }
 
     /// Sees that the cutter has room for what is read next.
@@ -99,8 +124,28 @@ impl<A: Allocator + Copy> FileReader<A> {
         self.cutter.make_room()
     }
 
-    /// Reads once, and cuts what came. The file may be read further.
-    pub(crate) fn read<F: Files>(&mut self, files: &mut F)
+    /// Reads once, into the buffer, and cuts what came. The file may be read further.
+    fn read_copied<F: Files>(&mut self, files: &mut F)
+        requires room { 0 < vec_len self.old.buffer }
+        requires more { self.old.came ≡ More }
+        requires cut { (aim : Aim) × (steps : List Step) × HasCut self.old aim (F.past files.old).given steps }
+        ensures { ReadsOn F.past F.list self.old files.old self.new files.new }
+    {
+        let Ok(len) = files.read(self.buffer.as_mut_slice()) else {
+            self.came = Came::Failure;
+            return;
+        };
+        if len == 0 {
+            self.came = Came::End;
+            return;
+        }
+        if let Err(why) = self.cutter.feed(&self.buffer[..len]) {
+            self.came = Came::Refused(why);
+        }
+    }
+
+    /// Reads once, into the cutter's own room, and cuts what came. The file may be read further.
+    fn read_in_place<F: Files>(&mut self, files: &mut F)
         requires more { self.old.came ≡ More }
         requires cut { (aim : Aim) × (steps : List Step) × HasCut self.old aim (F.past files.old).given steps }
         ensures { ReadsOn F.past F.list self.old files.old self.new files.new }
@@ -120,6 +165,20 @@ impl<A: Allocator + Copy> FileReader<A> {
         if let Err(fault) = self.cutter.fill(count) {
             self.came = Came::Refused(fault);
         }
+    }
+
+    /// Reads once, and cuts what came. The file may be read further.
+    pub(crate) fn read<F: Files>(&mut self, files: &mut F)
+        requires more { self.old.came ≡ More }
+        requires cut { (aim : Aim) × (steps : List Step) × HasCut self.old aim (F.past files.old).given steps }
+        ensures { ReadsOn F.past F.list self.old files.old self.new files.new }
+    {
+        if self.copied_reads == 0 || self.buffer.is_empty() {
+            self.read_in_place(files);
+            return;
+        }
+        self.copied_reads -= 1;
+        self.read_copied(files);
     }
 
     /// The next block that is cut.
@@ -158,7 +217,12 @@ impl<A: Allocator + Copy, F: Files> Reader<F> for FileReader<A> {
         if self.ahead == 0 || self.came != Came::More {
             return false;
         }
-        self.ahead -= 1;
+        if self.make_room().is_err() {
+            // There may be memory once the round's threads have ended.
+            self.ahead = 0;
+            return false;
+        }
+        self.ahead = self.ahead.saturating_sub(1);
         self.read(files);
         true
     }

@@ -97,7 +97,7 @@ fn search_ready<
         let Some(block) = reader.take() else {
             return Ok(());
         };
-        engine.search(gate, block, out)?;
+        engine.search(rt, gate, block, out)?;
     }
     unreachable!()
 }
@@ -132,13 +132,15 @@ fn settle<
     Ok(())
 }
 
-/// Gives the memory of the block that was searched last back to the reader.
+/// Gives the memory of the block that was searched last back to the reader, and has the engine decide how it searches
+/// the next ones.
 fn recycle<A: Allocator + Copy>(reader: &mut FileReader<A>, engine: &mut Engine<A>)
     ensures came { reader.new.came ≡ reader.old.came }
     ensures in_file { (aim : Aim) → (given : List Given) → (out : Stream) →
         InFile reader.old engine.old aim given out → InFile reader.new engine.new aim given out }
 {
     reader.give_back(engine.take_spare());
+    engine.choose();
 }
 
 /// Reads once, and searches the blocks that this finishes. What waits is searched before a read that may wait.
@@ -180,7 +182,8 @@ fn read_once<
 }
 
 /// Searches what is left once the file can't go on.
-fn search_last<A: Allocator + Copy + Send + Sync, W: Sink, G: Gate>(
+fn search_last<R: Clock, A: Allocator + Copy + Send + Sync, W: Sink, G: Gate>(
+    rt: &R,
     gate: &G,
     reader: &mut FileReader<A>,
     engine: &mut Engine<A>,
@@ -200,13 +203,14 @@ fn search_last<A: Allocator + Copy + Send + Sync, W: Sink, G: Gate>(
         IfErr result (Breaks aim given (stream (W.taken out.new) (W.failures out.new))) }
 {
     match reader.finish() {
-        Some(block) => engine.search(gate, block, out),
+        Some(block) => engine.search(rt, gate, block, out),
         None => Ok(()),
     }
 }
 
 /// Ends a file that can't go on, and answers whether a read failed.
-fn finish_file<A: Allocator + Copy + Send + Sync, W: Sink, G: Gate>(
+fn finish_file<R: Clock, A: Allocator + Copy + Send + Sync, W: Sink, G: Gate>(
+    rt: &R,
     gate: &G,
     reader: &mut FileReader<A>,
     engine: &mut Engine<A>,
@@ -225,7 +229,7 @@ fn finish_file<A: Allocator + Copy + Send + Sync, W: Sink, G: Gate>(
         InFile reader.old engine.old aim given (stream (W.taken out.old) (W.failures out.old)) →
         IfErr result (Breaks aim given (stream (W.taken out.new) (W.failures out.new))) }
 {
-    search_last(gate, reader, engine, failed, out)?;
+    search_last(rt, gate, reader, engine, failed, out)?;
     engine.end(failed);
     Ok(failed)
 }
@@ -269,8 +273,8 @@ pub(crate) fn read_file<
         read_once(rt, gate, reader, engine, files, out)?;
         match reader.came {
             Came::More => {}
-            Came::End => return finish_file(gate, reader, engine, false, out),
-            Came::Failure => return finish_file(gate, reader, engine, true, out),
+            Came::End => return finish_file(rt, gate, reader, engine, false, out),
+            Came::Failure => return finish_file(rt, gate, reader, engine, true, out),
             Came::Refused(fault) => {
                 let fault = RunFault::from(fault);
                 return Err(engine.break_off(rt, gate, fault, out));

@@ -307,7 +307,7 @@ fn search_files<
         IfErr result (StopsBehind aim (F.past files.new).given (stream (W.taken out.new) (W.failures out.new))
         (stream (E.taken faults.new) (E.failures faults.new))) }
 {
-    let mut reader = FileReader::new(engine.alloc);
+    let mut reader = FileReader::new(engine.alloc, engine.setup.block);
     all_files(rt, gate, engine, files, &mut reader, out, faults)?;
     let status = engine.finish(rt, gate, out)?;
     Ok(status)

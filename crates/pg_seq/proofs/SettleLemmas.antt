@@ -1,6 +1,6 @@
 -- Lines behind those that suffice give nothing.
 use Rattle.std.proofs.Common.{◌≡◌, ℕ, ◌+◌, ◌<◌, ◌≤◌, inl, inr, Bool, true, false, not, cond, nat_lt}
-use Rattle.std.proofs.Common.{Option, Some, None, List, [], ◌∷◌, ◌++◌, length, refl, sym, ap, ◌∙◌, arith}
+use Rattle.std.proofs.Common.{◌&&◌, Option, Some, None, List, [], ◌∷◌, ◌++◌, length, refl, sym, ap, ◌∙◌, arith}
 use Rattle.std.specs.List.{list_any, count_by}
 use Rattle.std.specs.Fmt.{decimal}
 use Rattle.std.proofs.lemmas.Bool.{false≢true, not-true, or_left, lt-ltb, le-ltb, ltb-true, ltb-false}
@@ -15,7 +15,7 @@ use Rattle.pg_rows.specs.declared.format.Format.{Format}
 use Rattle.pg_rows.specs.declared.format.Mode.{Mode}
 use Rattle.pg_rows.specs.declared.format.Mode.TheVariants.{Rows, Count, List as Names, Quiet}
 use Rattle.pg_rows.specs.Output.{HasRoom, is_below, when, row, file_rows, rows_in, line_rows, piece_rows}
-use Rattle.pg_rows.specs.Output.{count_row, name_row}
+use Rattle.pg_rows.specs.Output.{count_row, name_row, is_shown}
 use Rattle.pg_rows.specs.Trail.{Trail, step, run, run_rows, run_pieces, keeps, after_kept, after_context}
 use Rattle.pg_rows.specs.Trail.{after_other, kept_rows, pieces_in, trail_of}
 use Rattle.pg_rows.specs.Enough.{is_full, is_trailed, lines_suffice}
@@ -75,7 +75,7 @@ module _ (q : Search) (format : Format) where
       let count = count_by (selects q) ls in
       spent_by format.limit t.kept count h.quota (not-true (is_below count format.limit) e)
 
-  untrailed_done : (ls : List (List ℕ)) (t : Trail) → IsTrail q format ls t → is_trailed q format ls ≡ false
+  untrailed_done : (ls : List (List ℕ)) (t : Trail) → IsTrail q format ls t → is_shown q format ls (length ls) ≡ false
       → nat_lt 0 t.countdown ≡ false
   untrailed_done ls t h e =
       let n = length ls in
@@ -128,7 +128,8 @@ module _ (q : Search) (format : Format) where
     abbrev h : IsTrail q format ls t
     h = trail_is q format ls
 
-    rows_settled : (name : List ℕ) (earlier : Bool) → is_full q format ls ≡ true → is_trailed q format ls ≡ false
+    rows_settled : (name : List ℕ) (earlier : Bool) → is_full q format ls ≡ true
+        → is_shown q format ls (length ls) ≡ false
         → line_rows q format name (ls ++ ms) earlier ≡ line_rows q format name ls earlier
     rows_settled name earlier full e =
         let rows = line_rows q format name ls earlier in
@@ -162,12 +163,13 @@ module _ (q : Search) (format : Format) where
 
     part_settled : (name : List ℕ) (earlier : Bool) → is_full q format ls ≡ true → is_trailed q format ls ≡ false
         → line_part name (ls ++ ms) earlier ≡ line_part name ls earlier
-    part_settled name earlier full e = go q.text.pieces
+    part_settled name earlier full = go q.text.pieces
       where
-        go : (b : Bool) → cond b (piece_rows q format name (ls ++ ms)) (line_rows q format name (ls ++ ms) earlier)
+        go : (b : Bool) → (not b && is_shown q format ls (length ls)) ≡ false
+            → cond b (piece_rows q format name (ls ++ ms)) (line_rows q format name (ls ++ ms) earlier)
             ≡ cond b (piece_rows q format name ls) (line_rows q format name ls earlier)
-        go true = pieces_settled name full
-        go false = rows_settled name earlier full e
+        go true e = pieces_settled name full
+        go false e = rows_settled name earlier full e
 
     in_mode : (m : Mode) (name : List ℕ) (ended earlier : Bool) → lines_suffice m q format ls ≡ true →
         rows_in m (line_part name (ls ++ ms) earlier) (when ended (count_row q format name (ls ++ ms)))

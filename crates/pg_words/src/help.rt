@@ -42,7 +42,8 @@ Files:
   -a, --text                 no effect: every file is text
 
 Work, which changes no output:
-      --workers=N            N threads, 1 to 64 (default 4)
+      --workers=N            N threads beside the one that reads, 1 to 64
+                             (default 4)
       --block=N              blocks of N bytes, 1 to 16,777,216 (default 65,536)
       --round=N              rounds of N blocks, 1 to 1,024 (default 64)
 

@@ -3,7 +3,8 @@ use Rattle.std.proofs.lemmas.Result.{IfOk-at_ok, err_from_is_err_and}
 use Rattle.pg_lines.specs.Searched.{Searched}
 use Rattle.pg_round.specs.Receipts.{HasReceived}
 use Rattle.pg_round.specs.Reading.{HasGoneOn}
-use Rattle.pg_round.proofs.ReceiptLemmas.{received_none, failed_after, took_ok, took_err, no_fault, no_memory_fault, no_sink_fault}
+use Rattle.pg_round.proofs.ReceiptLemmas.{received_none, failed_after, took_ok, took_err, no_fault, no_memory_fault}
+use Rattle.pg_round.proofs.ReceiptLemmas.{no_sink_fault}
 use Rattle.pg_round.proofs.searching.search_beside.Goals as goal
 
 pub returns-then-len-lt2 : goal.returns-then-len-lt2

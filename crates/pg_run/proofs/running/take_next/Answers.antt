@@ -18,7 +18,8 @@ returns-in_err-next-clause-err g c = λ aim rests.
     let P : FilesPast → Type 0 = λ p. Stops aim p.given out told OutOfMemory in
     err_by c.from_residual.result (Stops aim (g.F.Files.past c.next.new.self).given out told) OutOfMemory
     c.from_residual.ensures.1
-    (subst P (sym c.in_err-next.ensures.err) (stops_memory aim given out told (between_safe rests.0) rests.0.holds.calm rests.1))
+    (subst P (sym c.in_err-next.ensures.err)
+    (stops_memory aim given out told (between_safe rests.0) rests.0.holds.calm rests.1))
 
 pub returns-in_ok-miss-in-Miss-clause-ok : goal.returns-in_ok-miss-in-Miss-clause-ok
 returns-in_ok-miss-in-Miss-clause-ok g c = λ aim rests.

@@ -1,4 +1,4 @@
-use Rattle.std.proofs.Common.{◌≡◌, ◌+◌, ◌<◌, ◌≤◌, ◌∙◌, ℕ, ap, length, List, map, arith, refl, subst, sym}
+use Rattle.std.proofs.Common.{◌≡◌, ◌<◌, ◌≤◌, ◌∙◌, ℕ, ap, length, List, map, arith, refl, subst, sym}
 use Rattle.std.specs.List.{All}
 use Rattle.std.specs.Arc.{arc_value}
 use Rattle.std.specs.declared.sync.Arc.{Arc}
@@ -95,8 +95,8 @@ invariant_of-self-2 g c =
 few_blocks : (blocks waiting round : ℕ) → blocks ≡ waiting → waiting ≤ round → round ≤ 1024 → blocks ≤ 1024
 few_blocks blocks waiting round same few in_range = omega arith
 
-some_scratch : (workers len scratches : ℕ) → len ≡ scratches → workers + 1 ≤ scratches → 0 < len
-some_scratch workers len scratches same enough = omega arith
+some_scratch : (len scratches : ℕ) → len ≡ scratches → 0 < scratches → 0 < len
+some_scratch len scratches same some = omega arith
 
 few_scratches : (len scratches : ℕ) → len ≡ scratches → scratches ≤ 65 → len ≤ 65
 few_scratches len scratches same few = omega arith
@@ -111,7 +111,7 @@ pub search_round-requires-clause-few : goal.search_round-requires-clause-few
 search_round-requires-clause-few g c κs within =
     let engine = c.args.self.now in
     let scratches = c.equip.new.scratches in (
-      some_scratch c.workers-workers.result _ _ scratches.ok.0 c.in_ok-equip.ensures.enough,
+      some_scratch _ _ scratches.ok.0 c.in_ok-equip.ensures.some,
       few_scratches _ _ scratches.ok.0 c.in_ok-equip.ensures.few,
       few_blocks _ _ engine.setup.round (ap length c.deref-2.ensures.value) engine.few engine.setup.round_in_range.1,
       c.workers-workers.ensures,

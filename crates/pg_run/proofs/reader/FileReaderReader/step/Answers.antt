@@ -1,25 +1,48 @@
-use Rattle.std.proofs.Common.{◌∙◌, refl, sym}
-use Rattle.pg_run.proofs.ReadingLemmas.{recut}
+use Rattle.std.proofs.Common.{◌∙◌}
+use Rattle.pg_run.proofs.ReadingLemmas.{recut_by}
 use Rattle.pg_run.proofs.reader.FileReaderReader.step.Goals as goal
 
 pub read-requires-clause-cut : goal.read-requires-clause-cut
 read-requires-clause-cut g c =
     let r = c.requires in
-    (r.0, r.1, recut r.2 _ refl refl)
+    let room = c.make_room.ensures in
+    (r.0, r.1, recut_by r.2 _ (room.keeps.stands r.2.fed r.2.cut) room.came)
 
 pub returns-clause-ready : goal.returns-clause-ready
 returns-clause-ready g c =
     let r = c.requires in
-    (r.0, r.1, c.read.ensures.cuts r.0 r.1 (recut r.2 _ refl refl))
+    let room = c.make_room.ensures in
+    (r.0, r.1, c.read.ensures.cuts r.0 r.1 (recut_by r.2 _ (room.keeps.stands r.2.fed r.2.cut) room.came))
 
 pub returns-clause-reaches : goal.returns-clause-reaches
 returns-clause-reaches g c = λ reader files before.
     let on = c.read.ensures in
+    let room = c.make_room.ensures in
     record {
       done = on.done ∙ before.done;
       before = on.before ∙ before.before;
       same_list = on.same_list ∙ before.same_list;
-      cuts = λ aim steps h. on.cuts aim steps (recut (before.cuts aim steps h) _ refl refl);
+      cuts = λ aim steps h.
+          let k = before.cuts aim steps h in
+          on.cuts aim steps (recut_by k _ (room.keeps.stands k.fed k.cut) room.came);
+    }
+
+pub returns-then-is_err-clause-ready : goal.returns-then-is_err-clause-ready
+returns-then-is_err-clause-ready g c =
+    let r = c.requires in
+    let room = c.make_room.ensures in
+    (r.0, r.1, recut_by r.2 _ (room.keeps.stands r.2.fed r.2.cut) room.came)
+
+pub returns-then-is_err-clause-reaches : goal.returns-then-is_err-clause-reaches
+returns-then-is_err-clause-reaches g c = λ reader files before.
+    let room = c.make_room.ensures in
+    record {
+      done = before.done;
+      before = before.before;
+      same_list = before.same_list;
+      cuts = λ aim steps h.
+          let k = before.cuts aim steps h in
+          recut_by k _ (room.keeps.stands k.fed k.cut) room.came;
     }
 
 pub returns-then-self-eq0-clause-ready : goal.returns-then-self-eq0-clause-ready

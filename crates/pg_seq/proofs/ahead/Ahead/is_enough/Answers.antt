@@ -6,7 +6,7 @@ use Rattle.pg_seq.proofs.ahead.Ahead.is_enough.Goals as goal
 pub returns-then-self : goal.returns-then-self
 returns-then-self c = λ t tells.
     let mode = c.args.format.now.mode in
-    let enough = trail_suffices mode c.args.format.now t in
+    let enough = trail_suffices c.args.pieces mode c.args.format.now t in
     let loud : is_quiet mode ≡ false = elim c.in-Rows.is [
       | inl e ↦ ap is_quiet e
       | inr other ↦ elim other [ inl e ↦ ap is_quiet e | inr e ↦ ap is_quiet e ]
@@ -18,7 +18,7 @@ returns-then-self c = λ t tells.
 pub returns-else-self : goal.returns-else-self
 returns-else-self c = λ t tells.
     let mode = c.args.format.now.mode in
-    let enough = trail_suffices mode c.args.format.now t in
+    let enough = trail_suffices c.args.pieces mode c.args.format.now t in
     let loud : is_quiet mode ≡ false = elim c.in-Rows.is [
       | inl e ↦ ap is_quiet e
       | inr other ↦ elim other [ inl e ↦ ap is_quiet e | inr e ↦ ap is_quiet e ]

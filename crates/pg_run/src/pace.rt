@@ -1,0 +1,83 @@
+//! How fast blocks are searched.
+
+use std::time::{Clock, Duration};
+
+/// So many bytes are measured before a verdict.
+const MEASURED: u64 = 1_048_576;
+
+/// A search that takes more than half a nanosecond a byte is slow: one thread reads files several times as fast.
+const BYTES_A_NANO: u64 = 2;
+
+/// What a clock shows, if it can be read.
+pub(crate) fn time<R: Clock>(rt: &R) -> Option<Duration> {
+    match rt.monotonic() {
+        Ok(time) => Some(time),
+        Err(_) => None,
+    }
+}
+
+/// How long it is since a time, in nanoseconds.
+fn nanos_since<R: Clock>(rt: &R, begun: Duration) -> Option<u64> {
+    let ended = time(rt)?;
+    let nanos = ended.saturating_sub(begun).as_nanos();
+    u64::try_from(nanos).ok()
+}
+
+/// How fast the last blocks were searched. It decides which threads search, and nothing else.
+#[derive(Clone, Copy)]
+pub(crate) struct Pace {
+    /// So many bytes were searched since the last verdict.
+    bytes: u64,
+    /// It took so many nanoseconds, of all threads together.
+    nanos: u64,
+    /// The last verdict: whether the search was slow.
+    pub(crate) is_slow: Option<bool>,
+}
+
+impl Pace {
+    /// Nothing was measured.
+    pub(crate) fn new() -> Pace {
+        Pace {
+            bytes: 0,
+            nanos: 0,
+            is_slow: None,
+        }
+    }
+
+    /// With a search of so many bytes by so many threads, which began at a time and has just ended. Without a clock
+    /// nothing is measured.
+    pub(crate) fn after<R: Clock>(
+        self,
+        rt: &R,
+        begun: Option<Duration>,
+        bytes: usize,
+        threads: u32,
+    ) -> Pace {
+        let Some(begun) = begun else {
+            return self;
+        };
+        let Some(nanos) = nanos_since(rt, begun) else {
+            return self;
+        };
+        let nanos = nanos.saturating_mul(u64::from(threads));
+        self.with(bytes as u64, nanos)
+    }
+
+    /// With a search of so many bytes, which took so many nanoseconds.
+    fn with(self, bytes: u64, nanos: u64) -> Pace {
+        let bytes = self.bytes.saturating_add(bytes);
+        let nanos = self.nanos.saturating_add(nanos);
+        if bytes < MEASURED {
+            return Pace {
+                bytes,
+                nanos,
+                is_slow: self.is_slow,
+            };
+        }
+        Pace {
+            bytes: 0,
+            nanos: 0,
+            is_slow: Some(nanos.saturating_mul(BYTES_A_NANO) > bytes),
+        }
+    }
+}
