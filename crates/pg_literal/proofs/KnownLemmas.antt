@@ -48,7 +48,7 @@ pub occurs_nothing : (line : List ℕ) (i : ℕ) → i ≤ length line → Occur
 occurs_nothing line i within = record { fits = omega arith; reads = λ j less. absurd (omega arith) }
 
 -- a byte in front of a text
-occurs_more : (line text : List ℕ) (b i : ℕ) → slice_get line i ≡ Some b → OccursAt line text (i + 1)
+pub occurs_more : (line text : List ℕ) (b i : ℕ) → slice_get line i ≡ Some b → OccursAt line text (i + 1)
     → OccursAt line (b ∷ text) i
 occurs_more line text b i is behind = record { fits = let fits = behind.fits in omega arith; reads = each }
   where
@@ -61,7 +61,7 @@ occurs_more line text b i is behind = record { fits = let fits = behind.fits in 
         ap (λ n. get_or line n 0) at ∙ behind.reads k (omega (arith, less))
 
 -- the first byte of a text
-occurs_first : (line text : List ℕ) (b i : ℕ) → OccursAt line (b ∷ text) i → slice_get line i ≡ Some b
+pub occurs_first : (line text : List ℕ) (b i : ℕ) → OccursAt line (b ∷ text) i → slice_get line i ≡ Some b
 occurs_first line text b i o =
     let fits = o.fits in
     let at : i ≡ i + 0 = omega arith in
@@ -139,7 +139,7 @@ module _ {A : Type 0} (fold : Bool) where
     sure = λ line i o. (i, refl, o);
     fixed = λ text s.
         let none = ap (as_searched fold) (shape s) ∙ searched_nothing fold in
-        (ap (λ t. t ++ head_of rest) (sym none), refl);
+        (ap (λ t. t ++ head_of rest) (sym none), refl, refl);
   }
 
   -- one byte
@@ -173,7 +173,7 @@ module _ {A : Type 0} (fold : Bool) where
             let is = shape s in
             let same = alone_once fold is.0 b (subst (λ t. IsAlone fold t b) is.2 alone) in
             let joined = ap (as_searched fold) is.1 ∙ searched_one fold is.0 in
-            (longer ∙ ap (λ c. c ∷ head_of rest) same ∙ ap (λ t. t ++ head_of rest) (sym joined), sure);
+            (longer ∙ ap (λ c. c ∷ head_of rest) same ∙ ap (λ t. t ++ head_of rest) (sym joined), sure, best);
       }
 
   module _ (optional : Bool) (rest whole : Known A) (hides : Hides optional rest whole) where
@@ -259,7 +259,7 @@ module _ {A : Type 0} (fold : Bool) where
         let whole = ap (as_searched fold) is.4 ∙ searched_append fold is.0 (is.1 ∷ []) in
         let head = one.0 ∙ ap (λ t. front ++ t) two.0 ∙ sym (append_assoc front last (head_of rest))
         ∙ ap (λ t. t ++ head_of rest) (sym whole) in
-        (head, one.1 ∙ two.1);
+        (head, one.1 ∙ two.1, one.2 ∙ two.2);
   }
 
   -- one round alone

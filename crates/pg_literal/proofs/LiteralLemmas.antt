@@ -133,6 +133,7 @@ module _ {A : Type 0} (fold : Bool) (bounds : Bounds) (p q : Pattern) where
             (All-weaker (Enough p) (Enough (Alt p q))
             (λ l says yes line held. hit_of_first bounds p q line (says yes line held))
             first.added first.enough);
+        exact = λ text spells. absurd (alt_unspelled fold p q text spells);
         fixed = λ text spells any. absurd (alt_unspelled fold p q text spells);
       }
 
@@ -192,13 +193,13 @@ module _ {A : Type 0} (fold : Bool) (p : Pattern) (nothing known : Known A)
       } in
       (i, end.0, subst (λ b. Hit (p ∷ []) b line i end.0) (sym any) hit)
 
-  -- a fixed string is the head, which is sure
+  -- a fixed string is the head, which is sure, and there is no other text
   pub fixed_head : (text : List ℕ) → Spells Fixed fold text p
-      → (head_of known ≡ as_searched fold text) × IsTrue known.is_sure
+      → (head_of known ≡ as_searched fold text) × IsTrue known.is_sure × (known.best.items ≡ [])
   fixed_head text spells =
       let f = extends.fixed text spells in
       let searched = as_searched fold text in
-      (f.0 ∙ ap (λ t. searched ++ reverse t) empty.head ∙ append-nil searched, f.1 ∙ empty.sure)
+      (f.0 ∙ ap (λ t. searched ++ reverse t) empty.head ∙ append-nil searched, f.1 ∙ empty.sure, f.2 ∙ empty.best)
 
   -- the literal of what is known
   pub adds_one : (bounds : Bounds) (literal : Literal A) (old new : List (Literal A)) → new ≡ old ++ literal ∷ []
@@ -207,8 +208,9 @@ module _ {A : Type 0} (fold : Bool) (p : Pattern) (nothing known : Known A)
       × ((IsTrue known.is_sure × (literal.text.items ≡ head_of known))
       ⊎ (IsTrue known.is_best_sure × (literal.text.items ≡ best_of known))))
       → (IsTrue known.is_sure → bounds ≡ Any → (literal.text.items ≡ head_of known) × IsTrue literal.is_enough)
+      → (IsTrue known.is_sure → known.best.items ≡ [] → literal.text.items ≡ head_of known)
       → Adds fold bounds p old new
-  adds_one bounds literal old new joins either enough sure =
+  adds_one bounds literal old new joins either enough sure alone =
       let Enough : Literal A → Type 0 = λ l. IsTrue l.is_enough → IsEnough fold (p ∷ []) bounds l.text.items in
       record {
         added = literal ∷ [];
@@ -218,6 +220,9 @@ module _ {A : Type 0} (fold : Bool) (p : Pattern) (nothing known : Known A)
         enough = All-cons Enough literal [] (λ yes.
             let e = enough yes in
             sure_enough bounds literal.text.items e.0 e.1) (All-nil Enough);
+        exact = λ text spells.
+            let head = fixed_head text spells in
+            ap (λ t. t ∷ []) (alone head.1 head.2 ∙ head.0);
         fixed = λ text spells any.
             let head = fixed_head text spells in
             let says = sure head.1 any in
@@ -280,20 +285,28 @@ module _ {A : Type 0} (fold : Bool) (bounds : Bounds) (ps : List Pattern) (i : �
       (enough_for_all fold ps p bounds adds.added (i, below, at) adds.enough))
 
   -- one more fixed string is its literal
+  pub exact_more : (texts : List (List ℕ)) → AllZip (Spells Fixed fold) texts ps
+      → map (λ l. l.text.items) old ≡ map (as_searched fold) (take i texts)
+      → map (λ l. l.text.items) new ≡ map (as_searched fold) (take (i + 1) texts)
+  exact_more texts spelled are =
+      let Text : Literal A → List ℕ = λ l. l.text.items in
+      let less = text_below fold ps texts spelled i p below at in
+      let more = adds.exact (get_or texts i []) (text_spells fold ps texts spelled i p below at) in
+      ap (map Text) adds.joins
+      ∙ (map-append Text old adds.added
+      ∙ (ap (λ xs. xs ++ map Text adds.added) are
+      ∙ (ap (λ xs. map (as_searched fold) (take i texts) ++ xs) more
+      ∙ sym (map_more (as_searched fold) texts i [] less))))
+
+  -- where any match counts, it is enough
   pub texts_more : (texts : List (List ℕ)) → AllZip (Spells Fixed fold) texts ps → bounds ≡ Any
       → AreTexts (map (as_searched fold) (take i texts)) old
       → AreTexts (map (as_searched fold) (take (i + 1) texts)) new
   texts_more texts spelled any are =
-      let Text : Literal A → List ℕ = λ l. l.text.items in
       let Yes : Literal A → Type 0 = λ l. IsTrue l.is_enough in
-      let less = text_below fold ps texts spelled i p below at in
       let more = adds.fixed (get_or texts i []) (text_spells fold ps texts spelled i p below at) any in
       record {
-        texts = ap (map Text) adds.joins
-            ∙ (map-append Text old adds.added
-            ∙ (ap (λ xs. xs ++ map Text adds.added) are.texts
-            ∙ (ap (λ xs. map (as_searched fold) (take i texts) ++ xs) more.texts
-            ∙ sym (map_more (as_searched fold) texts i [] less))));
+        texts = exact_more texts spelled are.texts;
         enough = subst (λ ls. All Yes ls) (sym adds.joins) (All-append Yes old adds.added are.enough more.enough);
       }
 

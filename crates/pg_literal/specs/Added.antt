@@ -1,5 +1,5 @@
 -- The literals of one more pattern.
-use Rattle.std.specs.Prelude.{◌≡◌, ℕ, Bool, List, [], ◌∷◌, ◌++◌}
+use Rattle.std.specs.Prelude.{◌≡◌, ℕ, Bool, List, [], ◌∷◌, ◌++◌, map}
 use Rattle.pg_syntax.specs.Grammar.{Spells}
 use Rattle.pg_syntax.specs.Patterns.{Pattern}
 use Rattle.pg_syntax.specs.declared.pattern_list.Kind.TheVariants.{Fixed}
@@ -8,10 +8,13 @@ use Rattle.pg_match.specs.declared.bounds.Bounds.TheVariants.{Any}
 use Rattle.pg_literal.specs.Literals.{as_searched, AreNeeded, AreEnough, AreTexts}
 use Rattle.pg_literal.specs.declared.literal.Literal.{Literal}
 
--- the literals of the pattern stand behind those that there were; that of a fixed string is the string
+-- The literals of the pattern stand behind those that there were. That of a fixed string is the string; where any match
+-- counts, it is enough.
 pub record Adds {A : Type 0} (fold : Bool) (bounds : Bounds) (p : Pattern) (old new : List (Literal A)) : Type 0 where
   pub added : List (Literal A)
   pub joins : new ≡ old ++ added
   pub needed : AreNeeded fold (p ∷ []) bounds added
   pub enough : AreEnough fold (p ∷ []) bounds added
+  pub exact : (text : List ℕ) → Spells Fixed fold text p
+      → map (λ literal. literal.text.items) added ≡ as_searched fold text ∷ []
   pub fixed : (text : List ℕ) → Spells Fixed fold text p → bounds ≡ Any → AreTexts (as_searched fold text ∷ []) added

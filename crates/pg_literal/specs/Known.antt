@@ -49,13 +49,14 @@ MatchesEmpty p = (line : List ℕ) (i : ℕ) → Match p line i i
 
 -- The pattern stands in front of the rest: its matches that lead to the texts of the rest begin at those of the whole.
 -- Where a sure text of the whole stands, the pattern leads to a sure text of the rest. A fixed string makes the head
--- longer by its text, and keeps it as sure as it was.
+-- longer by its text, keeps it as sure as it was, and keeps the other text.
 pub record Extends {A : Type 0} (fold : Bool) (p : Pattern) (rest whole : Known A) : Type 0 where
   pub texts : (line : List ℕ) (i j : ℕ) → Match p line i j → HasTexts fold rest line j → HasTexts fold whole line i
   pub sure : (line : List ℕ) (i : ℕ) → IsSureAt fold whole line i
       → (j : ℕ) × Match p line i j × IsSureAt fold rest line j
   pub fixed : (text : List ℕ) → Spells Fixed fold text p
       → (head_of whole ≡ as_searched fold text ++ head_of rest) × (whole.is_sure ≡ rest.is_sure)
+      × (whole.best.items ≡ rest.best.items)
 
 -- The texts of the rest may stand anywhere further right, and one of them is kept. It stays sure only behind what is
 -- optional.

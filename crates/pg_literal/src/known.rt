@@ -1,5 +1,5 @@
 //! What is known of the matches of trees in a row.
-ghost use Rattle.std.specs.Prelude.{◌≡◌, ◌⊎◌, ◌++◌, ℕ, Bool, [], ◌∷◌, true, false, IsTrue, IfOk, MatchOption};
+ghost use Rattle.std.specs.Prelude.{◌≡◌, ◌⊎◌, ◌++◌, ℕ, Bool, [], ◌∷◌, true, false, IsTrue, IfOk, MatchOption, length};
 ghost use Rattle.pg_bytes.specs.ByteSets.{bytes};
 ghost use Rattle.pg_syntax.specs.Patterns.{Pattern, Begin, End, Set};
 ghost use Rattle.pg_syntax.specs.Trees.{pattern};
@@ -110,7 +110,8 @@ impl<A: Allocator + Copy> Known<A> {
 
 /// The longer of two texts.
 pub(crate) fn longer<A: Allocator>(first: Vec<u8, A>, second: Vec<u8, A>) -> Vec<u8, A>
-    ensures { (result ≡ first) ⊎ (result ≡ second) }
+    ensures either { (result ≡ first) ⊎ (result ≡ second) }
+    ensures first { length second.items ≡ 0 → result ≡ first }
 {
     if first.len() < second.len() {
         second

@@ -1,5 +1,5 @@
 //! The texts of which each line with a hit holds one.
-ghost use Rattle.std.specs.Prelude.{◌≡◌, ◌⊎◌, ◌<◌, ◌≤◌, ℕ, List, length, map, reverse, true, IsTrue, IfOk, IfSome};
+ghost use Rattle.std.specs.Prelude.{◌≡◌, ◌⊎◌, ◌<◌, ◌≤◌, ℕ, List, [], length, map, reverse, true, IsTrue, IfOk, IfSome};
 ghost use Rattle.std.specs.Prelude.{IsSomeAnd};
 ghost use Rattle.std.specs.List.{AllZip};
 ghost use Rattle.pg_syntax.specs.Grammar.{Spells};
@@ -29,7 +29,8 @@ impl<A: Allocator + Copy> Literal<A> {
     ///
     /// With `fold` the case of letters is folded, as it was for the trees. Each tree gives one text, and each
     /// alternative of a tree that is an alternation. The trees of plain fixed strings give those strings, in their
-    /// order. A refused request for memory is the only error.
+    /// order; where the bounds aren't `Any` and one of them is empty, there is none. A refused request for memory is the
+    /// only error.
     pub fn of(
         alloc: A,
         trees: &[Tree<A>],
@@ -39,6 +40,9 @@ impl<A: Allocator + Copy> Literal<A> {
         ensures needed { IfOk result (λ literals. 0 < length literals.items
             → AreNeeded fold (map pattern trees.now) bounds literals.items) }
         ensures enough { IfOk result (λ literals. AreEnough fold (map pattern trees.now) bounds literals.items) }
+        ensures exact { IfOk result (λ literals. (texts : List (List ℕ))
+            → AllZip (Spells Fixed fold) texts (map pattern trees.now) → 0 < length literals.items
+            → map (λ literal. literal.text.items) literals.items ≡ map (as_searched fold) texts) }
         ensures fixed { IfOk result (λ literals. (texts : List (List ℕ))
             → AllZip (Spells Fixed fold) texts (map pattern trees.now) → bounds ≡ Any
             → AreTexts (map (as_searched fold) texts) literals.items) }
@@ -111,6 +115,8 @@ fn best_text<A: Allocator + Copy>(known: Known<A>, bounds: Bounds) -> Option<Lit
     ensures enough { IfSome result (λ literal. IsTrue literal.is_enough → (bounds ≡ Any)
         × ((IsTrue known.is_sure × (literal.text.items ≡ reverse known.head.items))
         ⊎ (IsTrue known.is_best_sure × (literal.text.items ≡ reverse known.best.items)))) }
+    ensures alone { IsTrue known.is_sure → known.best.items ≡ []
+        → IfSome result (λ literal. literal.text.items ≡ reverse known.head.items) }
     ensures sure { IsTrue known.is_sure → bounds ≡ Any
         → IsSomeAnd result (λ literal. (literal.text.items ≡ reverse known.head.items) × IsTrue literal.is_enough) }
 {

@@ -8,7 +8,7 @@ returns-in_ok-push-in-Some-clause-adds g c = λ yes.
     let says = c.in-Some.ensures in
     adds_one c.args.fold (pattern c.args.tree.now) c.nothing.result c.in_ok-known.known c.nothing.ensures
     c.in_ok-known.ensures c.args.bounds c.in-Some.literal c.args.literals.now.items c.push.new.self.items
-    c.in_ok-push-in-Some.ensures.items says.text says.enough says.sure
+    c.in_ok-push-in-Some.ensures.items says.text says.enough says.sure says.alone
 
 pub returns-in_err-known-clause-adds : goal.returns-in_err-known-clause-adds
 returns-in_err-known-clause-adds g c = IfOk-from_err c.from_residual.result _ c.from_residual.ensures.0

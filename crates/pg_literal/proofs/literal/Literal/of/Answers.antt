@@ -1,10 +1,10 @@
-use Rattle.std.proofs.Common.{◌<◌, ℕ, List, [], length, get_or, map, subst, arith, rules}
+use Rattle.std.proofs.Common.{◌≡◌, ◌<◌, ℕ, List, [], length, get_or, map, subst, arith, rules}
 use Rattle.std.proofs.lemmas.Result.{IfOk-from_err}
 use Rattle.std.proofs.lemmas.List.{length-map, take_all}
 use Rattle.pg_syntax.specs.Trees.{pattern}
 use Rattle.pg_literal.specs.Literals.{as_searched, AreTexts}
 use Rattle.pg_literal.proofs.LiteralLemmas.{hit_alone, pattern_among, text_spells, zip_length}
-use Rattle.pg_literal.proofs.LiteralLemmas.{needed_more, enough_more, texts_more}
+use Rattle.pg_literal.proofs.LiteralLemmas.{needed_more, enough_more, exact_more, texts_more}
 use Rattle.pg_literal.proofs.literal.Literal.of.Goals as goal
 
 pub returns-then-not-found-clause-fixed : goal.returns-then-not-found-clause-fixed
@@ -37,6 +37,8 @@ loop-tree-preserved g c =
     record {
       needed = needed_more fold bounds ps i p below at old new adds known.needed;
       enough = enough_more fold bounds ps i p below at old new adds known.enough;
+      exact = λ texts spelled.
+          exact_more fold bounds ps i p below at old new adds texts spelled (known.exact texts spelled);
       fixed = λ texts spelled any.
           texts_more fold bounds ps i p below at old new adds texts spelled any (known.fixed texts spelled any);
     }
@@ -47,6 +49,16 @@ returns-clause-needed g c = λ some line hit.
     let alone = hit_alone (map pattern trees) c.args.bounds line hit in
     c.loop-tree.invariant.needed line alone.0 alone.1
     (omega (arith, alone.2, length-map trees (pattern {A = g.row.A.Denot}))) alone.3 alone.4
+
+pub returns-clause-exact : goal.returns-clause-exact
+returns-clause-exact g c = λ texts spelled some.
+    let trees = c.args.trees.now in
+    let are = c.loop-tree.invariant.exact texts spelled in
+    let P : List (List ℕ) → Type 0 =
+    λ ts. map (λ literal. literal.text.items) c.loop-tree.literals.items ≡ map (as_searched c.args.fold) ts in
+    let size = zip_length _ texts (map pattern trees) spelled in
+    subst P (take_all c.loop-tree.tree-index texts
+    (omega (arith, size, length-map trees (pattern {A = g.row.A.Denot})))) are
 
 pub returns-clause-fixed : goal.returns-clause-fixed
 returns-clause-fixed g c = λ texts spelled any.
@@ -65,3 +77,6 @@ returns-in_err-found-clause-enough g c = IfOk-from_err c.from_residual.result _ 
 
 pub returns-in_err-found-clause-fixed : goal.returns-in_err-found-clause-fixed
 returns-in_err-found-clause-fixed g c = IfOk-from_err c.from_residual.result _ c.from_residual.ensures.0
+
+pub returns-in_err-found-clause-exact : goal.returns-in_err-found-clause-exact
+returns-in_err-found-clause-exact g c = IfOk-from_err c.from_residual.result _ c.from_residual.ensures.0

@@ -15,6 +15,8 @@ invariant-loop-tree g l = record {
   needed : (line : List ℕ) (k : ℕ) (p : Pattern) → k < l.tree-index → get_or (map pattern l.trees) k p ≡ p
       → HasHit (p ∷ []) l.bounds line → AnyOf (λ literal. Holds l.fold line literal.text.items) l.literals.items;
   enough : AreEnough l.fold (map pattern l.trees) l.bounds l.literals.items;
+  exact : (texts : List (List ℕ)) → AllZip (Spells Fixed l.fold) texts (map pattern l.trees)
+      → map (λ literal. literal.text.items) l.literals.items ≡ map (as_searched l.fold) (take l.tree-index texts);
   fixed : (texts : List (List ℕ)) → AllZip (Spells Fixed l.fold) texts (map pattern l.trees) → l.bounds ≡ Any
       → AreTexts (map (as_searched l.fold) (take l.tree-index texts)) l.literals.items;
 }
