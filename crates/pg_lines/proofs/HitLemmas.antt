@@ -6,8 +6,10 @@ use Rattle.std.specs.Bool.{MatchBool, Decides}
 use Rattle.std.specs.List.{list_any, range_with_len, Any}
 use Rattle.std.proofs.lemmas.Bool.{false≢true, cases_Bool, cases_eq}
 use Rattle.std.proofs.lemmas.List.Elements.{All-contains}
+use Rattle.pg_match.specs.Hits.{Hit}
+use Rattle.pg_match.specs.Tests.{has_hit as patterns_have_hit}
 use Rattle.pg_match.proofs.TestLemmas.{hits_decided}
-use Rattle.pg_lines.specs.Search.{SearchText, Search, Pattern, AreTreesOf, search_of, uninverted, bounds_of}
+use Rattle.pg_lines.specs.Search.{SearchText, Search, Pattern, Bounds, AreTreesOf, search_of, uninverted, bounds_of}
 use Rattle.pg_literal.specs.Literals.{Holds}
 use Rattle.pg_lines.specs.Literals.{LiteralData, HoldsOne, IsEnough, AreLiterals}
 use Rattle.pg_lines.specs.Selection.{HasHit, has_hit, selects, SelectsIsSelected}
@@ -32,6 +34,20 @@ some_in_range f a (suc n) i low high e = elim (cases_eq a i) [
 -- the test of a line decides whether it has a hit
 hit_test : (q : Search) (line : List ℕ) → Decides (has_hit q line) (HasHit q line)
 hit_test q line = (hits_decided q.trees (bounds_of q.text) line).whole_line
+
+-- the test of a line that has a hit, or none
+pub hit_found : (trees : List Pattern) (bounds : Bounds) (line : List ℕ) (i j : ℕ) → Hit trees bounds line i j
+    → patterns_have_hit trees bounds line ≡ true
+hit_found trees bounds line i j hit = (hits_decided trees bounds line).whole_line.1 (i, j, hit)
+
+pub hit_missed : (trees : List Pattern) (bounds : Bounds) (line : List ℕ)
+    → ((i j : ℕ) → 0 ≤ i → Hit trees bounds line i j → ⊥) → patterns_have_hit trees bounds line ≡ false
+hit_missed trees bounds line none = elim (cases_Bool (patterns_have_hit trees bounds line)) [
+  | inl found ↦
+      let hit = (hits_decided trees bounds line).whole_line.0 found in
+      absurd (none hit.0 hit.1 (omega arith) hit.2)
+  | inr missed ↦ missed
+]
 
 -- the test of a line decides whether it is selected
 pub selects_decides : (q : Search) (line : List ℕ) → SelectsIsSelected q line

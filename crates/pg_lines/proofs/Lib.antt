@@ -11,6 +11,7 @@ pub mod Examples
 pub mod FaultLemmas
 pub mod GatherLemmas
 pub mod HitLemmas
+pub mod JudgeLemmas
 pub mod LaneLemmas
 pub mod LiteralLemmas
 pub mod LineLaws
@@ -19,6 +20,8 @@ pub mod LongLemmas
 pub mod NeedleLemmas
 pub mod NeedleSetLemmas
 pub mod SoughtLemmas
+pub mod StringLemmas
+pub mod StandingLemmas
 pub mod PartLemmas
 pub mod PatternLemmas
 pub mod RunLemmas

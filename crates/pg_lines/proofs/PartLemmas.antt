@@ -1,5 +1,7 @@
 -- The matched parts of lines.
-use Rattle.std.proofs.Common.{◌≡◌, ℕ, ◌+◌, ◌≤◌, ◌^◌, ◌⊎◌, inl, inr, Bool, true, false, not, cond}
+use Rattle.std.specs.Prelude.{MatchOption, IfSome}
+use Rattle.std.proofs.Common.{Option, Some, None}
+use Rattle.std.proofs.Common.{◌≡◌, ℕ, ◌+◌, ◌<◌, ◌≤◌, ◌^◌, ◌⊎◌, inl, inr, Bool, true, false, not, cond}
 use Rattle.std.proofs.Common.{List, [], ◌∷◌, ◌++◌, length, take, drop, slice_range, map, refl, sym, ap, ◌∙◌, subst}
 use Rattle.std.proofs.Common.{arith, append_assoc, length-append}
 use Rattle.std.specs.List.{AllByRecursion}
@@ -12,7 +14,7 @@ use Rattle.pg_match.specs.Parts.{AreParts, none, more}
 use Rattle.pg_match.proofs.PartLaws.{parts_are_one}
 use Rattle.pg_match.proofs.TestLemmas.{hits_decided}
 use Rattle.pg_lines.specs.Lines.{lines, AreWhole, AreShort, terminated}
-use Rattle.pg_lines.specs.Search.{SearchText, Search, Pattern, AreTreesOf, search_of, terminator, bounds_of}
+use Rattle.pg_lines.specs.Search.{SearchText, Search, Pattern, Bounds, AreTreesOf, search_of, terminator, bounds_of}
 use Rattle.pg_lines.specs.Selection.{selects, parts, has_hit}
 use Rattle.pg_lines.specs.Queries.{Compiled, IsCompiled}
 use Rattle.pg_lines.specs.Same.{same_trees}
@@ -228,6 +230,13 @@ machine_of q m same own trees spelled =
     let P : List Pattern → Type 0 = λ ts. IsMachineOf q.machine ts (bounds_of q.text) in
     let M : Nfa → Type 0 = λ m. IsMachineOf m trees (bounds_of q.text) in
     subst M (sym same) (subst P (same_trees q.text own.0 trees own.1 spelled) own.2)
+
+-- a next part, if there is one, stands behind the place, and has a byte
+pub part_within : (trees : List Pattern) (bounds : Bounds) (line : List ℕ) (place : ℕ) (found : Option (ℕ × ℕ))
+    → MatchOption found (HasNoNext trees bounds line place) (λ part. IsNext trees bounds line place part.0 part.1)
+    → IfSome found (λ part. (place ≤ part.0) × (part.0 < part.1) × (part.1 ≤ length line))
+part_within trees bounds line place None nothing = tt
+part_within trees bounds line place (Some part) next = (next.later, next.some, next.hit.within)
 
 -- The parts of a line up to a place, behind others: whatever parts there are from the place on, together they are all.
 abbrev pub IsPushed : SearchText → List ℕ → ℕ → ℕ → ℕ → List Part → List Part → Type 0

@@ -3,6 +3,7 @@ pub mod Search
 pub mod Queries
 pub mod Selection
 pub mod Literals
+pub mod Strings
 pub mod Blocks
 pub mod Runs
 pub mod BlockParts

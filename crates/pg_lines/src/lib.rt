@@ -2,6 +2,7 @@
 #![tactic(auto)]
 
 mod block;
+mod borders;
 mod count;
 mod cutter;
 mod laws;
@@ -17,6 +18,7 @@ mod run;
 mod same;
 mod search;
 mod span;
+mod strings;
 
 pub use block::Block;
 pub use cutter::{CutFault, Cutter};

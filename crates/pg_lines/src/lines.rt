@@ -66,6 +66,7 @@ pub(crate) fn count_lines(end: u8, bytes: &[u8]) -> usize
 pub(crate) fn text_of(end: u8, line: &[u8]) -> &[u8]
     ensures text { (text : List ℕ) → lines end line.now ≡ text ∷ [] → result.now ≡ text }
     ensures short { length result.now ≤ length line.now }
+    ensures front { result.now ≡ take (length result.now) line.now }
 {
     match line.last() {
         Some(&last) => &line[..line.len() - usize::from(last == end)],

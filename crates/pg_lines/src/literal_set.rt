@@ -1,5 +1,5 @@
 //! Many literals, prepared to be looked for together.
-ghost use Rattle.std.specs.Prelude.{◌≡◌, ◌⊎◌, ◌<◌, ◌≤◌, [], length, map, IsTrue, IfOk, IfSome};
+ghost use Rattle.std.specs.Prelude.{◌≡◌, ◌⊎◌, ◌<◌, ◌≤◌, [], length, map, IsTrue, IfOk, IfSome, IsSomeAnd};
 ghost use Rattle.std.specs.List.{All};
 ghost use Rattle.pg_strings.specs.Keys.{items_of};
 ghost use Rattle.pg_strings.specs.Outcomes.{strings_of};
@@ -17,6 +17,8 @@ pub(crate) struct LiteralSet<A: Allocator = Global> {
     pub strings: StringSet<A>,
     /// Each of them is enough: a line that holds it has a hit.
     pub is_enough: bool,
+    /// They are all patterns of the query, which are fixed strings.
+    pub is_fixed: bool,
     ghost some: { 0 < length (strings_of strings) },
 }
 
@@ -49,19 +51,48 @@ fn are_all_enough<A: Allocator>(literals: &[Literal<A>]) -> bool
 }
 
 impl<A: Allocator + Copy> LiteralSet<A> {
-    /// The set of more than 8 literals, unless one is empty. A refused request for memory is the only error.
-    pub fn of(alloc: A, literals: &[Literal<A>]) -> Result<Option<LiteralSet<A>>, AllocError>
+    /// The set of more than 8 literals, unless one is empty, with a flag that says whether they are all patterns and fixed
+    /// strings. A refused request for memory is the only error.
+    pub fn of(
+        alloc: A,
+        literals: &[Literal<A>],
+        is_fixed: bool,
+    ) -> Result<Option<LiteralSet<A>>, AllocError>
         ensures strings { IfOk result (λ found. IfSome found (λ set. strings_of set.strings
             ≡ map (λ literal. literal.text.items) literals.now)) }
         ensures enough { IfOk result (λ found. IfSome found (λ set. IsTrue set.is_enough
             → All (λ literal. IsTrue literal.is_enough) literals.now)) }
+        ensures fixed { IfOk result (λ found. IfSome found (λ set. set.is_fixed ≡ is_fixed)) }
     {
         if literals.len() <= FEW || has_empty(literals) {
             return Ok(None);
         }
         let strings = StringSet::new(alloc, copies_of(alloc, literals)?)?;
         let is_enough = are_all_enough(literals);
-        Ok(Some(LiteralSet { strings, is_enough }))
+        Ok(Some(LiteralSet {
+            strings,
+            is_enough,
+            is_fixed,
+        }))
+    }
+}
+
+/// The strings of a set that are the patterns of a query.
+pub(crate) fn fixed_strings<'l, A: Allocator>(
+    set: Option<&'l LiteralSet<A>>,
+) -> Option<&'l StringSet<A>>
+    ensures { IfSome result (λ strings. IsSomeAnd set.entry (λ set. IsTrue set.now.is_fixed
+        × (strings.now ≡ set.now.strings))) }
+{
+    match set {
+        Some(set) => {
+            if set.is_fixed {
+                Some(&set.strings)
+            } else {
+                None
+            }
+        }
+        None => None,
     }
 }
 

@@ -1,22 +1,54 @@
 //! The matched parts of selected lines.
 ghost use Rattle.std.specs.Prelude.{◌≡◌, ◌+◌, ◌<◌, ◌≤◌, ◌^◌, ◌++◌, ◌∷◌, [], OnOk, List, ℕ, length, map, true};
-ghost use Rattle.std.specs.Prelude.{if◌then◌else◌, slice_range};
+ghost use Rattle.std.specs.Prelude.{if◌then◌else◌, slice_range, IfSome, MatchOption};
+ghost use Rattle.pg_match.specs.Hits.{HasNoNext, IsNext};
 ghost use Rattle.pg_match.specs.Machines.{Fits};
 ghost use Rattle.pg_lines.specs.Lines.{lines};
-ghost use Rattle.pg_lines.specs.Search.{Pattern, AreTreesOf, search_of, terminator_of};
+ghost use Rattle.pg_lines.specs.Search.{Pattern, AreTreesOf, bounds_of, search_of, terminator_of};
 ghost use Rattle.pg_lines.specs.Selection.{selects, parts};
 ghost use Rattle.pg_lines.specs.BlockParts.{part_at};
+ghost use Rattle.pg_lines.specs.Strings.{AreBlockStrings, JudgesLine};
 
 use crate::lines::text_of;
 use crate::query::Query;
 use crate::run::Part;
 use crate::span::Span;
+use crate::strings::{BlockStrings, NextString};
 use pg_match::Scratch;
 use std::alloc::{AllocError, Allocator};
+
+/// The next matched part of a line that stands at a place in its block: by the query's strings, where it has such, else
+/// by its automaton.
+fn next_part<A: Allocator>(
+    query: &Query<A>,
+    strings: &BlockStrings<'_, A>,
+    scratch: &mut Scratch<A>,
+    line: &[u8],
+    at: usize,
+    from: usize,
+) -> Option<(usize, usize)>
+    requires fits { Fits scratch.old query.now.machine }
+    requires short { length line.now ≤ 2 ^ 30 }
+    requires line { JudgesLine query.now.text strings.now line.now at }
+    requires from { from ≤ length line.now }
+    ensures fits { Fits scratch.new query.now.machine }
+    ensures within { IfSome result (λ part. (from ≤ part.0) × (part.0 < part.1) × (part.1 ≤ length line.now)) }
+    ensures next { (trees : List Pattern) → AreTreesOf query.now.text trees
+        → MatchOption result (HasNoNext trees (bounds_of query.now.text) line.now from)
+        (λ part. IsNext trees (bounds_of query.now.text) line.now from part.0 part.1) }
+{
+    let machine = query.machine();
+    match strings.next_part(query, line, at, from) {
+        NextString::Found(part) => Some((part.start, part.end)),
+        NextString::Nowhere => None,
+        NextString::GaveUp => machine.next_piece(scratch, line, from),
+    }
+}
 
 /// Keeps the matched parts of a line that stands at a place in its block, behind some lines.
 fn push_parts<A: Allocator>(
     query: &Query<A>,
+    strings: &BlockStrings<'_, A>,
     scratch: &mut Scratch<A>,
     line: &[u8],
     at: usize,
@@ -26,12 +58,13 @@ fn push_parts<A: Allocator>(
     requires fits { Fits scratch.old query.now.machine }
     requires short { length line.now ≤ 2 ^ 30 }
     requires within { at + length line.now < 2 ^ 63 }
+    requires line { JudgesLine query.now.text strings.now line.now at }
     ensures fits { Fits scratch.new query.now.machine }
     ensures parts { (trees : List Pattern) → AreTreesOf query.now.text trees → OnOk result (found.new.items
         ≡ found.old.items ++ map (part_at at number) (parts (search_of query.now.text trees) line.now)) }
 {
     let mut place = 0;
-    while let Some((start, end)) = query.machine().next_piece(scratch, line, place) {
+    while let Some((start, end)) = next_part(query, strings, scratch, line, at, place) {
         let span = Span {
             start: at + start,
             end: at + end,
@@ -46,6 +79,7 @@ fn push_parts<A: Allocator>(
 /// selected since nothing in it is matched has none.
 pub(crate) fn push_line_parts<A: Allocator>(
     query: &Query<A>,
+    strings: &BlockStrings<'_, A>,
     scratch: &mut Scratch<A>,
     bytes: &[u8],
     line: Span,
@@ -53,6 +87,7 @@ pub(crate) fn push_line_parts<A: Allocator>(
     found: &mut Vec<Part, A>,
 ) -> Result<(), AllocError>
     requires fits { Fits scratch.old query.now.machine }
+    requires strings { AreBlockStrings query.now.text bytes.now strings.now }
     requires ordered { line.start ≤ line.end }
     requires within { line.end ≤ length bytes.now }
     requires one { (text : List ℕ) × (length text ≤ 2 ^ 30)
@@ -67,7 +102,7 @@ pub(crate) fn push_line_parts<A: Allocator>(
     let options = query.text();
     if options.pieces && !options.invert {
         let text = text_of(query.terminator(), line.of(bytes));
-        push_parts(query, scratch, text, line.start, number, found)
+        push_parts(query, strings, scratch, text, line.start, number, found)
     } else {
         Ok(())
     }

@@ -1,10 +1,12 @@
 //! What is searched for.
-ghost use Rattle.std.specs.Prelude.{◌≡◌, map, All, IfOk, IfErr, IfSome, IsTrue};
+ghost use Rattle.std.specs.Prelude.{◌≡◌, ◌<◌, length, map, All, IfOk, IfErr, IfSome, IsTrue};
 ghost use Rattle.pg_syntax.specs.Patterns.{IsProper};
 ghost use Rattle.pg_syntax.specs.Trees.{pattern};
-ghost use Rattle.pg_lines.specs.Search.{AreTreesOf, bounds_of, terminator_of};
+ghost use Rattle.pg_lines.specs.Search.{AreTreesOf, Fixed, bounds_of, patterns, terminator_of};
 ghost use Rattle.pg_lines.specs.Lines.{IsLine};
-ghost use Rattle.pg_lines.specs.Literals.{AreLiterals, data_of, set_literals};
+ghost use Rattle.pg_literal.specs.Literals.{as_searched};
+ghost use Rattle.pg_lines.specs.Literals.{AreLiterals, data_of};
+ghost use Rattle.pg_lines.specs.Strings.{IsSetOf};
 ghost use Rattle.pg_lines.specs.Queries.{IsCompiled, IsQueryFault};
 ghost use Rattle.pg_lines.specs.declared.query.QueryFault.TheVariants.{OutOfMemory};
 
@@ -73,7 +75,7 @@ impl<A: Allocator> Model for QueryText<A> {
 
 impl<A: Allocator> QueryText<A> {
     /// Where a match may begin and end.
-    fn bounds(&self) -> Bounds
+    pub(crate) fn bounds(&self) -> Bounds
         ensures { result ≡ bounds_of self.now }
     {
         if self.whole {
@@ -82,6 +84,16 @@ impl<A: Allocator> QueryText<A> {
             Bounds::Word
         } else {
             Bounds::Any
+        }
+    }
+
+    /// Whether the patterns are fixed strings.
+    fn is_fixed(&self) -> bool
+        ensures { IsTrue result → self.now.kind ≡ Fixed }
+    {
+        match self.kind {
+            Kind::Fixed => true,
+            Kind::Basic | Kind::Extended => false,
         }
     }
 
@@ -140,7 +152,8 @@ impl<A: Allocator> Drop for Query<A> {
 
 impl<A: Allocator> Model for Query<A> {
     ghost use Rattle.std.specs.Prelude.{map, IfSome};
-    ghost use Rattle.pg_lines.specs.Literals.{AreLiterals, data_of, set_literals};
+    ghost use Rattle.pg_lines.specs.Literals.{AreLiterals, data_of};
+    ghost use Rattle.pg_lines.specs.Strings.{IsSetOf};
     ghost use Rattle.pg_lines.specs.Queries.{Compiled, IsCompiled};
 
     ghost Value = { Compiled };
@@ -149,7 +162,7 @@ impl<A: Allocator> Model for Query<A> {
 
     ghost invariant = { λ q. IsCompiled (record { text = q.text; machine = q.machine })
         × AreLiterals q.text (map data_of q.literals.items)
-        × IfSome q.literal_set (λ set. AreLiterals q.text (set_literals set)) };
+        × IfSome q.literal_set (IsSetOf q.text) };
 }
 
 impl<A: Allocator> Query<A> {
@@ -170,7 +183,7 @@ impl<A: Allocator> Query<A> {
         let trees = trees_of(alloc, &text)?;
         let machine = machine_of(alloc, &text, trees.as_slice())?;
         let literals = literals_of(alloc, &text, trees.as_slice())?;
-        let literal_set = LiteralSet::of(alloc, &literals)?;
+        let literal_set = LiteralSet::of(alloc, &literals, text.is_fixed())?;
         Ok(Query {
             text,
             machine,
@@ -212,9 +225,9 @@ impl<A: Allocator> Query<A> {
         &self.literals
     }
 
-    /// The same texts, where there are more than 8.
+    /// The same texts, where there are more than 8, and whether they are all patterns.
     pub(crate) fn literal_set(&self) -> Option<&LiteralSet<A>>
-        ensures { IfSome result (λ set. AreLiterals self.now.text (set_literals set.now)) }
+        ensures { IfSome result (λ set. IsSetOf self.now.text set.now) }
     {
         self.literal_set.as_ref()
     }
@@ -263,7 +276,10 @@ fn literals_of<A: Allocator + Copy>(
     trees: &[Tree<A>],
 ) -> Result<Vec<Literal<A>, A>, AllocError>
     requires trees { AreTreesOf text.now (map pattern trees.now) }
-    ensures { IfOk result (λ literals. AreLiterals text.now (map data_of literals.items)) }
+    ensures literals { IfOk result (λ literals. AreLiterals text.now (map data_of literals.items)) }
+    ensures fixed { text.now.kind ≡ Fixed → IfOk result (λ literals. 0 < length literals.items
+        → map (λ literal. literal.text.items) literals.items
+        ≡ map (as_searched text.now.fold) (patterns text.now.lists)) }
 {
     let literals = Literal::of(alloc, trees, text.bounds(), text.fold)?;
     if are_within_lines(text.terminator(), &literals) {

@@ -1,5 +1,5 @@
 //! The search of one block.
-ghost use Rattle.std.specs.Prelude.{◌≡◌, ◌+◌, ◌<◌, ◌≤◌, ◌^◌, ◌++◌, ◌∷◌, [], IfOk, IfSome, IfNone, OnOk, List};
+ghost use Rattle.std.specs.Prelude.{◌≡◌, ◌⊎◌, ◌+◌, ◌<◌, ◌≤◌, ◌^◌, ◌++◌, ◌∷◌, [], IfOk, IfSome, IfNone, OnOk, List};
 ghost use Rattle.std.specs.Prelude.{length, map, drop, slice_range, true, false, nat_lt, if◌then◌else◌};
 ghost use Rattle.std.specs.Arc.{arc_value};
 ghost use Rattle.pg_literal.specs.Literals.{as_searched};
@@ -9,7 +9,8 @@ ghost use Rattle.pg_lines.specs.Search.{Search, Pattern, AreTreesOf, search_of};
 ghost use Rattle.pg_lines.specs.Search.{terminator, terminator_of, uninverted};
 ghost use Rattle.pg_lines.specs.Queries.{IsCompiled};
 ghost use Rattle.pg_lines.specs.Selection.{has_hit};
-ghost use Rattle.pg_lines.specs.Literals.{AreLiterals, data_of, set_literals};
+ghost use Rattle.pg_lines.specs.Literals.{AreLiterals, data_of};
+ghost use Rattle.pg_lines.specs.Strings.{AreBlockStrings, IsSetOf, JudgesLine};
 ghost use Rattle.pg_lines.specs.Candidates.{AreNeedles, literals_sought};
 ghost use Rattle.pg_lines.specs.Runs.{AllLines, HasRuns};
 ghost use Rattle.pg_lines.specs.BlockParts.{HasParts};
@@ -17,7 +18,7 @@ ghost use Rattle.pg_lines.specs.Gathered.{IsNextLine, IsGathered};
 
 use crate::block::Block;
 use crate::lines::{count_lines, line_end, text_of};
-use crate::literal_set::LiteralSet;
+use crate::literal_set::{LiteralSet, fixed_strings};
 use crate::needle_set::NextLine;
 use crate::needles::Needles;
 use crate::parts::push_line_parts;
@@ -25,6 +26,7 @@ use crate::query::Query;
 use crate::result::BlockResult;
 use crate::run::{Found, Run};
 use crate::span::Span;
+use crate::strings::{BlockStrings, NextString};
 use pg_literal::Literal;
 use pg_match::Scratch;
 use std::alloc::{AllocError, Allocator};
@@ -37,25 +39,39 @@ const PATIENCE: usize = 8;
 /// It takes as long to look at a line that holds a needle as to search so many bytes line by line.
 const FAR: usize = 128;
 
-/// Whether some span of a line is a hit.
-fn has_hit<A: Allocator>(query: &Query<A>, scratch: &mut Scratch<A>, line: &[u8]) -> bool
+/// Whether some span of a line that stands at a place in the block is a hit: by the query's strings, where it has such,
+/// else by its automaton.
+fn has_hit<A: Allocator>(
+    query: &Query<A>,
+    strings: &BlockStrings<'_, A>,
+    scratch: &mut Scratch<A>,
+    line: &[u8],
+    at: usize,
+) -> bool
     requires fits { Fits scratch.old query.now.machine }
     requires short { length line.now ≤ 2 ^ 30 }
+    requires line { JudgesLine query.now.text strings.now line.now at }
     ensures fits { Fits scratch.new query.now.machine }
     ensures hit { (trees : List Pattern) → AreTreesOf query.now.text trees →
         result ≡ has_hit (search_of query.now.text trees) line.now }
 {
-    query.machine().selects(scratch, line)
+    match strings.next_part(query, line, at, 0) {
+        NextString::Found(_) => true,
+        NextString::Nowhere => false,
+        NextString::GaveUp => query.machine().selects(scratch, line),
+    }
 }
 
 /// The first line with a hit at or behind a place where a line starts, with its terminator.
 fn next_matched<A: Allocator>(
     query: &Query<A>,
+    strings: &BlockStrings<'_, A>,
     scratch: &mut Scratch<A>,
     bytes: &[u8],
     at: usize,
 ) -> Option<Span>
     requires at { at ≤ length bytes.now }
+    requires strings { AreBlockStrings query.now.text bytes.now strings.now }
     requires fits { Fits scratch.old query.now.machine }
     requires short { AreShort (terminator_of query.now.text) (drop at bytes.now) }
     ensures fits { Fits scratch.new query.now.machine }
@@ -72,7 +88,7 @@ fn next_matched<A: Allocator>(
     while start < rest.len() {
         let stop = line_end(end, rest, start);
         let next = if stop < rest.len() { stop + 1 } else { stop };
-        if has_hit(query, scratch, &rest[start..stop]) {
+        if has_hit(query, strings, scratch, &rest[start..stop], at + start) {
             return Some(Span {
                 start: at + start,
                 end: at + next,
@@ -87,6 +103,7 @@ fn next_matched<A: Allocator>(
 /// needle: only those that do are looked at. If too many of them have none, needles are looked for no more.
 fn next_confirmed<A: Allocator>(
     query: &Query<A>,
+    strings: &BlockStrings<'_, A>,
     needles: &mut Needles<'_, A>,
     scratch: &mut Scratch<A>,
     bytes: &[u8],
@@ -95,6 +112,7 @@ fn next_confirmed<A: Allocator>(
     requires at { at ≤ length bytes.now }
     requires needles { AreNeedles query.now.text bytes.now at needles.old }
     requires some { 0 < length (literals_sought needles.old) }
+    requires strings { AreBlockStrings query.now.text bytes.now strings.now }
     requires fits { Fits scratch.old query.now.machine }
     requires short { AreShort (terminator_of query.now.text) (drop at bytes.now) }
     ensures needles { IfSome result (λ line. AreNeedles query.now.text bytes.now line.end needles.new) }
@@ -115,24 +133,26 @@ fn next_confirmed<A: Allocator>(
             NextLine::Nowhere => return None,
             NextLine::GaveUp => {
                 *needles = Needles::GivenUp;
-                return next_matched(query, scratch, bytes, from);
+                return next_matched(query, strings, scratch, bytes, from);
             }
         };
         let line = found.line;
-        if found.is_enough || has_hit(query, scratch, text_of(end, &bytes[line.start..line.end])) {
+        let text = text_of(end, &bytes[line.start..line.end]);
+        if found.is_enough || has_hit(query, strings, scratch, text, line.start) {
             return Some(line);
         }
         in_vain = in_vain.saturating_sub((line.start - from) / FAR) + 1;
         from = line.end;
     }
     *needles = Needles::GivenUp;
-    next_matched(query, scratch, bytes, from)
+    next_matched(query, strings, scratch, bytes, from)
 }
 
 /// The first line with a hit at or behind a place where a line starts, with its terminator: by the needles where there
 /// are any, else line by line.
 fn next_hit<A: Allocator>(
     query: &Query<A>,
+    strings: &BlockStrings<'_, A>,
     needles: &mut Needles<'_, A>,
     scratch: &mut Scratch<A>,
     bytes: &[u8],
@@ -140,6 +160,7 @@ fn next_hit<A: Allocator>(
 ) -> Option<Span>
     requires at { at ≤ length bytes.now }
     requires needles { AreNeedles query.now.text bytes.now at needles.old }
+    requires strings { AreBlockStrings query.now.text bytes.now strings.now }
     requires fits { Fits scratch.old query.now.machine }
     requires short { AreShort (terminator_of query.now.text) (drop at bytes.now) }
     ensures needles { IfSome result (λ line. AreNeedles query.now.text bytes.now line.end needles.new) }
@@ -152,9 +173,9 @@ fn next_hit<A: Allocator>(
         IfNone result (AllLines (search_of (uninverted query.now.text) trees) false (drop at bytes.now)) }
 {
     if needles.is_empty() {
-        next_matched(query, scratch, bytes, at)
+        next_matched(query, strings, scratch, bytes, at)
     } else {
-        next_confirmed(query, needles, scratch, bytes, at)
+        next_confirmed(query, strings, needles, scratch, bytes, at)
     }
 }
 
@@ -223,6 +244,7 @@ fn with_line<A: Allocator>(
 fn runs_of_hits<A: Allocator + Copy>(
     alloc: A,
     query: &Query<A>,
+    strings: &BlockStrings<'_, A>,
     needles: &mut Needles<'_, A>,
     scratch: &mut Scratch<A>,
     bytes: &[u8],
@@ -230,6 +252,7 @@ fn runs_of_hits<A: Allocator + Copy>(
     requires compiled { IsCompiled query.now }
     requires upright { query.now.text.invert ≡ false }
     requires needles { AreNeedles query.now.text bytes.now 0 needles.old }
+    requires strings { AreBlockStrings query.now.text bytes.now strings.now }
     requires fits { Fits scratch.old query.now.machine }
     requires short { AreShort (terminator_of query.now.text) bytes.now }
     ensures fits { Fits scratch.new query.now.machine }
@@ -245,10 +268,10 @@ fn runs_of_hits<A: Allocator + Copy>(
         first: 0,
         count: 0,
     };
-    while let Some(line) = next_hit(query, needles, scratch, bytes, run.span.end) {
+    while let Some(line) = next_hit(query, strings, needles, scratch, bytes, run.span.end) {
         run = with_line(&mut runs, run, end, bytes, line)?;
         let number = run.first + run.count - 1;
-        push_line_parts(query, scratch, bytes, line, number, &mut parts)?;
+        push_line_parts(query, strings, scratch, bytes, line, number, &mut parts)?;
     }
     push_run(&mut runs, run)?;
     let lines = run.first + run.count + count_lines(end, &bytes[run.span.end..]);
@@ -278,6 +301,7 @@ fn run_between(end: u8, bytes: &[u8], at: usize, stop: usize, first: usize) -> R
 fn runs_between_hits<A: Allocator + Copy>(
     alloc: A,
     query: &Query<A>,
+    strings: &BlockStrings<'_, A>,
     needles: &mut Needles<'_, A>,
     scratch: &mut Scratch<A>,
     bytes: &[u8],
@@ -285,6 +309,7 @@ fn runs_between_hits<A: Allocator + Copy>(
     requires compiled { IsCompiled query.now }
     requires inverted { query.now.text.invert ≡ true }
     requires needles { AreNeedles query.now.text bytes.now 0 needles.old }
+    requires strings { AreBlockStrings query.now.text bytes.now strings.now }
     requires fits { Fits scratch.old query.now.machine }
     requires short { AreShort (terminator_of query.now.text) bytes.now }
     ensures fits { Fits scratch.new query.now.machine }
@@ -296,7 +321,7 @@ fn runs_between_hits<A: Allocator + Copy>(
     let mut runs = Vec::new(alloc);
     let mut at = 0;
     let mut seen = 0;
-    while let Some(line) = next_hit(query, needles, scratch, bytes, at) {
+    while let Some(line) = next_hit(query, strings, needles, scratch, bytes, at) {
         let run = run_between(end, bytes, at, line.start, seen);
         push_run(&mut runs, run)?;
         at = line.end;
@@ -315,12 +340,14 @@ fn runs_between_hits<A: Allocator + Copy>(
 fn selected_runs<A: Allocator + Copy>(
     alloc: A,
     query: &Query<A>,
+    strings: &BlockStrings<'_, A>,
     needles: &mut Needles<'_, A>,
     scratch: &mut Scratch<A>,
     bytes: &[u8],
 ) -> Result<Found<A>, AllocError>
     requires compiled { IsCompiled query.now }
     requires needles { AreNeedles query.now.text bytes.now 0 needles.old }
+    requires strings { AreBlockStrings query.now.text bytes.now strings.now }
     requires fits { Fits scratch.old query.now.machine }
     requires short { AreShort (terminator_of query.now.text) bytes.now }
     ensures fits { Fits scratch.new query.now.machine }
@@ -329,9 +356,29 @@ fn selected_runs<A: Allocator + Copy>(
     ensures lines { IfOk result (λ found. found.lines ≡ length (lines (terminator_of query.now.text) bytes.now)) }
 {
     if query.text().invert {
-        runs_between_hits(alloc, query, needles, scratch, bytes)
+        runs_between_hits(alloc, query, strings, needles, scratch, bytes)
     } else {
-        runs_of_hits(alloc, query, needles, scratch, bytes)
+        runs_of_hits(alloc, query, strings, needles, scratch, bytes)
+    }
+}
+
+/// The set in which lines are looked for. There is none where the query is for fixed strings and whole lines: then one
+/// look-up tells of each line.
+fn sought_set<'l, A: Allocator>(
+    query: &Query<A>,
+    set: Option<&'l LiteralSet<A>>,
+) -> Option<&'l LiteralSet<A>>
+    ensures { (result ≡ set.entry) ⊎ (result ≡ None) }
+{
+    match set {
+        Some(found) => {
+            if found.is_fixed && query.text().whole {
+                None
+            } else {
+                set
+            }
+        }
+        None => None,
     }
 }
 
@@ -347,7 +394,7 @@ fn search_by<A: Allocator + Copy>(
 ) -> Result<Found<A>, AllocError>
     requires compiled { IsCompiled query.now }
     requires literals { AreLiterals query.now.text (map data_of literals.now) }
-    requires set { IfSome set (λ set. AreLiterals query.now.text (set_literals set.now)) }
+    requires set { IfSome set (λ set. IsSetOf query.now.text set.now) }
     requires searched { 0 < length literals.now → searched.now ≡ as_searched query.now.text.fold bytes.now }
     requires set_searched { IfSome set (λ _. searched.now ≡ as_searched query.now.text.fold bytes.now) }
     requires fits { Fits scratch.old query.now.machine }
@@ -357,8 +404,9 @@ fn search_by<A: Allocator + Copy>(
     ensures parts { IfOk result (λ found. HasParts query.now.text bytes.now found.parts.items) }
     ensures lines { IfOk result (λ found. found.lines ≡ length (lines (terminator_of query.now.text) bytes.now)) }
 {
-    let mut needles = Needles::new(alloc, literals, set, searched)?;
-    selected_runs(alloc, query, &mut needles, scratch, bytes)
+    let strings = BlockStrings::new(fixed_strings(set), searched);
+    let mut needles = Needles::new(alloc, literals, sought_set(query, set), searched)?;
+    selected_runs(alloc, query, &strings, &mut needles, scratch, bytes)
 }
 
 /// The runs of selected lines, their parts, and the number of all lines.

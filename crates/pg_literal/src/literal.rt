@@ -29,8 +29,8 @@ impl<A: Allocator + Copy> Literal<A> {
     ///
     /// With `fold` the case of letters is folded, as it was for the trees. Each tree gives one text, and each
     /// alternative of a tree that is an alternation. The trees of plain fixed strings give those strings, in their
-    /// order; where the bounds aren't `Any` and one of them is empty, there is none. A refused request for memory is the
-    /// only error.
+    /// order; where the bounds aren't `Any` and one string is empty, there are none. A refused request for memory is
+    /// the only error.
     pub fn of(
         alloc: A,
         trees: &[Tree<A>],

@@ -1,7 +1,8 @@
-use Rattle.std.proofs.Common.{◌≡◌, true, false, map, ap, sym, ◌∙◌, inl, inr}
+use Rattle.std.proofs.Common.{◌≡◌, ◌≤◌, ℕ, List, length, take, subst, true, false, map, ap, sym, ◌∙◌, inl, inr}
 use Rattle.pg_lines.specs.Search.{SearchText, search_of}
 use Rattle.pg_lines.specs.Selection.{parts}
 use Rattle.pg_lines.specs.BlockParts.{part_at}
+use Rattle.pg_lines.proofs.JudgeLemmas.{judges_front}
 use Rattle.pg_lines.proofs.PartLemmas.{kept_none, no_parts}
 use Rattle.pg_lines.proofs.parts.push_line_parts.Goals as goal
 use Rattle.pg_lines.proofs.parts.push_line_parts.Goals.{else-options-via-then-options+else-not-options}
@@ -38,3 +39,11 @@ returns-then-not-options-clause-fits g c = c.push_parts.ensures.fits
 
 pub returns-else-options-clause-fits : goal.returns-else-options-clause-fits
 returns-else-options-clause-fits g c = c.requires.fits
+
+pub push_parts-requires-clause-line : goal.push_parts-requires-clause-line
+push_parts-requires-clause-line g c =
+    let text = c.text_of-text.result.now in
+    let Front : List ℕ → Type 0 = λ l. (text ≡ take (length text) l) × (length text ≤ length l) in
+    let front = subst Front c.of.ensures (c.text_of-text.ensures.front, c.text_of-text.ensures.short) in
+    judges_front c.args.query.now.text c.args.bytes.now c.args.strings.now c.requires.strings text c.args.line.start
+    c.args.line.end c.requires.ordered c.requires.within front.0 front.1

@@ -1,17 +1,21 @@
 use Rattle.std.proofs.lemmas.Result.{IfOk-from_err}
-use Rattle.std.proofs.Common.{◌≡◌, ◌<◌, List, length, map, sym, ap, subst, rules}
-use Rattle.std.specs.List.{All}
+use Rattle.std.proofs.Common.{◌≡◌, ◌<◌, Bool, List, length, map, sym, ap, subst, rules}
+use Rattle.std.specs.List.{All, AllZip}
 use Rattle.pg_syntax.specs.Trees.{pattern}
 use Rattle.pg_literal.specs.Literals as P
 use Rattle.pg_literal.specs.declared.literal.Literal.{Literal}
 use Rattle.pg_lines.specs.Literals.{AreLiterals, data_of}
 use Rattle.pg_lines.specs.Lines.{IsLine}
-use Rattle.pg_lines.specs.Search.{SearchText, Bounds, terminator_of}
+use Rattle.pg_syntax.specs.Grammar.{Spells}
+use Rattle.pg_syntax.specs.ListResults.{AreSpelled}
+use Rattle.pg_literal.specs.Literals.{as_searched}
+use Rattle.pg_lines.specs.Search.{SearchText, Bounds, Kind, Fixed, patterns, terminator_of}
 use Rattle.pg_lines.proofs.LiteralLemmas.{literals_are, no_literals}
+use Rattle.pg_lines.proofs.StringLemmas.{spelled_zip}
 use Rattle.pg_lines.proofs.query.literals_of.Goals as goal
 
-pub returns-then-are_within_lines : goal.returns-then-are_within_lines
-returns-then-are_within_lines g c =
+pub returns-then-are_within_lines-clause-literals : goal.returns-then-are_within_lines-clause-literals
+returns-then-are_within_lines-clause-literals g c =
     let text = c.args.text.now in
     let trees = map (pattern {A = g.row.A.Denot}) c.args.trees.now in
     let literals = c.in_ok-literals.literals.items in
@@ -27,10 +31,26 @@ returns-then-are_within_lines g c =
     c.terminator.ensures none) in
     literals_are text trees c.requires.trees literals alone says.0 says.1
 
-pub returns-in_err-literals : goal.returns-in_err-literals
-returns-in_err-literals g c = IfOk-from_err c.from_residual.result _ c.from_residual.ensures.0
+pub returns-then-are_within_lines-clause-fixed : goal.returns-then-are_within_lines-clause-fixed
+returns-then-are_within_lines-clause-fixed g c = λ is_fixed some.
+    let text = c.args.text.now in
+    let trees = map (pattern {A = g.row.A.Denot}) c.args.trees.now in
+    let literals = c.in_ok-literals.literals.items in
+    let texts = patterns text.lists in
+    let fold : text.fold ≡ c.text.inside.fold = sym (ap (λ (t : SearchText). t.fold) c.text.view_is) in
+    let Spelled : Kind → Type 0 = λ k. AreSpelled k text.fold texts trees in
+    let zip = spelled_zip text.fold texts trees (subst Spelled is_fixed c.requires.trees) in
+    let Zip : Bool → Type 0 = λ f. AllZip (Spells Fixed f) texts trees in
+    let Same : Bool → Type 0 = λ f. map (λ literal. literal.text.items) literals ≡ map (as_searched f) texts in
+    subst Same (sym fold) (c.in_ok-literals.ensures.exact texts (subst Zip fold zip) some)
 
-pub returns-else-are_within_lines : goal.returns-else-are_within_lines
-returns-else-are_within_lines g c =
+pub returns-in_err-literals-clause-literals : goal.returns-in_err-literals-clause-literals
+returns-in_err-literals-clause-literals g c = IfOk-from_err c.from_residual.result _ c.from_residual.ensures.0
+
+pub returns-in_err-literals-clause-fixed : goal.returns-in_err-literals-clause-fixed
+returns-in_err-literals-clause-fixed g c = λ _. IfOk-from_err c.from_residual.result _ c.from_residual.ensures.0
+
+pub returns-else-are_within_lines-clause-literals : goal.returns-else-are_within_lines-clause-literals
+returns-else-are_within_lines-clause-literals g c =
     let P : List (Literal g.row.A.Denot) → Type 0 = λ ls. AreLiterals c.args.text.now (map data_of ls) in
     subst P (sym c.new.ensures.items) (no_literals c.args.text.now)

@@ -6,10 +6,21 @@ use Rattle.pg_match.specs.Tests.{has_hit}
 use Rattle.pg_match.proofs.TestLemmas.{hits_decided}
 use Rattle.pg_lines.specs.Search.{Pattern, bounds_of}
 use Rattle.pg_lines.specs.Same.{same_trees}
+use Rattle.pg_lines.proofs.HitLemmas.{hit_found, hit_missed}
 use Rattle.pg_lines.proofs.search.has_hit.Goals as goal
 
-pub returns-clause-hit : goal.returns-clause-hit
-returns-clause-hit g c = λ trees spelled.
+pub returns-in-Found-clause-hit : goal.returns-in-Found-clause-hit
+returns-in-Found-clause-hit g c = λ trees spelled.
+    let next = c.in-Found.ensures trees spelled in
+    sym (hit_found trees (bounds_of c.args.query.now.text) c.args.line.now _ _ next.hit)
+
+pub returns-in-Nowhere-clause-hit : goal.returns-in-Nowhere-clause-hit
+returns-in-Nowhere-clause-hit g c = λ trees spelled.
+    let none = c.in-Nowhere.ensures trees spelled in
+    sym (hit_missed trees (bounds_of c.args.query.now.text) c.args.line.now none)
+
+pub returns-in-GaveUp-clause-hit : goal.returns-in-GaveUp-clause-hit
+returns-in-GaveUp-clause-hit g c = λ trees spelled.
     let text = c.args.query.now.text in
     let line = c.args.line.now in
     let own = c.machine.ensures.compiled in

@@ -6,6 +6,7 @@ use Rattle.pg_lines.specs.Candidates.{literals_sought}
 use Rattle.pg_lines.specs.declared.span.Span.{Span}
 use Rattle.pg_lines.proofs.CandidateLemmas.{skipped_all, skipped_some, skipped_more, missed_without}
 use Rattle.pg_lines.proofs.CandidateLemmas.{first_selected, first_enough, first_short, found_text}
+use Rattle.pg_lines.proofs.JudgeLemmas.{judges_front}
 use Rattle.pg_lines.proofs.SoughtLemmas.{are_sought, needles_later}
 use Rattle.pg_lines.proofs.search.next_confirmed.Goals as goal
 use Rattle.pg_lines.proofs.search.next_confirmed.Goals.{then-found-via-then-found}
@@ -38,8 +39,8 @@ has_hit-requires-clause-short g c =
     let any : 0 < length literals =
     subst (λ ls. 0 < length ls) (sym c.next_line.ensures.literals) i.some in
     let first = c.in-Found.ensures.next.3 in
-    let cut = found_text text.fold E literals from bytes found c.terminator-end.result c.text_of.result.now
-    c.terminator-end.ensures first c.text_of.ensures.text in
+    let cut = found_text text.fold E literals from bytes found c.terminator-end.result c.text_of-text.result.now
+    c.terminator-end.ensures first c.text_of-text.ensures.text in
     let P : List ℕ → Type 0 = λ l. length l ≤ 2 ^ 30 in
     subst P (sym cut) (first_short text.fold E literals from bytes found first i.short).0
 
@@ -62,8 +63,8 @@ returns-then-found-clause-some g c = λ trees spelled.
       | then-found-via-then-found w ↦
           first_enough text trees spelled literals are any from (drop from bytes) found first w.if-found.true
       | then-found-via-else-found+then-has_hit w ↦
-          let cut = found_text text.fold E literals from bytes found c.terminator-end.result w.text_of.result.now
-          c.terminator-end.ensures first w.text_of.ensures.text in
+          let cut = found_text text.fold E literals from bytes found c.terminator-end.result c.text_of-text.result.now
+          c.terminator-end.ensures first c.text_of-text.ensures.text in
           first_selected text trees spelled literals are any from (drop from bytes) found first
           (ap (selects q) (sym cut) ∙ (sym (w.has_hit.ensures.hit trees spelled) ∙ w.if-has_hit.true))
     ])
@@ -82,8 +83,8 @@ loop-in_vain-preserved g c =
     let any : 0 < length literals =
     subst (λ ls. 0 < length ls) (sym c.next_line.ensures.literals) i.some in
     let first = c.in-Found.ensures.next.3 in
-    let cut = found_text text.fold E literals from bytes found c.terminator-end.result c.text_of.result.now
-    c.terminator-end.ensures first c.text_of.ensures.text in
+    let cut = found_text text.fold E literals from bytes found c.terminator-end.result c.text_of-text.result.now
+    c.terminator-end.ensures first c.text_of-text.ensures.text in
     let next = c.in-Found.ensures.next in
     record {
       fits = c.has_hit.ensures.fits;
@@ -171,3 +172,17 @@ next_matched-requires-2-clause-short g c = c.loop-in_vain.invariant.short
 
 pub returns-clause-fits : goal.returns-clause-fits
 returns-clause-fits g c = c.next_matched-2.ensures.fits
+
+pub has_hit-requires-clause-line : goal.has_hit-requires-clause-line
+has_hit-requires-clause-line g c =
+    let line = c.in-Found.found.line in
+    let next = c.in-Found.ensures.next in
+    let text = c.text_of-text.ensures in
+    judges_front c.args.query.now.text c.args.bytes.now c.args.strings.now c.requires.strings c.text_of-text.result.now
+    line.start line.end (omega (arith, next.1)) next.2 text.front text.short
+
+pub next_matched-requires-clause-strings : goal.next_matched-requires-clause-strings
+next_matched-requires-clause-strings g c = c.requires.strings
+
+pub next_matched-requires-2-clause-strings : goal.next_matched-requires-2-clause-strings
+next_matched-requires-2-clause-strings g c = c.requires.strings

@@ -53,3 +53,9 @@ returns-else-is_empty-clause-some g c = c.next_confirmed.ensures.some
 
 pub returns-else-is_empty-clause-none : goal.returns-else-is_empty-clause-none
 returns-else-is_empty-clause-none g c = c.next_confirmed.ensures.none
+
+pub next_matched-requires-clause-strings : goal.next_matched-requires-clause-strings
+next_matched-requires-clause-strings g c = c.requires.strings
+
+pub next_confirmed-requires-clause-strings : goal.next_confirmed-requires-clause-strings
+next_confirmed-requires-clause-strings g c = c.requires.strings

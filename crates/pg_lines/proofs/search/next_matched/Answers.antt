@@ -1,7 +1,9 @@
 use Rattle.std.proofs.Common.{ℕ, ◌+◌, ◌-◌, List, length, take, drop, sym, ◌∙◌, subst, arith, refl, inl, inr}
+use Rattle.std.proofs.Common.{ap, length-drop}
 use Rattle.std.proofs.lemmas.List.{take_rest}
 use Rattle.pg_lines.specs.Search.{search_of, uninverted, terminator_of}
 use Rattle.pg_lines.specs.Gathered.{IsNextLine}
+use Rattle.pg_lines.proofs.JudgeLemmas.{judges_behind}
 use Rattle.pg_lines.proofs.RunLemmas.{line_found, line_passed, line_unselected}
 use Rattle.pg_lines.proofs.ScanLemmas.{GoesOn, scanned, not_passed, scanned_short}
 use Rattle.pg_lines.proofs.search.next_matched.Goals as goal
@@ -65,3 +67,13 @@ returns-then-has_hit-clause-fits g c = c.has_hit.ensures.fits
 
 pub returns-clause-fits : goal.returns-clause-fits
 returns-clause-fits g c = c.loop-start.invariant.fits
+
+pub has_hit-requires-clause-line : goal.has_hit-requires-clause-line
+has_hit-requires-clause-line g c =
+    let bytes = c.args.bytes.now in
+    let at = c.args.at in
+    let e = c.line_end-stop.ensures in
+    let long = ap length (take_rest bytes at) in
+    let behind = length-drop at bytes in
+    judges_behind c.args.query.now.text bytes c.args.strings.now c.requires.strings at c.loop-start.start
+    c.line_end-stop.result c.requires.at e.low (omega (arith, e.high, long, behind))

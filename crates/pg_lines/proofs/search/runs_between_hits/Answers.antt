@@ -135,3 +135,6 @@ returns-in_err-push_run-2-clause-fits g c = c.in_default.ensures.fits
 
 pub returns-clause-fits : goal.returns-clause-fits
 returns-clause-fits g c = c.in_default.ensures.fits
+
+pub next_hit-requires-clause-strings : goal.next_hit-requires-clause-strings
+next_hit-requires-clause-strings g c = c.requires.strings

@@ -218,3 +218,9 @@ returns-in_err-push_run-clause-fits g c = c.in_default.ensures.fits
 
 pub returns-clause-fits : goal.returns-clause-fits
 returns-clause-fits g c = c.in_default.ensures.fits
+
+pub next_hit-requires-clause-strings : goal.next_hit-requires-clause-strings
+next_hit-requires-clause-strings g c = c.requires.strings
+
+pub push_line_parts-requires-clause-strings : goal.push_line_parts-requires-clause-strings
+push_line_parts-requires-clause-strings g c = c.requires.strings

@@ -53,3 +53,9 @@ returns-else-text-clause-parts g c = c.runs_of_hits.ensures.parts
 
 pub returns-else-text-clause-lines : goal.returns-else-text-clause-lines
 returns-else-text-clause-lines g c = c.runs_of_hits.ensures.lines
+
+pub runs_between_hits-requires-clause-strings : goal.runs_between_hits-requires-clause-strings
+runs_between_hits-requires-clause-strings g c = c.requires.strings
+
+pub runs_of_hits-requires-clause-strings : goal.runs_of_hits-requires-clause-strings
+runs_of_hits-requires-clause-strings g c = c.requires.strings

@@ -1,9 +1,11 @@
 use Rattle.std.proofs.lemmas.Result.{IfOk-from_err}
-use Rattle.std.proofs.Common.{List, map, sym, ap, subst, inl, inr}
+use Rattle.std.proofs.Common.{◌≡◌, ◌<◌, length, List, map, sym, ap, subst, inl, inr}
 use Rattle.pg_literal.specs.declared.literal.Literal.{Literal}
+use Rattle.pg_literal.specs.Literals.{as_searched}
 use Rattle.pg_lines.specs.Literals.{AreLiterals, data_of}
+use Rattle.pg_lines.specs.Search.{Fixed, patterns}
 use Rattle.pg_lines.proofs.LiteralLemmas.{no_literals}
-use Rattle.pg_lines.proofs.NeedleSetLemmas.{prepared_are}
+use Rattle.pg_lines.proofs.NeedleSetLemmas.{prepared_are, set_is}
 use Rattle.pg_lines.proofs.query.Query.compile.Goals as goal
 
 pub invariant_of-result : goal.invariant_of-result
@@ -11,16 +13,21 @@ invariant_of-result g c =
     let text = c.args.text in
     let literals = c.in_ok-literals.literals.items in
     let few = c.few_of.result.items in
-    let are = c.in_ok-literals.ensures in
+    let are = c.in_ok-literals.ensures.literals in
     let Are : List (Literal g.row.A.Denot) → Type 0 = λ ls. AreLiterals text (map data_of ls) in
+    let Exact : List (Literal g.row.A.Denot) → Type 0 = λ ls. text.kind ≡ Fixed → 0 < length ls
+    → map (λ l. l.text.items) ls ≡ map (as_searched text.fold) (patterns text.lists) in
+    let exact = subst Exact (sym c.deref.ensures.value) c.in_ok-literals.ensures.fixed in
     let seen = subst Are (sym c.deref.ensures.value) are in (
       c.in_ok-machine.ensures.machine,
       elim c.few_of.ensures [
         | inl same ↦ subst Are (sym (ap (λ v. v.items) same)) are
         | inr none ↦ subst Are (sym none) (no_literals text)
       ],
-      prepared_are text c.deref.result.now c.in_ok-literal_set.literal_set seen c.in_ok-literal_set.ensures.strings
-          c.in_ok-literal_set.ensures.enough,
+      set_is text c.deref.result.now c.in_ok-literal_set.literal_set c.is_fixed.result c.is_fixed.ensures exact
+          c.in_ok-literal_set.ensures.strings c.in_ok-literal_set.ensures.fixed
+          (prepared_are text c.deref.result.now c.in_ok-literal_set.literal_set seen
+          c.in_ok-literal_set.ensures.strings c.in_ok-literal_set.ensures.enough),
     )
 
 pub returns-in_err-trees-clause-text : goal.returns-in_err-trees-clause-text

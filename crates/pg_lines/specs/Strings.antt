@@ -1,0 +1,74 @@
+-- Queries whose patterns are all fixed strings, and where these stand in a line (XCU grep, -F; GNU grep, -w and -o).
+use Rattle.std.specs.Prelude.{◌≡◌, ℕ, ◌+◌, ◌<◌, ◌≤◌, List, length, map, slice_range, IfSome}
+use Rattle.std.specs.Prelude.{Option, MatchOption, IsTrue}
+use Rattle.std.specs.List.{Any}
+use Rattle.memchr.specs.Find.{OccursAt}
+use Rattle.pg_match.specs.Bounds.{MayBegin, MayEnd}
+use Rattle.pg_match.specs.Hits.{Hit, IsNext}
+use Rattle.pg_literal.specs.Literals.{as_searched}
+use Rattle.pg_strings.specs.Outcomes.{strings_of}
+use Rattle.pg_lines.specs.Search.{SearchText, Pattern, Bounds, Fixed, patterns}
+use Rattle.pg_lines.specs.Literals.{AreLiterals, set_literals}
+use Rattle.pg_lines.specs.declared.literal_set.LiteralSet.{LiteralSet}
+use Rattle.pg_lines.specs.declared.strings.BlockStrings.{BlockStrings}
+use Rattle.pg_lines.specs.declared.strings.NextString.{NextString}
+use Rattle.pg_lines.specs.declared.strings.NextString.TheVariants.{Found, Nowhere, GaveUp}
+
+-- the strings are the patterns, which are fixed strings; with -i they are in lower case
+pub record AreStrings (text : SearchText) (strings : List (List ℕ)) : Type 0 where
+  pub fixed : text.kind ≡ Fixed
+  pub each : strings ≡ map (as_searched text.fold) (patterns text.lists)
+
+-- a string stands in the line from one place up to another, and a match may begin and end there
+pub record IsStringHit (strings : List (List ℕ)) (bounds : Bounds) (line : List ℕ) (i j : ℕ) : Type 0 where
+  pub begins : MayBegin bounds line i
+  pub ends : MayEnd bounds line j
+  pub stands : Any (λ string. OccursAt line string i × (i + length string ≡ j)) strings
+
+-- of the strings that stand so the one that starts first from a place on, and of these the longest
+pub record IsNextString (strings : List (List ℕ)) (bounds : Bounds) (line : List ℕ) (place i j : ℕ) : Type 0 where
+  pub later : place ≤ i
+  pub some : i < j
+  pub hit : IsStringHit strings bounds line i j
+  pub first : (i' j' : ℕ) → place ≤ i' → i' < i → IsStringHit strings bounds line i' j' → ⊥
+  pub longest : (j' : ℕ) → IsStringHit strings bounds line i j' → j' ≤ j
+
+-- no string stands so from a place on
+abbrev pub HasNoString : List (List ℕ) → Bounds → List ℕ → ℕ → Type 0
+HasNoString strings bounds line place = (i j : ℕ) → place ≤ i → IsStringHit strings bounds line i j → ⊥
+
+-- the end of the longest string that stands so at a place, if one does
+abbrev pub IsLongestHit : List (List ℕ) → Bounds → List ℕ → ℕ → Option ℕ → Type 0
+IsLongestHit strings bounds line place stop = MatchOption stop ((j : ℕ) → IsStringHit strings bounds line place j → ⊥)
+    (λ stop. (place < stop) × IsStringHit strings bounds line place stop
+    × ((j : ℕ) → IsStringHit strings bounds line place j → j ≤ stop))
+
+-- the next string of a line, if the search wasn't given up
+abbrev pub FindsString : List (List ℕ) → Bounds → List ℕ → ℕ → NextString → Type 0
+FindsString strings bounds line place (Found span) = IsNextString strings bounds line place span.start span.end
+FindsString strings bounds line place Nowhere = HasNoString strings bounds line place
+FindsString strings bounds line place GaveUp = Unit {0}
+
+-- the next match of some patterns from a place on, none of which is empty; or there is none
+abbrev pub FindsPart : List Pattern → Bounds → List ℕ → ℕ → NextString → Type 0
+FindsPart patterns bounds line place (Found span) = IsNext patterns bounds line place span.start span.end
+FindsPart patterns bounds line place Nowhere = (i j : ℕ) → place ≤ i → Hit patterns bounds line i j → ⊥
+FindsPart patterns bounds line place GaveUp = Unit {0}
+
+-- the literals of a set tell of the query's lines; where it says so they are its patterns
+abbrev pub IsSetOf : {A : Type 0} → SearchText → LiteralSet A → Type 0
+IsSetOf text set =
+    AreLiterals text (set_literals set) × (IsTrue set.is_fixed → AreStrings text (strings_of set.strings))
+
+-- the strings of a query, if there are such, and the bytes as they are searched for in them
+abbrev pub AreBlockStrings : {A : Type 0} → SearchText → List ℕ → BlockStrings A → Type 0
+AreBlockStrings text bytes strings =
+    IfSome strings.set (λ set. AreStrings text (strings_of set.now)
+    × (strings.searched.now ≡ as_searched text.fold bytes))
+
+-- the same, where the line stands at a place of the bytes
+abbrev pub JudgesLine : {A : Type 0} → SearchText → BlockStrings A → List ℕ → ℕ → Type 0
+JudgesLine text strings line at =
+    IfSome strings.set (λ set. AreStrings text (strings_of set.now)
+    × (at + length line ≤ length strings.searched.now)
+    × (slice_range strings.searched.now at (at + length line) ≡ as_searched text.fold line))

@@ -1,0 +1,149 @@
+//! The strings of a query whose patterns are all fixed strings: its lines are judged by them alone.
+ghost use Rattle.std.specs.Prelude.{◌≡◌, ◌≤◌, List, length};
+ghost use Rattle.pg_strings.specs.Outcomes.{strings_of};
+ghost use Rattle.pg_lines.specs.Search.{Pattern, AreTreesOf, bounds_of};
+ghost use Rattle.pg_lines.specs.Strings.{IsLongestHit, FindsString, FindsPart, JudgesLine};
+
+use crate::borders::{may_begin, may_end};
+use crate::query::Query;
+use crate::span::Span;
+use pg_match::Bounds;
+use pg_strings::{Budget, Outcome, StringSet};
+use std::alloc::Allocator;
+
+/// What the search of one line may spend on comparing strings, beyond what the bytes that are passed add.
+const ALLOWANCE: usize = 1_024;
+
+/// What the search for the next string of a line came to.
+#[derive(Clone, Copy)]
+pub(crate) enum NextString {
+    /// Where it stands in the line.
+    Found(Span),
+    /// There is none.
+    Nowhere,
+    /// To look for strings takes too long here, or there are none to look for.
+    GaveUp,
+}
+
+/// The strings by which the lines of a block are judged, if the query is one of fixed strings, and the block's bytes.
+pub(crate) struct BlockStrings<'s, A: Allocator> {
+    set: Option<&'s StringSet<A>>,
+    /// The block's bytes, where case is folded in lower case.
+    searched: &'s [u8],
+}
+
+impl<'s, A: Allocator> Drop for BlockStrings<'s, A> {
+    fn drop(self) {
+        let BlockStrings {
+            set: _,
+            searched: _,
+        } = self;
+    }
+}
+
+/// The end of the longest string that stands at a place of a line, of those that begin and end where a match may.
+fn longest_hit<A: Allocator>(
+    set: &StringSet<A>,
+    bounds: Bounds,
+    line: &[u8],
+    place: usize,
+) -> Option<usize>
+    requires { place ≤ length line.now }
+    ensures { IsLongestHit (strings_of set.now) bounds line.now place result }
+{
+    if !may_begin(bounds, line, place) {
+        return None;
+    }
+    let mut stop = line.len();
+    while let Some(len) = set.longest_at(&line[..stop], place) {
+        let end = place + len;
+        if may_end(bounds, line, end) {
+            return Some(end);
+        }
+        // A shorter string may have its border.
+        stop = end - 1;
+    }
+    None
+}
+
+/// The first string from a place of a line on, and of those that start there the longest, where a match may begin and
+/// end.
+fn next_standing<A: Allocator>(
+    set: &StringSet<A>,
+    bounds: Bounds,
+    line: &[u8],
+    from: usize,
+) -> NextString
+    requires { from ≤ length line.now }
+    ensures { FindsString (strings_of set.now) bounds line.now from result }
+{
+    let mut budget = Budget { left: ALLOWANCE };
+    let mut at = from;
+    while at <= line.len() {
+        let place = match set.find(line, at, &mut budget) {
+            Outcome::Found(place) => place,
+            Outcome::NotFound => return NextString::Nowhere,
+            Outcome::GaveUp(_) => return NextString::GaveUp,
+        };
+        if let Some(end) = longest_hit(set, bounds, line, place) {
+            return NextString::Found(Span { start: place, end });
+        }
+        at = place + 1;
+    }
+    NextString::Nowhere
+}
+
+/// The whole line, if it is one of the strings and the search begins at its start.
+fn whole_line<A: Allocator>(set: &StringSet<A>, line: &[u8], from: usize) -> NextString
+    ensures { FindsString (strings_of set.now) Bounds.Whole line.now from result }
+{
+    if from == 0 && set.contains(line) {
+        NextString::Found(Span {
+            start: 0,
+            end: line.len(),
+        })
+    } else {
+        NextString::Nowhere
+    }
+}
+
+/// The next string of a line, as the bounds ask for it.
+fn next_string<A: Allocator>(
+    set: &StringSet<A>,
+    bounds: Bounds,
+    line: &[u8],
+    from: usize,
+) -> NextString
+    requires { from ≤ length line.now }
+    ensures { FindsString (strings_of set.now) bounds line.now from result }
+{
+    match bounds {
+        Bounds::Whole => whole_line(set, line, from),
+        Bounds::Any | Bounds::Word => next_standing(set, bounds, line, from),
+    }
+}
+
+impl<'s, A: Allocator> BlockStrings<'s, A> {
+    pub fn new(set: Option<&'s StringSet<A>>, searched: &'s [u8]) -> BlockStrings<'s, A>
+        ensures set { result.set ≡ set.entry }
+        ensures searched { result.searched.now ≡ searched.now }
+    {
+        BlockStrings { set, searched }
+    }
+
+    /// Of a line that stands at a place of the block the next match from a place of the line on.
+    pub fn next_part(&self, query: &Query<A>, line: &[u8], at: usize, from: usize) -> NextString
+        requires line { JudgesLine query.now.text self.now line.now at }
+        requires from { from ≤ length line.now }
+        ensures { (trees : List Pattern) → AreTreesOf query.now.text trees
+            → FindsPart trees (bounds_of query.now.text) line.now from result }
+    {
+        match self.set {
+            Some(set) => {
+                let searched = &self.searched[at..at + line.len()];
+                next_string(set, query.text().bounds(), searched, from)
+            }
+            None => NextString::GaveUp,
+        }
+    }
+}
