@@ -1,8 +1,8 @@
 #!/bin/sh
 # Times pargrep, GNU grep and, where there is one, ripgrep by one thread each, and pargrep by four more, on what is hard
 # for a searcher: lists of words of the text itself that were altered in their last letter, so that each begins
-# everywhere and stands nowhere; hostile lists; many expressions; logs; one long line. It prints each time and its ratio
-# to GNU grep's.
+# everywhere and stands nowhere, and lists of words that stand there; hostile lists; many expressions; logs; one long
+# line. It prints each time and its ratio to GNU grep's.
 # Usage: bench/lists.sh PARGREP [MEGABYTES]
 # `--round 1` has pargrep search each block in the thread that read it. The texts are kept in a folder of its own that is
 # removed at the end.
@@ -58,6 +58,11 @@ altered() {
     dictionary dictionary | head -n "$1"
 }
 
+# known COUNT: so many of the words, frequent and rare ones, which stand in the text.
+known() {
+  awk -v step="$((20000 / $1))" 'NR % step == 3 % step' dictionary | head -n "$1"
+}
+
 # row LABEL FILE WORDS..: times all on a file, sees that pargrep and GNU grep write the same, and prints a line.
 row() {
   label=$1
@@ -82,18 +87,18 @@ row() {
 
 echo "$(grep --version | head -n 1); $(wc -c < text) bytes; best of $rounds runs; load $(load)"
 echo "Ratios to GNU grep's time:"
-for count in 10 60 100 400 2000; do
-  altered "$count" > list
-  rg_words="-F -c -f list" row "$count words, -c" text -F -c -f list
-  rg_words="-F -c -i -f list" row "$count words, -ci" text -F -c -i -f list
-  rg_words="-F -c -w -f list" row "$count words, -cw" text -F -c -w -f list
-  rg_words="-F -c -x -f list" row "$count words, -cx" text -F -c -x -f list
-  rg_words="-F -o -f list" row "$count words, -o" text -F -o -f list
-  rg_words="-F -c -v -x -f list" row "$count words, -cvx" text -F -c -v -x -f list
+for kind in altered known; do
+  for count in 10 60 100 400 2000; do
+    "$kind" "$count" > list
+    rg_words="-F -c -f list" row "$count $kind words, -c" text -F -c -f list
+    rg_words="-F -c -i -f list" row "$count $kind words, -ci" text -F -c -i -f list
+    rg_words="-F -c -w -f list" row "$count $kind words, -cw" text -F -c -w -f list
+    rg_words="-F -c -x -f list" row "$count $kind words, -cx" text -F -c -x -f list
+    rg_words="-F -o -f list" row "$count $kind words, -o" text -F -o -f list
+    rg_words="-F -c -v -x -f list" row "$count $kind words, -cvx" text -F -c -v -x -f list
+  done
 done
-sed -n '100~97p' dictionary | head -n 200 > list
-rg_words="-F -c -f list" row "200 words of the text, -c" text -F -c -f list
-rg_words="-F -o -f list" row "200 words of the text, -o" text -F -o -f list
+known 200 > list
 sed 's/$/[0-9]+x/' list > expressions
 rg_words="-c -f expressions" row "200 expressions, -cE" text -E -c -f expressions
 
