@@ -2,11 +2,12 @@
 """Tries wrong bodies in groups: `tests/refuse.py [--all] [--keep FOLDER] [--read] [NAME..]`
 
 An edit, `crates/CRATE/refused/NAME.edit`, turns a function into a wrong one, in the format of the edits of
-`must-fail/`. The edits of a crate that touch different functions are applied at once to a copy of the crate, which is
-checked once over what earlier checks of it proved. Callers of a wrong function see its contract alone, so each wrong
-function must be refused by a message of its own: an open goal on one of its lines, or an answer of its proof that
-doesn't fit its goal. A proof that only misses a name refuses nothing. An edit without a refusal of its own in the
-group is tried alone, as is one that touches anything but bodies: there any open goal counts.
+`must-fail/`. It may mend the proof of that function too, so that what refuses it is a promise, and not that an answer
+names what the function has no more. The edits of a crate that touch different functions are applied at once to a copy
+of the crate, which is checked once over what earlier checks of it proved. Callers of a wrong function see its contract
+alone, so each wrong function must be refused by a message of its own: an open goal on one of its lines, or an answer of
+its proof that doesn't fit its goal. A proof that only misses a name refuses nothing. An edit without a refusal of its
+own in the group is tried alone, as is one that touches anything but bodies: there any open goal counts.
 
 A NAME is a crate or an edit, `late-double-taken` or `pg_seq/late-double-taken`; none: all. With --all those of
 `must-fail/` are tried too, and with --keep what each check said is kept in FOLDER. The command of the toolchain is
@@ -89,12 +90,12 @@ def read_pairs(path):
         elif line.startswith("new:"):
             if not file or not old:
                 raise BadEdit("a 'new:' line stands before any 'file:' or 'old:' line")
-            if not file.startswith("src/") or ".." in file:
-                raise BadEdit(f"{file} is no file of src/, and a wrong body stands in code")
+            if not file.startswith(("src/", "proofs/")) or ".." in file:
+                raise BadEdit(f"{file} is no file of src/ or proofs/, and a wrong body turns no promise")
             pairs.append(Pair(file, old, line.removeprefix("new:").removeprefix(" ")))
             old = None
-    if not pairs:
-        raise BadEdit("it has no 'old:' and 'new:' pair")
+    if not any(it.file.startswith("src/") for it in pairs):
+        raise BadEdit("it has no 'old:' and 'new:' pair of code")
     return pairs
 
 
@@ -186,6 +187,8 @@ def place_edit(edit, folder):
     edit.pairs = read_pairs(edit.path)
     _, places = applied(edit.pairs, {}, folder)
     for file, line in places:
+        if file.startswith("proofs/"):
+            continue
         found = functions_of(file, (folder / file).read_text(encoding="utf-8"))
         around = [it for it in found if it.first <= line <= it.last]
         edit.is_wider |= not any(it.body <= line for it in around)
@@ -265,9 +268,10 @@ def copy_repository(crate, room):
 def try_edits(crate, edits):
     """Checks a fresh copy of the crate with the edits, over the proofs that the crate has."""
     texts, _ = applied([pair for it in edits for pair in it.pairs], {}, crate.folder())
-    for part in ["src", "out"]:
+    for part in ["src", "proofs", "out"]:
         shutil.rmtree(crate.copy() / part, ignore_errors=True)
-        shutil.copytree(crate.folder() / part, crate.copy() / part)
+        if (crate.folder() / part).is_dir():
+            shutil.copytree(crate.folder() / part, crate.copy() / part)
     for file, text in texts.items():
         (crate.copy() / file).write_text(text, encoding="utf-8")
     # One job takes the least processor time.
@@ -296,7 +300,8 @@ class Message:
         # A closure has a folder below that of its function, in one named `fn`.
         if "fn" in folder:
             return [it for it in folder if it != "fn"][: len(path)] == path
-        return folder == path
+        # The methods of one type may stand in several files, and their proofs in the folder of the type's own file.
+        return folder == path or "/" in function.name and folder[1:] == function.name.split("/")
 
     def shown(self):
         return f"{self.file}:{self.line}: {self.text}"[:160]
