@@ -26,14 +26,14 @@ const CUT: &str = "%0A a%0Abc%0A%0Ad => 7.0:a%0Abc%0A 7.1:%0Ad
 %0A a%0Abc %0A%0Ad => 7.0:a%0Abc%0A 7.1:%0Ad
 %0A a%0Abc%0A %0Ad => 7.0:a%0Abc%0A 7.1:%0Ad
 %0A a%0Abc%0A%0A d => 7.0:a%0Abc%0A 7.1:%0Ad
-%0A =>
+%0A  =>
 %0A a%0A%0Ab%0A%0A%0Acd%0A => 7.0:a%0A%0A 7.1:b%0A%0A 7.2:%0Acd%0A
 %0A abcd%0A abcde abcd e => 7.0:abcd%0A (line too long) (line too long) 7.1:abcd
 %00 a%00b%0Ac%00%00d => 7.0:a%00b%0Ac%00 7.1:%00d
 %00 a %00 b %0A c %00 %00 d => 7.0:a%00b%0Ac%00 7.1:%00d
 %00 a%00b%0A c%00%00d => 7.0:a%00b%0Ac%00 7.1:%00d
 %0A a%00b%0Ac%00%00d => 7.0:a%00b%0A 7.1:c%00%00d
-%00 =>
+%00  =>
 %00 %0A%0A%0A => 7.0:%0A%0A%0A
 %00 ab%0Acd%0A => (line too long)
 %0A ab%0Acd%0A => 7.0:ab%0A 7.1:cd%0A

@@ -173,11 +173,15 @@ b|?|a| 255 false full => out of memory";
 
 /// The stand-in of which a row tells.
 fn stand_in(rt: &impl Abort, names: &'static str, faults: &str) -> StandIn {
-    let (unknown, fails) = cut(faults, " ");
+    let (unknown, fails) = cut(rt, faults, " ");
     StandIn {
         names,
         unknown: unknown.parse().expect(rt, "a byte"),
-        fails: fails == "true",
+        fails: match fails {
+            "true" => true,
+            "false" => false,
+            _ => panic!(rt; "whether the end can't be read"),
+        },
     }
 }
 
@@ -188,9 +192,9 @@ fn walked_over<R: Files + Drop>(alloc: Global, rt: R, operand: &str) -> Result<S
 
 /// A walk over a directory gives what a row wants.
 fn assert_names(rt: &impl Abort, alloc: Global, row: &'static str) {
-    let (asked, want) = halves(row);
-    let (names, rest) = asked.split_once(' ').unwrap_or((asked, ""));
-    let (faults, operand) = rest.rsplit_once(' ').unwrap_or((rest, ""));
+    let (asked, want) = halves(rt, row);
+    let (names, rest) = cut(rt, asked, " ");
+    let (faults, operand) = rest.rsplit_once(' ').expect(rt, "an operand");
     let got = walked_over(alloc, stand_in(rt, names, faults), operand);
     assert_walked(rt, got, want, row);
 }

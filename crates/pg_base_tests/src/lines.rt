@@ -20,6 +20,14 @@ fn has(letters: &str, letter: u8) -> bool {
     letters.as_bytes().contains(&letter)
 }
 
+/// The letters of kinds and options: `b` stands for the kind that has no letter of its own, `f` for a list of a file.
+const LETTERS: &[u8] = b"EFbfioxwvz";
+
+/// Whether there are no letters but those of kinds and options.
+fn are_letters(letters: &str) -> bool {
+    letters.as_bytes().iter().all(|letter| LETTERS.contains(letter))
+}
+
 /// The one list of a query, by `f` one of a file.
 fn lists_of<A: Allocator + Copy>(
     alloc: A,
@@ -178,7 +186,7 @@ fn is_right(
     bytes: &[u8],
     want: [usize; 3],
 ) -> bool {
-    if bytes.len() > 100 {
+    if bytes.len() > 100 || !are_letters(letters) {
         return false;
     }
     match is_found(heap, letters, pattern, bytes, want) {
@@ -218,7 +226,8 @@ Ff: Ff: => true";
 
 /// The query of letters and a text behind a colon.
 fn query_by(rt: &impl Abort, alloc: Global, asked: &str) -> Arc<Query> {
-    let (letters, text) = cut(asked, ":");
+    let (letters, text) = cut(rt, asked, ":");
+    assert!(rt; are_letters(letters), "letters of kinds and options");
     query_of(rt, alloc, letters, text.as_bytes())
 }
 

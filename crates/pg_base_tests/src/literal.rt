@@ -127,7 +127,8 @@ pub(crate) fn literal_of(rt: &impl Abort, alloc: Global, kind: &str, text: &str)
         None => (false, kind),
     };
     let trees = trees_of(rt, alloc, text, fold).expect(rt, "memory");
-    let literals = Literal::of(alloc, &trees, bounds_of(bounds), fold).expect(rt, "memory");
+    let bounds = bounds_of(rt, bounds);
+    let literals = Literal::of(alloc, &trees, bounds, fold).expect(rt, "memory");
     shown_of(alloc, &literals).expect(rt, "memory")
 }
 

@@ -19,11 +19,12 @@ struct Search {
     scratch: Scratch,
 }
 
-pub(crate) fn bounds_of(word: &str) -> Bounds {
+pub(crate) fn bounds_of(rt: &impl Abort, word: &str) -> Bounds {
     match word {
         "any" => Bounds::Any,
         "word" => Bounds::Word,
-        _ => Bounds::Whole,
+        "whole" => Bounds::Whole,
+        _ => panic!(rt; "bounds"),
     }
 }
 
@@ -53,7 +54,7 @@ fn machine_of(rt: &impl Abort, alloc: Global, word: &str, text: &[u8]) -> Search
     match word {
         "fixed" => fixed_string(rt, alloc, text),
         "none" => search_of(rt, alloc, &[], Bounds::Any),
-        bounds => machine(rt, alloc, text, bounds_of(bounds)),
+        bounds => machine(rt, alloc, text, bounds_of(rt, bounds)),
     }
 }
 
@@ -115,13 +116,13 @@ fn counted(alloc: Global, search: &mut Search, line: &[u8]) -> Result<String, Al
 
 /// Shows what a search of a line visits, as a row asks.
 pub(crate) fn searched(rt: &impl Abort, alloc: Global, word: &str, asked: &str) -> String {
-    let (text, rest) = cut(asked, " on ");
+    let (text, rest) = cut(rt, asked, " on ");
     if let Some(line) = rest.strip_suffix(" counted") {
         let line = line_of(rt, alloc, line);
         let mut search = machine_of(rt, alloc, word, &repeated(rt, alloc, text));
         return counted(alloc, &mut search, &line).expect(rt, "memory");
     }
-    let (line, most) = cut(rest, " within ");
+    let (line, most) = cut(rt, rest, " within ");
     let most: u128 = most.parse().expect(rt, "a number");
     let line = line_of(rt, alloc, line);
     let mut search = machine_of(rt, alloc, word, &repeated(rt, alloc, text));

@@ -36,7 +36,12 @@ fn dead_link() -> Node {
 }
 
 /// What stands at a path, by a word of the trees below, and the names that are listed there.
-fn node_of(alloc: Global, kind: &str, names: &[&str]) -> Result<Node, AllocError> {
+fn node_of(
+    rt: &impl Abort,
+    alloc: Global,
+    kind: &str,
+    names: &[&str],
+) -> Result<Node, AllocError> {
     match kind {
         "file" => Ok(Node::new(FileKind::Regular)),
         "device" => Ok(Node::new(FileKind::Other)),
@@ -45,24 +50,30 @@ fn node_of(alloc: Global, kind: &str, names: &[&str]) -> Result<Node, AllocError
         "unlisted" => Ok(Node::new(FileKind::Directory)),
         "link-to-directory" => link(alloc, names),
         "link-to-itself" => Ok(Node::new(FileKind::Link)),
-        _ => Ok(dead_link()),
+        "link-to-nothing" => Ok(dead_link()),
+        _ => panic!(rt; "what stands at a path"),
     }
 }
 
 /// Adds a node by a line: a path, a word for what stands there, and the names that are listed there.
-fn add_node(alloc: Global, tree: &mut MemTree, line: &str) -> Result<(), AllocError> {
+fn add_node(
+    rt: &impl Abort,
+    alloc: Global,
+    tree: &mut MemTree,
+    line: &str,
+) -> Result<(), AllocError> {
     let mut words = line.split(' ');
-    let path = words.next().unwrap_or("");
-    let kind = words.next().unwrap_or("");
+    let path = words.next().expect(rt, "a path");
+    let kind = words.next().expect(rt, "what stands there");
     let names: Vec<&str> = words.collect(alloc)?;
-    tree.add(path, node_of(alloc, kind, names.as_slice())?)
+    tree.add(path, node_of(rt, alloc, kind, names.as_slice())?)
 }
 
 /// The tree of a text's lines.
-fn tree_of(alloc: Global, text: &str) -> Result<MemTree, AllocError> {
+fn tree_of(rt: &impl Abort, alloc: Global, text: &str) -> Result<MemTree, AllocError> {
     let mut tree = MemTree::new(alloc);
     for line in text.lines() {
-        add_node(alloc, &mut tree, line)?;
+        add_node(rt, alloc, &mut tree, line)?;
     }
     Ok(tree)
 }
@@ -160,7 +171,7 @@ impl FileTree for Failing<'_> {
 }
 
 /// Trees, with an empty line between them, and behind each what walks over its operands give: `walk` with all that is
-/// below them, `look` without; `fail` where the answer of the tree behind so many others fails, and `full` where there
+/// below them, `look` without; `fail` with all where the answer of the tree behind so many others fails, and `full` where there
 /// is no memory for it.
 const WALKS: &str = "d directory z a.txt a
 d/a directory b
@@ -178,7 +189,7 @@ dead link-to-nothing
 self link-to-itself
 - directory x
 -/x file
-walk =>
+walk  =>
 walk d => d/a/b d/a.txt d/z
 look d => d:IsDirectory
 walk e/ => e/x
@@ -289,27 +300,55 @@ full-6 d f => out of memory
 full-7 d f => out of memory
 full-8 d f => d/a:BadName d/a/x d/c f";
 
-/// Walks over a tree of which an answer fails, as a row asks.
-fn walk_as_asked(alloc: Global, tree: &MemTree, asked: &str) -> Result<String, AllocError> {
-    let (how, operands) = cut(asked, " ");
-    let (how, passes) = cut(how, "-");
+/// Walks over a tree of which the answer behind so many others fails.
+fn walk_failing(
+    alloc: Global,
+    tree: &MemTree,
+    passes: u32,
+    fault: LookFault,
+    operands: &str,
+) -> Result<String, AllocError> {
     let failing = Failing {
         tree,
-        passes: passes.parse().unwrap_or(u32::MAX),
-        fault: if how == "full" {
-            LookFault::OutOfMemory
-        } else {
-            LookFault::Failed
-        },
+        passes,
+        fault,
         asked: Cell::new(0),
     };
-    walked(alloc, &failing, operands, how != "look")
+    walked(alloc, &failing, operands, true)
+}
+
+/// The fault of an answer, by the word for it.
+fn fault_of(rt: &impl Abort, word: &str) -> LookFault {
+    match word {
+        "fail" => LookFault::Failed,
+        "full" => LookFault::OutOfMemory,
+        _ => panic!(rt; "how a tree is walked"),
+    }
+}
+
+/// Walks over a tree as a row asks.
+fn walk_as_asked(
+    rt: &impl Abort,
+    alloc: Global,
+    tree: &MemTree,
+    asked: &str,
+) -> Result<String, AllocError> {
+    let (how, operands) = cut(rt, asked, " ");
+    match how {
+        "walk" => walked(alloc, tree, operands, true),
+        "look" => walked(alloc, tree, operands, false),
+        _ => {
+            let (word, passes) = cut(rt, how, "-");
+            let passes = passes.parse().expect(rt, "a number of answers");
+            walk_failing(alloc, tree, passes, fault_of(rt, word), operands)
+        }
+    }
 }
 
 /// Compares what a walk gives, or that it wants memory, with what a row wants.
 fn assert_walk(rt: &impl Abort, alloc: Global, tree: &MemTree, row: &str) {
-    let (asked, want) = halves(row);
-    let got = walk_as_asked(alloc, tree, asked);
+    let (asked, want) = halves(rt, row);
+    let got = walk_as_asked(rt, alloc, tree, asked);
     assert_walked(rt, got, want, row);
 }
 
@@ -320,7 +359,7 @@ fn walk_on(rt: &impl Abort, alloc: Global, tree: &mut MemTree, line: &str) {
     } else if line.is_empty() {
         *tree = MemTree::new(alloc);
     } else {
-        add_node(alloc, tree, line).expect(rt, "memory");
+        add_node(rt, alloc, tree, line).expect(rt, "memory");
     }
 }
 
@@ -351,13 +390,13 @@ fn are_allowed<A: Allocator>(alloc: Global, items: &[Item<A>]) -> bool {
 }
 
 /// The tree that is walked while requests are refused, and the operands.
-fn some_walk(alloc: Global) -> Result<(MemTree, Vec<String>), AllocError> {
-    Ok((tree_of(alloc, REFUSED)?, texts(alloc, "d d - gone")?))
+fn some_walk(rt: &impl Abort, alloc: Global) -> Result<(MemTree, Vec<String>), AllocError> {
+    Ok((tree_of(rt, alloc, REFUSED)?, texts(alloc, "d d - gone")?))
 }
 
 /// Whether a walk gives what it should, or wants memory where a request is refused.
-pub(crate) fn is_walked(alloc: Global, heap: &Refusing) -> bool {
-    let Ok((tree, operands)) = some_walk(alloc) else {
+pub(crate) fn is_walked(rt: &impl Abort, alloc: Global, heap: &Refusing) -> bool {
+    let Ok((tree, operands)) = some_walk(rt, alloc) else {
         return false;
     };
     match walk(heap, &tree, operands.as_slice(), true) {

@@ -21,18 +21,24 @@ const TRIALS: [(&'static str, u64); 10] = [
 ];
 
 /// Whether a trial goes through without a refusal, or else gives what is right then.
-fn holds<R: Threads + Wait + Sync>(rt: &R, alloc: Global, heap: &Refusing, trial: &str) -> bool {
+fn holds<R: Abort + Threads + Wait + Sync>(
+    rt: &R,
+    alloc: Global,
+    heap: &Refusing,
+    trial: &str,
+) -> bool {
     match trial {
         "board" => board::is_drawn(heap),
         "tray" => tray::is_handed_out(rt, heap),
         "tray of threads" => tray::is_delivered(rt, alloc, heap),
         "room" => cutter::is_filled(heap),
         "listing" => disk::is_listed(heap),
-        "walk" => memory::is_walked(alloc, heap),
+        "walk" => memory::is_walked(rt, alloc, heap),
         "tree in memory" => memory::is_added(heap),
         "machine" => machine::is_selected(heap),
         "strings" => strings::are_prepared(heap),
-        _ => lines::are_found(heap),
+        "search" => lines::are_found(heap),
+        _ => panic!(rt; "a trial"),
     }
 }
 

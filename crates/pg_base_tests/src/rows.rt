@@ -39,14 +39,14 @@ pub(crate) fn repeated(rt: &impl Abort, alloc: Global, parts: &str) -> Vec<u8> {
     text
 }
 
-/// What stands before a mark and what stands behind it. Without the mark nothing stands behind.
-pub(crate) fn cut<'a>(text: &'a str, mark: &str) -> (&'a str, &'a str) {
-    text.split_once(mark).unwrap_or((text, ""))
+/// What stands before a mark and what stands behind it. The mark has to be there.
+pub(crate) fn cut<'a>(rt: &impl Abort, text: &'a str, mark: &str) -> (&'a str, &'a str) {
+    text.split_once(mark).expect(rt, "one field more")
 }
 
 /// What a row asks, and behind `=>` what is wanted of it.
-pub(crate) fn halves(row: &str) -> (&str, &str) {
-    let (asked, want) = cut(row, " =>");
+pub(crate) fn halves<'a>(rt: &impl Abort, row: &'a str) -> (&'a str, &'a str) {
+    let (asked, want) = cut(rt, row, " =>");
     (asked, want.trim_start())
 }
 
@@ -81,8 +81,8 @@ pub(crate) fn assert_text(rt: &impl Abort, got: &str, want: &str, row: &str) {
 
 /// Compares what a row wants with the answer to it. What it asks of begins with a word for the kind.
 fn assert_row(rt: &impl Abort, alloc: Global, question: Question, row: &str) {
-    let (asked, want) = halves(row);
-    let (kind, asked) = cut(asked, " ");
+    let (asked, want) = halves(rt, row);
+    let (kind, asked) = cut(rt, asked, " ");
     let got = answer(rt, alloc, question, kind, asked);
     assert_text(rt, got.as_str(), want, row);
 }

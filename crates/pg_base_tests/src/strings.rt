@@ -70,9 +70,15 @@ fn first_place(set: &StringSet, text: &[u8], from: usize) -> Option<usize>
     }
 }
 
-fn show_all(set: &StringSet, kind: &str, text: &[u8], out: &mut String) -> Result<(), AllocError> {
+/// Shows for each place of a text where the first string stands, or else how long the longest is that stands there.
+fn show_all(
+    set: &StringSet,
+    asks_first: bool,
+    text: &[u8],
+    out: &mut String,
+) -> Result<(), AllocError> {
     for place in 0..=text.len() {
-        let found = if kind == "first" {
+        let found = if asks_first {
             first_place(set, text, place)
         } else {
             set.longest_at(text, place)
@@ -82,21 +88,28 @@ fn show_all(set: &StringSet, kind: &str, text: &[u8], out: &mut String) -> Resul
     Ok(())
 }
 
-fn answer(alloc: Global, set: &StringSet, kind: &str, text: &[u8]) -> Result<String, AllocError> {
+fn answer(
+    rt: &impl Abort,
+    alloc: Global,
+    set: &StringSet,
+    kind: &str,
+    text: &[u8],
+) -> Result<String, AllocError> {
     let mut out = String::new(alloc);
-    if kind == "line" {
-        out.push_str(if set.contains(text) { "yes" } else { "no" })?;
-    } else {
-        show_all(set, kind, text, &mut out)?;
+    match kind {
+        "line" => out.push_str(if set.contains(text) { "yes" } else { "no" })?,
+        "first" => show_all(set, true, text, &mut out)?,
+        "longest" => show_all(set, false, text, &mut out)?,
+        _ => panic!(rt; "what is asked of strings"),
     }
     Ok(out)
 }
 
 /// The answer to a row.
 pub(crate) fn places_of(rt: &impl Abort, alloc: Global, kind: &str, asked: &str) -> String {
-    let (strings, text) = cut(asked, " ");
+    let (strings, text) = cut(rt, asked, " ");
     let set = set_of(alloc, strings).expect(rt, "memory");
-    answer(alloc, &set, kind, &bytes_of(rt, alloc, text)).expect(rt, "memory")
+    answer(rt, alloc, &set, kind, &bytes_of(rt, alloc, text)).expect(rt, "memory")
 }
 
 /// Whether a search with a budget of nothing gives up where the first string is to be compared.

@@ -21,7 +21,8 @@ pub(crate) fn deep_tree(rt: &impl Abort, alloc: Global, parser: &str, parts: &st
     let parsed = match parser {
         "basic" => parse_bre(alloc, &text, false),
         "extended" => parse_ere(alloc, &text, false),
-        _ => fixed(alloc, &text, true),
+        "fixed" => fixed(alloc, &text, true),
+        _ => panic!(rt; "a parser"),
     };
     match parsed {
         Ok(tree) if tree.is_proper() => "proper",

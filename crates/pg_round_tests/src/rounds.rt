@@ -180,12 +180,12 @@ fn each_request_may_be_refused(rt: HostRuntime) {
     for passes in 0..1000u64 {
         let heap = Refusing::new(rt.alloc(), passes);
         let found = search_some(&rt, &heap, 4, 3, &FreeGate);
-        assert!(rt;
-            found == Ok(([1, 1, 1, 1, 0, 0, 0, 0], 3)) || found == Err(RoundFault::OutOfMemory)
-        );
+        let is_whole = found == Ok(([1, 1, 1, 1, 0, 0, 0, 0], 3));
         if !heap.has_refused() {
+            assert!(rt; is_whole, "nothing was refused");
             return;
         }
+        assert!(rt; is_whole || found == Err(RoundFault::OutOfMemory), "at {passes}");
     }
     panic!(rt; "more than 1000 requests")
 }

@@ -1,6 +1,7 @@
 //! The command over files and streams in memory: what no command line shows on the built program.
 ghost use Rattle.std.specs.Prelude.{◌≤◌};
 
+use crate::formats::cut;
 use pg_command::{Fault, Told, command, report};
 use pg_files::{Ending, Listed, MemStore};
 use pg_rows::MemSink;
@@ -34,37 +35,48 @@ struct Case {
     written: usize,
 }
 
-/// The limit of a digit, ten for `a`, and else one that isn't met.
-fn limit_of(letter: u8) -> usize {
+/// The limit of a digit, ten for `a`, and for `-` one that isn't met.
+fn limit_of(rt: &impl Abort, letter: u8) -> usize {
     match letter {
         b'0'..=b'9' => usize::from(letter - b'0'),
         b'a' => 10,
-        _ => ROOM,
+        b'-' => ROOM,
+        _ => panic!(rt; "a limit"),
     }
 }
 
-/// The case of seven letters: the limits of a read, of a write and of both streams, `F` where reading fails behind the
-/// bytes, the status, or `!` where a fault was told instead, and how many bytes are written.
+/// How files end: `F` where reading fails behind the bytes, and else `E`.
+fn ending_of(rt: &impl Abort, letter: u8) -> Ending {
+    match letter {
+        b'E' => Ending::Ends,
+        b'F' => Ending::Fails,
+        _ => panic!(rt; "an ending"),
+    }
+}
+
+/// The status of a digit, or `!` where a fault was told instead.
+fn answer_of(rt: &impl Abort, letter: u8) -> Result<u8, Told> {
+    match letter {
+        b'0'..=b'2' => Ok(letter - b'0'),
+        b'!' => Err(Told),
+        _ => panic!(rt; "a status"),
+    }
+}
+
+/// The case of seven letters: the limits of a read, of a write and of both streams, how files end, the status, and how
+/// many bytes are written.
 fn case_of(rt: &impl Abort, letters: &str) -> Case {
     let [read, write, out, err, ending, answer, written] = letters.as_bytes() else {
         panic!(rt; "seven letters: {letters}");
     };
     Case {
-        read: limit_of(*read),
-        write: limit_of(*write),
-        out: limit_of(*out),
-        err: limit_of(*err),
-        ending: if *ending == b'F' {
-            Ending::Fails
-        } else {
-            Ending::Ends
-        },
-        answer: if *answer == b'!' {
-            Err(Told)
-        } else {
-            Ok(answer.wrapping_sub(b'0'))
-        },
-        written: limit_of(*written),
+        read: limit_of(rt, *read),
+        write: limit_of(rt, *write),
+        out: limit_of(rt, *out),
+        err: limit_of(rt, *err),
+        ending: ending_of(rt, *ending),
+        answer: answer_of(rt, *answer),
+        written: limit_of(rt, *written),
     }
 }
 
@@ -139,6 +151,8 @@ const CASES: &str = "\
 11--E06,22--E06,33--E06,99--E06,aa--E06 -F b - --block 65536=|\
 11--E06,22--E06,33--E06,99--E06,aa--E06 -F b - --block 16777216=|\
 ----F26 -F b broken=pargrep: broken: read failed\n|\
+---0F!6 -F b broken=|\
+---7F!6 -F b broken=pargrep|\
 ----F26 -F b -=pargrep: (standard input): read failed\n|\
 ----F!0 -F -f broken -=pargrep: broken: read failed\n|\
 ----F!0 -f - broken=pargrep: (standard input): read failed\n|\
@@ -151,8 +165,8 @@ const CASES: &str = "\
 #[test]
 fn streams_with_limits_that_fail(rt: HostRuntime) {
     for row in CASES.split('|') {
-        let (asked, told) = row.split_once('=').unwrap_or(("", ""));
-        let (cases, text) = asked.split_once(' ').unwrap_or(("", ""));
+        let (asked, told) = cut(&rt, row, "=");
+        let (cases, text) = cut(&rt, asked, " ");
         for letters in cases.split(',') {
             let case = case_of(&rt, letters);
             let found = run(&rt, rt.alloc(), text, case);
@@ -194,9 +208,10 @@ fn block_of(alloc: Global, text: &str) -> Result<Option<u32>, AllocError> {
 #[test]
 fn the_last_block_size_counts(rt: HostRuntime) {
     for line in BLOCK_SIZES.lines() {
-        let (size, text) = line.split_once(' ').unwrap_or(("", ""));
+        let (size, text) = cut(&rt, line, " ");
+        let size = size.parse().expect(&rt, "a number");
         let block = block_of(rt.alloc(), text).expect(&rt, "memory");
-        assert!(rt; block.is_some() && block == size.parse().ok(), "{line}");
+        assert!(rt; block == Some(size), "{line}");
     }
 }
 

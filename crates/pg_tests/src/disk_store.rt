@@ -3,18 +3,35 @@ use crate::formats::cut;
 use pg_files::{DiskStore, Store};
 use std::process::Abort;
 
-/// Whether a read into 16 bytes gives so many, or fails where `wanted` is no number.
-fn reads<S: Store>(store: &mut S, wanted: &str) -> bool {
+/// How many bytes a read is to give, or `None` where it is to fail.
+fn wanted_of(rt: &impl Abort, word: &str) -> Option<usize> {
+    match word {
+        "fault" => None,
+        count => Some(count.parse().expect(rt, "a number or fault")),
+    }
+}
+
+/// Whether a read into 16 bytes gives so many, or fails where none is wanted.
+fn reads<S: Store>(store: &mut S, wanted: Option<usize>) -> bool {
     let mut buffer = [0u8; 16];
-    store.read(&mut buffer).ok() == wanted.parse().ok()
+    store.read(&mut buffer).ok() == wanted
+}
+
+/// Whether a path is one that can be opened.
+fn is_to_open(rt: &impl Abort, word: &str) -> bool {
+    match word {
+        "opens" => true,
+        "misses" => false,
+        _ => panic!(rt; "opens or misses"),
+    }
 }
 
 /// Whether a path can be opened or can't, and a read is as a row says.
-fn is_right<S: Store>(store: &mut S, row: &str) -> bool {
-    let (path, rest) = cut(row, " ");
-    let (opened, wanted) = cut(rest, " ");
-    let is_open = store.open(path, true).is_ok();
-    is_open == (opened == "opens") && reads(store, wanted)
+fn is_right<S: Store>(rt: &impl Abort, store: &mut S, row: &str) -> bool {
+    let (path, rest) = cut(rt, row, " ");
+    let (opened, wanted) = cut(rt, rest, " ");
+    let wanted = wanted_of(rt, wanted);
+    store.open(path, true).is_ok() == is_to_open(rt, opened) && reads(store, wanted)
 }
 
 /// Paths, whether each can be opened, and what a read gives then.
@@ -25,9 +42,9 @@ const PATHS: &str = "/dev/null opens 0
 
 /// Paths are as the rows say, and nothing can be read before one is opened.
 fn assert_paths<S: Store>(rt: &impl Abort, store: &mut S) {
-    assert!(rt; reads(store, "fault"), "no file");
+    assert!(rt; reads(store, None), "no file");
     for row in PATHS.lines() {
-        assert!(rt; is_right(store, row), "{row}");
+        assert!(rt; is_right(rt, store, row), "{row}");
     }
 }
 

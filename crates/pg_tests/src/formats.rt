@@ -15,9 +15,9 @@ use std::alloc::{AllocError, Global};
 use std::process::Abort;
 use std::sync::Arc;
 
-/// What stands before a mark and what stands behind it. Without the mark nothing stands behind.
-pub(crate) fn cut<'a>(text: &'a str, mark: &str) -> (&'a str, &'a str) {
-    text.split_once(mark).unwrap_or((text, ""))
+/// What stands before a mark and what stands behind it. The mark has to be there.
+pub(crate) fn cut<'a>(rt: &impl Abort, text: &'a str, mark: &str) -> (&'a str, &'a str) {
+    text.split_once(mark).expect(rt, "one field more")
 }
 
 /// A field with newlines in place of its slashes.
@@ -28,31 +28,40 @@ pub(crate) fn with_newlines(alloc: Global, field: &str) -> Result<String, AllocE
         .collect(alloc)
 }
 
-/// The number of a digit, if the letter is one.
-fn digit(letter: u8) -> Option<u16> {
+/// The number of a digit, or of none by `-`.
+fn digit(rt: &impl Abort, letter: u8) -> Option<u16> {
     match letter {
         b'0'..=b'9' => Some(u16::from(letter - b'0')),
-        _ => None,
+        b'-' => None,
+        _ => panic!(rt; "a digit or a hyphen"),
     }
 }
 
-/// The limit of a digit above 0.
-fn limit_of(letter: u8) -> Option<u32>
+/// The limit of a digit above 0, or none by `-`.
+fn limit_of(rt: &impl Abort, letter: u8) -> Option<u32>
     ensures { is_below 0 result ≡ true }
 {
     match letter {
         b'1'..=b'9' => Some(u32::from(letter - b'0')),
-        _ => None,
+        b'-' => None,
+        _ => panic!(rt; "a limit or a hyphen"),
     }
 }
 
-fn mode_of(letter: u8) -> Mode {
+fn mode_of(rt: &impl Abort, letter: u8) -> Mode {
     match letter {
         b'c' => Mode::Count,
         b'l' => Mode::List,
         b'q' => Mode::Quiet,
-        _ => Mode::Rows,
+        b'-' => Mode::Rows,
+        _ => panic!(rt; "a mode or a hyphen"),
     }
+}
+
+/// Whether an option is given, by its letter or by `-`.
+fn is_given(rt: &impl Abort, found: u8, letter: u8) -> bool {
+    assert!(rt; found == letter || found == b'-', "an option or a hyphen");
+    found == letter
 }
 
 /// The format of six letters: names, numbers, mode, limit, lines before and lines after.
@@ -63,31 +72,42 @@ pub(crate) fn format_of(rt: &impl Abort, letters: &str) -> Format
         panic!(rt; "six letters");
     };
     Format {
-        names: *names == b'H',
-        numbers: *numbers == b'n',
-        mode: mode_of(*mode),
-        limit: limit_of(*limit),
-        before: digit(*before),
-        after: digit(*after).map(u32::from),
+        names: is_given(rt, *names, b'H'),
+        numbers: is_given(rt, *numbers, b'n'),
+        mode: mode_of(rt, *mode),
+        limit: limit_of(rt, *limit),
+        before: digit(rt, *before),
+        after: digit(rt, *after).map(u32::from),
     }
 }
 
-fn kind_of(letters: &str) -> Kind {
-    match letters.as_bytes().first() {
-        Some(b'F') => Kind::Fixed,
-        Some(b'E') => Kind::Extended,
-        _ => Kind::Basic,
+pub(crate) fn kind_of(rt: &impl Abort, letter: u8) -> Kind {
+    match letter {
+        b'F' => Kind::Fixed,
+        b'E' => Kind::Extended,
+        b'G' => Kind::Basic,
+        _ => panic!(rt; "the letter of a kind"),
+    }
+}
+
+/// The letter of a kind, and that of an option, or `-`.
+fn kind_and_option(rt: &impl Abort, letters: &str) -> (Kind, u8) {
+    match letters.as_bytes() {
+        [kind] => (kind_of(rt, *kind), b'-'),
+        [kind, option] => (kind_of(rt, *kind), *option),
+        _ => panic!(rt; "a kind and an option at most"),
     }
 }
 
 /// The query of letters and a text behind a colon: its kind, `o` for matched parts, `v` for lines that aren't matched.
-fn asked_query(alloc: Global, field: &str) -> Result<Arc<Query>, AllocError>
+fn asked_query(rt: &impl Abort, alloc: Global, field: &str) -> Result<Arc<Query>, AllocError>
     ensures { IfOk result (λ query. (arc_value query).text.zero ≡ false) }
 {
-    let (letters, pattern) = cut(field, ":");
-    let mut text = text_of(alloc, kind_of(letters), pattern.as_bytes())?;
-    text.pieces = letters.ends_with('o');
-    text.invert = letters.ends_with('v');
+    let (letters, pattern) = cut(rt, field, ":");
+    let (kind, option) = kind_and_option(rt, letters);
+    let mut text = text_of(alloc, kind, pattern.as_bytes())?;
+    text.pieces = option == b'o';
+    text.invert = !text.pieces && is_given(rt, option, b'v');
     compile(alloc, text)
 }
 
@@ -115,15 +135,15 @@ fn case_of(rt: &impl Abort, alloc: Global, row: &str) -> Case
     ensures room { HasRoom result.format }
     ensures zero { (arc_value result.query).text.zero ≡ false }
 {
-    let (letters, rest) = cut(row, " ");
-    let (asked, rest) = cut(rest, " ");
-    let (size, rest) = cut(rest, " ");
-    let (seed, rest) = cut(rest, " ");
-    let (files, answer) = cut(rest, " ");
-    let (status, output) = cut(answer, ":");
+    let (letters, rest) = cut(rt, row, " ");
+    let (asked, rest) = cut(rt, rest, " ");
+    let (size, rest) = cut(rt, rest, " ");
+    let (seed, rest) = cut(rt, rest, " ");
+    let (files, answer) = cut(rt, rest, " ");
+    let (status, output) = cut(rt, answer, ":");
     Case {
         format: format_of(rt, letters),
-        query: asked_query(alloc, asked).expect(rt, "a query"),
+        query: asked_query(rt, alloc, asked).expect(rt, "a query"),
         size: number(rt, size),
         seed: number(rt, seed),
         files: with_newlines(alloc, files).expect(rt, "memory"),
@@ -461,7 +481,7 @@ fn read_step(
     requires { IsReading sequencer.old file number }
     ensures { IsReading sequencer.new result.0 result.1 }
 {
-    let [letter, _] = step else {
+    let [letter, b'+' | b'-'] = step else {
         panic!(rt; "a letter and a sign");
     };
     assert!(rt; file < 100 && number < 100);
@@ -490,7 +510,7 @@ fn assert_steps(
 
 /// What was read is enough where the row says so.
 fn assert_enough(rt: &impl Abort, alloc: Global, row: &str) -> Result<(), AllocError> {
-    let (letters, steps) = cut(row, " ");
+    let (letters, steps) = cut(rt, row, " ");
     let query = query_of(alloc, b"m")?;
     let mut sequencer = new_sequencer(alloc, &query, format_of(rt, letters))?;
     open_file(&mut sequencer, 0, b"f")?;

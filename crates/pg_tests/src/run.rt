@@ -328,6 +328,15 @@ reads b H-c--- ab 2:f:1/
 reads b H-c--- abc/xyz/ 2:f:1/
 reads b H-c--- abc/xyz/b 2:f:2/";
 
+fn varied_of(rt: &impl Abort, word: &str) -> Varied {
+    match word {
+        "blocks" => Varied::Blocks,
+        "writes" => Varied::Writes,
+        "reads" => Varied::Reads,
+        _ => panic!(rt; "what is varied"),
+    }
+}
+
 /// A row of `RUNS`.
 #[derive(Drop)]
 struct Parsed<'t> {
@@ -342,17 +351,13 @@ struct Parsed<'t> {
 
 impl<'t> Parsed<'t> {
     fn of(rt: &impl Abort, alloc: Global, text: &'t str) -> Parsed<'t> {
-        let (varied, rest) = cut(text, " ");
-        let (pattern, rest) = cut(rest, " ");
-        let (letters, rest) = cut(rest, " ");
-        let (file, answer) = cut(rest, " ");
-        let (status, output) = cut(answer, ":");
+        let (varied, rest) = cut(rt, text, " ");
+        let (pattern, rest) = cut(rt, rest, " ");
+        let (letters, rest) = cut(rt, rest, " ");
+        let (file, answer) = cut(rt, rest, " ");
+        let (status, output) = cut(rt, answer, ":");
         Parsed {
-            varied: match varied {
-                "blocks" => Varied::Blocks,
-                "writes" => Varied::Writes,
-                _ => Varied::Reads,
-            },
+            varied: varied_of(rt, varied),
             format: format_of(rt, letters),
             pattern,
             file: with_newlines(alloc, file).expect(rt, "memory"),
@@ -452,8 +457,8 @@ const REFUSED: &str = "------ 4 abc\nb\n|Hn---- 8 f:1:abc\nf:3:b\n|H-c--- 0 f:2\
 #[test]
 fn each_request_may_be_refused(rt: HostRuntime) {
     for row in REFUSED.split('|') {
-        let (letters, rest) = cut(row, " ");
-        let (early, output) = cut(rest, " ");
+        let (letters, rest) = cut(&rt, row, " ");
+        let (early, output) = cut(&rt, rest, " ");
         let case = Case::new(format_of(&rt, letters)).cut(1, 3).among_others();
         let early: usize = early.parse().expect(&rt, "a number");
         let written = assert_refusals(&rt, rt.alloc(), case, output.as_bytes());

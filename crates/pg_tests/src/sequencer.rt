@@ -120,11 +120,19 @@ fn has_written<A: Allocator + Copy>(sink: &MemSink<A>, written: usize) -> bool {
     sink.bytes().len() == written && OUTPUT.starts_with(sink.bytes())
 }
 
-fn arrival_of(sign: u8) -> Arrival {
+fn arrival_of(rt: &impl Abort, sign: u8) -> Arrival {
     match sign {
         b'+' => Arrival::Taken,
         b'=' => Arrival::Double,
-        _ => Arrival::Stranger,
+        b'?' => Arrival::Stranger,
+        _ => panic!(rt; "the sign of an arrival"),
+    }
+}
+
+fn digit_of(rt: &impl Abort, letter: u8) -> u8 {
+    match letter {
+        b'0'..=b'9' => letter - b'0',
+        _ => panic!(rt; "a digit"),
     }
 }
 
@@ -150,11 +158,11 @@ fn steps_on(
         panic!(rt; "six letters: {step}");
     };
     let query = query_of(alloc, &[*asked])?;
-    let file = u32::from(file.wrapping_sub(b'0'));
-    let number = u64::from(number.wrapping_sub(b'0'));
+    let file = u32::from(digit_of(rt, *file));
+    let number = u64::from(digit_of(rt, *number));
     let found = search_line(alloc, &query, file, number, *letter)?;
-    let lines = lines.wrapping_sub(b'0');
-    Ok(arrives(sequencer, sink, found, arrival_of(*sign), lines))
+    let arrival = arrival_of(rt, *sign);
+    Ok(arrives(sequencer, sink, found, arrival, digit_of(rt, *lines)))
 }
 
 /// Results arrive as steps say.
@@ -179,7 +187,7 @@ fn has_ended(sequencer: &Sequencer, status: u8, sink: &MemSink, written: usize) 
 
 /// Results for files arrive as a row says. With the last one all is written.
 fn assert_arrivals(rt: &impl Abort, alloc: Global, row: &str) -> Result<(), AllocError> {
-    let (letters, steps) = cut(row, " ");
+    let (letters, steps) = cut(rt, row, " ");
     assert!(rt; letters.len() <= 100);
     let mut sink = MemSink::new(alloc, 100)?;
     let query = query_of(alloc, b"x")?;
