@@ -408,19 +408,20 @@ const ENOUGH: &str = r"---1-1 m-a+b+
 --c2-- m-m+
 ------ m-a-m-";
 
-/// A result of the open file arrives, and is taken.
-fn take_result(
+/// A result arrives while a file is open, and has this answer.
+pub(crate) fn arrives_as(
     rt: &impl Abort,
     sequencer: &mut Sequencer,
     file: u32,
     count: u64,
     found: BlockResult,
+    arrival: Arrival,
 )
     requires { IsReading sequencer.old file count }
     ensures { IsReading sequencer.new file count }
 {
-    let arrival = sequencer.arrive(found);
-    assert_eq!(rt; arrival, Arrival::Taken);
+    let answer = sequencer.arrive(found);
+    assert_eq!(rt; answer, arrival);
 }
 
 /// Announces the next block, a line of one letter. Its result arrives.
@@ -440,7 +441,7 @@ fn read_line(
     let line = [letter, b'\n'];
     announce_block(alloc, sequencer, file, number, &line)?;
     let found = search(alloc, query, file, number, &line)?;
-    take_result(rt, sequencer, file, number + 1, found);
+    arrives_as(rt, sequencer, file, number + 1, found, Arrival::Taken);
     Ok(())
 }
 

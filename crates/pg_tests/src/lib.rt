@@ -15,6 +15,8 @@ mod fixtures;
 #[cfg(test)]
 mod formats;
 #[cfg(test)]
+mod orders;
+#[cfg(test)]
 mod patterns;
 #[cfg(test)]
 mod planning;

@@ -1,13 +1,14 @@
 //! Results that arrive in any order, sinks that fail, and requests for memory that are refused.
 ghost use Rattle.std.specs.Prelude.{◌≡◌, ◌+◌, ◌<◌, ◌≤◌, length, OnOk, false};
 ghost use Rattle.std.specs.Arc.{arc_value};
+ghost use Rattle.pg_rows.specs.Output.{HasRoom};
 ghost use Rattle.pg_tests.specs.Reading.{IsReading};
 
 use crate::fixtures::{PLAIN, SPARED, query_of, search};
 use crate::formats::cut;
 use crate::planning::{announce_block, end_file, new_sequencer, open_file, open_next};
 use pg_lines::{BlockResult, Query};
-use pg_seq::{Arrival, MemSink, Sequencer, SinkFault};
+use pg_seq::{Arrival, Format, MemSink, Sequencer, SinkFault};
 use refusing::Refusing;
 use std::alloc::{AllocError, Allocator, Global};
 use std::process::Abort;
@@ -17,7 +18,7 @@ use std::sync::Arc;
 const OUTPUT: &[u8] = b"xa\nxb\nxc\n";
 
 /// Announces the next block, which is a line of `x` and a letter, as `announce_block` does.
-fn announce_line<A: Allocator + Copy>(
+pub(crate) fn announce_line<A: Allocator + Copy>(
     alloc: A,
     sequencer: &mut Sequencer<A>,
     file: u32,
@@ -61,22 +62,24 @@ fn plan_letters<A: Allocator + Copy>(
 
 /// A sequencer with files that have ended, and whether a request for memory was refused, as `plan_letters` plans them.
 /// The query's lines end with newlines, and there are at most 100 letters.
-fn plan_lines<A: Allocator + Copy>(
+pub(crate) fn plan_lines<A: Allocator + Copy>(
     alloc: A,
     query: &Arc<Query<A>, A>,
+    format: Format,
     letters: &[u8],
 ) -> Result<(Sequencer<A>, bool), AllocError>
+    requires room { HasRoom format }
     requires zero { (arc_value query.now).text.zero ≡ false }
     requires few { length letters.now ≤ 100 }
 {
-    let mut sequencer = new_sequencer(alloc, query, PLAIN)?;
+    let mut sequencer = new_sequencer(alloc, query, format)?;
     let opened = open_file(&mut sequencer, 0, b"f")?;
     let planned = plan_letters(alloc, &mut sequencer, letters)?;
     Ok((sequencer, opened || planned))
 }
 
 /// What a search finds in a block that is a line of `x` and a letter.
-fn search_line<A: Allocator + Copy>(
+pub(crate) fn search_line<A: Allocator + Copy>(
     alloc: A,
     query: &Arc<Query<A>, A>,
     file: u32,
@@ -142,7 +145,8 @@ fn digit_of(rt: &impl Abort, letter: u8) -> u8 {
 ///
 /// In the second row the first file has no second block, and the one at this place is the next file's. In the third row
 /// the second file has no block, and the first one has two, of which the first was given up before its double comes.
-const ARRIVALS: &str = "abc x02c+0 x00a+1 x00a=1 b01b?1 x01q?1 x03d?1 x01b+3
+/// A double of such a block may be of any bytes.
+const ARRIVALS: &str = "abc x02c+0 x00a+1 x00a=1 x00z=1 b01b?1 x01q?1 x03d?1 x01b+3
 a|bc x01b?0 x11c+0 x10b+0 x10b=0 x20a?0 x00b?0 x00a+3
 ab||c x10c?0 x02c?0 x20c+0 x10c?0 x00a+1 x00a=1 x30c?1 x21c?1 x01b+3";
 
@@ -191,7 +195,7 @@ fn assert_arrivals(rt: &impl Abort, alloc: Global, row: &str) -> Result<(), Allo
     assert!(rt; letters.len() <= 100);
     let mut sink = MemSink::new(alloc, 100)?;
     let query = query_of(alloc, b"x")?;
-    let (mut sequencer, _) = plan_lines(alloc, &query, letters.as_bytes())?;
+    let (mut sequencer, _) = plan_lines(alloc, &query, PLAIN, letters.as_bytes())?;
     assert_steps(rt, alloc, &mut sequencer, &mut sink, steps)?;
     assert!(rt; has_ended(&sequencer, 0, &sink, OUTPUT.len()), "{row}");
     Ok(())
@@ -208,7 +212,7 @@ fn results_arrive_in_any_order(rt: HostRuntime) {
 fn writes_nothing(alloc: Global) -> Result<bool, AllocError> {
     let mut sink = MemSink::new(alloc, 100)?;
     let query = query_of(alloc, b"q")?;
-    let (mut sequencer, _) = plan_lines(alloc, &query, b"abc")?;
+    let (mut sequencer, _) = plan_lines(alloc, &query, PLAIN, b"abc")?;
     let all_taken = takes_all(alloc, &query, &mut sequencer)?;
     let drained = sequencer.drain(&mut sink);
     Ok(all_taken && drained.is_ok() && has_ended(&sequencer, 1, &sink, 0))
@@ -244,7 +248,7 @@ fn finish_plan<A: Allocator + Copy>(
     alloc: A,
 ) -> Result<(Sequencer<A>, bool), AllocError> {
     let query = query_of(alloc, b"x")?;
-    let (mut sequencer, again) = plan_lines(alloc, &query, b"abc")?;
+    let (mut sequencer, again) = plan_lines(alloc, &query, PLAIN, b"abc")?;
     let all_taken = takes_all(alloc, &query, &mut sequencer)?;
     assert!(rt; all_taken);
     Ok((sequencer, again))
