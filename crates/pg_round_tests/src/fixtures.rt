@@ -174,12 +174,17 @@ impl Gate for Counting {
     }
 }
 
-/// Who searches a block waits until a second one does.
+/// How often who waits for others asks for them before giving up.
+pub(crate) const PATIENCE: u32 = 10_000_000;
+
+/// Who searches a block waits until a second one does, or gives up. It counts those who met another, and those who gave
+/// up.
 #[derive(Drop)]
 pub(crate) struct Meeting {
-    pub(crate) begun: AtomicU64,
-    pub(crate) ended: AtomicU64,
-    pub(crate) met: AtomicU64,
+    begun: AtomicU64,
+    ended: AtomicU64,
+    met: AtomicU64,
+    given_up: AtomicU64,
 }
 
 impl Meeting {
@@ -188,31 +193,41 @@ impl Meeting {
             begun: AtomicU64::new(0),
             ended: AtomicU64::new(0),
             met: AtomicU64::new(0),
+            given_up: AtomicU64::new(0),
         }
+    }
+
+    /// How many met another, and how often a wait was given up.
+    pub(crate) fn outcome(&self) -> (u64, u64) {
+        (
+            self.met.load(Ordering::SeqCst),
+            self.given_up.load(Ordering::SeqCst),
+        )
+    }
+
+    /// Waits until two were counted, or gives up.
+    fn wait_for_two(&self, counter: &AtomicU64) {
+        for _ in 0..PATIENCE {
+            if counter.load(Ordering::SeqCst) >= 2 {
+                return;
+            }
+            thread::yield_now();
+        }
+        self.given_up.fetch_add(1, Ordering::SeqCst);
     }
 }
 
 impl Gate for Meeting {
     fn before(&self, _number: u32) {
         self.begun.fetch_add(1, Ordering::SeqCst);
-        for _ in 0..u64::MAX {
-            if self.begun.load(Ordering::SeqCst) >= 2 {
-                break;
-            }
-            thread::yield_now();
-        }
+        self.wait_for_two(&self.begun);
         if self.ended.load(Ordering::SeqCst) == 0 {
             self.met.fetch_add(1, Ordering::SeqCst);
         }
     }
 
     fn after(&self, _number: u32) {
-        for _ in 0..u64::MAX {
-            if self.met.load(Ordering::SeqCst) >= 2 {
-                break;
-            }
-            thread::yield_now();
-        }
+        self.wait_for_two(&self.met);
         self.ended.fetch_add(1, Ordering::SeqCst);
     }
 }
@@ -243,7 +258,7 @@ impl Gate for Holding {
             return;
         }
         self.begun.store(true, Ordering::SeqCst);
-        for _ in 0..10_000_000u32 {
+        for _ in 0..PATIENCE {
             if self.made.load(Ordering::SeqCst) >= self.wanted {
                 return;
             }

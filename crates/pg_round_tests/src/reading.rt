@@ -1,6 +1,7 @@
 //! Runs that read a file on while threads search what was read of it.
 ghost use Rattle.std.specs.Prelude.{IfOk, ◌≡◌, false};
 
+use crate::fixtures::PATIENCE;
 use crate::runs::{run_over, setup, sink};
 use pg_files::{Ending, Listed, MemStore, OpenFault, ReadFault, Store};
 use pg_run::{Gate, RunFault};
@@ -106,7 +107,7 @@ const CASES: [Case; 4] = [
         file: b"x1\nx2\nx3\nx4\nx5",
         ending: Ending::Ends,
         may_wait: false,
-        patience: 10_000_000,
+        patience: PATIENCE,
         status: Ok(0),
         output: b"x1\nx2\nx3\nx4\nx5\n",
         told: b"",
@@ -116,7 +117,7 @@ const CASES: [Case; 4] = [
         file: b"x1\nx2\n",
         ending: Ending::Fails,
         may_wait: false,
-        patience: 10_000_000,
+        patience: PATIENCE,
         status: Ok(2),
         output: b"x1\nx2\n",
         told: b"pargrep: f: read failed\n",
@@ -126,7 +127,7 @@ const CASES: [Case; 4] = [
         file: b"x1\nx2\nxxxxxx",
         ending: Ending::Ends,
         may_wait: false,
-        patience: 10_000_000,
+        patience: PATIENCE,
         status: Err(RunFault::TooLong),
         output: b"x1\nx2\n",
         told: b"",

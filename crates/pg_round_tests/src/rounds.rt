@@ -129,7 +129,7 @@ fn two_search_at_once(rt: HostRuntime) {
     let gate = Meeting::new();
     let found = search_some(&rt, rt.alloc(), 2, 3, &gate);
     assert!(rt; found == Ok(([1, 1, 0, 0, 0, 0, 0, 0], 3)));
-    assert_eq!(rt; gate.met.load(Ordering::SeqCst), 2);
+    assert_eq!(rt; gate.outcome(), (2, 0), "met, and waited in vain");
 }
 
 /// Searches four blocks beside a reader that has 100 steps to make, of which so many are waited for. Answers whether

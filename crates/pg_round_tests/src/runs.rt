@@ -2,7 +2,7 @@
 ghost use Rattle.std.specs.Prelude.{◌≡◌, ◌≤◌, false, IfOk};
 ghost use Rattle.pg_files.specs.Given.{nothing_given};
 
-use crate::fixtures::{Counting, Meeting, text};
+use crate::fixtures::{Counting, Meeting, PATIENCE, text};
 use pg_files::{Ending, Files, Listed, MemStore};
 use pg_rows::{Format, MemSink, Mode, Sink, WriteError};
 use pg_run::{FreeGate, Gate, RunFault, Setup, run};
@@ -96,31 +96,61 @@ fn writes<R: Abort + Threads + Wait + Clock + Sync, G: Gate + Sync>(
 
 #[test]
 fn two_blocks_of_a_run_are_searched_at_once(rt: HostRuntime) {
-    let gate = Meeting::new();
     let file: &[u8] = b"x1\nx2\n";
-    assert!(rt; writes(&rt, rt.alloc(), setup(2, 2), file, file, &gate));
-    assert_eq!(rt; gate.met.load(Ordering::SeqCst), 2);
+    for workers in [2u32, 64] {
+        let gate = Meeting::new();
+        assert!(rt; writes(&rt, rt.alloc(), setup(workers, 2), file, file, &gate));
+        assert_eq!(rt; gate.outcome(), (2, 0), "met, and waited in vain");
+    }
 }
 
-/// A file, and its rows.
+/// A file of seven lines, and its rows.
 const FILE: &[u8] = b"x\na\nx\n\nb\nx\nc";
 
 const ROWS: &[u8] = b"x\nx\nx\n";
+
+/// Another one, and its rows with numbers and a line of context on both sides, as `grep -n -C 1 x` has them.
+const GROUPS: &[u8] = b"a\nb\nx\nc\nd\ne\nx\n";
+
+const GROUP_ROWS: &[u8] = b"2-b\n3:x\n4-c\n--\n6-e\n7:x\n";
+
+/// The same work for rows with numbers and a line of context on both sides.
+fn in_groups(setup: Setup) -> Setup {
+    let mut setup = setup;
+    setup.format.numbers = true;
+    setup.format.before = Some(1);
+    setup.format.after = Some(1);
+    setup
+}
+
+/// Both files have their rows by so many workers in rounds of so many lines.
+fn assert_both<R: Abort + Threads + Wait + Clock + Sync>(
+    rt: &R,
+    alloc: Global,
+    workers: u32,
+    round: u32,
+)
+    requires { (workers ≤ 64) × (1 ≤ round) × (round ≤ 1024) }
+{
+    let setup = setup(workers, round);
+    let right = writes(rt, alloc, setup, FILE, ROWS, &FreeGate)
+        && writes(rt, alloc, in_groups(setup), GROUPS, GROUP_ROWS, &FreeGate);
+    assert!(rt; right, "{workers} workers, rounds of {round}");
+}
 
 #[test]
 fn any_number_of_workers_will_do(rt: HostRuntime) {
     for workers in [0u32, 1, 2, 64] {
         for round in [1u32, 2, 3] {
-            let right = writes(
-                &rt,
-                rt.alloc(),
-                setup(workers, round),
-                FILE,
-                ROWS,
-                &FreeGate,
-            );
-            assert!(rt; right, "{workers} workers, rounds of {round}");
+            assert_both(&rt, rt.alloc(), workers, round);
         }
+    }
+}
+
+/// A block of each round has the number 0, and so on: seven blocks in rounds of three.
+fn assert_numbers(rt: &impl Abort, gate: &Counting) {
+    for (number, count) in [3u64, 2, 2, 0].iter().enumerate() {
+        assert!(rt; gate.has_called(number, *count));
     }
 }
 
@@ -128,9 +158,11 @@ fn any_number_of_workers_will_do(rt: HostRuntime) {
 fn numbers_of_blocks_begin_anew_in_each_round(rt: HostRuntime) {
     let gate = Counting::new();
     assert!(rt; writes(&rt, rt.alloc(), setup(4, 3), FILE, ROWS, &gate));
-    for (number, count) in [3u64, 2, 2, 0].iter().enumerate() {
-        assert!(rt; gate.has_called(number, *count));
-    }
+    assert_numbers(&rt, &gate);
+    let gate = Counting::new();
+    let setup = in_groups(setup(4, 3));
+    assert!(rt; writes(&rt, rt.alloc(), setup, GROUPS, GROUP_ROWS, &gate));
+    assert_numbers(&rt, &gate);
 }
 
 /// A sink over memory that tells others how many bytes it took.
@@ -169,7 +201,7 @@ impl<'n> Gate for AfterWriting<'n> {
         if number != 1 {
             return;
         }
-        for _ in 0..10_000_000u32 {
+        for _ in 0..PATIENCE {
             if self.taken.load(Ordering::SeqCst) >= 3 {
                 return;
             }
