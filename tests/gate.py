@@ -1,8 +1,8 @@
 #!/usr/bin/env python3
-"""The gate: runs a command that ends with 'N passed, M failed', then the rows, looks up the wrong bodies that it
-doesn't try, and closes with such a line over all.
+"""The gate: runs a command that ends with 'N passed, M failed', then the rows, the runs by threads and those without
+memory, looks up the wrong bodies that it doesn't try, and closes with such a line over all.
 
-The rows run on the program that the command has built just now, also where the command has failed.
+The rows and the runs take the program that the command has built just now, also where the command has failed.
 """
 
 import os
@@ -95,13 +95,16 @@ def main():
     name = " ".join(command)
     proofs = figures_of(command, name)
     rows = figures_of([sys.executable, str(HERE / "run_rows.py")], "the rows")
+    threads = figures_of([sys.executable, str(HERE / "threads.py")], "the runs by threads")
+    memory = figures_of([sys.executable, str(HERE / "memory.py")], "the runs without memory")
     edits = figures_of([sys.executable, str(HERE / "refuse.py"), "--read"], "the further wrong bodies")
-    parts = ((name, proofs), ("the rows", rows), ("the further wrong bodies, looked up", edits))
+    ran = ((name, proofs), ("the rows", rows), ("the runs by threads", threads), ("the runs without memory", memory))
+    parts = (*ran, ("the further wrong bodies, looked up", edits))
     for what, (passed, failed) in parts:
         say(f"gate: {what}: {passed} passed, {failed} failed")
     failed = sum(figures[1] for _, figures in parts)
     # An edit that is only looked up shows nothing of the program, so it is no check that has passed.
-    say(f"{proofs[0] + rows[0]} passed, {failed} failed")
+    say(f"{sum(figures[0] for _, figures in ran)} passed, {failed} failed")
     return 1 if failed else 0
 
 

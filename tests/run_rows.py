@@ -33,7 +33,8 @@ SHOWN = 200
 # Options that grep doesn't have; each takes a value.
 OWN_OPTIONS = (b"--block", b"--round", b"--workers")
 
-# Every row is run once more with these words: a block for each line, a round for each block, and threads.
+# Every row is run once more with these words: a block for each line, searched by the calling thread as soon as it was
+# read. Of so few bytes no threads start; tests/threads.py has those.
 SMALLEST = [b"--block", b"1", b"--round", b"1", b"--workers", b"2"]
 
 # Rows that give more lines are not, since a round for each line takes its time.

@@ -144,7 +144,21 @@ fn is_cut(heap: &Refusing, file: &[u8], most: u64) -> bool {
     is_taken(&mut cutter, heap, file) && gives_first(&mut cutter, heap, most)
 }
 
+/// Whether a cutter gives a finished block and the last one, and asks for no memory meanwhile.
+fn gives_both<A: Allocator + Copy>(cutter: Cutter<A>, heap: &Refusing) -> bool {
+    let mut cutter = cutter;
+    let requests = heap.requests();
+    let are_taken = cutter.take().is_some() && cutter.take().is_none();
+    are_taken && cutter.finish().is_some() && heap.requests() == requests
+}
+
+/// Whether a file of two blocks comes, and both are given.
+fn is_given(heap: &Refusing) -> bool {
+    let mut cutter = Cutter::new(heap, 0, 2, 100, b'\n');
+    is_taken(&mut cutter, heap, b"a\nb") && gives_both(cutter, heap)
+}
+
 /// Whether a file of two blocks comes, and one of a block, whose memory is used again.
 pub(crate) fn is_filled(heap: &Refusing) -> bool {
-    is_cut(heap, b"a\nb", u64::MAX) && is_cut(heap, b"a\n", 0)
+    is_cut(heap, b"a\nb", u64::MAX) && is_cut(heap, b"a\n", 0) && is_given(heap)
 }

@@ -25,7 +25,10 @@ const LETTERS: &[u8] = b"EFbfioxwvz";
 
 /// Whether there are no letters but those of kinds and options.
 fn are_letters(letters: &str) -> bool {
-    letters.as_bytes().iter().all(|letter| LETTERS.contains(letter))
+    letters
+        .as_bytes()
+        .iter()
+        .all(|letter| LETTERS.contains(letter))
 }
 
 /// The one list of a query, by `f` one of a file.

@@ -186,30 +186,50 @@ fn fixed_string(rt: &impl Abort, alloc: Global, text: &[u8]) -> Search
     search_of(rt, alloc, &[tree], Bounds::Whole)
 }
 
-/// Makes a scratch, and answers whether it fits its machine, which selects a line.
-fn select_once<A: Allocator + Copy>(alloc: A, machine: &Machine<A>) -> Result<bool, AllocError> {
-    let mut scratch = Scratch::new(alloc, machine)?;
-    Ok(scratch.fits(machine) && machine.selects(&mut scratch, b"xaab"))
+/// Whether a machine selects a line and finds its first part, and asks for no memory meanwhile. The scratch is the
+/// machine's.
+fn is_searched<A: Allocator + Copy>(
+    heap: &Refusing,
+    machine: &Machine<A>,
+    scratch: &mut Scratch<A>,
+) -> bool
+    requires { Fits scratch.old machine.now }
+{
+    let requests = heap.requests();
+    let is_selected = machine.selects(scratch, b"xaab");
+    let part = machine.next_piece(scratch, b"xaab", 0);
+    is_selected && part == Some((2, 4)) && heap.requests() == requests
 }
 
-/// Whether a machine of proper trees selects the line, or `None` for want of memory.
-fn search_once<A: Allocator + Copy>(alloc: A, trees: &[Tree<A>]) -> Option<bool>
+/// Makes a scratch, and answers whether it fits its machine, which searches a line with it. `alloc` is the heap.
+fn search_anew<A: Allocator + Copy>(
+    alloc: A,
+    heap: &Refusing,
+    machine: &Machine<A>,
+) -> Result<bool, AllocError> {
+    let mut scratch = Scratch::new(alloc, machine)?;
+    Ok(scratch.fits(machine) && is_searched(heap, machine, &mut scratch))
+}
+
+/// Whether a machine of proper trees searches the line as it should, or `None` for want of memory. `alloc` is the heap.
+fn search_once<A: Allocator + Copy>(alloc: A, heap: &Refusing, trees: &[Tree<A>]) -> Option<bool>
     requires { All IsProper (map pattern trees.now) }
 {
     match Machine::build(alloc, trees, Bounds::Any) {
-        Ok(machine) => select_once(alloc, &machine).ok(),
+        Ok(machine) => search_anew(alloc, heap, &machine).ok(),
         Err(BuildFault::OutOfMemory) => None,
         Err(_) => Some(false),
     }
 }
 
-/// Whether the line is selected, also where a refused request was for what a scratch only remembers, or memory wants.
+/// Whether the line is searched rightly, also where a refused request was for what a scratch only remembers, or memory
+/// wants.
 pub(crate) fn is_selected(heap: &Refusing) -> bool {
     let Ok(tree) = parse_ere(heap, b"(a|b*)c?b", false) else {
         return heap.has_refused();
     };
-    match search_once(heap, &[tree]) {
-        Some(is_selected) => is_selected,
+    match search_once(heap, heap, &[tree]) {
+        Some(is_right) => is_right,
         None => heap.has_refused(),
     }
 }

@@ -36,12 +36,7 @@ fn dead_link() -> Node {
 }
 
 /// What stands at a path, by a word of the trees below, and the names that are listed there.
-fn node_of(
-    rt: &impl Abort,
-    alloc: Global,
-    kind: &str,
-    names: &[&str],
-) -> Result<Node, AllocError> {
+fn node_of(rt: &impl Abort, alloc: Global, kind: &str, names: &[&str]) -> Result<Node, AllocError> {
     match kind {
         "file" => Ok(Node::new(FileKind::Regular)),
         "device" => Ok(Node::new(FileKind::Other)),

@@ -1,0 +1,211 @@
+#!/usr/bin/env python3
+"""Refuses the program each request for memory in turn: `tests/memory.py [--program PATH]`
+
+A small library (tests/refuse_memory.c) is built with `cc` and loaded into the program. For each command line of LINES
+the first request is refused, then the second, and so on until a run makes no more of them, while the words are read
+too; and once more with all requests from that one on. Whatever is refused, the program has to end by itself with what
+it gives otherwise, or with the line `pargrep: out of memory` behind a beginning of it, and status 2. Where threads
+search, the first is also not started, then the second, and so on, and nothing may change. The last line is
+`N passed, M failed`; where there is no `cc` it passes, and a line says so.
+"""
+
+import argparse
+import os
+import shlex
+import shutil
+import subprocess
+import sys
+import tempfile
+from concurrent.futures import ThreadPoolExecutor
+from dataclasses import dataclass
+from pathlib import Path
+
+HERE = Path(__file__).resolve().parent
+PROGRAM = HERE.parent / "crates/pargrep/out/pargrep"
+LIBRARY = HERE / "refuse_memory.c"
+OUT_OF_MEMORY = b"pargrep: out of memory\n"
+
+# More requests than any line makes.
+MOST = 20_000
+
+# A run that has not ended after so many seconds has failed.
+LIMIT = 20
+
+# Standard input is the file `row`. The last line starts threads.
+LINES = """\
+-F x row
+-n -C 1 x
+-c x row words empty
+-h -n -B 1 -A 2 -F x row words
+-E (a row
+-e ok -e a\\{ row
+-r -n x tree
+-r -l x tree missing row
+-e x -e a -e e row words
+-i -F WATER words
+-i -n -E W[A-C]TER|FIRE words
+-o -n -E [wf][a-z]+ words
+-v -n -E [wf][a-z]+ words
+-f patterns -n words row
+-F -f list -c words row
+-F -i -f list -o words
+-w -x -z -c x row
+-q x row
+-s -m 1 x missing row
+--block 1 --round 3 -n x row words
+-A -1 x row
+--unknown x row
+-c -l x row
+--help
+--version
+--workers 4 -c -E [xyz][a-c] long
+"""
+
+
+def make(folder):
+    """Makes the files that the lines name."""
+    (folder / "tree/b/c").mkdir(parents=True)
+    files = {
+        "row": b"a\nb\nx\nc\nd\ne\nx\n",
+        "words": b"water\nfire\nFirewater\nearth\n\nx",
+        "empty": b"",
+        "patterns": b"^w\nx\n",
+        "list": b"water\nfire\nearth\nwind\nsnow\nrain\nhail\nfog\nmist\nice\n",
+        "tree/a": b"x\n",
+        "tree/b/f": b"ax\nb\n",
+        "tree/b/c/g": b"x",
+        "long": b"abc xyz yxa zzb zac\nq w e r t\n" * 40_000,
+    }
+    for name, text in files.items():
+        (folder / name).write_bytes(text)
+
+
+@dataclass
+class Outcome:
+    """What a run gave, and how many requests and threads it asked for, or None where it didn't end by itself."""
+
+    status: int
+    output: bytes
+    error: bytes
+    asked: tuple
+
+
+class Runs:
+    """Runs of the program with the library in it."""
+
+    def __init__(self, program, library, folder, reports):
+        self.program, self.library, self.folder, self.reports = program, library, folder, reports
+
+    def run(self, line, key, number):
+        """What a line gives where a request or a thread is refused, by the key and the number."""
+        report = Path(self.reports) / f"{key}-{number}"
+        report.unlink(missing_ok=True)
+        environment = {"LC_ALL": "C", "LD_PRELOAD": str(self.library), "REFUSE_REPORT": str(report), key: str(number)}
+        command = [self.program, *shlex.split(line)]
+        with open(Path(self.folder) / "row", "rb") as row:
+            try:
+                where = {"cwd": self.folder, "env": environment, "stdin": row}
+                ran = subprocess.run(command, capture_output=True, timeout=LIMIT, check=False, **where)
+            except subprocess.TimeoutExpired:
+                return Outcome(-1, b"", b"it had not ended", None)
+        asked = tuple(int(it) for it in report.read_text().split()) if report.exists() else None
+        return Outcome(ran.returncode, ran.stdout, ran.stderr, asked)
+
+    def whole(self, line):
+        return self.run(line, "REFUSE_REQUEST", 0)
+
+
+def is_right(found, whole):
+    """Whether a run gave what a whole one gives, or a beginning of it and that there is no memory."""
+    if found.asked is None:
+        return False
+    if (found.status, found.output, found.error) == (whole.status, whole.output, whole.error):
+        return True
+    if found.status != 2 or not found.error.endswith(OUT_OF_MEMORY):
+        return False
+    before = found.error.removesuffix(OUT_OF_MEMORY)
+    is_whole_lines = not before or before.endswith(b"\n")
+    return is_whole_lines and whole.error.startswith(before) and whole.output.startswith(found.output)
+
+
+def tell(line, key, number, found):
+    texts = f"status {found.status}, output {found.output[:80]!r}, error {found.error[:200]!r}, asked {found.asked}"
+    print(f"{line}: {key}={number}: {texts}", flush=True)
+
+
+def refused(runs, line, key, whole):
+    """The faults of a line whose requests are refused in turn, and how often the answer was that there is no memory."""
+    faults, told, most = 0, 0, max(whole.asked[0], 1)
+    with ThreadPoolExecutor(os.cpu_count()) as pool:
+        for number, found in enumerate(pool.map(lambda at: runs.run(line, key, at), range(1, most + 1)), 1):
+            told += found.error.endswith(OUT_OF_MEMORY)
+            if not is_right(found, whole):
+                faults += 1
+                tell(line, key, number, found)
+    return faults, told
+
+
+def unthreaded(runs, line, whole):
+    """The faults of a line whose threads aren't started in turn."""
+    faults = 0
+    for number in range(1, whole.asked[1] + 1):
+        found = runs.run(line, "REFUSE_THREAD", number)
+        is_same = (found.status, found.output, found.error) == (whole.status, whole.output, whole.error)
+        if found.asked is None or not is_same:
+            faults += 1
+            tell(line, "REFUSE_THREAD", number, found)
+    return faults
+
+
+def check(runs, line, is_threaded):
+    """Whether a line has no fault."""
+    whole = runs.whole(line)
+    if whole.asked is None or not 0 < whole.asked[0] <= MOST or is_threaded != (whole.asked[1] > 0):
+        tell(line, "nothing refused", 0, whole)
+        return False
+    once, told = refused(runs, line, "REFUSE_REQUEST", whole)
+    lasting, _ = refused(runs, line, "REFUSE_REQUESTS_FROM", whole)
+    if told == 0:
+        print(f"{line}: of {whole.asked[0]} refused requests none was told", flush=True)
+    return once + lasting + unthreaded(runs, line, whole) == 0 and told > 0
+
+
+def build(folder):
+    """The library, or None where it can't be had: without `cc`, or where the C library isn't glibc."""
+    library = Path(folder) / "refuse_memory.so"
+    compiler = shutil.which("cc")
+    if not compiler:
+        return None
+    words = [compiler, "-shared", "-fPIC", "-O1", "-o", str(library), str(LIBRARY), "-ldl"]
+    return library if subprocess.run(words, check=False).returncode == 0 else None
+
+
+def main():
+    parser = argparse.ArgumentParser(description="Refuses the program each request for memory in turn.")
+    parser.add_argument("--program", default=PROGRAM)
+    program = str(Path(parser.parse_args().program).resolve())
+    if not os.access(program, os.X_OK):
+        print(f"there is no program at {program}; make builds it\n0 passed, 1 failed")
+        return 1
+    with tempfile.TemporaryDirectory(prefix="pargrep-memory-") as room:
+        folder, reports = Path(room) / "folder", Path(room) / "reports"
+        folder.mkdir()
+        reports.mkdir()
+        make(folder)
+        if not shutil.which("cc"):
+            print("memory: skipped, since there is no cc to build the library that refuses requests")
+            print("1 passed, 0 failed")
+            return 0
+        library = build(room)
+        if not library:
+            print("memory: the library that refuses requests can't be built\n0 passed, 1 failed")
+            return 1
+        runs = Runs(program, library, folder, reports)
+        lines = LINES.splitlines()
+        passed = sum(check(runs, line, line is lines[-1]) for line in lines)
+    print(f"{passed} passed, {len(lines) - passed} failed")
+    return 0 if passed == len(lines) else 1
+
+
+if __name__ == "__main__":
+    sys.exit(main())

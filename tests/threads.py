@@ -1,0 +1,213 @@
+#!/usr/bin/env python3
+"""Compares what the program writes by several threads: `tests/threads.py [--program PATH]`
+
+Threads are started only for a query whose lines the automaton is asked about, only where nothing that was read can be
+enough, and only for a round of 1 MiB (docs/ARCHITECTURE.md). So files of some MiB are made, the same ones each time, in
+a folder that is removed at the end. Each line of LINES is searched for in them by 2 and by 4 workers, and by one thread
+(`--round 1`), and has to give the same bytes and the same status each time, as the machine's own grep gives them.
+While 4 workers are asked for, the threads of the process are counted: more than one have to be seen where threads pay,
+and none beside the first where they don't. The last line is `N passed, M failed`.
+"""
+
+import argparse
+import os
+import random
+import shlex
+import shutil
+import subprocess
+import sys
+import tempfile
+import threading
+from pathlib import Path
+from string import ascii_lowercase
+
+PROGRAM = Path(__file__).resolve().parent.parent / "crates/pargrep/out/pargrep"
+ENVIRONMENT = {"LC_ALL": "C", "PATH": os.environ.get("PATH", os.defpath)}
+SEED = 1
+
+# The sizes of the files in bytes; `last` lacks its last newline. The lines of `nuls` are those of `large`, but each ends
+# with byte 0.
+SIZES = {"large": 4 << 20, "other": 2 << 20, "short": 2_000, "last": 3 << 19}
+
+# How often a run is repeated until threads are seen in it.
+TRIES = 20
+
+# A run that has not ended after so many seconds has failed.
+LIMIT = 60
+
+# Queries that a thread alone searches about as fast as it reads, or of which a limit may be reached: no thread starts.
+ALONE = """\
+-F ab large other
+-n qu large
+-l -E [a-d][aeiou][r-z] large other
+-m 3 -E [a-d][aeiou][r-z] large other
+-n -m 100000 -C 1 -E [a-d][aeiou][r-z]+ large other
+-o -m 7 -E [aeiou]+ large last
+-q -E [aeiou]{9} large other
+"""
+
+# Queries that the automaton is asked about at most lines: threads start.
+SPREAD = """\
+-E [a-d][aeiou][r-z] large
+-E [a-d][aeiou][r-z] large other short last
+-c -E [a-d][aeiou][r-z] large other short last
+-h -E ^[a-m]+$|[xyz]{3} large other short last
+-H -n -E [xyz]{3} last large
+-n -E (ing|ong)?[a-d]$ large last
+-v -E [a-m] large last other
+-v -n -E [aeiou] large last
+-v -c -E [a-m][n-z] large other last
+-o -E [aeiou]{3,} large
+-o -n -E [aeiou]{4} large last
+-o -E [a-d]*[xyz]+ other last
+-o -i -n -E [A-D][XYZ]+ last other
+-o -w -E [aeiou]+ large
+-n -C 1 -E [xyz]{4} large
+-n -C 2 -E [xyz]{4} large other short last
+-A 1 -E [xyz]{4} large last
+-A 0 -E [xyz]{4} large last
+-n -A 3 -E [qxyz]{4} other large
+-B 1 -E [xyz]{4} large
+-n -B 3 -E [xyz]{4} large last
+-h -n -C 70 -E [xyz]{5} large last
+-v -n -C 1 -E [a-p] large
+-v -A 2 -E [a-m] other last
+-i -E [A-D][AEIOU][R-Z]{2} large
+-i -c -E [XYZ]{3} large other
+-w -E [a-d][aeiou][r-z] large
+-w -c -E [a-z]{8} large last
+-w -n -E [xyz][a-z]* other
+-x -E [a-z]{1,8}.[a-z]{1,8}.[a-z]{1,8} large
+-x -v -c -E .{20,} large last
+-z -n -E ^[a-d][aeiou] nuls
+-c -E ^ large other short last
+-n -E ^$ large
+-o -n -e [a-c][x-z] -e [x-z][a-c]$ last
+-c -e q[a-m] -e .z$ large other
+-n -x -E -e [a-z]{7}.[a-z]{7}.[a-z]{7} -e [xyz].* large last
+-s -n -E [xyz]{4} missing large last
+-s -c -E [a-d][aeiou][r-z] large missing last
+-E [a-d][aeiou][r-z] missing large
+--block 1100 --round 1024 -n -C 1 -E [xyz]{4} large other
+--block 4096 --round 300 -o -n -E [aeiou]{4} large last
+--block 1000000 --round 2 -v -n -E [aeiou] large last
+--block 30000 --round 40 -c -E [xyz]{3} large other short last
+"""
+
+
+def make(folder):
+    """Makes the files: lines of up to twelve words of up to eight letters, some of them empty."""
+    chance = random.Random(SEED)
+    words = ["".join(chance.choices(ascii_lowercase, k=chance.randint(1, 8))) for _ in range(5_000)]
+    for name, size in SIZES.items():
+        text = "".join(" ".join(chance.choices(words, k=chance.randint(0, 12))) + "\n" for _ in range(size // 20))
+        (folder / name).write_text(text[:size].rstrip("\n") + "\n" * (name != "last"))
+    (folder / "nuls").write_bytes((folder / "large").read_bytes().replace(b"\n", b"\0"))
+
+
+class Watch:
+    """Polls the threads of a process, and keeps the greatest number that was seen."""
+
+    def __init__(self, process):
+        self.most = 0
+        self.path = f"/proc/{process.pid}/task"
+        self.over = threading.Event()
+        self.poller = threading.Thread(target=self.poll)
+        self.poller.start()
+
+    def poll(self):
+        while not self.over.is_set():
+            try:
+                self.most = max(self.most, len(os.listdir(self.path)))
+            except OSError:
+                return
+
+    def end(self):
+        self.over.set()
+        self.poller.join()
+        return self.most
+
+
+def answer(command, folder, is_watched=False):
+    """The status, standard output and standard error of a command, and how many threads were seen at once."""
+    streams = {"stdin": subprocess.DEVNULL, "stdout": subprocess.PIPE, "stderr": subprocess.PIPE}
+    with subprocess.Popen(command, cwd=folder, env=ENVIRONMENT, **streams) as run:
+        watch = Watch(run) if is_watched else None
+        try:
+            output, error = run.communicate(timeout=LIMIT)
+        except subprocess.TimeoutExpired:
+            run.kill()
+            output, error = run.communicate()
+            error += b"(it had not ended)"
+        return (run.returncode, output, error), watch.end() if watch else 0
+
+
+def threads_seen(command, folder, wanted, is_spread):
+    """The greatest number of threads of runs that are repeated until more than one is seen, or enough were made, and
+    whether each run gave what is wanted."""
+    most, is_same = 0, True
+    for _ in range(TRIES if is_spread else 3):
+        found, seen = answer(command, folder, is_watched=True)
+        most, is_same = max(most, seen), is_same and found == wanted
+        if most > 1:
+            break
+    return most, is_same
+
+
+def without_own(words):
+    """The words without options that only this program has, which stand in front, each with its value."""
+    while words[0] in ("--block", "--round"):
+        words = words[2:]
+    return words
+
+
+def faults_of(program, words, folder, is_spread):
+    """What is not as it has to be of a line."""
+    faults = []
+    alone, _ = answer([program, *words, "--round", "1"], folder)
+    grep, _ = answer(["grep", *without_own(words)], folder)
+    # Of standard error it is only compared whether anything was told.
+    if (alone[0], alone[1], bool(alone[2])) != (grep[0], grep[1], bool(grep[2])):
+        faults.append("grep gives something else than one thread")
+    two, _ = answer([program, "--workers", "2", *words], folder)
+    if two != alone:
+        faults.append("2 workers give something else than one thread")
+    most, is_same = threads_seen([program, "--workers", "4", *words], folder, alone, is_spread)
+    if not is_same:
+        faults.append("4 workers give something else than one thread")
+    if is_spread != (most > 1):
+        faults.append(f"{most} threads were seen at most")
+    return faults
+
+
+def program_faults(program):
+    if not os.access(program, os.X_OK):
+        return f"there is no program at {program}; make builds it"
+    if not shutil.which("grep"):
+        return "there is no grep to compare with"
+    return "there is no /proc to count threads in" if not os.path.isdir("/proc/self/task") else None
+
+
+def main():
+    parser = argparse.ArgumentParser(description="Compares what the program writes by several threads.")
+    parser.add_argument("--program", default=PROGRAM)
+    program = str(Path(parser.parse_args().program).resolve())
+    fault = program_faults(program)
+    if fault:
+        print(f"{fault}\n0 passed, 1 failed")
+        return 1
+    passed, failed = 0, 0
+    with tempfile.TemporaryDirectory(prefix="pargrep-threads-") as folder:
+        make(Path(folder))
+        for lines, is_spread in ((ALONE, False), (SPREAD, True)):
+            for line in lines.splitlines():
+                faults = faults_of(program, shlex.split(line), folder, is_spread)
+                passed, failed = passed + (not faults), failed + bool(faults)
+                for fault in faults:
+                    print(f"{line}: {fault}", flush=True)
+    print(f"{passed} passed, {failed} failed")
+    return 1 if failed else 0
+
+
+if __name__ == "__main__":
+    sys.exit(main())
