@@ -25,7 +25,7 @@ PROGRAM = Path(__file__).resolve().parent.parent / "crates/pargrep/out/pargrep"
 ENVIRONMENT = {"LC_ALL": "C", "PATH": os.environ.get("PATH", os.defpath)}
 SEED = 1
 
-# The sizes of the files in bytes; `last` lacks its last newline. The lines of `nuls` are those of `large`, but each ends
+# The sizes of the files in bytes; `last` lacks its last newline. `nuls` has the lines of `large`, but each of them ends
 # with byte 0.
 SIZES = {"large": 4 << 20, "other": 2 << 20, "short": 2_000, "last": 3 << 19}
 

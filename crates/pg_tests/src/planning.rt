@@ -6,6 +6,7 @@ ghost use Rattle.pg_tests.specs.Reading.{IsBlock, IsBetween, IsReading};
 
 use pg_lines::{Block, Query};
 use pg_seq::{Format, Sequencer};
+use refusing::Refusing;
 use std::alloc::{AllocError, Allocator};
 use std::sync::Arc;
 
@@ -101,6 +102,20 @@ pub(crate) fn open_next<A: Allocator + Copy>(
 {
     end_file(sequencer, file);
     open_file(sequencer, file + 1, b"f")
+}
+
+/// Whether the end of the open file asks for no memory.
+pub(crate) fn ends_for_free<A: Allocator + Copy>(
+    sequencer: &mut Sequencer<A>,
+    heap: &Refusing,
+    file: u32,
+) -> bool
+    requires { (count : ℕ) × IsReading sequencer.old file count }
+    ensures { IsBetween sequencer.new (file + 1) }
+{
+    let requests = heap.requests();
+    end_file(sequencer, file);
+    heap.requests() == requests
 }
 
 /// Notes a name that isn't there, where `files` were opened before.

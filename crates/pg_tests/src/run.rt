@@ -2,12 +2,13 @@
 ghost use Rattle.std.specs.Prelude.{◌≡◌, ◌≤◌, ◌^◌, false, IfOk};
 ghost use Rattle.pg_rows.specs.Output.{HasRoom};
 
-use crate::fixtures::{PLAIN, text_of};
+use crate::fixtures::PLAIN;
 use crate::formats::{cut, format_of, with_newlines};
 use pg_files::{Ending, Listed, MemStore};
-use pg_lines::Kind;
+use pg_lines::{Kind, ListFault, PatternList, QueryFault, QueryText};
 use pg_rows::{Format, MemSink};
 use pg_run::{FreeGate, RunFault, Setup, run};
+use pg_syntax::{FaultKind, SyntaxFault};
 use pg_walk::{Cause, Item};
 use refusing::Refusing;
 use std::alloc::{AllocError, Allocator, Global};
@@ -21,6 +22,8 @@ const FILE: &[u8] = b"abc\nxyz\nb";
 /// A file named `f`, how it is read and cut, what is asked for of it, and what its output takes.
 #[derive(Clone, Copy)]
 struct Case<'a> {
+    /// What the patterns are and what is asked of them, as `text_of` reads it.
+    letters: &'a str,
     pattern: &'a [u8],
     format: Format,
     file: &'a [u8],
@@ -45,6 +48,7 @@ impl<'a> Case<'a> {
         requires { HasRoom format }
     {
         Case {
+            letters: "F",
             pattern: b"b",
             format,
             file: FILE,
@@ -86,6 +90,13 @@ impl<'a> Case<'a> {
         self
     }
 
+    /// The search for other patterns.
+    fn asking(mut self, letters: &'a str, pattern: &'a [u8]) -> Case<'a> {
+        self.letters = letters;
+        self.pattern = pattern;
+        self
+    }
+
     /// A file behind whose bytes a read fails.
     fn broken(mut self) -> Case<'a> {
         self.ending = Ending::Fails;
@@ -102,24 +113,62 @@ impl<'a> Case<'a> {
     }
 }
 
-/// The file, and behind it, unless it is alone, names that give none.
+/// The letters of what is asked for: `E` expressions or `F` fixed strings, `f` from a file; and the options.
+const LETTERS: &[u8] = b"EFfivo";
+
+fn has(letters: &str, letter: u8) -> bool {
+    letters.as_bytes().contains(&letter)
+}
+
+/// What a query is compiled from, by the letters of what is asked for, and a text of one or more patterns.
+fn text_of<A: Allocator + Copy>(
+    alloc: A,
+    letters: &str,
+    patterns: &[u8],
+) -> Result<QueryText<A>, AllocError> {
+    let patterns = Vec::from_slice(alloc, patterns)?;
+    let mut lists = Vec::new(alloc);
+    lists.push(if has(letters, b'f') {
+        PatternList::Lines(patterns)
+    } else {
+        PatternList::Text(patterns)
+    })?;
+    Ok(QueryText {
+        kind: if has(letters, b'E') {
+            Kind::Extended
+        } else {
+            Kind::Fixed
+        },
+        lists,
+        fold: has(letters, b'i'),
+        whole: false,
+        word: false,
+        invert: has(letters, b'v'),
+        pieces: has(letters, b'o'),
+        zero: false,
+    })
+}
+
+/// The file, and behind it, unless it is alone, names that give none, and a second file.
 fn items_of(alloc: Global, is_alone: bool) -> Result<Vec<Item>, AllocError> {
     let mut items = Vec::new(alloc);
     items.push(Item::File(String::from_str(alloc, "f")?))?;
     if !is_alone {
         items.push(Item::File(String::from_str(alloc, "g")?))?;
         items.push(Item::Fault(String::from_str(alloc, "d")?, Cause::CannotList))?;
+        items.push(Item::File(String::from_str(alloc, "h")?))?;
     }
     Ok(items)
 }
 
-/// The file, listed in front of names that give none, unless it is alone.
+/// The file, listed in front of names that give none and the file `h`, a line of `b`, unless it is alone.
 fn list(alloc: Global, case: Case<'_>) -> Result<Listed<MemStore>, AllocError>
     ensures { IfOk result (λ files. (files.asked ≡ 0) × (files.done ≡ false)) }
 {
     let items = items_of(alloc, case.is_alone)?;
     let mut store = MemStore::new(alloc);
     store.add("f", case.file, case.ending)?;
+    store.add("h", b"b\n", Ending::Ends)?;
     store.set_read_limit(case.read_limit);
     let mut files = Listed::new(alloc, store);
     files.list(items, true);
@@ -137,7 +186,7 @@ fn answer<R: Threads + Wait + Clock + Sync, A: Allocator + Copy + Send + Sync>(
 ) -> Result<u8, RunFault>
     requires { (files.old.asked ≡ 0) × (files.old.done ≡ false) }
 {
-    let text = text_of(heap, Kind::Fixed, case.pattern)?;
+    let text = text_of(heap, case.letters, case.pattern)?;
     let setup = Setup {
         format: case.format,
         workers: case.workers,
@@ -184,7 +233,7 @@ enum Varied {
     Blocks,
     /// How many bytes the output takes, in all and in a write.
     Writes,
-    /// The size of blocks and the number of threads, where reading fails behind the file.
+    /// The size of blocks and of reads, and the number of threads, where reading fails behind the file.
     Reads,
 }
 
@@ -245,7 +294,8 @@ impl<'a> Row<'a> {
         Ok(())
     }
 
-    /// An output that takes less fails once it is full, and one that takes a byte at a time goes through.
+    /// An output that takes less fails once it is full, one that takes no byte fails at once, and one that takes a byte
+    /// at a time goes through.
     fn push_writes(self, cases: &mut Vec<Expected<'a>>) -> Result<(), AllocError> {
         for block in 1..=10u32 {
             for limit in 0..self.output.len() {
@@ -259,16 +309,22 @@ impl<'a> Row<'a> {
             }
             let case = self.case().cut(block, 100).spread(2);
             cases.push(self.expected(case.into_room(self.output.len(), 1), ""))?;
+            cases.push(Expected {
+                case: case.into_room(self.output.len(), 0),
+                answer: Err(RunFault::Sink),
+                output: b"",
+                told: "",
+            })?;
         }
         Ok(())
     }
 
-    /// Reading fails behind the file, in blocks of some sizes, by one thread and by three.
+    /// Reading fails behind the file, in blocks and reads of some sizes, by one thread and by three.
     fn push_reads(self, cases: &mut Vec<Expected<'a>>) -> Result<(), AllocError> {
         for block in 1..=10u32 {
-            for workers in [0, 2] {
-                let case = self.case().broken().cut(block, 2).spread(workers);
-                cases.push(self.expected(case, "pargrep: f: read failed\n"))?;
+            for (read_limit, workers) in [(1, 0), (2, 0), (1, 2), (2, 2)] {
+                let case = self.case().broken().cut(block, read_limit);
+                cases.push(self.expected(case.spread(workers), "pargrep: f: read failed\n"))?;
             }
         }
         Ok(())
@@ -378,12 +434,44 @@ impl<'t> Parsed<'t> {
     }
 }
 
+/// Rows with numbers and a line of context on both sides, in two groups: what is written, and what of it where the file
+/// can be read to each of its bytes alone.
+const GROUPS: &str = "\
+writes x -n--11 a/b/x/c/d/e/x/ 0:2-b/3:x/4-c/--/6-e/7:x/
+reads x -n--11  2:
+reads x -n--11 a 2:
+reads x -n--11 a/ 2:
+reads x -n--11 a/b 2:
+reads x -n--11 a/b/ 2:
+reads x -n--11 a/b/x 2:2-b/3:x/
+reads x -n--11 a/b/x/ 2:2-b/3:x/
+reads x -n--11 a/b/x/c 2:2-b/3:x/4-c/
+reads x -n--11 a/b/x/c/ 2:2-b/3:x/4-c/
+reads x -n--11 a/b/x/c/d 2:2-b/3:x/4-c/
+reads x -n--11 a/b/x/c/d/ 2:2-b/3:x/4-c/
+reads x -n--11 a/b/x/c/d/e 2:2-b/3:x/4-c/
+reads x -n--11 a/b/x/c/d/e/ 2:2-b/3:x/4-c/
+reads x -n--11 a/b/x/c/d/e/x 2:2-b/3:x/4-c/--/6-e/7:x/
+reads x -n--11 a/b/x/c/d/e/x/ 2:2-b/3:x/4-c/--/6-e/7:x/";
+
+/// All cases of a row end as it says.
+fn assert_row<R: Abort + Threads + Wait + Clock + Sync>(rt: &R, alloc: Global, text: &str) {
+    let parsed = Parsed::of(rt, alloc, text);
+    let cases = parsed.row().cases(alloc).expect(rt, "memory");
+    assert_all(rt, alloc, &cases);
+}
+
 #[test]
 fn runs_end_as_rows_say(rt: HostRuntime) {
     for text in RUNS.lines() {
-        let parsed = Parsed::of(&rt, rt.alloc(), text);
-        let cases = parsed.row().cases(rt.alloc()).expect(&rt, "memory");
-        assert_all(&rt, rt.alloc(), &cases);
+        assert_row(&rt, rt.alloc(), text);
+    }
+}
+
+#[test]
+fn groups_end_as_rows_say(rt: HostRuntime) {
+    for text in GROUPS.lines() {
+        assert_row(&rt, rt.alloc(), text);
     }
 }
 
@@ -413,20 +501,17 @@ fn any_byte_is_searched_for(rt: HostRuntime) {
 }
 
 /// What is told of the names behind the file.
-const TOLD: &[u8] = b"pargrep: g: cannot open\npargrep: d: cannot list\n";
+const TOLD: &str = "pargrep: g: cannot open\npargrep: d: cannot list\n";
 
-/// Whether a run whose memory refuses a request has written and told beginnings, and one whose memory refuses none all
-/// of it.
-fn is_refused_rightly(found: &Outcome, heap: &Refusing, output: &[u8]) -> bool {
-    let written = found.out.bytes();
-    if found.answer == Ok(2) {
-        written == output && found.faults.bytes() == TOLD
-    } else {
-        heap.has_refused()
-            && found.answer == Err(RunFault::OutOfMemory)
-            && output.starts_with(written)
-            && TOLD.starts_with(found.faults.bytes())
+/// Whether a run for which memory wants has written and told beginnings, where a request was refused, and any other one
+/// all of it.
+fn is_refused_rightly(found: &Outcome, heap: &Refusing, whole: Expected<'_>) -> bool {
+    if found.answer != Err(RunFault::OutOfMemory) {
+        return whole.is(found);
     }
+    heap.has_refused()
+        && whole.output.starts_with(found.out.bytes())
+        && whole.told.as_bytes().starts_with(found.faults.bytes())
 }
 
 /// Each request for memory of a run is refused in turn. The answer is how many bytes were written where the last one
@@ -434,14 +519,13 @@ fn is_refused_rightly(found: &Outcome, heap: &Refusing, output: &[u8]) -> bool {
 fn assert_refusals<R: Abort + Threads + Wait + Clock + Sync>(
     rt: &R,
     alloc: Global,
-    case: Case<'_>,
-    output: &[u8],
+    whole: Expected<'_>,
 ) -> usize {
     let mut longest = 0;
     for passes in 0..1000u64 {
         let heap = Refusing::new(alloc, passes);
-        let found = run_case(rt, alloc, &heap, case);
-        assert!(rt; is_refused_rightly(&found, &heap, output), "at {passes}");
+        let found = run_case(rt, alloc, &heap, whole.case);
+        assert!(rt; is_refused_rightly(&found, &heap, whole), "at {passes}");
         if !heap.has_refused() {
             return longest;
         }
@@ -450,22 +534,90 @@ fn assert_refusals<R: Abort + Threads + Wait + Clock + Sync>(
     panic!(rt; "more than 1000 requests")
 }
 
-/// The letters of a format, how much of the output for `FILE` is written at least before the last request for memory is
-/// made, which is the first line, and nothing of a count, which is written at the end; and the output.
-const REFUSED: &str = "------ 4 abc\nb\n|Hn---- 8 f:1:abc\nf:3:b\n|H-c--- 0 f:2\n";
+/// The letters of what is asked for, a text of patterns, the letters of a format, how much of the output for `FILE` and
+/// the second file is written at least before the last request for memory is made; and the output. `/` stands for a
+/// newline.
+const REFUSED: &str = "\
+F b ------ 4 abc/b/b/
+F b Hn---- 8 f:1:abc/f:3:b/h:1:b/
+F b H-c--- 4 f:2/h:1/
+F b -n--11 6 1:abc/2-xyz/3:b/--/1:b/
+F abc/q/b ------ 4 abc/b/b/
+Ff b/q/ -n---- 6 1:abc/3:b/1:b/
+Fi B ------ 4 abc/b/b/
+Ei ^A|Z ------ 4 abc/xyz/
+Ev b ------ 4 xyz/
+Eo [a-c]+ -n---- 6 1:abc/3:b/1:b/
+Eov b ------ 0 ";
+
+/// Each request for memory of a run that ends as a row says is refused in turn, by one thread and by three, of which
+/// each may make the one that is refused.
+fn assert_refused<R: Abort + Threads + Wait + Clock + Sync>(
+    rt: &R,
+    alloc: Global,
+    row: &str,
+    case: Case<'_>,
+    answer: &str,
+) {
+    let (early, output) = cut(rt, answer, " ");
+    let early: usize = early.parse().expect(rt, "a number");
+    let output = with_newlines(alloc, output).expect(rt, "memory");
+    let whole = Expected {
+        case,
+        answer: Ok(2),
+        output: output.as_bytes(),
+        told: TOLD,
+    };
+    let written = assert_refusals(rt, alloc, whole);
+    assert!(rt; early <= written, "{row}");
+    let case = case.spread(2);
+    assert_refusals(rt, alloc, Expected { case, ..whole });
+}
+
+/// The same of a row of `REFUSED`.
+fn assert_refused_row<R: Abort + Threads + Wait + Clock + Sync>(rt: &R, alloc: Global, row: &str) {
+    let (letters, rest) = cut(rt, row, " ");
+    let (patterns, rest) = cut(rt, rest, " ");
+    let (format, answer) = cut(rt, rest, " ");
+    assert!(rt;
+        letters
+            .as_bytes()
+            .iter()
+            .all(|letter| LETTERS.contains(letter))
+    );
+    let patterns = with_newlines(alloc, patterns).expect(rt, "memory");
+    let case = Case::new(format_of(rt, format)).asking(letters, patterns.as_bytes());
+    assert_refused(rt, alloc, row, case.cut(1, 3).among_others(), answer);
+}
 
 #[test]
 fn each_request_may_be_refused(rt: HostRuntime) {
-    for row in REFUSED.split('|') {
-        let (letters, rest) = cut(&rt, row, " ");
-        let (early, output) = cut(&rt, rest, " ");
-        let case = Case::new(format_of(&rt, letters)).cut(1, 3).among_others();
-        let early: usize = early.parse().expect(&rt, "a number");
-        let written = assert_refusals(&rt, rt.alloc(), case, output.as_bytes());
-        assert!(rt; early <= written, "{row}");
-        // Threads may make their requests in any order.
-        assert_refusals(&rt, rt.alloc(), case.spread(2), output.as_bytes());
+    for row in REFUSED.lines() {
+        assert_refused_row(&rt, rt.alloc(), row);
     }
+}
+
+/// What is wrong with the second of two patterns, of which an escape lacks its byte.
+const FAULT: RunFault = RunFault::Query(QueryFault::Syntax(ListFault {
+    pattern: 1,
+    fault: SyntaxFault {
+        kind: FaultKind::TrailingBackslash,
+        at: 3,
+    },
+}));
+
+#[test]
+fn a_fault_is_told_for_want_of_no_memory(rt: HostRuntime) {
+    let case = Case::new(PLAIN)
+        .asking("E", b"(a|b)+\na|b\\")
+        .among_others();
+    let whole = Expected {
+        case,
+        answer: Err(FAULT),
+        output: b"",
+        told: "",
+    };
+    assert_eq!(rt; assert_refusals(&rt, rt.alloc(), whole), 0);
 }
 
 /// The search for `b` in a file of which a line may be too long.

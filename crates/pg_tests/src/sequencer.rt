@@ -6,7 +6,9 @@ ghost use Rattle.pg_tests.specs.Reading.{IsReading};
 
 use crate::fixtures::{PLAIN, SPARED, query_of, search};
 use crate::formats::cut;
-use crate::planning::{announce_block, end_file, new_sequencer, open_file, open_next};
+use crate::planning::{
+    announce_block, end_file, ends_for_free, new_sequencer, open_file, open_next,
+};
 use pg_lines::{BlockResult, Query};
 use pg_seq::{Arrival, Format, MemSink, Sequencer, SinkFault};
 use refusing::Refusing;
@@ -206,6 +208,52 @@ fn results_arrive_in_any_order(rt: HostRuntime) {
     for row in ARRIVALS.lines() {
         assert_arrivals(&rt, rt.alloc(), row).expect(&rt, "memory");
     }
+}
+
+/// Whether two results arrive, all is written, and each question is answered, without a request for memory.
+fn is_drained_for_free<A: Allocator + Copy>(
+    heap: &Refusing,
+    sequencer: &mut Sequencer<A>,
+    sink: &mut MemSink<A>,
+    first: BlockResult<A>,
+    second: BlockResult<A>,
+) -> bool {
+    let requests = heap.requests();
+    let are_taken = sequencer.arrive(second) == Arrival::Taken
+        && !sequencer.complete()
+        && sequencer.arrive(first) == Arrival::Taken
+        && !sequencer.enough();
+    let is_whole = sequencer.drain(sink).is_ok()
+        && sequencer.complete()
+        && sequencer.status() == Some(0)
+        && sink.bytes() == b"xa\nxb\n";
+    are_taken && is_whole && heap.requests() == requests
+}
+
+/// Whether a sequencer with a window asks for no memory behind its announcements. `alloc` is the heap.
+fn asks_for_none<A: Allocator + Copy>(alloc: A, heap: &Refusing) -> Result<bool, AllocError> {
+    let query = query_of(alloc, b"x")?;
+    let format = Format {
+        before: Some(1),
+        after: Some(1),
+        ..PLAIN
+    };
+    let mut sink = MemSink::new(alloc, 100)?;
+    let mut sequencer = new_sequencer(alloc, &query, format)?;
+    open_file(&mut sequencer, 0, b"f")?;
+    announce_line(alloc, &mut sequencer, 0, 0, b'a')?;
+    announce_line(alloc, &mut sequencer, 0, 1, b'b')?;
+    let ends = ends_for_free(&mut sequencer, heap, 0);
+    let first = search_line(alloc, &query, 0, 0, b'a')?;
+    let second = search_line(alloc, &query, 0, 1, b'b')?;
+    Ok(ends && is_drained_for_free(heap, &mut sequencer, &mut sink, first, second))
+}
+
+#[test]
+fn results_take_no_memory(rt: HostRuntime) {
+    let heap = Refusing::new(rt.alloc(), u64::MAX);
+    let asks_for_none = asks_for_none(&heap, &heap);
+    assert!(rt; asks_for_none == Ok(true) && heap.requests() > 0);
 }
 
 /// Whether a run in which no line is selected writes nothing, and has status 1.
