@@ -185,7 +185,10 @@ fn each_request_may_be_refused(rt: HostRuntime) {
             assert!(rt; is_whole, "nothing was refused");
             return;
         }
-        assert!(rt; is_whole || found == Err(RoundFault::OutOfMemory), "at {passes}");
+        assert!(rt;
+            is_whole || found == Err(RoundFault::OutOfMemory),
+            "at {passes}"
+        );
     }
     panic!(rt; "more than 1000 requests")
 }

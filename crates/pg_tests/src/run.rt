@@ -540,7 +540,7 @@ fn assert_refusals<R: Abort + Threads + Wait + Clock + Sync>(
 const REFUSED: &str = "\
 F b ------ 4 abc/b/b/
 F b Hn---- 8 f:1:abc/f:3:b/h:1:b/
-F b H-c--- 4 f:2/h:1/
+F b H-c--- 0 f:2/h:1/
 F b -n--11 6 1:abc/2-xyz/3:b/--/1:b/
 F abc/q/b ------ 4 abc/b/b/
 Ff b/q/ -n---- 6 1:abc/3:b/1:b/
@@ -597,9 +597,9 @@ fn each_request_may_be_refused(rt: HostRuntime) {
     }
 }
 
-/// What is wrong with the second of two patterns, of which an escape lacks its byte.
+/// What is wrong with the second of two patterns, in which an escape lacks its byte.
 const FAULT: RunFault = RunFault::Query(QueryFault::Syntax(ListFault {
-    pattern: 1,
+    pattern: 2,
     fault: SyntaxFault {
         kind: FaultKind::TrailingBackslash,
         at: 3,

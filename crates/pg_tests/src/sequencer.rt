@@ -226,7 +226,7 @@ fn is_drained_for_free<A: Allocator + Copy>(
     let is_whole = sequencer.drain(sink).is_ok()
         && sequencer.complete()
         && sequencer.status() == Some(0)
-        && sink.bytes() == b"xa\nxb\n";
+        && sink.bytes() == b"xa\nxb\n".as_slice();
     are_taken && is_whole && heap.requests() == requests
 }
 
