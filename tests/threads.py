@@ -1,12 +1,13 @@
 #!/usr/bin/env python3
 """Compares what the program writes by several threads: `tests/threads.py [--program PATH]`
 
-Threads are started only for a query whose lines the automaton is asked about, only where nothing that was read can be
-enough, and only for a round of 1 MiB (docs/ARCHITECTURE.md). So files of some MiB are made, the same ones each time, in
-a folder that is removed at the end. Each line of LINES is searched for in them by 2 and by 4 workers, and by one thread
-(`--round 1`), and has to give the same bytes and the same status each time, as the machine's own grep gives them.
-While 4 workers are asked for, the threads of the process are counted: more than one have to be seen where threads pay,
-and none beside the first where they don't. The last line is `N passed, M failed`.
+Threads are started only for a round of 1 MiB, only where nothing that was read can be enough, and at first only for a
+query whose lines the automaton is asked about; later by how long the search has taken. So files of some MiB are made,
+the same ones each time, in a folder that is removed at the end. Each command line below is run over them by 2 and by 4
+workers, and by one thread (`--round 1`), and has to give the same bytes and the same status each time, as the
+machine's own grep gives them. While 4 workers are asked for, the threads of the process are counted: more than one have
+to be seen for the lines of SPREAD, and none beside the first for those of ALONE. The last line is
+`N passed, M failed`.
 """
 
 import argparse
@@ -35,10 +36,16 @@ TRIES = 20
 # A run that has not ended after so many seconds has failed.
 LIMIT = 60
 
-# Queries that a thread alone searches about as fast as it reads, or of which a limit may be reached: no thread starts.
-ALONE = """\
+# Literals, which one thread finds fast or not so fast: threads may start.
+EITHER = """\
 -F ab large other
 -n qu large
+-o -i -e QU -e ab large last
+-v -c -F -e ab -e q large other
+"""
+
+# What was read may be enough: no thread starts.
+ALONE = """\
 -l -E [a-d][aeiou][r-z] large other
 -m 3 -E [a-d][aeiou][r-z] large other
 -n -m 100000 -C 1 -E [a-d][aeiou][r-z]+ large other
@@ -46,7 +53,7 @@ ALONE = """\
 -q -E [aeiou]{9} large other
 """
 
-# Queries that the automaton is asked about at most lines: threads start.
+# The automaton is asked about at most lines, and all of the files has to be read: threads start.
 SPREAD = """\
 -E [a-d][aeiou][r-z] large
 -E [a-d][aeiou][r-z] large other short last
@@ -142,11 +149,11 @@ def answer(command, folder, is_watched=False):
         return (run.returncode, output, error), watch.end() if watch else 0
 
 
-def threads_seen(command, folder, wanted, is_spread):
+def threads_seen(command, folder, wanted, tries):
     """The greatest number of threads of runs that are repeated until more than one is seen, or enough were made, and
     whether each run gave what is wanted."""
     most, is_same = 0, True
-    for _ in range(TRIES if is_spread else 3):
+    for _ in range(tries):
         found, seen = answer(command, folder, is_watched=True)
         most, is_same = max(most, seen), is_same and found == wanted
         if most > 1:
@@ -162,7 +169,7 @@ def without_own(words):
 
 
 def faults_of(program, words, folder, is_spread):
-    """What is not as it has to be of a line."""
+    """What is not as it has to be of a line; `is_spread` is None where threads may start or not."""
     faults = []
     alone, _ = answer([program, *words, "--round", "1"], folder)
     grep, _ = answer(["grep", *without_own(words)], folder)
@@ -172,10 +179,11 @@ def faults_of(program, words, folder, is_spread):
     two, _ = answer([program, "--workers", "2", *words], folder)
     if two != alone:
         faults.append("2 workers give something else than one thread")
-    most, is_same = threads_seen([program, "--workers", "4", *words], folder, alone, is_spread)
+    tries = TRIES if is_spread else 3
+    most, is_same = threads_seen([program, "--workers", "4", *words], folder, alone, tries)
     if not is_same:
         faults.append("4 workers give something else than one thread")
-    if is_spread != (most > 1):
+    if is_spread is not None and is_spread != (most > 1):
         faults.append(f"{most} threads were seen at most")
     return faults
 
@@ -199,7 +207,7 @@ def main():
     passed, failed = 0, 0
     with tempfile.TemporaryDirectory(prefix="pargrep-threads-") as folder:
         make(Path(folder))
-        for lines, is_spread in ((ALONE, False), (SPREAD, True)):
+        for lines, is_spread in ((ALONE, False), (EITHER, None), (SPREAD, True)):
             for line in lines.splitlines():
                 faults = faults_of(program, shlex.split(line), folder, is_spread)
                 passed, failed = passed + (not faults), failed + bool(faults)
