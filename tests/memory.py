@@ -38,7 +38,7 @@ LINES = """\
 -c x row words empty
 -h -n -B 1 -A 2 -F x row words
 -E (a row
--e ok -e a\\{ row
+-e ok -e 'a\\{' row
 -r -n x tree
 -r -l x tree missing row
 -e x -e a -e e row words
