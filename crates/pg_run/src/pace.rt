@@ -5,8 +5,9 @@ use std::time::{Clock, Duration};
 /// So many bytes are measured before a verdict.
 const MEASURED: u64 = 1_048_576;
 
-/// A search that takes more than half a nanosecond a byte is slow: one thread reads files several times as fast.
-const BYTES_A_NANO: u64 = 2;
+/// A search that takes more than a nanosecond a byte is slow: by several threads, each block needs memory of its own,
+/// and to clear it takes half as long.
+const BYTES_A_NANO: u64 = 1;
 
 /// What a clock shows, if it can be read.
 pub(crate) fn time<R: Clock>(rt: &R) -> Option<Duration> {

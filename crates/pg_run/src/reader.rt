@@ -25,8 +25,11 @@ pub(crate) enum Came {
 /// So many reads of each file are copied: of a small file the one that gives its bytes and the one that finds its end.
 const COPIED_READS: u32 = 2;
 
+/// A read asks for a block and so many bytes more.
+const LINE_ROOM: usize = 4_096;
+
 /// The most bytes of a read that is copied.
-const MOST_COPIED: usize = 65_536;
+const MOST_COPIED: usize = 69_632;
 
 /// Reads the open file, and cuts what comes into blocks.
 pub(crate) struct FileReader<A: Allocator + Copy = Global> {
@@ -87,7 +90,7 @@ impl<A: Allocator + Copy> FileReader<A> {
             spare: None,
             came: Came::End,
             ahead: 0,
-            buffer: buffer_of(alloc, block as usize),
+            buffer: buffer_of(alloc, (block as usize).saturating_add(LINE_ROOM)),
             copied_reads: 0,
         }
     }
