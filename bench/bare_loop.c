@@ -1,5 +1,5 @@
-/* Opens, reads and closes each file whose name stands in a line of standard input, and prints how many bytes there were:
- * the least that a search of these files can cost. */
+/* Opens, reads and closes each file whose name stands in a line of standard input, and prints how many bytes there
+ * were: the least that a search of these files can cost. */
 #include <fcntl.h>
 #include <stdio.h>
 #include <string.h>
