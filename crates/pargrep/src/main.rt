@@ -6,17 +6,19 @@ use pg_files::{DiskStore, Listed};
 use pg_rows::Out;
 use pg_walk::DiskTree;
 use std::alloc::Global;
-use std::io::BufWriter;
+use std::io::{BufWriter, IsTerminal};
 use std::process::ExitCode;
 
 /// How many bytes of output are held back until they are written, so that a write goes out for many
-/// lines.
+/// lines. On a terminal none are.
 const OUT_BUFFER: usize = 65_536;
 
 fn main(rt: HostRuntime) -> ExitCode {
     let alloc = rt.alloc();
     let mut err = Out::new(rt.stderr());
-    let Ok(buffered) = BufWriter::with_capacity(alloc, OUT_BUFFER, rt.stdout()) else {
+    let stdout = rt.stdout();
+    let held = if stdout.is_terminal() { 0 } else { OUT_BUFFER };
+    let Ok(buffered) = BufWriter::with_capacity(alloc, held, stdout) else {
         return ExitCode::from(report(alloc, Fault::OutOfMemory, &mut err));
     };
     let words = words_of(&rt);

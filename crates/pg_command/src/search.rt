@@ -154,6 +154,7 @@ fn setup_of(request: &Request<'_>, directory: bool) -> Setup
         line: LONGEST_LINE,
         round: request.round,
         always_spread: false,
+        line_buffered: request.line_buffered,
         silent: request.silent,
     }
 }

@@ -47,6 +47,8 @@ fn regular_id(metadata: io::Result<Metadata>) -> Option<FileId> {
 pub struct DiskStore<R: Files + Input + Drop> {
     rt: R,
     source: Source<R::Reader, R::File>,
+    /// Whether a read of the open file may wait: it is no regular file, as far as could be found out.
+    waits: bool,
     /// The regular file that standard output goes to.
     output: Option<FileId>,
     past: StorePast,
@@ -77,19 +79,15 @@ impl<R: Files + Input + Drop> DiskStore<R> {
         DiskStore {
             rt,
             source: Source::Closed,
+            waits: false,
             output,
             past: StorePast::new(),
         }
     }
 
-    /// Whether standard output goes to standard input's file.
-    fn is_output_read(&self) -> bool {
-        self.output.is_some() && self.output == regular_id(fs::metadata(&self.rt, "/dev/stdin"))
-    }
-
-    /// Whether standard output goes to an open file.
-    fn is_output(&self, file: &R::File) -> bool {
-        self.output.is_some() && self.output == regular_id(file.metadata())
+    /// Whether this is the file that standard output goes to.
+    fn is_output(&self, id: Option<FileId>) -> bool {
+        self.output.is_some() && self.output == id
     }
 
     /// Notes that a path gives no file. None is open then.
@@ -118,18 +116,22 @@ impl<R: Files + Input + Drop> Store for DiskStore<R> {
         ensures same { IfErr result (λ fault. fault ≡ OutOfMemory → self.new ≡ self.old) }
     {
         if path == "-" {
-            if spares_output && self.is_output_read() {
+            let standard = regular_id(fs::metadata(&self.rt, "/dev/stdin"));
+            if spares_output && self.is_output(standard) {
                 return Err(self.refuse(path, Cause::IsOutput));
             }
+            self.waits = standard.is_none();
             self.source = Source::Standard(self.rt.reader());
             self.past.open(path);
             return Ok(());
         }
         match fs::open(&self.rt, path) {
             Ok(file) => {
-                if spares_output && self.is_output(&file) {
+                let id = regular_id(file.metadata());
+                if spares_output && self.is_output(id) {
                     return Err(self.refuse(path, Cause::IsOutput));
                 }
+                self.waits = id.is_none();
                 self.source = Source::Open(file);
                 self.past.open(path);
                 Ok(())
@@ -140,11 +142,7 @@ impl<R: Files + Input + Drop> Store for DiskStore<R> {
     }
 
     fn may_wait(&self) -> bool {
-        match &self.source {
-            Source::Closed => false,
-            Source::Standard(_) => regular_id(fs::metadata(&self.rt, "/dev/stdin")).is_none(),
-            Source::Open(file) => !file.metadata().is_ok_and(|metadata| metadata.is_file()),
-        }
+        self.waits
     }
 
     fn read(&mut self, into: &mut [u8]) -> Result<usize, ReadFault>

@@ -33,6 +33,7 @@ pub(crate) fn setup(workers: u32, round: u32) -> Setup
         line: 100,
         round,
         always_spread: true,
+        line_buffered: false,
         silent: false,
     }
 }
@@ -173,7 +174,7 @@ struct Watched<'n> {
 }
 
 impl<'n> Sink for Watched<'n> {
-    ghost use Rattle.pg_rows.specs.Sink.{Writes};
+    ghost use Rattle.pg_rows.specs.Sink.{Writes, Flushes};
 
     ghost taken = { λ s. s.inner.taken };
 
@@ -186,6 +187,13 @@ impl<'n> Sink for Watched<'n> {
         let count = self.inner.write(text)?;
         self.taken.fetch_add(count as u64, Ordering::SeqCst);
         Ok(count)
+    }
+
+    fn flush(&mut self) -> Result<(), WriteError>
+        ensures { Flushes self.old.inner.taken self.new.inner.taken
+            self.old.inner.failures self.new.inner.failures result }
+    {
+        self.inner.flush()
     }
 }
 

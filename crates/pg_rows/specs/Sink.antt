@@ -24,6 +24,11 @@ pub record Writes {E : Type 0} (text before after : List ℕ) (failed failed' : 
   pub never_falls : failed ≤ failed'
   pub outcome : MatchResult result (Takes text before after failed failed') (λ _. Refuses before after failed failed')
 
+-- What was held back was sent on, which takes no byte. A failure was counted at Err, and nowhere else.
+pub record Flushes {T E : Type 0} (before after : List ℕ) (failed failed' : ℕ) (result : Result T E) : Type 0 where
+  pub taken : after ≡ before
+  pub outcome : MatchResult result (λ _. failed' ≡ failed) (λ _. failed < failed')
+
 -- one list begins another
 abbrev pub IsBeginning : List ℕ → List ℕ → Type 0
 IsBeginning front whole = (rest : List ℕ) × (front ++ rest ≡ whole)

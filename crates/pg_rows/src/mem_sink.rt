@@ -1,6 +1,6 @@
 //! A sink over memory.
 ghost use Rattle.std.specs.Prelude.{◌≡◌, ◌≢◌, ◌-◌, ◌≤◌, ◌↔◌, [], length, min, IfOk, IsErr};
-ghost use Rattle.pg_rows.specs.Sink.{Writes};
+ghost use Rattle.pg_rows.specs.Sink.{Writes, Flushes};
 
 use crate::history::History;
 use crate::sink::{Sink, WriteError};
@@ -115,5 +115,12 @@ impl<A: Allocator> Sink for MemSink<A> {
         }
         self.bytes.extend_from_slice(&text[..count]).unwrap();
         Ok(count)
+    }
+    /// It holds nothing back, so there is nothing to send on.
+    fn flush(&mut self) -> Result<(), WriteError>
+        ensures flushes { Flushes self.old.taken self.new.taken self.old.failures self.new.failures result }
+        ensures same { self.new ≡ self.old }
+    {
+        Ok(())
     }
 }

@@ -1,6 +1,6 @@
 //! What takes bytes and tells which it took.
 ghost use Rattle.std.specs.Prelude.{◌≡◌, ℕ, ◌+◌, ◌<◌, ◌≤◌, List, ◌++◌, length, OnOk, OnErr};
-ghost use Rattle.pg_rows.specs.Sink.{Writes, TakesPart};
+ghost use Rattle.pg_rows.specs.Sink.{Writes, Flushes, TakesPart};
 
 use thiserror::Error;
 
@@ -28,6 +28,14 @@ pub trait Sink {
     fn write(&mut self, text: &[u8]) -> Result<usize, WriteError>
         ensures { Writes text.now (taken self.old) (taken self.new)
             (failures self.old) (failures self.new) result };
+
+    /// Sends on what the sink holds back, so that whoever reads the output sees all that was taken.
+    ///
+    /// # Errors
+    ///
+    /// `WriteError` where that failed, which counts as a failure. What is still held back then is the sink's affair.
+    fn flush(&mut self) -> Result<(), WriteError>
+        ensures { Flushes (taken self.old) (taken self.new) (failures self.old) (failures self.new) result };
 }
 
 /// Writes all of a text, by as many writes as that takes.

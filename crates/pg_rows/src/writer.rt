@@ -1,7 +1,7 @@
 //! A sink over a writer of std.
-ghost use Rattle.std.specs.Prelude.{◌≡◌, ◌<◌, [], OnOk, OnErr};
+ghost use Rattle.std.specs.Prelude.{◌≡◌, []};
 ghost use Rattle.std.specs.Io.KnownBytes.{Keeps, WriteAppends};
-ghost use Rattle.pg_rows.specs.Sink.{Writes};
+ghost use Rattle.pg_rows.specs.Sink.{Writes, Flushes};
 
 use crate::history::History;
 use crate::sink::{Sink, WriteError};
@@ -43,27 +43,6 @@ impl<W: Write> Out<W> {
             failed: History::new(),
         }
     }
-
-    /// Sends on what the writer holds back.
-    ///
-    /// # Errors
-    ///
-    /// `WriteError` where the writer fails, which counts as a failure of the sink. What the writer
-    /// still holds back then is the writer's affair.
-    pub fn flush(&mut self) -> Result<(), WriteError>
-        ensures taken { self.new.taken ≡ self.old.taken }
-        ensures contents { Keeps self.old.contents self.new.contents }
-        ensures no_failure { OnOk result (self.new.failures ≡ self.old.failures) }
-        ensures failure { OnErr result (self.old.failures < self.new.failures) }
-    {
-        match self.writer.flush() {
-            Ok(()) => Ok(()),
-            Err(_) => {
-                self.failed.push(&());
-                Err(WriteError)
-            }
-        }
-    }
 }
 
 impl<W: Write> Sink for Out<W> {
@@ -90,6 +69,24 @@ impl<W: Write> Sink for Out<W> {
                 self.taken.extend(&text[..count]);
                 Ok(count)
             }
+            Err(_) => {
+                self.failed.push(&());
+                Err(WriteError)
+            }
+        }
+    }
+    /// Sends on what the writer holds back.
+    ///
+    /// # Errors
+    ///
+    /// `WriteError` where the writer fails. What the writer still holds back then is the writer's affair.
+    fn flush(&mut self) -> Result<(), WriteError>
+        ensures flushes { Flushes self.old.taken self.new.taken self.old.failures self.new.failures result }
+        // The bytes that the writer tells stay.
+        ensures contents { Keeps self.old.contents self.new.contents }
+    {
+        match self.writer.flush() {
+            Ok(()) => Ok(()),
             Err(_) => {
                 self.failed.push(&());
                 Err(WriteError)

@@ -4,8 +4,8 @@ ghost use Rattle.pg_rows.specs.Output.{HasRoom};
 
 use pg_rows::Format;
 
-/// How files are searched, and how their rows look. `workers`, `block`, `round` and
-/// `always_spread` have no part in what is written.
+/// How files are searched, and how their rows look. `workers`, `block`, `round`, `always_spread` and
+/// `line_buffered` have no part in what is written.
 #[derive(Clone, Copy, Debug)]
 pub struct Setup {
     /// Which rows are written. A limit is at least 1.
@@ -20,6 +20,8 @@ pub struct Setup {
     pub round: u32,
     /// Threads search where they can, also where that doesn't pay.
     pub always_spread: bool,
+    /// The output is told to send on what it holds back as each block, or round of blocks, was searched.
+    pub line_buffered: bool,
     /// Fault lines of files are left out.
     pub silent: bool,
     ghost some_limit: { HasRoom format },

@@ -194,6 +194,7 @@ fn answer<R: Threads + Wait + Clock + Sync, A: Allocator + Copy + Send + Sync>(
         line: 100,
         round: 2,
         always_spread: true,
+        line_buffered: false,
         silent: false,
     };
     run(rt, heap, text, setup, files, out, faults, &FreeGate)

@@ -60,6 +60,7 @@ fn memory_that_takes_no_byte(rt: HostRuntime) {
     assert!(rt; write_all(&mut sink, b"").is_ok() && sink.bytes().is_empty());
     sink.set_write_limit(TEXT.len());
     assert!(rt; write_all(&mut sink, TEXT).is_ok() && sink.bytes() == TEXT);
+    assert!(rt; sink.flush().is_ok() && sink.bytes() == TEXT);
     assert!(rt; MemSink::new(rt.alloc(), usize::MAX).is_err());
 }
 

@@ -53,7 +53,7 @@ struct Opt(Names, &'static str, Value);
 /// The options, and the operands: PATTERN, where neither -e nor -f is given, and each FILE. Of names that are equally
 /// close to a wrong one `clap` proposes the last. -G is read by nobody: it asks for what is taken without -E and -F,
 /// and has no effect beside them. Nor is -a, for every file is text.
-static OPTIONS: [Opt; 30] = [
+static OPTIONS: [Opt; 31] = [
     Opt(Names::Letter('q', &["silent"]), "quiet", Value::Nothing),
     Opt(Names::Letter('E', &[]), "extended-regexp", Value::Nothing),
     Opt(Names::Letter('F', &[]), "fixed-strings", Value::Nothing),
@@ -98,6 +98,7 @@ static OPTIONS: [Opt; 30] = [
     Opt(Names::Letter('r', &[]), "recursive", Value::Nothing),
     Opt(Names::Letter('s', &[]), "no-messages", Value::Nothing),
     Opt(Names::Letter('a', &[]), "text", Value::Nothing),
+    Opt(Names::Long, "line-buffered", Value::Nothing),
     Opt(Names::Long, "workers", Value::Number(1, MAX_WORKERS)),
     Opt(Names::Long, "block", Value::Number(1, MAX_BLOCK)),
     Opt(Names::Long, "round", Value::Number(1, MAX_ROUND)),

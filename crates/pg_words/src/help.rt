@@ -35,6 +35,7 @@ Output:
   -A, --after-context=N      write the N lines behind each selected line
   -B, --before-context=N     write the N lines before it, at most 65,535
   -C, --context=N            both, at most 65,535
+      --line-buffered        send rows on as soon as they are found
 
 Files:
   -r, --recursive            search the files below each directory

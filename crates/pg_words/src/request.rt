@@ -37,6 +37,8 @@ pub struct Request<'a> {
     pub recursive: bool,
     /// -s: nothing is told of files that can't be searched.
     pub silent: bool,
+    /// --line-buffered: rows are sent on as each block, or round of blocks, was searched.
+    pub line_buffered: bool,
     /// --workers N: so many threads search.
     pub workers: u32,
     /// --block N: each file is cut into blocks of at least so many bytes.

@@ -166,6 +166,7 @@ fn build_request<'a>(
         files,
         recursive: options.recursive,
         silent: found.get_flag("no-messages"),
+        line_buffered: found.get_flag("line-buffered"),
         workers: number_of(found, "workers", DEFAULT_WORKERS).clamp(1, MAX_WORKERS),
         block: number_of(found, "block", DEFAULT_BLOCK).clamp(1, MAX_BLOCK),
         round: number_of(found, "round", DEFAULT_ROUND).clamp(1, MAX_ROUND),
