@@ -3,7 +3,8 @@ use Rattle.std.proofs.Common.{◌≤◌, Bool, true, false, List, if◌then◌el
 use Rattle.std.specs.List.{list_any}
 use Rattle.pg_lines.specs.Search.{Search}
 use Rattle.pg_rows.specs.declared.format.Format.{Format}
-use Rattle.pg_rows.specs.Output.{Entry, status, is_quiet, has_selected, is_bad}
+use Rattle.pg_rows.specs.Modes.{is_quiet}
+use Rattle.pg_rows.specs.Output.{Entry, status, has_selected, is_bad}
 use Rattle.pg_walk.specs.Items.{Found}
 use Rattle.pg_files.specs.Given.{FilesPast, entries_given}
 use Rattle.pg_run.specs.Outcome.{Finishes, Stream}

@@ -5,7 +5,7 @@ use Rattle.pg_lines.specs.Search.{Kind, Patterns, Split, ByLine, SearchText}
 use Rattle.pg_rows.specs.Output.{HasRoom}
 use Rattle.pg_rows.specs.declared.format.Format.{Format}
 use Rattle.pg_rows.specs.declared.format.Mode.{Mode}
-use Rattle.pg_rows.specs.declared.format.Mode.TheVariants.{Rows, Count, List as Names, Quiet}
+use Rattle.pg_rows.specs.Modes.{shows_rows}
 use Rattle.pg_words.specs.declared.options.Naming.{Naming}
 use Rattle.pg_words.specs.declared.options.Naming.TheVariants.{Always, Never, BySeveral}
 use Rattle.pg_words.specs.declared.request.Request.{Request}
@@ -73,10 +73,7 @@ text_of_query asked contents = text_with asked (map ByLine contents)
 
 -- the file that rows go to isn't searched itself; a count, a name or nothing may go there
 abbrev pub spares_output : Mode → Bool
-spares_output Rows = true
-spares_output Count = false
-spares_output Names = false
-spares_output Quiet = false
+spares_output mode = shows_rows mode
 
 abbrev pub are_several : List (List ℕ) → Bool
 are_several [] = false

@@ -128,7 +128,7 @@ fn list_files<T: FileTree, S: Store + Drop>(
 fn spares_output(mode: Mode) -> bool
     ensures { result ≡ spares_output mode }
 {
-    mode == Mode::Rows
+    mode.shows_rows()
 }
 
 /// How files are searched, where it is known whether the one operand is a directory.

@@ -5,7 +5,8 @@ use Rattle.pg_lines.specs.Lines.{AreWhole, lines}
 use Rattle.pg_lines.proofs.LineLemmas.{lines-append}
 use Rattle.pg_rows.specs.declared.format.Format.{Format}
 use Rattle.pg_rows.specs.declared.format.Mode.{Mode}
-use Rattle.pg_rows.specs.Output.{HasRoom, file_rows, rows_in, when, line_rows, piece_rows, count_row, name_row}
+use Rattle.pg_rows.specs.Modes.{rows_in}
+use Rattle.pg_rows.specs.Output.{HasRoom, file_rows, when, line_rows, piece_rows, count_row, name_row}
 use Rattle.pg_rows.specs.Trail.{trail_of, run_rows, run_pieces}
 use Rattle.pg_rows.specs.Cursor.{block_rows, counted, cursor_after, named}
 use Rattle.pg_rows.specs.Enough.{lines_suffice, trail_suffices}

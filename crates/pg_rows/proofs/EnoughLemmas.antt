@@ -1,12 +1,13 @@
 -- Whether enough was read, by what is remembered of the open file.
-use Rattle.std.proofs.Common.{◌≡◌, ℕ, ◌+◌, inl, inr, not, ◌&&◌, nat_lt, Option, List, length, sym, ap, ◌∙◌, arith}
+use Rattle.std.proofs.Common.{◌≡◌, ℕ, ◌+◌, inl, inr, Bool, true, false, not, ◌&&◌, cond, nat_lt, Option, List, length}
+use Rattle.std.proofs.Common.{sym, ap, ◌∙◌, arith}
 use Rattle.std.specs.List.{count_by, list_any}
 use Rattle.std.proofs.lemmas.Bool.{lt-ltb, le-ltb, cases_lt}
 use Rattle.pg_lines.specs.Search.{Search}
 use Rattle.pg_lines.specs.Selection.{selects}
 use Rattle.pg_rows.specs.declared.format.Format.{Format}
 use Rattle.pg_rows.specs.declared.format.Mode.{Mode}
-use Rattle.pg_rows.specs.declared.format.Mode.TheVariants.{Rows, Count, List as Names, Quiet}
+use Rattle.pg_rows.specs.Modes.{shows_rows, settles_at_first}
 use Rattle.pg_rows.specs.Output.{HasRoom, is_below}
 use Rattle.pg_rows.specs.Trail.{Trail}
 use Rattle.pg_rows.specs.Enough.{is_full, is_trailed, lines_suffice, trail_suffices}
@@ -39,9 +40,16 @@ module _ (q : Search) (format : Format) (room : HasRoom format) where
   -- the lines suffice where what is remembered of them says so
   pub suffice_by : (m : Mode) (ls : List (List ℕ)) (t : Trail) → IsTrail q format ls t
       → lines_suffice m q format ls ≡ trail_suffices q.text.pieces m format t
-  suffice_by Rows ls t h =
-      ap (λ b. b && not (is_trailed q format ls)) (full_by ls t h)
-      ∙ ap (λ b. not (is_below t.kept format.limit) && not b) (trailed_by ls t h)
-  suffice_by Count ls t h = full_by ls t h
-  suffice_by Names ls t h = selected_by ls t h
-  suffice_by Quiet ls t h = selected_by ls t h
+  suffice_by m ls t h = go (settles_at_first m) (shows_rows m)
+    where
+      full : Bool
+      full = not (is_below t.kept format.limit)
+
+      go : (first shown : Bool)
+          → cond first (list_any (selects q) ls)
+          (cond shown (is_full q format ls && not (is_trailed q format ls)) (is_full q format ls))
+          ≡ cond first (nat_lt 0 t.kept) (cond shown (full && not (not q.text.pieces && nat_lt 0 t.countdown)) full)
+      go true shown = selected_by ls t h
+      go false true = ap (λ b. b && not (is_trailed q format ls)) (full_by ls t h)
+          ∙ ap (λ b. full && not b) (trailed_by ls t h)
+      go false false = full_by ls t h

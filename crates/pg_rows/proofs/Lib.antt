@@ -1,3 +1,4 @@
+pub mod ModeLemmas
 pub mod NearLemmas
 pub mod PutLemmas
 pub mod TrailLemmas

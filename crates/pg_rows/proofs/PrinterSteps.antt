@@ -12,14 +12,14 @@ use Rattle.pg_lines.specs.Runs.{AreRuns}
 use Rattle.pg_lines.specs.BlockParts.{parts_of_lines}
 use Rattle.pg_lines.specs.declared.run.Run.{Run}
 use Rattle.pg_lines.specs.declared.run.Part.{Part}
-use Rattle.pg_rows.specs.declared.format.Mode.{Mode}
-use Rattle.pg_rows.specs.declared.format.Mode.TheVariants.{Rows, Count, List as Names, Quiet}
+use Rattle.pg_rows.proofs.ModeLemmas.{rows_are}
 use Rattle.pg_rows.specs.declared.format.Format.{Format}
 use Rattle.pg_rows.specs.declared.progress.Progress.{Progress}
 use Rattle.pg_rows.specs.declared.printer.Printer.{Printer}
 use Rattle.pg_rows.specs.declared.printer.Place.{Place}
 use Rattle.pg_rows.specs.declared.window.Window.{Window}
-use Rattle.pg_rows.specs.Output.{context, is_below, rows_in}
+use Rattle.pg_rows.specs.Modes.{rows_in}
+use Rattle.pg_rows.specs.Output.{context, is_below}
 use Rattle.pg_rows.specs.Trail.{run_rows, run_pieces}
 use Rattle.pg_rows.specs.Stretch.{part_rows}
 use Rattle.pg_rows.specs.Pieces.{cut_at, HasFound}
@@ -28,7 +28,8 @@ use Rattle.pg_rows.specs.Window.{held, IsWindow}
 use Rattle.pg_rows.specs.Progress.{Passes, Keeps, kept_of}
 use Rattle.pg_rows.specs.Printing.{leading, rows_of_passed, rows_of_run, IsAt, ComesNext, EndsKept}
 use Rattle.pg_rows.specs.Remembered.{Remembers, HasLines, ComesLast, Follows, shows_lines, behind_block}
-use Rattle.pg_rows.specs.Remembered.{is_rows, shown_rows}
+use Rattle.pg_rows.specs.Modes.{shows_rows}
+use Rattle.pg_rows.specs.Remembered.{shown_rows}
 use Rattle.pg_rows.proofs.StretchLemmas.{length_keep_last}
 use Rattle.pg_rows.proofs.BlockLemmas.{no_run, stretches, full_none, none_full, kept_few}
 use Rattle.pg_rows.proofs.PrintLemmas.{at_first, at_last, enough_hidden, passed_step, keep_none}
@@ -319,29 +320,23 @@ follows s q format c bytes before after place last count stop left r shows h pas
 
 -- What a block adds, by the kind of rows.
 
-rows_are : (mode : Mode) (rows : List ℕ) → is_rows mode ≡ true → rows_in mode rows [] [] ≡ rows
-rows_are Rows rows is = refl
-rows_are Count rows is = absurd (cc)
-rows_are Names rows is = absurd (cc)
-rows_are Quiet rows is = absurd (cc)
-
-pub shown_pieces : (q : Search) (format : Format) (c : Cursor) (bytes : List ℕ) → is_rows format.mode ≡ true
+pub shown_pieces : (q : Search) (format : Format) (c : Cursor) (bytes : List ℕ) → shows_rows format.mode ≡ true
     → q.text.pieces ≡ true
     → shown_rows q format c bytes ≡ run_pieces q format c.name c.trail (lines (terminator q) bytes)
 shown_pieces q format c bytes rows pieces =
     let ls = lines (terminator q) bytes in
     let parts = run_pieces q format c.name c.trail ls in
     let whole = run_rows q format c.name c.earlier c.trail ls in
-    rows_are format.mode (cond q.text.pieces parts whole) rows ∙ ap (λ b. cond b parts whole) pieces
+    rows_are format.mode (cond q.text.pieces parts whole) [] [] rows ∙ ap (λ b. cond b parts whole) pieces
 
-pub shown_lines : (q : Search) (format : Format) (c : Cursor) (bytes : List ℕ) → is_rows format.mode ≡ true
+pub shown_lines : (q : Search) (format : Format) (c : Cursor) (bytes : List ℕ) → shows_rows format.mode ≡ true
     → q.text.pieces ≡ false
     → shown_rows q format c bytes ≡ run_rows q format c.name c.earlier c.trail (lines (terminator q) bytes)
 shown_lines q format c bytes rows pieces =
     let ls = lines (terminator q) bytes in
     let parts = run_pieces q format c.name c.trail ls in
     let whole = run_rows q format c.name c.earlier c.trail ls in
-    rows_are format.mode (cond q.text.pieces parts whole) rows ∙ ap (λ b. cond b parts whole) pieces
+    rows_are format.mode (cond q.text.pieces parts whole) [] [] rows ∙ ap (λ b. cond b parts whole) pieces
 
 -- the rows of the parts, as the printer writes them
 pub pieces_same : {A : Type 0} (s : Printer A) (q : Search) (format : Format) (c : Cursor) (bytes : List ℕ)

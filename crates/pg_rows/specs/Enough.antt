@@ -6,8 +6,8 @@ use Rattle.pg_lines.specs.Lines.{lines}
 use Rattle.pg_lines.specs.Selection.{selects}
 use Rattle.pg_rows.specs.declared.format.Format.{Format}
 use Rattle.pg_rows.specs.declared.format.Mode.{Mode}
-use Rattle.pg_rows.specs.declared.format.Mode.TheVariants.{Rows, Count, List as Names, Quiet}
-use Rattle.pg_rows.specs.Output.{Entry, Missed, Read, is_running, is_quiet, is_below, is_shown, has_selected}
+use Rattle.pg_rows.specs.Modes.{shows_rows, settles_at_first, is_quiet}
+use Rattle.pg_rows.specs.Output.{Entry, Missed, Read, is_running, is_below, is_shown, has_selected}
 use Rattle.pg_rows.specs.Trail.{Trail}
 
 -- as many lines are selected as may be kept
@@ -20,10 +20,9 @@ is_trailed q format ls = not q.text.pieces && is_shown q format ls (length ls)
 
 -- no line behind these changes what a file gives
 abbrev pub lines_suffice : Mode → Search → Format → List (List ℕ) → Bool
-lines_suffice Rows q format ls = is_full q format ls && not (is_trailed q format ls)
-lines_suffice Count q format ls = is_full q format ls
-lines_suffice Names q format ls = list_any (selects q) ls
-lines_suffice Quiet q format ls = list_any (selects q) ls
+lines_suffice mode q format ls =
+    if settles_at_first mode then list_any (selects q) ls
+    else (if shows_rows mode then is_full q format ls && not (is_trailed q format ls) else is_full q format ls)
 
 -- there is an open file, and its lines so far suffice
 abbrev pub file_suffices : Search → Format → List Entry → Bool
@@ -41,8 +40,7 @@ is_enough q format entries =
 -- the same for code that reads line by line: by whether parts are shown, and what is remembered of the open file's
 -- lines
 abbrev pub trail_suffices : Bool → Mode → Format → Trail → Bool
-trail_suffices pieces Rows format t =
-    not (is_below t.kept format.limit) && not (not pieces && nat_lt 0 t.countdown)
-trail_suffices pieces Count format t = not (is_below t.kept format.limit)
-trail_suffices pieces Names format t = nat_lt 0 t.kept
-trail_suffices pieces Quiet format t = nat_lt 0 t.kept
+trail_suffices pieces mode format t =
+    let full = not (is_below t.kept format.limit) in
+    if settles_at_first mode then nat_lt 0 t.kept
+    else (if shows_rows mode then full && not (not pieces && nat_lt 0 t.countdown) else full)

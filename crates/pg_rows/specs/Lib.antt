@@ -1,3 +1,4 @@
+pub mod Modes
 pub mod Output
 pub mod Trail
 pub mod Stretch

@@ -8,8 +8,7 @@ use Rattle.pg_lines.specs.Search.{Search, terminator}
 use Rattle.pg_lines.specs.Lines.{lines}
 use Rattle.pg_lines.specs.Selection.{selects, parts}
 use Rattle.pg_rows.specs.declared.format.Format.{Format}
-use Rattle.pg_rows.specs.declared.format.Mode.{Mode}
-use Rattle.pg_rows.specs.declared.format.Mode.TheVariants.{Rows, Count, List as Names, Quiet}
+use Rattle.pg_rows.specs.Modes.{is_quiet, rows_in}
 
 -- A file's lines have places 0, 1, 2, ..; a set of places is a test.
 
@@ -90,12 +89,6 @@ count_row q format name ls =
 abbrev pub name_row : Search → Format → List ℕ → List (List ℕ) → List ℕ
 name_row q format name ls = when (list_any (selects q) ls) (name ++ 10 ∷ [])
 
-abbrev pub rows_in : Mode → List ℕ → List ℕ → List ℕ → List ℕ
-rows_in Rows rows count name = rows
-rows_in Count rows count name = count
-rows_in Names rows count name = name
-rows_in Quiet rows count name = []
-
 -- what one file gives; `earlier` says that the run has an earlier row
 unfoldable pub file_rows : Search → Format → List ℕ → List ℕ → Bool → Bool → List ℕ
 file_rows q format name bytes ended earlier =
@@ -148,12 +141,6 @@ is_bad (Read name bytes ending) = is_failed ending
 abbrev pub has_selected : Search → Entry → Bool
 has_selected q (Missed name) = false
 has_selected q (Read name bytes ending) = list_any (selects q) (lines (terminator q) bytes)
-
-abbrev pub is_quiet : Mode → Bool
-is_quiet Rows = false
-is_quiet Count = false
-is_quiet Names = false
-is_quiet Quiet = true
 
 -- 2 after a file that is missed or failed, but with -q 0 where a line was selected; else 0 where one was, and 1 where
 -- none was

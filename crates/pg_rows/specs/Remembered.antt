@@ -7,13 +7,13 @@ use Rattle.pg_lines.specs.Lines.{lines}
 use Rattle.pg_lines.specs.Runs.{AreRuns}
 use Rattle.pg_lines.specs.declared.run.Run.{Run}
 use Rattle.pg_rows.specs.declared.format.Format.{Format}
-use Rattle.pg_rows.specs.declared.format.Mode.{Mode}
-use Rattle.pg_rows.specs.declared.format.Mode.TheVariants.{Rows, Count, List as Names, Quiet}
 use Rattle.pg_rows.specs.declared.progress.Progress.{Progress}
 use Rattle.pg_rows.specs.declared.printer.Printer.{Printer}
 use Rattle.pg_rows.specs.declared.printer.Printed.{Printed}
 use Rattle.pg_rows.specs.declared.printer.Place.{Place}
-use Rattle.pg_rows.specs.Output.{rows_in, context, is_below}
+use Rattle.pg_rows.specs.Modes.{shows_rows}
+use Rattle.pg_rows.specs.Modes.{rows_in}
+use Rattle.pg_rows.specs.Output.{context, is_below}
 use Rattle.pg_rows.specs.Trail.{no_lines, run}
 use Rattle.pg_rows.specs.Cursor.{Cursor, block_rows, counted, named}
 use Rattle.pg_rows.specs.Progress.{Tells}
@@ -21,15 +21,9 @@ use Rattle.pg_rows.specs.Stretch.{AllSelected}
 use Rattle.pg_rows.specs.Printing.{IsAt}
 use Rattle.pg_rows.specs.Window.{held, IsWindow}
 
-abbrev pub is_rows : Mode → Bool
-is_rows Rows = true
-is_rows Count = false
-is_rows Names = false
-is_rows Quiet = false
-
 -- rows are those of whole lines: neither -c, -l, -q nor -o
 abbrev pub shows_lines : Search → Format → Bool
-shows_lines q format = is_rows format.mode && not q.text.pieces
+shows_lines q format = shows_rows format.mode && not q.text.pieces
 
 -- The printer, made for a query and a format, stands at this place of the output.
 pub record Remembers {A : Type 0} (p : Printer A) (q : Search) (format : Format) (c : Cursor) : Type 0 where

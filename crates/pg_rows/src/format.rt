@@ -1,5 +1,6 @@
 //! How rows look.
 ghost use Rattle.std.specs.Prelude.{◌≡◌, ◌||◌};
+ghost use Rattle.pg_rows.specs.Modes.{shows_rows, settles_at_first, is_quiet};
 
 /// What is written of each file.
 #[derive(Clone, Copy, Debug, PartialEq, Eq)]
@@ -12,6 +13,38 @@ pub enum Mode {
     List,
     /// -q: nothing.
     Quiet,
+}
+
+impl Mode {
+    /// Whether lines, or the matched parts of lines, have rows.
+    pub fn shows_rows(self) -> bool
+        ensures { result ≡ shows_rows self }
+    {
+        match self {
+            Mode::Rows => true,
+            Mode::Count | Mode::List | Mode::Quiet => false,
+        }
+    }
+
+    /// Whether the first selected line of a file settles what the file gives, so that it isn't read further.
+    pub fn settles_at_first(self) -> bool
+        ensures { result ≡ settles_at_first self }
+    {
+        match self {
+            Mode::List | Mode::Quiet => true,
+            Mode::Rows | Mode::Count => false,
+        }
+    }
+
+    /// Whether nothing is written: the status tells.
+    pub fn is_quiet(self) -> bool
+        ensures { result ≡ is_quiet self }
+    {
+        match self {
+            Mode::Quiet => true,
+            Mode::Rows | Mode::Count | Mode::List => false,
+        }
+    }
 }
 
 /// How rows look, and which lines have one.

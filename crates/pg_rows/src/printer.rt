@@ -110,7 +110,7 @@ impl<A: Allocator> Printer<A> {
     ghost use Rattle.pg_rows.specs.Pieces.{HasFound};
     ghost use Rattle.pg_rows.specs.Cursor.{Cursor, at_start};
     ghost use Rattle.pg_rows.specs.Remembered.{Remembers, ComesLast, Follows, shows_lines, behind_block};
-    ghost use Rattle.pg_rows.specs.Remembered.{opened_as, end_rows, shown_rows, is_rows};
+    ghost use Rattle.pg_rows.specs.Remembered.{opened_as, end_rows, shown_rows};
     ghost use Rattle.pg_rows.specs.Trail.{run_rows, run_pieces};
     ghost use Rattle.pg_rows.specs.Window.{held, IsWindow};
     ghost use Rattle.pg_rows.specs.Progress.{Passes, Keeps};
@@ -215,16 +215,6 @@ impl<A: Allocator> Printer<A> {
         }
     }
 
-    /// Whether lines or their parts have rows.
-    fn shows_rows(&self) -> bool
-        ensures { result ≡ is_rows self.now.format.mode }
-    {
-        match self.format.mode {
-            Mode::Rows => true,
-            Mode::Count | Mode::List | Mode::Quiet => false,
-        }
-    }
-
     /// Goes past a block of which no line is held, by its runs of selected lines. Nothing looks at a line.
     fn passed(&self, size: usize, runs: &[Run], total: usize) -> Printed
         requires small { self.now.progress.number + total < 2 ^ 63 }
@@ -323,7 +313,7 @@ impl<A: Allocator> Printer<A> {
         ensures no_failure { OnOk result (W.failures out.new ≡ W.failures out.old) }
         ensures never_falls { W.failures out.old ≤ W.failures out.new }
     {
-        if !self.shows_rows() {
+        if !self.format.mode.shows_rows() {
             return Ok(self.passed(bytes.len(), runs, total));
         }
         if self.pieces {

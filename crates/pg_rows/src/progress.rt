@@ -1,7 +1,7 @@
 //! What is remembered of a file's lines.
 ghost use Rattle.std.specs.Prelude.{◌≡◌, ◌+◌, ◌-◌, ◌^◌, ◌<◌, ◌≤◌, true, option_map};
 
-use crate::format::{Format, Mode};
+use crate::format::Format;
 use pg_lines::Run;
 
 /// What is remembered of the lines of a file, without their texts.
@@ -99,13 +99,12 @@ impl Progress {
         ensures { (t : Trail) → Tells self format.now t →
             result ≡ trail_suffices pieces format.now.mode format.now t }
     {
-        let is_full = self.room(format) == Some(0);
-        let is_trailed = !pieces && self.countdown > 0;
-        match format.mode {
-            Mode::Rows => is_full && !is_trailed,
-            Mode::Count => is_full,
-            Mode::List | Mode::Quiet => self.kept > 0,
+        if format.mode.settles_at_first() {
+            return self.kept > 0;
         }
+        let is_full = self.room(format) == Some(0);
+        let is_trailed = format.mode.shows_rows() && !pieces && self.countdown > 0;
+        is_full && !is_trailed
     }
 
     /// Goes past a block of so many lines, by its runs of selected lines. It costs a step for each run and none for a

@@ -8,9 +8,10 @@ use Rattle.pg_lines.specs.Lines.{lines, AreWhole}
 use Rattle.pg_lines.proofs.LineLemmas.{lines-append}
 use Rattle.pg_rows.specs.declared.format.Format.{Format}
 use Rattle.pg_rows.specs.declared.format.Mode.{Mode}
-use Rattle.pg_rows.specs.declared.format.Mode.TheVariants.{Rows, Count, List as Names, Quiet}
 use Rattle.pg_rows.specs.Output.{HasRoom, Entry, Missed, Read, Ending, Running, Ended, Failed, Left, is_running}
-use Rattle.pg_rows.specs.Output.{is_nothing, is_quiet, has_selected, when, file_rows, rows_in, line_rows, piece_rows}
+use Rattle.pg_rows.specs.Modes.{is_quiet, shows_rows, end_row, rows_in}
+use Rattle.pg_rows.proofs.ModeLemmas.{no_end}
+use Rattle.pg_rows.specs.Output.{is_nothing, has_selected, when, file_rows, line_rows, piece_rows}
 use Rattle.pg_rows.specs.Output.{count_row, name_row, output}
 use Rattle.pg_rows.specs.Sink.{IsBeginning}
 use Rattle.pg_rows.specs.Trail.{run_pieces, trail_of}
@@ -120,10 +121,11 @@ begins_behind : (xs ys zs : List ℕ) → IsBeginning ys zs → IsBeginning (xs 
 begins_behind xs ys zs b = (b.0, append_assoc xs ys b.0 ∙ ap (λ w. xs ++ w) b.1)
 
 in_mode : (m : Mode) (a a' c n : List ℕ) → IsBeginning a a' → IsBeginning (rows_in m a [] []) (rows_in m a' c n)
-in_mode Rows a a' c n b = b
-in_mode Count a a' c n b = begins_nil c
-in_mode Names a a' c n b = begins_nil n
-in_mode Quiet a a' c n b = begins_nil []
+in_mode m a a' c n b = go (shows_rows m)
+  where
+    go : (shown : Bool) → IsBeginning (cond shown a (end_row m [] [])) (cond shown a' (end_row m c n))
+    go true = b
+    go false = subst (λ xs. IsBeginning xs (end_row m c n)) (sym (no_end m)) (begins_nil (end_row m c n))
 
 part_begins : (q : Search) (format : Format) (name : List ℕ) (earlier : Bool) (ls ms : List (List ℕ))
     → IsBeginning (line_part q format name ls earlier) (line_part q format name (ls ++ ms) earlier)

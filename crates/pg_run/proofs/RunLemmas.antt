@@ -12,11 +12,11 @@ use Rattle.pg_lines.specs.Cutter.{unfed, Stands as CutterStands}
 use Rattle.pg_walk.specs.declared.item.Cause.{Cause}
 use Rattle.pg_walk.specs.declared.item.Cause.TheVariants.{ReadFailed}
 use Rattle.pg_rows.specs.declared.format.Format.{Format}
-use Rattle.pg_rows.specs.declared.format.Mode.{Mode}
-use Rattle.pg_rows.specs.declared.format.Mode.TheVariants.{Rows, Count, List as Names, Quiet}
-use Rattle.pg_rows.specs.Output.{Entry, Missed, Read, Running, Ended, Failed, Left, output, status, when, is_quiet}
+use Rattle.pg_rows.specs.Modes.{is_quiet, rows_in}
+use Rattle.pg_rows.proofs.ModeLemmas.{nothing_in}
+use Rattle.pg_rows.specs.Output.{Entry, Missed, Read, Running, Ended, Failed, Left, output, status, when}
 use Rattle.pg_rows.specs.Output.{has_selected}
-use Rattle.pg_rows.specs.Output.{file_rows, rows_in, line_rows, piece_rows, is_nothing}
+use Rattle.pg_rows.specs.Output.{file_rows, line_rows, piece_rows, is_nothing}
 use Rattle.pg_rows.specs.Enough.{is_enough, file_suffices}
 use Rattle.pg_rows.specs.Sink.{TakesPart}
 use Rattle.pg_seq.specs.Plan.{Step, Opens, Announces, Ends, Misses, IsShaped, is_open, entries_of, with_end}
@@ -213,15 +213,11 @@ closed_entries aim (Misses name ∷ steps) e h = refl
 no_rows : (q : Search) (format : Format) (name : List ℕ) (earlier : Bool)
     → file_rows q format name [] false earlier ≡ []
 unfolding file_rows
-no_rows q format name earlier = go q.text.pieces format.mode
+no_rows q format name earlier = ap (λ rows. rows_in format.mode rows [] []) (go q.text.pieces) ∙ nothing_in format.mode
   where
-    go : (pieces : Bool) (mode : Mode)
-        → rows_in mode (cond pieces (piece_rows q format name []) (line_rows q format name [] earlier)) [] [] ≡ []
-    go true Rows = refl
-    go false Rows = refl
-    go pieces Count = refl
-    go pieces Names = refl
-    go pieces Quiet = refl
+    go : (pieces : Bool) → cond pieces (piece_rows q format name []) (line_rows q format name [] earlier) ≡ []
+    go true = refl
+    go false = refl
 
 -- Between files.
 module _ {A : Type 0} {engine : Engine A} {aim : Aim} {given : List Given} {out : Stream}

@@ -6,7 +6,8 @@ use Rattle.pg_lines.specs.Blocks.{joined}
 use Rattle.pg_lines.specs.Cutter.{Fed, Stands as CutterStands}
 use Rattle.pg_lines.specs.declared.cutter.CutFault.{CutFault}
 use Rattle.pg_lines.specs.declared.cutter.CutFault.TheVariants.{OutOfMemory as NoMemory, LineTooLong, FileTooLong}
-use Rattle.pg_rows.specs.Output.{Entry, Ending, Ended, Failed, Left, output, is_quiet}
+use Rattle.pg_rows.specs.Modes.{is_quiet}
+use Rattle.pg_rows.specs.Output.{Entry, Ending, Ended, Failed, Left, output}
 use Rattle.pg_rows.specs.Sink.{TakesPart}
 use Rattle.pg_seq.specs.Plan.{Step, is_open, opened, last_blocks, entries_of}
 use Rattle.pg_files.specs.Given.{Given, FilesPast, Sources, entries_given, files_given}

@@ -12,7 +12,7 @@ use crate::pace::{Pace, time};
 use crate::setup::Setup;
 use pg_lines::{Block, Cutter, Query, Scratch, search_block};
 use pg_round::{Gate, NothingToRead, Reader, search_round};
-use pg_rows::{Format, Mode, Sink};
+use pg_rows::{Format, Sink};
 use pg_seq::Sequencer;
 use std::alloc::{AllocError, Allocator, Global};
 use std::mem;
@@ -78,7 +78,7 @@ impl<A: Allocator + Copy> Drop for Engine<A> {
 fn is_endless(format: Format) -> bool
     ensures { result ≡ is_endless format }
 {
-    format.limit.is_none() && (format.mode == Mode::Rows || format.mode == Mode::Count)
+    format.limit.is_none() && !format.mode.settles_at_first()
 }
 
 /// Whether the machine is likely to be asked about most lines. Of other queries one thread finds the lines as fast as

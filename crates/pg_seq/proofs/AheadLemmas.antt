@@ -14,7 +14,8 @@ use Rattle.pg_lines.specs.Blocks.{BlockData}
 use Rattle.pg_lines.specs.Runs.{AreRuns, HasRuns}
 use Rattle.pg_lines.specs.declared.run.Run.{Run}
 use Rattle.pg_rows.specs.declared.progress.Progress.{Progress}
-use Rattle.pg_rows.specs.Output.{is_quiet, has_selected, output}
+use Rattle.pg_rows.specs.Modes.{is_quiet}
+use Rattle.pg_rows.specs.Output.{has_selected, output}
 use Rattle.pg_rows.specs.Enough.{trail_suffices, is_enough}
 use Rattle.pg_rows.specs.Cursor.{Cursor}
 use Rattle.pg_rows.specs.Progress.{Tells, TellsNone, TellsBlock}

@@ -11,14 +11,15 @@ use Rattle.pg_lines.specs.Blocks.{BlockData, EndsWith, joined}
 use Rattle.pg_lines.proofs.LineLemmas.{lines-append}
 use Rattle.pg_rows.specs.declared.format.Format.{Format}
 use Rattle.pg_rows.specs.declared.format.Mode.{Mode}
-use Rattle.pg_rows.specs.declared.format.Mode.TheVariants.{Rows, Count, List as Names, Quiet}
-use Rattle.pg_rows.specs.Output.{Entry, Read, Running, Ended, Failed, output, is_running, file_rows, rows_in}
+use Rattle.pg_rows.specs.Modes.{shows_rows, end_row, rows_in}
+use Rattle.pg_rows.specs.Output.{Entry, Read, Running, Ended, Failed, output, is_running, file_rows}
 use Rattle.pg_rows.specs.Output.{is_below, line_rows, piece_rows, count_row, name_row}
 use Rattle.pg_seq.specs.Plan.{Step, Opens, Announces, Ends, Misses, IsShaped, is_open, last_blocks, entries_of}
 use Rattle.pg_seq.specs.Plan.{with_bytes, with_end}
 use Rattle.pg_rows.specs.Sink.{IsBeginning}
 use Rattle.pg_rows.specs.Trail.{run, run_rows, run_pieces}
 use Rattle.pg_seq.specs.Cursor.{Cursor, moved, cursor_of, block_rows, counted, named, step_rows}
+use Rattle.pg_rows.proofs.ModeLemmas.{no_end, nothing_in, rows_are}
 use Rattle.pg_rows.proofs.TrailLemmas.{IsTrail, no_trail}
 use Rattle.pg_rows.proofs.FoldLemmas.{trail_more, rows_more, pieces_more, count_by_trail, name_by_trail, something}
 use Rattle.pg_rows.proofs.FoldLemmas.{some_append, run_some}
@@ -35,35 +36,35 @@ closed_joined end (b ∷ bs) h = elim (closed_joined end bs h.1) [
   | inr w ↦ inr (b.bytes ++ w.0, ap (λ ys. b.bytes ++ ys) w.1 ∙ sym (append_assoc b.bytes w.0 (end ∷ [])))
 ]
 
-rows_split : (m : Mode) (a b r : List ℕ) → (m ≡ Rows → a ≡ b ++ r)
+rows_split : (m : Mode) (a b r : List ℕ) → (shows_rows m ≡ true → a ≡ b ++ r)
     → rows_in m a [] [] ≡ rows_in m b [] [] ++ rows_in m r [] []
-rows_split Rows a b r h = h refl
-rows_split Count a b r h = refl
-rows_split Names a b r h = refl
-rows_split Quiet a b r h = refl
+rows_split m a b r h = go (shows_rows m) h
+  where
+    none : List ℕ
+    none = end_row m [] []
+
+    go : (shown : Bool) → (shown ≡ true → a ≡ b ++ r) → cond shown a none ≡ cond shown b none ++ cond shown r none
+    go true h = h refl
+    go false h = no_end m ∙ sym (ap (λ xs. xs ++ none) (no_end m) ∙ no_end m)
 
 end_split : (m : Mode) (a c n : List ℕ) → rows_in m a c n ≡ rows_in m a [] [] ++ rows_in m [] c n
-end_split Rows a c n = sym (append-nil a)
-end_split Count a c n = refl
-end_split Names a c n = refl
-end_split Quiet a c n = refl
+end_split m a c n = go (shows_rows m)
+  where
+    go : (shown : Bool) → cond shown a (end_row m c n)
+        ≡ cond shown a (end_row m [] []) ++ cond shown [] (end_row m c n)
+    go true = sym (append-nil a)
+    go false = sym (ap (λ xs. xs ++ end_row m c n) (no_end m))
 
 ends_running : (failed : Bool) → is_running (cond failed Failed Ended) ≡ false
 ends_running true = refl
 ends_running false = refl
-
-nothing_in : (m : Mode) → rows_in m [] [] [] ≡ []
-nothing_in Rows = refl
-nothing_in Count = refl
-nothing_in Names = refl
-nothing_in Quiet = refl
 
 module _ (q : Search) (format : Format) (limited : is_below 0 format.limit ≡ true) where
   abbrev end : ℕ
   end = terminator q
 
   abbrev IsPlain : Type 0
-  IsPlain = (format.mode ≡ Rows) × (q.text.pieces ≡ false)
+  IsPlain = (shows_rows format.mode ≡ true) × (q.text.pieces ≡ false)
 
   -- the open file
   pub record IsAtFile (p : List Step) (c : Cursor) : Type 0 where
@@ -216,7 +217,7 @@ module _ (q : Search) (format : Format) (limited : is_below 0 format.limit ≡ t
               ∙ (ap (λ x. x || something rows) (h.wrote plain)
               ∙ (sym (some_append (output q format (entries_of p)) rows)
               ∙ ap something (ap (λ xs. output q format (entries_of p) ++ xs)
-              (sym (ap (λ m. rows_in m (block_rows q format c b.bytes) [] []) plain.0
+              (sym (rows_are format.mode (block_rows q format c b.bytes) [] [] plain.0
               ∙ ap (λ t. cond t (run_pieces q format c.name c.trail (lines end b.bytes)) rows) plain.1))
               ∙ sym (announce_rows b lawful)))));
           file = λ _. record {
@@ -240,7 +241,8 @@ module _ (q : Search) (format : Format) (limited : is_below 0 format.limit ≡ t
     cursor_end failed running = record {
       wrote = λ plain. h.wrote plain ∙ ap something
           (sym (end_rows failed running ∙
-          (ap (λ m. output q format (entries_of p) ++ rows_in m [] (counted format c) (named format c)) plain.0
+          (ap (λ xs. output q format (entries_of p) ++ xs)
+          (rows_are format.mode [] (counted format c) (named format c) plain.0)
           ∙ append-nil (output q format (entries_of p)))));
       file = λ still. absurd (false≢true still);
     }

@@ -9,21 +9,14 @@ use Rattle.pg_lines.specs.Lines.{lines, AreWhole}
 use Rattle.pg_lines.specs.Selection.{selects}
 use Rattle.pg_lines.proofs.LineLemmas.{lines-append}
 use Rattle.pg_rows.specs.declared.format.Format.{Format}
-use Rattle.pg_rows.specs.declared.format.Mode.{Mode}
-use Rattle.pg_rows.specs.declared.format.Mode.TheVariants.{Rows, Count, List as Names, Quiet}
 use Rattle.pg_rows.specs.Output.{status, HasRoom, Entry, Missed, Read, Ending, Running, Ended, Failed, Left}
-use Rattle.pg_rows.specs.Output.{is_running, is_failed, is_nothing, is_quiet, is_bad, has_selected}
-use Rattle.pg_rows.specs.Output.{file_rows, rows_in, output}
+use Rattle.pg_rows.specs.Modes.{is_quiet}
+use Rattle.pg_rows.proofs.ModeLemmas.{quiet_rows_in}
+use Rattle.pg_rows.specs.Output.{is_running, is_failed, is_nothing, is_bad, has_selected}
+use Rattle.pg_rows.specs.Output.{file_rows, output}
 use Rattle.pg_rows.specs.Enough.{lines_suffice, is_enough}
 use Rattle.pg_seq.specs.Settled.{AreLeftRightly, AreLonger, GiveTheSame}
 use Rattle.pg_seq.proofs.SettleLemmas.{suffice_settled}
-
--- with -q nothing is written
-quiet_in : (m : Mode) (rows count name : List ℕ) → is_quiet m ≡ true → rows_in m rows count name ≡ []
-quiet_in Rows rows count name e = absurd (false≢true e)
-quiet_in Count rows count name e = absurd (false≢true e)
-quiet_in Names rows count name e = absurd (false≢true e)
-quiet_in Quiet rows count name e = refl
 
 -- a line of whole lines stays selected
 pub stays_selected : (q : Search) (bytes more : List ℕ) → AreWhole (terminator q) bytes
@@ -42,7 +35,7 @@ module _ (q : Search) (format : Format) where
   quiet_rows : (name bytes : List ℕ) (ended earlier : Bool) → is_quiet format.mode ≡ true
       → file_rows q format name bytes ended earlier ≡ []
   unfolding file_rows
-  quiet_rows name bytes ended earlier e = quiet_in format.mode _ _ _ e
+  quiet_rows name bytes ended earlier e = quiet_rows_in format.mode _ _ _ e
 
   quiet_output : (entries : List Entry) → is_quiet format.mode ≡ true → output q format entries ≡ []
   quiet_output [] e = refl

@@ -13,8 +13,9 @@ use Rattle.pg_lines.specs.Selection.{selects}
 use Rattle.pg_lines.proofs.LineLemmas.{lines-append}
 use Rattle.pg_rows.specs.declared.format.Format.{Format}
 use Rattle.pg_rows.specs.declared.format.Mode.{Mode}
-use Rattle.pg_rows.specs.declared.format.Mode.TheVariants.{Rows, Count, List as Names, Quiet}
-use Rattle.pg_rows.specs.Output.{HasRoom, is_below, when, row, file_rows, rows_in, line_rows, piece_rows}
+use Rattle.pg_rows.specs.Modes.{shows_rows, settles_at_first, end_row, rows_in}
+use Rattle.pg_rows.proofs.ModeLemmas.{rows_settle_late, end_by_count, end_by_name}
+use Rattle.pg_rows.specs.Output.{HasRoom, is_below, when, row, file_rows, line_rows, piece_rows}
 use Rattle.pg_rows.specs.Output.{count_row, name_row, is_shown}
 use Rattle.pg_rows.specs.Trail.{Trail, step, run, run_rows, run_pieces, keeps, after_kept, after_context}
 use Rattle.pg_rows.specs.Trail.{after_other, kept_rows, pieces_in, trail_of}
@@ -176,12 +177,35 @@ module _ (q : Search) (format : Format) where
         (when ended (name_row q format name (ls ++ ms)))
         ≡ rows_in m (line_part name ls earlier) (when ended (count_row q format name ls))
         (when ended (name_row q format name ls))
-    in_mode Rows name ended earlier e =
-        let p = and_parts (is_full q format ls) (not (is_trailed q format ls)) e in
-        part_settled name earlier p.0 (not-true (is_trailed q format ls) p.1)
-    in_mode Count name ended earlier e = ap (when ended) (count_settled name e)
-    in_mode Names name ended earlier e = ap (when ended) (name_settled name e)
-    in_mode Quiet name ended earlier e = refl
+    in_mode m name ended earlier = go (settles_at_first m) refl (shows_rows m) refl
+      where
+        full : Bool
+        full = is_full q format ls
+
+        shown_part : Bool → List ℕ → List ℕ → List ℕ → List ℕ
+        shown_part shown rows count row = cond shown rows (end_row m count row)
+
+        go : (first : Bool) → settles_at_first m ≡ first → (shown : Bool) → shows_rows m ≡ shown
+            → cond first (list_any (selects q) ls)
+            (cond shown (full && not (is_trailed q format ls)) full) ≡ true
+            → shown_part shown (line_part name (ls ++ ms) earlier) (when ended (count_row q format name (ls ++ ms)))
+            (when ended (name_row q format name (ls ++ ms)))
+            ≡ shown_part shown (line_part name ls earlier) (when ended (count_row q format name ls))
+            (when ended (name_row q format name ls))
+        go true settles true rows e = absurd (false≢true (sym (rows_settle_late m rows) ∙ settles))
+        go true settles false rows e =
+            let row = when ended (name_row q format name (ls ++ ms)) in
+            end_by_name m (when ended (count_row q format name (ls ++ ms)))
+            (when ended (count_row q format name ls)) row settles
+            ∙ ap (end_row m (when ended (count_row q format name ls))) (ap (when ended) (name_settled name e))
+        go false settles true rows e =
+            let p = and_parts full (not (is_trailed q format ls)) e in
+            part_settled name earlier p.0 (not-true (is_trailed q format ls) p.1)
+        go false settles false rows e =
+            let count = when ended (count_row q format name (ls ++ ms)) in
+            end_by_count m count (when ended (name_row q format name (ls ++ ms)))
+            (when ended (name_row q format name ls)) settles
+            ∙ ap (λ c. end_row m c (when ended (name_row q format name ls))) (ap (when ended) (count_settled name e))
 
   full_selected : (ls : List (List ℕ)) → HasRoom format → is_full q format ls ≡ true → list_any (selects q) ls ≡ true
   full_selected ls room full =
@@ -190,10 +214,16 @@ module _ (q : Search) (format : Format) where
 
   suffice_selected : (m : Mode) (ls : List (List ℕ)) → HasRoom format → lines_suffice m q format ls ≡ true
       → list_any (selects q) ls ≡ true
-  suffice_selected Rows ls room e = full_selected ls room (and_parts (is_full q format ls) _ e).0
-  suffice_selected Count ls room e = full_selected ls room e
-  suffice_selected Names ls room e = e
-  suffice_selected Quiet ls room e = e
+  suffice_selected m ls room = go (settles_at_first m) (shows_rows m)
+    where
+      full : Bool
+      full = is_full q format ls
+
+      go : (first shown : Bool) → cond first (list_any (selects q) ls)
+          (cond shown (full && not (is_trailed q format ls)) full) ≡ true → list_any (selects q) ls ≡ true
+      go true shown e = e
+      go false true e = full_selected ls room (and_parts full _ e).0
+      go false false e = full_selected ls room e
 
   rows_by : (bytes more name : List ℕ) (ended earlier : Bool)
       → lines (terminator q) (bytes ++ more) ≡ lines (terminator q) bytes ++ lines (terminator q) more

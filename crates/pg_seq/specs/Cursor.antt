@@ -3,7 +3,7 @@ use Rattle.std.specs.Prelude.{ℕ, ◌||◌, List, [], ◌∷◌}
 use Rattle.pg_lines.specs.Search.{Search, terminator}
 use Rattle.pg_lines.specs.Lines.{lines}
 use Rattle.pg_rows.specs.declared.format.Format.{Format}
-use Rattle.pg_rows.specs.Output.{rows_in}
+use Rattle.pg_rows.specs.Modes.{rows_in}
 use Rattle.pg_rows.specs.Trail.{no_lines, run}
 pub use Rattle.pg_rows.specs.Cursor.{Cursor, at_start, block_rows, counted, named}
 use Rattle.pg_seq.specs.Plan.{Step, Opens, Announces, Ends, Misses}

@@ -1,8 +1,8 @@
 //! How far the rows of a plan could be written.
 ghost use Rattle.std.specs.Prelude.{◌≡◌, ◌&&◌, if◌then◌else◌};
-ghost use Rattle.pg_rows.specs.Output.{is_quiet};
+ghost use Rattle.pg_rows.specs.Modes.{is_quiet};
 
-use pg_rows::{Format, Mode, Progress};
+use pg_rows::{Format, Progress};
 
 /// How far the rows could be written by the results that have come.
 #[derive(Clone, Copy)]
@@ -30,10 +30,10 @@ impl Ahead {
             result ≡ (if is_quiet format.now.mode then self.selected
             else (self.inside && trail_suffices pieces format.now.mode format.now t)) }
     {
-        match format.mode {
-            Mode::Quiet => self.selected,
-            Mode::Rows | Mode::Count | Mode::List => self.inside
-                && self.progress.suffices(format, pieces),
+        if format.mode.is_quiet() {
+            self.selected
+        } else {
+            self.inside && self.progress.suffices(format, pieces)
         }
     }
 }

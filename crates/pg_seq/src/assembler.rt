@@ -3,7 +3,7 @@ ghost use Rattle.std.specs.Prelude.{◌≡◌, ℕ, ◌<◌, ◌≤◌, ◌++◌
 ghost use Rattle.std.specs.Prelude.{MatchOption, MatchBool, IfSome, true};
 ghost use Rattle.std.specs.Prelude.{◌&&◌, if◌then◌else◌};
 ghost use Rattle.std.specs.Arc.{arc_value};
-ghost use Rattle.pg_rows.specs.Output.{is_quiet};
+ghost use Rattle.pg_rows.specs.Modes.{is_quiet};
 
 use crate::ahead::Ahead;
 use crate::answers::{Arrival, SinkFault};
@@ -20,11 +20,15 @@ use std::sync::Arc;
 fn exit_status(mode: Mode, bad: bool, selected: bool) -> u8
     ensures { result ≡ (if is_quiet mode && selected then 0 else (if bad then 2 else (if selected then 0 else 1))) }
 {
-    match mode {
-        Mode::Quiet if selected => 0,
-        _ if bad => 2,
-        _ if selected => 0,
-        _ => 1,
+    if mode.is_quiet() && selected {
+        return 0;
+    }
+    if bad {
+        2
+    } else if selected {
+        0
+    } else {
+        1
     }
 }
 

@@ -1,5 +1,5 @@
 use Rattle.std.proofs.Common.{◌≡◌, true, false, []}
-use Rattle.pg_rows.specs.Output.{is_quiet}
+use Rattle.pg_rows.specs.Modes.{is_quiet}
 use Rattle.pg_files.specs.Given.{entries_given}
 use Rattle.pg_run.specs.Outcome.{EndsAtSelected}
 use Rattle.pg_run.specs.Holding.{Aim, stream, format_of}

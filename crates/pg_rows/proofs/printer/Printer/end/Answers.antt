@@ -5,7 +5,8 @@ use Rattle.pg_rows.specs.declared.format.Format.{Format}
 use Rattle.pg_rows.specs.declared.format.Mode.{Mode}
 use Rattle.pg_rows.specs.declared.format.Mode.TheVariants.{Count}
 use Rattle.pg_rows.specs.Cursor.{Cursor, counted, named}
-use Rattle.pg_rows.specs.Output.{when, rows_in}
+use Rattle.pg_rows.specs.Modes.{rows_in}
+use Rattle.pg_rows.specs.Output.{when}
 use Rattle.pg_rows.specs.Remembered.{end_rows}
 use Rattle.pg_rows.specs.Sink.{TakesPart}
 use Rattle.pg_rows.proofs.printer.Printer.end.Goals as goal

@@ -5,7 +5,7 @@ use Rattle.pg_lines.specs.Lines.{lines}
 use Rattle.pg_lines.specs.BlockParts.{parts_of_lines}
 use Rattle.pg_rows.specs.Sink.{TakesPart}
 use Rattle.pg_rows.specs.Trail.{run_pieces}
-use Rattle.pg_rows.specs.Remembered.{is_rows}
+use Rattle.pg_rows.specs.Modes.{shows_rows}
 use Rattle.pg_rows.proofs.SinkLemmas.{on_err}
 use Rattle.pg_rows.proofs.PieceLemmas.{parts_fit}
 use Rattle.pg_rows.proofs.PrinterSteps.{pieces_same}
@@ -39,4 +39,4 @@ returns-clause-all g c q format cur r pieces found =
 pub returns-clause-follows : goal.returns-clause-follows
 returns-clause-follows g c q format cur r pieces found =
     c.passed-printed.ensures q format cur c.args.bytes.now r
-    (and_right (is_rows format.mode) (not q.text.pieces) (ap not pieces)) found.found_lines refl
+    (and_right (shows_rows format.mode) (not q.text.pieces) (ap not pieces)) found.found_lines refl

@@ -1,7 +1,7 @@
 use Rattle.std.proofs.Common.{◌∙◌, Bool, ◌&&◌, cond, ap, sym, subst, refl}
 use Rattle.pg_rows.specs.declared.format.Format.{Format}
 use Rattle.pg_rows.specs.Progress.{Tells}
-use Rattle.pg_rows.specs.Output.{is_quiet}
+use Rattle.pg_rows.specs.Modes.{is_quiet}
 use Rattle.pg_rows.specs.Enough.{trail_suffices}
 use Rattle.pg_seq.specs.Cursor.{cursor_of}
 use Rattle.pg_seq.specs.History.{front_of}
