@@ -9,6 +9,7 @@ use Rattle.std.proofs.lemmas.List.Sums.{sum_by-append}
 use Rattle.pg_lines.specs.Search.{Search, terminator}
 use Rattle.pg_lines.specs.Selection.{selects}
 use Rattle.pg_rows.specs.declared.format.Format.{Format}
+use Rattle.pg_rows.specs.Modes.{is_named}
 use Rattle.pg_rows.specs.Output.{is_below, when, row, is_nothing, line_rows, piece_rows, count_row, name_row}
 use Rattle.pg_rows.specs.Sink.{IsBeginning}
 use Rattle.pg_rows.specs.Trail.{Trail, no_lines, step, trail_of, added, run_rows, run, added_pieces, run_pieces}
@@ -76,9 +77,9 @@ kept_some (Some k) kept count e (inr p) =
 -- with a limit that isn't 0 a line is selected where one is kept
 pub name_by_trail : (q : Search) (format : Format) (name : List ℕ) (ls : List (List ℕ)) (t : Trail)
     → is_below 0 format.limit ≡ true → IsTrail q format ls t
-    → name_row q format name ls ≡ when (nat_lt 0 t.kept) (name ++ 10 ∷ [])
+    → name_row q format name ls ≡ when (is_named format.mode (nat_lt 0 t.kept)) (name ++ 10 ∷ [])
 name_by_trail q format name ls t some h =
-    ap (λ b. when b (name ++ 10 ∷ [])) (some_counted q ls
+    ap (λ b. when (is_named format.mode b) (name ++ 10 ∷ [])) (some_counted q ls
     ∙ kept_some format.limit t.kept (count_by (selects q) ls) some h.quota)
 
 pub pieces_more : (q : Search) (format : Format) (name : List ℕ) (ls ms : List (List ℕ)) (t : Trail)

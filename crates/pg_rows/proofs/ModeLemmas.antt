@@ -2,7 +2,7 @@
 use Rattle.std.proofs.Common.{◌≡◌, ℕ, Bool, true, false, cond, List, [], refl, sym, ap}
 use Rattle.std.proofs.lemmas.Bool.{false≢true}
 use Rattle.pg_rows.specs.declared.format.Mode.{Mode}
-use Rattle.pg_rows.specs.declared.format.Mode.TheVariants.{Rows, Count, List as Names, Quiet}
+use Rattle.pg_rows.specs.declared.format.Mode.TheVariants.{Rows, Count, List as Names, ListOthers as Others, Quiet}
 use Rattle.pg_rows.specs.Modes.{shows_rows, settles_at_first, is_quiet, end_row, rows_in}
 
 -- of no rows the end adds none
@@ -10,6 +10,7 @@ pub no_end : (m : Mode) → end_row m [] [] ≡ []
 no_end Rows = refl
 no_end Count = refl
 no_end Names = refl
+no_end Others = refl
 no_end Quiet = refl
 
 -- where lines have rows no selected line settles what the file gives
@@ -17,6 +18,7 @@ pub rows_settle_late : (m : Mode) → shows_rows m ≡ true → settles_at_first
 rows_settle_late Rows e = refl
 rows_settle_late Count e = absurd (false≢true e)
 rows_settle_late Names e = absurd (false≢true e)
+rows_settle_late Others e = absurd (false≢true e)
 rows_settle_late Quiet e = absurd (false≢true e)
 
 -- where none settles it the end doesn't tell the name
@@ -25,6 +27,7 @@ pub end_by_count : (m : Mode) (count name name' : List ℕ) → settles_at_first
 end_by_count Rows count name name' e = refl
 end_by_count Count count name name' e = refl
 end_by_count Names count name name' e = absurd (false≢true (sym e))
+end_by_count Others count name name' e = absurd (false≢true (sym e))
 end_by_count Quiet count name name' e = refl
 
 -- where one settles it the end doesn't tell the count
@@ -33,6 +36,7 @@ pub end_by_name : (m : Mode) (count count' name : List ℕ) → settles_at_first
 end_by_name Rows count count' name e = refl
 end_by_name Count count count' name e = absurd (false≢true e)
 end_by_name Names count count' name e = refl
+end_by_name Others count count' name e = refl
 end_by_name Quiet count count' name e = refl
 
 -- with -q a selected line settles it
@@ -40,6 +44,7 @@ pub settles_late_aloud : (m : Mode) → settles_at_first m ≡ false → is_quie
 settles_late_aloud Rows e = refl
 settles_late_aloud Count e = refl
 settles_late_aloud Names e = refl
+settles_late_aloud Others e = refl
 settles_late_aloud Quiet e = e
 
 -- with -q nothing is written
@@ -47,6 +52,7 @@ pub quiet_rows_in : (m : Mode) (rows count name : List ℕ) → is_quiet m ≡ t
 quiet_rows_in Rows rows count name e = absurd (false≢true e)
 quiet_rows_in Count rows count name e = absurd (false≢true e)
 quiet_rows_in Names rows count name e = absurd (false≢true e)
+quiet_rows_in Others rows count name e = absurd (false≢true e)
 quiet_rows_in Quiet rows count name e = refl
 
 -- where lines have rows these are all

@@ -1,13 +1,14 @@
--- What is asked of a mode (XCU grep, -c, -l and -q).
-use Rattle.std.specs.Prelude.{ℕ, Bool, true, false, List, [], if◌then◌else◌}
+-- What is asked of a mode (XCU grep, -c, -l and -q; GNU grep, -L).
+use Rattle.std.specs.Prelude.{ℕ, Bool, true, false, not, List, [], if◌then◌else◌}
 use Rattle.pg_rows.specs.declared.format.Mode.{Mode}
-use Rattle.pg_rows.specs.declared.format.Mode.TheVariants.{Rows, Count, List as Names, Quiet}
+use Rattle.pg_rows.specs.declared.format.Mode.TheVariants.{Rows, Count, List as Names, ListOthers as Others, Quiet}
 
 -- lines, or the matched parts of lines, have rows
 abbrev pub shows_rows : Mode → Bool
 shows_rows Rows = true
 shows_rows Count = false
 shows_rows Names = false
+shows_rows Others = false
 shows_rows Quiet = false
 
 -- the first selected line of a file settles what the file gives
@@ -15,6 +16,7 @@ abbrev pub settles_at_first : Mode → Bool
 settles_at_first Rows = false
 settles_at_first Count = false
 settles_at_first Names = true
+settles_at_first Others = true
 settles_at_first Quiet = true
 
 -- nothing is written: the status tells
@@ -22,13 +24,23 @@ abbrev pub is_quiet : Mode → Bool
 is_quiet Rows = false
 is_quiet Count = false
 is_quiet Names = false
+is_quiet Others = false
 is_quiet Quiet = true
+
+-- the file's name is written, by whether a line of the file is selected
+abbrev pub is_named : Mode → (selected : Bool) → Bool
+is_named Rows selected = selected
+is_named Count selected = selected
+is_named Names selected = selected
+is_named Others selected = not selected
+is_named Quiet selected = selected
 
 -- what a file's end adds, of the rows that tell its count and its name
 abbrev pub end_row : Mode → (count name : List ℕ) → List ℕ
 end_row Rows count name = []
 end_row Count count name = count
 end_row Names count name = name
+end_row Others count name = name
 end_row Quiet count name = []
 
 -- what a mode has of a file's rows

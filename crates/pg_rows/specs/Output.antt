@@ -1,4 +1,4 @@
--- What is written for files, and the exit status (XCU grep, STDOUT and EXIT STATUS; GNU grep for -m, -A, -B, -C, -o).
+-- What is written for files, and the exit status (XCU grep, STDOUT and EXIT STATUS; GNU grep for -m, -A, -B, -C, -o, -L).
 use Rattle.std.specs.Prelude.{◌≡◌, ℕ, zero, suc, ◌+◌, nat_lt, nat_le, Bool, true, false, not, ◌&&◌, ◌||◌, if◌then◌else◌}
 use Rattle.std.specs.Prelude.{is_some, Option, Some, None, List, [], ◌∷◌, ◌++◌, length, take, slice_range}
 use Rattle.std.specs.Prelude.{slice_index_or, unwrap_or}
@@ -8,7 +8,7 @@ use Rattle.pg_lines.specs.Search.{Search, terminator}
 use Rattle.pg_lines.specs.Lines.{lines}
 use Rattle.pg_lines.specs.Selection.{selects, parts}
 use Rattle.pg_rows.specs.declared.format.Format.{Format}
-use Rattle.pg_rows.specs.Modes.{is_quiet, rows_in}
+use Rattle.pg_rows.specs.Modes.{is_quiet, is_named, rows_in}
 
 -- A file's lines have places 0, 1, 2, ..; a set of places is a test.
 
@@ -81,13 +81,13 @@ piece_rows q format name ls =
     (parts q (line_at ls i)))
     (members (is_kept q format.limit ls) ls)
 
--- the rows of -c and -l, which end with a newline whatever the terminator
+-- the rows of -c, -l and -L, which end with a newline whatever the terminator
 abbrev pub count_row : Search → Format → List ℕ → List (List ℕ) → List ℕ
 count_row q format name ls =
     when format.names (name ++ 58 ∷ []) ++ decimal (length (members (is_kept q format.limit ls) ls)) ++ 10 ∷ []
 
 abbrev pub name_row : Search → Format → List ℕ → List (List ℕ) → List ℕ
-name_row q format name ls = when (list_any (selects q) ls) (name ++ 10 ∷ [])
+name_row q format name ls = when (is_named format.mode (list_any (selects q) ls)) (name ++ 10 ∷ [])
 
 -- what one file gives; `earlier` says that the run has an earlier row
 unfoldable pub file_rows : Search → Format → List ℕ → List ℕ → Bool → Bool → List ℕ

@@ -1,6 +1,6 @@
 //! How rows look.
 ghost use Rattle.std.specs.Prelude.{◌≡◌, ◌||◌};
-ghost use Rattle.pg_rows.specs.Modes.{shows_rows, settles_at_first, is_quiet};
+ghost use Rattle.pg_rows.specs.Modes.{shows_rows, settles_at_first, is_quiet, is_named};
 
 /// What is written of each file.
 #[derive(Clone, Copy, Debug, PartialEq, Eq)]
@@ -11,6 +11,8 @@ pub enum Mode {
     Count,
     /// -l: the file's name, where a line is selected.
     List,
+    /// -L: the file's name, where no line is selected.
+    ListOthers,
     /// -q: nothing.
     Quiet,
 }
@@ -22,7 +24,7 @@ impl Mode {
     {
         match self {
             Mode::Rows => true,
-            Mode::Count | Mode::List | Mode::Quiet => false,
+            Mode::Count | Mode::List | Mode::ListOthers | Mode::Quiet => false,
         }
     }
 
@@ -31,7 +33,7 @@ impl Mode {
         ensures { result ≡ settles_at_first self }
     {
         match self {
-            Mode::List | Mode::Quiet => true,
+            Mode::List | Mode::ListOthers | Mode::Quiet => true,
             Mode::Rows | Mode::Count => false,
         }
     }
@@ -42,7 +44,17 @@ impl Mode {
     {
         match self {
             Mode::Quiet => true,
-            Mode::Rows | Mode::Count | Mode::List => false,
+            Mode::Rows | Mode::Count | Mode::List | Mode::ListOthers => false,
+        }
+    }
+
+    /// Whether the row of a file's name is written, by whether a line of the file is selected.
+    pub(crate) fn is_named(self, selected: bool) -> bool
+        ensures { result ≡ is_named self selected }
+    {
+        match self {
+            Mode::ListOthers => !selected,
+            Mode::Rows | Mode::Count | Mode::List | Mode::Quiet => selected,
         }
     }
 }

@@ -110,6 +110,7 @@ impl<A: Allocator> Printer<A> {
     ghost use Rattle.pg_rows.specs.Pieces.{HasFound};
     ghost use Rattle.pg_rows.specs.Cursor.{Cursor, at_start};
     ghost use Rattle.pg_rows.specs.Remembered.{Remembers, ComesLast, Follows, shows_lines, behind_block};
+    ghost use Rattle.pg_rows.specs.Modes.{is_named};
     ghost use Rattle.pg_rows.specs.Remembered.{opened_as, end_rows, shown_rows};
     ghost use Rattle.pg_rows.specs.Trail.{run_rows, run_pieces};
     ghost use Rattle.pg_rows.specs.Window.{held, IsWindow};
@@ -193,22 +194,23 @@ impl<A: Allocator> Printer<A> {
     {
         match self.format.mode {
             Mode::Count => write_count(out, &self.format, &self.prefix, self.progress.kept),
-            Mode::List => self.write_found_name(out),
+            Mode::List | Mode::ListOthers => self.write_listed_name(out),
             Mode::Rows | Mode::Quiet => Ok(()),
         }
     }
 
-    /// Writes the file's name as a row, where a line of it was selected.
-    fn write_found_name<W: Sink>(&self, out: &mut W) -> Result<(), WriteError>
+    /// Writes the file's name as a row, where the mode lists the file.
+    fn write_listed_name<W: Sink>(&self, out: &mut W) -> Result<(), WriteError>
         ensures all { OnOk result (W.taken out.new ≡ W.taken out.old
-            ++ when (nat_lt 0 self.now.progress.kept) (self.now.prefix ++ 10 ∷ [])) }
-        ensures part { OnErr result (TakesPart (when (nat_lt 0 self.now.progress.kept) (self.now.prefix ++ 10 ∷ []))
+            ++ when (is_named self.now.format.mode (nat_lt 0 self.now.progress.kept)) (self.now.prefix ++ 10 ∷ [])) }
+        ensures part { OnErr result (TakesPart
+            (when (is_named self.now.format.mode (nat_lt 0 self.now.progress.kept)) (self.now.prefix ++ 10 ∷ []))
             (W.taken out.old) (W.taken out.new)) }
         ensures failure { OnErr result (W.failures out.old < W.failures out.new) }
         ensures no_failure { OnOk result (W.failures out.new ≡ W.failures out.old) }
         ensures never_falls { W.failures out.old ≤ W.failures out.new }
     {
-        if self.progress.kept > 0 {
+        if self.format.mode.is_named(self.progress.kept > 0) {
             write_name(out, &self.prefix)
         } else {
             Ok(())

@@ -13,7 +13,7 @@ use Rattle.pg_seq.specs.Plan.{Opens, Announces, Ends}
 use Rattle.pg_seq.specs.History.{Event, Planned, Arrived, answer_after, handed_after, front_after}
 use Rattle.pg_seq.specs.declared.answers.Arrival.TheVariants.{Taken, Double, Stranger}
 use Rattle.pg_rows.specs.declared.format.Format.{Format}
-use Rattle.pg_rows.specs.declared.format.Mode.TheVariants.{Rows, Count, List as Names, Quiet}
+use Rattle.pg_rows.specs.declared.format.Mode.TheVariants.{Rows, Count, List as Names, ListOthers as Others, Quiet}
 use Rattle.pg_rows.specs.Output.{output, status, file_rows, Entry, Missed, Read, Ended}
 
 -- the fixed string of one byte
@@ -85,6 +85,11 @@ names_of_files : output (query 120) (record plain { names = true; mode = Names }
     (Read (codes "g") (codes "y\n") Ended ∷ Read (codes "f") (codes "y\nx\n") Ended ∷ []) ≡ codes "f\n"
 unfolding has_hit file_rows digits
 names_of_files = refl
+
+names_of_other_files : output (query 120) (record plain { names = true; mode = Others })
+    (Read (codes "g") (codes "y\n") Ended ∷ Read (codes "f") (codes "y\nx\n") Ended ∷ []) ≡ codes "g\n"
+unfolding has_hit file_rows digits
+names_of_other_files = refl
 
 limited_count : output (query 120) (record plain { mode = Count; limit = Some 2 }) (file (codes "x\nx\nx\n") ∷ [])
     ≡ codes "2\n"

@@ -13,7 +13,7 @@ use Rattle.pg_lines.specs.Selection.{selects}
 use Rattle.pg_lines.proofs.LineLemmas.{lines-append}
 use Rattle.pg_rows.specs.declared.format.Format.{Format}
 use Rattle.pg_rows.specs.declared.format.Mode.{Mode}
-use Rattle.pg_rows.specs.Modes.{shows_rows, settles_at_first, end_row, rows_in}
+use Rattle.pg_rows.specs.Modes.{shows_rows, settles_at_first, is_named, end_row, rows_in}
 use Rattle.pg_rows.proofs.ModeLemmas.{rows_settle_late, end_by_count, end_by_name}
 use Rattle.pg_rows.specs.Output.{HasRoom, is_below, when, row, file_rows, line_rows, piece_rows}
 use Rattle.pg_rows.specs.Output.{count_row, name_row, is_shown}
@@ -160,7 +160,7 @@ module _ (q : Search) (format : Format) where
 
     name_settled : (name : List ℕ) → list_any (selects q) ls ≡ true
         → name_row q format name (ls ++ ms) ≡ name_row q format name ls
-    name_settled name e = ap (λ b. when b (name ++ 10 ∷ [])) (selected_settled e ∙ sym e)
+    name_settled name e = ap (λ b. when (is_named format.mode b) (name ++ 10 ∷ [])) (selected_settled e ∙ sym e)
 
     part_settled : (name : List ℕ) (earlier : Bool) → is_full q format ls ≡ true → is_trailed q format ls ≡ false
         → line_part name (ls ++ ms) earlier ≡ line_part name ls earlier

@@ -5,7 +5,7 @@ use Rattle.pg_syntax.specs.declared.pattern_list.Kind.{Kind}
 use Rattle.pg_syntax.specs.declared.pattern_list.Kind.TheVariants.{Basic, Extended, Fixed}
 use Rattle.pg_rows.specs.declared.format.Format.{Format}
 use Rattle.pg_rows.specs.declared.format.Mode.{Mode}
-use Rattle.pg_rows.specs.declared.format.Mode.TheVariants.{Rows, Count, List, Quiet}
+use Rattle.pg_rows.specs.declared.format.Mode.TheVariants.{Rows, Count, List, ListOthers, Quiet}
 use Rattle.pg_words.specs.declared.options.Options.{Options}
 use Rattle.pg_words.specs.declared.options.Naming.{Naming}
 use Rattle.pg_words.specs.declared.options.Naming.TheVariants.{Always, Never, BySeveral}
@@ -17,7 +17,11 @@ kind_of options = if options.extended then Extended else (if options.fixed then 
 -- what is written
 abbrev pub mode_of : Options → Mode
 mode_of options =
-    if options.count then Count else (if options.list then List else (if options.quiet then Quiet else Rows))
+    if options.count then Count
+    else (if options.list then List
+    else (if options.list_others then ListOthers
+    else (if options.quiet then Quiet
+    else Rows)))
 
 -- when names are written: -h takes them away, and without either option the number of files decides
 abbrev pub naming_of : Options → Naming
@@ -34,16 +38,17 @@ format_of options = record {
   after = option_or options.after options.around;
 }
 
--- more than one of -c, -l and -q
+-- more than one of -c, -l, -L and -q
 abbrev pub has_several_modes : Options → Bool
 has_several_modes options =
-    (options.count && options.list) || (options.count && options.quiet) || (options.list && options.quiet)
+    (options.count && (options.list || options.list_others || options.quiet))
+    || (options.list && (options.list_others || options.quiet)) || (options.list_others && options.quiet)
 
 -- -A, -B or -C
 abbrev pub has_context : Options → Bool
 has_context options = is_some options.after || is_some options.before || is_some options.around
 
--- -v, -c, -l, -q, -A, -B or -C
+-- -v, -c, -l, -L, -q, -A, -B or -C
 abbrev pub has_excluded_by_pieces : Options → Bool
 has_excluded_by_pieces options =
-    options.invert || options.count || options.list || options.quiet || has_context options
+    options.invert || options.count || (options.list || options.list_others) || options.quiet || has_context options

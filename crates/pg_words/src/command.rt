@@ -53,7 +53,7 @@ struct Opt(Names, &'static str, Value);
 /// The options, and the operands: PATTERN, where neither -e nor -f is given, and each FILE. Of names that are equally
 /// close to a wrong one `clap` proposes the last. -G is read by nobody: it asks for what is taken without -E and -F,
 /// and has no effect beside them. Nor is -a, for every file is text.
-static OPTIONS: [Opt; 31] = [
+static OPTIONS: [Opt; 32] = [
     Opt(Names::Letter('q', &["silent"]), "quiet", Value::Nothing),
     Opt(Names::Letter('E', &[]), "extended-regexp", Value::Nothing),
     Opt(Names::Letter('F', &[]), "fixed-strings", Value::Nothing),
@@ -70,6 +70,11 @@ static OPTIONS: [Opt; 31] = [
     Opt(
         Names::Letter('l', &[]),
         "files-with-matches",
+        Value::Nothing,
+    ),
+    Opt(
+        Names::Letter('L', &[]),
+        "files-without-match",
         Value::Nothing,
     ),
     Opt(Names::Letter('n', &[]), "line-number", Value::Nothing),
@@ -198,6 +203,7 @@ pub fn options_of(found: &ArgMatches<'_>) -> Options {
         pieces: found.get_flag("only-matching"),
         count: found.get_flag("count"),
         list: found.get_flag("files-with-matches"),
+        list_others: found.get_flag("files-without-match"),
         quiet: found.get_flag("quiet"),
         numbers: found.get_flag("line-number"),
         names: found.get_flag("with-filename"),

@@ -26,6 +26,7 @@ Patterns, one on each line:
 Output:
   -c, --count                write the number of selected lines of each file
   -l, --files-with-matches   write the names of files with a selected line
+  -L, --files-without-match  write the names of files without one
   -q, --quiet, --silent      write nothing; the status tells
   -o, --only-matching        write the matched parts of selected lines
   -n, --line-number          write the number of each line before it

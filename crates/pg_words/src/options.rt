@@ -29,8 +29,10 @@ pub struct Options {
     pub pieces: bool,
     /// -c: the number of lines.
     pub count: bool,
-    /// -l: the file's name.
+    /// -l: the names of files with a selected line.
     pub list: bool,
+    /// -L: the names of files without one.
+    pub list_others: bool,
     /// -q: nothing.
     pub quiet: bool,
     /// -n: the lines' numbers.
@@ -96,7 +98,7 @@ impl Options {
         }
     }
 
-    /// What is written, where at most one of -c, -l and -q is given.
+    /// What is written, where at most one of -c, -l, -L and -q is given.
     fn mode(&self) -> Mode
         ensures { result ≡ mode_of self.now }
     {
@@ -104,6 +106,8 @@ impl Options {
             Mode::Count
         } else if self.list {
             Mode::List
+        } else if self.list_others {
+            Mode::ListOthers
         } else if self.quiet {
             Mode::Quiet
         } else {
@@ -111,11 +115,13 @@ impl Options {
         }
     }
 
-    /// Whether more than one of -c, -l and -q is given.
+    /// Whether more than one of -c, -l, -L and -q is given.
     pub(crate) fn has_several_modes(&self) -> bool
         ensures { result ≡ has_several_modes self.now }
     {
-        self.count && self.list || self.count && self.quiet || self.list && self.quiet
+        self.count && (self.list || self.list_others || self.quiet)
+            || self.list && (self.list_others || self.quiet)
+            || self.list_others && self.quiet
     }
 
     /// Whether one of -A, -B and -C is given.
@@ -129,6 +135,7 @@ impl Options {
     pub(crate) fn has_excluded_by_pieces(&self) -> bool
         ensures { result ≡ has_excluded_by_pieces self.now }
     {
-        self.invert || self.count || self.list || self.quiet || self.has_context()
+        let is_listed = self.list || self.list_others;
+        self.invert || self.count || is_listed || self.quiet || self.has_context()
     }
 }

@@ -9,13 +9,13 @@ use crate::options::Options;
 /// is told.
 #[derive(Clone, Copy, Debug)]
 pub enum UsageFault {
-    /// More than one of -c, -l and -q is given.
+    /// More than one of -c, -l, -L and -q is given.
     SeveralModes,
     /// Both -E and -F are given.
     ExtendedAndFixed,
     /// Both -H and -h are given.
     NamesAndNoNames,
-    /// Beside -o one of -v, -c, -l, -q, -A, -B and -C is given.
+    /// Beside -o one of -v, -c, -l, -L, -q, -A, -B and -C is given.
     ExcludedByPieces,
     /// There is no -e, no -f and no operand.
     NoPattern,
@@ -29,10 +29,10 @@ impl UsageFault {
         ensures { result.now ≡ usage_text self }
     {
         match self {
-            UsageFault::SeveralModes => "only one of -c, -l and -q may be given",
+            UsageFault::SeveralModes => "only one of -c, -l, -L and -q may be given",
             UsageFault::ExtendedAndFixed => "only one of -E and -F may be given",
             UsageFault::NamesAndNoNames => "only one of -H and -h may be given",
-            UsageFault::ExcludedByPieces => "-o excludes -v, -c, -l, -q, -A, -B and -C",
+            UsageFault::ExcludedByPieces => "-o excludes -v, -c, -l, -L, -q, -A, -B and -C",
             UsageFault::NoPattern => "no pattern given",
             UsageFault::NoOperand => "-r needs an operand",
         }
