@@ -22,6 +22,7 @@ pub(crate) fn setup(workers: u32, round: u32) -> Setup
     Setup {
         format: Format {
             names: false,
+            null: false,
             numbers: false,
             mode: Mode::Rows,
             limit: None,

@@ -10,8 +10,9 @@ use Rattle.pg_lines.specs.Search.{Search, terminator}
 use Rattle.pg_lines.specs.Selection.{selects}
 use Rattle.pg_rows.specs.declared.format.Format.{Format}
 use Rattle.pg_rows.specs.Modes.{is_named}
-use Rattle.pg_rows.specs.Output.{is_below, when, row, is_nothing, line_rows, piece_rows, count_row, name_row}
+use Rattle.pg_rows.specs.Output.{name_mark, is_below, when, row, is_nothing, line_rows, piece_rows, count_row, name_row}
 use Rattle.pg_rows.specs.Sink.{IsBeginning}
+use Rattle.pg_rows.specs.Stretch.{prefix_text}
 use Rattle.pg_rows.specs.Trail.{Trail, no_lines, step, trail_of, added, run_rows, run, added_pieces, run_pieces}
 use Rattle.pg_rows.specs.Trail.{keeps, after_kept, after_context, after_other, kept_rows, context_rows, gap_row}
 use Rattle.pg_rows.proofs.TrailLemmas.{IsTrail, Quota, trail_step, rows_step, pieces_step, no_trail}
@@ -51,8 +52,8 @@ rows_begin q format name earlier ls ms = (
 
 pub count_by_trail : (q : Search) (format : Format) (name : List ℕ) (ls : List (List ℕ)) (t : Trail)
     → IsTrail q format ls t → count_row q format name ls ≡ when format.names
-    (name ++ 58 ∷ []) ++ decimal t.kept ++ 10 ∷ []
-count_by_trail q format name ls t h = ap (λ k. when format.names (name ++ 58 ∷ []) ++ decimal k ++ 10 ∷ [])
+    (name ++ name_mark format 58 ∷ []) ++ decimal t.kept ++ 10 ∷ []
+count_by_trail q format name ls t h = ap (λ k. when format.names (name ++ name_mark format 58 ∷ []) ++ decimal k ++ 10 ∷ [])
     (sym h.count)
 
 counted_more : (t any : Bool) (n : ℕ) → any ≡ nat_lt 0 n → (t || any) ≡ nat_lt 0 ((0 + cond t 1 0) + n)
@@ -77,9 +78,9 @@ kept_some (Some k) kept count e (inr p) =
 -- with a limit that isn't 0 a line is selected where one is kept
 pub name_by_trail : (q : Search) (format : Format) (name : List ℕ) (ls : List (List ℕ)) (t : Trail)
     → is_below 0 format.limit ≡ true → IsTrail q format ls t
-    → name_row q format name ls ≡ when (is_named format.mode (nat_lt 0 t.kept)) (name ++ 10 ∷ [])
+    → name_row q format name ls ≡ when (is_named format.mode (nat_lt 0 t.kept)) (name ++ name_mark format 10 ∷ [])
 name_by_trail q format name ls t some h =
-    ap (λ b. when (is_named format.mode b) (name ++ 10 ∷ [])) (some_counted q ls
+    ap (λ b. when (is_named format.mode b) (name ++ name_mark format 10 ∷ [])) (some_counted q ls
     ∙ kept_some format.limit t.kept (count_by (selects q) ls) some h.quota)
 
 pub pieces_more : (q : Search) (format : Format) (name : List ℕ) (ls ms : List (List ℕ)) (t : Trail)
@@ -105,9 +106,8 @@ some_append (x ∷ xs) ys = refl
 some_row : (format : Format) (end : ℕ) (name : List ℕ) (number mark : ℕ) (text : List ℕ)
     → something (row format end name number mark text) ≡ true
 some_row format end name number mark text =
-    some_append (when format.names (name ++ mark ∷ []) ++ when format.numbers (decimal number ++ mark ∷ []) ++ text)
-    (end ∷ []) ∙ or_right (something (when format.names (name ++ mark ∷ []) ++ when format.numbers
-    (decimal number ++ mark ∷ []) ++ text)) true refl
+    let front = prefix_text format name number mark ++ text in
+    some_append front (end ∷ []) ∙ or_right (something front) true refl
 
 or_turn : (a r s : Bool) → ((a || r) || s) ≡ (r || (a || s))
 or_turn true true s = refl

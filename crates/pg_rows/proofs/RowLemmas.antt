@@ -8,7 +8,7 @@ use Rattle.std.proofs.lemmas.List.{append-nil, drop_more}
 use Rattle.pg_lines.specs.Lines.{terminated}
 use Rattle.pg_rows.specs.declared.format.Format.{Format}
 use Rattle.pg_lines.specs.declared.run.Part.{Part}
-use Rattle.pg_rows.specs.Output.{when, row}
+use Rattle.pg_rows.specs.Output.{name_mark, when, row}
 use Rattle.pg_rows.specs.Stretch.{marked_rows, prefix_text, part_row, part_rows}
 
 pub row_is : (format : Format) (end : ℕ) (name : List ℕ) (number mark : ℕ) (text : List ℕ)
@@ -45,7 +45,7 @@ pub marked_bare : (format : Format) (end : ℕ) (name : List ℕ) (mark number :
 marked_bare format end name mark number [] names numbers = refl
 marked_bare format end name mark number (l ∷ ls) names numbers =
     let later = marked_rows format end name mark (number + 1) ls in
-    ap (λ t. (when t (name ++ mark ∷ []) ++ when format.numbers (decimal number ++ mark ∷ []) ++ l ++ end ∷ [])
+    ap (λ t. (when t (name ++ name_mark format mark ∷ []) ++ when format.numbers (decimal number ++ mark ∷ []) ++ l ++ end ∷ [])
     ++ later) names
     ∙ (ap (λ t. (when t (decimal number ++ mark ∷ []) ++ l ++ end ∷ []) ++ later) numbers
     ∙ ap (λ xs. (l ++ end ∷ []) ++ xs) (marked_bare format end name mark (number + 1) ls names numbers))
@@ -90,7 +90,7 @@ parts_more format end name before cut bytes ps k d below =
     (nat_lt p.line cut) refl
 
 -- the row of a count where there are names
-pub count_row_is : (names : Bool) (name count : List ℕ) → names ≡ true
-    → when names (name ++ 58 ∷ []) ++ count ++ 10 ∷ [] ≡ (name ++ 58 ∷ []) ++ (count ++ 10 ∷ [])
-count_row_is true name count e = simp append_assoc
-count_row_is false name count e = absurd (cc)
+pub count_row_is : (names : Bool) (mark : ℕ) (name count : List ℕ) → names ≡ true
+    → when names (name ++ mark ∷ []) ++ count ++ 10 ∷ [] ≡ (name ++ mark ∷ []) ++ (count ++ 10 ∷ [])
+count_row_is true mark name count e = simp append_assoc
+count_row_is false mark name count e = absurd (cc)

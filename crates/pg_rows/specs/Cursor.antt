@@ -5,7 +5,7 @@ use Rattle.pg_lines.specs.Search.{Search, terminator}
 use Rattle.pg_lines.specs.Lines.{lines}
 use Rattle.pg_rows.specs.declared.format.Format.{Format}
 use Rattle.pg_rows.specs.Modes.{is_named}
-use Rattle.pg_rows.specs.Output.{when}
+use Rattle.pg_rows.specs.Output.{name_mark, when}
 use Rattle.pg_rows.specs.Trail.{Trail, no_lines, trail_of, run_rows, run_pieces}
 
 -- whether the run had a row before the file, the file's name, and what is remembered of its lines
@@ -29,7 +29,7 @@ block_rows q format c bytes =
 
 -- the rows at a file's end
 abbrev pub counted : Format → Cursor → List ℕ
-counted format c = when format.names (c.name ++ 58 ∷ []) ++ decimal c.trail.kept ++ 10 ∷ []
+counted format c = when format.names (c.name ++ name_mark format 58 ∷ []) ++ decimal c.trail.kept ++ 10 ∷ []
 
 abbrev pub named : Format → Cursor → List ℕ
-named format c = when (is_named format.mode (nat_lt 0 c.trail.kept)) (c.name ++ 10 ∷ [])
+named format c = when (is_named format.mode (nat_lt 0 c.trail.kept)) (c.name ++ name_mark format 10 ∷ [])

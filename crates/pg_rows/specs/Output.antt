@@ -1,4 +1,4 @@
--- What is written for files, and the exit status (XCU grep, STDOUT and EXIT STATUS; GNU grep for -m, -A, -B, -C, -o, -L).
+-- What is written for files, and the exit status (XCU grep, STDOUT and EXIT STATUS; GNU grep for -m, -A, -B, -C, -o, -L, -Z).
 use Rattle.std.specs.Prelude.{◌≡◌, ℕ, zero, suc, ◌+◌, nat_lt, nat_le, Bool, true, false, not, ◌&&◌, ◌||◌, if◌then◌else◌}
 use Rattle.std.specs.Prelude.{is_some, Option, Some, None, List, [], ◌∷◌, ◌++◌, length, take, slice_range}
 use Rattle.std.specs.Prelude.{slice_index_or, unwrap_or}
@@ -47,10 +47,15 @@ members set ls = filter set (range_with_len 0 (length ls))
 abbrev pub when : Bool → List ℕ → List ℕ
 when shown text = if shown then text else []
 
+-- what follows a name: a NUL where that is asked for, else this mark
+abbrev pub name_mark : Format → ℕ → ℕ
+name_mark format mark = if format.null then 0 else mark
+
 -- a row: the name and the line's number where they are asked for, each with a mark; the text; the terminator
 abbrev pub row : Format → ℕ → List ℕ → ℕ → ℕ → List ℕ → List ℕ
 row format end name number mark text =
-    when format.names (name ++ mark ∷ []) ++ when format.numbers (decimal number ++ mark ∷ []) ++ text ++ end ∷ []
+    when format.names (name ++ name_mark format mark ∷ []) ++ when format.numbers (decimal number ++ mark ∷ [])
+    ++ text ++ end ∷ []
 
 abbrev pub has_context : Format → Bool
 has_context format = is_some format.before || is_some format.after
@@ -81,13 +86,14 @@ piece_rows q format name ls =
     (parts q (line_at ls i)))
     (members (is_kept q format.limit ls) ls)
 
--- the rows of -c, -l and -L, which end with a newline whatever the terminator
+-- the rows of -c, -l and -L, which end with a newline whatever the terminator, but for a name with a NUL behind it
 abbrev pub count_row : Search → Format → List ℕ → List (List ℕ) → List ℕ
 count_row q format name ls =
-    when format.names (name ++ 58 ∷ []) ++ decimal (length (members (is_kept q format.limit ls) ls)) ++ 10 ∷ []
+    when format.names (name ++ name_mark format 58 ∷ []) ++ decimal (length (members (is_kept q format.limit ls) ls)) ++ 10 ∷ []
 
 abbrev pub name_row : Search → Format → List ℕ → List (List ℕ) → List ℕ
-name_row q format name ls = when (is_named format.mode (list_any (selects q) ls)) (name ++ 10 ∷ [])
+name_row q format name ls =
+    when (is_named format.mode (list_any (selects q) ls)) (name ++ name_mark format 10 ∷ [])
 
 -- what one file gives; `earlier` says that the run has an earlier row
 unfoldable pub file_rows : Search → Format → List ℕ → List ℕ → Bool → Bool → List ℕ

@@ -8,7 +8,7 @@ use Rattle.pg_lines.specs.Search.{Search}
 use Rattle.pg_lines.specs.Selection.{selects}
 use Rattle.pg_lines.specs.declared.run.Part.{Part}
 use Rattle.pg_rows.specs.declared.format.Format.{Format}
-use Rattle.pg_rows.specs.Output.{context, when, row}
+use Rattle.pg_rows.specs.Output.{name_mark, context, when, row}
 use Rattle.pg_rows.specs.Trail.{Trail, keeps}
 
 -- rows with a mark, of lines numbered from a number on
@@ -47,7 +47,7 @@ pub record IsKept (format : Format) (t : Trail) (count : ℕ) (later : Trail) : 
 -- what a row has before its text
 abbrev pub prefix_text : Format → List ℕ → ℕ → ℕ → List ℕ
 prefix_text format name number mark =
-    when format.names (name ++ mark ∷ []) ++ when format.numbers (decimal number ++ mark ∷ [])
+    when format.names (name ++ name_mark format mark ∷ []) ++ when format.numbers (decimal number ++ mark ∷ [])
 
 -- the row of a part of some bytes, which stands in the line with this place behind so many lines of the file
 abbrev pub part_row : Format → ℕ → List ℕ → ℕ → List ℕ → Part → List ℕ

@@ -1,6 +1,7 @@
 //! How rows look.
 ghost use Rattle.std.specs.Prelude.{◌≡◌, ◌||◌};
 ghost use Rattle.pg_rows.specs.Modes.{shows_rows, settles_at_first, is_quiet, is_named};
+ghost use Rattle.pg_rows.specs.Output.{name_mark};
 
 /// What is written of each file.
 #[derive(Clone, Copy, Debug, PartialEq, Eq)]
@@ -64,6 +65,8 @@ impl Mode {
 pub struct Format {
     /// Each row begins with its file's name.
     pub names: bool,
+    /// -Z: a NUL follows each name, in place of the mark or the newline behind it.
+    pub null: bool,
     /// -n: each row has its line's number, from 1.
     pub numbers: bool,
     pub mode: Mode,
@@ -76,6 +79,13 @@ pub struct Format {
 }
 
 impl Format {
+    /// What follows a name: a NUL where that is asked for, else this mark.
+    pub(crate) fn name_mark(&self, mark: u8) -> u8
+        ensures { result ≡ name_mark self.now mark }
+    {
+        if self.null { 0 } else { mark }
+    }
+
     /// Whether a row has something before its text.
     pub(crate) fn has_prefix(&self) -> bool
         ensures { result ≡ (self.now.names || self.now.numbers) }

@@ -2,7 +2,7 @@
 ghost use Rattle.std.specs.Prelude.{◌≡◌, ◌+◌, ◌<◌, ◌≤◌, ◌++◌, [], ◌∷◌, IfOk, OnOk, OnErr};
 ghost use Rattle.std.specs.Prelude.{length, vec_len, vec_capacity};
 ghost use Rattle.std.specs.Fmt.{decimal};
-ghost use Rattle.pg_rows.specs.Output.{when};
+ghost use Rattle.pg_rows.specs.Output.{when, name_mark};
 ghost use Rattle.pg_rows.specs.Stretch.{prefix_text};
 ghost use Rattle.pg_rows.specs.Sink.{TakesPart};
 
@@ -90,12 +90,12 @@ impl<A: Allocator> Prefix<A> {
 fn append_marks<A: Allocator>(buffer: &mut Vec<u8, A>, format: &Format, number: u64, mark: u8)
     requires { vec_len buffer.old + 22 ≤ vec_capacity buffer.old }
     ensures items { buffer.new.items ≡ buffer.old.items
-        ++ (when format.now.names (mark ∷ []) ++ when format.now.numbers (decimal number ++ mark ∷ [])) }
+        ++ (when format.now.names (name_mark format.now mark ∷ []) ++ when format.now.numbers (decimal number ++ mark ∷ [])) }
     ensures len { vec_len buffer.old ≤ vec_len buffer.new }
     ensures capacity { vec_capacity buffer.old ≤ vec_capacity buffer.new }
 {
     if format.names {
-        buffer.push(mark).unwrap();
+        buffer.push(format.name_mark(mark)).unwrap();
     }
     if format.numbers {
         let mut digits = Buffer::new();

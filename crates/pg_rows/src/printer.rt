@@ -7,7 +7,7 @@ ghost use Rattle.std.specs.Arc.{arc_value};
 ghost use Rattle.pg_lines.specs.Search.{Search, terminator};
 ghost use Rattle.pg_rows.specs.Pieces.{cut_at};
 ghost use Rattle.pg_rows.specs.Remembered.{HasLines};
-ghost use Rattle.pg_rows.specs.Output.{when};
+ghost use Rattle.pg_rows.specs.Output.{name_mark, when};
 ghost use Rattle.pg_lines.specs.Lines.{lines, AreWhole};
 ghost use Rattle.pg_rows.specs.Sink.{TakesPart};
 
@@ -202,16 +202,16 @@ impl<A: Allocator> Printer<A> {
     /// Writes the file's name as a row, where the mode lists the file.
     fn write_listed_name<W: Sink>(&self, out: &mut W) -> Result<(), WriteError>
         ensures all { OnOk result (W.taken out.new ≡ W.taken out.old
-            ++ when (is_named self.now.format.mode (nat_lt 0 self.now.progress.kept)) (self.now.prefix ++ 10 ∷ [])) }
-        ensures part { OnErr result (TakesPart
-            (when (is_named self.now.format.mode (nat_lt 0 self.now.progress.kept)) (self.now.prefix ++ 10 ∷ []))
-            (W.taken out.old) (W.taken out.new)) }
+            ++ when (is_named self.now.format.mode (nat_lt 0 self.now.progress.kept))
+            (self.now.prefix ++ name_mark self.now.format 10 ∷ [])) }
+        ensures part { OnErr result (TakesPart (when (is_named self.now.format.mode (nat_lt 0 self.now.progress.kept))
+            (self.now.prefix ++ name_mark self.now.format 10 ∷ [])) (W.taken out.old) (W.taken out.new)) }
         ensures failure { OnErr result (W.failures out.old < W.failures out.new) }
         ensures no_failure { OnOk result (W.failures out.new ≡ W.failures out.old) }
         ensures never_falls { W.failures out.old ≤ W.failures out.new }
     {
         if self.format.mode.is_named(self.progress.kept > 0) {
-            write_name(out, &self.prefix)
+            write_name(out, &self.format, &self.prefix)
         } else {
             Ok(())
         }

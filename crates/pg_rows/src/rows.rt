@@ -3,7 +3,7 @@ ghost use Rattle.std.specs.Prelude.{◌≡◌, ◌+◌, ◌<◌, ◌≤◌, ◌^
 ghost use Rattle.std.specs.Prelude.{length, nat_lt, EachIndex, get_or};
 ghost use Rattle.std.specs.Fmt.{decimal};
 ghost use Rattle.pg_lines.specs.Lines.{lines, terminated};
-ghost use Rattle.pg_rows.specs.Output.{when, row};
+ghost use Rattle.pg_rows.specs.Output.{when, name_mark, row};
 ghost use Rattle.pg_rows.specs.Stretch.{marked_rows, part_row, part_rows, IsPartOf, no_part};
 ghost use Rattle.pg_rows.specs.Sink.{TakesPart};
 
@@ -239,9 +239,9 @@ pub(crate) fn write_count<W: Sink, A: Allocator>(
     count: u64,
 ) -> Result<(), WriteError>
     ensures all { OnOk result (W.taken out.new ≡ W.taken out.old
-        ++ (when format.now.names (prefix.now ++ 58 ∷ []) ++ decimal count ++ 10 ∷ [])) }
+        ++ (when format.now.names (prefix.now ++ name_mark format.now 58 ∷ []) ++ decimal count ++ 10 ∷ [])) }
     ensures part { OnErr result
-        (TakesPart (when format.now.names (prefix.now ++ 58 ∷ []) ++ decimal count ++ 10 ∷ [])
+        (TakesPart (when format.now.names (prefix.now ++ name_mark format.now 58 ∷ []) ++ decimal count ++ 10 ∷ [])
         (W.taken out.old) (W.taken out.new)) }
     ensures failure { OnErr result (W.failures out.old < W.failures out.new) }
     ensures no_failure { OnOk result (W.failures out.new ≡ W.failures out.old) }
@@ -252,26 +252,28 @@ pub(crate) fn write_count<W: Sink, A: Allocator>(
     if !format.names {
         return write_both(out, text, b"\n");
     }
-    write_both(out, prefix.name(), b":")?;
+    write_both(out, prefix.name(), &[format.name_mark(b':')])?;
     write_both(out, text, b"\n")
 }
 
-/// Writes a file's name as a row, which ends with a newline whatever the terminator.
+/// Writes a file's name as a row, which ends with a newline whatever the terminator, or with a NUL.
 ///
 /// # Errors
 ///
 /// `WriteError` where a write failed. A beginning of the row was taken then.
 pub(crate) fn write_name<W: Sink, A: Allocator>(
     out: &mut W,
+    format: &Format,
     prefix: &Prefix<A>,
 ) -> Result<(), WriteError>
-    ensures all { OnOk result (W.taken out.new ≡ W.taken out.old ++ (prefix.now ++ 10 ∷ [])) }
-    ensures part { OnErr result (TakesPart (prefix.now ++ 10 ∷ []) (W.taken out.old) (W.taken out.new)) }
+    ensures all { OnOk result (W.taken out.new ≡ W.taken out.old ++ (prefix.now ++ name_mark format.now 10 ∷ [])) }
+    ensures part { OnErr result
+        (TakesPart (prefix.now ++ name_mark format.now 10 ∷ []) (W.taken out.old) (W.taken out.new)) }
     ensures failure { OnErr result (W.failures out.old < W.failures out.new) }
     ensures no_failure { OnOk result (W.failures out.new ≡ W.failures out.old) }
     ensures never_falls { W.failures out.old ≤ W.failures out.new }
 {
-    write_both(out, prefix.name(), b"\n")
+    write_both(out, prefix.name(), &[format.name_mark(b'\n')])
 }
 
 /// Writes the row of two hyphens that stands between rows that don't follow one another.

@@ -40,7 +40,7 @@ abbrev zeros : ℕ → Search
 zeros b = search_of (record (text_of b) { zero = true }) (Set (one b) ∷ [])
 
 abbrev plain : Format
-plain = record { names = false; numbers = false; mode = Rows; limit = None; before = None; after = None }
+plain = record { names = false; null = false; numbers = false; mode = Rows; limit = None; before = None; after = None }
 
 abbrev file : List ℕ → Entry
 file bytes = Read (codes "f") bytes Ended
@@ -90,6 +90,12 @@ names_of_other_files : output (query 120) (record plain { names = true; mode = O
     (Read (codes "g") (codes "y\n") Ended ∷ Read (codes "f") (codes "y\nx\n") Ended ∷ []) ≡ codes "g\n"
 unfolding has_hit file_rows digits
 names_of_other_files = refl
+
+-- with -Z byte 0 follows the name
+name_and_nul : output (query 120) (record plain { names = true; null = true; numbers = true })
+    (file (codes "x\n") ∷ []) ≡ codes "f" ++ 0 ∷ codes "1:x\n"
+unfolding has_hit file_rows digits
+name_and_nul = refl
 
 limited_count : output (query 120) (record plain { mode = Count; limit = Some 2 }) (file (codes "x\nx\nx\n") ∷ [])
     ≡ codes "2\n"

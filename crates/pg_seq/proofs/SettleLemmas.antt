@@ -15,7 +15,7 @@ use Rattle.pg_rows.specs.declared.format.Format.{Format}
 use Rattle.pg_rows.specs.declared.format.Mode.{Mode}
 use Rattle.pg_rows.specs.Modes.{shows_rows, settles_at_first, is_named, end_row, rows_in}
 use Rattle.pg_rows.proofs.ModeLemmas.{rows_settle_late, end_by_count, end_by_name}
-use Rattle.pg_rows.specs.Output.{HasRoom, is_below, when, row, file_rows, line_rows, piece_rows}
+use Rattle.pg_rows.specs.Output.{name_mark, HasRoom, is_below, when, row, file_rows, line_rows, piece_rows}
 use Rattle.pg_rows.specs.Output.{count_row, name_row, is_shown}
 use Rattle.pg_rows.specs.Trail.{Trail, step, run, run_rows, run_pieces, keeps, after_kept, after_context}
 use Rattle.pg_rows.specs.Trail.{after_other, kept_rows, pieces_in, trail_of}
@@ -150,7 +150,7 @@ module _ (q : Search) (format : Format) where
         → count_row q format name (ls ++ ms) ≡ count_row q format name ls
     count_settled name full =
         count_by_trail q format name (ls ++ ms) (run q format t ms) (trail_more q format ls ms t h)
-        ∙ (ap (λ k. when format.names (name ++ 58 ∷ []) ++ decimal k ++ 10 ∷ [])
+        ∙ (ap (λ k. when format.names (name ++ name_mark format 58 ∷ []) ++ decimal k ++ 10 ∷ [])
         (run_kept t ms (full_spent ls t h full))
         ∙ sym (count_by_trail q format name ls t h))
 
@@ -160,7 +160,7 @@ module _ (q : Search) (format : Format) where
 
     name_settled : (name : List ℕ) → list_any (selects q) ls ≡ true
         → name_row q format name (ls ++ ms) ≡ name_row q format name ls
-    name_settled name e = ap (λ b. when (is_named format.mode b) (name ++ 10 ∷ [])) (selected_settled e ∙ sym e)
+    name_settled name e = ap (λ b. when (is_named format.mode b) (name ++ name_mark format 10 ∷ [])) (selected_settled e ∙ sym e)
 
     part_settled : (name : List ℕ) (earlier : Bool) → is_full q format ls ≡ true → is_trailed q format ls ≡ false
         → line_part name (ls ++ ms) earlier ≡ line_part name ls earlier

@@ -10,6 +10,7 @@ use std::sync::Arc;
 /// Selected lines and nothing else.
 pub(crate) const PLAIN: Format = Format {
     names: false,
+    null: false,
     numbers: false,
     mode: Mode::Rows,
     limit: None,

@@ -20,6 +20,7 @@ const ORDERS: usize = 720;
 /// Selected lines and their numbers.
 const NUMBERED: Format = Format {
     names: false,
+    null: false,
     numbers: true,
     mode: Mode::Rows,
     limit: None,

@@ -31,6 +31,7 @@ naming_of options = if options.no_names then Never else (if options.names then A
 abbrev pub format_of : Options → Format
 format_of options = record {
   names = options.names && not options.no_names;
+  null = options.null;
   numbers = options.numbers;
   mode = mode_of options;
   limit = option_map (λ lines. max lines 1) options.limit;

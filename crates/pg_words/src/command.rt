@@ -53,7 +53,7 @@ struct Opt(Names, &'static str, Value);
 /// The options, and the operands: PATTERN, where neither -e nor -f is given, and each FILE. Of names that are equally
 /// close to a wrong one `clap` proposes the last. -G is read by nobody: it asks for what is taken without -E and -F,
 /// and has no effect beside them. Nor is -a, for every file is text.
-static OPTIONS: [Opt; 32] = [
+static OPTIONS: [Opt; 33] = [
     Opt(Names::Letter('q', &["silent"]), "quiet", Value::Nothing),
     Opt(Names::Letter('E', &[]), "extended-regexp", Value::Nothing),
     Opt(Names::Letter('F', &[]), "fixed-strings", Value::Nothing),
@@ -77,6 +77,7 @@ static OPTIONS: [Opt; 32] = [
         "files-without-match",
         Value::Nothing,
     ),
+    Opt(Names::Letter('Z', &[]), "null", Value::Nothing),
     Opt(Names::Letter('n', &[]), "line-number", Value::Nothing),
     Opt(Names::Letter('H', &[]), "with-filename", Value::Nothing),
     Opt(Names::Letter('h', &[]), "no-filename", Value::Nothing),
@@ -206,6 +207,7 @@ pub fn options_of(found: &ArgMatches<'_>) -> Options {
         list_others: found.get_flag("files-without-match"),
         quiet: found.get_flag("quiet"),
         numbers: found.get_flag("line-number"),
+        null: found.get_flag("null"),
         names: found.get_flag("with-filename"),
         no_names: found.get_flag("no-filename"),
         recursive: found.get_flag("recursive"),

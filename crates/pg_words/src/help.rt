@@ -32,6 +32,7 @@ Output:
   -n, --line-number          write the number of each line before it
   -H, --with-filename        write the name of the file before each row
   -h, --no-filename          write no names before rows
+  -Z, --null                 write a NUL behind each name, and no other mark
   -m, --max-count=N          select at most N lines of each file, at least 1
   -A, --after-context=N      write the N lines behind each selected line
   -B, --before-context=N     write the N lines before it, at most 65,535

@@ -37,6 +37,8 @@ pub struct Options {
     pub quiet: bool,
     /// -n: the lines' numbers.
     pub numbers: bool,
+    /// -Z: a NUL behind names.
+    pub null: bool,
     /// -H: the file's name before each row.
     pub names: bool,
     /// -h: no names before rows.
@@ -77,6 +79,7 @@ impl Options {
     {
         Format {
             names: self.names && !self.no_names,
+            null: self.null,
             numbers: self.numbers,
             mode: self.mode(),
             limit: self.limit.map(|lines| lines.max(1)),
