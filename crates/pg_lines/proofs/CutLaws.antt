@@ -8,7 +8,7 @@ use Rattle.std.proofs.lemmas.List.Concat.{flat_map-append}
 use Rattle.pg_lines.specs.Blocks.{BlockData, joined, EndsWith, AreNumbered, IsCutting, AllButLastEnd, IsFinished}
 use Rattle.pg_lines.specs.Blocks.{IsUnfinished, Cuts, IsCut}
 
-ended_some : (end : ℕ) (xs : List ℕ) → EndsWith end xs → xs ≢ []
+pub ended_some : (end : ℕ) (xs : List ℕ) → EndsWith end xs → xs ≢ []
 ended_some end xs h e = let n = ap length (sym h.1 ∙ e) in omega (arith, length-append h.0 (end ∷ []))
 
 each_some : (end size : ℕ) (blocks : List BlockData) → AllByRecursion (λ b. IsFinished end size b.bytes) blocks

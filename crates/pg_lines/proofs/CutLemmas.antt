@@ -10,7 +10,7 @@ use Rattle.std.proofs.lemmas.List.Concat.{flat_map-append}
 use Rattle.memchr.specs.Find.{IsFirstByte, is_byte}
 use Rattle.pg_lines.specs.Blocks.{BlockData, EndsWith, IsFinished, IsUnfinished, AreNumbered, Cuts, joined}
 
-end_at : (end : ℕ) (xs : List ℕ) (n : ℕ) → n ≤ length xs → EndsWith end (take n xs) → (0 < n)
+pub end_at : (end : ℕ) (xs : List ℕ) (n : ℕ) → n ≤ length xs → EndsWith end (take n xs) → (0 < n)
     × (get_or xs (n - 1) 0 ≡ end)
 end_at end xs n fits h =
     let front = h.0 in
@@ -32,7 +32,7 @@ ends_at end xs n some fits e =
     )
 
 -- an unfinished beginning has no terminator at or behind its size
-clear_behind : (end size : ℕ) (xs : List ℕ) → IsUnfinished end size xs → (i : ℕ) → size ≤ i + 1 → i < length xs
+pub clear_behind : (end size : ℕ) (xs : List ℕ) → IsUnfinished end size xs → (i : ℕ) → size ≤ i + 1 → i < length xs
     → get_or xs i 0 ≡ end → ⊥
 clear_behind end size xs h i low high e =
     let back : (i + 1) - 1 ≡ i = omega arith in

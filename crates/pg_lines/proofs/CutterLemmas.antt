@@ -1,22 +1,30 @@
 -- A cutter's past.
+use Rattle.std.proofs.Common.{◌-◌, ◌<◌, ◌≤◌}
 use Rattle.std.proofs.Common.{◌≡◌, ◌≢◌, ℕ, ◌+◌, inl, inr, false, ◌||◌, cond, Option, Some, None, List, [], ◌∷◌, ◌++◌}
 use Rattle.std.proofs.Common.{length, take, drop, refl, sym, ap, ◌∙◌, subst, arith, append_assoc, length-append}
 use Rattle.std.proofs.Common.{Decides}
 use Rattle.std.specs.Option.{IfSome, option_to_list}
 use Rattle.std.proofs.lemmas.Bool.{false≢true, cases_Bool}
-use Rattle.std.proofs.lemmas.List.{append-nil, take-append-drop, drop-drop}
-use Rattle.pg_lines.specs.Blocks.{BlockData, joined, IsFinished, IsUnfinished, IsCut, AreNumbered, Cuts}
+use Rattle.std.proofs.lemmas.List.{append-nil, take-append-drop, drop-drop, take-take, length-take-le}
+use Rattle.std.proofs.lemmas.List.Concat.{flat_map-append}
+use Rattle.pg_lines.specs.Blocks.{BlockData, joined, EndsWith, IsFinished, IsUnfinished, IsCut, AreNumbered, Cuts}
+use Rattle.pg_lines.specs.Blocks.{CutsBehind}
+use Rattle.pg_lines.specs.Lines.{IsLine}
 use Rattle.pg_lines.specs.Long.{has_long, open_from, CutsOff}
 use Rattle.pg_lines.specs.Cutter.{Fed, Stands, IsDrained, fed, handed, IsNextBlock, AreAllBlocks, HasLongLine, held}
+use Rattle.pg_lines.specs.Cutter.{CutsFed, handed_early, HasLinesLeft, HasNoLineLeft}
 use Rattle.pg_lines.specs.declared.cutter.Cutter.{Cutter}
-use Rattle.pg_lines.proofs.CutLemmas.{numbered_front, numbered_more, numbered_append, cuts_more}
+use Rattle.pg_lines.proofs.CutLemmas.{numbered_front, numbered_more, numbered_append}
+use Rattle.pg_lines.proofs.EarlyLemmas.{AllEnd, fed_whole, fed_end, fed_further, fed_last, fed_no_last}
+use Rattle.pg_lines.proofs.EarlyLemmas.{all_end, line_unfinished, blocks_open, same_behind}
 use Rattle.pg_lines.proofs.LongLemmas.{long_decides, long_append, open_append, chosen_some}
+use Rattle.pg_lines.proofs.LongLemmas.{open_cut, open_none, open_all}
 
 pub next_block : {A : Type 0} (cutter : Cutter A) (past : Fed) (b : BlockData) (rest : List BlockData)
     → cutter.ready.items ≡ b ∷ rest → Stands cutter past → IsNextBlock past b
 next_block cutter past b rest e s =
     let P : List BlockData → Type 0 = λ bs. AreNumbered past.file 0 (past.taken ++ bs) in
-    let Q : List BlockData → Type 0 = λ bs. Cuts past.end past.size past.bytes (past.taken ++ bs) (held cutter) in
+    let Q : List BlockData → Type 0 = λ bs. CutsFed past (past.taken ++ bs) (held cutter) in
     let R : List BlockData → Type 0 = λ bs. AreNumbered past.file 0 bs in
     record {
       numbered =
@@ -26,10 +34,10 @@ next_block cutter past b rest e s =
     }
 
 drained : {A : Type 0} (cutter : Cutter A) (past : Fed) → Stands cutter past → IsDrained cutter
-    → Cuts past.end past.size past.bytes past.taken (held cutter) × AreNumbered past.file 0 past.taken
+    → CutsFed past past.taken (held cutter) × AreNumbered past.file 0 past.taken
 drained cutter past s d =
     let same : past.taken ++ cutter.ready.items ≡ past.taken = ap (λ bs. past.taken ++ bs) d ∙ append-nil past.taken in
-    let C : List BlockData → Type 0 = λ bs. Cuts past.end past.size past.bytes bs (held cutter) in
+    let C : List BlockData → Type 0 = λ bs. CutsFed past bs (held cutter) in
     let P : List BlockData → Type 0 = λ bs. C bs × AreNumbered past.file 0 bs in
     subst P same (s.cut, s.numbered)
 
@@ -44,7 +52,7 @@ finished_some cutter past s d ne =
     omega (arith, s.next, ap length d, length-append past.taken cutter.ready.items) in
     record {
       numbered = numbered_more past.file 0 past.taken b h.1 (sym s.file) n;
-      cut = inr (record { front = past.taken; last = b; joins = refl; cuts = h.0; some = ne });
+      cut = fed_last past past.taken (held cutter) h.0 b refl ne;
     }
 
 pub finished_none : {A : Type 0} (cutter : Cutter A) (past : Fed) → Stands cutter past → IsDrained cutter
@@ -52,10 +60,10 @@ pub finished_none : {A : Type 0} (cutter : Cutter A) (past : Fed) → Stands cut
 finished_none cutter past s d none =
     let h = drained cutter past s d in
     let all = sym (append-nil past.taken) in
-    let C : List ℕ → Type 0 = λ xs. Cuts past.end past.size past.bytes past.taken xs in
     let N : List BlockData → Type 0 = λ bs. AreNumbered past.file 0 bs in
-    let I : List BlockData → Type 0 = λ bs. IsCut past.end past.size past.bytes bs in
-    record { numbered = subst N all h.1; cut = subst I all (inl (subst C none h.0)) }
+    let I : List BlockData → Type 0 =
+    λ bs. CutsBehind past.early past.end past.bytes bs (IsCut past.end past.size) in
+    record { numbered = subst N all h.1; cut = subst I all (fed_no_last past past.taken (held cutter) h.0 none) }
 
 pub next_if_some : {A : Type 0} (cutter : Cutter A) (r : Option BlockData) (rest : List BlockData)
     → cutter.ready.items ≡ option_to_list r ++ rest
@@ -102,7 +110,7 @@ fed_stands old new past piece left count ready' s file size longest end number t
     let blocks = off.blocks in
     let together : (past.taken ++ old.ready.items) ++ blocks ≡ past.taken ++ new.ready.items =
     append_assoc past.taken old.ready.items blocks ∙ ap (λ bs. past.taken ++ bs) (sym (ready ∙ off.added)) in
-    let C : List BlockData → Type 0 = λ bs. Cuts past.end past.size (past.bytes ++ piece) bs (held new) in
+    let C : List BlockData → Type 0 = λ bs. CutsFed (fed past piece) bs (held new) in
     let N : List BlockData → Type 0 = λ bs. AreNumbered past.file 0 bs in
     let D : ℕ → Type 0 = λ e. Cuts e past.size (held old ++ piece) blocks (held new) in
     let E : ℕ → Type 0 = λ n. Cuts old.end n (held old ++ piece) blocks (held new) in
@@ -118,8 +126,7 @@ fed_stands old new past piece left count ready' s file size longest end number t
       longest = s.longest ∙ sym longest;
       cut =
           subst C together
-          (cuts_more past.end past.size past.bytes piece (held old) (held new)
-          (past.taken ++ old.ready.items) blocks s.cut cut');
+          (fed_further past (past.taken ++ old.ready.items) (held old) s.cut piece (held new) blocks cut');
       numbered =
           subst N together
           (numbered_append past.file 0 (past.taken ++ old.ready.items) blocks s.numbered
@@ -184,9 +191,8 @@ pub handed_stands : {A : Type 0} (old new : Cutter A) (past : Fed) (r : Option B
 handed_stands old new past r s file size longest end number total line same ready =
     let all : past.taken ++ old.ready.items ≡ (past.taken ++ option_to_list r) ++ new.ready.items =
     ap (λ bs. past.taken ++ bs) ready ∙ sym (append_assoc past.taken (option_to_list r) new.ready.items) in
-    let C : List BlockData → Type 0 = λ bs. Cuts past.end past.size past.bytes bs (held old) in
-    let D : List ℕ → Type 0 =
-    λ xs. Cuts past.end past.size past.bytes ((past.taken ++ option_to_list r) ++ new.ready.items) xs in
+    let C : List BlockData → Type 0 = λ bs. CutsFed past bs (held old) in
+    let D : List ℕ → Type 0 = λ xs. CutsFed past ((past.taken ++ option_to_list r) ++ new.ready.items) xs in
     record {
       terminator = s.terminator ∙ sym end;
       file = s.file ∙ sym file;
@@ -199,3 +205,137 @@ handed_stands old new past r s file size longest end number total line same read
       short = s.short;
       line = line ∙ s.line;
     }
+
+-- An open block, behind which nothing is ready.
+module _ {A : Type 0} (old : Cutter A) (past : Fed) (s : Stands old past) (d : IsDrained old) where
+  abbrev drained_cut : CutsFed past past.taken (held old)
+  drained_cut = (drained old past s d).0
+
+  held_whole : past.bytes ≡ joined past.taken ++ held old
+  held_whole = fed_whole past past.taken (held old) drained_cut
+
+  taken_end : AllEnd past.end past.taken
+  taken_end = fed_end past past.taken (held old) drained_cut
+
+  -- its open line is that of the file
+  held_open : old.line ≡ open_from old.end 0 (held old)
+  held_open =
+      s.line ∙ (ap (open_from past.end 0) held_whole
+      ∙ (open_append past.end 0 (joined past.taken) (held old)
+      ∙ (ap (λ n. open_from past.end n (held old)) (blocks_open past.end past.taken taken_end)
+      ∙ ap (λ e. open_from e 0 (held old)) s.terminator)))
+
+  held_length : length (held old) ≡ old.filled
+  held_length = length-take-le old.filled old.rest.items old.within
+
+  -- where that is all, no line ends in it
+  pub no_lines : old.filled ≤ old.line → HasNoLineLeft past
+  no_lines most =
+      let P : ℕ → Type 0 = λ e. IsLine e (held old) in
+      let all : length (held old) ≤ old.line = omega (arith, held_length, most) in
+      (held old, held_whole, subst P (sym s.terminator) (open_none old.end (held old) old.line held_open all))
+
+  pub are_no_lines : HasNoLineLeft past → old.filled ≤ old.line
+  are_no_lines h =
+      let same : held old ≡ h.0 = same_behind (joined past.taken) (held old) h.0 (sym held_whole ∙ h.1) in
+      let P : ℕ → Type 0 = λ e. IsLine e (held old) in
+      let Q : List ℕ → Type 0 = λ xs. IsLine past.end xs in
+      let line = subst P s.terminator (subst Q (sym same) h.2) in
+      omega (arith, held_open, open_all old.end (held old) line, held_length)
+
+  -- Else its whole lines are handed out.
+  module _ (less : old.line < old.filled) (bytes : List ℕ)
+      (front : bytes ≡ take (old.filled - old.line) old.rest.items) where
+    abbrev count : ℕ
+    count = old.filled - old.line
+
+    abbrev early_block : BlockData
+    early_block = record { file = old.file; number = old.number; bytes = bytes }
+
+    abbrev left : List ℕ
+    left = drop count (held old)
+
+    abbrev now : List BlockData
+    now = past.taken ++ early_block ∷ []
+
+    bytes_are : bytes ≡ take count (held old)
+    bytes_are = front ∙ sym (take-take count old.filled old.rest.items (omega arith))
+
+    early_numbered : AreNumbered past.file 0 now
+    early_numbered =
+        let n : old.number ≡ 0 + length past.taken =
+        omega (arith, s.next, ap length d, length-append past.taken old.ready.items) in
+        numbered_more past.file 0 past.taken early_block (drained old past s d).1 (sym s.file) n
+
+    early_whole : past.bytes ≡ joined now ++ left
+    early_whole =
+        held_whole ∙ (ap (λ xs. joined past.taken ++ xs)
+        (sym (ap (λ xs. xs ++ left) bytes_are ∙ take-append-drop count (held old)))
+        ∙ (sym (append_assoc (joined past.taken) bytes left)
+        ∙ ap (λ xs. xs ++ left) (ap (λ xs. joined past.taken ++ xs) (sym (append-nil bytes))
+        ∙ sym (flat_map-append (λ (b : BlockData). b.bytes) past.taken (early_block ∷ [])))))
+
+    abbrev Parts : ℕ → Type 0
+    Parts n = EndsWith old.end (take n (held old)) × IsLine old.end (drop n (held old))
+
+    parts : Parts count
+    parts =
+        let n : length (held old) - old.line ≡ count = ap (λ n. n - old.line) held_length in
+        subst Parts n (open_cut old.end (held old) old.line held_open (omega (arith, held_length, less)))
+
+    left_line : IsLine past.end left
+    left_line = let P : ℕ → Type 0 = λ e. IsLine e left in subst P (sym s.terminator) parts.1
+
+    block_ends : EndsWith past.end bytes
+    block_ends =
+        let P : ℕ → List ℕ → Type 0 = λ e xs. EndsWith e xs in
+        subst (λ e. P e bytes) (sym s.terminator) (subst (P old.end) (sym bytes_are) parts.0)
+
+    -- they are all
+    pub early_lines : HasLinesLeft past early_block
+    early_lines = record { numbered = early_numbered; ends = block_ends; none = (left, early_whole, left_line) }
+
+    early_cut : CutsFed (handed_early past (Some early_block)) now left
+    early_cut = record {
+      later = [];
+      rest = left;
+      blocks_are = sym (append-nil now);
+      bytes_are = early_whole;
+      lines = all_end past.end past.taken (early_block ∷ []) taken_end (block_ends, tt);
+      cut = record {
+        whole = refl;
+        finished = tt;
+        unfinished = line_unfinished past.end past.size left left_line;
+      };
+    }
+
+    -- the cutter goes on behind them
+    pub early_stands : (new : Cutter A) → new.file ≡ old.file → new.size ≡ old.size → new.longest ≡ old.longest
+        → new.end ≡ old.end → new.number ≡ old.number + 1 → new.total ≡ old.total → new.line ≡ old.line
+        → new.ready.items ≡ [] → held new ≡ left → Stands new (handed_early past (Some early_block))
+    early_stands new file size longest end number total line ready same =
+        let all : now ≡ now ++ new.ready.items = sym (ap (λ bs. now ++ bs) ready ∙ append-nil now) in
+        let C : List BlockData → Type 0 = λ bs. CutsFed (handed_early past (Some early_block)) bs (held new) in
+        let D : List ℕ → Type 0 = λ xs. CutsFed (handed_early past (Some early_block)) now xs in
+        let N : List BlockData → Type 0 = λ bs. AreNumbered past.file 0 bs in
+        record {
+          terminator = s.terminator ∙ sym end;
+          file = s.file ∙ sym file;
+          size = s.size ∙ sym size;
+          longest = s.longest ∙ sym longest;
+          cut = subst C all (subst D (sym same) early_cut);
+          numbered = subst N all early_numbered;
+          next =
+              omega (
+                arith,
+                number,
+                s.next,
+                ap length all,
+                ap length d,
+                length-append past.taken old.ready.items,
+                length-append past.taken (early_block ∷ []),
+              );
+          total = total ∙ s.total;
+          short = s.short;
+          line = line ∙ s.line;
+        }

@@ -3,6 +3,7 @@ pub mod CutExists
 pub mod CutLaws
 pub mod CutLemmas
 pub mod CutterLemmas
+pub mod EarlyLemmas
 pub mod BufferLemmas
 pub mod RoomLemmas
 pub mod BetweenLemmas

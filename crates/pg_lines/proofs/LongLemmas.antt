@@ -2,12 +2,14 @@
 use Rattle.std.proofs.Common.{◌≡◌, ℕ, zero, suc, ◌+◌, ◌<◌, ◌≤◌, ◌⊎◌, inl, inr, Bool, true, false, ◌||◌, cond, eqb}
 use Rattle.std.proofs.Common.{nat_lt, Some, None, List, [], ◌∷◌, ◌++◌, length, get_or, refl, sym, ap, ◌∙◌, arith}
 use Rattle.std.proofs.Common.{Decides}
-use Rattle.std.proofs.Common.{◌-◌, take, drop, length-drop}
+use Rattle.std.proofs.Common.{◌-◌, take, drop, length-drop, length-append, append_assoc, subst}
 use Rattle.std.proofs.lemmas.Bool.Decides.{nat_tests}
-use Rattle.std.proofs.lemmas.List.{take-append-drop, drop_more, get_or-drop}
+use Rattle.std.proofs.lemmas.List.{take-append-drop, drop_more, get_or-drop, get_or_at, take_at, drop_at}
 use Rattle.std.specs.List.{Any}
 use Rattle.std.proofs.lemmas.Bool.{false≢true, eq-eqb, eqb-true, ne_eqb, ltb-true, lt-ltb, or_cases, cases_lt}
-use Rattle.pg_lines.specs.Lines.{lines}
+use Rattle.std.proofs.lemmas.Bool.{cases_Bool}
+use Rattle.pg_lines.specs.Blocks.{EndsWith}
+use Rattle.pg_lines.specs.Lines.{lines, IsLine}
 use Rattle.pg_lines.specs.Long.{has_long, open_from}
 use Rattle.memchr.specs.Find.{IsLastByte, is_byte}
 use Rattle.pg_lines.proofs.LineLemmas.{Made, none, ended, alone, onto, made}
@@ -176,3 +178,68 @@ open_behind end n xs k h =
 
 pub open_alone : (end n : ℕ) (xs : List ℕ) → IsLastByte (is_byte end) xs None → open_from end n xs ≡ n + length xs
 open_alone end n xs h = open_nowhere end n xs (λ i below e. h i (omega arith) below (eq-eqb _ end e))
+
+-- The open line, and the whole lines before it.
+
+no_end : (end b : ℕ) (xs : List ℕ) → eqb b end ≡ false → IsLine end xs → (k : ℕ) → k < length (b ∷ xs)
+    → get_or (b ∷ xs) k end ≡ end → ⊥
+no_end end b xs e h zero less at = false≢true (sym e ∙ eq-eqb b end at)
+no_end end b xs e h (suc k) less at = h (k, omega (arith, less), at)
+
+abbrev IsAlone : ℕ → ℕ → List ℕ → Type 0
+IsAlone end n xs = IsLine end xs × (open_from end n xs ≡ n + length xs)
+
+abbrev IsBehind : ℕ → ℕ → List ℕ → Type 0
+IsBehind end n xs =
+    (front : List ℕ) × (tail : List ℕ) × (xs ≡ front ++ end ∷ tail) × IsLine end tail
+    × (open_from end n xs ≡ length tail)
+
+open_parts : (end n : ℕ) (xs : List ℕ) → IsAlone end n xs ⊎ IsBehind end n xs
+open_parts end n [] = inl (λ c. absurd (omega (arith, c.1)), omega arith)
+open_parts end n (b ∷ xs) =
+    let by : Bool → ℕ = λ t. cond t (open_from end 0 xs) (open_from end (n + 1) xs) in
+    elim (cases_Bool (eqb b end)) [
+      | inl e ↦ elim (open_parts end 0 xs) [
+        | inl a ↦ inr ([], xs, ap (λ x. x ∷ xs) (eqb-true b end e), a.0, ap by e ∙ (a.1 ∙ omega arith))
+        | inr h ↦ inr (b ∷ h.0, h.1, ap (λ ys. b ∷ ys) h.2, h.3, ap by e ∙ h.4)
+      ]
+      | inr e ↦ elim (open_parts end (n + 1) xs) [
+        | inl a ↦ inl (λ c. no_end end b xs e a.0 c.0 c.1 c.2, ap by e ∙ (a.1 ∙ omega arith))
+        | inr h ↦ inr (b ∷ h.0, h.1, ap (λ ys. b ∷ ys) h.2, h.3, ap by e ∙ h.4)
+      ]
+    ]
+
+-- where it is shorter than the bytes, whole lines stand before it
+pub open_cut : (end : ℕ) (xs : List ℕ) (k : ℕ) → k ≡ open_from end 0 xs → k < length xs
+    → EndsWith end (take (length xs - k) xs) × IsLine end (drop (length xs - k) xs)
+open_cut end xs k is less = elim (open_parts end 0 xs) [
+  | inl a ↦ absurd (omega (arith, is, a.1, less))
+  | inr h ↦
+      let front = h.0 ++ end ∷ [] in
+      let same : xs ≡ front ++ h.1 = h.2 ∙ sym (append_assoc h.0 (end ∷ []) h.1) in
+      let n : length xs - k ≡ length front = omega (arith, ap length same, length-append front h.1, is, h.4) in
+      let P : List ℕ → Type 0 = λ ys. EndsWith end ys in
+      let Q : List ℕ → Type 0 = λ ys. IsLine end ys in (
+        subst P (sym (ap (λ m. take m xs) n
+            ∙ (ap (take (length front)) same ∙ take_at front h.1 (length front) refl))) (h.0, refl),
+        subst Q (sym (ap (λ m. drop m xs) n
+            ∙ (ap (drop (length front)) same ∙ drop_at front h.1 (length front) refl))) h.3,
+      )
+]
+
+-- else none does
+pub open_none : (end : ℕ) (xs : List ℕ) (k : ℕ) → k ≡ open_from end 0 xs → length xs ≤ k → IsLine end xs
+open_none end xs k is most = elim (open_parts end 0 xs) [
+  | inl a ↦ a.0
+  | inr h ↦ absurd (omega (arith, is, h.4, most, ap length h.2, length-append h.0 (end ∷ h.1)))
+]
+
+pub open_all : (end : ℕ) (xs : List ℕ) → IsLine end xs → open_from end 0 xs ≡ length xs
+open_all end xs line = elim (open_parts end 0 xs) [
+  | inl a ↦ a.1 ∙ omega arith
+  | inr h ↦ absurd (line (
+    length h.0,
+    omega (arith, ap length h.2, length-append h.0 (end ∷ h.1)),
+    ap (λ ys. get_or ys (length h.0) end) h.2 ∙ get_or_at h.0 end h.1 end (length h.0) refl,
+  ))
+]

@@ -3,8 +3,8 @@ use Rattle.std.proofs.Common.{◌≡◌, ℕ, ◌+◌, ◌<◌, ◌≤◌, ◌^�
 use Rattle.std.proofs.Common.{Result, Ok, Err}
 use Rattle.std.specs.Prelude.{OnErr}
 use Rattle.std.proofs.Props.{props}
-use Rattle.pg_lines.specs.Blocks.{BlockData, Cuts, AreNumbered, IsUnfinished}
-use Rattle.pg_lines.specs.Cutter.{Fed, Stands, Keeps, held, room_of}
+use Rattle.pg_lines.specs.Blocks.{BlockData, AreNumbered, IsUnfinished}
+use Rattle.pg_lines.specs.Cutter.{Fed, CutsFed, Stands, Keeps, held, room_of}
 use Rattle.pg_lines.specs.Lending.{front_stays, with_room}
 use Rattle.pg_lines.specs.declared.cutter.Cutter.{Cutter}
 use Rattle.pg_lines.proofs.BufferLemmas.{back_is}
@@ -15,8 +15,8 @@ pub held_stays : {A : Type 0} (old new : Cutter A) (past : Fed) → Stands old p
     → new.number ≡ old.number → new.total ≡ old.total → new.line ≡ old.line
     → new.ready.items ≡ old.ready.items → held new ≡ held old → Stands new past
 held_stays old new past s file size longest end number total line ready same =
-    let C : List BlockData → Type 0 = λ bs. Cuts past.end past.size past.bytes (past.taken ++ bs) (held old) in
-    let D : List ℕ → Type 0 = λ xs. Cuts past.end past.size past.bytes (past.taken ++ new.ready.items) xs in
+    let C : List BlockData → Type 0 = λ bs. CutsFed past (past.taken ++ bs) (held old) in
+    let D : List ℕ → Type 0 = λ xs. CutsFed past (past.taken ++ new.ready.items) xs in
     let N : List BlockData → Type 0 = λ bs. AreNumbered past.file 0 (past.taken ++ bs) in
     record {
       terminator = s.terminator ∙ sym end;

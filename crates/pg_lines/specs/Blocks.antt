@@ -60,3 +60,14 @@ pub record EndsUnfinished (end size : ℕ) (bytes : List ℕ) (blocks : List Blo
 -- the cut of a whole file by a size
 abbrev pub IsCut : ℕ → ℕ → List ℕ → List BlockData → Type 0
 IsCut end size bytes blocks = Cuts end size bytes blocks [] ⊎ EndsUnfinished end size bytes blocks
+
+-- The early blocks come first, whole lines each, and the others are cut in this way from the bytes behind them. Where
+-- none is early, all are.
+pub record CutsBehind (early : List BlockData) (end : ℕ) (bytes : List ℕ) (blocks : List BlockData)
+    (IsCutSo : List ℕ → List BlockData → Type 0) : Type 0 where
+  pub later : List BlockData
+  pub rest : List ℕ
+  pub blocks_are : blocks ≡ early ++ later
+  pub bytes_are : bytes ≡ joined early ++ rest
+  pub lines : AllByRecursion (λ b. EndsWith end b.bytes) early
+  pub cut : IsCutSo rest later

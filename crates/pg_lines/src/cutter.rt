@@ -1,6 +1,6 @@
 //! Cuts a file that comes in pieces into blocks of whole lines.
-ghost use Rattle.std.specs.Prelude.{◌≡◌, ℕ, ◌+◌, ◌<◌, ◌≤◌, ◌^◌, ◌↔◌, ◌∷◌, ◌++◌, [], IfSome, IfNone, IfOk, OnOk, OnErr};
-ghost use Rattle.std.specs.Prelude.{IsErrOf, Some, None, Option, length, take, drop, if◌then◌else◌};
+ghost use Rattle.std.specs.Prelude.{◌≡◌, ℕ, ◌+◌, ◌-◌, ◌<◌, ◌≤◌, ◌^◌, ◌↔◌, ◌∷◌, ◌++◌, [], IfSome, IfNone, IfOk, OnOk, OnErr};
+ghost use Rattle.std.specs.Prelude.{IsErrOf, Some, None, Option, length, take, drop, false, if◌then◌else◌};
 ghost use Rattle.pg_lines.specs.Blocks.{IsFinished, IsUnfinished, Cuts, AreNumbered};
 ghost use Rattle.pg_lines.specs.Long.{has_long, open_from, CutsOff};
 ghost use Rattle.pg_lines.specs.declared.cutter.CutFault.TheVariants.{OutOfMemory};
@@ -270,6 +270,27 @@ fn buffer_behind<A: Allocator + Copy>(
     Ok(buffer)
 }
 
+/// Takes the first `len` bytes off, of the `filled` ones with which a buffer begins. The buffer begins with the others
+/// then. An `Err` leaves it as it was.
+fn take_front<A: Allocator + Copy>(
+    alloc: A,
+    rest: &mut Vec<u8, A>,
+    spare: &mut Vec<u8, A>,
+    filled: usize,
+    len: usize,
+) -> Result<Vec<u8, A>, AllocError>
+    requires { (len ≤ filled) × (filled ≤ length rest.old.items) }
+    ensures front { IfOk result (λ front. front.items ≡ take len rest.old.items) }
+    ensures left { OnOk result (take (filled - len) rest.new.items ≡ drop len (take filled rest.old.items)) }
+    ensures within { OnOk result (filled - len ≤ length rest.new.items) }
+    ensures err { OnErr result (rest.new.items ≡ rest.old.items) }
+{
+    let mut front = buffer_behind(alloc, spare, &rest[..len])?;
+    front.truncate(len);
+    rest.copy_within(len..filled, 0);
+    Ok(front)
+}
+
 /// Cuts the blocks off that `count` bytes behind the first `filled` ones of `rest` finish, and leaves there what is
 /// behind them. The first `len` of these bytes finish the first of them, whose size is as `Cutter::new` has it. The
 /// answer is their count, and how many bytes of `rest` are the open block's then. An `Err` leaves both lists as they
@@ -348,7 +369,9 @@ fn cut_filled<A: Allocator + Copy>(
 ///
 /// A block is the shortest beginning of what follows that has at least `size` bytes and ends with the
 /// terminator of lines. What is left at the end of the file is its last block, unless it is empty. So
-/// the blocks depend on the bytes, the size and the terminator, and not on the pieces that were fed.
+/// the blocks depend on the bytes, the size and the terminator, and not on the pieces that were fed. Only where whole
+/// lines are asked for before their block is finished do they come as a block of their own, and the next one begins
+/// behind them.
 pub struct Cutter<A: Allocator + Copy = Global> {
     alloc: A,
     file: u32,
@@ -396,6 +419,7 @@ impl<A: Allocator + Copy> Cutter<A> {
     ghost use Rattle.std.specs.Borrow.{sem};
     ghost use Rattle.pg_lines.specs.Cutter.{Fed, Stands, IsDrained, unfed, fed, handed, HasNoneLeft, IsNextBlock};
     ghost use Rattle.pg_lines.specs.Cutter.{AreAllBlocks, HasLongLine, waiting, room_of, Keeps};
+    ghost use Rattle.pg_lines.specs.Cutter.{handed_early, HasLinesLeft, HasNoLineLeft};
     ghost use Rattle.pg_lines.specs.Lending.{LendsRoom};
     ghost use Rattle.pg_lines.specs.declared.cutter.CutFault.TheVariants.{LineTooLong, FileTooLong};
 
@@ -577,6 +601,54 @@ impl<A: Allocator + Copy> Cutter<A> {
         ensures fewer { IfSome result (λ _. waiting self.new < waiting self.old) }
     {
         self.ready.pop_front()
+    }
+
+    /// Whether a line ends in the open block. `take` has answered `None` since the last `feed` or `fill`.
+    pub fn has_lines(&self) -> bool
+        requires { IsDrained self.now }
+        ensures { (past : Fed) → Stands self.now past → (result ≡ false ↔ HasNoLineLeft past) }
+    {
+        (self.line as usize) < self.filled
+    }
+
+    /// Hands the whole lines of the open block out, as a block, before it is finished. `None` comes where no line ends
+    /// in it. What stands behind them is cut by the size as a file is from its first byte on. `take` has answered
+    /// `None` since the last `feed` or `fill`. An `Err` changes nothing.
+    ///
+    /// # Errors
+    ///
+    /// `AllocError` where a request for memory was refused.
+    pub fn take_lines(&mut self) -> Result<Option<Block<A>>, AllocError>
+        requires { IsDrained self.old }
+        ensures stands { (past : Fed) → Stands self.old past →
+            IfOk result (λ block. Stands self.new (handed_early past block)) }
+        ensures some { (past : Fed) → Stands self.old past →
+            IfOk result (λ block. IfSome block (λ block. HasLinesLeft past block)) }
+        ensures none { (past : Fed) → Stands self.old past →
+            IfOk result (λ block. IfNone block (HasNoLineLeft past)) }
+        ensures drained { IsDrained self.new }
+        ensures err { OnErr result (Keeps self.old self.new) }
+        ensures same { OnErr result (room_of self.new ≡ room_of self.old) }
+    {
+        let open = self.line as usize;
+        if self.filled <= open {
+            return Ok(None);
+        }
+        let bytes = take_front(
+            self.alloc,
+            &mut self.rest,
+            &mut self.spare,
+            self.filled,
+            self.filled - open,
+        )?;
+        let number = self.number;
+        self.filled = open;
+        self.number += 1;
+        Ok(Some(Block {
+            file: self.file,
+            number,
+            bytes,
+        }))
     }
 
     /// The file's last block, where something is left. `take` has answered `None` since the last

@@ -1,9 +1,11 @@
 //! Laws of the definitions that contracts cite. They speak of all values, and a call does nothing.
-ghost use Rattle.std.specs.Prelude.{◌≡◌, ◌<◌, ℕ, List};
+ghost use Rattle.std.specs.Prelude.{◌≡◌, ◌<◌, ℕ, List, []};
+ghost use Rattle.std.specs.List.{flat_map};
 ghost use Rattle.pg_lines.specs.Lines.{lines, AreLines};
 ghost use Rattle.pg_lines.specs.Search.{Search, HasItsTrees};
 ghost use Rattle.pg_lines.specs.Selection.{SelectsIsSelected};
 ghost use Rattle.pg_lines.specs.Blocks.{BlockData, IsCut, IsCutting, AreNumbered};
+ghost use Rattle.pg_lines.specs.Cutter.{Fed, AreAllBlocks};
 
 /// Some bytes have lines, and no others than these.
 pub fn lines_are_one()
@@ -31,4 +33,14 @@ pub fn cuts_are_one()
     ensures one { (end size file : ℕ) (bytes : List ℕ) (blocks others : List BlockData)
         → IsCut end size bytes blocks → AreNumbered file 0 blocks
         → IsCut end size bytes others → AreNumbered file 0 others → others ≡ blocks }
+{}
+
+/// The blocks that a cutter hands out of a file are a cutting of it and have its lines, also where some were handed out
+/// early. Where none was, they are the cut by the size.
+pub fn blocks_keep_lines()
+    ensures cutting { (past : Fed) → AreAllBlocks past → IsCutting past.end past.bytes past.taken }
+    ensures same { (past : Fed) → AreAllBlocks past →
+        flat_map (λ block. lines past.end block.bytes) past.taken ≡ lines past.end past.bytes }
+    ensures by_size { (past : Fed) → past.early ≡ [] → AreAllBlocks past →
+        IsCut past.end past.size past.bytes past.taken }
 {}

@@ -22,7 +22,9 @@ mod strings;
 
 pub use block::Block;
 pub use cutter::{CutFault, Cutter};
-pub use laws::{cuts_are_one, lines_are_one, selection_is_decided, trees_are_one};
+pub use laws::{
+    blocks_keep_lines, cuts_are_one, lines_are_one, selection_is_decided, trees_are_one,
+};
 pub use pg_literal::Literal;
 pub use pg_match::{Bounds, Machine, Scratch};
 pub use pg_syntax::{Kind, ListFault, PatternList};
