@@ -9,6 +9,7 @@ pub mod StandsLemmas
 pub mod StartLemmas
 pub mod MemoryLemmas
 pub mod SkimLemmas
+pub mod CursorLemmas
 pub mod BuildLemmas
 pub mod HitLaws
 pub mod TestLemmas

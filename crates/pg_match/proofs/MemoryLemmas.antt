@@ -462,7 +462,7 @@ pub record Walking (m : Nfa) (mem : Remembered) (l : List ℕ) (from state p v :
   pub within : p < length l
   pub onward : from ≤ p
   pub row : IsAtRow mem v
-  pub stands : (start : ℕ) → start ≤ from → StandsAt m mem l start from state → StandsAt m mem l start p v
+  pub stands : (start : ℕ) → start ≤ from + 1 → StandsAt m mem l start from state → StandsAt m mem l start p v
 
 pub walking_next : (m : Nfa) (mem : Remembered) (l : List ℕ) (from state p u at v b : ℕ) → u ≡ p + 1 → IsRunnable m
     → IsMemoryOf m mem → b < 256

@@ -1,10 +1,13 @@
 -- Sets of states that are remembered, and where each byte leads from them.
-use Rattle.std.specs.Prelude.{◌≡◌, ◌≢◌, ℕ, ◌+◌, ◌*◌, ◌/◌, ◌<◌, ◌≤◌, ◌⊎◌, ◌↔◌, Bool, IsTrue, List, length, Option, Some, None}
-use Rattle.std.specs.Prelude.{slice_get, slice_index, slice_index_or, slice_set, true, false}
+use Rattle.std.specs.Prelude.{◌≡◌, ◌≢◌, ℕ, ◌+◌, ◌*◌, ◌/◌, ◌<◌, ◌≤◌, ◌⊎◌, ◌↔◌, Bool, IsTrue, List, length, Option, Some}
+use Rattle.std.specs.Prelude.{None, slice_get, slice_index, slice_index_or, slice_set, true, false}
 use Rattle.pg_match.specs.Automata.{Nfa}
 use Rattle.pg_match.specs.StateSets.{Members}
 use Rattle.pg_match.specs.Steps.{Has, Starts, Goes, HitBefore, AnswersEnd, ReadsNone}
 use Rattle.pg_match.specs.Stands.{Stands, HasRun, NoneBefore}
+use Rattle.pg_match.specs.declared.cursor.Crossed.{Crossed}
+use Rattle.pg_match.specs.declared.cursor.Crossed.TheVariants.{Found, At}
+use Rattle.pg_match.specs.declared.cursor.Cursor.{Cursor}
 use Rattle.pg_match.specs.declared.recall.Next.{Next}
 use Rattle.pg_match.specs.declared.recall.Next.TheVariants.{Hit, Row, Lost, Dead}
 use Rattle.pg_match.specs.declared.skim.Skim.{Skim}
@@ -162,3 +165,22 @@ abbrev pub Skimmed : Nfa → List ℕ → ℕ → Skim → Type 0
 Skimmed m l from NoHit = HasRun m l from → ⊥
 Skimmed m l from (Known start) = (from ≤ start) × (start ≤ length l) × NoneBefore m l from start
 Skimmed m l from (Unknown start) = (from ≤ start) × (start ≤ length l) × NoneBefore m l from start
+
+-- the cursor's row is the set of its place, for the runs that began at `from` or behind it
+pub record IsCursor (m : Nfa) (t : Remembered) (l : List ℕ) (c : Cursor) : Type 0 where
+  pub within : c.place < length l
+  pub near : c.from ≤ c.place + 1
+  pub row : IsAtRow t c.state
+  pub stands : StandsAt m t l c.from c.place c.state
+
+-- What is found at a step that stopped a walk: whether there is a hit from the cursor's `from` on, or a cursor further
+-- on, where there is one if and only if there is one from its own `from` on.
+abbrev pub Crosses : Nfa → Remembered → List ℕ → Cursor → Crossed → Type 0
+Crosses m t l c (Found answer) = IsTrue answer ↔ HasRun m l c.from
+Crosses m t l c (At next) =
+    (c.place < next.place) × IsCursor m t l next × (HasRun m l c.from ↔ HasRun m l next.from)
+
+-- the place that was come to, in a line of n bytes
+abbrev pub reached : ℕ → Crossed → ℕ
+reached n (Found answer) = n
+reached n (At next) = next.place

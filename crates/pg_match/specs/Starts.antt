@@ -1,9 +1,11 @@
 -- Where a byte leads to from the states that a run may be in before it.
 use Rattle.std.specs.Prelude.{◌≡◌, ℕ, ◌+◌, ◌<◌, ◌≤◌, ◌⊎◌, ◌↔◌, Bool, false, IsTrue, List, length, slice_get}
-use Rattle.std.specs.Prelude.{slice_index}
-use Rattle.pg_match.specs.Automata.{Edge}
+use Rattle.std.specs.Prelude.{slice_index, Option, Some, None}
+use Rattle.pg_match.specs.Automata.{Nfa, Edge}
+use Rattle.pg_match.specs.Bounds.{MayBegin}
 use Rattle.pg_match.specs.Closures.{Leads, IsClosed, IsOrdered}
 use Rattle.pg_match.specs.StateSets.{Members, mark, IsGood, Counted}
+use Rattle.pg_match.specs.Stands.{Stands, HasRun}
 use Rattle.pg_match.specs.Steps.{Reads, LeadsStill, Has, IsStill}
 use Rattle.pg_match.specs.declared.state.State.{State}
 
@@ -70,3 +72,13 @@ pub record GoesOn (t : List State) (seeds : List ℕ) (b : ℕ) (B : Type 0) (S 
       → (q : ℕ) × (y : ℕ) × WithSeeds seeds B S q × Reads (slice_get t q) b y × LeadsStill t false false y r
   pub goes : (q r : ℕ) → WithSeeds seeds B S q → Reads (slice_get t q) b r → U r
   pub still : IsStill t false false U
+
+-- S, and the seeds where a match may begin, holds the states at p of the runs that began at a place from `from` to p
+abbrev pub StandsUnseeded : Nfa → List ℕ → List ℕ → ℕ → ℕ → (ℕ → Type 0) → Type 0
+StandsUnseeded m seeds l from p S = Stands m l from p (WithSeeds seeds (MayBegin m.bounds l p) S)
+
+-- What a search without the table finds: whether there is a hit from a place on, or the set of the place p that it came
+-- to.
+abbrev pub Searched : Nfa → List ℕ → List ℕ → ℕ → ℕ → (ℕ → Type 0) → Option Bool → Type 0
+Searched m seeds l from p S (Some answer) = IsTrue answer ↔ HasRun m l from
+Searched m seeds l from p S None = StandsUnseeded m seeds l from p S

@@ -11,6 +11,7 @@
 mod automaton;
 mod bounds;
 mod build;
+mod cursor;
 mod history;
 pub mod laws;
 mod machine;

@@ -18,9 +18,9 @@ const ROWS: usize = SETS + 1;
 /// The most state numbers of all sets together.
 const POOL: usize = 1_048_576;
 
-/// How many bytes are searched without the table before the sets are forgotten. That takes thirty times as long as to
-/// find out so many sets.
-const PATIENCE: usize = 262_144;
+/// How many bytes are searched without the table before the sets are forgotten. That takes several times as long as to
+/// find out so many sets, also where these are large.
+const PATIENCE: usize = 2_097_152;
 
 /// A match ends before the byte. Greater steps are 256 times the next row.
 pub(crate) const HIT: u32 = 1;
@@ -34,7 +34,8 @@ pub(crate) const LOST: u32 = 3;
 /// Sets of states, and where each byte leads from them. A text may lead to more sets than there is room for. Then the
 /// table is begun anew, so that it has those that are met now.
 pub struct Memory<A: Allocator = Global> {
-    /// For 256 times a row, plus a byte: 0 where nothing is known yet, `HIT`, `DEAD`, `LOST`, or 256 times the next row.
+    /// For 256 times a row, plus a byte: 0 where nothing is known yet, `HIT`, `DEAD`, `LOST`, or 256 times the next
+    /// row.
     pub steps: Vec<u32, A>,
     /// For each row whether a match ends where a line ends that isn't empty.
     pub ends: Vec<Option<bool>, A>,
@@ -46,7 +47,7 @@ pub struct Memory<A: Allocator = Global> {
     pub cuts: Vec<u32, A>,
     /// How many sets there are.
     pub count: usize,
-    /// How many bytes stood behind the sets for which there was no room, since the table was begun.
+    /// How many bytes were searched without the table, since it was begun.
     lost: usize,
 }
 
@@ -97,14 +98,14 @@ impl<A: Allocator> Memory<A> {
         self.lost = 0;
     }
 
-    /// Counts the bytes behind a set for which there is no room.
+    /// Counts bytes that were searched without the table.
     pub fn lose(&mut self, bytes: usize)
         ensures { remembered self.new ≡ remembered self.old }
     {
         self.lost = self.lost.saturating_add(bytes);
     }
 
-    /// Takes all sets out if too many bytes stood behind sets for which there was no room.
+    /// Takes all sets out if too many bytes were searched without the table.
     pub fn refresh(&mut self)
         ensures { (m : Nfa) → IsMemoryOf m (remembered self.old) → IsMemoryOf m (remembered self.new) }
     {

@@ -1,12 +1,11 @@
 //! The search for any match at all, which needs no marks.
-ghost use Rattle.std.specs.Prelude.{◌≡◌, ◌+◌, ◌*◌, ◌<◌, ◌≤◌, ◌^◌, ◌↔◌, length, IsTrue, false};
+ghost use Rattle.std.specs.Prelude.{◌≡◌, ℕ, ◌+◌, ◌*◌, ◌<◌, ◌≤◌, ◌^◌, ◌↔◌, length, IsTrue, IsNone, false};
 ghost use Rattle.pg_match.specs.Automata.{IsTidy, IsRunnable};
-ghost use Rattle.pg_match.specs.Bounds.{MayBegin};
 ghost use Rattle.pg_match.specs.StateSets.{IsGood, HaveRoom, CountedAnew};
 ghost use Rattle.pg_match.specs.Steps.{Spread, Closed, Aimed, Has, Goes, Starts, HitBefore, AnswersEnd, ReadsNone};
 ghost use Rattle.pg_match.specs.Steps.{begins_after, ends_before};
-ghost use Rattle.pg_match.specs.Stands.{Stands, HasRun};
-ghost use Rattle.pg_match.specs.Starts.{WithSeeds, Planted, GoesOn};
+ghost use Rattle.pg_match.specs.Stands.{HasRun};
+ghost use Rattle.pg_match.specs.Starts.{WithSeeds, Planted, GoesOn, StandsUnseeded, Searched};
 ghost use Rattle.pg_match.specs.Views.{nfa, members, buffers, HasSeeds, HasStarts, Tells};
 
 use crate::automaton::Automaton;
@@ -249,8 +248,16 @@ impl<A: Allocator> Automaton<A> {
         self.hits_at_end(sets, false)
     }
 
-    /// Goes on from the set of a place behind the first byte, but for starts there, without what is remembered.
-    pub(crate) fn search_on(&self, sets: &mut StateSets<A>, line: &[u8], from: usize) -> bool
+    /// Goes on from the set of a place behind the first byte, but for starts there, without what is remembered. Answers
+    /// whether a match ends, or nothing where no run is left, and the place that it came to. It looks whether a run is
+    /// left only behind the byte at `lost`.
+    pub(crate) fn search_on(
+        &self,
+        sets: &mut StateSets<A>,
+        line: &[u8],
+        from: usize,
+        lost: usize,
+    ) -> (Option<bool>, usize)
         requires runs { IsRunnable (nfa self.now) }
         requires seeds { HasSeeds self.now }
         requires starts { HasStarts self.now }
@@ -258,24 +265,31 @@ impl<A: Allocator> Automaton<A> {
         requires short { length line.now ≤ 2 ^ 30 }
         requires later { 1 ≤ from }
         requires from_in { from ≤ length line.now }
-        requires stands { Stands (nfa self.now) line.now 0 from
-            (WithSeeds self.now.seeds.items (MayBegin self.now.bounds line.now from) (Has (members sets.old.current))) }
         requires visits { sets.old.visits ≤ from * length self.now.states.items + sets.old.current.len }
         ensures room { HaveRoom (buffers sets.new) (length self.now.states.items) }
-        ensures exact { IsTrue result ↔ HasRun (nfa self.now) line.now 0 }
-        ensures visits { sets.new.visits ≤ (length line.now + 1) * length self.now.states.items }
+        ensures within { result.1 ≤ length line.now }
+        ensures onward { from ≤ result.1 }
+        ensures left { IsNone result.0 → (lost + 1 < result.1) × (sets.new.current.len ≡ 0) }
+        ensures searched { (start : ℕ) → start ≤ from
+            → StandsUnseeded (nfa self.now) self.now.seeds.items line.now start from (Has (members sets.old.current))
+            → Searched (nfa self.now) self.now.seeds.items line.now start result.1 (Has (members sets.new.current))
+            result.0 }
+        ensures visits { sets.new.visits ≤ result.1 * length self.now.states.items + sets.new.current.len }
         ensures told { Tells sets.old sets.new }
     {
         for place in from..line.len() {
             let byte = line[place];
             let begins = self.bounds.may_begin(line, place);
             if self.hits_here(&sets.current, byte, begins) {
-                return true;
+                return (Some(true), place);
             }
             self.go_on(sets, byte, begins);
+            if place > lost && sets.current.len == 0 {
+                return (None, place + 1);
+            }
         }
         let begins = self.bounds.may_begin(line, line.len());
-        self.hits_behind(sets, begins)
+        (Some(self.hits_behind(sets, begins)), line.len())
     }
 
     /// Goes on from the set of a line's first place without what is remembered. The line isn't empty.
@@ -298,7 +312,7 @@ impl<A: Allocator> Automaton<A> {
             return true;
         }
         self.go(sets, byte);
-        self.search_on(sets, line, 1)
+        self.search_on(sets, line, 1, line.len()).0.unwrap()
     }
 
     /// Whether some span of the line is a hit, without what is remembered.

@@ -14,6 +14,7 @@ ghost use Rattle.pg_match.specs.Views.{nfa, members, buffers, remembered, added,
 
 use crate::automaton::Automaton;
 use crate::bounds::Bounds;
+use crate::cursor::{Crossed, Cursor};
 use crate::memory::{DEAD, HIT, LOST, Memory};
 use crate::search::StateSets;
 use crate::state::State;
@@ -168,7 +169,7 @@ impl<A: Allocator> Automaton<A> {
         ensures within { result.1 < length line.now }
         ensures onward { from ≤ result.1 }
         ensures row { IsAtRow (remembered memory.now) result.0 }
-        ensures stands { (start : ℕ) → start ≤ from
+        ensures stands { (start : ℕ) → start ≤ from + 1
             → StandsAt (nfa self.now) (remembered memory.now) line.now start from state
             → StandsAt (nfa self.now) (remembered memory.now) line.now start result.1 result.0 }
     {
@@ -282,41 +283,6 @@ impl<A: Allocator> Automaton<A> {
         }
     }
 
-    /// Goes on without what is remembered from a row that stands at a place behind the first byte, where there is no
-    /// room for the set behind the next one.
-    fn leave(
-        &self,
-        sets: &mut StateSets<A>,
-        memory: &Memory<A>,
-        line: &[u8],
-        place: usize,
-        state: u32,
-    ) -> bool
-        requires runs { IsRunnable (nfa self.now) }
-        requires seeds { HasSeeds self.now }
-        requires starts { HasStarts self.now }
-        requires room { HaveRoom (buffers sets.old) (length self.now.states.items) }
-        requires memory { IsMemoryOf (nfa self.now) (remembered memory.now) }
-        requires row { IsAtRow (remembered memory.now) state }
-        requires short { length line.now ≤ 2 ^ 30 }
-        requires later { 1 ≤ place }
-        requires within { place < length line.now }
-        requires stands { StandsAt (nfa self.now) (remembered memory.now) line.now 0 place state }
-        requires visits { sets.old.visits ≤ (place + 1) * length self.now.states.items }
-        ensures room { HaveRoom (buffers sets.new) (length self.now.states.items) }
-        ensures exact { IsTrue result ↔ HasRun (nfa self.now) line.now 0 }
-        ensures visits { sets.new.visits ≤ (length line.now + 1) * length self.now.states.items }
-        ensures told { Tells sets.old sets.new }
-    {
-        memory.load((state / 256) as usize, &mut sets.current);
-        let byte = line[place];
-        if self.hits_before(&sets.current, byte) {
-            return true;
-        }
-        self.go_on(sets, byte, false);
-        self.search_on(sets, line, place + 1)
-    }
-
     /// Whether some span of a line that isn't empty is a hit, by what is remembered.
     fn recall(&self, sets: &mut StateSets<A>, memory: &mut Memory<A>, line: &[u8]) -> bool
         requires runs { IsRunnable (nfa self.now) }
@@ -336,28 +302,20 @@ impl<A: Allocator> Automaton<A> {
         if !self.first(sets, memory) {
             return self.search_first(sets, line);
         }
-        let mut state = 256;
-        let mut place = 0;
+        let mut cursor = Cursor {
+            from: 0,
+            place: 0,
+            state: 256,
+        };
         loop {
-            let (at, here) = self.walk(memory, line, place, state);
-            if here + 1 == line.len() {
-                return self.finish(sets, memory, at, line[here]);
+            let (state, place) = self.walk(memory, line, cursor.place, cursor.state);
+            if place + 1 == line.len() {
+                return self.finish(sets, memory, state, line[place]);
             }
-            if here > 0 && memory.steps[at as usize + line[here] as usize] == LOST {
-                memory.lose(line.len() - here);
-                return self.leave(sets, memory, line, here, at);
-            }
-            match self.learn(sets, memory, (at / 256) as usize, line[here]) {
-                Next::Hit => return true,
-                Next::Dead => return false,
-                Next::Row(next) => {
-                    state = next;
-                    place = here + 1;
-                }
-                Next::Lost => {
-                    memory.lose(line.len() - here);
-                    return self.search_on(sets, line, here + 1);
-                }
+            let from = cursor.from;
+            match self.cross(sets, memory, line, Cursor { from, place, state }) {
+                Crossed::Found(answer) => return answer,
+                Crossed::At(next) => cursor = next,
             }
         }
     }

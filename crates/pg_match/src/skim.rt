@@ -82,7 +82,7 @@ impl<A: Allocator> Automaton<A> {
     }
 
     /// Looks for hits from a place on in a line that isn't empty, by what is remembered.
-    fn skim(&self, memory: &Memory<A>, line: &[u8], from: usize) -> Skim
+    pub(crate) fn skim(&self, memory: &Memory<A>, line: &[u8], from: usize) -> Skim
         requires runs { IsRunnable (nfa self.now) }
         requires memory { IsMemoryOf (nfa self.now) (remembered memory.now) }
         requires bytes { 1 ≤ length line.now }

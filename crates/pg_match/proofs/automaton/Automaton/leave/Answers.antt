@@ -1,41 +1,67 @@
-use Rattle.std.proofs.Common.{◌/◌, ◌∙◌, IsTrue, false, arith, sym, refl, true≢false}
+use Rattle.std.proofs.Common.{◌/◌, ◌∙◌, ◌≤◌, IsTrue, false, arith, sym, refl, true≢false}
 use Rattle.std.proofs.lemmas.Option.{slice_get-get_or}
 use Rattle.pg_match.specs.Memories.{In}
+use Rattle.pg_match.specs.Stands.{NoneBefore}
 use Rattle.pg_match.specs.Starts.{WithSeeds}
 use Rattle.pg_match.specs.Steps.{Has}
 use Rattle.pg_match.specs.Views.{nfa, members, remembered}
+use Rattle.pg_match.proofs.CursorLemmas.{stands_begun, runs_same, crosses_from}
 use Rattle.pg_match.proofs.StandsLemmas.{stands_next, run_before}
 use Rattle.pg_match.proofs.StartLemmas.{goes_whole, plain_whole}
 use Rattle.pg_match.proofs.MemoryLemmas.{stands_at}
 use Rattle.pg_match.proofs.automaton.Automaton.leave.Goals as goal
+use Rattle.pg_match.proofs.automaton.Automaton.leave.Goals.{in-Known, in-Known-2}
 
-pub returns-then-hits_before-clause-exact : goal.returns-then-hits_before-clause-exact
-returns-then-hits_before-clause-exact g c = (
+pub go_without-requires-clause-stands : goal.go_without-requires-clause-stands
+go_without-requires-clause-stands g c =
+    stands_begun (nfa c.args.self.now) c.args.self.now.seeds.items c.requires.seeds c.args.line.now c.match-skim.start
+    (Has (members c.clear.new.self)) (omega (arith, c.if-start-gt0.true))
+    (λ q h. (let e = c.clear.ensures.empty.1 q in omega arith))
+
+pub returns-then-sets-start-clause-crossed : goal.returns-then-sets-start-clause-crossed
+returns-then-sets-start-clause-crossed g c =
+    let m = nfa c.args.self.now in
+    let l = c.args.line.now in
+    let from = c.args.cursor.from in
+    let start = c.match-skim.start in
+    let known : (from ≤ start) × NoneBefore m l from start = elim c.match-skim.branch [
+      | in-Known w ↦ rw w.start-is (w.in-Known.ensures.0, w.in-Known.ensures.2)
+      | in-Known-2 w ↦ rw w.start-is (w.in-Known.ensures.0, w.in-Known.ensures.2)
+    ] in
+    crosses_from m (remembered c.args.memory.now) l c.args.cursor
+    (record { from = start; place = c.args.cursor.place; state = c.args.cursor.state }) c.go_without.result refl
+    (runs_same m l from start known.0 known.1) c.go_without.ensures.crossed
+
+pub returns-then-hits_before-clause-crossed : goal.returns-then-hits_before-clause-crossed
+returns-then-hits_before-clause-crossed g c = (
   λ t.
       let m = nfa c.args.self.now in
       let l = c.args.line.now in
-      let p = c.args.place in
+      let cursor = c.args.cursor in
       let S = Has (members c.load.new.set) in
-      let s = stands_at m l 0 p (In (remembered c.args.memory.now) (c.args.state / 256)) S c.load.ensures.same
-      c.requires.stands in
-      run_before m l 0 p _ S s c.requires.runs (slice_get-get_or l p 0 c.requires.within) c.requires.within
-      (c.hits_before.ensures.0 c.if-hits_before.true),
+      let here = c.requires.cursor in
+      let s = stands_at m l cursor.from cursor.place (In (remembered c.args.memory.now) (cursor.state / 256)) S
+      c.load.ensures.same here.stands in
+      run_before m l cursor.from cursor.place _ S s c.requires.runs (slice_get-get_or l cursor.place 0 here.within)
+      here.within (c.hits_before.ensures.0 c.if-hits_before.true),
   λ run. refl,
 )
 
-pub search_on-requires-clause-stands : goal.search_on-requires-clause-stands
-search_on-requires-clause-stands g c =
+pub go_without-requires-2-clause-stands : goal.go_without-requires-2-clause-stands
+go_without-requires-2-clause-stands g c =
     let m = nfa c.args.self.now in
     let l = c.args.line.now in
-    let p = c.args.place in
+    let from = c.args.cursor.from in
+    let p = c.args.cursor.place in
+    let here = c.requires.cursor in
     let S = Has (members c.load.new.set) in
     let seeds = c.args.self.now.seeds.items in
-    let byte = slice_get-get_or l p 0 c.requires.within in
-    let s = stands_at m l 0 p (In (remembered c.args.memory.now) (c.args.state / 256)) S c.load.ensures.same
-    c.requires.stands in
+    let byte = slice_get-get_or l p 0 here.within in
+    let s = stands_at m l from p (In (remembered c.args.memory.now) (c.args.cursor.state / 256)) S c.load.ensures.same
+    here.stands in
     let none = plain_whole seeds S in
-    stands_next m l 0 p _ (WithSeeds seeds (IsTrue false) S) _ byte c.requires.within
-    (stands_at m l 0 p S (WithSeeds seeds (IsTrue false) S) none s)
+    stands_next m l from p _ (WithSeeds seeds (IsTrue false) S) _ byte here.within
+    (stands_at m l from p S (WithSeeds seeds (IsTrue false) S) none s)
     (goes_whole m seeds c.requires.seeds l p _ _ S (Has (members c.go_on.new.sets.current)) byte c.go_on.ensures.goes)
-    (omega arith) c.requires.runs
+    here.near c.requires.runs
     (λ h. true≢false (sym (c.hits_before.ensures.1 ((none 0).1 h.0, h.1)) ∙ c.if-hits_before.false))

@@ -1,5 +1,9 @@
-use Rattle.std.proofs.Common.{◌<◌, ◌∙◌, length, arith, sym, refl, true≢false}
+use Rattle.std.proofs.Common.{◌≡◌, ◌<◌, ◌↔◌, ◌∙◌, ℕ, List, Bool, Option, Some, IsTrue, length, arith, sym, subst, refl}
+use Rattle.std.proofs.Common.{true≢false}
 use Rattle.std.proofs.lemmas.Option.{slice_get-get_or}
+use Rattle.pg_match.specs.Automata.{Nfa}
+use Rattle.pg_match.specs.Stands.{HasRun}
+use Rattle.pg_match.specs.Starts.{Searched}
 use Rattle.pg_match.specs.Steps.{Has}
 use Rattle.pg_match.specs.Views.{nfa, members}
 use Rattle.pg_match.proofs.StandsLemmas.{stands_first, stands_next, run_before}
@@ -18,14 +22,19 @@ returns-then-hits_before-clause-exact g c = (
   λ run. refl,
 )
 
-pub search_on-requires-clause-stands : goal.search_on-requires-clause-stands
-search_on-requires-clause-stands g c =
+some_answer : (m : Nfa) (seeds l : List ℕ) (p : ℕ) (S : ℕ → Type 0) (o : Option Bool) (answer : Bool)
+    → o ≡ Some answer → Searched m seeds l 0 p S o → IsTrue answer ↔ HasRun m l 0
+some_answer m seeds l p S o answer e h = subst (Searched m seeds l 0 p S) e h
+
+pub returns-clause-exact : goal.returns-clause-exact
+returns-clause-exact g c =
     let m = nfa c.args.self.now in
     let l = c.args.line.now in
     let S = Has (members c.args.sets.now.current) in
     let lt : 0 < length l = omega (arith, c.requires.bytes) in
     let U = Has (members c.go.new.sets.current) in
-    stands_whole m c.args.self.now.seeds.items c.requires.seeds l 0 1 U (omega arith) (omega arith)
+    some_answer m c.args.self.now.seeds.items l _ _ _ c.unwrap.result c.unwrap.ensures
+    (c.search_on.ensures.searched 0 (omega arith) (stands_whole m c.args.self.now.seeds.items c.requires.seeds l 0 1 U (omega arith) (omega arith)
     (stands_next m l 0 0 _ S U (slice_get-get_or l 0 0 lt) lt (stands_first m l S c.requires.begun)
     c.go.ensures.goes (omega arith) c.requires.runs
-    (λ h. true≢false (sym (c.hits_before.ensures.1 h) ∙ c.if-hits_before.false)))
+    (λ h. true≢false (sym (c.hits_before.ensures.1 h) ∙ c.if-hits_before.false)))))

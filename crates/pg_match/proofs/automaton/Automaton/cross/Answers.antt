@@ -1,0 +1,75 @@
+use Rattle.std.proofs.Common.{◌/◌, ◌+◌, ℕ, length, arith, refl, sym, true≢false}
+use Rattle.std.proofs.lemmas.Option.{slice_get-get_or}
+use Rattle.pg_match.specs.Memories.{In}
+use Rattle.pg_match.specs.Steps.{Has}
+use Rattle.pg_match.specs.Views.{nfa, members, remembered}
+use Rattle.pg_match.proofs.StateSetLemmas.{few}
+use Rattle.pg_match.proofs.StandsLemmas.{stands_next, run_before}
+use Rattle.pg_match.proofs.StartLemmas.{stands_whole}
+use Rattle.pg_match.proofs.MemoryLemmas.{visits_on, visits_later}
+use Rattle.pg_match.proofs.automaton.Automaton.cross.Goals as goal
+
+pub returns-in-Hit-clause-crossed : goal.returns-in-Hit-clause-crossed
+returns-in-Hit-clause-crossed g c = (
+  λ t.
+      let cursor = c.args.cursor in
+      let here = c.requires.cursor in
+      run_before (nfa c.args.self.now) c.args.line.now cursor.from cursor.place _
+      (In (remembered c.args.memory.now) (cursor.state / 256)) here.stands c.requires.runs
+      (slice_get-get_or c.args.line.now cursor.place 0 here.within) here.within c.in-Hit.ensures.learned,
+  λ run. refl,
+)
+
+pub returns-in-Dead-clause-crossed : goal.returns-in-Dead-clause-crossed
+returns-in-Dead-clause-crossed g c = (
+  λ yes. absurd (true≢false (sym yes)),
+  λ run.
+      let cursor = c.args.cursor in
+      let here = c.requires.cursor in
+      let l = c.args.line.now in
+      absurd (c.in-Dead.ensures.learned l cursor.from cursor.place here.within here.stands
+      (slice_get-get_or l cursor.place 0 here.within) run),
+)
+
+pub returns-in-Row-clause-crossed : goal.returns-in-Row-clause-crossed
+returns-in-Row-clause-crossed g c =
+    let cursor = c.args.cursor in
+    let here = c.requires.cursor in
+    let l = c.args.line.now in
+    let learned = c.in-Row.ensures.learned in (
+      omega arith,
+      record {
+        within = c.requires.more;
+        near = omega (arith, here.near);
+        row = learned.0;
+        stands = stands_next (nfa c.args.self.now) l cursor.from cursor.place _
+            (In (remembered c.args.memory.now) (cursor.state / 256))
+            (In (remembered c.learn.new.memory) (c.in-Row.state / 256))
+            (slice_get-get_or l cursor.place 0 here.within) here.within here.stands learned.2 here.near c.requires.runs
+            learned.1;
+      },
+      (λ run. run, λ run. run),
+    )
+
+pub go_without-requires-clause-stands : goal.go_without-requires-clause-stands
+go_without-requires-clause-stands g c =
+    let m = nfa c.args.self.now in
+    let l = c.args.line.now in
+    let from = c.args.cursor.from in
+    let p = c.args.cursor.place in
+    let here = c.requires.cursor in
+    let learned = c.in-Lost.ensures.learned in
+    let U = Has (members c.learn.new.sets.current) in
+    stands_whole m c.args.self.now.seeds.items c.requires.seeds l from (p + 1) U (omega arith) here.near
+    (stands_next m l from p _ (In (remembered c.args.memory.now) (c.args.cursor.state / 256)) U
+    (slice_get-get_or l p 0 here.within) here.within here.stands learned.1 here.near c.requires.runs learned.0)
+
+pub returns-in-Hit-clause-visits : goal.returns-in-Hit-clause-visits
+returns-in-Hit-clause-visits g c =
+    let n : ℕ = length c.args.self.now.states.items in
+    let p = c.args.cursor.place in
+    let fewer = few (members c.learn.new.sets.current) c.in-Hit.ensures.room.now in
+    let size = c.in-Hit.ensures.room.now_size in
+    let v = visits_on p p n c.args.sets.now.visits c.learn.new.sets.visits c.requires.visits (omega arith)
+    (omega (arith, c.in-Hit.ensures.visits)) in
+    visits_later (p + 1) (length c.args.line.now) n c.learn.new.sets.visits v (omega (arith, c.requires.more))

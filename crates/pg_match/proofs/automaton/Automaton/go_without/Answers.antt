@@ -1,0 +1,25 @@
+use Rattle.std.proofs.Common.{ℕ, arith, refl, sym, subst}
+use Rattle.std.specs.Prelude.{IsNone}
+use Rattle.pg_match.specs.Starts.{Searched}
+use Rattle.pg_match.specs.Steps.{Has}
+use Rattle.pg_match.specs.Views.{nfa, members, remembered}
+use Rattle.pg_match.proofs.CursorLemmas.{runs_ended, cursor_back}
+use Rattle.pg_match.proofs.automaton.Automaton.go_without.Goals as goal
+
+pub returns-in-None-clause-crossed : goal.returns-in-None-clause-crossed
+returns-in-None-clause-crossed g c =
+    let m = nfa c.args.self.now in
+    let l = c.args.line.now in
+    let seeds = c.args.self.now.seeds.items in
+    let from = c.args.cursor.from in
+    let here = c.search_on-answer.result.1 in
+    let S = Has (members c.search_on-answer.new.sets.current) in
+    let found = c.search_on-answer.ensures in
+    let left = found.left (subst (λ o. IsNone o) (sym c.in-None.is) refl) in
+    let empty : (q : ℕ) → S q → ⊥ = λ q h. (let f = found.room.now.found q h in omega (arith, f.1, left.1)) in
+    let stands = subst (λ o. Searched m seeds l from here S o) c.in-None.is
+    (found.searched from c.requires.near c.requires.stands) in (
+      omega (arith, left.0),
+      cursor_back m (remembered c.args.memory.now) l here c.requires.memory (omega (arith, left.0)) found.within,
+      runs_ended m seeds c.requires.seeds l from here S (omega (arith, c.requires.near, found.onward)) empty stands,
+    )
