@@ -1,6 +1,6 @@
 //! Where a match may begin and end.
 ghost use Rattle.std.specs.Prelude.{◌≡◌, ◌↔◌, ◌≤◌, length, IsTrue};
-ghost use Rattle.pg_match.specs.Bounds.{is_word_byte, may_end, MayBegin};
+ghost use Rattle.pg_match.specs.Bounds.{is_word_byte, MayBegin, MayEnd};
 
 /// Which spans of a line count as matched.
 #[derive(Clone, Copy, Debug, PartialEq, Eq)]
@@ -23,9 +23,10 @@ pub(crate) fn is_word_byte(byte: u8) -> bool
 }
 
 impl Bounds {
-    /// Whether a match may begin at a place.
+    /// Whether a match may begin at a place of a line, an offset in bytes from 0 to the line's length: with `Word` not
+    /// right behind a letter, a digit or `_` (GNU grep, -w), with `Whole` at 0 alone (XCU grep, -x).
     #[inline(always)]
-    pub(crate) fn may_begin(self, line: &[u8], place: usize) -> bool
+    pub fn may_begin(self, line: &[u8], place: usize) -> bool
         requires { place ≤ length line.now }
         ensures { IsTrue result ↔ MayBegin self line.now place }
     {
@@ -36,11 +37,12 @@ impl Bounds {
         }
     }
 
-    /// Whether a match may end at a place.
+    /// Whether a match may end at a place of a line, an offset in bytes from 0 to the line's length: with `Word` not
+    /// right before a letter, a digit or `_` (GNU grep, -w), with `Whole` where the line ends alone (XCU grep, -x).
     #[inline(always)]
-    pub(crate) fn may_end(self, line: &[u8], place: usize) -> bool
+    pub fn may_end(self, line: &[u8], place: usize) -> bool
         requires { place ≤ length line.now }
-        ensures { result ≡ may_end self line.now place }
+        ensures { IsTrue result ↔ MayEnd self line.now place }
     {
         match self {
             Bounds::Any => true,

@@ -3,7 +3,6 @@ use Rattle.std.proofs.lemmas.Option.{slice_get-get_or}
 use Rattle.pg_match.specs.Bounds.{MayBegin, MayEnd}
 use Rattle.pg_match.specs.Views.{nfa}
 use Rattle.pg_match.proofs.SkimLemmas.{best_one}
-use Rattle.pg_match.proofs.TestLemmas.{end_decided}
 use Rattle.pg_match.proofs.automaton.Automaton.is_one_byte.Goals as goal
 use Rattle.pg_match.proofs.automaton.Automaton.is_one_byte.Goals.{then-may_begin, else-may_begin}
 
@@ -15,7 +14,7 @@ returns-then-may_end g c = λ behind.
     let bounds : MayBegin m.bounds l i × MayEnd m.bounds l (i + 1) = elim c.if-may_begin.branch [
       | then-may_begin w ↦ (
         c.may_begin.ensures.0 w.if-may_begin.true,
-        (end_decided m.bounds l (i + 1)).0 (sym w.may_end.ensures ∙ sym w.value-is ∙ c.if-may_end.true),
+        w.may_end.ensures.0 (sym w.value-is ∙ c.if-may_end.true),
       )
       | else-may_begin w ↦ absurd (true≢false (sym c.if-may_end.true ∙ w.value-is ∙ w.if-may_begin.false))
     ] in
