@@ -115,7 +115,8 @@ ahead_later searched at later needles low all =
       first = λ k from o. is.first k (omega arith) o;
     }) needles all
 
-pub needles_later : {A : Type 0} (text : SearchText) (bytes : List ℕ) (at later : ℕ) (needles : NeedleList A) → at ≤ later
+pub needles_later : {A : Type 0} (text : SearchText) (bytes : List ℕ) (at later : ℕ) (needles : NeedleList A)
+    → at ≤ later
     → IsNeedleList text bytes at needles → IsNeedleList text bytes later needles
 needles_later text bytes at later needles low are = record {
   literals = are.literals;
@@ -149,7 +150,8 @@ least_behind at needles place behind stands =
 
 -- the needles of the literals of a query, over the bytes as they are searched
 pub needles_new : {A : Type 0} (text : SearchText) (bytes : List ℕ) (literals : List LiteralData) (searched : List ℕ)
-    (needles : NeedleList A) → AreLiterals text literals → (0 < length literals → searched ≡ as_searched text.fold bytes)
+    (needles : NeedleList A) → AreLiterals text literals
+    → (0 < length literals → searched ≡ as_searched text.fold bytes)
     → needles.searched.now ≡ searched → map literal_of needles.needles.items ≡ literals
     → All (IsAhead searched 0) needles.needles.items → IsNeedleList text bytes 0 needles
 needles_new text bytes literals searched needles are folded same own ahead = record {

@@ -2,7 +2,6 @@
 #![tactic(auto)]
 
 mod block;
-mod borders;
 mod count;
 mod cutter;
 mod laws;

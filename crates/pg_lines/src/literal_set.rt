@@ -51,8 +51,8 @@ fn are_all_enough<A: Allocator>(literals: &[Literal<A>]) -> bool
 }
 
 impl<A: Allocator + Copy> LiteralSet<A> {
-    /// The set of more than 8 literals, unless one is empty, with a flag that says whether they are all patterns and fixed
-    /// strings. A refused request for memory is the only error.
+    /// The set of more than 8 literals, unless one is empty, with a flag that says whether they are all patterns and
+    /// fixed strings. A refused request for memory is the only error.
     pub fn of(
         alloc: A,
         literals: &[Literal<A>],

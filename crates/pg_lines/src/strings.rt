@@ -4,7 +4,6 @@ ghost use Rattle.pg_strings.specs.Outcomes.{strings_of};
 ghost use Rattle.pg_lines.specs.Search.{Pattern, AreTreesOf, bounds_of};
 ghost use Rattle.pg_lines.specs.Strings.{IsLongestHit, FindsString, FindsPart, JudgesLine};
 
-use crate::borders::{may_begin, may_end};
 use crate::query::Query;
 use crate::span::Span;
 use pg_match::Bounds;
@@ -51,13 +50,13 @@ fn longest_hit<A: Allocator>(
     requires { place ≤ length line.now }
     ensures { IsLongestHit (strings_of set.now) bounds line.now place result }
 {
-    if !may_begin(bounds, line, place) {
+    if !bounds.may_begin(line, place) {
         return None;
     }
     let mut stop = line.len();
     while let Some(len) = set.longest_at(&line[..stop], place) {
         let end = place + len;
-        if may_end(bounds, line, end) {
+        if bounds.may_end(line, end) {
             return Some(end);
         }
         // A shorter string may have its border.

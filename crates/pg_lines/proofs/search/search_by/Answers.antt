@@ -13,8 +13,8 @@ selected_runs-requires-clause-needles g c =
 pub selected_runs-requires-clause-strings : goal.selected_runs-requires-clause-strings
 selected_runs-requires-clause-strings g c =
     strings_known c.args.query.now.text c.args.bytes.now c.args.searched.now c.new-strings.result.searched.now
-    c.args.set c.fixed_strings.result c.new-strings.result.set c.requires.set c.requires.set_searched c.fixed_strings.ensures
-    c.new-strings.ensures.set c.new-strings.ensures.searched
+    c.args.set c.fixed_strings.result c.new-strings.result.set c.requires.set c.requires.set_searched
+    c.fixed_strings.ensures c.new-strings.ensures.set c.new-strings.ensures.searched
 
 pub returns-in_err-needles-clause-runs : goal.returns-in_err-needles-clause-runs
 returns-in_err-needles-clause-runs g c = IfOk-from_err c.from_residual.result _ c.from_residual.ensures.0
