@@ -1,4 +1,4 @@
-use Rattle.std.proofs.Common.{◌≡◌, ◌≤◌, ℕ, List, length}
+use Rattle.std.proofs.Common.{◌≡◌, ◌≤◌, ℕ, List}
 use Rattle.pg_syntax.specs.Grammar.{Spells}
 use Rattle.pg_syntax.specs.Trees.{pattern}
 use Rattle.pg_syntax.specs.declared.tree.Tree.{size-Tree}

@@ -1,4 +1,4 @@
-use Rattle.std.proofs.Common.{◌≡◌, ◌<◌, ◌≤◌, ℕ, List, length, get_or, map, take, ◌∷◌, []}
+use Rattle.std.proofs.Common.{◌≡◌, ◌<◌, ℕ, List, get_or, map, take, ◌∷◌, []}
 use Rattle.std.specs.List.{AllZip, Any as AnyOf}
 use Rattle.pg_syntax.specs.Grammar.{Spells}
 use Rattle.pg_syntax.specs.Patterns.{Pattern}
