@@ -1,8 +1,9 @@
 -- Lists that gain or lose their last member, and what holds of all members.
 use Rattle.std.proofs.Common.{◌≡◌, ◌⊎◌, inl, inr, ℕ, zero, suc, ◌<◌, List, [], ◌∷◌, ◌++◌, All, Any, length, get_or, set}
-use Rattle.std.proofs.Common.{replicate, sym, refl, ap, subst, arith}
+use Rattle.std.proofs.Common.{replicate, take, sym, refl, ap, subst, arith}
 use Rattle.std.specs.Prelude.{slice_get, Some}
 use Rattle.std.proofs.lemmas.List.Elements.{All-append}
+use Rattle.std.proofs.Math.Seq.{take-append_seam}
 
 pub get_at : {A : Type 0} (xs : List A) (i : ℕ) (a : A) → i < length xs → get_or xs i a ≡ a → slice_get xs i ≡ Some a
 get_at [] i a h e = absurd (omega arith)
@@ -25,6 +26,11 @@ module _ {A : Type 0} (P : A → Type 0) where
   all_front [] x h k d l = absurd (omega arith)
   all_front (y ∷ ys) x h zero d l = h zero d (omega arith)
   all_front (y ∷ ys) x h (suc k) d l = all_front ys x (λ k d l. h (suc k) d (omega arith)) k d (omega arith)
+
+  pub all_taken : (n : ℕ) (xs ys : List A) → n ≡ length xs → All P xs → All P (take n (xs ++ ys))
+  all_taken n xs ys e h =
+      subst (λ (m : ℕ). All P (take m (xs ++ ys))) (sym e)
+      (subst (λ (l : List A). All P l) (sym (take-append_seam xs ys)) h)
 
   pub all_at : (xs : List A) (i : ℕ) (x : A) → All P xs → i < length xs → x ≡ get_or xs i x → P x
   all_at xs i x h l e = subst P (sym e) (h i x l)

@@ -1,5 +1,5 @@
 -- What those who search a round have drawn and put.
-use Rattle.std.specs.Prelude.{◌≡◌, ℕ, List, [], ◌∷◌, ◌++◌, length, All, IfOk}
+use Rattle.std.specs.Prelude.{◌≡◌, ℕ, ◌<◌, List, [], ◌∷◌, ◌++◌, length, All, None, IfSome, option_to_list}
 use Rattle.std.specs.Arc.{arc_value}
 use Rattle.std.specs.declared.sync.Arc.{Arc}
 use Rattle.crossbeam_queue.specs.SegTies.{SegId}
@@ -9,7 +9,7 @@ use Rattle.pg_match.specs.Machines.{Fits}
 use Rattle.pg_lines.specs.Blocks.{BlockData}
 use Rattle.pg_lines.specs.Queries.{Compiled}
 use Rattle.pg_lines.specs.Searched.{Searched}
-use Rattle.pg_round.specs.Results.{HasShortLines, AreResultsOf}
+use Rattle.pg_round.specs.Results.{HasShortLines, IsResultOf, AreResultsOf}
 use Rattle.pg_round.specs.declared.round.Round.{Round}
 use Rattle.pg_round.specs.declared.worker.Worker.{Worker}
 use Rattle.pg_round.specs.declared.starting.Started.{Started}
@@ -39,25 +39,40 @@ module _ {A : Type 0} where
       (ns : List ℕ) × (rs : List Searched) × (drawn' ≡ drawn ++ ns) × (put' ≡ put ++ rs)
       × AreResultsOf t.query.text t.blocks ns rs
 
-  -- what was put grew so by the results of the first ones of the numbers that were drawn
-  abbrev pub GrowShort : Task A → List ℕ → List ℕ → List Searched → List Searched → Type 0
-  GrowShort t drawn drawn' put put' =
-      (ns more : List ℕ) × (rs : List Searched) × (drawn' ≡ (drawn ++ ns) ++ more) × (put' ≡ put ++ rs)
-      × AreResultsOf t.query.text t.blocks ns rs
+  -- it was so for all the numbers that were drawn but the last, which is this one
+  abbrev pub GrowBut : Task A → ℕ → List ℕ → List ℕ → List Searched → List Searched → Type 0
+  GrowBut t last drawn drawn' put put' =
+      (before : List ℕ) × (drawn' ≡ before ++ last ∷ []) × GrowAlike t drawn before put put'
+
+  -- what was put grew by the result of this number
+  abbrev pub HasPut : Task A → ℕ → List Searched → List Searched → Type 0
+  HasPut t n put put' = (r : Searched) × (put' ≡ put ++ r ∷ []) × IsResultOf t.query.text t.blocks n r
 
   -- a seat and a pass of the round: the pass put one result for each number of the seat, in order
   abbrev pub IsWork : Task A → SeatView → PutView Searched A → Type 0
   IsWork t seat pass =
       (seat.board ≡ t.board) × (pass.tray ≡ t.tray) × AreResultsOf t.query.text t.blocks seat.drawn pass.put
 
-  -- the worker's seat and pass are so, and its scratch is for the query
-  abbrev pub HasWorked : Task A → Worker A → Type 0
-  HasWorked t w = IsWork t w.seat w.pass × Fits w.scratch t.query.machine
+  -- What the worker drew is numbers as its pass put results for, and then the one that it left unfinished, if any,
+  -- which is a block's. Its scratch is for the query.
+  unfoldable pub HasWorked : Task A → Worker A → Type 0
+  HasWorked t w =
+      (ns : List ℕ) × (w.seat.drawn ≡ ns ++ option_to_list w.unfinished)
+      × IsWork t (record w.seat { drawn = ns }) w.pass × IfSome w.unfinished (λ n. n < t.board.limit)
+      × Fits w.scratch t.query.machine
+
+  -- the worker has worked so, and left none unfinished
+  abbrev pub HasFinished : Task A → Worker A → Type 0
+  HasFinished t w = HasWorked t w × (w.unfinished ≡ None)
+
+  -- so many workers are back as there were, and each has worked
+  unfoldable pub AreBack : Task A → List (Worker A) → List (Worker A) → Type 0
+  AreBack t workers back = (length back ≡ length workers) × All (HasWorked t) back
 
   -- a worker that was started will have worked, or has
   abbrev pub IsStarted : Round A → Started A → Type 0
   IsStarted round (Running handle) = handle.promise ≡ round
-  IsStarted round (Ended outcome) = IfOk outcome (HasWorked (task_of round))
+  IsStarted round (Ended worker) = HasWorked (task_of round) worker
 
   -- seats and passes side by side, each pair as it was worked with
   abbrev pub AreWorks : Task A → List SeatView → List (PutView Searched A) → Type 0

@@ -5,7 +5,7 @@ ghost use Rattle.pg_match.specs.Machines.{Fits};
 ghost use Rattle.pg_lines.specs.Searched.{Searched};
 ghost use Rattle.pg_board.specs.Merge.{IsMerge};
 ghost use Rattle.pg_round.specs.Results.{HasAll};
-ghost use Rattle.pg_round.specs.Workers.{task, task_of, HasWorked, AreWorks};
+ghost use Rattle.pg_round.specs.Workers.{task, task_of, HasFinished, AreWorks};
 
 use crate::round::Round;
 use crate::worker::Worker;
@@ -24,7 +24,7 @@ fn part<A: Allocator + Copy>(
     mut workers: Vec<Worker<A>, A>,
     scratches: &mut Vec<Scratch<A>, A>,
 ) -> Result<Parted<A>, AllocError>
-    requires worked { All (HasWorked (task_of round)) workers.items }
+    requires finished { All (HasFinished (task_of round)) workers.items }
     requires spent { Any (λ w. w.seat.spent ≡ true) workers.items }
     requires fits { All (λ s. Fits s (arc_value round.query.now).machine) scratches.old.items }
     ensures works { IfOk result (λ r. AreWorks (task_of round.entry) r.0.items r.1.items) }
@@ -56,7 +56,7 @@ pub(crate) fn close_round<A: Allocator + Copy>(
     take: TakePass<BlockResult<A>, A>,
     scratches: &mut Vec<Scratch<A>, A>,
 ) -> Result<Delivered<BlockResult<A>, A>, AllocError>
-    requires worked { All (HasWorked (task (arc_value query.now) blocks.now board tray)) workers.items }
+    requires finished { All (HasFinished (task (arc_value query.now) blocks.now board tray)) workers.items }
     requires spent { Any (λ w. w.seat.spent ≡ true) workers.items × (length blocks.now ≡ board.limit) }
     requires all { (vec_len workers ≡ board.seats) × (vec_len workers ≡ take.workers) × (take.tray ≡ tray) }
     requires fits { All (λ s. Fits s (arc_value query.now).machine) scratches.old.items }

@@ -4,11 +4,13 @@
 //! their own, and put the results into one tray. The calling thread meanwhile takes them out, gives them to a
 //! [`Collector`], which puts them in order, and has it write what may be handed out. [`search_round`] ensures that the
 //! collector gets the result of each block, whatever the order in which the threads run, also where fewer threads can
-//! be made than were asked for, or none. Where no result lies on the tray, the calling thread has a [`Reader`] go on.
+//! be made than were asked for, or none, and where threads are refused memory. Where no result lies on the tray, the
+//! calling thread has a [`Reader`] go on.
 #![tactic(auto)]
 
 mod closing;
 mod collector;
+mod finishing;
 mod gate;
 mod opening;
 mod reader;
@@ -24,4 +26,4 @@ pub use gate::{FreeGate, Gate};
 pub use reader::{NothingToRead, Reader};
 pub use round::Round;
 pub use searching::{RoundFault, search_round};
-pub use worker::work;
+pub use worker::{Unfinished, work};

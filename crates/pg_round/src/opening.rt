@@ -4,7 +4,7 @@ ghost use Rattle.std.specs.Arc.{arc_value};
 ghost use Rattle.pg_match.specs.Machines.{Fits};
 ghost use Rattle.pg_board.specs.Board.{seat_view};
 ghost use Rattle.pg_board.specs.Tray.{put_view, take_view};
-ghost use Rattle.pg_round.specs.Workers.{task, task_of, HasWorked};
+ghost use Rattle.pg_round.specs.Workers.{task, task_of, HasFinished};
 
 use crate::round::Round;
 use crate::worker::Worker;
@@ -34,7 +34,7 @@ fn gather<A: Allocator + Copy>(
     requires passes { All (λ p. p ≡ put_view round.tray.now []) passes.items × (vec_len passes ≡ vec_len seats) }
     requires scratches { All (λ s. Fits s (arc_value round.query.now).machine) scratches.old.items
         × (vec_len seats ≤ vec_len scratches.old) }
-    ensures workers { IfOk result (λ workers. All (HasWorked (task_of round.entry)) workers.items
+    ensures workers { IfOk result (λ workers. All (HasFinished (task_of round.entry)) workers.items
         × (vec_len workers ≡ vec_len seats)) }
     ensures scratches { OnOk result (All (λ s. Fits s (arc_value round.entry.query.now).machine) scratches.new.items
         × (vec_len scratches.new + vec_len seats ≡ vec_len scratches.old)) }
@@ -51,6 +51,7 @@ fn gather<A: Allocator + Copy>(
             seat,
             pass,
             scratch,
+            unfinished: None,
         });
     }
     Ok(workers)
@@ -69,7 +70,7 @@ pub(crate) fn open_round<A: Allocator + Copy>(
     ensures board { IfOk result (λ r. (r.board.limit ≡ length blocks.now) × (r.board.seats ≡ count)) }
     ensures take { IfOk result (λ r. r.take ≡ take_view r.tray count []) }
     ensures workers { IfOk result (λ r. (vec_len r.workers ≡ count)
-        × All (HasWorked (task (arc_value query.now) blocks.now r.board r.tray)) r.workers.items) }
+        × All (HasFinished (task (arc_value query.now) blocks.now r.board r.tray)) r.workers.items) }
     ensures scratches { OnOk result (All (λ s. Fits s (arc_value query.now).machine) scratches.new.items
         × (vec_len scratches.new + count ≡ vec_len scratches.old)) }
 {

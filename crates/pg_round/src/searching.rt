@@ -6,19 +6,20 @@ ghost use Rattle.pg_match.specs.Machines.{Fits};
 ghost use Rattle.pg_lines.specs.Searched.{Searched};
 ghost use Rattle.pg_seq.specs.History.{Past};
 ghost use Rattle.pg_round.specs.Results.{HasShortLines};
-ghost use Rattle.pg_round.specs.Workers.{task_of, IsReady, HasWorked};
+ghost use Rattle.pg_round.specs.Workers.{task_of, IsReady, HasFinished, AreBack};
 ghost use Rattle.pg_round.specs.Receipts.{IsSafe, HasReceived, HasFailed, HasRound};
 ghost use Rattle.pg_round.specs.declared.searching.RoundFault.TheVariants.{OutOfMemory, Sink as SinkFails};
 
 use crate::closing::close_round;
 use crate::collector::Collector;
+use crate::finishing::search_rest;
 use crate::gate::Gate;
 use crate::opening::{Opened, open_round};
 use crate::reader::Reader;
 use crate::receiving::deliver;
 use crate::round::Round;
 use crate::streaming::stream;
-use crate::worker::{Worker, search};
+use crate::worker::Worker;
 use pg_board::TakePass;
 use pg_lines::{Block, BlockResult, Query, Scratch};
 use pg_rows::Sink;
@@ -90,12 +91,11 @@ fn search_beside<
     gate: &G,
 ) -> Result<Vec<Worker<A>, A>, RoundFault>
     requires ready { IsReady (task_of round) }
-    requires worked { All (HasWorked (task_of round)) workers.items }
+    requires finished { All (HasFinished (task_of round)) workers.items }
     requires sees { (found : Searched) → S.searched found ≡ found }
     requires take { (take.old.tray ≡ round.tray.now) × (take.old.taken ≡ []) }
     requires reader { D.ready reader.old from.old }
-    ensures worked { IfOk result (λ back. (vec_len back ≡ vec_len workers)
-        × All (HasWorked (task_of round.entry)) back.items) }
+    ensures back { IfOk result (λ back. AreBack (task_of round.entry) workers.items back.items) }
     ensures same { (take.new.tray ≡ round.entry.tray.now) × (take.new.workers ≡ take.old.workers) }
     ensures ok { (past : Past) → S.stands collector.old past → past.failed ≡ false → IsSafe past past.written →
         OnOk result (HasReceived (S.stands collector.new) past take.new.taken (W.taken out.old) (W.taken out.new)) }
@@ -115,7 +115,6 @@ fn search_beside<
         rt, alloc, &round, round.tray, workers, take, collector, out, reader, from, gate,
     );
     taken?;
-    let back = back?;
     Ok(back)
 }
 
@@ -142,12 +141,12 @@ fn search_all<
     gate: &G,
 ) -> Result<Vec<Worker<A>, A>, RoundFault>
     requires ready { IsReady (task_of round) }
-    requires worked { All (HasWorked (task_of round)) workers.items × (0 < vec_len workers) }
+    requires finished { All (HasFinished (task_of round)) workers.items × (0 < vec_len workers) }
     requires sees { (found : Searched) → S.searched found ≡ found }
     requires take { (take.old.tray ≡ round.tray.now) × (take.old.taken ≡ []) }
     requires reader { D.ready reader.old from.old }
-    ensures worked { IfOk result (λ back. (vec_len back ≡ vec_len workers)
-        × All (HasWorked (task_of round.entry)) back.items) }
+    ensures finished { IfOk result (λ back. (vec_len back ≡ vec_len workers)
+        × All (HasFinished (task_of round.entry)) back.items) }
     ensures spent { IfOk result (λ back. Any (λ w. w.seat.spent ≡ true) back.items) }
     ensures same { (take.new.tray ≡ round.entry.tray.now) × (take.new.workers ≡ take.old.workers) }
     ensures ok { (past : Past) → S.stands collector.old past → past.failed ≡ false → IsSafe past past.written →
@@ -164,7 +163,7 @@ fn search_all<
     let mut workers = search_beside(
         rt, alloc, round, workers, take, collector, out, reader, from, gate,
     )?;
-    search(rt, alloc, round, &mut workers[0], gate)?;
+    search_rest(rt, alloc, round, &mut workers, gate)?;
     Ok(workers)
 }
 
@@ -173,8 +172,9 @@ fn search_all<
 /// One of the scratches, 1 to 65, is for the calling thread. For each other one, but for no more than there are
 /// blocks, and at most `threads`, which are 0 to 64, a worker searches in a thread of its own; a round of one block has
 /// none. Meanwhile the calling thread takes the results as they come, and has them written; then it searches what was
-/// left. A thread that can't be made is no fault: others search its blocks. The collector's results are those that
-/// [`search_block`](pg_lines::search_block) makes.
+/// left. A thread that can't be made is no fault: others search its blocks. Nor is a thread that is refused memory: it
+/// ends, and the block that it was searching is searched again once all have ended. The collector's results are those
+/// that [`search_block`](pg_lines::search_block) makes.
 ///
 /// Whenever no result is there to be taken, the reader makes a step in the calling thread, until all workers are seen
 /// to have ended. In a round without workers it makes none.
@@ -184,7 +184,7 @@ fn search_all<
 ///
 /// # Errors
 ///
-/// `OutOfMemory` where a request for memory was refused; then no write failed. `Sink` where a write failed, or took no
+/// `OutOfMemory` where the calling thread was refused memory; then no write failed. `Sink` where a write failed, or took no
 /// byte of a text that isn't empty. What was written until then is a beginning of what the plan gives. Scratches may
 /// be lost. The reader and what it works on are as the steps left them that it made until then.
 pub fn search_round<

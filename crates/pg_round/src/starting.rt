@@ -1,32 +1,28 @@
 //! How workers are started and brought back.
-ghost use Rattle.std.specs.Prelude.{◌≡◌, ◌+◌, ◌<◌, ◌≤◌, [], All, vec_len, IfOk, OnOk};
+ghost use Rattle.std.specs.Prelude.{◌≡◌, ◌+◌, ◌<◌, ◌≤◌, [], All, vec_len, vec_capacity};
 ghost use Rattle.std.specs.Arc.{arc_value};
-ghost use Rattle.pg_round.specs.Workers.{task, task_of, IsReady, HasWorked, IsStarted};
+ghost use Rattle.pg_round.specs.Workers.{task, task_of, IsReady, HasWorked, HasFinished, IsStarted};
 
 use crate::gate::Gate;
 use crate::round::Round;
 use crate::worker::{Worker, search};
-use std::alloc::{AllocError, Allocator, Global};
+use std::alloc::{Allocator, Global};
 use std::sync::Wait;
 use std::sync::atomic::{AtomicBool, Ordering};
 use std::thread::{Promise, PromisedHandle, Scope, Threads};
 
-impl<'a, A: Allocator> Promise<Result<Worker<A>, AllocError>> for Round<'a, A> {
-    ghost use Rattle.std.specs.Prelude.{IfOk};
+impl<'a, A: Allocator> Promise<Worker<A>> for Round<'a, A> {
     ghost use Rattle.pg_round.specs.Workers.{task_of, HasWorked};
 
-    ghost kept_by = { λ round outcome. IfOk outcome (HasWorked (task_of round)) };
+    ghost kept_by = { λ round worker. HasWorked (task_of round) worker };
 }
 
 /// A worker in a thread of its own, or what came of it where none could be made.
 #[derive(Drop)]
 pub(crate) enum Started<'a, A: Allocator = Global> {
-    Running(PromisedHandle<Result<Worker<A>, AllocError>, Round<'a, A>>),
-    Ended(Result<Worker<A>, AllocError>),
+    Running(PromisedHandle<Worker<A>, Round<'a, A>>),
+    Ended(Worker<A>),
 }
-
-/// All workers of a round, once they have ended.
-pub(crate) type Back<A> = Result<Vec<Worker<A>, A>, AllocError>;
 
 /// Searches, unless a thread was refused: then the worker comes back as it is.
 fn search_unless<R: Wait, A: Allocator + Copy, G: Gate>(
@@ -36,16 +32,16 @@ fn search_unless<R: Wait, A: Allocator + Copy, G: Gate>(
     mut worker: Worker<A>,
     gate: &G,
     refused: &AtomicBool,
-) -> Result<Worker<A>, AllocError>
+) -> Worker<A>
     requires ready { IsReady (task_of round) }
-    requires worked { HasWorked (task_of round) worker }
-    ensures { IfOk result (HasWorked (task_of round.entry)) }
+    requires finished { HasFinished (task_of round) worker }
+    ensures { HasWorked (task_of round.entry) result }
 {
     if refused.load(Ordering::SeqCst) {
-        return Ok(worker);
+        return worker;
     }
-    search(rt, alloc, round, &mut worker, gate)?;
-    Ok(worker)
+    search(rt, alloc, round, &mut worker, gate);
+    worker
 }
 
 /// Starts a worker in a thread of its own. Where none can be made, the worker comes back as it is.
@@ -59,7 +55,7 @@ fn start<'s, 'e: 's, R: Threads + Wait + Sync, A: Allocator + Copy + Send + Sync
     refused: &'e AtomicBool,
 ) -> Started<'e, A>
     requires ready { IsReady (task_of round) }
-    requires worked { HasWorked (task_of round) worker }
+    requires finished { HasFinished (task_of round) worker }
     ensures { IsStarted round.entry result }
 {
     let Round {
@@ -70,11 +66,11 @@ fn start<'s, 'e: 's, R: Threads + Wait + Sync, A: Allocator + Copy + Send + Sync
     } = round;
     let child = scope.spawn_with(
         round,
-        move || -> Result<Worker<A>, AllocError>
+        move || -> Worker<A>
             requires { IsReady (task (arc_value query.now) blocks.now board.now tray.now)
-                × HasWorked (task (arc_value query.now) blocks.now board.now tray.now) worker }
-            ensures { IfOk result
-                (HasWorked (task (arc_value query.entry.now) blocks.entry.now board.entry.now tray.entry.now)) }
+                × HasFinished (task (arc_value query.now) blocks.now board.now tray.now) worker }
+            ensures { HasWorked (task (arc_value query.entry.now) blocks.entry.now board.entry.now tray.entry.now)
+                result }
         {
             let round = Round {
                 query,
@@ -94,7 +90,8 @@ fn start<'s, 'e: 's, R: Threads + Wait + Sync, A: Allocator + Copy + Send + Sync
     }
 }
 
-/// Starts each worker but the first two in a thread of its own.
+/// Starts each worker but the first two in a thread of its own. Where memory for the list of them is refused, no thread
+/// is started.
 pub(crate) fn start_all<
     's,
     'e: 's,
@@ -109,58 +106,56 @@ pub(crate) fn start_all<
     workers: &mut Vec<Worker<A>, A>,
     gate: &'e G,
     refused: &'e AtomicBool,
-) -> Result<Vec<Started<'e, A>, A>, AllocError>
+) -> Vec<Started<'e, A>, A>
     requires ready { IsReady (task_of round) }
-    requires worked { All (HasWorked (task_of round)) workers.old.items × (1 < vec_len workers.old) }
-    ensures worked { OnOk result (All (HasWorked (task_of round.entry)) workers.new.items
-        × (vec_len workers.new ≡ 2)) }
-    ensures started { IfOk result (λ all. (vec_len all + 2 ≡ vec_len workers.old)
-        × All (IsStarted round.entry) all.items) }
+    requires finished { All (HasFinished (task_of round)) workers.old.items × (1 < vec_len workers.old) }
+    ensures finished { All (HasFinished (task_of round.entry)) workers.new.items × (1 < vec_len workers.new) }
+    ensures started { All (IsStarted round.entry) result.items }
+    ensures count { vec_len workers.new + vec_len result ≡ vec_len workers.old }
+    ensures room { vec_capacity workers.new ≡ vec_capacity workers.old }
 {
-    let mut all = Vec::with_capacity(alloc, workers.len())?;
+    let Ok(mut all) = Vec::with_capacity(alloc, workers.len()) else {
+        return Vec::new(alloc);
+    };
     while workers.len() > 2 {
         let Some(worker) = workers.pop() else {
             unreachable!()
         };
         all.push_reserved(start(scope, rt, alloc, round, worker, gate, refused));
     }
-    Ok(all)
+    all
 }
 
-/// Waits for a worker to end, who then stands behind these.
+/// Waits for a worker to end.
 fn bring_back<'e, A: Allocator>(
     rt: &impl Threads,
     round: Round<'e, A>,
     started: Started<'e, A>,
-    workers: &mut Vec<Worker<A>, A>,
-) -> Result<(), AllocError>
-    requires started { IsStarted round started }
-    requires worked { All (HasWorked (task_of round)) workers.old.items }
-    ensures { OnOk result ((vec_len workers.new ≡ vec_len workers.old + 1)
-        × All (HasWorked (task_of round.entry)) workers.new.items) }
+) -> Worker<A>
+    requires { IsStarted round started }
+    ensures { HasWorked (task_of round.entry) result }
 {
-    let outcome = match started {
+    match started {
         Started::Running(handle) => handle.join(rt),
-        Started::Ended(outcome) => outcome,
-    };
-    workers.push(outcome?)?;
-    Ok(())
+        Started::Ended(worker) => worker,
+    }
 }
 
-/// Waits for all workers to end, who then stand behind these.
+/// Waits for all workers to end, who then stand behind these, where there is room for them.
 pub(crate) fn join_all<'e, R: Threads, A: Allocator>(
     rt: &R,
     round: Round<'e, A>,
     mut all: Vec<Started<'e, A>, A>,
     mut workers: Vec<Worker<A>, A>,
-) -> Back<A>
+) -> Vec<Worker<A>, A>
     requires started { All (IsStarted round) all.items }
     requires worked { All (HasWorked (task_of round)) workers.items }
-    ensures { IfOk result (λ back. (vec_len back ≡ vec_len workers + vec_len all.entry)
-        × All (HasWorked (task_of round.entry)) back.items) }
+    requires room { vec_len workers + vec_len all ≤ vec_capacity workers }
+    ensures count { vec_len result ≡ vec_len workers + vec_len all.entry }
+    ensures worked { All (HasWorked (task_of round.entry)) result.items }
 {
     while let Some(started) = all.pop() {
-        bring_back(rt, round, started, &mut workers)?;
+        workers.push_reserved(bring_back(rt, round, started));
     }
-    Ok(workers)
+    workers
 }

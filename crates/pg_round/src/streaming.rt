@@ -1,7 +1,7 @@
 //! The workers of a round, beside the thread that takes what they put.
-ghost use Rattle.std.specs.Prelude.{◌≡◌, ◌+◌, ◌<◌, [], false, All, vec_len, IfOk, IfSome, IsSome, OnOk, OnErr};
+ghost use Rattle.std.specs.Prelude.{◌≡◌, ◌<◌, [], All, vec_len, IfSome, IsSome, OnOk};
 ghost use Rattle.pg_lines.specs.Searched.{Searched};
-ghost use Rattle.pg_round.specs.Workers.{task_of, IsReady, HasWorked};
+ghost use Rattle.pg_round.specs.Workers.{task_of, IsReady, HasFinished, AreBack};
 ghost use Rattle.pg_round.specs.Receipts.{TookIn};
 ghost use Rattle.pg_round.specs.Reading.{HasGoneOn};
 
@@ -10,7 +10,7 @@ use crate::gate::Gate;
 use crate::reader::Reader;
 use crate::receiving::{Signs, take_all};
 use crate::round::Round;
-use crate::starting::{Back, join_all, start_all};
+use crate::starting::{join_all, start_all};
 use crate::worker::{Worker, search};
 use pg_board::{TakePass, Tray};
 use pg_lines::BlockResult;
@@ -38,14 +38,13 @@ fn work_together<
     mut workers: Vec<Worker<A>, A>,
     gate: &'e G,
     refused: &'e AtomicBool,
-) -> Back<A>
+) -> Vec<Worker<A>, A>
     requires ready { IsReady (task_of round) }
-    requires worked { All (HasWorked (task_of round)) workers.items × (1 < vec_len workers) }
-    ensures { IfOk result (λ back. (vec_len back ≡ vec_len workers)
-        × All (HasWorked (task_of round.entry)) back.items) }
+    requires finished { All (HasFinished (task_of round)) workers.items × (1 < vec_len workers) }
+    ensures { AreBack (task_of round.entry) workers.items result.items }
 {
-    let started = start_all(scope, rt, alloc, round, &mut workers, gate, refused)?;
-    search(rt, alloc, round, &mut workers[1], gate)?;
+    let started = start_all(scope, rt, alloc, round, &mut workers, gate, refused);
+    search(rt, alloc, round, &mut workers[1], gate);
     join_all(rt, round, started, workers)
 }
 
@@ -57,25 +56,21 @@ fn run_workers<R: Threads + Wait + Sync, A: Allocator + Copy + Send + Sync, G: G
     workers: Vec<Worker<A>, A>,
     gate: &G,
     signs: &Signs,
-) -> Back<A>
+) -> Vec<Worker<A>, A>
     requires ready { IsReady (task_of round) }
-    requires worked { All (HasWorked (task_of round)) workers.items
-        × (1 < vec_len workers) }
-    ensures { IfOk result (λ back. (vec_len back ≡ vec_len workers)
-        × All (HasWorked (task_of round.entry)) back.items) }
+    requires finished { All (HasFinished (task_of round)) workers.items × (1 < vec_len workers) }
+    ensures { AreBack (task_of round.entry) workers.items result.items }
 {
     signs.begun.store(true, Ordering::SeqCst);
     let refused = &signs.refused;
     let back = thread::scope(
         thread::scope_env(),
         rt,
-        |scope| -> Back<A>
+        |scope| -> Vec<Worker<A>, A>
             requires { IsReady (task_of round)
-                × All (HasWorked (task_of round)) workers.items
+                × All (HasFinished (task_of round)) workers.items
                 × (1 < vec_len workers) }
-            ensures { IfOk result (λ back. (vec_len back ≡ vec_len workers)
-                × All (HasWorked (task_of round.entry))
-                back.items) }
+            ensures { AreBack (task_of round.entry) workers.items result.items }
         { work_together(scope, rt, alloc, round, workers, gate, refused) },
     );
     signs.ended.store(true, Ordering::SeqCst);
@@ -103,15 +98,13 @@ pub(crate) fn stream<
     reader: &mut D,
     from: &mut F,
     gate: &G,
-) -> (Back<A>, Result<(), SinkFault>)
+) -> (Vec<Worker<A>, A>, Result<(), SinkFault>)
     requires ready { IsReady (task_of round.now) }
-    requires worked { All (HasWorked (task_of round.now)) workers.items
-        × (1 < vec_len workers) }
+    requires finished { All (HasFinished (task_of round.now)) workers.items × (1 < vec_len workers) }
     requires sees { (found : Searched) → S.searched found ≡ found }
     requires take { (take.old.tray ≡ tray.now) × (take.old.taken ≡ []) }
     requires reader { D.ready reader.old from.old }
-    ensures worked { IfOk result.0 (λ back. (vec_len back ≡ vec_len workers)
-        × All (HasWorked (task_of round.now)) back.items) }
+    ensures back { AreBack (task_of round.now) workers.items result.0.items }
     ensures same { (take.new.tray ≡ tray.now) × (take.new.workers ≡ take.old.workers) }
     ensures took { TookIn result.1 (S.stands collector.old) (S.stands collector.new) take.new.taken
         (W.taken out.old) (W.taken out.new) (W.failures out.old) (W.failures out.new) }
@@ -134,13 +127,11 @@ pub(crate) fn stream<
         ensures ready { D.ready reader.exit.now from.exit.now }
         ensures read { HasGoneOn D.reaches reader.entry.now from.entry.now reader.exit.now from.exit.now }
     { take_all(rt, tray, take, collector, out, reader, from, &signs) };
-    let mut working = || -> Back<A>
+    let mut working = || -> Vec<Worker<A>, A>
         requires jobs { IsSome jobs × IfSome jobs (λ workers.
-            All (HasWorked (task_of round.now)) workers.items
-            × (1 < vec_len workers)) }
+            All (HasFinished (task_of round.now)) workers.items × (1 < vec_len workers)) }
         requires ready { IsReady (task_of round.now) }
-        ensures { IfOk result (λ back. IfSome jobs.entry (λ workers. vec_len back ≡ vec_len workers)
-            × All (HasWorked (task_of round.entry.now)) back.items) }
+        ensures { IfSome jobs.entry (λ workers. AreBack (task_of round.entry.now) workers.items result.items) }
     {
         let Some(workers) = jobs.take() else {
             unreachable!()

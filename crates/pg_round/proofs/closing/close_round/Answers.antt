@@ -34,8 +34,8 @@ returns-clause-all g c = λ rs merge n low.
     (subst (λ (ls : List (List Searched)). IsMerge ls rs)
     (ap (λ (d : DeliveredView Searched). d.lists) c.close.ensures) merge)
 
-pub part-requires-clause-worked : goal.part-requires-clause-worked
-part-requires-clause-worked g c = c.requires.worked
+pub part-requires-clause-finished : goal.part-requires-clause-finished
+part-requires-clause-finished g c = c.requires.finished
 
 pub part-requires-clause-spent : goal.part-requires-clause-spent
 part-requires-clause-spent g c = c.requires.spent.0

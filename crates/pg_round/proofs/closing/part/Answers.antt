@@ -6,9 +6,9 @@ use Rattle.pg_lines.specs.Searched.{Searched}
 use Rattle.pg_board.specs.Board.{SeatView}
 use Rattle.pg_board.specs.Tray.{PutView}
 use Rattle.pg_round.specs.declared.worker.Worker.{Worker}
-use Rattle.pg_round.specs.Workers.{task_of, HasWorked, AreWorks}
+use Rattle.pg_round.specs.Workers.{task_of, IsWork, HasFinished, AreWorks}
 use Rattle.pg_round.proofs.ListLemmas.{all_more, all_last, all_front, any_last, any_front, any_split, any_none}
-use Rattle.pg_round.proofs.GrowLemmas.{works_more}
+use Rattle.pg_round.proofs.GrowLemmas.{work_of, fits_of, works_more}
 use Rattle.pg_round.proofs.closing.part.Goals as goal
 
 pub loop-worker-preserved : goal.loop-worker-preserved
@@ -16,31 +16,34 @@ loop-worker-preserved g c =
     let A : Type 0 = g.row.A.Denot in let i = c.loop-worker.invariant in let t = task_of c.args.round in
     let s = c.push_reserved.ensures in let p = c.push_reserved-in-Some.ensures in let k = c.in_ok-push.ensures in
     let w : Worker A = c.in-Some.worker in let rest : List (Worker A) = c.pop.new.self.items in
-    let P : Worker A → Type 0 = HasWorked t in
+    let P : Worker A → Type 0 = HasFinished t in
     let IsFit : Room → Type 0 = λ s. Fits s (arc_value c.args.round.query.now).machine in
     let WasSpent : Worker A → Type 0 = λ w. w.seat.spent ≡ true in
     let IsSpent : SeatView → Type 0 = λ s. s.spent ≡ true in
-    let all : All P (rest ++ w ∷ []) = subst (λ (l : List (Worker A)). All P l) c.in-Some.ensures.items i.worked in
+    let all : All P (rest ++ w ∷ []) = subst (λ (l : List (Worker A)). All P l) c.in-Some.ensures.items i.finished in
     let parts = c.apart-seat.result in let seat = parts.0 in let pass = parts.1 in let scratch = parts.2 in
-    let same : w ≡ record { seat = seat; pass = pass; scratch = scratch } = c.apart-seat.ensures in
-    let worked : P (record { seat = seat; pass = pass; scratch = scratch }) = subst P same (all_last P rest w all) in
-    let more = works_more t c.loop-worker.seats.items c.loop-worker.passes.items seat pass i.works worked.0 in
+    let same = c.apart-seat.ensures in let finished : P w = all_last P rest w all in
+    let done : IsWork t seat pass =
+    subst (λ (s : SeatView). IsWork t s pass) (sym same.0)
+    (subst (λ (p : PutView Searched A). IsWork t w.seat p) (sym same.1) (work_of t w finished)) in
+    let more = works_more t c.loop-worker.seats.items c.loop-worker.passes.items seat pass i.works done in
     let seats_spent : Any IsSpent (c.loop-worker.seats.items ++ seat ∷ [])
     → Any IsSpent c.push_reserved.new.self.items = subst (λ (l : List SeatView). Any IsSpent l) (sym s.items) in
     record {
-      worked = all_front P rest w all;
+      finished = all_front P rest w all;
       works = subst (λ (l : List SeatView). AreWorks t l c.push_reserved-in-Some.new.self.items) (sym s.items)
           (subst (λ (l : List (PutView Searched A)). AreWorks t (c.loop-worker.seats.items ++ seat ∷ []) l)
           (sym p.items) more);
       spent = ⊎_elim
           (λ before. ⊎_elim (λ left. inl left)
-          (λ last. inr (seats_spent (any_last IsSpent c.loop-worker.seats.items seat (subst WasSpent same last))))
+          (λ last. inr (seats_spent (any_last IsSpent c.loop-worker.seats.items seat (subst IsSpent (sym same.0) last))))
           (any_split WasSpent rest w (subst
           (λ (l : List (Worker A)). Any WasSpent l) c.in-Some.ensures.items before)))
           (λ done. inr (seats_spent (any_front IsSpent c.loop-worker.seats.items seat done)))
           i.spent;
       fits = subst (λ (l : List Room). All IsFit l) (sym k.items)
-          (all_more IsFit c.loop-worker.scratches.items scratch i.fits worked.1);
+          (all_more IsFit c.loop-worker.scratches.items scratch i.fits
+          (subst IsFit (sym same.2) (fits_of t w finished.0)));
       same = (let a = i.same in let l = s.len in let m = p.len in omega arith);
       count = (let a = i.count in let b = c.in-Some.ensures.cases in let l = s.len in omega arith);
       back = (let a = i.back in let b = c.in-Some.ensures.cases in let l = k.len in omega arith);
@@ -56,7 +59,7 @@ loop-worker-init g c =
     let a = s.len in let b = p.len in let d = s.exact in let e = p.exact in
     let l = c.len.ensures in let k = c.len-2.ensures in
     record {
-      worked = c.requires.worked;
+      finished = c.requires.finished;
       works = rw (s.items, p.items) tt;
       spent = inl c.requires.spent;
       fits = c.requires.fits;

@@ -3,12 +3,12 @@ use Rattle.std.specs.Arc.{arc_value}
 use Rattle.pg_match.specs.Machines.{Fits, Room}
 use Rattle.pg_board.specs.Board.{SeatView}
 use Rattle.pg_round.specs.declared.worker.Worker.{Worker}
-use Rattle.pg_round.specs.Workers.{task_of, HasWorked, AreWorks}
+use Rattle.pg_round.specs.Workers.{task_of, HasFinished, AreWorks}
 use Rattle.pg_round.proofs.closing.part.Given as goal
 
 abbrev pub invariant-loop-worker : goal.invariant-loop-worker
 invariant-loop-worker g l = record {
-  worked : All (HasWorked (task_of l.round)) l.workers.items;
+  finished : All (HasFinished (task_of l.round)) l.workers.items;
   works : AreWorks (task_of l.round) l.seats.items l.passes.items;
   spent : Any (λ (w : Worker g.row.A.Denot). w.seat.spent ≡ true) l.workers.items
       ⊎ Any (λ (s : SeatView). s.spent ≡ true) l.seats.items;

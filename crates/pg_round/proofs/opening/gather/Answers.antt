@@ -1,14 +1,14 @@
 use Rattle.std.proofs.lemmas.Result.{IfOk-from_err}
-use Rattle.std.proofs.Common.{◌≡◌, List, All, [], ◌∷◌, ◌++◌, false, sym, subst, arith}
+use Rattle.std.proofs.Common.{◌≡◌, List, All, [], ◌∷◌, ◌++◌, false, None, refl, sym, subst, arith}
 use Rattle.std.specs.Arc.{arc_value}
 use Rattle.pg_match.specs.Machines.{Fits, Room}
 use Rattle.pg_lines.specs.Searched.{Searched}
 use Rattle.pg_board.specs.Board.{SeatView, seat_view}
 use Rattle.pg_board.specs.Tray.{PutView, put_view}
 use Rattle.pg_round.specs.declared.worker.Worker.{Worker}
-use Rattle.pg_round.specs.Workers.{task_of, HasWorked}
+use Rattle.pg_round.specs.Workers.{task_of, HasFinished}
 use Rattle.pg_round.proofs.ListLemmas.{all_more, all_last, all_front, all_none}
-use Rattle.pg_round.proofs.GrowLemmas.{fresh_work}
+use Rattle.pg_round.proofs.GrowLemmas.{finished_of, fresh_work}
 use Rattle.pg_round.proofs.opening.gather.Goals as goal
 
 pub loop-seat-preserved : goal.loop-seat-preserved
@@ -17,7 +17,7 @@ loop-seat-preserved g c =
     let IsNewSeat : SeatView → Type 0 = λ s. s ≡ seat_view c.args.round.board.now [] false in
     let IsNewPass : PutView Searched A → Type 0 = λ p. p ≡ put_view c.args.round.tray.now [] in
     let IsFit : Room → Type 0 = λ s. Fits s (arc_value c.args.round.query.now).machine in
-    let P : Worker A → Type 0 = HasWorked (task_of c.args.round) in
+    let P : Worker A → Type 0 = HasFinished (task_of c.args.round) in
     let seats : All IsNewSeat (c.pop.new.self.items ++ c.in-Some.seat ∷ []) =
     subst (λ (l : List SeatView). All IsNewSeat l) c.in-Some.ensures.items i.seats in
     let passes : All IsNewPass (c.pop-in-Some.new.self.items ++ c.in-Some-pop.pass ∷ []) =
@@ -29,8 +29,16 @@ loop-seat-preserved g c =
     all_last IsNewPass c.pop-in-Some.new.self.items c.in-Some-pop.pass passes in
     let fit : IsFit c.in-Some-pop-2.scratch =
     all_last IsFit c.pop-in-Some-2.new.self.items c.in-Some-pop-2.scratch fits in
-    let new : P record { seat = c.in-Some.seat; pass = c.in-Some-pop.pass; scratch = c.in-Some-pop-2.scratch } =
-    (fresh_work (task_of c.args.round) c.in-Some.seat c.in-Some-pop.pass seat pass, fit) in
+    let worker : Worker A =
+    record {
+      seat = c.in-Some.seat;
+      pass = c.in-Some-pop.pass;
+      scratch = c.in-Some-pop-2.scratch;
+      unfinished = None;
+    } in
+    let t = task_of c.args.round in
+    let new : P worker =
+    finished_of t worker (fresh_work t c.in-Some.seat c.in-Some-pop.pass seat pass) fit refl in
     record {
       seats = all_front IsNewSeat c.pop.new.self.items c.in-Some.seat seats;
       passes = all_front IsNewPass c.pop-in-Some.new.self.items c.in-Some-pop.pass passes;
@@ -40,9 +48,8 @@ loop-seat-preserved g c =
       left = (let a = i.left in let b = c.in-Some-pop-2.ensures.cases in let l = pushed.len in omega arith);
       enough = i.enough;
       room = (let a = i.room in let l = pushed.capacity in omega arith);
-      worked = subst (λ (l : List (Worker A)). All P l) (sym pushed.items)
-          (all_more P c.loop-seat.workers.items record
-          { seat = c.in-Some.seat; pass = c.in-Some-pop.pass; scratch = c.in-Some-pop-2.scratch } i.worked new);
+      finished = subst (λ (l : List (Worker A)). All P l) (sym pushed.items)
+          (all_more P c.loop-seat.workers.items worker i.finished new);
     }
 
 pub returns-in_err-workers-clause-workers : goal.returns-in_err-workers-clause-workers
@@ -54,7 +61,7 @@ returns-in_err-workers-clause-scratches g c = IfOk-from_err c.from_residual.resu
 pub loop-seat-init : goal.loop-seat-init
 loop-seat-init g c =
     let A : Type 0 = g.row.A.Denot in
-    let P : Worker A → Type 0 = HasWorked (task_of c.args.round) in
+    let P : Worker A → Type 0 = HasFinished (task_of c.args.round) in
     let r = c.requires in
     let s = c.in_ok-workers.ensures in let a = s.len in let d = s.exact in let l = c.len.ensures in
     record {
@@ -66,7 +73,7 @@ loop-seat-init g c =
       left = omega arith;
       enough = r.scratches.1;
       room = omega arith;
-      worked = subst (λ (l : List (Worker A)). All P l) (sym s.items) (all_none P);
+      finished = subst (λ (l : List (Worker A)). All P l) (sym s.items) (all_none P);
     }
 
 pub push_reserved-requires : goal.push_reserved-requires
@@ -80,7 +87,7 @@ loop-seat-smaller g c = let b = c.in-Some.ensures.cases in omega arith
 pub returns-clause-workers : goal.returns-clause-workers
 returns-clause-workers g c =
     let i = c.loop-seat.invariant in
-    (i.worked, (let a = i.count in let n = c.in_default.ensures.cases in omega arith))
+    (i.finished, (let a = i.count in let n = c.in_default.ensures.cases in omega arith))
 
 pub returns-clause-scratches : goal.returns-clause-scratches
 returns-clause-scratches g c =

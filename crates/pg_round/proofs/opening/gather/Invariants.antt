@@ -4,7 +4,7 @@ use Rattle.pg_match.specs.Machines.{Fits, Room}
 use Rattle.pg_lines.specs.Searched.{Searched}
 use Rattle.pg_board.specs.Board.{SeatView, seat_view}
 use Rattle.pg_board.specs.Tray.{PutView, put_view}
-use Rattle.pg_round.specs.Workers.{task_of, HasWorked}
+use Rattle.pg_round.specs.Workers.{task_of, HasFinished}
 use Rattle.pg_round.proofs.opening.gather.Given as goal
 
 abbrev pub invariant-loop-seat : goal.invariant-loop-seat
@@ -17,7 +17,7 @@ invariant-loop-seat g l = record {
   left : vec_len l.scratches + vec_len l.workers ≡ vec_len l.initial.scratches;
   enough : vec_len l.initial.seats ≤ vec_len l.initial.scratches;
   room : vec_len l.initial.seats ≤ vec_capacity l.workers;
-  worked : All (HasWorked (task_of l.round)) l.workers.items;
+  finished : All (HasFinished (task_of l.round)) l.workers.items;
 }
 
 abbrev pub decreases-loop-seat : goal.decreases-loop-seat

@@ -1,22 +1,19 @@
-use Rattle.std.proofs.Common.{◌≡◌, true, arith}
-use Rattle.std.proofs.lemmas.List.Elements.{All-set}
+use Rattle.std.proofs.Common.{arith}
 use Rattle.std.proofs.lemmas.Result.{err_from_is_err_and}
 use Rattle.pg_round.specs.declared.searching.RoundFault.TheVariants.{OutOfMemory, Sink as SinkFails}
-use Rattle.pg_round.specs.declared.worker.Worker.{Worker}
-use Rattle.pg_round.specs.Workers.{task_of, HasWorked}
-use Rattle.pg_round.proofs.ListLemmas.{all_at, any_first}
+use Rattle.pg_round.specs.Workers.{AreBack}
 use Rattle.pg_round.proofs.ReceiptLemmas.{failed_after, same_fault, no_fault, no_sink_fault}
 use Rattle.pg_round.proofs.searching.search_all.Goals as goal
 
-pub search_beside-requires-clause-worked : goal.search_beside-requires-clause-worked
-search_beside-requires-clause-worked g c κs within = c.requires.worked.0
+pub search_beside-requires-clause-finished : goal.search_beside-requires-clause-finished
+search_beside-requires-clause-finished g c κs within = c.requires.finished.0
 
 pub returns-in_err-workers : goal.returns-in_err-workers
 returns-in_err-workers g c =
     let p = err_from_is_err_and c.from_residual.result c.from_residual.ensures.1 in
     let e = c.in_err-workers.ensures in
     rw (p.1, p.2) (record {
-      worked = tt;
+      finished = tt;
       spent = tt;
       same = e.same;
       ok = λ past st n s. tt;
@@ -28,12 +25,12 @@ returns-in_err-workers g c =
       read = e.read;
     })
 
-pub returns-in_err-search : goal.returns-in_err-search
-returns-in_err-search g c =
-    let p = err_from_is_err_and c.from_residual-in_err-search.result c.from_residual-in_err-search.ensures.1 in
+pub returns-in_err-search_rest : goal.returns-in_err-search_rest
+returns-in_err-search_rest g c =
+    let p = err_from_is_err_and c.from_residual-in_err-search_rest.result c.from_residual-in_err-search_rest.ensures.1 in
     let e = c.in_ok-workers.ensures in
     rw (p.1, p.2) (record {
-      worked = tt;
+      finished = tt;
       spent = tt;
       same = e.same;
       ok = λ past st n s. tt;
@@ -80,30 +77,25 @@ search_beside-requires-clause-take g c κs within = c.requires.take
 pub search_beside-requires-clause-reader : goal.search_beside-requires-clause-reader
 search_beside-requires-clause-reader g c κs within = c.requires.reader
 
-pub index_mut-requires : goal.index_mut-requires
-index_mut-requires g c = let n = c.in_ok-workers.ensures.worked.0 in let q = c.requires.worked.1 in omega arith
+pub search_rest-requires-clause-ready : goal.search_rest-requires-clause-ready
+search_rest-requires-clause-ready g c = c.requires.ready
 
-pub search-requires-clause-ready : goal.search-requires-clause-ready
-search-requires-clause-ready g c = c.requires.ready
+pub search_rest-requires-clause-worked : goal.search_rest-requires-clause-worked
+unfolding AreBack
+search_rest-requires-clause-worked g c =
+    let back = c.in_ok-workers.ensures.back in
+    let n = back.0 in let q = c.requires.finished.1 in
+    (back.1, omega (arith, c.args.workers.ok.0, c.in_ok-workers.workers.ok.0))
 
-pub search-requires-clause-worked : goal.search-requires-clause-worked
-search-requires-clause-worked g c =
-    let P : Worker g.row.A.Denot → Type 0 = HasWorked (task_of c.args.round) in
-    let back = c.in_ok-workers.ensures.worked in
-    let n = back.0 in let q = c.requires.worked.1 in let l = c.in_ok-workers.workers.ok.0 in
-    all_at P c.in_ok-workers.workers.items 0 c.index_mut.result.now back.1 (omega arith) c.index_mut.ensures.value
-
-pub returns-clause-worked : goal.returns-clause-worked
-returns-clause-worked g c =
-    let P : Worker g.row.A.Denot → Type 0 = HasWorked (task_of c.args.round) in
-    let back = c.in_ok-workers.ensures.worked in
-    (back.0, All-set P c.in_ok-workers.workers.items 0 c.search.new.worker c.in_ok-search.ensures.worked back.1)
+pub returns-clause-finished : goal.returns-clause-finished
+unfolding AreBack
+returns-clause-finished g c =
+    let rest = c.in_ok-search_rest.ensures.finished in
+    let n = rest.0 in let k = c.in_ok-workers.ensures.back.0 in
+    (omega (arith, c.args.workers.ok.0, c.in_ok-workers.workers.ok.0), rest.1)
 
 pub returns-clause-spent : goal.returns-clause-spent
-returns-clause-spent g c =
-    let P : Worker g.row.A.Denot → Type 0 = λ w. w.seat.spent ≡ true in
-    let n = c.in_ok-workers.ensures.worked.0 in let q = c.requires.worked.1 in let l = c.in_ok-workers.workers.ok.0 in
-    any_first P c.in_ok-workers.workers.items c.search.new.worker (omega arith) c.in_ok-search.ensures.spent
+returns-clause-spent g c = c.in_ok-search_rest.ensures.spent
 
 pub returns-clause-memory : goal.returns-clause-memory
 returns-clause-memory g c = λ is. no_fault _ _ is

@@ -1,17 +1,20 @@
 use Rattle.std.proofs.Common.{List, refl, sym, subst, arith}
+use Rattle.std.proofs.lemmas.List.Elements.{All-weaker}
 use Rattle.std.proofs.lemmas.Result.{IfOk-at_ok, err_from_is_err_and}
 use Rattle.pg_lines.specs.Searched.{Searched}
+use Rattle.pg_round.specs.Workers.{task_of, HasWorked, HasFinished, AreBack}
 use Rattle.pg_round.specs.Receipts.{HasReceived}
 use Rattle.pg_round.specs.Reading.{HasGoneOn}
-use Rattle.pg_round.proofs.ReceiptLemmas.{received_none, failed_after, took_ok, took_err, no_fault, no_memory_fault}
-use Rattle.pg_round.proofs.ReceiptLemmas.{no_sink_fault}
+use Rattle.pg_round.proofs.ReceiptLemmas.{received_none, took_ok, took_err, no_fault, no_memory_fault}
 use Rattle.pg_round.proofs.searching.search_beside.Goals as goal
 
 pub returns-then-len-lt2 : goal.returns-then-len-lt2
+unfolding AreBack
 returns-then-len-lt2 g c =
     let w = g.W.Sink.taken c.args.out.now in let stands = g.S.Collector.stands c.args.collector.now in
+    let t = task_of c.args.round in
     record {
-      worked = (refl, c.requires.worked);
+      back = (refl, All-weaker (HasFinished t) (HasWorked t) (λ w h. h.0) c.args.workers.items c.requires.finished);
       same = (c.requires.take.0, refl);
       ok = λ past st n s. subst (λ (l : List Searched). HasReceived stands past l w w) (sym c.requires.take.1)
           (received_none stands past w st s);
@@ -33,7 +36,7 @@ returns-in_err-taken g c =
     let b = g.W.Sink.taken c.args.out.now in let a = g.W.Sink.taken c.stream-back.new.out in
     let f = g.W.Sink.failures c.args.out.now in let f' = g.W.Sink.failures c.stream-back.new.out in
     rw (p.1, p.2) (record {
-      worked = tt;
+      back = tt;
       same = e.same;
       ok = λ past st n s. tt;
       err = λ past st n s. (took_err c.stream-back.result.1 _ stands last c.stream-back.new.take.taken b a f f' e.took
@@ -46,32 +49,8 @@ returns-in_err-taken g c =
       read = λ r f h. e.read r f h;
     })
 
-pub returns-in_err-back : goal.returns-in_err-back
-unfolding HasGoneOn
-returns-in_err-back g c =
-    let p = err_from_is_err_and c.from_residual-in_err-back.result c.from_residual-in_err-back.ensures.1 in
-    let e = c.stream-back.ensures in
-    let stands = g.S.Collector.stands c.args.collector.now in
-    let last = g.S.Collector.stands c.stream-back.new.collector in
-    let b = g.W.Sink.taken c.args.out.now in let a = g.W.Sink.taken c.stream-back.new.out in
-    let f = g.W.Sink.failures c.args.out.now in let f' = g.W.Sink.failures c.stream-back.new.out in
-    rw (p.1, p.2) (record {
-      worked = tt;
-      same = e.same;
-      ok = λ past st n s. tt;
-      err = λ past st n s.
-          failed_after last past c.stream-back.new.take.taken b a
-          (took_ok c.stream-back.result.1 c.in_ok-taken.field-0 stands last c.stream-back.new.take.taken b a f f' e.took
-          c.in_ok-taken.was past st n s);
-      cause = λ past st n s is. no_sink_fault is;
-      calm = tt;
-      memory = λ is. IfOk-at_ok _ c.in_ok-taken.was e.calm;
-      ready = e.ready;
-      read = λ r f h. e.read r f h;
-    })
-
-pub returns-clause-worked : goal.returns-clause-worked
-returns-clause-worked g c = IfOk-at_ok _ c.in_ok-back.was c.stream-back.ensures.worked
+pub returns-clause-back : goal.returns-clause-back
+returns-clause-back g c = c.stream-back.ensures.back
 
 pub returns-clause-same : goal.returns-clause-same
 returns-clause-same g c = c.stream-back.ensures.same
@@ -100,9 +79,9 @@ returns-clause-read g c = λ r f h. c.stream-back.ensures.read r f h
 pub stream-back-requires-clause-ready : goal.stream-back-requires-clause-ready
 stream-back-requires-clause-ready g c κs within = c.requires.ready
 
-pub stream-back-requires-clause-worked : goal.stream-back-requires-clause-worked
-stream-back-requires-clause-worked g c κs within =
-    (c.requires.worked, (let n = c.if-len-lt2.false in let l = c.len.ensures in omega arith))
+pub stream-back-requires-clause-finished : goal.stream-back-requires-clause-finished
+stream-back-requires-clause-finished g c κs within =
+    (c.requires.finished, (let n = c.if-len-lt2.false in let l = c.len.ensures in omega arith))
 
 pub stream-back-requires-clause-sees : goal.stream-back-requires-clause-sees
 stream-back-requires-clause-sees g c κs within = c.requires.sees

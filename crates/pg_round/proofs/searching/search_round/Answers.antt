@@ -22,8 +22,8 @@ open_round-requires-clause-few g c =
 pub open_round-requires-clause-fits : goal.open_round-requires-clause-fits
 open_round-requires-clause-fits g c = c.requires.fits
 
-pub close_round-requires-clause-worked : goal.close_round-requires-clause-worked
-close_round-requires-clause-worked g c = c.in_ok-workers.ensures.worked.1
+pub close_round-requires-clause-finished : goal.close_round-requires-clause-finished
+close_round-requires-clause-finished g c = c.in_ok-workers.ensures.finished.1
 
 pub close_round-requires-clause-spent : goal.close_round-requires-clause-spent
 close_round-requires-clause-spent g c = (c.in_ok-workers.ensures.spent, sym c.in_ok-board.ensures.board.0)
@@ -31,8 +31,8 @@ close_round-requires-clause-spent g c = (c.in_ok-workers.ensures.spent, sym c.in
 pub close_round-requires-clause-all : goal.close_round-requires-clause-all
 close_round-requires-clause-all g c =
     let opened = c.in_ok-board.ensures in let back = c.in_ok-workers.ensures in (
-      back.worked.0 ∙ opened.workers.0 ∙ sym opened.board.1,
-      back.worked.0 ∙ opened.workers.0
+      back.finished.0 ∙ opened.workers.0 ∙ sym opened.board.1,
+      back.finished.0 ∙ opened.workers.0
           ∙ sym (back.same.1 ∙ ap (λ t. t.workers) opened.take),
       back.same.0,
     )
@@ -121,7 +121,7 @@ returns g c =
     let left = c.in_ok-delivered.delivered in
     let e = c.in_ok-workers.ensures in
     let opened = c.in_ok-board.ensures.workers.0 in let lent = c.in_ok-board.ensures.scratches.1 in
-    let back = e.worked.0 in let given = c.in_ok-delivered.ensures.count in
+    let back = e.finished.0 in let given = c.in_ok-delivered.ensures.count in
     record {
       ok = λ past st n s.
           round_done mid last past (arc_value c.args.query.now).text c.args.blocks.now left.lists
@@ -146,8 +146,8 @@ count_workers-count-requires g c =
 pub search_all-requires-clause-ready : goal.search_all-requires-clause-ready
 search_all-requires-clause-ready g c κs within = (sym c.in_ok-board.ensures.board.0, c.requires.short)
 
-pub search_all-requires-clause-worked : goal.search_all-requires-clause-worked
-search_all-requires-clause-worked g c κs within =
+pub search_all-requires-clause-finished : goal.search_all-requires-clause-finished
+search_all-requires-clause-finished g c κs within =
     let w = c.in_ok-board.ensures.workers in let n = c.count_workers-count.ensures in
     (w.1, subst (λ k. 0 < k) (sym w.0) n.0)
 

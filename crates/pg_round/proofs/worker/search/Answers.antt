@@ -1,29 +1,36 @@
+use Rattle.std.proofs.Common.{refl, None, Some}
+use Rattle.pg_round.specs.declared.worker.Worker.{Worker}
 use Rattle.pg_round.specs.Workers.{task_of}
-use Rattle.pg_round.proofs.GrowLemmas.{grown}
-use Rattle.std.proofs.lemmas.Result.{on_ok_weaker}
+use Rattle.pg_round.proofs.GrowLemmas.{grown, work_of, fits_of, finished_of, left_of}
 use Rattle.pg_round.proofs.worker.search.Goals as goal
-
-pub returns-clause-worked : goal.returns-clause-worked
-returns-clause-worked g c =
-    let w = c.requires.worked in let same = c.work.ensures.same in
-    on_ok_weaker c.work.result (λ h. (
-      (
-        same.0,
-        same.1,
-        grown (task_of c.args.round) c.args.worker.now.seat.drawn c.work.new.seat.drawn c.args.worker.now.pass.put
-            c.work.new.pass.put w.0.2 h.1,
-      ),
-      c.work.ensures.fits,
-    )) c.work.ensures.ok
 
 pub work-requires-clause-ready : goal.work-requires-clause-ready
 work-requires-clause-ready g c = c.requires.ready
 
 pub work-requires-clause-same : goal.work-requires-clause-same
-work-requires-clause-same g c = (c.requires.worked.0.0, c.requires.worked.0.1)
+work-requires-clause-same g c =
+    let work = work_of (task_of c.args.round) c.args.worker.now c.requires.finished in (work.0, work.1)
 
 pub work-requires-clause-fits : goal.work-requires-clause-fits
-work-requires-clause-fits g c = c.requires.worked.1
+work-requires-clause-fits g c = fits_of (task_of c.args.round) c.args.worker.now c.requires.finished.0
 
-pub returns-clause-spent : goal.returns-clause-spent
-returns-clause-spent g c = on_ok_weaker c.work.result (λ h. h.0) c.work.ensures.ok
+pub returns-in-Ok-clause-worked : goal.returns-in-Ok-clause-worked
+returns-in-Ok-clause-worked g c =
+    let t = task_of c.args.round in let w = c.args.worker.now in let seat = c.work.new.seat in
+    let pass = c.work.new.pass in let same = c.work.ensures.same in
+    let new : Worker g.row.A.Denot =
+    record { seat = seat; pass = pass; scratch = c.work.new.scratch; unfinished = None } in
+    let work = work_of t w c.requires.finished in
+    let all = grown t w.seat.drawn seat.drawn w.pass.put pass.put work.2 c.in-Ok.ensures.ok.1 in
+    (finished_of t new (same.0, same.1, all) c.work.ensures.fits refl).0
+
+pub returns-in-Err-clause-worked : goal.returns-in-Err-clause-worked
+returns-in-Err-clause-worked g c =
+    let t = task_of c.args.round in let w = c.args.worker.now in let seat = c.work.new.seat in
+    let pass = c.work.new.pass in let same = c.work.ensures.same in
+    let n = c.in-Err.field-0.number in let left = c.in-Err.ensures.err in
+    let new : Worker g.row.A.Denot =
+    record { seat = seat; pass = pass; scratch = c.work.new.scratch; unfinished = Some n } in
+    let work = work_of t w c.requires.finished in
+    let all = grown t w.seat.drawn left.1.0 w.pass.put pass.put work.2 left.1.2 in
+    left_of t new left.1.0 n refl left.1.1 (same.0, same.1, all) left.0 c.work.ensures.fits

@@ -1,7 +1,6 @@
-use Rattle.std.proofs.Common.{refl, ◌∙◌}
-use Rattle.std.proofs.lemmas.Result.{err_from_is_err_and}
+use Rattle.std.proofs.Common.{◌∙◌}
 use Rattle.pg_round.specs.Workers.{task_of}
-use Rattle.pg_round.proofs.GrowLemmas.{grow_none, grow_more, grow_short}
+use Rattle.pg_round.proofs.GrowLemmas.{grow_none, grow_more, grow_but}
 use Rattle.pg_round.proofs.worker.work.Goals as goal
 
 pub loop-init : goal.loop-init
@@ -18,15 +17,14 @@ pub loop-preserved : goal.loop-preserved
 loop-preserved g c =
     let i = c.loop.invariant in
     let drew = c.in-Some-draw.ensures in
-    let put = c.in-Ok.ensures in (
+    let put = c.in-Ok.ensures.ok in (
       tt,
       tt,
       c.draw.ensures.board,
-      c.put.ensures.tray,
-      c.search_number.ensures.fits,
+      c.search_one.ensures.tray,
+      c.search_one.ensures.fits,
       grow_more (task_of c.args.round) c.args.seat.now.drawn c.loop.seat.drawn c.draw.new.seat.drawn c.args.pass.now.put
-          c.loop.pass.put c.put.new.pass.put c.in-Some-draw.number c.in_ok-found.found i.5 drew.some.2 put.ok
-          c.in_ok-found.ensures.found,
+          c.loop.pass.put c.search_one.new.pass.put c.in-Some-draw.number put.0 i.5 drew.some.2 put.1 put.2,
     )
 
 pub returns-in_default : goal.returns-in_default
@@ -39,42 +37,32 @@ returns-in_default g c =
       err = tt;
     }
 
-pub returns-in_default-put : goal.returns-in_default-put
-returns-in_default-put g c =
+pub returns-in_default-search_one : goal.returns-in_default-search_one
+returns-in_default-search_one g c =
     let i = c.loop.invariant in
     record {
-      same = (c.draw.ensures.board, c.put.ensures.tray);
-      fits = c.search_number.ensures.fits;
+      same = (c.draw.ensures.board, c.search_one.ensures.tray);
+      fits = c.search_one.ensures.fits;
       ok = tt;
-      err = grow_short (task_of c.args.round) c.args.seat.now.drawn c.loop.seat.drawn c.draw.new.seat.drawn
-          c.args.pass.now.put c.loop.pass.put c.put.new.pass.put c.in-Some-draw.number i.5 c.in-Some-draw.ensures.some.2
-          c.in_default-put.ensures.err.1;
+      err = (
+        c.in-Some-draw.ensures.below,
+        grow_but (task_of c.args.round) c.args.seat.now.drawn c.loop.seat.drawn c.draw.new.seat.drawn
+            c.args.pass.now.put c.loop.pass.put c.search_one.new.pass.put c.in-Some-draw.number i.5
+            c.in-Some-draw.ensures.some.2 c.in_default-search_one.ensures.err,
+      );
     }
-
-pub returns-in_err-found : goal.returns-in_err-found
-returns-in_err-found g c =
-    let p = err_from_is_err_and c.from_residual.result c.from_residual.ensures.1 in
-    let i = c.loop.invariant in
-    rw p.1 (record {
-      same = (c.draw.ensures.board, i.3);
-      fits = c.search_number.ensures.fits;
-      ok = tt;
-      err = grow_short (task_of c.args.round) c.args.seat.now.drawn c.loop.seat.drawn c.draw.new.seat.drawn
-          c.args.pass.now.put c.loop.pass.put c.loop.pass.put c.in-Some-draw.number i.5 c.in-Some-draw.ensures.some.2
-          refl;
-    })
 
 pub draw-requires : goal.draw-requires
 draw-requires g c = c.loop.invariant.2
 
-pub search_number-requires-clause-ready : goal.search_number-requires-clause-ready
-search_number-requires-clause-ready g c = c.requires.ready
+pub search_one-requires-clause-ready : goal.search_one-requires-clause-ready
+search_one-requires-clause-ready g c = c.requires.ready
 
-pub search_number-requires-clause-number : goal.search_number-requires-clause-number
-search_number-requires-clause-number g c = c.in-Some-draw.ensures.below
+pub search_one-requires-clause-number : goal.search_one-requires-clause-number
+search_one-requires-clause-number g c = c.in-Some-draw.ensures.below
 
-pub search_number-requires-clause-fits : goal.search_number-requires-clause-fits
-search_number-requires-clause-fits g c = c.loop.invariant.4
+pub search_one-requires-clause-tray : goal.search_one-requires-clause-tray
+search_one-requires-clause-tray g c = c.loop.invariant.3
 
-pub put-requires : goal.put-requires
-put-requires g c = c.loop.invariant.3
+pub search_one-requires-clause-fits : goal.search_one-requires-clause-fits
+search_one-requires-clause-fits g c = c.loop.invariant.4
