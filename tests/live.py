@@ -1,0 +1,335 @@
+#!/usr/bin/env python3
+"""Sees that rows come while the input is still open: `tests/live.py [--program PATH]`
+
+Who writes the input sends its next line only once the rows have come that the lines so far have to give. So a program
+that keeps rows back, or waits for more input than it needs, stands still. The input comes by a pipe, by a FIFO that is
+an operand, or by a terminal, on which the rows and the faults come too. Each case of CASES is run by each of its ways,
+with 1 and with 4 workers. No time is measured: what doesn't come within LIMIT seconds is missing.
+
+The program may be GNU grep, which is given `--line-buffered` and no workers. The last line is `N passed, M failed`.
+"""
+
+import argparse
+import errno
+import os
+import pty
+import select
+import shlex
+import subprocess
+import sys
+import tempfile
+import termios
+import time
+from dataclasses import dataclass
+from pathlib import Path
+
+PROGRAM = Path(__file__).resolve().parent.parent / "crates/pargrep/out/pargrep"
+ENVIRONMENT = {"LC_ALL": "C", "PATH": os.environ.get("PATH", os.defpath)}
+WORKERS = (1, 4)
+
+# What hasn't come after so many seconds is missing.
+LIMIT = 20
+
+# The files beside the input.
+FILES = {"first": "x in first\nnone\n", "other": "none\nx in other\n"}
+
+# How the input comes: a FIFO is opened for writing when the first line is sent, or, if it is held, before the program
+# starts. The program's faults come by the terminal too, and else by a pipe of their own.
+PIPE, FIFO, HELD, TERMINAL = "pipe", "FIFO", "held FIFO", "terminal"
+EACH = (PIPE, FIFO, TERMINAL)
+
+
+@dataclass(frozen=True)
+class Case:
+    """A command, and what is sent to it and has to come from it.
+
+    The words are those behind the program's name; IN stands for the input, and `|` between two commands. A step is a
+    line that is sent, None for nothing, and then the rows that have to come before the next step; IN stands there for
+    the input's name. A row `..WORD..` is any line with that word. `last` are the rows that come once the input was
+    closed. It isn't closed where the program ends by itself.
+    """
+
+    words: str
+    steps: tuple
+    last: tuple = ()
+    ends: bool = False
+    status: int = 0
+    ways: tuple = EACH
+
+
+CASES = [
+    Case("x IN", (("x1", "x1"), ("none",), ("2x", "2x"), ("",), ("x", "x"))),
+    Case("y IN", (("x1",), ("x2",)), status=1),
+    Case(
+        "-n -C 1 x IN",
+        (("a",), ("x2", "1-a", "2:x2"), ("b", "3-b"), ("c",), ("d",), ("x6", "--", "5-d", "6:x6"), ("x7", "7:x7")),
+    ),
+    Case("-A 1 x IN", (("x1", "x1"), ("a", "a"), ("b",), ("c",), ("x5", "--", "x5"))),
+    Case("-o x[0-9] IN", (("x1 and x2", "x1", "x2"), ("none",), ("ax3", "x3"))),
+    Case("-v x IN", (("x1",), ("a", "a"), ("", ""), ("x4",), ("b", "b"))),
+    Case("-m 2 x IN", (("x1", "x1"), ("none",), ("x3", "x3")), ends=True),
+    Case("x IN | y", (("x1",), ("xy2", "xy2"), ("y3",), ("yx4", "yx4"))),
+    Case("-n x IN | -v y | -o [0-9]:x", (("x1", "1:x"), ("a",), ("xy3",), ("x4", "4:x"))),
+    Case("-c x IN", (("x1",), ("none",), ("x3",)), ("2",)),
+    # It ends, though more could come.
+    Case("-q x IN", (("none",), ("x2",)), ends=True),
+    Case("-m 1 x IN", (("none",), ("x2", "x2")), ends=True),
+    Case("-l x IN", (("none",), ("x2", "IN")), ends=True),
+    # The rows of the first file come before anything is known of the second one.
+    Case("-h x first IN", ((None, "x in first"), ("x1", "x1"), ("none",), ("x3", "x3")), ways=(*EACH, HELD)),
+    Case("-c x first IN", ((None, "first:1"), ("x1",), ("x2",)), ("IN:2",), ways=(*EACH, HELD)),
+    Case("-n x first other IN", ((None, "first:1:x in first", "other:2:x in other"),), ways=(PIPE, HELD, TERMINAL)),
+    Case("-q x first IN", ((None,),), ends=True, ways=(PIPE, HELD, TERMINAL)),
+    # A fault is told where it comes in the order of the files.
+    Case(
+        "-H x first missing other IN",
+        ((None, "first:x in first", "..missing..", "other:x in other"), ("x1", "IN:x1")),
+        status=2,
+        ways=(TERMINAL,),
+    ),
+]
+
+
+class Missing(Exception):
+    """What had to come has not, or something else has come."""
+
+
+class Output:
+    """What comes by a file descriptor, line by line."""
+
+    def __init__(self, source):
+        self.source = source
+        self.held = b""
+
+    def more(self):
+        """Whether more came before the end. A terminal that nobody has open any more fails with EIO."""
+        if not select.select([self.source], [], [], LIMIT)[0]:
+            raise Missing(f"nothing came for {LIMIT} seconds")
+        try:
+            text = os.read(self.source, 1 << 16)
+        except OSError as fault:
+            if fault.errno != errno.EIO:
+                raise
+            text = b""
+        self.held += text
+        return bool(text)
+
+    def line(self):
+        """The next line, without its newline; None at the end."""
+        while b"\n" not in self.held:
+            if not self.more():
+                if self.held:
+                    raise Missing(f"{self.held!r} came and no newline")
+                return None
+        line, self.held = self.held.split(b"\n", 1)
+        return line.decode("ascii", "replace")
+
+    def expect(self, row):
+        """Waits for a row."""
+        line = self.line()
+        if line is None:
+            raise Missing(f"the end came in place of {row!r}")
+        is_right = row[2:-2] in line if row.startswith("..") else row == line
+        if not is_right:
+            raise Missing(f"{line!r} came in place of {row!r}")
+
+    def expect_end(self):
+        line = self.line()
+        if line is not None:
+            raise Missing(f"{line!r} came too")
+
+
+class Pipe:
+    """The input is a pipe, and the output another one."""
+
+    name = "(standard input)"
+    operand = "-"
+
+    def __init__(self, folder):
+        self.reader, self.writer = os.pipe()
+        self.source, self.sink = os.pipe()
+        self.fault_source, self.fault_sink = os.pipe()
+
+    def theirs(self):
+        """What the commands read and write by; it is closed here once they run."""
+        return {self.reader, self.sink, self.fault_sink} - {None}
+
+    def send(self, text):
+        os.write(self.writer, text)
+
+    def close(self):
+        """No more will be sent."""
+        if self.writer is not None:
+            os.close(self.writer)
+            self.writer = None
+
+    def end(self):
+        """Closes what is still open here."""
+        self.close()
+        for descriptor in {self.source, self.fault_source} - {None}:
+            os.close(descriptor)
+
+
+class Fifo(Pipe):
+    """The input is a FIFO, which is opened for writing when the first line is sent."""
+
+    def __init__(self, folder):
+        super().__init__(folder)
+        os.close(self.reader)
+        os.close(self.writer)
+        self.reader, self.writer = os.open(os.devnull, os.O_RDONLY), None
+        self.name = self.operand = str(folder / "fifo")
+        os.mkfifo(self.name)
+
+    def open(self):
+        """Opens it once the program has: before that it can't be."""
+        deadline = time.monotonic() + LIMIT
+        while self.writer is None:
+            try:
+                self.writer = os.open(self.name, os.O_WRONLY | os.O_NONBLOCK)
+            except OSError as fault:
+                if fault.errno != errno.ENXIO or time.monotonic() > deadline:
+                    raise Missing("the FIFO was not opened for reading") from fault
+                time.sleep(0.001)
+
+    def send(self, text):
+        self.open()
+        super().send(text)
+
+    def close(self):
+        super().close()
+        if os.path.exists(self.name):
+            os.unlink(self.name)
+
+
+class HeldFifo(Fifo):
+    """The same, but that it is open for writing from the first. It can be so without a reader only once it had one."""
+
+    def __init__(self, folder):
+        super().__init__(folder)
+        both = os.open(self.name, os.O_RDWR)
+        self.holder = os.open(self.name, os.O_WRONLY)
+        os.close(both)
+
+    def close(self):
+        super().close()
+        if self.holder is not None:
+            os.close(self.holder)
+            self.holder = None
+
+
+class Terminal(Pipe):
+    """Input, output and faults are one terminal, which sends nothing back by itself."""
+
+    def __init__(self, folder):
+        self.writer, self.reader = pty.openpty()
+        self.source, self.sink, self.fault_source, self.fault_sink = self.writer, self.reader, None, self.reader
+        modes = termios.tcgetattr(self.reader)
+        modes[1] &= ~termios.OPOST
+        modes[3] &= ~termios.ECHO
+        termios.tcsetattr(self.reader, termios.TCSANOW, modes)
+
+    def close(self):
+        """Ends the input as a user does, by the key for it."""
+        if self.writer is not None:
+            os.write(self.writer, b"\x04")
+            self.writer = None
+
+
+WAYS = {PIPE: Pipe, FIFO: Fifo, HELD: HeldFifo, TERMINAL: Terminal}
+
+
+def words_of(command, way):
+    """The words of a command: standard input is named only where it is not the only operand."""
+    words = shlex.split(command)
+    if way.operand == "-" and not any(word in FILES for word in words):
+        return [word for word in words if word != "IN"]
+    return [way.operand if word == "IN" else word for word in words]
+
+
+def start(commands, folder, way):
+    """Starts the commands, each of which reads what the one before it writes."""
+    runs, reader = [], way.reader
+    for number, command in enumerate(commands):
+        link, sink = (None, way.sink) if number == len(commands) - 1 else os.pipe()
+        streams = {"stdin": reader, "stdout": sink, "stderr": way.fault_sink}
+        runs.append(subprocess.Popen(command, cwd=folder, env=ENVIRONMENT, **streams))
+        for mine in {reader, sink} - way.theirs():
+            os.close(mine)
+        reader = link
+    for descriptor in way.theirs():
+        os.close(descriptor)
+    return runs
+
+
+def talk(case, way, output):
+    """Sends what is to be sent, and waits for the rows. The input stays open where the program ends by itself."""
+    for line, *rows in case.steps:
+        if line is not None:
+            way.send(line.encode("ascii") + b"\n")
+        for row in rows:
+            output.expect(row.replace("IN", way.name))
+    if case.ends:
+        return
+    if isinstance(way, Fifo):
+        way.open()
+    way.close()
+    for row in case.last:
+        output.expect(row.replace("IN", way.name))
+
+
+def fault_of(case, program, folder, way):
+    """What is not as it has to be."""
+    runs = start([[*program, *words_of(command, way)] for command in case.words.split(" | ")], folder, way)
+    try:
+        output = Output(way.source)
+        talk(case, way, output)
+        statuses = [run.wait(LIMIT) for run in runs]
+        output.expect_end()
+        if way.fault_source is not None:
+            Output(way.fault_source).expect_end()
+    except Missing as missing:
+        return str(missing)
+    except subprocess.TimeoutExpired:
+        return f"it has not ended after {LIMIT} seconds"
+    finally:
+        for run in runs:
+            run.kill()
+            run.wait()
+        way.end()
+    return None if statuses[-1] == case.status else f"status {statuses[-1]} in place of {case.status}"
+
+
+def options_of(program):
+    """The options of each run, which stand in front: GNU grep knows no workers, and sends rows at once only if told."""
+    told = subprocess.run([program, "--version"], env=ENVIRONMENT, capture_output=True, check=False).stdout
+    if b"GNU grep" in told.split(b"\n", 1)[0]:
+        return [["--line-buffered"]]
+    return [["--workers", str(count)] for count in WORKERS]
+
+
+def main():
+    parser = argparse.ArgumentParser(description="Sees that rows come while the input is still open.")
+    parser.add_argument("--program", default=PROGRAM)
+    program = str(Path(parser.parse_args().program).resolve())
+    if not os.access(program, os.X_OK):
+        print(f"there is no program at {program}; make builds it\n0 passed, 1 failed")
+        return 1
+    passed, failed = 0, 0
+    with tempfile.TemporaryDirectory(prefix="pargrep-live-") as name:
+        folder = Path(name)
+        for file, text in FILES.items():
+            (folder / file).write_text(text)
+        for options in options_of(program):
+            for case in CASES:
+                for kind in case.ways:
+                    fault = fault_of(case, [program, *options], folder, WAYS[kind](folder))
+                    passed, failed = passed + (not fault), failed + bool(fault)
+                    if fault:
+                        print(f"{' '.join(options)} {case.words}, by {kind}: {fault}", flush=True)
+    print(f"{passed} passed, {failed} failed")
+    return 1 if failed else 0
+
+
+if __name__ == "__main__":
+    sys.exit(main())
