@@ -166,8 +166,8 @@ impl FileTree for Failing<'_> {
 }
 
 /// Trees, with an empty line between them, and behind each what walks over its operands give: `walk` with all that is
-/// below them, `look` without; `fail` with all where the answer of the tree behind so many others fails, and `full` where there
-/// is no memory for it.
+/// below them, `look` without; `fail` with all where the answer of the tree behind so many others fails, and `full`
+/// where there is no memory for it.
 const WALKS: &str = "d directory z a.txt a
 d/a directory b
 d/a/b file

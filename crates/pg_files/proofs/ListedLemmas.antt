@@ -226,7 +226,8 @@ module _ {E : Type 0} (view : E → Found) (items : List E) (asked : ℕ) (item 
       subst (AreOpened (AFile path ∷ so_far)) (sym r.2) (paths_more path so_far (NoFile path r.0) past refl are)
 
   pub next_opened : (spares : Bool) (step : Step) (past past' : List Given)
-      → Reaches spares (view item) step past past' → AreOpened so_far past → AreOpened (asked_for (asked + 1) (map view items)) past'
+      → Reaches spares (view item) step past past' → AreOpened so_far past
+      → AreOpened (asked_for (asked + 1) (map view items)) past'
   next_opened spares step past past' r are =
       subst (λ found. AreOpened found past') (sym more) (opened_by spares (view item) step past past' r are)
 
@@ -241,7 +242,8 @@ module _ {E : Type 0} (view : E → Found) (items : List E) (asked : ℕ) (item 
       (spared_more spares path so_far (NoFile path r.0) past r.3 are)
 
   pub next_spared : (spares : Bool) (step : Step) (past past' : List Given)
-      → Reaches spares (view item) step past past' → AreSpared spares so_far past → AreSpared spares (asked_for (asked + 1) (map view items)) past'
+      → Reaches spares (view item) step past past' → AreSpared spares so_far past
+      → AreSpared spares (asked_for (asked + 1) (map view items)) past'
   next_spared spares step past past' r are =
       subst (λ found. AreSpared spares found past') (sym more) (spare_by spares (view item) step past past' r are)
 
@@ -274,7 +276,8 @@ module _ {E : Type 0} (view : E → Found) (items : List E) (asked : ℕ) (item 
   behind_by spares (AFile path) step past past' (inr r) = ap (drop (length (file_paths (AFile path ∷ so_far)))) r.2
 
   pub next_behind : (spares : Bool) (step : Step) (past past' : List Given)
-      → Reaches spares (view item) step past past' → sources (asked + 1) (map view items) spares past' ≡ sources asked (map view items) spares past
+      → Reaches spares (view item) step past past'
+      → sources (asked + 1) (map view items) spares past' ≡ sources asked (map view items) spares past
   next_behind spares step past past' r =
       let source : List Given → Sources = λ g. record { items = map view items; spares = spares; earlier = g } in
       ap (λ found. source (drop (length (file_paths found)) past')) more

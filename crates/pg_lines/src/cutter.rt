@@ -1,6 +1,6 @@
 //! Cuts a file that comes in pieces into blocks of whole lines.
-ghost use Rattle.std.specs.Prelude.{◌≡◌, ℕ, ◌+◌, ◌-◌, ◌<◌, ◌≤◌, ◌^◌, ◌↔◌, ◌∷◌, ◌++◌, [], IfSome, IfNone, IfOk, OnOk, OnErr};
-ghost use Rattle.std.specs.Prelude.{IsErrOf, Some, None, Option, length, take, drop, false, if◌then◌else◌};
+ghost use Rattle.std.specs.Prelude.{◌≡◌, ℕ, ◌+◌, ◌-◌, ◌<◌, ◌≤◌, ◌^◌, ◌↔◌, ◌∷◌, ◌++◌, [], IfSome, IfNone, IfOk};
+ghost use Rattle.std.specs.Prelude.{OnOk, OnErr, IsErrOf, Some, None, Option, length, take, drop, false, if◌then◌else◌};
 ghost use Rattle.pg_lines.specs.Blocks.{IsFinished, IsUnfinished, Cuts, AreNumbered};
 ghost use Rattle.pg_lines.specs.Long.{has_long, open_from, CutsOff};
 ghost use Rattle.pg_lines.specs.declared.cutter.CutFault.TheVariants.{OutOfMemory};

@@ -184,9 +184,9 @@ fn search_all<
 ///
 /// # Errors
 ///
-/// `OutOfMemory` where the calling thread was refused memory; then no write failed. `Sink` where a write failed, or took no
-/// byte of a text that isn't empty. What was written until then is a beginning of what the plan gives. Scratches may
-/// be lost. The reader and what it works on are as the steps left them that it made until then.
+/// `OutOfMemory` where the calling thread was refused memory; then no write failed. `Sink` where a write failed, or
+/// took no byte of a text that isn't empty. What was written until then is a beginning of what the plan gives.
+/// Scratches may be lost. The reader and what it works on are as the steps left them that it made until then.
 pub fn search_round<
     R: Threads + Wait + Clock + Sync,
     A: Allocator + Copy + Send + Sync,

@@ -53,8 +53,8 @@ rows_begin q format name earlier ls ms = (
 pub count_by_trail : (q : Search) (format : Format) (name : List ℕ) (ls : List (List ℕ)) (t : Trail)
     → IsTrail q format ls t → count_row q format name ls ≡ when format.names
     (name ++ name_mark format 58 ∷ []) ++ decimal t.kept ++ 10 ∷ []
-count_by_trail q format name ls t h = ap (λ k. when format.names (name ++ name_mark format 58 ∷ []) ++ decimal k ++ 10 ∷ [])
-    (sym h.count)
+count_by_trail q format name ls t h =
+    ap (λ k. when format.names (name ++ name_mark format 58 ∷ []) ++ decimal k ++ 10 ∷ []) (sym h.count)
 
 counted_more : (t any : Bool) (n : ℕ) → any ≡ nat_lt 0 n → (t || any) ≡ nat_lt 0 ((0 + cond t 1 0) + n)
 counted_more true any n e = sym (lt-ltb 0 ((0 + 1) + n) (omega arith))

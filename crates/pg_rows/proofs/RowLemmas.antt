@@ -45,8 +45,8 @@ pub marked_bare : (format : Format) (end : ℕ) (name : List ℕ) (mark number :
 marked_bare format end name mark number [] names numbers = refl
 marked_bare format end name mark number (l ∷ ls) names numbers =
     let later = marked_rows format end name mark (number + 1) ls in
-    ap (λ t. (when t (name ++ name_mark format mark ∷ []) ++ when format.numbers (decimal number ++ mark ∷ []) ++ l ++ end ∷ [])
-    ++ later) names
+    ap (λ t. (when t (name ++ name_mark format mark ∷ []) ++ when format.numbers (decimal number ++ mark ∷ [])
+    ++ l ++ end ∷ []) ++ later) names
     ∙ (ap (λ t. (when t (decimal number ++ mark ∷ []) ++ l ++ end ∷ []) ++ later) numbers
     ∙ ap (λ xs. (l ++ end ∷ []) ++ xs) (marked_bare format end name mark (number + 1) ls names numbers))
 

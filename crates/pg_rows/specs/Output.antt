@@ -1,4 +1,5 @@
--- What is written for files, and the exit status (XCU grep, STDOUT and EXIT STATUS; GNU grep for -m, -A, -B, -C, -o, -L, -Z).
+-- What is written for files, and the exit status (XCU grep, STDOUT and EXIT STATUS; GNU grep for -m, -A, -B, -C, -o, -L
+-- and -Z).
 use Rattle.std.specs.Prelude.{◌≡◌, ℕ, zero, suc, ◌+◌, nat_lt, nat_le, Bool, true, false, not, ◌&&◌, ◌||◌, if◌then◌else◌}
 use Rattle.std.specs.Prelude.{is_some, Option, Some, None, List, [], ◌∷◌, ◌++◌, length, take, slice_range}
 use Rattle.std.specs.Prelude.{slice_index_or, unwrap_or}
@@ -89,7 +90,8 @@ piece_rows q format name ls =
 -- the rows of -c, -l and -L, which end with a newline whatever the terminator, but for a name with a NUL behind it
 abbrev pub count_row : Search → Format → List ℕ → List (List ℕ) → List ℕ
 count_row q format name ls =
-    when format.names (name ++ name_mark format 58 ∷ []) ++ decimal (length (members (is_kept q format.limit ls) ls)) ++ 10 ∷ []
+    when format.names (name ++ name_mark format 58 ∷ [])
+    ++ decimal (length (members (is_kept q format.limit ls) ls)) ++ 10 ∷ []
 
 abbrev pub name_row : Search → Format → List ℕ → List (List ℕ) → List ℕ
 name_row q format name ls =

@@ -90,7 +90,8 @@ impl<A: Allocator> Prefix<A> {
 fn append_marks<A: Allocator>(buffer: &mut Vec<u8, A>, format: &Format, number: u64, mark: u8)
     requires { vec_len buffer.old + 22 ≤ vec_capacity buffer.old }
     ensures items { buffer.new.items ≡ buffer.old.items
-        ++ (when format.now.names (name_mark format.now mark ∷ []) ++ when format.now.numbers (decimal number ++ mark ∷ [])) }
+        ++ (when format.now.names (name_mark format.now mark ∷ [])
+        ++ when format.now.numbers (decimal number ++ mark ∷ [])) }
     ensures len { vec_len buffer.old ≤ vec_len buffer.new }
     ensures capacity { vec_capacity buffer.old ≤ vec_capacity buffer.new }
 {

@@ -160,7 +160,8 @@ module _ (q : Search) (format : Format) where
 
     name_settled : (name : List ℕ) → list_any (selects q) ls ≡ true
         → name_row q format name (ls ++ ms) ≡ name_row q format name ls
-    name_settled name e = ap (λ b. when (is_named format.mode b) (name ++ name_mark format 10 ∷ [])) (selected_settled e ∙ sym e)
+    name_settled name e =
+        ap (λ b. when (is_named format.mode b) (name ++ name_mark format 10 ∷ [])) (selected_settled e ∙ sym e)
 
     part_settled : (name : List ℕ) (earlier : Bool) → is_full q format ls ≡ true → is_trailed q format ls ≡ false
         → line_part name (ls ++ ms) earlier ≡ line_part name ls earlier

@@ -27,7 +27,8 @@ returns-in_err-workers g c =
 
 pub returns-in_err-search_rest : goal.returns-in_err-search_rest
 returns-in_err-search_rest g c =
-    let p = err_from_is_err_and c.from_residual-in_err-search_rest.result c.from_residual-in_err-search_rest.ensures.1 in
+    let fault = c.from_residual-in_err-search_rest in
+    let p = err_from_is_err_and fault.result fault.ensures.1 in
     let e = c.in_ok-workers.ensures in
     rw (p.1, p.2) (record {
       finished = tt;
