@@ -8,9 +8,9 @@ use Rattle.pg_match.specs.Closures.{Leads, AreSeeds}
 use Rattle.pg_match.specs.Memories.{Remembered, IsMemoryOf, IsCursor, Crosses}
 use Rattle.pg_match.specs.Stands.{HasRun, NoneBefore}
 use Rattle.pg_match.specs.Starts.{StandsUnseeded}
-use Rattle.pg_match.specs.declared.cursor.Crossed.{Crossed}
-use Rattle.pg_match.specs.declared.cursor.Crossed.TheVariants.{Found, At}
-use Rattle.pg_match.specs.declared.cursor.Cursor.{Cursor}
+use Rattle.pg_match.specs.declared.dfa_cursor.Crossed.{Crossed}
+use Rattle.pg_match.specs.declared.dfa_cursor.Crossed.TheVariants.{Found, At}
+use Rattle.pg_match.specs.declared.dfa_cursor.Cursor.{Cursor}
 use Rattle.pg_match.proofs.SkimLemmas.{skim_later}
 
 -- a hit from a later place on

@@ -7,7 +7,7 @@ pub mod SearchLemmas
 pub mod StepLemmas
 pub mod StandsLemmas
 pub mod StartLemmas
-pub mod MemoryLemmas
+pub mod CacheLemmas
 pub mod SkimLemmas
 pub mod CursorLemmas
 pub mod BuildLemmas

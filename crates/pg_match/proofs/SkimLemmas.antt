@@ -17,7 +17,7 @@ use Rattle.pg_match.specs.declared.state.State.{State}
 use Rattle.pg_match.specs.declared.state.State.TheVariants.{Accept}
 use Rattle.pg_match.proofs.SearchLemmas.{edge_moves}
 use Rattle.pg_match.proofs.StandsLemmas.{reads_edge, edge_reads, stands_first, stands_next}
-use Rattle.pg_match.proofs.MemoryLemmas.{row_next, at_row, in_table}
+use Rattle.pg_match.proofs.CacheLemmas.{row_next, at_row, in_table}
 
 no_cross : (m : Nfa) (l : List ℕ) (p b : ℕ) (S : ℕ → Type 0) → slice_get l p ≡ Some b
     → ((q r : ℕ) → S q → Edge (slice_get m.states q) l p r p → S r) → ReadsNone m b S

@@ -5,13 +5,13 @@ use Rattle.pg_match.specs.Automata.{Nfa}
 use Rattle.pg_match.specs.StateSets.{Members}
 use Rattle.pg_match.specs.Steps.{Has, Starts, Goes, HitBefore, AnswersEnd, ReadsNone}
 use Rattle.pg_match.specs.Stands.{Stands, HasRun, NoneBefore}
-use Rattle.pg_match.specs.declared.cursor.Crossed.{Crossed}
-use Rattle.pg_match.specs.declared.cursor.Crossed.TheVariants.{Found, At}
-use Rattle.pg_match.specs.declared.cursor.Cursor.{Cursor}
-use Rattle.pg_match.specs.declared.recall.Next.{Next}
-use Rattle.pg_match.specs.declared.recall.Next.TheVariants.{Hit, Row, Lost, Dead}
-use Rattle.pg_match.specs.declared.skim.Skim.{Skim}
-use Rattle.pg_match.specs.declared.skim.Skim.TheVariants.{NoHit, Known, Unknown}
+use Rattle.pg_match.specs.declared.dfa_cursor.Crossed.{Crossed}
+use Rattle.pg_match.specs.declared.dfa_cursor.Crossed.TheVariants.{Found, At}
+use Rattle.pg_match.specs.declared.dfa_cursor.Cursor.{Cursor}
+use Rattle.pg_match.specs.declared.dfa_search.Next.{Next}
+use Rattle.pg_match.specs.declared.dfa_search.Next.TheVariants.{Hit, Row, Lost, Dead}
+use Rattle.pg_match.specs.declared.dfa_starts.Skim.{Skim}
+use Rattle.pg_match.specs.declared.dfa_starts.Skim.TheVariants.{NoHit, Known, Unknown}
 
 -- Row r has the steps from 256 * r on, one for each byte, the r-th answer at a line's end, and whether it is fresh, and
 -- its states lie between two cuts of the pool. Row 0 has no state, and row 1 is that of a line's first place.

@@ -4,10 +4,10 @@ use Rattle.pg_match.specs.StateSets.{Members, Buffers}
 use Rattle.pg_match.specs.Closures.{AreSeeds}
 use Rattle.pg_match.specs.Starts.{AreStarts}
 use Rattle.pg_match.specs.declared.automaton.Automaton.{Automaton}
-use Rattle.pg_match.specs.declared.state_set.StateSet.{StateSet}
+use Rattle.pg_match.specs.declared.sparse_set.StateSet.{StateSet}
 use Rattle.pg_match.specs.declared.search.StateSets.{StateSets}
 use Rattle.pg_match.specs.Memories.{Remembered, IsMemoryOf}
-use Rattle.pg_match.specs.declared.memory.Memory.{Memory}
+use Rattle.pg_match.specs.declared.dfa_cache.Cache.{Cache}
 use Rattle.std.specs.Prelude.{◌≡◌, ℕ, ◌+◌, Option, Some, None, length}
 
 abbrev pub nfa : {A : Type 0} → Automaton A → Nfa
@@ -35,7 +35,7 @@ HasSeeds m = AreSeeds m.states.items m.start m.seeds.items
 abbrev pub HasStarts : {A : Type 0} → Automaton A → Type 0
 HasStarts m = AreStarts m.states.items m.seeds.items m.starts.targets.items m.starts.cuts.items m.starts.accepts
 
-abbrev pub remembered : {A : Type 0} → Memory A → Remembered
+abbrev pub remembered : {A : Type 0} → Cache A → Remembered
 remembered t = record {
   steps = t.steps.items;
   ends = t.ends.items;
@@ -46,6 +46,6 @@ remembered t = record {
 }
 
 -- what is remembered, if anything is, is true of the automaton
-abbrev pub Remembers : {A : Type 0} → Option (Memory A) → Nfa → Type 0
+abbrev pub Remembers : {A : Type 0} → Option (Cache A) → Nfa → Type 0
 Remembers None m = Unit {0}
 Remembers (Some t) m = IsMemoryOf m (remembered t)

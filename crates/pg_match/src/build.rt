@@ -11,10 +11,10 @@ ghost use Rattle.pg_match.specs.Views.{nfa, HasSeeds, HasStarts};
 
 use crate::automaton::Automaton;
 use crate::bounds::Bounds;
+use crate::closure::seeds;
 use crate::size::size;
 use crate::starts::starts_of;
 use crate::state::State;
-use crate::walk::seeds;
 use pg_syntax::Tree;
 use std::alloc::{AllocError, Allocator};
 

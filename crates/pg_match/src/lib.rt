@@ -5,26 +5,27 @@
 //! bytes costs at most n + 1 times the size, whatever the patterns are. Patterns match bytes, in the C locale.
 //!
 //! Where a byte leads from a set doesn't depend on the line, so a scratch remembers up to 256 sets and the steps from
-//! them. A line whose steps are all remembered costs one look-up a byte.
+//! them. A line whose steps are all remembered costs one look-up a byte. Where a step leads to a set for which there is
+//! no room, the search goes on without the table, and comes back to it as soon as no run is left.
 #![tactic(auto)]
 
 mod automaton;
 mod bounds;
 mod build;
-mod cursor;
+mod closure;
+mod dfa_cache;
+mod dfa_cursor;
+mod dfa_search;
+mod dfa_starts;
 mod history;
 pub mod laws;
 mod machine;
-mod memory;
-mod plain;
-mod recall;
+mod nfa_search;
 mod search;
 mod size;
-mod skim;
+mod sparse_set;
 mod starts;
 mod state;
-mod state_set;
-mod walk;
 
 pub use bounds::Bounds;
 pub use machine::{BuildFault, Machine, Scratch};

@@ -11,7 +11,7 @@ ghost use Rattle.pg_match.specs.declared.bounds.Bounds.{Bounds};
 use crate::automaton::Automaton;
 use crate::bounds::Bounds;
 use crate::build::assemble;
-use crate::memory::Memory;
+use crate::dfa_cache::Cache;
 use crate::search::StateSets;
 use crate::size::{MAX_STATES, list_size};
 use pg_syntax::Tree;
@@ -57,7 +57,7 @@ pub struct Scratch<A: Allocator = Global> {
     automaton: Arc<Automaton<A>, A>,
     sets: StateSets<A>,
     /// None where the memory for it was refused. Searches are slower then.
-    memory: Option<Memory<A>>,
+    memory: Option<Cache<A>>,
 }
 
 impl<A: Allocator> Drop for Scratch<A> {
@@ -192,7 +192,7 @@ impl<A: Allocator> Scratch<A> {
         let automaton = Arc::try_clone(&machine.automaton)?;
         let states: &Automaton<A> = &machine.automaton;
         let sets = StateSets::new(alloc, states.states.len())?;
-        let memory = Memory::new(alloc, states.states.len()).ok();
+        let memory = Cache::new(alloc, states.states.len()).ok();
         Ok(Scratch {
             automaton,
             sets,

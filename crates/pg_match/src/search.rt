@@ -13,8 +13,8 @@ ghost use Rattle.pg_match.specs.Searches.{Alive, Advanced, IsBest, start_bound, 
 ghost use Rattle.pg_match.specs.Views.{nfa, members, buffers, added, HasSeeds, HasStarts, Tells};
 
 use crate::automaton::Automaton;
-use crate::state_set::StateSet;
-use crate::walk::{reach, step};
+use crate::closure::{reach, step};
+use crate::sparse_set::StateSet;
 use std::alloc::{AllocError, Allocator, Global};
 use std::mem;
 

@@ -6,7 +6,7 @@ use Rattle.pg_match.specs.Views.{nfa, members, remembered}
 use Rattle.pg_match.proofs.StateSetLemmas.{few}
 use Rattle.pg_match.proofs.StandsLemmas.{stands_next, run_before}
 use Rattle.pg_match.proofs.StartLemmas.{stands_whole}
-use Rattle.pg_match.proofs.MemoryLemmas.{visits_on, visits_later}
+use Rattle.pg_match.proofs.CacheLemmas.{visits_on, visits_later}
 use Rattle.pg_match.proofs.automaton.Automaton.cross.Goals as goal
 
 pub returns-in-Hit-clause-crossed : goal.returns-in-Hit-clause-crossed

@@ -3,7 +3,7 @@ use Rattle.pg_match.specs.Memories.{In}
 use Rattle.pg_match.specs.Steps.{Has}
 use Rattle.pg_match.specs.Views.{nfa, members, remembered}
 use Rattle.pg_match.proofs.StateSetLemmas.{few}
-use Rattle.pg_match.proofs.MemoryLemmas.{finishes_hit, finishes_end, answers_same, memory_marked_end}
+use Rattle.pg_match.proofs.CacheLemmas.{finishes_hit, finishes_end, answers_same, memory_marked_end}
 use Rattle.pg_match.proofs.automaton.Automaton.finish.Goals as goal
 
 visits_by : (n v w k : ℕ) → w ≤ v + k → k ≤ n → w ≤ v + n

@@ -1,6 +1,6 @@
 use Rattle.std.proofs.Common.{ℕ, ◌+◌, ◌<◌, length, get_or, arith}
 use Rattle.pg_match.specs.Views.{nfa, remembered}
-use Rattle.pg_match.proofs.MemoryLemmas.{in_table}
+use Rattle.pg_match.proofs.CacheLemmas.{in_table}
 use Rattle.pg_match.proofs.SkimLemmas.{in_fresh, skim_read, skim_read_fresh}
 use Rattle.pg_match.proofs.automaton.Automaton.follow_rows.Goals as goal
 use Rattle.pg_match.proofs.automaton.Automaton.follow_rows.Goals.{then-index, else-index+then-index-2}

@@ -1,7 +1,7 @@
 use Rattle.std.proofs.Common.{arith, subst, refl}
 use Rattle.pg_match.specs.Memories.{Grown}
 use Rattle.pg_match.specs.Views.{nfa, members, remembered}
-use Rattle.pg_match.proofs.MemoryLemmas.{memory_grown}
+use Rattle.pg_match.proofs.CacheLemmas.{memory_grown}
 use Rattle.pg_match.proofs.automaton.Automaton.keep.Goals as goal
 
 pub returns-then-add-clause-memory : goal.returns-then-add-clause-memory

@@ -3,8 +3,8 @@ use Rattle.std.proofs.Common.{◌≤◌, ◌∙◌, arith, sym, refl, inl, inr, 
 use Rattle.pg_match.specs.Memories.{In}
 use Rattle.pg_match.specs.Steps.{Has}
 use Rattle.pg_match.specs.Views.{nfa, members, remembered}
-use Rattle.pg_match.proofs.MemoryLemmas.{memory_marked, mark_keeps, hit_there, told_row, learned_row, learned_lost}
-use Rattle.pg_match.proofs.MemoryLemmas.{hopeless_there}
+use Rattle.pg_match.proofs.CacheLemmas.{memory_marked, mark_keeps, hit_there, told_row, learned_row, learned_lost}
+use Rattle.pg_match.proofs.CacheLemmas.{hopeless_there}
 use Rattle.pg_match.proofs.StandsLemmas.{hopeless}
 use Rattle.pg_match.proofs.automaton.Automaton.learn.Goals as goal
 

@@ -4,7 +4,7 @@ use Rattle.pg_match.specs.Stands.{Stands}
 use Rattle.pg_match.specs.Steps.{Has}
 use Rattle.pg_match.specs.Views.{nfa, members}
 use Rattle.pg_match.proofs.StandsLemmas.{stands_first}
-use Rattle.pg_match.proofs.MemoryLemmas.{ended_so}
+use Rattle.pg_match.proofs.CacheLemmas.{ended_so}
 use Rattle.pg_match.proofs.automaton.Automaton.search.Goals as goal
 
 pub returns-then-is_empty-clause-exact : goal.returns-then-is_empty-clause-exact

@@ -2,7 +2,7 @@ use Rattle.std.proofs.Common.{◌≡◌, ◌+◌, ◌/◌, ◌<◌, ◌≤◌, �
 use Rattle.std.proofs.lemmas.List.{get_or_read}
 use Rattle.std.proofs.lemmas.Option.{slice_get-get_or}
 use Rattle.pg_match.specs.Views.{nfa, remembered}
-use Rattle.pg_match.proofs.MemoryLemmas.{in_table, row_next}
+use Rattle.pg_match.proofs.CacheLemmas.{in_table, row_next}
 use Rattle.pg_match.proofs.SkimLemmas.{skim_first, skim_later, skim_on, skim_fresh}
 use Rattle.pg_match.proofs.automaton.Automaton.skim.Goals as goal
 use Rattle.pg_match.proofs.automaton.Automaton.skim.Goals.{then-from-eq0, else-from-eq0}

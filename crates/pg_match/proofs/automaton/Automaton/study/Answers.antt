@@ -3,7 +3,7 @@ use Rattle.std.proofs.Common.{◌≡◌, ℕ, ◌+◌, ◌*◌, ◌^◌, ◌<◌
 use Rattle.std.proofs.Math.Nat.{mul-le-mul_left}
 use Rattle.pg_match.specs.Views.{members}
 use Rattle.pg_match.proofs.StateSetLemmas.{few}
-use Rattle.pg_match.proofs.MemoryLemmas.{visits_after}
+use Rattle.pg_match.proofs.CacheLemmas.{visits_after}
 use Rattle.pg_match.proofs.automaton.Automaton.study.Goals as goal
 
 most_small : (l n size : ℕ) → size ≡ n → l ≤ 2 ^ 30 → n < 2 ^ 64 → l * size < 2 ^ 98

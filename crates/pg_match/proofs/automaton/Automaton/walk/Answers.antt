@@ -1,6 +1,6 @@
 use Rattle.std.proofs.Common.{◌<◌, ◌+◌, length, get_or, arith}
 use Rattle.pg_match.specs.Views.{nfa, remembered}
-use Rattle.pg_match.proofs.MemoryLemmas.{walking_read, in_table}
+use Rattle.pg_match.proofs.CacheLemmas.{walking_read, in_table}
 use Rattle.pg_match.proofs.automaton.Automaton.walk.Goals as goal
 
 pub index-one-requires : goal.index-one-requires

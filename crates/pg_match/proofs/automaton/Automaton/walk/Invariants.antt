@@ -1,6 +1,6 @@
 use Rattle.std.proofs.Common.{◌-◌, length}
 use Rattle.pg_match.specs.Views.{nfa, remembered}
-use Rattle.pg_match.proofs.MemoryLemmas.{Walking}
+use Rattle.pg_match.proofs.CacheLemmas.{Walking}
 use Rattle.pg_match.proofs.automaton.Automaton.walk.Given as goal
 
 abbrev pub invariant-loop-place : goal.invariant-loop-place

@@ -3,7 +3,7 @@ use Rattle.std.proofs.Common.{◌≡◌, ◌∙◌, ap, length, subst, sym}
 use Rattle.std.specs.Arc.{arc_value}
 use Rattle.pg_match.specs.StateSets.{HaveRoom}
 use Rattle.pg_match.specs.Views.{nfa, buffers}
-use Rattle.pg_match.proofs.MemoryLemmas.{new_remembers}
+use Rattle.pg_match.proofs.CacheLemmas.{new_remembers}
 use Rattle.pg_match.proofs.machine.Scratch.new.Goals as goal
 
 pub returns-in_err-automaton-clause-fits : goal.returns-in_err-automaton-clause-fits

@@ -1,0 +1,701 @@
+-- The table of the sets that are remembered.
+use Rattle.std.proofs.Common.{◌≡◌, ◌≢◌, ℕ, zero, suc, ◌+◌, ◌-◌, ◌*◌, ◌/◌, ◌^◌, ◌<◌, ◌≤◌, ◌⊎◌, ◌↔◌, inl, inr, List}
+use Rattle.std.proofs.Common.{length, get_or, set, replicate, Bool, true, false, true≢false, Option, Some, None, refl}
+use Rattle.std.proofs.Common.{sym, ap, ◌∙◌, subst, arith, IsTrue, length-set, get_or-set_same, get_or-set_other}
+use Rattle.std.specs.Prelude.{IfSome, IfOk, slice_index, slice_get, Result, Ok, Err}
+use Rattle.std.specs.Result.{result_ok}
+use Rattle.std.proofs.lemmas.List.{get_or_read}
+use Rattle.std.proofs.lemmas.Option.{slice_get-get_or}
+use Rattle.std.proofs.lemmas.Bool.{cases_eq, cases_lt}
+use Rattle.std.proofs.Math.Nat.{mul-le-mul_left}
+use Rattle.pg_match.specs.Automata.{Nfa, IsRunnable}
+use Rattle.pg_match.specs.StateSets.{Members, mark, listed, IsGood, Inserted}
+use Rattle.pg_match.specs.Steps.{Has, Goes, Starts, HitBefore, AnswersEnd, ReadsNone}
+use Rattle.pg_match.specs.Stands.{Stands, HasRun}
+use Rattle.pg_match.specs.Memories.{Remembered, cut, ended, fresh_at, In, Same, IsShape, Told, IsMemoryOf}
+use Rattle.pg_match.specs.Memories.{IsUnknown, IsHopeless, IsBlank, Keeps, Grown, SameSets, Marked, MarkedEnd}
+use Rattle.pg_match.specs.Memories.{IsAtRow, StandsAt, Learned, Finishes}
+use Rattle.pg_match.specs.Views.{remembered, Remembers}
+use Rattle.pg_match.specs.declared.dfa_cache.Cache.{Cache}
+use Rattle.pg_match.specs.declared.dfa_search.Next.TheVariants.{Row, Lost}
+use Rattle.pg_match.proofs.StateSetLemmas.{listed_in}
+use Rattle.pg_match.proofs.StandsLemmas.{stands_next, run_before, run_at_end, no_run}
+
+-- the states of the set before place k are in
+pub record Loading (mem : Remembered) (r : ℕ) (old s : Members) (k : ℕ) : Type 0 where
+  pub good : IsGood s
+  pub size : length s.marks ≡ length old.marks
+  pub from : (q : ℕ) → Has s q → (j : ℕ) × (cut mem r ≤ j) × (j < k) × (slice_index mem.pool j ≡ q)
+  pub all : (j : ℕ) → cut mem r ≤ j → j < k → Has s (slice_index mem.pool j)
+
+pub loading_next : (mem : Remembered) (r : ℕ) (old s u : Members) (k x : ℕ) → Loading mem r old s k → cut mem r ≤ k
+    → x ≡ slice_index mem.pool k
+    → Inserted s u x 1 → Loading mem r old u (k + 1)
+loading_next mem r old s u k x a ge is ins = record {
+  good = ins.good;
+  size = ins.size ∙ a.size;
+  from = λ q h. elim (cases_lt 0 (mark s q)) [
+    | inl before ↦ let w = a.from q before in (w.0, w.1, omega (arith, w.2), w.3)
+    | inr none ↦ let g = ins.fresh q (omega arith) h in (k, ge, omega arith, sym is ∙ sym g.0)
+  ];
+  all = λ j le lt. elim (cases_eq j k) [
+    | inl same ↦ subst (λ v. Has u v) (is ∙ ap (λ v. slice_index mem.pool v) (sym same)) ins.here
+    | inr other ↦ let h = a.all j le (omega arith) in let e = ins.kept (slice_index mem.pool j) h in omega arith
+  ];
+}
+
+-- the first k states were copied
+pub record Copying (old new : Remembered) (s : Members) (start k : ℕ) : Type 0 where
+  pub size : length new.pool ≡ length old.pool
+  pub before : (j : ℕ) → j < start → slice_index new.pool j ≡ slice_index old.pool j
+  pub copied : (j : ℕ) → j < k → slice_index new.pool (start + j) ≡ listed s j
+  pub steps : new.steps ≡ old.steps
+  pub ends : new.ends ≡ old.ends
+  pub fresh : new.fresh ≡ old.fresh
+  pub cuts : new.cuts ≡ old.cuts
+  pub count : new.count ≡ old.count
+
+-- one more state is copied
+pub copied_more : (old mid new : Remembered) (s : Members) (start k v : ℕ) → Copying old mid s start k
+    → start + k < length old.pool → v ≡ listed s k → new.pool ≡ set mid.pool (start + k) v → new.steps ≡ mid.steps
+    → new.ends ≡ mid.ends → new.fresh ≡ mid.fresh → new.cuts ≡ mid.cuts → new.count ≡ mid.count
+    → Copying old new s start (k + 1)
+copied_more old mid new s start k v c low is pool steps ends fresh cuts count =
+    let size = c.size in
+    let place = start + k in
+    record {
+      size = omega (arith, ap length pool, length-set {A = ℕ}, size);
+      before = λ j lt. ap (λ xs. slice_index xs j) pool
+          ∙ (get_or-set_other mid.pool place j v 0 (omega arith) ∙ c.before j lt);
+      copied = λ j lt. elim (cases_eq j k) [
+        | inl same ↦ ap (λ xs. slice_index xs (start + j)) pool
+            ∙ (ap (λ i. slice_index (set mid.pool place v) (start + i)) same
+            ∙ (get_or-set_same mid.pool place v 0 (omega arith) ∙ (is ∙ ap (λ i. listed s i) (sym same))))
+        | inr other ↦ ap (λ xs. slice_index xs (start + j)) pool
+            ∙ (get_or-set_other mid.pool place (start + j) v 0 (omega arith) ∙ c.copied j (omega arith))
+      ];
+      steps = steps ∙ c.steps;
+      ends = ends ∙ c.ends;
+      fresh = fresh ∙ c.fresh;
+      cuts = cuts ∙ c.cuts;
+      count = count ∙ c.count;
+    }
+
+-- what the table reads
+pub same_list : (mem : Remembered) (r start : ℕ) (s : Members) → IsGood s → start ≡ cut mem r
+    → start + s.len ≡ cut mem (r + 1)
+    → ((j : ℕ) → j < s.len → get_or mem.pool (start + j) 0 ≡ get_or s.order j 0) → Same (Has s) (In mem r)
+same_list mem r start s good from to eqs q = (
+  λ h. let w = good.found q h in (start + w.0, omega arith, omega (arith, w.1), eqs w.0 w.1 ∙ w.2),
+  λ h.
+      let j : ℕ = h.0 - start in
+      let lt : j < s.len = omega (arith, h.1, h.2) in
+      let e : start + j ≡ h.0 = omega (arith, h.1) in
+      let is : listed s j ≡ q = sym (eqs j lt) ∙ ap (λ v. get_or mem.pool v 0) e ∙ h.3 in
+      subst (λ v. Has s v) is (good.is_in j lt),
+)
+
+pub grown : (n : ℕ) (old mid new : Remembered) (s : Members) (start : ℕ) (fresh : Bool) → IsShape n old → IsGood s
+    → n ≡ length s.marks → start ≡ cut old (old.count + 1)
+    → old.count ≢ 256 → s.len ≤ length old.pool - start → Copying old mid s start s.len → new.steps ≡ mid.steps
+    → new.ends ≡ mid.ends → new.pool ≡ mid.pool
+    → new.cuts ≡ set mid.cuts (mid.count + 2) (start + s.len) → new.count ≡ mid.count + 1
+    → new.fresh ≡ set mid.fresh (mid.count + 1) fresh → Grown n old new s fresh
+grown n old mid new s start fresh shape good size from other fit copy steps ends pool cuts0 count fresh0 =
+    let cuts : new.cuts ≡ set mid.cuts (old.count + 2) (start + s.len) = cuts0
+    ∙ ap (λ v. set mid.cuts (v + 2) (start + s.len)) copy.count in
+    let a : new.count ≡ old.count + 1 = count ∙ ap (λ v. v + 1) copy.count in
+    let f = shape.few in
+    let z1 = shape.cuts_size in
+    let cut_old : (r : ℕ) → r ≤ old.count + 1 → cut new r ≡ cut old r =
+    λ r le. ap (λ v. slice_index v r) cuts ∙ get_or-set_other mid.cuts (old.count + 2) r (start + s.len) 0 (omega arith)
+    ∙ ap (λ v. slice_index v r) copy.cuts in
+    let freshes : new.fresh ≡ set mid.fresh (old.count + 1) fresh = fresh0
+    ∙ ap (λ v. set mid.fresh (v + 1) fresh) copy.count in
+    let z2 = shape.fresh_size in
+    let freshlen : length mid.fresh ≡ 257 = ap length copy.fresh ∙ z2 in
+    let midlen : length mid.cuts ≡ 258 = ap length copy.cuts ∙ z1 in
+    let cut_new : cut new (old.count + 2) ≡ start + s.len =
+    ap (λ v. slice_index v (old.count + 2)) cuts
+    ∙ get_or-set_same mid.cuts (old.count + 2) (start + s.len) 0 (omega arith) in
+    let pool_eq : (j : ℕ) → slice_index new.pool j ≡ slice_index mid.pool j = λ j. ap (λ v. slice_index v j) pool in
+    let two : old.count + 1 + 1 ≡ old.count + 2 = omega arith in
+    let top : cut new (new.count + 1) ≡ start + s.len = ap (λ v. cut new (v + 1)) a ∙ ap (cut new) two ∙ cut_new in
+    let keep : (r : ℕ) → r ≤ old.count → Same (In old r) (In new r) = λ r le q.
+    let c0 = cut_old r (omega arith) in
+    let c1 = cut_old (r + 1) (omega arith) in
+    let u = shape.upto (r + 1) (omega arith) in (
+      λ h. (
+        h.0,
+        omega (arith, h.1, c0),
+        omega (arith, h.2, c1),
+        pool_eq h.0 ∙ copy.before h.0 (omega (arith, h.2))
+            ∙ h.3,
+      ),
+      λ h. (
+        h.0,
+        omega (arith, h.1, c0),
+        omega (arith, h.2, c1),
+        sym (copy.before h.0 (omega (arith, h.2)))
+            ∙ sym (pool_eq h.0) ∙ h.3,
+      ),
+    ) in
+    let here_from : cut new new.count ≡ start = ap (cut new) a ∙ cut_old (old.count + 1) (omega arith) ∙ sym from in
+    let here : Same (Has s) (In new new.count) =
+    same_list new new.count start s good (sym here_from) (sym top) (λ j lt. pool_eq (start + j) ∙ copy.copied j lt) in
+    record {
+      shape = record {
+        steps_size = ap length (steps ∙ copy.steps) ∙ shape.steps_size;
+        ends_size = ap length (ends ∙ copy.ends) ∙ shape.ends_size;
+        pool_size = let e = ap length pool in let e2 = copy.size in let b = shape.pool_size in omega arith;
+        fresh_size = ap length freshes ∙ length-set mid.fresh (old.count + 1) fresh ∙ freshlen;
+        none = cut_old 0 (omega arith) ∙ shape.none ∙ sym (cut_old 1 (omega arith));
+        cuts_size = ap length cuts ∙ length-set mid.cuts (old.count + 2) (start + s.len) ∙ midlen;
+        few = omega arith;
+        upto = λ r le. elim (cases_eq r (old.count + 2)) [
+          | inl same ↦ let e : cut new r ≡ start + s.len = ap (cut new) same ∙ cut_new in omega arith
+          | inr less ↦ let e = cut_old r (omega arith) in let u = shape.upto r (omega arith) in omega arith
+        ];
+        order = λ r le. elim (cases_eq r (old.count + 1)) [
+          | inl same ↦
+              let e : cut new r ≡ start = ap (cut new) same ∙ cut_old (old.count + 1) (omega arith) ∙ sym from in
+              let e2 : cut new (r + 1) ≡ start + s.len = ap (λ v. cut new (v + 1)) same ∙ ap (cut new) two ∙ cut_new in
+              omega arith
+          | inr less ↦ let e = cut_old r (omega arith) in let e2 = cut_old (r + 1) (omega arith) in let u =
+              shape.order r (omega arith) in omega arith
+        ];
+        room = let rm = shape.room in let e = ap length pool in let e2 = copy.size in omega arith;
+        within = λ r q le h. elim (cases_eq r new.count) [
+          | inl same ↦ let w = (here q).1 (subst (λ v. In new v q) same h) in let g = good.found q w in let i =
+              listed_in s g.0 good g.1 in omega (arith, i, g.2, size)
+          | inr less ↦ let le' : r ≤ old.count = omega arith in shape.within r q le' ((keep r le' q).1 h)
+        ];
+      };
+      keeps = record {
+        sets = keep;
+        fresh = λ r le.
+            ap (λ v. get_or v r false) freshes ∙ get_or-set_other mid.fresh (old.count + 1) r fresh false (omega arith)
+            ∙ ap (λ v. get_or v r false) copy.fresh;
+        more = omega arith;
+      };
+      fresh_here =
+          ap (fresh_at new) a ∙ ap (λ v. get_or v (old.count + 1) false) freshes
+          ∙ get_or-set_same mid.fresh (old.count + 1) fresh false (omega arith);
+      steps = steps ∙ copy.steps;
+      ends = ends ∙ copy.ends;
+      count = a;
+      here = here;
+    }
+
+pub same_self : (S : ℕ → Type 0) → Same S S
+same_self S q = (λ h. h, λ h. h)
+
+pub same_back : (S U : ℕ → Type 0) → Same S U → Same U S
+same_back S U s q = ((s q).1, (s q).0)
+
+pub same_on : (S U V : ℕ → Type 0) → Same S U → Same U V → Same S V
+same_on S U V s u q = ((λ h. (u q).0 ((s q).0 h)), (λ h. (s q).1 ((u q).1 h)))
+
+pub goes_same : (m : Nfa) (b : ℕ) (S S' U U' : ℕ → Type 0) → Same S S' → Same U U' → Goes m b S U → Goes m b S' U'
+goes_same m b S S' U U' s u g = record {
+  comes = λ r h. elim (g.comes r ((u r).1 h)) [
+    | inl w ↦ inl (w.0, w.1, (s w.0).0 w.2, w.3, w.4)
+    | inr w ↦ inr w
+  ];
+  goes = λ q r h read. (u r).0 (g.goes q r ((s q).1 h) read);
+  seeded = λ w. (u m.start).0 (g.seeded w);
+  still = λ q h r edge. (u r).0 (g.still q ((u q).1 h) r edge);
+}
+
+pub answers_same : (m : Nfa) (first : Bool) (S U : ℕ → Type 0) (answer : Bool) → Same S U → AnswersEnd m first S answer
+    → AnswersEnd m first U answer
+answers_same m first S U true s h = (h.0, (s h.0).0 h.1, h.2)
+answers_same m first S U false s h = λ l q n at empty run. h l q n ((s q).1 at) empty run
+
+starts_same : (m : Nfa) (S U : ℕ → Type 0) → Same S U → Starts m S → Starts m U
+starts_same m S U s g = record {
+  comes = λ r h. g.comes r ((s r).1 h);
+  seeded = (s m.start).0 g.seeded;
+  still = λ q h r edge. (s r).0 (g.still q ((s q).1 h) r edge);
+}
+
+pub stands_at : (m : Nfa) (l : List ℕ) (from p : ℕ) (S U : ℕ → Type 0) → Same S U → Stands m l from p S
+    → Stands m l from p U
+stands_at m l from p S U same s = record {
+  sound = λ q h. s.sound q ((same q).1 h);
+  complete = λ v n j ge le o run past.
+      let c = s.complete v n j ge le o run past in (c.0, c.1, (same c.0).0 c.2, c.3);
+  closed = λ lt q r h edge. (same r).0 (s.closed lt q r ((same q).1 h) edge);
+  none = s.none;
+}
+
+nothing_known : (v : ℕ) → v ≡ 0 → IsUnknown v
+nothing_known v zero_v = (omega arith, λ one. omega arith, λ two. omega arith)
+
+told_moves : (m : Nfa) (old new : Remembered) (r b v : ℕ) → Keeps old new → r ≤ old.count → Told m old r b v
+    → Told m new r b v
+told_moves m old new r b v k le (inl unknown) = inl unknown
+told_moves m old new r b v k le (inr (inl hit)) = inr (inl (hit.0, ((k.sets r le 0).0 hit.1.0, hit.1.1)))
+told_moves m old new r b v k le (inr (inr (inl dead))) =
+    let back = same_back (In old r) (In new r) (k.sets r le) in
+    inr (inr (inl (dead.0, λ l from p lt s. dead.1 l from p lt (stands_at m l from p (In new r) (In old r) back s))))
+told_moves m old new r b v k le (inr (inr (inr go))) =
+    let from = k.sets r le in
+    let to = k.sets go.0 go.3 in
+    let more = k.more in
+    inr (inr (inr (
+      go.0,
+      go.1,
+      go.2,
+      omega (arith, go.3),
+      λ h. go.4 ((from 0).1 h.0, h.1),
+      goes_same m b (In old r) (In new r) (In old go.0) (In new go.0) from to go.5,
+      λ f q y h read. go.6 (sym (k.fresh go.0 go.3) ∙ f) q y ((from q).1 h) read,
+    )))
+
+-- the memory of a table that keeps the rows, where each cell is blank, or is an old one, or is told
+moved : (m : Nfa) (old new : Remembered) → IsMemoryOf m old → IsShape (length m.states) new → Keeps old new
+    → ((r b : ℕ) → r ≤ new.count → b < 256 → (slice_index new.steps (256 * r + b) ≡ slice_index old.steps (256 * r + b))
+    ⊎ Told m new r b (slice_index new.steps (256 * r + b)))
+    → ((i : ℕ) → 256 * (new.count + 1) ≤ i → slice_index new.steps i ≡ slice_index old.steps i)
+    → ((r : ℕ) (answer : Bool) → ended new r ≡ Some answer → (ended old r ≡ Some answer)
+    ⊎ ((r ≤ new.count) × AnswersEnd m false (In new r) answer))
+    → (old.count ≡ 0 → 1 ≤ new.count → Starts m (In new 1)) → IsMemoryOf m new
+moved m old new is shape k cells past ends first =
+    let more = k.more in
+    record {
+      shape = shape;
+      told = λ r b le lt. elim (cells r b le lt) [
+        | inl same ↦ elim (cases_lt old.count r) [
+          | inl new_row ↦ inl (nothing_known _ (same ∙ is.blank (256 * r + b) (omega arith)))
+          | inr old_row ↦
+              let le' : r ≤ old.count = omega arith in
+              subst (Told m new r b) (sym same) (told_moves m old new r b _ k le' (is.told r b le' lt))
+        ]
+        | inr told ↦ told
+      ];
+      blank = λ i le. past i le ∙ is.blank i (omega arith);
+      told_end = λ r answer e. elim (ends r answer e) [
+        | inl same ↦
+            let w = is.told_end r answer same in
+            (omega (arith, w.0), answers_same m false (In old r) (In new r) answer (k.sets r w.0) w.1)
+        | inr told ↦ told
+      ];
+      first = λ some. elim (cases_eq old.count 0) [
+        | inl none ↦ first none some
+        | inr had ↦ starts_same m (In old 1) (In new 1) (k.sets 1 (omega arith)) (is.first (omega arith))
+      ];
+    }
+
+-- a set was added to the table
+pub memory_grown : (m : Nfa) (old new : Remembered) (s : Members) (fresh : Bool) → IsMemoryOf m old
+    → Grown (length m.states) old new s fresh
+    → (old.count ≡ 0 → Starts m (Has s)) → IsMemoryOf m new
+memory_grown m old new s fresh is g first =
+    let n = g.count in
+    moved m old new is g.shape g.keeps (λ r b le lt. inl (ap (λ v. slice_index v (256 * r + b)) g.steps))
+    (λ i le. ap (λ v. slice_index v i) g.steps) (λ r answer e. inl (sym (ap (λ v. get_or v r None) g.ends) ∙ e))
+    (λ none some.
+    let one : new.count ≡ 1 = omega arith in
+    starts_same m (Has s) (In new 1) (subst (λ v. Same (Has s) (In new v)) one g.here) (first none))
+
+-- a set was added, if there was room
+pub memory_added : (m : Nfa) (old new : Remembered) (s : Members) (fresh r : Bool) → IsMemoryOf m old
+    → (IsTrue r → Grown (length m.states) old new s fresh) → (r ≡ false → new ≡ old)
+    → (old.count ≡ 0 → Starts m (Has s)) → IsMemoryOf m new
+memory_added m old new s fresh true is grown_so _ first = memory_grown m old new s fresh is (grown_so refl) first
+memory_added m old new s fresh false is _ same first = subst (IsMemoryOf m) (sym (same refl)) is
+
+sets_keep : (old new : Remembered) → SameSets old new → Keeps old new
+sets_keep old new w =
+    let c : (r : ℕ) → cut new r ≡ cut old r = λ r. ap (λ u. slice_index u r) w.cuts in
+    let p : (j : ℕ) → slice_index new.pool j ≡ slice_index old.pool j = λ j. ap (λ u. slice_index u j) w.pool in
+    let n = w.count in
+    record {
+      sets = λ r le q.
+          let a = c r in
+          let b = c (r + 1) in (
+            λ h. (h.0, omega (arith, h.1), omega (arith, h.2), p h.0 ∙ h.3),
+            λ h. (h.0, omega (arith, h.1), omega (arith, h.2), sym (p h.0) ∙ h.3),
+          );
+      fresh = λ r le. ap (λ u. get_or u r false) w.fresh;
+      more = omega arith;
+    }
+
+sets_shape : (n : ℕ) (old new : Remembered) → IsShape n old → SameSets old new → length new.steps ≡ length old.steps
+    → length new.ends ≡ length old.ends
+    → IsShape n new
+sets_shape n old new s w steps ends =
+    let k = sets_keep old new w in
+    let count = w.count in
+    let c : (r : ℕ) → cut new r ≡ cut old r = λ r. ap (λ u. slice_index u r) w.cuts in
+    let t : cut new (new.count + 1) ≡ cut old (old.count + 1) = ap (λ v. cut new (v + 1)) count ∙ c (old.count + 1) in
+    let pool = ap length w.pool in
+    record {
+      steps_size = steps ∙ s.steps_size;
+      ends_size = ends ∙ s.ends_size;
+      pool_size = let b = s.pool_size in omega arith;
+      fresh_size = ap length w.fresh ∙ s.fresh_size;
+      cuts_size = ap length w.cuts ∙ s.cuts_size;
+      none = c 0 ∙ s.none ∙ sym (c 1);
+      few = let f = s.few in omega arith;
+      upto = λ r le. let a = c r in let u = s.upto r (omega arith) in omega arith;
+      order = λ r le. let a = c r in let b = c (r + 1) in let u = s.order r (omega arith) in omega arith;
+      room = let f = s.room in omega arith;
+      within = λ r q le h. let le' : r ≤ old.count = omega arith in s.within r q le' ((k.sets r le' q).1 h);
+    }
+
+pub mark_keeps : (old new : Remembered) (i v : ℕ) → Marked old new i v → Keeps old new
+mark_keeps old new i v w = sets_keep old new w.sets
+
+-- where a byte leads was written
+pub memory_marked : (m : Nfa) (old new : Remembered) (r b v : ℕ) → IsMemoryOf m old → Marked old new (256 * r + b) v
+    → r ≤ old.count → b < 256
+    → Told m old r b v → IsMemoryOf m new
+memory_marked m old new r b v is w le lt told =
+    let k = sets_keep old new w.sets in
+    let n = w.sets.count in
+    let few = is.shape.few in
+    let size = is.shape.steps_size in
+    let here : slice_index new.steps (256 * r + b) ≡ v =
+    ap (λ u. slice_index u (256 * r + b)) w.steps ∙ get_or-set_same old.steps (256 * r + b) v 0 (omega arith) in
+    let other : (i : ℕ) → i ≢ 256 * r + b → slice_index new.steps i ≡ slice_index old.steps i =
+    λ i ne. ap (λ u. slice_index u i) w.steps ∙ get_or-set_other old.steps (256 * r + b) i v 0 ne in
+    moved m old new is
+    (sets_shape (length m.states) old new is.shape w.sets (ap length w.steps ∙ length-set old.steps (256 * r + b) v)
+    (ap length w.ends)) k
+    (λ r' b' le' lt'. elim (cases_eq (256 * r' + b') (256 * r + b)) [
+      | inl same ↦
+          let er : r ≡ r' = omega arith in
+          let eb : b ≡ b' = omega arith in
+          let moved_told = told_moves m old new r b v k le told in
+          inr (subst (λ u. Told m new r' b' (slice_index new.steps u)) (sym same)
+          (subst (Told m new r' b') (sym here)
+          (subst (λ u. Told m new r' u v) eb (subst (λ u. Told m new u b v) er moved_told))))
+      | inr differs ↦ inl (other (256 * r' + b') differs)
+    ]) (λ i past. other i (omega arith)) (λ r' answer e. inl (sym (ap (λ u. get_or u r' None) w.ends) ∙ e))
+    (λ none some. absurd (omega arith))
+
+-- the answer at a line's end was written
+pub memory_marked_end : (m : Nfa) (old new : Remembered) (r : ℕ) (answer : Bool) → IsMemoryOf m old
+    → MarkedEnd old new r answer → r ≤ old.count
+    → AnswersEnd m false (In old r) answer → IsMemoryOf m new
+memory_marked_end m old new r answer is w le told =
+    let k = sets_keep old new w.sets in
+    let n = w.sets.count in
+    let few = is.shape.few in
+    let size = is.shape.ends_size in
+    let here : ended new r ≡ Some answer =
+    ap (λ u. get_or u r None) w.ends ∙ get_or-set_same old.ends r (Some answer) None (omega arith) in
+    moved m old new is
+    (sets_shape (length m.states) old new is.shape w.sets (ap length w.steps)
+    (ap length w.ends ∙ length-set old.ends r (Some answer))) k
+    (λ r' b' le' lt'. inl (ap (λ u. slice_index u (256 * r' + b')) w.steps))
+    (λ i past. ap (λ u. slice_index u i) w.steps)
+    (λ r' answer' e. elim (cases_eq r' r) [
+      | inl same ↦
+          let both : Some answer' ≡ Some answer = sym e ∙ ap (ended new) same ∙ here in
+          let is_so : answer ≡ answer' = sym (same_some answer' answer both) in
+          inr (
+            omega arith,
+            subst (λ u. AnswersEnd m false (In new u) answer') (sym same)
+                (subst (AnswersEnd m false (In new r)) is_so
+                (answers_same m false (In old r) (In new r) answer (k.sets r le) told)),
+          )
+      | inr differs ↦ inl (sym (ap (λ u. get_or u r' None) w.ends
+          ∙ get_or-set_other old.ends r r' (Some answer) None differs) ∙ e)
+    ]) (λ none some. absurd (omega arith))
+  where
+    same_some : (a c : Bool) → Some a ≡ Some c → a ≡ c
+    same_some a c e = cc
+
+-- a row's number, and the state of a walk
+pub row_of : (state r : ℕ) → state ≡ 256 * r → state / 256 ≡ r
+row_of state r e = omega arith
+
+pub at_row : (t : Remembered) (state r : ℕ) → state ≡ 256 * r → r ≤ t.count → IsAtRow t state
+at_row t state r e le =
+    let d = row_of state r e in
+    record { row = omega arith; known = omega arith }
+
+pub in_table : (m : Nfa) (mem : Remembered) (state b : ℕ) → IsMemoryOf m mem → IsAtRow mem state → b < 256
+    → state + b < length mem.steps
+in_table m mem state b is s lt = omega (arith, is.shape.steps_size, is.shape.few, s.row, s.known)
+
+-- one step of the walk
+pub row_next : (m : Nfa) (mem : Remembered) (state v b : ℕ) → IsMemoryOf m mem → IsAtRow mem state → b < 256
+    → v ≡ slice_index mem.steps (state + b) → 256 ≤ v
+    → IsAtRow mem v × (HitBefore m b (In mem (state / 256)) → ⊥) × Goes m b (In mem (state / 256)) (In mem (v / 256))
+    × (fresh_at mem (v / 256) ≡ true → ReadsNone m b (In mem (state / 256)))
+row_next m mem state v b is s lt read big =
+    let cell : state + b ≡ 256 * (state / 256) + b = ap (λ u. u + b) s.row in
+    let here : v ≡ slice_index mem.steps (256 * (state / 256) + b) = read ∙ ap (slice_index mem.steps) cell in
+    let told = subst (Told m mem (state / 256) b) (sym here) (is.told (state / 256) b s.known lt) in
+    elim told [
+      | inl unknown ↦ absurd (omega (arith, unknown.0))
+      | inr rest ↦ elim rest [
+        | inl hit ↦ absurd (omega (arith, hit.0))
+        | inr more ↦ elim more [
+          | inl dead ↦ absurd (omega (arith, dead.0))
+          | inr go ↦ (
+            at_row mem v go.0 go.1 go.3,
+            go.4,
+            subst (λ k. Goes m b (In mem (state / 256)) (In mem k)) (sym (row_of v go.0 go.1)) go.5,
+            λ f. go.6 (subst (λ k. fresh_at mem k ≡ true) (row_of v go.0 go.1) f),
+          )
+        ]
+      ]
+    ]
+
+-- a remembered step, at a place of a line
+pub stands_step : (m : Nfa) (mem : Remembered) (l : List ℕ) (from p u state v b : ℕ) → u ≡ p + 1 → IsRunnable m
+    → IsMemoryOf m mem → IsAtRow mem state → b < 256
+    → slice_get l p ≡ Some b → p < length l → from ≤ p + 1 → v ≡ slice_index mem.steps (state + b) → 256 ≤ v
+    → StandsAt m mem l from p state → StandsAt m mem l from u v
+stands_step m mem l from p u state v b e is_m is s lt byte more later read big at =
+    let n = row_next m mem state v b is s lt read big in
+    subst (λ w. StandsAt m mem l from w v) (sym e)
+    (stands_next m l from p b (In mem (state / 256)) (In mem (v / 256)) byte more at n.2 later is_m n.1)
+
+-- in the middle of a walk
+pub record Walking (m : Nfa) (mem : Remembered) (l : List ℕ) (from state p v : ℕ) : Type 0 where
+  pub within : p < length l
+  pub onward : from ≤ p
+  pub row : IsAtRow mem v
+  pub stands : (start : ℕ) → start ≤ from + 1 → StandsAt m mem l start from state → StandsAt m mem l start p v
+
+pub walking_next : (m : Nfa) (mem : Remembered) (l : List ℕ) (from state p u at v b : ℕ) → u ≡ p + 1 → IsRunnable m
+    → IsMemoryOf m mem → b < 256
+    → slice_get l p ≡ Some b → u < length l → v ≡ slice_index mem.steps (at + b) → 256 ≤ v
+    → Walking m mem l from state p at → Walking m mem l from state u v
+walking_next m mem l from state p u at v b e is_m is lt byte more read big w =
+    let on = w.onward in
+    record {
+      within = more;
+      onward = omega arith;
+      row = (row_next m mem at v b is w.row lt read big).0;
+      stands = λ start le s.
+          stands_step m mem l start p u at v b e is_m is w.row lt byte (omega arith) (omega arith) read big
+          (w.stands start le s);
+    }
+
+-- the same, as the table and the line are read
+pub walking_read : (m : Nfa) (mem : Remembered) (l : List ℕ) (from state p u at v : ℕ) → u ≡ p + 1 → IsRunnable m
+    → IsMemoryOf m mem → get_or l p 0 < 256 → u < length l → v ≡ get_or mem.steps (at + get_or l p 0) v → 256 ≤ v
+    → Walking m mem l from state p at → Walking m mem l from state u v
+walking_read m mem l from state p u at v e is_m is lt more read big w =
+    let b = get_or l p 0 in
+    let inside = in_table m mem at b is w.row lt in
+    walking_next m mem l from state p u at v b e is_m is lt (slice_get-get_or l p 0 w.within) more
+    (get_or_read mem.steps _ v inside read 0) big w
+
+pub visits_small : (p n v : ℕ) → v ≤ (p + 1) * n → p ≤ 2 ^ 30 → n < 2 ^ 64 → v < 2 ^ 98
+visits_small p n v le short few = let less : n ≤ 2 ^ 64 = omega arith in omega (arith, mul-le-mul_left (p + 1) less)
+
+pub visits_later : (p h n v : ℕ) → v ≤ (p + 1) * n → p ≤ h → v ≤ (h + 1) * n
+visits_later p h n v le later = let more : p + 1 ≤ h + 1 = omega arith in omega (arith, mul-le-mul_left n more)
+
+pub visits_on : (p h n v w : ℕ) → v ≤ (p + 1) * n → p ≤ h → w ≤ v + n → w ≤ (h + 1 + 1) * n
+visits_on p h n v w le later add = let more : p + 1 ≤ h + 1 = omega arith in omega (arith, mul-le-mul_left n more)
+
+pub visits_after : (l n size v w k : ℕ) → size ≡ n → v ≤ l * size → w ≤ v + k → k ≤ n → w ≤ (l + 1) * n
+visits_after l n size v w k same le more few = let le' = subst (λ u. v ≤ l * u) same le in omega arith
+
+pub zeros : (xs : List ℕ) (n : ℕ) → xs ≡ replicate n 0 → (i : ℕ) → slice_index xs i ≡ 0
+zeros xs n e i = ap (λ v. slice_index v i) e ∙ at n i
+  where
+    at : (n i : ℕ) → slice_index (replicate n 0) i ≡ 0
+    at zero i = refl
+    at (suc n) zero = refl
+    at (suc n) (suc i) = at n i
+
+abbrev pub none : Option Bool
+none = None
+
+pub nones : (xs : List (Option Bool)) (n : ℕ) → xs ≡ replicate n none → (i : ℕ) → get_or xs i None ≡ None
+nones xs n e i = ap (λ v. get_or v i None) e ∙ at n i
+  where
+    at : (n i : ℕ) → get_or (replicate n none) i None ≡ None
+    at zero i = refl
+    at (suc n) zero = refl
+    at (suc n) (suc i) = at n i
+
+pub blank_table : (n : ℕ) (mem : Remembered) → length mem.steps ≡ 65792 → length mem.ends ≡ 257
+    → length mem.pool ≤ 1048576
+    → length mem.cuts ≡ 258 → length mem.fresh ≡ 257 → mem.count ≡ 0 → ((i : ℕ) → slice_index mem.steps i ≡ 0)
+    → ((r : ℕ) → ended mem r ≡ None) → cut mem 0 ≡ cut mem 1 → cut mem 1 ≤ length mem.pool → IsBlank n mem
+blank_table n mem a b c d f none s l same fits =
+    let flat : (r : ℕ) → r ≤ 1 → cut mem r ≡ cut mem 1 = λ r le. elim (cases_eq r 1) [
+      | inl one ↦ ap (cut mem) one
+      | inr other ↦ let z : r ≡ 0 = omega arith in ap (cut mem) z ∙ same
+    ] in
+    let last : cut mem (mem.count + 1) ≡ cut mem 1 = ap (λ v. cut mem (v + 1)) none in
+    record {
+      shape = record {
+        steps_size = a;
+        ends_size = b;
+        pool_size = c;
+        fresh_size = f;
+        cuts_size = d;
+        none = same;
+        few = omega arith;
+        upto = λ r le. let u = flat r (omega arith) in omega arith;
+        order = λ r le. let u = flat r (omega arith) in let v = flat (r + 1) (omega arith) in omega arith;
+        room = omega arith;
+        within = λ r q le h. let u = flat r (omega arith) in let v = flat (r + 1) (omega arith) in
+            absurd (omega (arith, h.1, h.2));
+      };
+      steps = s;
+      ends = l;
+      count = none;
+    }
+
+-- the steps and the answers of a table were cleared, and its sets taken out
+pub blank_again : (n i j : ℕ) (old new : Remembered) → IsShape n old → new.steps ≡ replicate i 0
+    → new.ends ≡ replicate j none
+    → length new.steps ≡ 65792 → length new.ends ≡ 257 → new.fresh ≡ old.fresh → new.pool ≡ old.pool
+    → new.cuts ≡ old.cuts
+    → new.count ≡ 0 → IsBlank n new
+blank_again n i j old new s steps ends a b fresh pool cuts count =
+    let upto = s.upto 1 (omega arith) in
+    let room = s.room in
+    let size = ap length pool in
+    let zeroth : cut new 0 ≡ cut old 0 = ap (λ v. slice_index v 0) cuts in
+    let first : cut new 1 ≡ cut old 1 = ap (λ v. slice_index v 1) cuts in
+    blank_table n new a b (omega (arith, s.pool_size)) (ap length cuts ∙ s.cuts_size)
+    (ap length fresh ∙ s.fresh_size) count
+    (zeros new.steps i steps) (nones new.ends j ends) (zeroth ∙ s.none ∙ sym first) (omega arith)
+
+pub blank_memory : (m : Nfa) (mem : Remembered) → IsBlank (length m.states) mem → IsMemoryOf m mem
+blank_memory m mem b =
+    let none = b.count in
+    record {
+      shape = b.shape;
+      told = λ r c le lt. inl (nothing_known _ (b.steps (256 * r + c)));
+      blank = λ i le. b.steps i;
+      told_end = λ r answer e. absurd (no_some answer (sym (b.ends r) ∙ e));
+      first = λ some. absurd (omega arith);
+    }
+  where
+    no_some : (a : Bool) → None ≡ Some a → ⊥
+    no_some a e = cc
+
+hit_same : (m : Nfa) (b : ℕ) (S U : ℕ → Type 0) → Same S U → HitBefore m b S → HitBefore m b U
+hit_same m b S U s h = ((s 0).0 h.0, h.1)
+
+pub hit_there : (m : Nfa) (b : ℕ) (S U : ℕ → Type 0) → Same S U → HitBefore m b U → HitBefore m b S
+hit_there m b S U s h = ((s 0).1 h.0, h.1)
+
+-- where the byte leads from row r of the table: to row k
+pub told_row : (m : Nfa) (old mid : Remembered) (r b k v : ℕ) (s u : Members) → v ≡ 256 * k → 1 ≤ k → k ≤ mid.count
+    → r ≤ old.count
+    → Keeps old mid → Same (In old r) (Has s) → (HitBefore m b (Has s) → ⊥) → Goes m b (Has s) (Has u)
+    → Same (Has u) (In mid k)
+    → (fresh_at mid k ≡ true → ReadsNone m b (Has s)) → Told m mid r b v
+told_row m old mid r b k v s u e ge le le_r keeps from missed goes to fresh =
+    let back = same_on (Has s) (In old r) (In mid r) (same_back (In old r) (Has s) from) (keeps.sets r le_r) in
+    inr (inr (inr (
+      k,
+      e,
+      ge,
+      le,
+      λ h. missed (hit_there m b (Has s) (In mid r) back h),
+      goes_same m b (Has s) (In mid r) (Has u) (In mid k) back to goes,
+      λ f q y h read. fresh f q y ((back q).1 h) read,
+    )))
+
+pub learned_row : (m : Nfa) (old mid new : Remembered) (r b k v : ℕ) (s u : Members) → v ≡ 256 * k → k ≤ mid.count
+    → Keeps mid new → Same (In old r) (Has s) → (HitBefore m b (Has s) → ⊥) → Goes m b (Has s) (Has u)
+    → Same (Has u) (In mid k)
+    → Learned m old new r b u (Row v)
+learned_row m old mid new r b k v s u e le keeps from missed goes to =
+    let more = keeps.more in
+    let there = same_on (Has u) (In mid k) (In new k) to (keeps.sets k le) in
+    let there_too = subst (λ j. Same (Has u) (In new j)) (sym (row_of v k e)) there in (
+      at_row new v k e (omega arith),
+      λ h. missed (hit_same m b (In old r) (Has s) from h),
+      goes_same m b (Has s) (In old r) (Has u) (In new (v / 256)) (same_back (In old r) (Has s) from) there_too goes,
+      there_too,
+    )
+
+pub learned_lost : (m : Nfa) (old new : Remembered) (r b : ℕ) (s u : Members) → Same (In old r) (Has s)
+    → (HitBefore m b (Has s) → ⊥)
+    → Goes m b (Has s) (Has u) → Learned m old new r b u Lost
+learned_lost m old new r b s u from missed goes = (
+  λ h. missed (hit_same m b (In old r) (Has s) from h),
+  goes_same m b (Has s) (In old r) (Has u) (Has u) (same_back (In old r) (Has s) from) (same_self (Has u)) goes,
+)
+
+-- what a table says of a row and a byte where a match ends before it
+pub told_hit : (m : Nfa) (mem : Remembered) (state v b : ℕ) → IsMemoryOf m mem → IsAtRow mem state → b < 256
+    → v ≡ slice_index mem.steps (state + b) → v ≡ 1 → HitBefore m b (In mem (state / 256))
+told_hit m mem state v b is s lt read one =
+    let cell : state + b ≡ 256 * (state / 256) + b = ap (λ u. u + b) s.row in
+    let here : v ≡ slice_index mem.steps (256 * (state / 256) + b) = read ∙ ap (slice_index mem.steps) cell in
+    elim (subst (Told m mem (state / 256) b) (sym here) (is.told (state / 256) b s.known lt)) [
+      | inl unknown ↦ absurd (unknown.1 one)
+      | inr rest ↦ elim rest [
+        | inl hit ↦ hit.1
+        | inr more ↦
+            elim more [ inl dead ↦ absurd (omega (arith, dead.0)) | inr go ↦ absurd (omega (arith, go.1, go.2)) ]
+      ]
+    ]
+
+-- and where none does, there or behind it
+pub told_dead : (m : Nfa) (mem : Remembered) (state v b : ℕ) → IsMemoryOf m mem → IsAtRow mem state → b < 256
+    → v ≡ slice_index mem.steps (state + b) → v ≡ 2 → IsHopeless m b (In mem (state / 256))
+told_dead m mem state v b is s lt read two =
+    let cell : state + b ≡ 256 * (state / 256) + b = ap (λ u. u + b) s.row in
+    let here : v ≡ slice_index mem.steps (256 * (state / 256) + b) = read ∙ ap (slice_index mem.steps) cell in
+    elim (subst (Told m mem (state / 256) b) (sym here) (is.told (state / 256) b s.known lt)) [
+      | inl unknown ↦ absurd (unknown.2 two)
+      | inr rest ↦ elim rest [
+        | inl hit ↦ absurd (omega (arith, hit.0))
+        | inr more ↦ elim more [ inl dead ↦ dead.1 | inr go ↦ absurd (omega (arith, go.1, go.2)) ]
+      ]
+    ]
+
+-- the same of the set that was fetched
+pub hopeless_there : (m : Nfa) (b : ℕ) (S U : ℕ → Type 0) → Same U S → IsHopeless m b S → IsHopeless m b U
+hopeless_there m b S U same h = λ l from p lt s. h l from p lt (stands_at m l from p U S same s)
+
+pub finishes_dead : (m : Nfa) (b : ℕ) (S : ℕ → Type 0) → IsHopeless m b S → Finishes m b S false
+finishes_dead m b S h = λ l from p s byte end begun. (
+  λ yes. absurd (true≢false (sym yes)),
+  λ run. absurd (h l from p (omega (arith, end)) s byte run),
+)
+
+pub ended_so : (m : Nfa) (l : List ℕ) (from : ℕ) (S : ℕ → Type 0) (answer first : Bool) → IsRunnable m
+    → Stands m l from (length l) S
+    → (IsTrue first → length l ≡ 0) → (length l ≡ 0 → IsTrue first) → AnswersEnd m first S answer
+    → IsTrue answer ↔ HasRun m l from
+ended_so m l from S true first is s to_empty empty h = (λ t. run_at_end m l first from S s is to_empty h, λ run. refl)
+ended_so m l from S false first is s to_empty empty h =
+    (λ t. absurd (true≢false (sym t)), λ run. absurd (no_run m l first from S s empty h run))
+
+pub finishes_hit : (m : Nfa) (b : ℕ) (S : ℕ → Type 0) → IsRunnable m → HitBefore m b S → Finishes m b S true
+finishes_hit m b S is h = λ l from p s byte end le.
+    (λ t. run_before m l from p b S s is byte (omega arith) h, λ run. refl)
+
+pub finishes_end : (m : Nfa) (b : ℕ) (S U : ℕ → Type 0) (answer : Bool) → IsRunnable m → (HitBefore m b S → ⊥)
+    → Goes m b S U
+    → AnswersEnd m false U answer → Finishes m b S answer
+finishes_end m b S U answer is missed goes at_end = λ l from p s byte end le.
+    let next = stands_next m l from p b S U byte (omega arith) s goes (omega arith) is missed in
+    let last = subst (λ i. Stands m l from i U) end next in
+    ended_so m l from U answer false is last (λ f. absurd (true≢false (sym f))) (λ z. absurd (omega arith)) at_end
+
+-- what a row's answer at a line's end says of the row before it
+pub finishes_if : (m : Nfa) (mem : Remembered) (b : ℕ) (S : ℕ → Type 0) (k : ℕ) (o : Option Bool) → IsRunnable m
+    → IsMemoryOf m mem
+    → (HitBefore m b S → ⊥) → Goes m b S (In mem k) × (fresh_at mem k ≡ true → ReadsNone m b S) → o ≡ ended mem k
+    → IfSome o (Finishes m b S)
+finishes_if m mem b S k None is mem_of missed goes e = tt
+finishes_if m mem b S k (Some answer) is mem_of missed goes e =
+    finishes_end m b S (In mem k) answer is missed goes.0 (mem_of.told_end k answer (sym e)).1
+
+-- what a new table remembers, or none
+pub new_remembers : {A E : Type 0} (r : Result (Cache A) E) (n : ℕ) (m : Nfa)
+    → IfOk r (λ t. IsBlank n (remembered t)) → n ≡ length m.states → Remembers (result_ok r) m
+new_remembers (Ok t) n m blank same = blank_memory m (remembered t) (subst (λ k. IsBlank k (remembered t)) same blank)
+new_remembers (Err e) n m blank same = tt

@@ -1,0 +1,10 @@
+use Rattle.std.proofs.Common.{refl}
+use Rattle.pg_match.proofs.dfa_cache.Cache.mark.Goals as goal
+
+pub returns : goal.returns
+returns g c =
+    record {
+      steps = refl;
+      ends = refl;
+      sets = record { pool = refl; cuts = refl; fresh = refl; count = refl };
+    }

@@ -1,6 +1,0 @@
-use Rattle.std.proofs.Common.{length}
-use Rattle.pg_match.proofs.MemoryLemmas.{blank_memory}
-use Rattle.pg_match.proofs.memory.Memory.refresh.Goals as goal
-
-pub returns-then-self-ge-PATIENCE : goal.returns-then-self-ge-PATIENCE
-returns-then-self-ge-PATIENCE g c = λ m memory. blank_memory m _ (c.forget.ensures (length m.states) memory.shape)

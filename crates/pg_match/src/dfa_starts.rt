@@ -1,0 +1,284 @@
+//! What remembered sets tell of the hits of a line from a place on, before any marks are set.
+ghost use Rattle.std.specs.Prelude.{◌≡◌, ◌+◌, ◌*◌, ◌/◌, ◌<◌, ◌≤◌, ◌^◌, length, IfSome, IsTrue, List, MatchOption, Some};
+ghost use Rattle.pg_syntax.specs.Patterns.{Pattern};
+ghost use Rattle.pg_match.specs.Automata.{IsRunnable};
+ghost use Rattle.pg_match.specs.Bounds.{MayBegin, MayEnd};
+ghost use Rattle.pg_match.specs.Hits.{HasNoNext, IsNext};
+ghost use Rattle.pg_match.specs.Machines.{Agrees};
+ghost use Rattle.pg_match.specs.StateSets.{HaveRoom};
+ghost use Rattle.pg_match.specs.Searches.{IsBest};
+ghost use Rattle.pg_match.specs.Steps.{EndsBehind};
+ghost use Rattle.pg_match.specs.Memories.{IsMemoryOf, IsAtRow, In, Finishes, HasSkimmed, Skimmed};
+ghost use Rattle.pg_match.specs.Views.{nfa, buffers, remembered, added, HasSeeds, HasStarts, Remembers, Tells};
+
+use crate::automaton::Automaton;
+use crate::dfa_cache::{Cache, DEAD, HIT, LOST};
+use crate::dfa_search::Next;
+use crate::search::StateSets;
+use crate::state::State;
+use std::alloc::Allocator;
+
+/// What is known of the hits from a place on.
+#[derive(Clone, Copy)]
+pub(crate) enum Skim {
+    /// There are none.
+    NoHit,
+    /// There is one, which may be empty, and none begins before this place.
+    Known(usize),
+    /// None begins before this place, and the rest isn't remembered.
+    Unknown(usize),
+}
+
+impl<A: Allocator> Automaton<A> {
+    /// Goes on from a row that stands at a place, four bytes at a time, as long as their rows are known and no hit ends
+    /// before them. Answers the row and the place that it comes to, and a place before which no hit begins.
+    #[inline(always)]
+    fn follow_rows(
+        &self,
+        memory: &Cache<A>,
+        line: &[u8],
+        from: usize,
+        state: u32,
+        place: usize,
+    ) -> (u32, usize, usize)
+        requires runs { IsRunnable (nfa self.now) }
+        requires memory { IsMemoryOf (nfa self.now) (remembered memory.now) }
+        requires skimmed { HasSkimmed (nfa self.now) (remembered memory.now) line.now from place state from }
+        ensures { HasSkimmed (nfa self.now) (remembered memory.now) line.now from result.1 result.0 result.2 }
+    {
+        let mut at = state;
+        let mut here = place;
+        let mut start = from;
+        while here + 4 < line.len() {
+            let one = memory.steps[at as usize + line[here] as usize];
+            if one < 256 {
+                break;
+            }
+            let two = memory.steps[one as usize + line[here + 1] as usize];
+            if two < 256 {
+                break;
+            }
+            let three = memory.steps[two as usize + line[here + 2] as usize];
+            if three < 256 {
+                break;
+            }
+            let four = memory.steps[three as usize + line[here + 3] as usize];
+            if four < 256 {
+                break;
+            }
+            if memory.fresh[(four / 256) as usize] {
+                start = here + 4;
+            } else if memory.fresh[(three / 256) as usize] {
+                start = here + 3;
+            } else if memory.fresh[(two / 256) as usize] {
+                start = here + 2;
+            } else if memory.fresh[(one / 256) as usize] {
+                start = here + 1;
+            }
+            at = four;
+            here += 4;
+        }
+        (at, here, start)
+    }
+
+    /// Looks for hits from a place on in a line that isn't empty, by what is remembered.
+    pub(crate) fn skim(&self, memory: &Cache<A>, line: &[u8], from: usize) -> Skim
+        requires runs { IsRunnable (nfa self.now) }
+        requires memory { IsMemoryOf (nfa self.now) (remembered memory.now) }
+        requires bytes { 1 ≤ length line.now }
+        requires from_in { from ≤ length line.now }
+        ensures { Skimmed (nfa self.now) line.now from result }
+    {
+        if memory.count == 0 {
+            return Skim::Unknown(from);
+        }
+        let first = if from == 0 { 256 } else { 0 };
+        let (mut state, mut place, mut start) = self.follow_rows(
+            memory,
+            line,
+            from,
+            first,
+            from.saturating_sub(1),
+        );
+        while place + 1 < line.len() {
+            let next = memory.steps[state as usize + line[place] as usize];
+            if next == HIT {
+                return Skim::Known(start);
+            }
+            if next == DEAD {
+                return Skim::NoHit;
+            }
+            if next < 256 {
+                return Skim::Unknown(start);
+            }
+            state = next;
+            place += 1;
+            if memory.fresh[(next / 256) as usize] {
+                start = place;
+            }
+        }
+        match self.recall_end(memory, state, line[place]) {
+            Some(false) => Skim::NoHit,
+            Some(true) => Skim::Known(start),
+            None => Skim::Unknown(start),
+        }
+    }
+
+    /// Learns more of a line that isn't empty, from a place on, as far as the visits allow.
+    fn study(&self, sets: &mut StateSets<A>, memory: &mut Cache<A>, line: &[u8], from: usize)
+        requires runs { IsRunnable (nfa self.now) }
+        requires room { HaveRoom (buffers sets.old) (length self.now.states.items) }
+        requires memory { IsMemoryOf (nfa self.now) (remembered memory.old) }
+        requires bytes { 1 ≤ length line.now }
+        requires short { length line.now ≤ 2 ^ 30 }
+        requires from_in { from ≤ length line.now }
+        requires visits { sets.old.visits ≤ (length line.now + 1) * length self.now.states.items }
+        ensures room { HaveRoom (buffers sets.new) (length self.now.states.items) }
+        ensures memory { IsMemoryOf (nfa self.now) (remembered memory.new) }
+        ensures visits { sets.new.visits ≤ (length line.now + 1) * length self.now.states.items }
+        ensures told { Tells sets.old sets.new }
+    {
+        let size = self.states.len() as u128;
+        let most = line.len() as u128 * size;
+        if sets.visits > most {
+            return;
+        }
+        if !self.first(sets, memory) {
+            return;
+        }
+        let mut state = if from == 0 { 256 } else { 0 };
+        let mut place = from.saturating_sub(1);
+        loop {
+            let (at, here) = self.walk(memory, line, place, state);
+            if sets.visits > most {
+                return;
+            }
+            if here + 1 == line.len() {
+                self.finish(sets, memory, at, line[here]);
+                return;
+            }
+            if memory.steps[at as usize + line[here] as usize] == LOST {
+                memory.lose(line.len() - here);
+                return;
+            }
+            match self.learn(sets, memory, (at / 256) as usize, line[here]) {
+                Next::Row(next) => {
+                    state = next;
+                    place = here + 1;
+                }
+                Next::Hit | Next::Dead => return,
+                Next::Lost => {
+                    memory.lose(line.len() - here);
+                    return;
+                }
+            }
+        }
+    }
+
+    /// Whether some seed reads the byte, and a match ends behind it for each that does.
+    fn ends_behind(&self, byte: u8) -> bool
+        requires seeds { HasSeeds self.now }
+        ensures { IsTrue result → EndsBehind self.now.states.items self.now.seeds.items byte }
+    {
+        let mut some = false;
+        for k in 0..self.seeds.len() {
+            let state = self.seeds[k];
+            if let State::Read(set, to) = &self.states[state as usize] {
+                if set.contains(byte) {
+                    if *to != 0 {
+                        return false;
+                    }
+                    some = true;
+                }
+            }
+        }
+        some
+    }
+
+    /// Whether the best span from a place on is found to be the byte there alone.
+    fn is_one_byte(&self, line: &[u8], place: usize) -> bool
+        requires runs { IsRunnable (nfa self.now) }
+        requires seeds { HasSeeds self.now }
+        requires place { place ≤ length line.now }
+        ensures { IsTrue result → IsBest self.now.states.items line.now self.now.start
+            (MayBegin self.now.bounds line.now) (MayEnd self.now.bounds line.now) place (length line.now + 1)
+            (Some (place, place + 1)) }
+    {
+        if place == 0 || place >= line.len() {
+            return false;
+        }
+        self.bounds.may_begin(line, place)
+            && self.bounds.may_end(line, place + 1)
+            && self.ends_behind(line[place])
+    }
+
+    /// The best span from a place on of a line that isn't empty, by runs of the automaton.
+    fn find_by(
+        &self,
+        sets: &mut StateSets<A>,
+        memory: &mut Cache<A>,
+        line: &[u8],
+        from: usize,
+    ) -> Option<(usize, usize)>
+        requires runs { IsRunnable (nfa self.now) }
+        requires seeds { HasSeeds self.now }
+        requires starts { HasStarts self.now }
+        requires room { HaveRoom (buffers sets.old) (length self.now.states.items) }
+        requires memory { IsMemoryOf (nfa self.now) (remembered memory.old) }
+        requires bytes { 1 ≤ length line.now }
+        requires short { length line.now ≤ 2 ^ 30 }
+        requires from_in { from ≤ length line.now }
+        ensures room { HaveRoom (buffers sets.new) (length self.now.states.items) }
+        ensures memory { IsMemoryOf (nfa self.now) (remembered memory.new) }
+        ensures best { IsBest self.now.states.items line.now self.now.start (MayBegin self.now.bounds line.now)
+            (MayEnd self.now.bounds line.now) from (length line.now + 1) result }
+        ensures visits { sets.new.visits ≤ (length line.now + 1) * length self.now.states.items }
+        ensures told { added sets.new ≡ added sets.old + sets.new.visits }
+    {
+        match self.skim(memory, line, from) {
+            Skim::NoHit => {
+                sets.visits = 0;
+                None
+            }
+            Skim::Known(start) if self.is_one_byte(line, start) => {
+                sets.visits = 0;
+                Some((start, start + 1))
+            }
+            Skim::Known(start) => self.find(sets, line, start),
+            Skim::Unknown(start) => {
+                let best = self.find(sets, line, start);
+                self.study(sets, memory, line, from);
+                best
+            }
+        }
+    }
+
+    /// The hit that comes next from a place on.
+    pub(crate) fn next_piece(
+        &self,
+        sets: &mut StateSets<A>,
+        memory: &mut Option<Cache<A>>,
+        line: &[u8],
+        from: usize,
+    ) -> Option<(usize, usize)>
+        requires runs { IsRunnable (nfa self.now) }
+        requires seeds { HasSeeds self.now }
+        requires starts { HasStarts self.now }
+        requires room { HaveRoom (buffers sets.old) (length self.now.states.items) }
+        requires memory { Remembers memory.old (nfa self.now) }
+        requires short { length line.now ≤ 2 ^ 30 }
+        requires from_in { from ≤ length line.now }
+        ensures room { HaveRoom (buffers sets.new) (length self.now.states.items) }
+        ensures memory { Remembers memory.new (nfa self.now) }
+        ensures next { (patterns : List Pattern) → Agrees (nfa self.now) patterns
+            → MatchOption result (HasNoNext patterns self.now.bounds line.now from)
+            (λ b. IsNext patterns self.now.bounds line.now from b.0 b.1) }
+        ensures visits { sets.new.visits ≤ (length line.now + 1) * length self.now.states.items }
+        ensures told { added sets.new ≡ added sets.old + sets.new.visits }
+    {
+        match memory {
+            Some(memory) if !line.is_empty() => self.find_by(sets, memory, line, from),
+            _ => self.find(sets, line, from),
+        }
+    }
+}
