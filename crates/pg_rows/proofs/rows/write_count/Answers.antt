@@ -15,7 +15,8 @@ returns-in_err-write_both-clause-part g c =
     let P : List ℕ → Type 0 = λ xs. TakesPart xs (g.W.Sink.taken a.out.now) (g.W.Sink.taken c.write_both-2.new.out) in
     let Q : List ℕ → Type 0 = λ name. P (name ++ mark ∷ []) in
     on_err (P (when a.format.now.names (a.prefix.now ++ mark ∷ []) ++ decimal a.count ++ 10 ∷ []))
-    c.from_residual.result (subst P (sym whole) (takes_first (a.prefix.now ++ mark ∷ []) (decimal a.count ++ 10 ∷ []) _ _
+    c.from_residual.result
+    (subst P (sym whole) (takes_first (a.prefix.now ++ mark ∷ []) (decimal a.count ++ 10 ∷ []) _ _
     (subst Q c.name.ensures (let R : ℕ → Type 0 = λ m. P (c.name.result.now ++ m ∷ []) in
     subst R c.name_mark.ensures c.in_err-write_both.ensures.part))))
 

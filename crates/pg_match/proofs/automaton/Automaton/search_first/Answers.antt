@@ -34,7 +34,8 @@ returns-clause-exact g c =
     let lt : 0 < length l = omega (arith, c.requires.bytes) in
     let U = Has (members c.go.new.sets.current) in
     some_answer m c.args.self.now.seeds.items l _ _ _ c.unwrap.result c.unwrap.ensures
-    (c.search_on.ensures.searched 0 (omega arith) (stands_whole m c.args.self.now.seeds.items c.requires.seeds l 0 1 U (omega arith) (omega arith)
+    (c.search_on.ensures.searched 0 (omega arith)
+    (stands_whole m c.args.self.now.seeds.items c.requires.seeds l 0 1 U (omega arith) (omega arith)
     (stands_next m l 0 0 _ S U (slice_get-get_or l 0 0 lt) lt (stands_first m l S c.requires.begun)
     c.go.ensures.goes (omega arith) c.requires.runs
     (λ h. true≢false (sym (c.hits_before.ensures.1 h) ∙ c.if-hits_before.false)))))
