@@ -1,6 +1,6 @@
 #!/usr/bin/env python3
-"""The gate: runs a command that ends with 'N passed, M failed', then the rows, the runs by threads and those without
-memory, looks up the wrong bodies that it doesn't try, and closes with such a line over all.
+"""The gate: runs a command that ends with 'N passed, M failed', then the rows, the runs by threads, those without
+memory and those over an input that stays open, looks up the wrong bodies that it doesn't try, and closes with such a line over all.
 
 The rows and the runs take the program that the command has built just now, also where the command has failed.
 """
@@ -97,8 +97,15 @@ def main():
     rows = figures_of([sys.executable, str(HERE / "run_rows.py")], "the rows")
     threads = figures_of([sys.executable, str(HERE / "threads.py")], "the runs by threads")
     memory = figures_of([sys.executable, str(HERE / "memory.py")], "the runs without memory")
+    live = figures_of([sys.executable, str(HERE / "live.py")], "the runs over an open input")
     edits = figures_of([sys.executable, str(HERE / "refuse.py"), "--read"], "the further wrong bodies")
-    ran = ((name, proofs), ("the rows", rows), ("the runs by threads", threads), ("the runs without memory", memory))
+    ran = (
+        (name, proofs),
+        ("the rows", rows),
+        ("the runs by threads", threads),
+        ("the runs without memory", memory),
+        ("the runs over an open input", live),
+    )
     parts = (*ran, ("the further wrong bodies, looked up", edits))
     for what, (passed, failed) in parts:
         say(f"gate: {what}: {passed} passed, {failed} failed")
