@@ -1,6 +1,7 @@
 #!/usr/bin/env python3
 """The gate: runs a command that ends with 'N passed, M failed', then the rows, the runs by threads, those without
-memory and those over an input that stays open, looks up the wrong bodies that it doesn't try, and closes with such a line over all.
+memory and those over an input that stays open, looks up the wrong bodies that it doesn't try, and closes with such a
+line over all.
 
 The rows and the runs take the program that the command has built just now, also where the command has failed.
 """
