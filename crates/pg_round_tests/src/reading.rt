@@ -87,10 +87,11 @@ impl<'n> Gate for AfterReading<'n> {
     fn after(&self, _number: u32) {}
 }
 
-/// A file, how long a search waits for its second read, and what a run over it does.
+/// A file, the least size of its blocks, how long a search waits for its second read, and what a run over it does.
 #[derive(Clone, Copy)]
 struct Case {
     file: &'static [u8],
+    block: u8,
     ending: Ending,
     may_wait: bool,
     patience: u32,
@@ -101,10 +102,12 @@ struct Case {
 }
 
 /// Three files that are read on while they are searched, of which the next read gives the rest, or fails, or meets a
-/// line that is too long; the last two come behind the rows. And one whose reading may wait, which isn't read on.
-const CASES: [Case; 4] = [
+/// line that is too long; the last two come behind the rows. And two whose reading may wait, which aren't read on: what
+/// came is searched before, also where it fills no block.
+const CASES: [Case; 5] = [
     Case {
         file: b"x1\nx2\nx3\nx4\nx5",
+        block: 1,
         ending: Ending::Ends,
         may_wait: false,
         patience: PATIENCE,
@@ -115,6 +118,7 @@ const CASES: [Case; 4] = [
     },
     Case {
         file: b"x1\nx2\n",
+        block: 1,
         ending: Ending::Fails,
         may_wait: false,
         patience: PATIENCE,
@@ -125,6 +129,7 @@ const CASES: [Case; 4] = [
     },
     Case {
         file: b"x1\nx2\nxxxxxx",
+        block: 1,
         ending: Ending::Ends,
         may_wait: false,
         patience: PATIENCE,
@@ -135,6 +140,7 @@ const CASES: [Case; 4] = [
     },
     Case {
         file: b"x1\nx2\n",
+        block: 1,
         ending: Ending::Ends,
         may_wait: true,
         patience: 1_000,
@@ -142,6 +148,17 @@ const CASES: [Case; 4] = [
         output: b"x1\nx2\n",
         told: b"",
         given_up: 2,
+    },
+    Case {
+        file: b"x1\nx2\nx3",
+        block: 100,
+        ending: Ending::Ends,
+        may_wait: true,
+        patience: 1_000,
+        status: Ok(0),
+        output: b"x1\nx2\nx3\n",
+        told: b"",
+        given_up: 1,
     },
 ];
 
@@ -159,6 +176,7 @@ fn reads_on<R: Abort + Threads + Wait + Clock + Sync>(rt: &R, alloc: Global, cas
     let mut out = sink(rt, alloc);
     let mut setup = setup(2, 2);
     setup.line = 4;
+    setup.block = u32::from(case.block.max(1));
     let found = run_over(rt, alloc, setup, &mut files, &mut out, &gate);
     found.status == case.status
         && out.bytes() == case.output

@@ -5,11 +5,12 @@ use Rattle.std.specs.List.{AllByRecursion, Any}
 use Rattle.std.proofs.lemmas.List.{append-nil}
 use Rattle.std.proofs.lemmas.List.Concat.{flat_map-append}
 use Rattle.pg_lines.specs.Lines.{lines, AreShort, AreWhole}
-use Rattle.pg_lines.specs.Blocks.{BlockData, joined, EndsWith, IsFinished, AreNumbered}
+use Rattle.pg_lines.specs.Blocks.{BlockData, joined, EndsWith, AreNumbered}
 use Rattle.pg_lines.specs.Cutter.{Fed, handed as handed_out, Stands as CutterStands, IsNextBlock, AreAllBlocks}
+use Rattle.pg_lines.specs.Cutter.{HasLinesLeft, held}
 use Rattle.pg_lines.specs.declared.cutter.Cutter.{Cutter}
 use Rattle.pg_lines.proofs.LineLemmas.{lines-append, whole_append}
-use Rattle.pg_lines.proofs.CutLaws.{cut_is_cutting}
+use Rattle.pg_lines.proofs.EarlyLemmas.{AllEnd, fed_end, fed_whole, all_are_cutting}
 
 -- bytes that end with the terminator, or that nothing follows
 abbrev pub IsApart : ℕ → List ℕ → List ℕ → Type 0
@@ -22,9 +23,6 @@ lines_apart end xs ys (inr e) =
     ∙ (ap (lines end) (append-nil xs)
     ∙ (sym (append-nil (lines end xs)) ∙ ap (λ zs. lines end xs ++ lines end zs) (sym e)))
 
-abbrev pub AllEnd : ℕ → List BlockData → Type 0
-AllEnd end blocks = AllByRecursion (λ b. EndsWith end b.bytes) blocks
-
 whole_joined : (end : ℕ) (blocks : List BlockData) → AllEnd end blocks → AreWhole end (joined blocks)
 whole_joined end [] h = inl refl
 whole_joined end (b ∷ blocks) h = whole_append end b.bytes (joined blocks) (inr h.0) (whole_joined end blocks h.1)
@@ -34,17 +32,12 @@ all_apart : {X : Type 0} (P : X → Type 0) (xs ys : List X) → AllByRecursion 
 all_apart P [] ys h = (tt, h)
 all_apart P (x ∷ xs) ys h = let r = all_apart P xs ys h.1 in ((h.0, r.0), r.1)
 
-all_end : (end size : ℕ) (blocks : List BlockData) → AllByRecursion (λ b. IsFinished end size b.bytes) blocks
-    → AllEnd end blocks
-all_end end size [] h = tt
-all_end end size (b ∷ blocks) h = (h.0.ends, all_end end size blocks h.1)
-
 pub given_end : {A : Type 0} (cutter : Cutter A) (f : Fed) (end : ℕ) → CutterStands cutter f → f.end ≡ end
     → AllEnd end f.taken
 given_end cutter f end s ends =
-    let finished = all_apart (λ b. IsFinished f.end f.size b.bytes) f.taken cutter.ready.items s.cut.finished in
+    let all = fed_end f (f.taken ++ cutter.ready.items) (held cutter) s.cut in
     let P : ℕ → Type 0 = λ e. AllEnd e f.taken in
-    subst P ends (all_end f.end f.size f.taken finished.0)
+    subst P ends (all_apart (λ b. EndsWith f.end b.bytes) f.taken cutter.ready.items all).0
 
 joined_apart : (xs ys : List BlockData) (zs : List ℕ) → joined (xs ++ ys) ++ zs ≡ joined xs ++ (joined ys ++ zs)
 joined_apart xs ys zs =
@@ -61,28 +54,47 @@ pub record Gives (f : Fed) (b : BlockData) (more : List ℕ) : Type 0 where
 not_nothing : (end : ℕ) (xs : List ℕ) → EndsWith end xs → xs ≢ []
 not_nothing end xs h e = absurd (omega (arith, ap length (sym h.1 ∙ e), length-append h.0 (end ∷ [])))
 
-pub gives_next : (f : Fed) (b : BlockData) → IsNextBlock f b
-    → (more : List ℕ) × Gives f b more × AreWhole f.end b.bytes
+-- it does, and the block is whole lines
+abbrev pub GivesLines : Fed → BlockData → Type 0
+GivesLines f b = (more : List ℕ) × Gives f b more × AreWhole f.end b.bytes
+
+pub gives_next : (f : Fed) (b : BlockData) → IsNextBlock f b → GivesLines f b
 gives_next f b n =
     let later = n.cut.0 in
-    let cuts = n.cut.2 in
-    let finished = all_apart (λ x. IsFinished f.end f.size x.bytes) f.taken (b ∷ later) cuts.finished in
-    let ends : EndsWith f.end b.bytes = finished.1.0.ends in (
+    let all = fed_end f (f.taken ++ b ∷ later) n.cut.1 n.cut.2 in
+    let ends : EndsWith f.end b.bytes = (all_apart (λ x. EndsWith f.end x.bytes) f.taken (b ∷ later) all).1.0 in (
       joined later ++ n.cut.1,
       record {
         numbered = n.numbered;
         some = not_nothing f.end b.bytes ends;
         whole =
-            cuts.whole ∙ (joined_apart f.taken (b ∷ later) n.cut.1
+            fed_whole f (f.taken ++ b ∷ later) n.cut.1 n.cut.2
+            ∙ (joined_apart f.taken (b ∷ later) n.cut.1
             ∙ ap (λ xs. joined f.taken ++ xs) (append_assoc b.bytes (joined later) n.cut.1));
         apart = inl (inr ends);
       },
       inr ends,
     )
 
+-- the whole lines that were in no block
+pub gives_early : (f : Fed) (b : BlockData) → HasLinesLeft f b → GivesLines f b
+gives_early f b h = (
+  h.none.0,
+  record {
+    numbered = h.numbered;
+    some = not_nothing f.end b.bytes h.ends;
+    whole =
+        h.none.1
+        ∙ (joined_apart f.taken (b ∷ []) h.none.0
+        ∙ ap (λ xs. joined f.taken ++ (xs ++ h.none.0)) (append-nil b.bytes));
+    apart = inl (inr h.ends);
+  },
+  inr h.ends,
+)
+
 pub gives_last : (f : Fed) (b : BlockData) → AreAllBlocks (handed_out f (Some b)) → Gives f b []
 gives_last f b all =
-    let cutting = cut_is_cutting f.end f.size f.bytes (f.taken ++ b ∷ []) all.cut in
+    let cutting = all_are_cutting (handed_out f (Some b)) all in
     record {
       numbered = all.numbered;
       some = (all_apart (λ x. x.bytes ≢ []) f.taken (b ∷ []) cutting.some).1.0;

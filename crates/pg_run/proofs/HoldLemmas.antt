@@ -119,6 +119,32 @@ module _ {A : Type 0} {engine : Engine A} {aim : Aim} {steps : List Step} {out :
   safe_step s m =
       begins_trans _ _ _ h.safe (plan_begins aim.query (format_of aim) room_of steps (s ∷ []) (m.0, shaped_of))
 
+  -- what was held back was sent on
+  pub sent : (out' : Stream) → out'.taken ≡ out.taken → out'.failures ≡ out.failures → Holds engine aim steps out'
+  sent out' taken calm = record {
+    same = h.same;
+    set = h.set;
+    count = h.count;
+    events = h.events;
+    written = h.written;
+    stands = h.stands;
+    planned = h.planned;
+    taken = h.taken;
+    blocks = h.blocks;
+    all = h.all;
+    safe = h.safe;
+    got = taken ∙ h.got;
+    calm = calm ∙ h.calm;
+  }
+
+  -- or it couldn't be
+  pub unsent : (out' : Stream) → out'.taken ≡ out.taken → out.failures < out'.failures → Broke aim steps out' Sink
+  unsent out' taken rose = record {
+    cause = omega (arith, rose, h.calm);
+    part = (h.written, h.safe, taken ∙ h.got);
+    calm = tt;
+  }
+
   -- where memory is lacking
   pub broke_now : Broke aim steps out OutOfMemory
   broke_now = record { cause = tt; part = (h.written, h.safe, h.got); calm = h.calm }

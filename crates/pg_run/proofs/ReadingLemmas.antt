@@ -9,12 +9,12 @@ use Rattle.std.proofs.lemmas.List.{append-nil}
 use Rattle.pg_lines.specs.Search.{terminator}
 use Rattle.pg_lines.specs.Lines.{lines, AreShort, AreWhole}
 use Rattle.pg_lines.specs.Blocks.{BlockData, joined}
-use Rattle.pg_lines.specs.Cutter.{fed as fed_after, handed as handed_out, Stands as CutterStands, IsNextBlock}
-use Rattle.pg_lines.specs.Cutter.{Fed, AreAllBlocks, HasLongLine}
+use Rattle.pg_lines.specs.Cutter.{fed as fed_after, handed as handed_out, Stands as CutterStands}
+use Rattle.pg_lines.specs.Cutter.{Fed, IsDrained, AreAllBlocks, HasLongLine}
 use Rattle.pg_lines.specs.declared.cutter.Cutter.{Cutter}
 use Rattle.pg_lines.specs.declared.cutter.CutFault.{CutFault}
 use Rattle.pg_lines.specs.declared.cutter.CutFault.TheVariants.{OutOfMemory as NoMemory, LineTooLong, FileTooLong}
-use Rattle.pg_lines.proofs.CutLaws.{cut_is_cutting}
+use Rattle.pg_lines.proofs.EarlyLemmas.{AllEnd, all_are_cutting}
 use Rattle.pg_walk.specs.declared.item.Cause.TheVariants.{ReadFailed}
 use Rattle.pg_rows.specs.Output.{Entry, Read, Ending, Running, Ended, Failed, Left, HasRoom, output, is_failed, when}
 use Rattle.pg_rows.specs.Enough.{is_enough}
@@ -30,7 +30,7 @@ use Rattle.pg_run.specs.Told.{faults_of, fault_line}
 use Rattle.pg_files.specs.Asking.{read_given}
 use Rattle.pg_run.specs.Faults.{fault_of_cut}
 use Rattle.pg_run.specs.Outcome.{Stream, GoesOn, GotWholeLines, IsOfAFile, NoneFailed}
-use Rattle.pg_run.specs.Cover.{is_left, IsReading}
+use Rattle.pg_run.specs.Cover.{is_left, Covers, IsReading}
 use Rattle.pg_run.specs.Holding.{Aim, Holds, May, Broke, SearchCause, IsWritten, IsWrittenFirst, format_of, output_of}
 use Rattle.pg_run.specs.Reading.{InFile, HasCut, IsLost, CutCause, IsWhole, Between, Breaks, IsSafe, ReadCause}
 use Rattle.pg_run.specs.Reading.{ReadsOn, ending_of, ending_after}
@@ -45,7 +45,7 @@ use Rattle.pg_run.proofs.CoverLemmas.{follows_begins, covers_alike}
 use Rattle.pg_run.proofs.StepLemmas.{reads, read_ends, leaves, announces, ends, bytes_given, end_given, closed_left}
 use Rattle.pg_run.proofs.StepLemmas.{left_whole}
 use Rattle.pg_run.proofs.HoldLemmas.{room_of}
-use Rattle.pg_run.proofs.BlockLemmas.{AllEnd, Gives, given_end, gives_next, gives_last, numbered_last, short_part}
+use Rattle.pg_run.proofs.BlockLemmas.{Gives, GivesLines, given_end, gives_last, numbered_last, short_part}
 
 -- What was given.
 
@@ -202,6 +202,9 @@ pub stands_by : {A : Type 0} {cutter cutter' : Cutter A} (past : Fed) → cutter
     → CutterStands cutter' past
 stands_by {A = A} past e h = let S : Cutter A → Type 0 = λ c. CutterStands c past in subst S (sym e) h
 
+pub drained_by : {A : Type 0} {cutter cutter' : Cutter A} → cutter' ≡ cutter → IsDrained cutter → IsDrained cutter'
+drained_by {A = A} e h = let D : Cutter A → Type 0 = λ c. IsDrained c in subst D (sym e) h
+
 -- An open file.
 module _ {A : Type 0} {reader : FileReader A} {aim : Aim} {given : List Given} {steps : List Step}
     (h : HasCut reader aim given steps) where
@@ -267,26 +270,24 @@ module _ {A : Type 0} {reader : FileReader A} {aim : Aim} {given : List Given} {
 
   -- A block that the cutter gives.
 
-  next_whole : (b : BlockData) → IsNextBlock h.fed b → (more : List ℕ) × Gives h.fed b more × AreWhole end_of b.bytes
-  next_whole b n =
-      let g = gives_next h.fed b n in
-      let W : ℕ → Type 0 = λ e. AreWhole e b.bytes in
-      (g.0, g.1, subst W h.ends g.2)
+  whole_lines : (b : BlockData) → GivesLines h.fed b → AreWhole end_of b.bytes
+  whole_lines b g = let W : ℕ → Type 0 = λ e. AreWhole e b.bytes in subst W h.ends g.2
 
-  pub next_may : (b : BlockData) → IsNextBlock h.fed b → May aim steps (Announces b)
-  next_may b n = let g = next_whole b n in may_block b g.0 g.1
+  pub next_may : (b : BlockData) → GivesLines h.fed b → May aim steps (Announces b)
+  next_may b g = may_block b g.0 g.1
 
   -- the plan has it
-  pub next_taken : (reader' : FileReader A) (b : BlockData) → reader'.came ≡ reader.came → IsNextBlock h.fed b
-      → CutterStands reader'.cutter (handed_out h.fed (Some b)) → HasCut reader' aim given (Announces b ∷ steps)
-  next_taken reader' b same n cut =
-      let g = next_whole b n in
+  pub next_taken : (reader' : FileReader A) (b : BlockData) (early : List BlockData) → reader'.came ≡ reader.came
+      → GivesLines h.fed b
+      → CutterStands reader'.cutter (record h.fed { taken = h.fed.taken ++ b ∷ []; early = early })
+      → HasCut reader' aim given (Announces b ∷ steps)
+  next_taken reader' b early same g cut =
       let R : List ℕ → Came → Type 0 =
       λ front came. IsReading aim.query (format_of aim) h.name front (behind g.0) (ending_after came)
       (entries_of (Announces b ∷ steps)) (entries_given given) in
       let L : Came → Type 0 = λ came. IsLost came aim given h.lost in
       record {
-        fed = handed_out h.fed (Some b);
+        fed = record h.fed { taken = h.fed.taken ++ b ∷ []; early = early };
         cut = cut;
         ends = h.ends;
         longest = h.longest;
@@ -305,7 +306,7 @@ module _ {A : Type 0} {reader : FileReader A} {aim : Aim} {given : List Given} {
         cause = subst L (sym same) h.cause;
         reads =
             subst (λ front. R front reader'.came) (sym (joined_push h.fed.taken b))
-            (subst (R (joined h.fed.taken ++ b.bytes)) (sym same) (reads_block b g.0 g.1 (inl g.2)));
+            (subst (R (joined h.fed.taken ++ b.bytes)) (sym same) (reads_block b g.0 g.1 (inl (whole_lines b g))));
       }
 
   pub none_taken : (reader' : FileReader A) → reader'.came ≡ reader.came
@@ -396,9 +397,9 @@ module _ {A : Type 0} {reader : FileReader A} {engine : Engine A} {aim : Aim} {g
 
   -- The next block.
 
-  pub next_breaks : (b : BlockData) (out' : Stream) (fault : RunFault) → IsNextBlock h.cuts.fed b
+  pub next_breaks : (b : BlockData) (out' : Stream) (fault : RunFault) → GivesLines h.cuts.fed b
       → Broke aim (Announces b ∷ h.steps) out' fault → Breaks aim given out' fault
-  next_breaks b out' fault n k = let g = next_whole h.cuts b n in breaks_block b g.0 out' fault g.1 (inl g.2) k
+  next_breaks b out' fault g k = breaks_block b g.0 out' fault g.1 (inl (whole_lines h.cuts b g)) k
 
   -- The last block.
 
@@ -443,7 +444,7 @@ module _ {A : Type 0} {reader : FileReader A} {engine : Engine A} {aim : Aim} {g
   none_last failed e all =
       let c = h.cuts in
       let f = c.fed in
-      let cutting = cut_is_cutting f.end f.size f.bytes (f.taken ++ []) all.cut in
+      let cutting = all_are_cutting (handed_out f None) all in
       let same : f.bytes ≡ joined f.taken ++ [] =
       sym cutting.whole ∙ (ap joined (append-nil f.taken) ∙ sym (append-nil (joined f.taken))) in
       let cut_whole : f.bytes ≡ joined f.taken ++ c.rest =
@@ -792,18 +793,34 @@ told_more {reader = reader} {reader' = reader'} {given = given} {given' = given'
     ∙ (ap (λ xs. xs ++ line (is_failed (ending_after reader'.came))) (sym none)
     ∙ ap (λ f. faults_of given ++ line f) e))
 
--- the file is ended
-pub file_ended : {A : Type 0} {engine : Engine A} {aim : Aim} {failed : Bool} {given : List Given} {out : Stream}
-    (engine' : Engine A) (h : IsWhole engine aim (ending_of failed) given out)
-    → Holds engine' aim (Ends failed ∷ h.steps) out → Between engine' aim given out
-file_ended {aim = aim} {failed = failed} {given = given} engine' h k = record {
-  steps = Ends failed ∷ h.steps;
-  holds = k;
-  closed = refl;
-  number = h.number;
-  covers =
-      ends aim.query (format_of aim) h.name h.front failed (entries_of h.steps) (entries_given given) h.reads;
-}
+-- The file was searched whole, and is ended.
+module _ {A : Type 0} {engine : Engine A} {aim : Aim} {given : List Given} {out : Stream} (failed : Bool)
+    (h : IsWhole engine aim (ending_of failed) given out) where
+  ended_covers : Covers aim.query (format_of aim) (entries_of (Ends failed ∷ h.steps)) (entries_given given)
+  ended_covers =
+      ends aim.query (format_of aim) h.name h.front failed (entries_of h.steps) (entries_given given) h.reads
+
+  pub file_ended : (engine' : Engine A) (out' : Stream) → Holds engine' aim (Ends failed ∷ h.steps) out'
+      → Between engine' aim given out'
+  file_ended engine' out' k = record {
+    steps = Ends failed ∷ h.steps;
+    holds = k;
+    closed = refl;
+    number = h.number;
+    covers = ended_covers;
+  }
+
+  -- its rows couldn't be sent on
+  pub ended_breaks : (out' : Stream) (fault : RunFault) → Broke aim (Ends failed ∷ h.steps) out' fault
+      → Breaks aim given out' fault
+  ended_breaks out' fault k = record {
+    cause = read_cause fault aim given out' k.cause;
+    written = safe_by aim (Ends failed ∷ h.steps) given out'.taken k.part (λ files on.
+        follows_begins aim.query (format_of aim) (entries_of (Ends failed ∷ h.steps)) (entries_given given) files
+        (room_of h.holds) (inl ended_covers) on);
+    lines = λ of. absurd (none_at_fault fault aim out' k.cause of);
+    calm = k.calm;
+  }
 
 -- what holds at a value holds of an answer that is this value
 pub ok_by : {T E : Type 0} (r : Result T E) (P : T → Type 0) (x : T) → IfOk r (λ y. y ≡ x) → P x → IfOk r P

@@ -245,15 +245,31 @@ module _ {A : Type 0} {engine : Engine A} {aim : Aim} {given : List Given} {out 
       (follows_begins q format (Read name [] Running ∷ es) (entries_given (File name [] Left ∷ given)) files
       (room_of h.holds) (inr (name, [], [], Left, opens q format name es (entries_given given) h.covers)) on))
 
+  -- what was written was sent on
+  pub rows_sent : (engine' : Engine A) (out' : Stream) → Holds engine' aim h.steps out' → Between engine' aim given out'
+  rows_sent engine' out' k =
+      record { steps = h.steps; holds = k; closed = h.closed; number = h.number; covers = h.covers }
+
   -- a name was given that gives no file
-  pub unmissed_safe : (name : List ℕ) (cause : Cause) → IsSafe aim (NoFile name cause ∷ given) out.taken
-  unmissed_safe name cause =
-      safe_by aim h.steps (NoFile name cause ∷ given) out.taken taken_part
+  pub unmissed_safe : (name : List ℕ) (cause : Cause) (taken : List ℕ)
+      → TakesPart (output_of aim h.steps) aim.out.taken taken → IsSafe aim (NoFile name cause ∷ given) taken
+  unmissed_safe name cause taken part =
+      safe_by aim h.steps (NoFile name cause ∷ given) taken part
       (λ files on.
       follows_begins aim.query (format_of aim) (Missed name ∷ entries_of h.steps)
       (entries_given (NoFile name cause ∷ given)) files
       (room_of h.holds)
       (inl (misses aim.query (format_of aim) name (entries_of h.steps) (entries_given given) h.covers)) on)
+
+  -- what was written before couldn't be sent on
+  pub unsent_breaks : (name : List ℕ) (cause : Cause) (out' : Stream) (fault : RunFault) → Broke aim h.steps out' fault
+      → Breaks aim (NoFile name cause ∷ given) out' fault
+  unsent_breaks name cause out' fault k = record {
+    cause = read_cause fault aim (NoFile name cause ∷ given) out' k.cause;
+    written = unmissed_safe name cause out'.taken k.part;
+    lines = λ of. absurd (none_at_fault fault aim out' k.cause of);
+    calm = k.calm;
+  }
 
   -- a name is missed
   pub name_missed : (engine' : Engine A) (name : List ℕ) (cause : Cause) → Holds engine' aim (Misses name ∷ h.steps) out

@@ -12,7 +12,7 @@ use crate::pace::{Pace, time};
 use crate::setup::Setup;
 use pg_lines::{Block, Cutter, Query, Scratch, search_block};
 use pg_round::{Gate, NothingToRead, Reader, search_round};
-use pg_rows::{Format, Sink};
+use pg_rows::{Format, Sink, WriteError};
 use pg_seq::Sequencer;
 use std::alloc::{AllocError, Allocator, Global};
 use std::mem;
@@ -236,6 +236,24 @@ impl<A: Allocator + Copy> Engine<A> {
     {
         self.sequencer.drain(out)?;
         Ok(())
+    }
+
+    /// Has the writer send on the rows that it holds back, where that is due.
+    pub(crate) fn send_on<W: Sink>(&self, is_due: bool, out: &mut W) -> Result<(), RunFault>
+        ensures ok { (aim : Aim) → (steps : List Step) →
+            Holds self.now aim steps (stream (W.taken out.old) (W.failures out.old)) →
+            OnOk result (Holds self.now aim steps (stream (W.taken out.new) (W.failures out.new))) }
+        ensures err { (aim : Aim) → (steps : List Step) →
+            Holds self.now aim steps (stream (W.taken out.old) (W.failures out.old)) →
+            IfErr result (Broke aim steps (stream (W.taken out.new) (W.failures out.new))) }
+    {
+        if !is_due {
+            return Ok(());
+        }
+        match out.flush() {
+            Ok(()) => Ok(()),
+            Err(WriteError) => Err(RunFault::Sink),
+        }
     }
 
     /// Searches the open file's next block and writes what may be written, or has the block wait where blocks
@@ -476,6 +494,51 @@ impl<A: Allocator + Copy + Send + Sync> Engine<A> {
             return self.drain(out);
         }
         self.search_round(rt, gate, &mut NothingToRead, &mut (), out)
+    }
+
+    /// Searches the blocks that wait, where they are as many as a round has: there is room for one more then.
+    pub(crate) fn make_room<R: Threads + Wait + Clock + Sync, W: Sink, G: Gate + Sync>(
+        &mut self,
+        rt: &R,
+        gate: &G,
+        out: &mut W,
+    ) -> Result<(), RunFault>
+        requires holds { (aim : Aim) × (steps : List Step)
+            × Holds self.old aim steps (stream (W.taken out.old) (W.failures out.old)) }
+        ensures room { OnOk result (self.new.spread ≡ true → length self.new.round.items < self.new.setup.round) }
+        ensures ok { (aim : Aim) → (steps : List Step) →
+            Holds self.old aim steps (stream (W.taken out.old) (W.failures out.old)) →
+            OnOk result (Holds self.new aim steps (stream (W.taken out.new) (W.failures out.new))) }
+        ensures err { (aim : Aim) → (steps : List Step) →
+            Holds self.old aim steps (stream (W.taken out.old) (W.failures out.old)) →
+            IfErr result (Broke aim steps (stream (W.taken out.new) (W.failures out.new))) }
+    {
+        if !self.is_full() {
+            return Ok(());
+        }
+        self.flush(rt, gate, out)
+    }
+
+    /// Searches the blocks that wait, if there are any, and has their rows written.
+    pub(crate) fn flush_waiting<R: Threads + Wait + Clock + Sync, W: Sink, G: Gate + Sync>(
+        &mut self,
+        rt: &R,
+        gate: &G,
+        out: &mut W,
+    ) -> Result<(), RunFault>
+        requires holds { (aim : Aim) × (steps : List Step)
+            × Holds self.old aim steps (stream (W.taken out.old) (W.failures out.old)) }
+        ensures ok { (aim : Aim) → (steps : List Step) →
+            Holds self.old aim steps (stream (W.taken out.old) (W.failures out.old)) →
+            OnOk result (Holds self.new aim steps (stream (W.taken out.new) (W.failures out.new))) }
+        ensures err { (aim : Aim) → (steps : List Step) →
+            Holds self.old aim steps (stream (W.taken out.old) (W.failures out.old)) →
+            IfErr result (Broke aim steps (stream (W.taken out.new) (W.failures out.new))) }
+    {
+        if !self.has_waiting() {
+            return Ok(());
+        }
+        self.flush(rt, gate, out)
     }
 
     /// Searches what waits and has its rows written, before the run breaks off by this fault. Answers it, or the fault

@@ -1,7 +1,7 @@
 //! Reads the open file, and cuts what comes into blocks.
 ghost use Rattle.std.specs.Prelude.{◌≡◌, ◌<◌, List, vec_len, length, IfSome, IfNone, OnOk};
 ghost use Rattle.pg_lines.specs.Cutter.{Stands as CutterStands, Fed, IsDrained, IsNextBlock, AreAllBlocks, handed};
-ghost use Rattle.pg_lines.specs.Cutter.{Keeps, room_of};
+ghost use Rattle.pg_lines.specs.Cutter.{Keeps, room_of, handed_early, HasLinesLeft};
 
 use pg_files::Files;
 use pg_lines::{Block, CutFault, Cutter};
@@ -194,6 +194,23 @@ impl<A: Allocator + Copy> FileReader<A> {
         ensures none { IfNone result (IsDrained self.new.cutter) }
     {
         self.cutter.take()
+    }
+
+    /// The whole lines that came and are in no block yet, as a block. Where memory for it is refused, they stay for a
+    /// later one. `take` has answered `None` since the last read.
+    pub(crate) fn take_lines(&mut self) -> Option<Block<A>>
+        requires { IsDrained self.old.cutter }
+        ensures came { self.new.came ≡ self.old.came }
+        ensures drained { IsDrained self.new.cutter }
+        ensures stands { (past : Fed) → CutterStands self.old.cutter past →
+            CutterStands self.new.cutter (handed_early past result) }
+        ensures lines { IfSome result (λ block.
+            (past : Fed) → CutterStands self.old.cutter past → HasLinesLeft past block) }
+    {
+        match self.cutter.take_lines() {
+            Ok(block) => block,
+            Err(AllocError) => None,
+        }
     }
 
     /// The last block of a file that can't go on. `take` has answered `None` since the last read.

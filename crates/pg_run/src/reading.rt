@@ -62,7 +62,8 @@ fn make_room<
     engine.search_round(rt, gate, reader, files, out)
 }
 
-/// Searches the blocks that are cut. There is room for one more then.
+/// Searches the blocks that are cut, and where each row is to be seen at once, has their rows sent on. There is room
+/// for one more then.
 fn search_ready<
     R: Threads + Wait + Clock + Sync,
     A: Allocator + Copy + Send + Sync,
@@ -98,11 +99,45 @@ fn search_ready<
             return Ok(());
         };
         engine.search(rt, gate, block, out)?;
+        engine.send_on(engine.setup.line_buffered, out)?;
     }
     unreachable!()
 }
 
-/// Searches the blocks that wait, where the next read of the open file may wait too.
+/// Searches the whole lines that came and are in no block yet.
+fn search_lines<
+    R: Threads + Wait + Clock + Sync,
+    A: Allocator + Copy + Send + Sync,
+    W: Sink,
+    G: Gate + Sync,
+>(
+    rt: &R,
+    gate: &G,
+    reader: &mut FileReader<A>,
+    engine: &mut Engine<A>,
+    out: &mut W,
+) -> Result<(), RunFault>
+    requires drained { IsDrained reader.old.cutter }
+    requires in_file { (aim : Aim) × (given : List Given)
+        × InFile reader.old engine.old aim given (stream (W.taken out.old) (W.failures out.old)) }
+    ensures came { reader.new.came ≡ reader.old.came }
+    ensures drained { IsDrained reader.new.cutter }
+    ensures ok { (aim : Aim) → (given : List Given) →
+        InFile reader.old engine.old aim given (stream (W.taken out.old) (W.failures out.old)) →
+        OnOk result (InFile reader.new engine.new aim given (stream (W.taken out.new) (W.failures out.new))) }
+    ensures err { (aim : Aim) → (given : List Given) →
+        InFile reader.old engine.old aim given (stream (W.taken out.old) (W.failures out.old)) →
+        IfErr result (Breaks aim given (stream (W.taken out.new) (W.failures out.new))) }
+{
+    engine.make_room(rt, gate, out)?;
+    match reader.take_lines() {
+        Some(lines) => engine.search(rt, gate, lines, out),
+        None => Ok(()),
+    }
+}
+
+/// Searches all that came, where the next read of the open file may wait and enough wasn't read, and has the rows sent
+/// on.
 fn settle<
     R: Threads + Wait + Clock + Sync,
     A: Allocator + Copy + Send + Sync,
@@ -112,23 +147,28 @@ fn settle<
 >(
     rt: &R,
     gate: &G,
-    reader: &FileReader<A>,
+    reader: &mut FileReader<A>,
     engine: &mut Engine<A>,
     files: &F,
     out: &mut W,
 ) -> Result<(), RunFault>
+    requires drained { IsDrained reader.old.cutter }
     requires in_file { (aim : Aim) × (given : List Given)
-        × InFile reader.now engine.old aim given (stream (W.taken out.old) (W.failures out.old)) }
+        × InFile reader.old engine.old aim given (stream (W.taken out.old) (W.failures out.old)) }
+    ensures came { reader.new.came ≡ reader.old.came }
     ensures ok { (aim : Aim) → (given : List Given) →
-        InFile reader.now engine.old aim given (stream (W.taken out.old) (W.failures out.old)) →
-        OnOk result (InFile reader.now engine.new aim given (stream (W.taken out.new) (W.failures out.new))) }
+        InFile reader.old engine.old aim given (stream (W.taken out.old) (W.failures out.old)) →
+        OnOk result (InFile reader.new engine.new aim given (stream (W.taken out.new) (W.failures out.new))) }
     ensures err { (aim : Aim) → (given : List Given) →
-        InFile reader.now engine.old aim given (stream (W.taken out.old) (W.failures out.old)) →
+        InFile reader.old engine.old aim given (stream (W.taken out.old) (W.failures out.old)) →
         IfErr result (Breaks aim given (stream (W.taken out.new) (W.failures out.new))) }
 {
-    if engine.has_waiting() && files.may_wait() {
-        return engine.flush(rt, gate, out);
+    if engine.enough() || !files.may_wait() {
+        return Ok(());
     }
+    search_lines(rt, gate, reader, engine, out)?;
+    engine.flush_waiting(rt, gate, out)?;
+    engine.send_on(true, out)?;
     Ok(())
 }
 
@@ -143,7 +183,7 @@ fn recycle<A: Allocator + Copy>(reader: &mut FileReader<A>, engine: &mut Engine<
     engine.choose();
 }
 
-/// Reads once, and searches the blocks that this finishes. What waits is searched before a read that may wait.
+/// Reads once, and searches the blocks that this finishes.
 fn read_once<
     R: Threads + Wait + Clock + Sync,
     A: Allocator + Copy + Send + Sync,
@@ -174,7 +214,6 @@ fn read_once<
         (stream (W.taken out.old) (W.failures out.old)) →
         IfErr result (Breaks aim (F.past files.new).given (stream (W.taken out.new) (W.failures out.new))) }
 {
-    settle(rt, gate, reader, engine, files, out)?;
     recycle(reader, engine);
     reader.read(files);
     search_ready(rt, gate, reader, engine, files, out)?;
@@ -208,7 +247,7 @@ fn search_last<R: Clock, A: Allocator + Copy + Send + Sync, W: Sink, G: Gate>(
     }
 }
 
-/// Ends a file that can't go on, and answers whether a read failed.
+/// Ends a file that can't go on, and answers whether a read failed. Its rows are sent on before that is told.
 fn finish_file<R: Clock, A: Allocator + Copy + Send + Sync, W: Sink, G: Gate>(
     rt: &R,
     gate: &G,
@@ -231,11 +270,12 @@ fn finish_file<R: Clock, A: Allocator + Copy + Send + Sync, W: Sink, G: Gate>(
 {
     search_last(rt, gate, reader, engine, failed, out)?;
     engine.end(failed);
+    engine.send_on(failed && !engine.setup.silent, out)?;
     Ok(failed)
 }
 
-/// Reads the open file until enough was read, its end is met or a read fails, and ends it. The answer
-/// says whether a read failed.
+/// Reads the open file until enough was read, its end is met or a read fails, and ends it. What came is searched before
+/// a read that may wait. The answer says whether a read failed.
 pub(crate) fn read_file<
     R: Threads + Wait + Clock + Sync,
     A: Allocator + Copy + Send + Sync,
@@ -251,6 +291,7 @@ pub(crate) fn read_file<
     out: &mut W,
 ) -> Result<bool, RunFault>
     requires more { reader.old.came ≡ More }
+    requires drained { IsDrained reader.old.cutter }
     requires in_file { (aim : Aim) × InFile reader.old engine.old aim (F.past files.old).given
         (stream (W.taken out.old) (W.failures out.old)) }
     ensures done { (F.past files.new).done ≡ (F.past files.old).done }
@@ -266,6 +307,7 @@ pub(crate) fn read_file<
         IfErr result (Breaks aim (F.past files.new).given (stream (W.taken out.new) (W.failures out.new))) }
 {
     for _ in rt.forever() {
+        settle(rt, gate, reader, engine, files, out)?;
         if engine.enough() {
             engine.end(false);
             return Ok(false);

@@ -3,6 +3,7 @@ ghost use Rattle.std.specs.Prelude.{◌≡◌, ◌-◌, ◌^◌, ◌<◌, ◌∷
 ghost use Rattle.std.specs.Prelude.{IfOk, OnOk, IfErr, OnErr};
 ghost use Rattle.std.specs.List.{flat_map};
 ghost use Rattle.pg_lines.specs.Search.{Search, Pattern, AreTreesOf, HasItsTrees};
+ghost use Rattle.pg_lines.specs.Cutter.{IsDrained};
 ghost use Rattle.pg_rows.specs.Output.{Left, when};
 ghost use Rattle.pg_rows.specs.Sink.{TakesPart};
 ghost use Rattle.pg_files.specs.Given.{AllGiven, Given, NoFile, File, nothing_given};
@@ -94,24 +95,29 @@ fn tell_fault<A: Allocator + Copy, E: Sink>(
     }
 }
 
-/// Tells and notes a name that gives no file.
-fn miss<A: Allocator + Copy + Send + Sync, E: Sink>(
+/// Tells and notes a name that gives no file. The rows of those before it are sent on before.
+fn miss<A: Allocator + Copy + Send + Sync, W: Sink, E: Sink>(
     engine: &mut Engine<A>,
     name: &[u8],
     cause: Cause,
+    out: &mut W,
     faults: &mut E,
 ) -> Result<(), RunFault>
-    requires { (aim : Aim) × (given : List Given) × (out : Stream)
-        × Rests engine.old aim given out (stream (E.taken faults.old) (E.failures faults.old)) }
-    ensures ok { (aim : Aim) → (given : List Given) → (out : Stream) →
-        Rests engine.old aim given out (stream (E.taken faults.old) (E.failures faults.old)) →
-        OnOk result (Rests engine.new aim (NoFile name.now cause ∷ given) out
-        (stream (E.taken faults.new) (E.failures faults.new))) }
-    ensures err { (aim : Aim) → (given : List Given) → (out : Stream) →
-        Rests engine.old aim given out (stream (E.taken faults.old) (E.failures faults.old)) →
-        IfErr result (Stops aim (NoFile name.now cause ∷ given) out
+    requires { (aim : Aim) × (given : List Given)
+        × Rests engine.old aim given (stream (W.taken out.old) (W.failures out.old))
+        (stream (E.taken faults.old) (E.failures faults.old)) }
+    ensures ok { (aim : Aim) → (given : List Given) →
+        Rests engine.old aim given (stream (W.taken out.old) (W.failures out.old))
+        (stream (E.taken faults.old) (E.failures faults.old)) →
+        OnOk result (Rests engine.new aim (NoFile name.now cause ∷ given)
+        (stream (W.taken out.new) (W.failures out.new)) (stream (E.taken faults.new) (E.failures faults.new))) }
+    ensures err { (aim : Aim) → (given : List Given) →
+        Rests engine.old aim given (stream (W.taken out.old) (W.failures out.old))
+        (stream (E.taken faults.old) (E.failures faults.old)) →
+        IfErr result (Stops aim (NoFile name.now cause ∷ given) (stream (W.taken out.new) (W.failures out.new))
         (stream (E.taken faults.new) (E.failures faults.new))) }
 {
+    engine.send_on(!engine.setup.silent, out)?;
     tell_fault(engine.alloc, engine.setup.silent, name, cause, faults)?;
     engine.miss(name)?;
     Ok(())
@@ -126,6 +132,7 @@ fn open_file<A: Allocator + Copy>(
     requires few { engine.old.files < 2 ^ 32 - 1 }
     requires between { (aim : Aim) × (given : List Given) × (out : Stream) × Between engine.old aim given out }
     ensures more { OnOk result (reader.new.came ≡ More) }
+    ensures drained { OnOk result (IsDrained reader.new.cutter) }
     ensures ok { (aim : Aim) → (given : List Given) → (out : Stream) → Between engine.old aim given out →
         OnOk result (InFile reader.new engine.new aim (File name.now [] Left ∷ given) out) }
 {
@@ -226,7 +233,7 @@ fn take_next<
     match files.next()? {
         Step::Done => Ok(false),
         Step::Miss(cause) => {
-            miss(engine, files.name(), cause, faults)?;
+            miss(engine, files.name(), cause, out, faults)?;
             Ok(true)
         }
         Step::File => {

@@ -25,29 +25,29 @@ returns-then-enough-clause-err g c = λ aim start. tt
 pub end-requires : goal.end-requires
 end-requires g c =
     let r = c.requires.in_file in
-    let h = c.loop.invariant.reads r.0 r.1 in
+    let h = c.in_ok-settle.ensures.ok r.0 _ (c.loop.invariant.reads r.0 r.1) in
     (r.0, h.steps, _, (h.holds, (h.cuts.running, tt)))
 
 pub returns-then-enough-clause-told : goal.returns-then-enough-clause-told
 returns-then-enough-clause-told g c =
     let r = c.requires.in_file in
-    let h = c.loop.invariant.reads r.0 r.1 in
-    told_more r.1.cuts h.cuts false c.requires.more (ap (λ x. is_failed (ending_after x)) c.loop.invariant.more)
+    let h = c.in_ok-settle.ensures.ok r.0 _ (c.loop.invariant.reads r.0 r.1) in
+    told_more r.1.cuts h.cuts false c.requires.more (ap (λ x. is_failed (ending_after x)) (c.in_ok-settle.ensures.came ∙ c.loop.invariant.more))
     c.loop.invariant.before
 
 pub returns-then-enough-clause-ok : goal.returns-then-enough-clause-ok
 returns-then-enough-clause-ok g c = λ aim start.
-    let h = c.loop.invariant.reads aim start in
-    file_left h c.loop.invariant.more _ (sym (c.enough.ensures aim h.steps _ h.holds) ∙ c.if-enough.true)
+    let h = c.in_ok-settle.ensures.ok aim _ (c.loop.invariant.reads aim start) in
+    file_left h (c.in_ok-settle.ensures.came ∙ c.loop.invariant.more) _ (sym (c.enough.ensures aim h.steps _ h.holds) ∙ c.if-enough.true)
     (c.end.ensures aim h.steps _ (h.holds, (h.cuts.running, tt)))
 
 pub read_once-requires-clause-more : goal.read_once-requires-clause-more
-read_once-requires-clause-more g c κs within = c.loop.invariant.more
+read_once-requires-clause-more g c κs within = c.in_ok-settle.ensures.came ∙ c.loop.invariant.more
 
 pub read_once-requires-clause-in_file : goal.read_once-requires-clause-in_file
 read_once-requires-clause-in_file g c κs within =
     let r = c.requires.in_file in
-    (r.0, c.loop.invariant.reads r.0 r.1)
+    (r.0, c.in_ok-settle.ensures.ok r.0 _ (c.loop.invariant.reads r.0 r.1))
 
 pub returns-in_err-read_once-clause-done : goal.returns-in_err-read_once-clause-done
 returns-in_err-read_once-clause-done g c = c.in_err-read_once.ensures.done ∙ c.loop.invariant.done
@@ -59,17 +59,17 @@ pub returns-in_err-read_once-clause-same_list : goal.returns-in_err-read_once-cl
 returns-in_err-read_once-clause-same_list g c = c.in_err-read_once.ensures.same_list ∙ c.loop.invariant.same_list
 
 pub returns-in_err-read_once-clause-told : goal.returns-in_err-read_once-clause-told
-returns-in_err-read_once-clause-told g c = IfOk-from_err c.from_residual.result _ c.from_residual.ensures.0
+returns-in_err-read_once-clause-told g c = IfOk-from_err c.from_residual-in_err-read_once.result _ c.from_residual-in_err-read_once.ensures.0
 
 pub returns-in_err-read_once-clause-ok : goal.returns-in_err-read_once-clause-ok
-returns-in_err-read_once-clause-ok g c = λ aim start. ok_of_err c.from_residual.result _ c.from_residual.ensures.0
+returns-in_err-read_once-clause-ok g c = λ aim start. ok_of_err c.from_residual-in_err-read_once.result _ c.from_residual-in_err-read_once.ensures.0
 
 pub returns-in_err-read_once-clause-err : goal.returns-in_err-read_once-clause-err
 returns-in_err-read_once-clause-err g c = λ aim start.
     let out' = stream (g.W.Sink.taken c.read_once.new.out) (g.W.Sink.failures c.read_once.new.out) in
-    err_by c.from_residual.result (Breaks aim (g.F.Files.past c.read_once.new.files).given out')
-    c.in_err-read_once.field-0.0 c.from_residual.ensures.1
-    (c.in_err-read_once.ensures.err aim (c.loop.invariant.reads aim start))
+    err_by c.from_residual-in_err-read_once.result (Breaks aim (g.F.Files.past c.read_once.new.files).given out')
+    c.in_err-read_once.field-0.0 c.from_residual-in_err-read_once.ensures.1
+    (c.in_err-read_once.ensures.err aim (c.in_ok-settle.ensures.ok aim _ (c.loop.invariant.reads aim start)))
 
 pub loop-preserved : goal.loop-preserved
 loop-preserved g c =
@@ -79,17 +79,18 @@ loop-preserved g c =
       can_next = tt;
       is_finite = tt;
       more = c.in-More.is;
+      drained = ok.drained;
       done = ok.done ∙ i.done;
       before = ok.before ∙ i.before;
       same_list = ok.same_list ∙ i.same_list;
-      reads = λ aim start. ok.ok aim (i.reads aim start);
+      reads = λ aim start. ok.ok aim (c.in_ok-settle.ensures.ok aim _ (c.loop.invariant.reads aim start));
     }
 
 pub finish_file-requires-clause-in_file : goal.finish_file-requires-clause-in_file
 finish_file-requires-clause-in_file g c κs within =
     let ok = c.in_ok-read_once.ensures in
     let r = c.requires.in_file in
-    (r.0, (g.F.Files.past c.read_once.new.files).given, ok.drained, ok.ok r.0 (c.loop.invariant.reads r.0 r.1))
+    (r.0, (g.F.Files.past c.read_once.new.files).given, ok.drained, ok.ok r.0 (c.in_ok-settle.ensures.ok r.0 _ (c.loop.invariant.reads r.0 r.1)))
 
 pub finish_file-requires-clause-room : goal.finish_file-requires-clause-room
 finish_file-requires-clause-room g c κs within = c.in_ok-read_once.ensures.room
@@ -115,24 +116,24 @@ returns-in-End-clause-told g c =
     let P : Bool → Type 0 =
     λ failed. faults_of given' ≡ faults_of given ++ when failed (fault_line (newest_name given') ReadFailed) in
     ok_by c.finish_file.result P false c.finish_file.ensures.failed
-    (told_more r.1.cuts (ok.ok r.0 (c.loop.invariant.reads r.0 r.1)).cuts false c.requires.more
+    (told_more r.1.cuts (ok.ok r.0 (c.in_ok-settle.ensures.ok r.0 _ (c.loop.invariant.reads r.0 r.1))).cuts false c.requires.more
     (ap (λ x. is_failed (ending_after x)) c.in-End.is) (ok.before ∙ c.loop.invariant.before))
 
 pub returns-in-End-clause-ok : goal.returns-in-End-clause-ok
 returns-in-End-clause-ok g c = λ aim start.
     c.finish_file.ensures.ok aim (g.F.Files.past c.read_once.new.files).given
-    (c.in_ok-read_once.ensures.ok aim (c.loop.invariant.reads aim start))
+    (c.in_ok-read_once.ensures.ok aim (c.in_ok-settle.ensures.ok aim _ (c.loop.invariant.reads aim start)))
 
 pub returns-in-End-clause-err : goal.returns-in-End-clause-err
 returns-in-End-clause-err g c = λ aim start.
     c.finish_file.ensures.err aim (g.F.Files.past c.read_once.new.files).given
-    (c.in_ok-read_once.ensures.ok aim (c.loop.invariant.reads aim start))
+    (c.in_ok-read_once.ensures.ok aim (c.in_ok-settle.ensures.ok aim _ (c.loop.invariant.reads aim start)))
 
 pub finish_file-requires-in-Failure-clause-in_file : goal.finish_file-requires-in-Failure-clause-in_file
 finish_file-requires-in-Failure-clause-in_file g c κs within =
     let ok = c.in_ok-read_once.ensures in
     let r = c.requires.in_file in
-    (r.0, (g.F.Files.past c.read_once.new.files).given, ok.drained, ok.ok r.0 (c.loop.invariant.reads r.0 r.1))
+    (r.0, (g.F.Files.past c.read_once.new.files).given, ok.drained, ok.ok r.0 (c.in_ok-settle.ensures.ok r.0 _ (c.loop.invariant.reads r.0 r.1)))
 
 pub finish_file-requires-in-Failure-clause-room : goal.finish_file-requires-in-Failure-clause-room
 finish_file-requires-in-Failure-clause-room g c κs within = c.in_ok-read_once.ensures.room
@@ -158,23 +159,23 @@ returns-in-Failure-clause-told g c =
     let P : Bool → Type 0 =
     λ failed. faults_of given' ≡ faults_of given ++ when failed (fault_line (newest_name given') ReadFailed) in
     ok_by c.finish_file-in-Failure.result P true c.finish_file-in-Failure.ensures.failed
-    (told_more r.1.cuts (ok.ok r.0 (c.loop.invariant.reads r.0 r.1)).cuts true c.requires.more
+    (told_more r.1.cuts (ok.ok r.0 (c.in_ok-settle.ensures.ok r.0 _ (c.loop.invariant.reads r.0 r.1))).cuts true c.requires.more
     (ap (λ x. is_failed (ending_after x)) c.in-Failure.is) (ok.before ∙ c.loop.invariant.before))
 
 pub returns-in-Failure-clause-ok : goal.returns-in-Failure-clause-ok
 returns-in-Failure-clause-ok g c = λ aim start.
     c.finish_file-in-Failure.ensures.ok aim (g.F.Files.past c.read_once.new.files).given
-    (c.in_ok-read_once.ensures.ok aim (c.loop.invariant.reads aim start))
+    (c.in_ok-read_once.ensures.ok aim (c.in_ok-settle.ensures.ok aim _ (c.loop.invariant.reads aim start)))
 
 pub returns-in-Failure-clause-err : goal.returns-in-Failure-clause-err
 returns-in-Failure-clause-err g c = λ aim start.
     c.finish_file-in-Failure.ensures.err aim (g.F.Files.past c.read_once.new.files).given
-    (c.in_ok-read_once.ensures.ok aim (c.loop.invariant.reads aim start))
+    (c.in_ok-read_once.ensures.ok aim (c.in_ok-settle.ensures.ok aim _ (c.loop.invariant.reads aim start)))
 
 pub break_off-requires-clause-holds : goal.break_off-requires-clause-holds
 break_off-requires-clause-holds g c κs within =
     let r = c.requires.in_file in
-    let h = c.in_ok-read_once.ensures.ok r.0 (c.loop.invariant.reads r.0 r.1) in
+    let h = c.in_ok-read_once.ensures.ok r.0 (c.in_ok-settle.ensures.ok r.0 _ (c.loop.invariant.reads r.0 r.1)) in
     (r.0, h.steps, h.holds)
 
 pub returns-in-Refused-clause-done : goal.returns-in-Refused-clause-done
@@ -194,7 +195,36 @@ returns-in-Refused-clause-ok g c = λ aim start. tt
 
 pub returns-in-Refused-clause-err : goal.returns-in-Refused-clause-err
 returns-in-Refused-clause-err g c = λ aim start.
-    let h = c.in_ok-read_once.ensures.ok aim (c.loop.invariant.reads aim start) in
+    let h = c.in_ok-read_once.ensures.ok aim (c.in_ok-settle.ensures.ok aim _ (c.loop.invariant.reads aim start)) in
     let out' = stream (g.W.Sink.taken c.break_off.new.out) (g.W.Sink.failures c.break_off.new.out) in
     refused_last h out' c.in-Refused.fault c.from-fault.result c.break_off.result c.in-Refused.is c.from-fault.ensures
     (c.break_off.ensures aim h.steps h.holds)
+
+pub settle-requires-clause-drained : goal.settle-requires-clause-drained
+settle-requires-clause-drained g c κs within = c.loop.invariant.drained
+
+pub settle-requires-clause-in_file : goal.settle-requires-clause-in_file
+settle-requires-clause-in_file g c κs within =
+    let r = c.requires.in_file in
+    (r.0, _, c.loop.invariant.reads r.0 r.1)
+
+pub returns-in_err-settle-clause-done : goal.returns-in_err-settle-clause-done
+returns-in_err-settle-clause-done g c = c.loop.invariant.done
+
+pub returns-in_err-settle-clause-before : goal.returns-in_err-settle-clause-before
+returns-in_err-settle-clause-before g c = c.loop.invariant.before
+
+pub returns-in_err-settle-clause-same_list : goal.returns-in_err-settle-clause-same_list
+returns-in_err-settle-clause-same_list g c = c.loop.invariant.same_list
+
+pub returns-in_err-settle-clause-told : goal.returns-in_err-settle-clause-told
+returns-in_err-settle-clause-told g c = IfOk-from_err c.from_residual.result _ c.from_residual.ensures.0
+
+pub returns-in_err-settle-clause-ok : goal.returns-in_err-settle-clause-ok
+returns-in_err-settle-clause-ok g c = λ aim start. ok_of_err c.from_residual.result _ c.from_residual.ensures.0
+
+pub returns-in_err-settle-clause-err : goal.returns-in_err-settle-clause-err
+returns-in_err-settle-clause-err g c = λ aim start.
+    let out' = stream (g.W.Sink.taken c.settle.new.out) (g.W.Sink.failures c.settle.new.out) in
+    err_by c.from_residual.result (Breaks aim _ out') c.in_err-settle.field-0.0 c.from_residual.ensures.1
+    (c.in_err-settle.ensures.err aim _ (c.loop.invariant.reads aim start))

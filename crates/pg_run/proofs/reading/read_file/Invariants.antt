@@ -1,4 +1,5 @@
 use Rattle.std.proofs.Common.{◌≡◌, drop}
+use Rattle.pg_lines.specs.Cutter.{IsDrained}
 use Rattle.pg_run.specs.Holding.{Aim, stream}
 use Rattle.pg_run.specs.Reading.{InFile}
 use Rattle.pg_run.specs.declared.reader.Came.TheVariants.{More}
@@ -14,6 +15,7 @@ invariant-loop g l =
       can_next : (goal.iterator-loop g).can_next l.iterator';
       is_finite : (goal.iterator-loop g).is_finite l.iterator';
       more : l.reader.came ≡ More;
+      drained : IsDrained l.reader.cutter;
       done : past.done ≡ past'.done;
       before : drop 1 past.given ≡ drop 1 past'.given;
       same_list : g.F.Files.list l.files ≡ g.F.Files.list l.initial.files;

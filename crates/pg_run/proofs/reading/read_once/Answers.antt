@@ -1,4 +1,4 @@
-use Rattle.std.proofs.Common.{◌∙◌, refl}
+use Rattle.std.proofs.Common.{◌∙◌}
 use Rattle.pg_run.specs.Holding.{stream}
 use Rattle.pg_run.specs.Reading.{Breaks}
 use Rattle.pg_run.proofs.HoldLemmas.{err_by, ok_of_err}
@@ -9,60 +9,34 @@ pub read-requires-clause-cut : goal.read-requires-clause-cut
 read-requires-clause-cut g c =
     let r = c.requires.in_file in
     let given = (g.F.Files.past c.args.files.now).given in
-    let out = stream (g.W.Sink.taken c.settle.new.out) (g.W.Sink.failures c.settle.new.out) in
-    let h = c.recycle.ensures.in_file r.0 given out (c.in_ok-settle.ensures.ok r.0 given r.1) in
+    let out = stream (g.W.Sink.taken c.args.out.now) (g.W.Sink.failures c.args.out.now) in
+    let h = c.recycle.ensures.in_file r.0 given out r.1 in
     (r.0, h.steps, h.cuts)
 
 pub search_ready-requires-clause-in_file : goal.search_ready-requires-clause-in_file
 search_ready-requires-clause-in_file g c κs within =
     let r = c.requires.in_file in
     let given = (g.F.Files.past c.args.files.now).given in
-    let out = stream (g.W.Sink.taken c.settle.new.out) (g.W.Sink.failures c.settle.new.out) in
-    (r.0, read_on (c.recycle.ensures.in_file r.0 given out (c.in_ok-settle.ensures.ok r.0 given r.1)) c.read.ensures)
+    let out = stream (g.W.Sink.taken c.args.out.now) (g.W.Sink.failures c.args.out.now) in
+    (r.0, read_on (c.recycle.ensures.in_file r.0 given out r.1) c.read.ensures)
 
 pub returns-in_err-search_ready-clause-err : goal.returns-in_err-search_ready-clause-err
 returns-in_err-search_ready-clause-err g c = λ aim start.
     let out' = stream (g.W.Sink.taken c.search_ready.new.out) (g.W.Sink.failures c.search_ready.new.out) in
     let given = (g.F.Files.past c.args.files.now).given in
-    let out = stream (g.W.Sink.taken c.settle.new.out) (g.W.Sink.failures c.settle.new.out) in
-    let h = c.recycle.ensures.in_file aim given out (c.in_ok-settle.ensures.ok aim given start) in
-    err_by c.from_residual-in_err-search_ready.result
+    let out = stream (g.W.Sink.taken c.args.out.now) (g.W.Sink.failures c.args.out.now) in
+    let h = c.recycle.ensures.in_file aim given out start in
+    err_by c.from_residual.result
     (Breaks aim (g.F.Files.past c.search_ready.new.files).given out') c.in_err-search_ready.field-0.0
-    c.from_residual-in_err-search_ready.ensures.1
+    c.from_residual.ensures.1
     (c.in_err-search_ready.ensures.err aim (read_on h c.read.ensures))
 
 pub returns-clause-ok : goal.returns-clause-ok
 returns-clause-ok g c = λ aim start.
     let given = (g.F.Files.past c.args.files.now).given in
-    let out = stream (g.W.Sink.taken c.settle.new.out) (g.W.Sink.failures c.settle.new.out) in
-    let h = c.recycle.ensures.in_file aim given out (c.in_ok-settle.ensures.ok aim given start) in
+    let out = stream (g.W.Sink.taken c.args.out.now) (g.W.Sink.failures c.args.out.now) in
+    let h = c.recycle.ensures.in_file aim given out start in
     c.in_ok-search_ready.ensures.ok aim (read_on h c.read.ensures)
-
-pub returns-in_err-settle-clause-done : goal.returns-in_err-settle-clause-done
-returns-in_err-settle-clause-done g c = refl
-
-pub returns-in_err-settle-clause-before : goal.returns-in_err-settle-clause-before
-returns-in_err-settle-clause-before g c = refl
-
-pub returns-in_err-settle-clause-same_list : goal.returns-in_err-settle-clause-same_list
-returns-in_err-settle-clause-same_list g c = refl
-
-pub returns-in_err-settle-clause-drained : goal.returns-in_err-settle-clause-drained
-returns-in_err-settle-clause-drained g c = ok_of_err c.from_residual.result _ c.from_residual.ensures.0
-
-pub returns-in_err-settle-clause-room : goal.returns-in_err-settle-clause-room
-returns-in_err-settle-clause-room g c = ok_of_err c.from_residual.result _ c.from_residual.ensures.0
-
-pub returns-in_err-settle-clause-ok : goal.returns-in_err-settle-clause-ok
-returns-in_err-settle-clause-ok g c = λ aim start. ok_of_err c.from_residual.result _ c.from_residual.ensures.0
-
-pub returns-in_err-settle-clause-err : goal.returns-in_err-settle-clause-err
-returns-in_err-settle-clause-err g c =
-    λ aim start.
-    let given = (g.F.Files.past c.args.files.now).given in
-    let out' = stream (g.W.Sink.taken c.settle.new.out) (g.W.Sink.failures c.settle.new.out) in
-    err_by c.from_residual.result (Breaks aim given out') c.in_err-settle.field-0.0 c.from_residual.ensures.1
-    (c.in_err-settle.ensures.err aim given start)
 
 pub read-requires-clause-more : goal.read-requires-clause-more
 read-requires-clause-more g c = c.recycle.ensures.came ∙ c.requires.more
@@ -79,16 +53,16 @@ returns-in_err-search_ready-clause-same_list g c =
 
 pub returns-in_err-search_ready-clause-drained : goal.returns-in_err-search_ready-clause-drained
 returns-in_err-search_ready-clause-drained g c =
-    ok_of_err c.from_residual-in_err-search_ready.result _ c.from_residual-in_err-search_ready.ensures.0
+    ok_of_err c.from_residual.result _ c.from_residual.ensures.0
 
 pub returns-in_err-search_ready-clause-room : goal.returns-in_err-search_ready-clause-room
 returns-in_err-search_ready-clause-room g c =
-    ok_of_err c.from_residual-in_err-search_ready.result _ c.from_residual-in_err-search_ready.ensures.0
+    ok_of_err c.from_residual.result _ c.from_residual.ensures.0
 
 pub returns-in_err-search_ready-clause-ok : goal.returns-in_err-search_ready-clause-ok
 returns-in_err-search_ready-clause-ok g c =
     λ aim start.
-    ok_of_err c.from_residual-in_err-search_ready.result _ c.from_residual-in_err-search_ready.ensures.0
+    ok_of_err c.from_residual.result _ c.from_residual.ensures.0
 
 pub returns-clause-done : goal.returns-clause-done
 returns-clause-done g c = c.in_ok-search_ready.ensures.done ∙ c.read.ensures.done

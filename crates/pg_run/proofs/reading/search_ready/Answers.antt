@@ -2,6 +2,7 @@ use Rattle.std.proofs.Common.{◌∙◌}
 use Rattle.pg_run.specs.Holding.{stream}
 use Rattle.pg_run.specs.Reading.{Breaks}
 use Rattle.pg_run.proofs.HoldLemmas.{err_by, ok_of_err}
+use Rattle.pg_run.proofs.BlockLemmas.{gives_next}
 use Rattle.pg_run.proofs.ReadingLemmas.{next_may, next_breaks, next_taken, none_taken}
 use Rattle.pg_run.proofs.reading.search_ready.Goals as goal
 
@@ -21,12 +22,14 @@ pub search-requires-clause-ready : goal.search-requires-clause-ready
 search-requires-clause-ready g c =
     let r = c.requires.in_file in
     let h = c.in_ok-make_room.ensures.ok r.0 (c.loop.invariant.reads r.0 r.1) in
-    (r.0, h.steps, (h.holds, next_may h.cuts c.in-Some-take.block (c.in-Some-take.ensures.next h.cuts.fed h.cuts.cut)))
+    let block = c.in-Some-take.block in
+    let n = gives_next h.cuts.fed block (c.in-Some-take.ensures.next h.cuts.fed h.cuts.cut) in
+    (r.0, h.steps, (h.holds, next_may h.cuts block n))
 
 pub returns-in_err-search-clause-err : goal.returns-in_err-search-clause-err
 returns-in_err-search-clause-err g c = λ aim start.
     let h = c.in_ok-make_room.ensures.ok aim (c.loop.invariant.reads aim start) in
-    let n = c.in-Some-take.ensures.next h.cuts.fed h.cuts.cut in
+    let n = gives_next h.cuts.fed c.in-Some-take.block (c.in-Some-take.ensures.next h.cuts.fed h.cuts.cut) in
     let out' = stream (g.W.Sink.taken c.search.new.out) (g.W.Sink.failures c.search.new.out) in
     let fault = c.in_err-search.field-0.0 in
     err_by c.from_residual-in_err-search.result (Breaks aim (g.F.Files.past c.make_room.new.files).given out') fault
@@ -53,11 +56,12 @@ loop-preserved g c =
       reads = λ aim start.
           let h = ok.ok aim (i.reads aim start) in
           let e = c.in-Some-take.ensures in
-          let n = e.next h.cuts.fed h.cuts.cut in
+          let n = gives_next h.cuts.fed c.in-Some-take.block (e.next h.cuts.fed h.cuts.cut) in
+          let k = c.in_ok-search.ensures.ok aim h.steps (h.holds, next_may h.cuts c.in-Some-take.block n) in
           record {
             steps = _;
-            holds = c.in_ok-search.ensures.ok aim h.steps (h.holds, next_may h.cuts c.in-Some-take.block n);
-            cuts = next_taken h.cuts _ c.in-Some-take.block e.came n (e.stands h.cuts.fed h.cuts.cut);
+            holds = c.in_ok-send_on.ensures.ok aim _ k;
+            cuts = next_taken h.cuts _ c.in-Some-take.block h.cuts.fed.early e.came n (e.stands h.cuts.fed h.cuts.cut);
           };
     }
 
@@ -121,3 +125,37 @@ returns-in_default-clause-room g c = c.in_ok-make_room.ensures.room
 
 pub returns-in_default-clause-err : goal.returns-in_default-clause-err
 returns-in_default-clause-err g c = λ aim start. tt
+
+pub returns-in_err-send_on-clause-done : goal.returns-in_err-send_on-clause-done
+returns-in_err-send_on-clause-done g c = c.in_ok-make_room.ensures.done ∙ c.loop.invariant.done
+
+pub returns-in_err-send_on-clause-before : goal.returns-in_err-send_on-clause-before
+returns-in_err-send_on-clause-before g c = c.in_ok-make_room.ensures.before ∙ c.loop.invariant.before
+
+pub returns-in_err-send_on-clause-same_list : goal.returns-in_err-send_on-clause-same_list
+returns-in_err-send_on-clause-same_list g c = c.in_ok-make_room.ensures.same_list ∙ c.loop.invariant.same_list
+
+pub returns-in_err-send_on-clause-drained : goal.returns-in_err-send_on-clause-drained
+returns-in_err-send_on-clause-drained g c =
+    ok_of_err c.from_residual-in_err-send_on.result _ c.from_residual-in_err-send_on.ensures.0
+
+pub returns-in_err-send_on-clause-room : goal.returns-in_err-send_on-clause-room
+returns-in_err-send_on-clause-room g c =
+    ok_of_err c.from_residual-in_err-send_on.result _ c.from_residual-in_err-send_on.ensures.0
+
+pub returns-in_err-send_on-clause-ok : goal.returns-in_err-send_on-clause-ok
+returns-in_err-send_on-clause-ok g c =
+    λ aim start.
+    ok_of_err c.from_residual-in_err-send_on.result _ c.from_residual-in_err-send_on.ensures.0
+
+pub returns-in_err-send_on-clause-err : goal.returns-in_err-send_on-clause-err
+returns-in_err-send_on-clause-err g c = λ aim start.
+    let h = c.in_ok-make_room.ensures.ok aim (c.loop.invariant.reads aim start) in
+    let block = c.in-Some-take.block in
+    let n = gives_next h.cuts.fed block (c.in-Some-take.ensures.next h.cuts.fed h.cuts.cut) in
+    let out' = stream (g.W.Sink.taken c.send_on.new.out) (g.W.Sink.failures c.send_on.new.out) in
+    let fault = c.in_err-send_on.field-0.0 in
+    err_by c.from_residual-in_err-send_on.result (Breaks aim (g.F.Files.past c.make_room.new.files).given out') fault
+    c.from_residual-in_err-send_on.ensures.1
+    (next_breaks h block out' fault n
+    (c.in_err-send_on.ensures.err aim _ (c.in_ok-search.ensures.ok aim h.steps (h.holds, next_may h.cuts block n))))

@@ -203,3 +203,6 @@ returns-else-failed-clause-same_list g c = c.in_ok-failed.ensures.same_list
 
 pub returns-else-failed-clause-err : goal.returns-else-failed-clause-err
 returns-else-failed-clause-err g c = λ aim given name is rests. tt
+
+pub read_file-requires-clause-drained : goal.read_file-requires-clause-drained
+read_file-requires-clause-drained g c κs within = c.in_ok-open_file.ensures.drained

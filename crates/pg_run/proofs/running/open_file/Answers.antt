@@ -1,7 +1,7 @@
 use Rattle.std.proofs.Common.{arith}
 use Rattle.pg_seq.specs.Plan.{Opens}
 use Rattle.pg_run.specs.Holding.{IsReady}
-use Rattle.pg_run.proofs.ReadingLemmas.{stands_by}
+use Rattle.pg_run.proofs.ReadingLemmas.{stands_by, drained_by}
 use Rattle.pg_run.proofs.RunLemmas.{file_opened}
 use Rattle.pg_run.proofs.HoldLemmas.{ok_of_err}
 use Rattle.pg_run.proofs.running.open_file.Goals as goal
@@ -30,3 +30,9 @@ returns-in_err-cutter-clause-ok g c =
 
 pub open-requires-clause-few : goal.open-requires-clause-few
 open-requires-clause-few g c = c.requires.few
+
+pub returns-in_err-cutter-clause-drained : goal.returns-in_err-cutter-clause-drained
+returns-in_err-cutter-clause-drained g c = ok_of_err c.from_residual.result _ c.from_residual.ensures.0
+
+pub returns-clause-drained : goal.returns-clause-drained
+returns-clause-drained g c = drained_by c.open-2.ensures.cutter c.in_ok-cutter.ensures.drained

@@ -23,7 +23,7 @@ returns-in_err-next-clause-err g c = λ aim rests.
 
 pub returns-in_ok-miss-in-Miss-clause-ok : goal.returns-in_ok-miss-in-Miss-clause-ok
 returns-in_ok-miss-in-Miss-clause-ok g c = λ aim rests.
-    let out = stream (g.W.Sink.taken c.args.out.now) (g.W.Sink.failures c.args.out.now) in
+    let out = stream (g.W.Sink.taken c.miss.new.out) (g.W.Sink.failures c.miss.new.out) in
     let told' = stream (g.E.Sink.taken c.miss.new.faults) (g.E.Sink.failures c.miss.new.faults) in
     let given = (g.F.Files.past c.args.files.now).given in
     let S : Step → Type 0 = λ s. NextGives s (g.F.Files.past c.args.files.now) (g.F.Files.past c.next.new.self) in
@@ -32,7 +32,7 @@ returns-in_ok-miss-in-Miss-clause-ok g c = λ aim rests.
     let named : c.name.result.now ≡ e.0 = c.name.ensures ∙ ap newest_name is in
     let P : List Given → Type 0 = λ gs. Rests c.miss.new.engine aim gs out told' in
     subst P (sym (is ∙ ap (λ n. NoFile n c.in-Miss.cause ∷ given) (sym named)))
-    (c.in_ok-miss-in-Miss.ensures.ok aim given out rests)
+    (c.in_ok-miss-in-Miss.ensures.ok aim given rests)
 
 pub one_file-requires-clause-rests : goal.one_file-requires-clause-rests
 one_file-requires-clause-rests g c κs within =
@@ -141,7 +141,7 @@ returns-in_ok-one_file-in-File-clause-goes g c =
 
 pub returns-in_err-miss-in-Miss-clause-err : goal.returns-in_err-miss-in-Miss-clause-err
 returns-in_err-miss-in-Miss-clause-err g c = λ aim rests.
-    let out = stream (g.W.Sink.taken c.args.out.now) (g.W.Sink.failures c.args.out.now) in
+    let out = stream (g.W.Sink.taken c.miss.new.out) (g.W.Sink.failures c.miss.new.out) in
     let told' = stream (g.E.Sink.taken c.miss.new.faults) (g.E.Sink.failures c.miss.new.faults) in
     let given = (g.F.Files.past c.args.files.now).given in
     let S : Step → Type 0 = λ s. NextGives s (g.F.Files.past c.args.files.now) (g.F.Files.past c.next.new.self) in
@@ -153,7 +153,7 @@ returns-in_err-miss-in-Miss-clause-err g c = λ aim rests.
     err_by c.from_residual-in_err-miss-in-Miss.result (Stops aim (g.F.Files.past c.next.new.self).given out told') fault
     c.from_residual-in_err-miss-in-Miss.ensures.1
     (subst P (sym (is ∙ ap (λ n. NoFile n c.in-Miss.cause ∷ given) (sym named)))
-    (c.in_err-miss-in-Miss.ensures.err aim given out rests))
+    (c.in_err-miss-in-Miss.ensures.err aim given rests))
 
 pub next-requires : goal.next-requires
 next-requires g c = c.requires.done

@@ -1,0 +1,20 @@
+use Rattle.std.proofs.Common.{ap, length, arith}
+use Rattle.pg_rows.proofs.SinkLemmas.{on_ok}
+use Rattle.pg_run.proofs.engine.Engine.make_room.Goals as goal
+
+pub flush-requires-clause-holds : goal.flush-requires-clause-holds
+flush-requires-clause-holds g c κs within = c.requires.holds
+
+pub returns-clause-room : goal.returns-clause-room
+returns-clause-room g c =
+    on_ok c.flush.result _ _ (λ e spread. omega (arith, ap length e, c.flush.new.self.setup.round_in_range.0))
+    c.flush.ensures.none
+
+pub returns-clause-ok : goal.returns-clause-ok
+returns-clause-ok g c = λ aim steps h. on_ok c.flush.result _ _ (λ k. k.0) (c.flush.ensures.ok aim steps h)
+
+pub returns-clause-err : goal.returns-clause-err
+returns-clause-err g c = c.flush.ensures.err
+
+pub returns-then-not-is_full-clause-ok : goal.returns-then-not-is_full-clause-ok
+returns-then-not-is_full-clause-ok g c = λ aim steps h. h
