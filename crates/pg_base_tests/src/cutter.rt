@@ -14,6 +14,8 @@ pub(crate) enum Way {
     Fed,
     /// As what is read into the cutter's room.
     Filled,
+    /// As pieces that are fed, behind each of which the whole lines are taken.
+    Lined,
 }
 
 /// A terminator and the pieces of a file, and what a cutter gives: behind each piece the blocks that are finished then,
@@ -41,6 +43,18 @@ const CUT: &str = "%0A a%0Abc%0A%0Ad => 7.0:a%0Abc%0A 7.1:%0Ad
 %00 ab%0A c d %00 => (line too long) 7.0:ab%0Ac%00
 %FF a%FF%00b%FF%0A => 7.0:a%FF%00b%FF 7.1:%0A";
 
+/// The same, where the whole lines that are in no block are taken behind each piece.
+const LINED: &str = "%0A a%0Abc%0A%0Ad => 7.0:a%0Abc%0A 7.1:%0A 7.2:d
+%0A a %0A b c %0A %0A d => 7.0:a%0A 7.1:bc%0A 7.2:%0A 7.3:d
+%0A a%0A bc%0A%0Ad => 7.0:a%0A 7.1:bc%0A 7.2:%0A 7.3:d
+%0A a%0Ab%0A c%0A => 7.0:a%0Ab%0A 7.1:c%0A
+%0A a%0A %0A b%0A => 7.0:a%0A 7.1:%0A 7.2:b%0A
+%0A  =>
+%0A a => 7.0:a
+%0A abcd%0A abcde abcd e => 7.0:abcd%0A (line too long) (line too long) 7.1:abcd
+%0A a%0Abcd e f %0A => 7.0:a%0A (line too long) 7.1:bcde%0A
+%00 a%00b%0Ac%00%00d => 7.0:a%00b%0Ac%00 7.1:%00 7.2:d";
+
 /// Shows a block.
 fn show_block(rt: &impl Abort, block: &Block, out: &mut String) {
     let file = block.file;
@@ -58,12 +72,25 @@ fn fill<A: Allocator + Copy>(cutter: &mut Cutter<A>, piece: &[u8]) -> Result<(),
     cutter.fill(count)
 }
 
-/// Takes a piece, and shows the blocks that are finished then, or why the piece isn't taken.
+/// Takes the whole lines that are in no block where that is the way, and shows them.
+fn show_lines(rt: &impl Abort, cutter: &mut Cutter, way: Way, out: &mut String)
+    requires { IsDrained cutter.old }
+    ensures { IsDrained cutter.new }
+{
+    if !matches!(way, Way::Lined) {
+        return;
+    }
+    if let Some(block) = cutter.take_lines().expect(rt, "memory") {
+        show_block(rt, &block, out);
+    }
+}
+
+/// Takes a piece, and shows the blocks that are given then, or why the piece isn't taken.
 fn show_taken(rt: &impl Abort, cutter: &mut Cutter, way: Way, piece: &[u8], out: &mut String)
     ensures { IsDrained cutter.new }
 {
     let taken = match way {
-        Way::Fed => cutter.feed(piece),
+        Way::Fed | Way::Lined => cutter.feed(piece),
         Way::Filled => fill(cutter, piece),
     };
     if let Err(fault) = taken {
@@ -72,6 +99,7 @@ fn show_taken(rt: &impl Abort, cutter: &mut Cutter, way: Way, piece: &[u8], out:
     while let Some(block) = cutter.take() {
         show_block(rt, &block, out);
     }
+    show_lines(rt, cutter, way, out);
 }
 
 /// Shows what a cutter, from which no block waits to be taken, gives of pieces, where spaces part them.
@@ -114,6 +142,7 @@ pub(crate) fn blocks_of(
 fn a_file_is_cut_at_its_terminator(rt: HostRuntime) {
     assert_rows(&rt, rt.alloc(), Question::Blocks(Way::Fed), CUT);
     assert_rows(&rt, rt.alloc(), Question::Blocks(Way::Filled), CUT);
+    assert_rows(&rt, rt.alloc(), Question::Blocks(Way::Lined), LINED);
 }
 
 /// Whether a cutter takes a file by way of the room, at a second call where a request for memory is refused.
@@ -161,4 +190,34 @@ fn is_given(heap: &Refusing) -> bool {
 /// Whether a file of two blocks comes, and one of a block, whose memory is used again.
 pub(crate) fn is_filled(heap: &Refusing) -> bool {
     is_cut(heap, b"a\nb", u64::MAX) && is_cut(heap, b"a\n", 0) && is_given(heap)
+}
+
+/// Whether a cutter from which no block waits gives the line `a` as the first block, at a second call where a request
+/// for memory is refused.
+fn gives_line<A: Allocator + Copy>(cutter: &mut Cutter<A>, heap: &Refusing) -> bool
+    requires { IsDrained cutter.old }
+    ensures { IsDrained cutter.new }
+{
+    let was_refused = heap.has_refused();
+    let first = cutter.take_lines();
+    let is_refused = first.is_err() && !was_refused && heap.has_refused();
+    let given = if is_refused {
+        cutter.take_lines()
+    } else {
+        first
+    };
+    given.is_ok_and(|block| {
+        block.is_some_and(|block| block.number == 0 && block.bytes.as_slice() == b"a\n".as_slice())
+    })
+}
+
+/// Whether a line is given before its block is finished, and what stands behind it as the last block.
+pub(crate) fn is_lined(heap: &Refusing) -> bool {
+    let mut cutter = Cutter::new(heap, 0, 4, 100, b'\n');
+    if !is_taken(&mut cutter, heap, b"a\nb") || cutter.take().is_some() {
+        return false;
+    }
+    gives_line(&mut cutter, heap)
+        && cutter.finish().is_some_and(|block| block.number == 1
+            && block.bytes.as_slice() == b"b".as_slice())
 }

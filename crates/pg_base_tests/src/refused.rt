@@ -7,11 +7,12 @@ use std::sync::Wait;
 use std::thread::Threads;
 
 /// What is tried on memory that is refused, and how many requests for memory it makes at least.
-const TRIALS: [(&'static str, u64); 10] = [
+const TRIALS: [(&'static str, u64); 11] = [
     ("board", 1),
     ("tray", 1),
     ("tray of threads", 1),
     ("room", 2),
+    ("lines", 2),
     ("listing", 4),
     ("walk", 21),
     ("tree in memory", 4),
@@ -32,6 +33,7 @@ fn holds<R: Abort + Threads + Wait + Sync>(
         "tray" => tray::is_handed_out(rt, heap),
         "tray of threads" => tray::is_delivered(rt, alloc, heap),
         "room" => cutter::is_filled(heap),
+        "lines" => cutter::is_lined(heap),
         "listing" => disk::is_listed(heap),
         "walk" => memory::is_walked(rt, alloc, heap),
         "tree in memory" => memory::is_added(heap),

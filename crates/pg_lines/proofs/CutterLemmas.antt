@@ -16,9 +16,9 @@ use Rattle.pg_lines.specs.Cutter.{CutsFed, handed_early, HasLinesLeft, HasNoLine
 use Rattle.pg_lines.specs.declared.cutter.Cutter.{Cutter}
 use Rattle.pg_lines.proofs.CutLemmas.{numbered_front, numbered_more, numbered_append}
 use Rattle.pg_lines.proofs.EarlyLemmas.{AllEnd, fed_whole, fed_end, fed_further, fed_last, fed_no_last}
-use Rattle.pg_lines.proofs.EarlyLemmas.{all_end, line_unfinished, blocks_open, same_behind}
+use Rattle.pg_lines.proofs.EarlyLemmas.{all_end, line_unfinished, blocks_open}
 use Rattle.pg_lines.proofs.LongLemmas.{long_decides, long_append, open_append, chosen_some}
-use Rattle.pg_lines.proofs.LongLemmas.{open_cut, open_none, open_all}
+use Rattle.pg_lines.proofs.LongLemmas.{open_cut, open_none}
 
 pub next_block : {A : Type 0} (cutter : Cutter A) (past : Fed) (b : BlockData) (rest : List BlockData)
     → cutter.ready.items ≡ b ∷ rest → Stands cutter past → IsNextBlock past b
@@ -234,14 +234,6 @@ module _ {A : Type 0} (old : Cutter A) (past : Fed) (s : Stands old past) (d : I
       let P : ℕ → Type 0 = λ e. IsLine e (held old) in
       let all : length (held old) ≤ old.line = omega (arith, held_length, most) in
       (held old, held_whole, subst P (sym s.terminator) (open_none old.end (held old) old.line held_open all))
-
-  pub are_no_lines : HasNoLineLeft past → old.filled ≤ old.line
-  are_no_lines h =
-      let same : held old ≡ h.0 = same_behind (joined past.taken) (held old) h.0 (sym held_whole ∙ h.1) in
-      let P : ℕ → Type 0 = λ e. IsLine e (held old) in
-      let Q : List ℕ → Type 0 = λ xs. IsLine past.end xs in
-      let line = subst P s.terminator (subst Q (sym same) h.2) in
-      omega (arith, held_open, open_all old.end (held old) line, held_length)
 
   -- Else its whole lines are handed out.
   module _ (less : old.line < old.filled) (bytes : List ℕ)

@@ -27,10 +27,6 @@ pub all_end : (end : ℕ) (xs ys : List BlockData) → AllEnd end xs → AllEnd 
 all_end end [] ys h k = k
 all_end end (x ∷ xs) ys h k = (h.0, all_end end xs ys h.1 k)
 
-pub same_behind : (xs ys zs : List ℕ) → xs ++ ys ≡ xs ++ zs → ys ≡ zs
-same_behind [] ys zs e = e
-same_behind (x ∷ xs) ys zs e = same_behind xs ys zs (ap (λ l. drop 1 l) e)
-
 -- What a cutter was fed.
 module _ (past : Fed) (blocks : List BlockData) (rest : List ℕ) (k : CutsFed past blocks rest) where
   -- the blocks and what is left are its bytes

@@ -4,7 +4,7 @@ use Rattle.std.proofs.Common.{nat_lt, Some, None, List, [], ◌∷◌, ◌++◌,
 use Rattle.std.proofs.Common.{Decides}
 use Rattle.std.proofs.Common.{◌-◌, take, drop, length-drop, length-append, append_assoc, subst}
 use Rattle.std.proofs.lemmas.Bool.Decides.{nat_tests}
-use Rattle.std.proofs.lemmas.List.{take-append-drop, drop_more, get_or-drop, get_or_at, take_at, drop_at}
+use Rattle.std.proofs.lemmas.List.{take-append-drop, drop_more, get_or-drop, take_at, drop_at}
 use Rattle.std.specs.List.{Any}
 use Rattle.std.proofs.lemmas.Bool.{false≢true, eq-eqb, eqb-true, ne_eqb, ltb-true, lt-ltb, or_cases, cases_lt}
 use Rattle.std.proofs.lemmas.Bool.{cases_Bool}
@@ -232,14 +232,4 @@ pub open_none : (end : ℕ) (xs : List ℕ) (k : ℕ) → k ≡ open_from end 0 
 open_none end xs k is most = elim (open_parts end 0 xs) [
   | inl a ↦ a.0
   | inr h ↦ absurd (omega (arith, is, h.4, most, ap length h.2, length-append h.0 (end ∷ h.1)))
-]
-
-pub open_all : (end : ℕ) (xs : List ℕ) → IsLine end xs → open_from end 0 xs ≡ length xs
-open_all end xs line = elim (open_parts end 0 xs) [
-  | inl a ↦ a.1 ∙ omega arith
-  | inr h ↦ absurd (line (
-    length h.0,
-    omega (arith, ap length h.2, length-append h.0 (end ∷ h.1)),
-    ap (λ ys. get_or ys (length h.0) end) h.2 ∙ get_or_at h.0 end h.1 end (length h.0) refl,
-  ))
 ]

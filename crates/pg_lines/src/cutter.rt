@@ -1,6 +1,6 @@
 //! Cuts a file that comes in pieces into blocks of whole lines.
 ghost use Rattle.std.specs.Prelude.{◌≡◌, ℕ, ◌+◌, ◌-◌, ◌<◌, ◌≤◌, ◌^◌, ◌↔◌, ◌∷◌, ◌++◌, [], IfSome, IfNone, IfOk};
-ghost use Rattle.std.specs.Prelude.{OnOk, OnErr, IsErrOf, Some, None, Option, length, take, drop, false, if◌then◌else◌};
+ghost use Rattle.std.specs.Prelude.{OnOk, OnErr, IsErrOf, Some, None, Option, length, take, drop, if◌then◌else◌};
 ghost use Rattle.pg_lines.specs.Blocks.{IsFinished, IsUnfinished, Cuts, AreNumbered};
 ghost use Rattle.pg_lines.specs.Long.{has_long, open_from, CutsOff};
 ghost use Rattle.pg_lines.specs.declared.cutter.CutFault.TheVariants.{OutOfMemory};
@@ -601,14 +601,6 @@ impl<A: Allocator + Copy> Cutter<A> {
         ensures fewer { IfSome result (λ _. waiting self.new < waiting self.old) }
     {
         self.ready.pop_front()
-    }
-
-    /// Whether a line ends in the open block. `take` has answered `None` since the last `feed` or `fill`.
-    pub fn has_lines(&self) -> bool
-        requires { IsDrained self.now }
-        ensures { (past : Fed) → Stands self.now past → (result ≡ false ↔ HasNoLineLeft past) }
-    {
-        (self.line as usize) < self.filled
     }
 
     /// Hands the whole lines of the open block out, as a block, before it is finished. `None` comes where no line ends
