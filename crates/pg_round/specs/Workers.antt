@@ -53,8 +53,8 @@ module _ {A : Type 0} where
   IsWork t seat pass =
       (seat.board ≡ t.board) × (pass.tray ≡ t.tray) × AreResultsOf t.query.text t.blocks seat.drawn pass.put
 
-  -- What the worker drew is numbers as its pass put results for, and then the one that it left unfinished, if any,
-  -- which is a block's. Its scratch is for the query.
+  -- The worker drew the numbers of the results that its pass put, in order, and then that of the block that it left
+  -- unfinished, if any. Its scratch is for the query.
   unfoldable pub HasWorked : Task A → Worker A → Type 0
   HasWorked t w =
       (ns : List ℕ) × (w.seat.drawn ≡ ns ++ option_to_list w.unfinished)
@@ -65,7 +65,7 @@ module _ {A : Type 0} where
   abbrev pub HasFinished : Task A → Worker A → Type 0
   HasFinished t w = HasWorked t w × (w.unfinished ≡ None)
 
-  -- so many workers are back as there were, and each has worked
+  -- as many workers are back as there were, and each has worked
   unfoldable pub AreBack : Task A → List (Worker A) → List (Worker A) → Type 0
   AreBack t workers back = (length back ≡ length workers) × All (HasWorked t) back
 

@@ -36,8 +36,8 @@ loop-worker-preserved g c =
           (sym p.items) more);
       spent = ⊎_elim
           (λ before. ⊎_elim (λ left. inl left)
-          (λ last. inr (seats_spent
-          (any_last IsSpent c.loop-worker.seats.items seat (subst IsSpent (sym same.0) last))))
+          (λ last. inr (seats_spent (any_last IsSpent c.loop-worker.seats.items seat
+          (subst IsSpent (sym same.0) last))))
           (any_split WasSpent rest w (subst
           (λ (l : List (Worker A)). Any WasSpent l) c.in-Some.ensures.items before)))
           (λ done. inr (seats_spent (any_front IsSpent c.loop-worker.seats.items seat done)))

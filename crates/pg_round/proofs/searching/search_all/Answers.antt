@@ -27,8 +27,8 @@ returns-in_err-workers g c =
 
 pub returns-in_err-search_rest : goal.returns-in_err-search_rest
 returns-in_err-search_rest g c =
-    let fault = c.from_residual-in_err-search_rest in
-    let p = err_from_is_err_and fault.result fault.ensures.1 in
+    let left = c.from_residual-in_err-search_rest in
+    let p = err_from_is_err_and left.result left.ensures.1 in
     let e = c.in_ok-workers.ensures in
     rw (p.1, p.2) (record {
       finished = tt;
