@@ -13,7 +13,7 @@ mod telling;
 pub use fault::RunFault;
 pub use pg_files::{Files, MemFiles, ReadFault, Step};
 pub use pg_lines::QueryText;
-pub use pg_round::{FreeGate, Gate, Round, work};
+pub use pg_round::{FreeGate, Gate, Round, Unfinished, work};
 pub use pg_rows::{Format, MemSink, Mode, Out, Sink};
 pub use running::run;
 pub use setup::Setup;

@@ -32,13 +32,15 @@ pub returns-then-enough-clause-told : goal.returns-then-enough-clause-told
 returns-then-enough-clause-told g c =
     let r = c.requires.in_file in
     let h = c.in_ok-settle.ensures.ok r.0 _ (c.loop.invariant.reads r.0 r.1) in
-    told_more r.1.cuts h.cuts false c.requires.more (ap (λ x. is_failed (ending_after x)) (c.in_ok-settle.ensures.came ∙ c.loop.invariant.more))
+    told_more r.1.cuts h.cuts false c.requires.more
+    (ap (λ x. is_failed (ending_after x)) (c.in_ok-settle.ensures.came ∙ c.loop.invariant.more))
     c.loop.invariant.before
 
 pub returns-then-enough-clause-ok : goal.returns-then-enough-clause-ok
 returns-then-enough-clause-ok g c = λ aim start.
     let h = c.in_ok-settle.ensures.ok aim _ (c.loop.invariant.reads aim start) in
-    file_left h (c.in_ok-settle.ensures.came ∙ c.loop.invariant.more) _ (sym (c.enough.ensures aim h.steps _ h.holds) ∙ c.if-enough.true)
+    file_left h (c.in_ok-settle.ensures.came ∙ c.loop.invariant.more) _
+    (sym (c.enough.ensures aim h.steps _ h.holds) ∙ c.if-enough.true)
     (c.end.ensures aim h.steps _ (h.holds, (h.cuts.running, tt)))
 
 pub read_once-requires-clause-more : goal.read_once-requires-clause-more
@@ -59,10 +61,12 @@ pub returns-in_err-read_once-clause-same_list : goal.returns-in_err-read_once-cl
 returns-in_err-read_once-clause-same_list g c = c.in_err-read_once.ensures.same_list ∙ c.loop.invariant.same_list
 
 pub returns-in_err-read_once-clause-told : goal.returns-in_err-read_once-clause-told
-returns-in_err-read_once-clause-told g c = IfOk-from_err c.from_residual-in_err-read_once.result _ c.from_residual-in_err-read_once.ensures.0
+returns-in_err-read_once-clause-told g c =
+    IfOk-from_err c.from_residual-in_err-read_once.result _ c.from_residual-in_err-read_once.ensures.0
 
 pub returns-in_err-read_once-clause-ok : goal.returns-in_err-read_once-clause-ok
-returns-in_err-read_once-clause-ok g c = λ aim start. ok_of_err c.from_residual-in_err-read_once.result _ c.from_residual-in_err-read_once.ensures.0
+returns-in_err-read_once-clause-ok g c = λ aim start.
+    ok_of_err c.from_residual-in_err-read_once.result _ c.from_residual-in_err-read_once.ensures.0
 
 pub returns-in_err-read_once-clause-err : goal.returns-in_err-read_once-clause-err
 returns-in_err-read_once-clause-err g c = λ aim start.
@@ -90,7 +94,8 @@ pub finish_file-requires-clause-in_file : goal.finish_file-requires-clause-in_fi
 finish_file-requires-clause-in_file g c κs within =
     let ok = c.in_ok-read_once.ensures in
     let r = c.requires.in_file in
-    (r.0, (g.F.Files.past c.read_once.new.files).given, ok.drained, ok.ok r.0 (c.in_ok-settle.ensures.ok r.0 _ (c.loop.invariant.reads r.0 r.1)))
+    (r.0, (g.F.Files.past c.read_once.new.files).given, ok.drained,
+    ok.ok r.0 (c.in_ok-settle.ensures.ok r.0 _ (c.loop.invariant.reads r.0 r.1)))
 
 pub finish_file-requires-clause-room : goal.finish_file-requires-clause-room
 finish_file-requires-clause-room g c κs within = c.in_ok-read_once.ensures.room
@@ -116,7 +121,8 @@ returns-in-End-clause-told g c =
     let P : Bool → Type 0 =
     λ failed. faults_of given' ≡ faults_of given ++ when failed (fault_line (newest_name given') ReadFailed) in
     ok_by c.finish_file.result P false c.finish_file.ensures.failed
-    (told_more r.1.cuts (ok.ok r.0 (c.in_ok-settle.ensures.ok r.0 _ (c.loop.invariant.reads r.0 r.1))).cuts false c.requires.more
+    (told_more r.1.cuts
+    (ok.ok r.0 (c.in_ok-settle.ensures.ok r.0 _ (c.loop.invariant.reads r.0 r.1))).cuts false c.requires.more
     (ap (λ x. is_failed (ending_after x)) c.in-End.is) (ok.before ∙ c.loop.invariant.before))
 
 pub returns-in-End-clause-ok : goal.returns-in-End-clause-ok
@@ -133,7 +139,8 @@ pub finish_file-requires-in-Failure-clause-in_file : goal.finish_file-requires-i
 finish_file-requires-in-Failure-clause-in_file g c κs within =
     let ok = c.in_ok-read_once.ensures in
     let r = c.requires.in_file in
-    (r.0, (g.F.Files.past c.read_once.new.files).given, ok.drained, ok.ok r.0 (c.in_ok-settle.ensures.ok r.0 _ (c.loop.invariant.reads r.0 r.1)))
+    (r.0, (g.F.Files.past c.read_once.new.files).given, ok.drained,
+    ok.ok r.0 (c.in_ok-settle.ensures.ok r.0 _ (c.loop.invariant.reads r.0 r.1)))
 
 pub finish_file-requires-in-Failure-clause-room : goal.finish_file-requires-in-Failure-clause-room
 finish_file-requires-in-Failure-clause-room g c κs within = c.in_ok-read_once.ensures.room
@@ -159,7 +166,8 @@ returns-in-Failure-clause-told g c =
     let P : Bool → Type 0 =
     λ failed. faults_of given' ≡ faults_of given ++ when failed (fault_line (newest_name given') ReadFailed) in
     ok_by c.finish_file-in-Failure.result P true c.finish_file-in-Failure.ensures.failed
-    (told_more r.1.cuts (ok.ok r.0 (c.in_ok-settle.ensures.ok r.0 _ (c.loop.invariant.reads r.0 r.1))).cuts true c.requires.more
+    (told_more r.1.cuts
+    (ok.ok r.0 (c.in_ok-settle.ensures.ok r.0 _ (c.loop.invariant.reads r.0 r.1))).cuts true c.requires.more
     (ap (λ x. is_failed (ending_after x)) c.in-Failure.is) (ok.before ∙ c.loop.invariant.before))
 
 pub returns-in-Failure-clause-ok : goal.returns-in-Failure-clause-ok
