@@ -82,12 +82,16 @@ def make(folder):
 
 @dataclass
 class Outcome:
-    """What a run gave, and how many requests and threads it asked for, or None where it didn't end by itself."""
+    """What a run gave, and how many requests and threads it asked for and how many of both were refused, or None where
+    it didn't end by itself."""
 
     status: int
     output: bytes
     error: bytes
     asked: tuple
+
+    def was_refused(self):
+        return self.asked is not None and self.asked[2] > 0
 
 
 class Runs:
@@ -134,12 +138,13 @@ def tell(line, key, number, found):
 
 
 def refused(runs, line, key, whole):
-    """The faults of a line whose requests are refused in turn, and how often the answer was that there is no memory."""
+    """The faults of a line whose requests are refused in turn, and how often the answer was that there is no memory.
+    A run in which nothing was refused shows nothing."""
     faults, told, most = 0, 0, max(whole.asked[0], 1)
     with ThreadPoolExecutor(os.cpu_count()) as pool:
         for number, found in enumerate(pool.map(lambda at: runs.run(line, key, at), range(1, most + 1)), 1):
             told += found.error.endswith(OUT_OF_MEMORY)
-            if not is_right(found, whole):
+            if not found.was_refused() or not is_right(found, whole):
                 faults += 1
                 tell(line, key, number, found)
     return faults, told
@@ -151,23 +156,31 @@ def unthreaded(runs, line, whole):
     for number in range(1, whole.asked[1] + 1):
         found = runs.run(line, "REFUSE_THREAD", number)
         is_same = (found.status, found.output, found.error) == (whole.status, whole.output, whole.error)
-        if found.asked is None or not is_same:
+        if not found.was_refused() or not is_same:
             faults += 1
             tell(line, "REFUSE_THREAD", number, found)
     return faults
 
 
+def is_usable(whole, is_threaded):
+    """Whether the run in which nothing is refused can be a measure of the others."""
+    if whole.asked is None or whole.was_refused() or whole.error.endswith(OUT_OF_MEMORY):
+        return False
+    return 0 < whole.asked[0] <= MOST and is_threaded == (whole.asked[1] > 0)
+
+
 def check(runs, line, is_threaded):
     """Whether a line has no fault."""
     whole = runs.whole(line)
-    if whole.asked is None or not 0 < whole.asked[0] <= MOST or is_threaded != (whole.asked[1] > 0):
+    if not is_usable(whole, is_threaded):
         tell(line, "nothing refused", 0, whole)
         return False
     once, told = refused(runs, line, "REFUSE_REQUEST", whole)
-    lasting, _ = refused(runs, line, "REFUSE_REQUESTS_FROM", whole)
-    if told == 0:
+    lasting, told_lasting = refused(runs, line, "REFUSE_REQUESTS_FROM", whole)
+    are_told = told > 0 and told_lasting > 0
+    if not are_told:
         print(f"{line}: of {whole.asked[0]} refused requests none was told", flush=True)
-    return once + lasting + unthreaded(runs, line, whole) == 0 and told > 0
+    return once + lasting + unthreaded(runs, line, whole) == 0 and are_told
 
 
 def build(folder):

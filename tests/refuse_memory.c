@@ -2,8 +2,8 @@
  *
  * REFUSE_REQUEST=N refuses the Nth request for memory that the program makes, counted from 1, and no other one.
  * REFUSE_REQUESTS_FROM=N refuses that one and all behind it. REFUSE_THREAD=N has the Nth thread not start. Where the
- * program ends by itself, the file REFUSE_REPORT gets a line: how many requests and threads it asked for. It stands on
- * the names under which glibc offers its own allocator.
+ * program ends by itself, the file REFUSE_REPORT gets a line: how many requests and threads it asked for, and how many
+ * of both were refused. It stands on the names under which glibc offers its own allocator.
  */
 #define _GNU_SOURCE
 #include <dlfcn.h>
@@ -25,7 +25,7 @@ extern void *__libc_memalign(size_t alignment, size_t size);
 
 typedef int start_thread(pthread_t *, const pthread_attr_t *, void *(*)(void *), void *);
 
-static atomic_ulong requests, threads;
+static atomic_ulong requests, threads, refused;
 static unsigned long refused_request, first_refused, refused_thread;
 static char report[4096];
 static start_thread *really_start;
@@ -52,7 +52,8 @@ __attribute__((destructor)) static void end(void) {
     if (!report[0] || atomic_flag_test_and_set(&is_reported))
         return;
     char line[64];
-    int length = snprintf(line, sizeof line, "%lu %lu\n", atomic_load(&requests), atomic_load(&threads));
+    int length = snprintf(line, sizeof line, "%lu %lu %lu\n", atomic_load(&requests), atomic_load(&threads),
+                          atomic_load(&refused));
     int file = open(report, O_WRONLY | O_CREAT | O_TRUNC, 0600);
     if (file < 0 || write(file, line, length) != length)
         abort();
@@ -71,6 +72,7 @@ static int is_refused(void) {
     unsigned long number = atomic_fetch_add(&requests, 1) + 1;
     if (number != refused_request && (!first_refused || number < first_refused))
         return 0;
+    atomic_fetch_add(&refused, 1);
     errno = ENOMEM;
     return 1;
 }
@@ -95,7 +97,9 @@ int posix_memalign(void **to, size_t alignment, size_t size) {
 
 int pthread_create(pthread_t *thread, const pthread_attr_t *how, void *(*run)(void *), void *with) {
     unsigned long number = atomic_fetch_add(&threads, 1) + 1;
-    if (!really_start || number == refused_thread)
+    if (!really_start || number == refused_thread) {
+        atomic_fetch_add(&refused, 1);
         return EAGAIN;
+    }
     return really_start(thread, how, run, with);
 }

@@ -5,9 +5,9 @@ Threads are started only for a round of 1 MiB, only where nothing that was read 
 query whose lines the automaton is asked about; later by how long the search has taken. So files of some MiB are made,
 the same ones each time, in a folder that is removed at the end. Each command line below is run over them by 2 and by 4
 workers, and by one thread (`--round 1`), and has to give the same bytes and the same status each time, as the
-machine's own grep gives them. While 4 workers are asked for, the threads of the process are counted: more than one have
-to be seen for the lines of SPREAD, and none beside the first for those of ALONE. The last line is
-`N passed, M failed`.
+machine's own grep gives them. While 4 workers are asked for, the threads of the process are counted: several have to be
+seen for the lines of SPREAD, and for those of ALONE the first one and no other. A run of one thread must show no second
+one either. The last line is `N passed, M failed`.
 """
 
 import argparse
@@ -32,6 +32,12 @@ SIZES = {"large": 4 << 20, "other": 2 << 20, "short": 2_000, "last": 3 << 19}
 
 # How often a run is repeated until threads are seen in it.
 TRIES = 20
+
+# So many threads have to be seen where threads start: the first one, and two that search.
+SEVERAL = 3
+
+# Where none is to start, a run counts only if it was looked at, and so many have to be. Some end before the first look.
+LOOKS = 3
 
 # A run that has not ended after so many seconds has failed.
 LIMIT = 60
@@ -149,14 +155,14 @@ def answer(command, folder, is_watched=False):
         return (run.returncode, output, error), watch.end() if watch else 0
 
 
-def threads_seen(command, folder, wanted, tries):
-    """The greatest number of threads of runs that are repeated until more than one is seen, or enough were made, and
-    whether each run gave what is wanted."""
-    most, is_same = 0, True
-    for _ in range(tries):
+def threads_seen(command, folder, wanted, looks):
+    """The greatest number of threads of runs that are repeated until several are seen, or so many runs were looked at,
+    and whether each run gave what is wanted."""
+    most, is_same, looked = 0, True, 0
+    for _ in range(TRIES):
         found, seen = answer(command, folder, is_watched=True)
-        most, is_same = max(most, seen), is_same and found == wanted
-        if most > 1:
+        most, is_same, looked = max(most, seen), is_same and found == wanted, looked + (seen > 0)
+        if most >= SEVERAL or looked == looks:
             break
     return most, is_same
 
@@ -171,7 +177,9 @@ def without_own(words):
 def faults_of(program, words, folder, is_spread):
     """What is not as it has to be of a line; `is_spread` is None where threads may start or not."""
     faults = []
-    alone, _ = answer([program, *words, "--round", "1"], folder)
+    alone, beside = answer([program, *words, "--round", "1"], folder, is_watched=True)
+    if beside > 1:
+        faults.append(f"{beside} threads were seen where one was asked for")
     grep, _ = answer(["grep", *without_own(words)], folder)
     # Of standard error it is only compared whether anything was told.
     if (alone[0], alone[1], bool(alone[2])) != (grep[0], grep[1], bool(grep[2])):
@@ -179,11 +187,11 @@ def faults_of(program, words, folder, is_spread):
     two, _ = answer([program, "--workers", "2", *words], folder)
     if two != alone:
         faults.append("2 workers give something else than one thread")
-    tries = TRIES if is_spread else 3
-    most, is_same = threads_seen([program, "--workers", "4", *words], folder, alone, tries)
+    looks = TRIES if is_spread else LOOKS
+    most, is_same = threads_seen([program, "--workers", "4", *words], folder, alone, looks)
     if not is_same:
         faults.append("4 workers give something else than one thread")
-    if is_spread is not None and is_spread != (most > 1):
+    if is_spread is not None and not (most >= SEVERAL if is_spread else most == 1):
         faults.append(f"{most} threads were seen at most")
     return faults
 
