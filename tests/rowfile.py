@@ -337,9 +337,14 @@ class Reader:
 def read_rows(folder, shown):
     """All rows of the folder's files, and the faults of these."""
     rows, faults, places = [], [], {}
-    for path in sorted(Path(folder).glob("*.rows")):
+    for path in sorted(it for it in Path(folder).iterdir() if not it.name.startswith(".")):
+        if path.suffix != ".rows":
+            faults.append(f"{shown}/{path.name}: a file of rows is called NAME.rows")
+            continue
         reader = Reader(path, f"{shown}/{path.name}")
         reader.read()
+        if not reader.rows:
+            faults.append(f"{shown}/{path.name}: the file has no row")
         rows += reader.rows
         faults += reader.faults
     for row in rows:
