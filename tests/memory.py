@@ -31,7 +31,8 @@ MOST = 20_000
 # A run that has not ended after so many seconds has failed.
 LIMIT = 20
 
-# Standard input is the file `row`. The last line starts threads.
+# Standard input is the file `row`. The last line starts threads. No other one does, for what those before it read may
+# be enough.
 LINES = """\
 -F x row
 -n -C 1 x
@@ -58,6 +59,8 @@ LINES = """\
 -c -l x row
 --help
 --version
+--workers 4 -l -E [xyz][a-c] long
+--workers 4 -c -m 100000 -E [xyz][a-c] long
 --workers 4 -c -E [xyz][a-c] long
 """
 

@@ -36,8 +36,9 @@ TRIES = 20
 # So many threads have to be seen where threads start: the first one, and two that search.
 SEVERAL = 3
 
-# Where none is to start, a run counts only if it was looked at, and so many have to be. Some end before the first look.
+# Where none is to start, so many runs have to be looked at. Some end before the first look, so more are made.
 LOOKS = 3
+RUNS_A_LOOK = 100
 
 # A run that has not ended after so many seconds has failed.
 LIMIT = 60
@@ -159,7 +160,7 @@ def threads_seen(command, folder, wanted, looks):
     """The greatest number of threads of runs that are repeated until several are seen, or so many runs were looked at,
     and whether each run gave what is wanted."""
     most, is_same, looked = 0, True, 0
-    for _ in range(TRIES):
+    for _ in range(looks * RUNS_A_LOOK):
         found, seen = answer(command, folder, is_watched=True)
         most, is_same, looked = max(most, seen), is_same and found == wanted, looked + (seen > 0)
         if most >= SEVERAL or looked == looks:
