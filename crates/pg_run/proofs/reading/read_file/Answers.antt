@@ -93,9 +93,13 @@ loop-preserved g c =
 pub finish_file-requires-clause-in_file : goal.finish_file-requires-clause-in_file
 finish_file-requires-clause-in_file g c κs within =
     let ok = c.in_ok-read_once.ensures in
-    let r = c.requires.in_file in
-    (r.0, (g.F.Files.past c.read_once.new.files).given, ok.drained,
-    ok.ok r.0 (c.in_ok-settle.ensures.ok r.0 _ (c.loop.invariant.reads r.0 r.1)))
+    let r = c.requires.in_file in (
+      r.0,
+      (g.F.Files.past c.read_once.new.files).given,
+      ok.drained,
+      ok.ok r.0
+          (c.in_ok-settle.ensures.ok r.0 _ (c.loop.invariant.reads r.0 r.1)),
+    )
 
 pub finish_file-requires-clause-room : goal.finish_file-requires-clause-room
 finish_file-requires-clause-room g c κs within = c.in_ok-read_once.ensures.room
@@ -121,8 +125,8 @@ returns-in-End-clause-told g c =
     let P : Bool → Type 0 =
     λ failed. faults_of given' ≡ faults_of given ++ when failed (fault_line (newest_name given') ReadFailed) in
     ok_by c.finish_file.result P false c.finish_file.ensures.failed
-    (told_more r.1.cuts
-    (ok.ok r.0 (c.in_ok-settle.ensures.ok r.0 _ (c.loop.invariant.reads r.0 r.1))).cuts false c.requires.more
+    (told_more r.1.cuts (ok.ok r.0
+    (c.in_ok-settle.ensures.ok r.0 _ (c.loop.invariant.reads r.0 r.1))).cuts false c.requires.more
     (ap (λ x. is_failed (ending_after x)) c.in-End.is) (ok.before ∙ c.loop.invariant.before))
 
 pub returns-in-End-clause-ok : goal.returns-in-End-clause-ok
@@ -138,9 +142,13 @@ returns-in-End-clause-err g c = λ aim start.
 pub finish_file-requires-in-Failure-clause-in_file : goal.finish_file-requires-in-Failure-clause-in_file
 finish_file-requires-in-Failure-clause-in_file g c κs within =
     let ok = c.in_ok-read_once.ensures in
-    let r = c.requires.in_file in
-    (r.0, (g.F.Files.past c.read_once.new.files).given, ok.drained,
-    ok.ok r.0 (c.in_ok-settle.ensures.ok r.0 _ (c.loop.invariant.reads r.0 r.1)))
+    let r = c.requires.in_file in (
+      r.0,
+      (g.F.Files.past c.read_once.new.files).given,
+      ok.drained,
+      ok.ok r.0
+          (c.in_ok-settle.ensures.ok r.0 _ (c.loop.invariant.reads r.0 r.1)),
+    )
 
 pub finish_file-requires-in-Failure-clause-room : goal.finish_file-requires-in-Failure-clause-room
 finish_file-requires-in-Failure-clause-room g c κs within = c.in_ok-read_once.ensures.room
@@ -166,8 +174,8 @@ returns-in-Failure-clause-told g c =
     let P : Bool → Type 0 =
     λ failed. faults_of given' ≡ faults_of given ++ when failed (fault_line (newest_name given') ReadFailed) in
     ok_by c.finish_file-in-Failure.result P true c.finish_file-in-Failure.ensures.failed
-    (told_more r.1.cuts
-    (ok.ok r.0 (c.in_ok-settle.ensures.ok r.0 _ (c.loop.invariant.reads r.0 r.1))).cuts true c.requires.more
+    (told_more r.1.cuts (ok.ok r.0
+    (c.in_ok-settle.ensures.ok r.0 _ (c.loop.invariant.reads r.0 r.1))).cuts true c.requires.more
     (ap (λ x. is_failed (ending_after x)) c.in-Failure.is) (ok.before ∙ c.loop.invariant.before))
 
 pub returns-in-Failure-clause-ok : goal.returns-in-Failure-clause-ok
