@@ -9,7 +9,7 @@ use pg_lines::{Block, BlockResult, Kind, PatternList, Query, QueryText, Scratch}
 use pg_round::{Collector, Gate, Reader};
 use pg_rows::Sink;
 use pg_seq::{Arrival, SinkFault};
-use std::alloc::{AllocError, Allocator, Global};
+use std::alloc::{AllocError, Allocator};
 use std::sync::Arc;
 use std::sync::atomic::{AtomicBool, AtomicU64, Ordering};
 use std::thread;
@@ -171,71 +171,6 @@ impl Gate for Counting {
         if number < 8 {
             self.after[number as usize].fetch_add(1, Ordering::SeqCst);
         }
-    }
-}
-
-/// Passes requests for memory on, and refuses the next one, of any thread, once it is armed. Giving a block back is no
-/// request.
-#[derive(Drop)]
-pub(crate) struct Armed<B: Allocator = Global> {
-    inner: B,
-    is_armed: AtomicBool,
-}
-
-impl<B: Allocator> Armed<B> {
-    pub(crate) fn new(inner: B) -> Armed<B> {
-        Armed {
-            inner,
-            is_armed: AtomicBool::new(false),
-        }
-    }
-}
-
-unsafe impl<B: Allocator> Allocator for Armed<B> {
-    ghost dealloc_token = { λ heap ty ptr. B.dealloc_token heap.inner ty ptr };
-
-    fn allocate(&self, size: usize, align: usize) -> Result<*mut u8, AllocError> {
-        if self.is_armed.swap(false, Ordering::SeqCst) {
-            return Err(AllocError);
-        }
-        self.inner.allocate(size, align)
-    }
-
-    unsafe fn deallocate(&self, ptr: *mut u8, size: usize, align: usize) {
-        self.inner.deallocate(ptr, size, align);
-    }
-}
-
-/// Arms an allocator where a block is first searched. It counts the calls around each search too.
-#[derive(Drop)]
-pub(crate) struct Arming<'h> {
-    heap: &'h Armed,
-    number: u32,
-    has_begun: AtomicBool,
-    pub(crate) calls: Counting,
-}
-
-impl<'h> Arming<'h> {
-    pub(crate) fn new(heap: &'h Armed, number: u32) -> Arming<'h> {
-        Arming {
-            heap,
-            number,
-            has_begun: AtomicBool::new(false),
-            calls: Counting::new(),
-        }
-    }
-}
-
-impl<'h> Gate for Arming<'h> {
-    fn before(&self, number: u32) {
-        self.calls.before(number);
-        if number == self.number && !self.has_begun.swap(true, Ordering::SeqCst) {
-            self.heap.is_armed.store(true, Ordering::SeqCst);
-        }
-    }
-
-    fn after(&self, number: u32) {
-        self.calls.after(number);
     }
 }
 

@@ -4,9 +4,7 @@ ghost use Rattle.std.specs.Arc.{arc_value};
 ghost use Rattle.pg_match.specs.Machines.{Fits};
 ghost use Rattle.pg_round.specs.Results.{HasShortLines};
 
-use crate::fixtures::{
-    Armed, Arming, Counting, Counts, Holding, Meeting, Stepping, blocks, query, scratches,
-};
+use crate::fixtures::{Counting, Counts, Holding, Meeting, Stepping, blocks, query, scratches};
 use pg_lines::{Block, Query, Scratch};
 use pg_round::{FreeGate, Gate, NothingToRead, Reader, RoundFault, search_round};
 use pg_seq::MemSink;
@@ -175,32 +173,6 @@ fn steps_are_made_where_workers_search(rt: HostRuntime) {
         step_beside(&rt, rt.alloc(), 0, 1) == (true, 100, 0, 0),
         "no worker"
     );
-}
-
-#[test]
-fn a_block_is_searched_again_where_its_worker_was_refused_memory(rt: HostRuntime) {
-    for refused in [0u32, 1, 3] {
-        let heap = Armed::new(rt.alloc());
-        let gate = Arming::new(&heap, refused);
-        let found = search_some(&rt, &heap, 4, 2, &gate);
-        assert!(rt; found == Ok(([1, 1, 1, 1, 0, 0, 0, 0], 2)), "at {refused}");
-        for number in 0..4u32 {
-            let count = if number == refused { 2u64 } else { 1 };
-            assert!(rt;
-                gate.calls.has_called(number as usize, count),
-                "at {refused}"
-            );
-        }
-    }
-}
-
-#[test]
-fn any_of_several_workers_may_be_refused_memory(rt: HostRuntime) {
-    for count in [3u32, 65] {
-        let heap = Armed::new(rt.alloc());
-        let found = search_some(&rt, &heap, 4, count, &Arming::new(&heap, 0));
-        assert!(rt; found == Ok(([1, 1, 1, 1, 0, 0, 0, 0], count as usize)));
-    }
 }
 
 #[test]
