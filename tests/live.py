@@ -9,7 +9,6 @@ with 1 and with 4 workers. No time is measured: what doesn't come within LIMIT s
 The program may be GNU grep, which is given `--line-buffered` and no workers. The last line is `N passed, M failed`.
 """
 
-import argparse
 import errno
 import os
 import pty
@@ -23,7 +22,8 @@ import time
 from dataclasses import dataclass
 from pathlib import Path
 
-PROGRAM = Path(__file__).resolve().parent.parent / "crates/pargrep/out/pargrep"
+import built
+
 ENVIRONMENT = {"LC_ALL": "C", "PATH": os.environ.get("PATH", os.defpath)}
 WORKERS = (1, 4)
 
@@ -311,11 +311,8 @@ def options_of(program):
 
 
 def main():
-    parser = argparse.ArgumentParser(description="Sees that rows come while the input is still open.")
-    parser.add_argument("--program", default=PROGRAM)
-    program = str(Path(parser.parse_args().program).resolve())
-    if not os.access(program, os.X_OK):
-        print(f"there is no program at {program}; make builds it\n0 passed, 1 failed")
+    program = built.program("Sees that rows come while the input is still open.")
+    if program is None:
         return 1
     passed, failed = 0, 0
     with tempfile.TemporaryDirectory(prefix="pargrep-live-") as name:

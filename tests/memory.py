@@ -9,7 +9,6 @@ search, the first is also not started, then the second, and so on, and nothing m
 `N passed, M failed`; where there is no `cc` it passes, and a line says so.
 """
 
-import argparse
 import os
 import shlex
 import shutil
@@ -20,8 +19,9 @@ from concurrent.futures import ThreadPoolExecutor
 from dataclasses import dataclass
 from pathlib import Path
 
+import built
+
 HERE = Path(__file__).resolve().parent
-PROGRAM = HERE.parent / "crates/pargrep/out/pargrep"
 LIBRARY = HERE / "refuse_memory.c"
 OUT_OF_MEMORY = b"pargrep: out of memory\n"
 
@@ -197,11 +197,8 @@ def build(folder):
 
 
 def main():
-    parser = argparse.ArgumentParser(description="Refuses the program each request for memory in turn.")
-    parser.add_argument("--program", default=PROGRAM)
-    program = str(Path(parser.parse_args().program).resolve())
-    if not os.access(program, os.X_OK):
-        print(f"there is no program at {program}; make builds it\n0 passed, 1 failed")
+    program = built.program("Refuses the program each request for memory in turn.")
+    if program is None:
         return 1
     with tempfile.TemporaryDirectory(prefix="pargrep-memory-") as room:
         folder, reports = Path(room) / "folder", Path(room) / "reports"
