@@ -153,7 +153,7 @@ fn setup_of(request: &Request<'_>, directory: bool) -> Setup
         block: request.block,
         line: LONGEST_LINE,
         round: request.round,
-        always_spread: false,
+        always_spread: request.always_spread,
         line_buffered: request.line_buffered,
         silent: request.silent,
     }

@@ -52,8 +52,9 @@ struct Opt(Names, &'static str, Value);
 
 /// The options, and the operands: PATTERN, where neither -e nor -f is given, and each FILE. Of names that are equally
 /// close to a wrong one `clap` proposes the last. -G is read by nobody: it asks for what is taken without -E and -F,
-/// and has no effect beside them. Nor is -a, for every file is text.
-static OPTIONS: [Opt; 33] = [
+/// and has no effect beside them. Nor is -a, for every file is text. --always-spread serves tests alone, so that
+/// neither --help nor the manual page names it.
+static OPTIONS: [Opt; 34] = [
     Opt(Names::Letter('q', &["silent"]), "quiet", Value::Nothing),
     Opt(Names::Letter('E', &[]), "extended-regexp", Value::Nothing),
     Opt(Names::Letter('F', &[]), "fixed-strings", Value::Nothing),
@@ -108,6 +109,7 @@ static OPTIONS: [Opt; 33] = [
     Opt(Names::Long, "workers", Value::Number(1, MAX_WORKERS)),
     Opt(Names::Long, "block", Value::Number(1, MAX_BLOCK)),
     Opt(Names::Long, "round", Value::Number(1, MAX_ROUND)),
+    Opt(Names::Long, "always-spread", Value::Nothing),
     Opt(Names::Long, "help", Value::Nothing),
     Opt(Names::Letter('V', &[]), "version", Value::Nothing),
     Opt(Names::Place, "operands", Value::Itself),

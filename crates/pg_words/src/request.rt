@@ -45,6 +45,8 @@ pub struct Request<'a> {
     pub block: u32,
     /// --round N: at most so many blocks are searched together.
     pub round: u32,
+    /// --always-spread: rounds of any size are searched by threads. It serves tests.
+    pub always_spread: bool,
     ghost has_pattern: { 0 < vec_len texts + vec_len pattern_files },
     ghost some_limit: { HasRoom format },
     ghost some_file: { 0 < vec_len files },

@@ -170,6 +170,7 @@ fn build_request<'a>(
         workers: number_of(found, "workers", DEFAULT_WORKERS).clamp(1, MAX_WORKERS),
         block: number_of(found, "block", DEFAULT_BLOCK).clamp(1, MAX_BLOCK),
         round: number_of(found, "round", DEFAULT_ROUND).clamp(1, MAX_ROUND),
+        always_spread: found.get_flag("always-spread"),
     }
 }
 
