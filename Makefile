@@ -5,6 +5,9 @@ PYTHON ?= python3
 prefix ?= /usr/local
 bindir ?= $(prefix)/bin
 mandir ?= $(prefix)/share/man
+bashdir ?= $(prefix)/share/bash-completion/completions
+zshdir ?= $(prefix)/share/zsh/site-functions
+fishdir ?= $(prefix)/share/fish/vendor_completions.d
 INSTALL ?= install
 
 program = crates/pargrep/out/pargrep
@@ -49,16 +52,21 @@ bench-parts: toolchain ## Time the automaton and the walk by themselves.
 	bench/walk.sh crates/pg_bench/out/pg_bench
 	bench/patterns.sh crates/pg_bench/out/pg_bench
 
-install: ## Install what `make` has built, with its man page. It proves nothing.
+install: ## Install what `make` has built, with its man page and completions. It proves nothing.
 	@test -x $(program) || { echo "pargrep: there is no $(program) yet: run make first" >&2; exit 1; }
 	$(INSTALL) -d "$(DESTDIR)$(bindir)" "$(DESTDIR)$(mandir)/man1"
+	$(INSTALL) -d "$(DESTDIR)$(bashdir)" "$(DESTDIR)$(zshdir)" "$(DESTDIR)$(fishdir)"
 	$(INSTALL) -m 755 $(program) "$(DESTDIR)$(bindir)/pargrep"
 	$(INSTALL) -m 644 docs/man/pargrep.1 "$(DESTDIR)$(mandir)/man1/pargrep.1"
-	@echo "pargrep: installed $(DESTDIR)$(bindir)/pargrep and its man page"
+	$(INSTALL) -m 644 completions/pargrep.bash "$(DESTDIR)$(bashdir)/pargrep"
+	$(INSTALL) -m 644 completions/_pargrep "$(DESTDIR)$(zshdir)/_pargrep"
+	$(INSTALL) -m 644 completions/pargrep.fish "$(DESTDIR)$(fishdir)/pargrep.fish"
+	@echo "pargrep: installed $(DESTDIR)$(bindir)/pargrep, its man page and completions"
 	@case ":$$PATH:" in *":$(bindir):"*) ;; *) echo "pargrep: $(bindir) is not on your PATH yet" ;; esac
 
 uninstall: ## Remove what was installed.
 	rm -f "$(DESTDIR)$(bindir)/pargrep" "$(DESTDIR)$(mandir)/man1/pargrep.1"
+	rm -f "$(DESTDIR)$(bashdir)/pargrep" "$(DESTDIR)$(zshdir)/_pargrep" "$(DESTDIR)$(fishdir)/pargrep.fish"
 
 clean: ## Remove what was built and kept.
 	rm -rf crates/*/out

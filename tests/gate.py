@@ -1,7 +1,7 @@
 #!/usr/bin/env python3
-"""The gate: runs a command that ends with 'N passed, M failed', then the rows, the runs by threads, those without
-memory and those over an input that stays open, looks up the wrong bodies that it doesn't try, and closes with such a
-line over all.
+"""The gate: runs a command that ends with 'N passed, M failed', then compares the options with what names them, runs the
+rows, the runs by threads, those without memory and those over an input that stays open, looks up the wrong bodies that
+it doesn't try, and closes with such a line over all.
 
 The rows and the runs take the program that the command has built just now, also where the command has failed.
 """
@@ -16,6 +16,14 @@ from pathlib import Path
 HERE = Path(__file__).resolve().parent
 PROGRAM = HERE.parent / "crates/pargrep/out/pargrep"
 FIGURES = re.compile(r"([0-9]+) passed, ([0-9]+) failed")
+# What runs behind the command, each a script of this folder.
+SCRIPTS = (
+    ("the options", "options.py"),
+    ("the rows", "run_rows.py"),
+    ("the runs by threads", "threads.py"),
+    ("the runs without memory", "memory.py"),
+    ("the runs over an open input", "live.py"),
+)
 # What the largest proof takes, with a third to spare.
 MEMORY_OF_A_PROOF = 4_000_000_000
 
@@ -94,20 +102,10 @@ def main():
     one_proof_a_processor()
     keep_memory()
     name = " ".join(command)
-    proofs = figures_of(command, name)
-    rows = figures_of([sys.executable, str(HERE / "run_rows.py")], "the rows")
-    threads = figures_of([sys.executable, str(HERE / "threads.py")], "the runs by threads")
-    memory = figures_of([sys.executable, str(HERE / "memory.py")], "the runs without memory")
-    live = figures_of([sys.executable, str(HERE / "live.py")], "the runs over an open input")
+    ran = [(name, figures_of(command, name))]
+    ran += [(what, figures_of([sys.executable, str(HERE / script)], what)) for what, script in SCRIPTS]
     edits = figures_of([sys.executable, str(HERE / "refuse.py"), "--read"], "the further wrong bodies")
-    ran = (
-        (name, proofs),
-        ("the rows", rows),
-        ("the runs by threads", threads),
-        ("the runs without memory", memory),
-        ("the runs over an open input", live),
-    )
-    parts = (*ran, ("the further wrong bodies, looked up", edits))
+    parts = [*ran, ("the further wrong bodies, looked up", edits)]
     for what, (passed, failed) in parts:
         say(f"gate: {what}: {passed} passed, {failed} failed")
     failed = sum(figures[1] for _, figures in parts)

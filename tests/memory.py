@@ -1,11 +1,11 @@
 #!/usr/bin/env python3
 """Refuses the program each request for memory in turn: `tests/memory.py [--program PATH]`
 
-A small library (tests/refuse_memory.c) is built with `cc` and loaded into the program. For each command line of LINES
-the first request is refused, then the second, and so on until a run makes no more of them, while the words are read
-too; and once more with all requests from that one on. Whatever is refused, the program has to end by itself with what
-it gives otherwise, or with the line `pargrep: out of memory` behind a beginning of it, and status 2. Where threads
-search, the first is also not started, then the second, and so on, and nothing may change. The last line is
+A small library (tests/refuse_memory.c) is built with `cc` and loaded into the program. For each command line of ALONE
+and SPREAD the first request is refused, then the second, and so on until a run makes no more of them, while the words
+are read too; and once more with all requests from that one on. Whatever is refused, the program has to end by itself
+with what it gives otherwise, or with the line `pargrep: out of memory` behind a beginning of it, and status 2. Where
+threads search, the first is also not started, then the second, and so on, and nothing may change. The last line is
 `N passed, M failed`; where there is no `cc` it passes, and a line says so.
 """
 
@@ -31,9 +31,8 @@ MOST = 20_000
 # A run that has not ended after so many seconds has failed.
 LIMIT = 20
 
-# Standard input is the file `row`. The last line starts threads. No other one does, for what those before it read may
-# be enough.
-LINES = """\
+# Standard input is the file `row`. No thread starts: there are too few bytes, or what was read may be enough.
+ALONE = """\
 -F x row
 -n -C 1 x
 -c x row words empty
@@ -61,7 +60,15 @@ LINES = """\
 --version
 --workers 4 -l -E [xyz][a-c] long
 --workers 4 -c -m 100000 -E [xyz][a-c] long
+"""
+
+# Threads start: the first file is long enough for them, and the others are searched by threads because the words say so.
+SPREAD = """\
 --workers 4 -c -E [xyz][a-c] long
+--always-spread --workers 2 --block 1 --round 3 -n -C 1 x row
+--always-spread --workers 3 --block 1 --round 4 -o -n -E [wf][a-z]+ words row
+--always-spread --workers 2 --block 1 --round 2 -v -n x row words
+--always-spread --workers 2 --block 1 --round 2 -r -c x tree row
 """
 
 
@@ -214,8 +221,8 @@ def main():
             print("memory: the library that refuses requests can't be built\n0 passed, 1 failed")
             return 1
         runs = Runs(program, library, folder, reports)
-        lines = LINES.splitlines()
-        passed = sum(check(runs, line, line is lines[-1]) for line in lines)
+        lines = [*((line, False) for line in ALONE.splitlines()), *((line, True) for line in SPREAD.splitlines())]
+        passed = sum(check(runs, line, is_threaded) for line, is_threaded in lines)
     print(f"{passed} passed, {len(lines) - passed} failed")
     return 0 if passed == len(lines) else 1
 

@@ -34,8 +34,12 @@ SHOWN = 200
 OWN_OPTIONS = (b"--block", b"--round", b"--workers")
 
 # Every row is run once more with these words: a block for each line, searched by the calling thread as soon as it was
-# read. Of so few bytes no threads start; tests/threads.py has those.
+# read.
 SMALLEST = [b"--block", b"1", b"--round", b"1", b"--workers", b"2"]
+
+# And once more with these: each two lines are a round of two blocks, which two threads search, where nothing that was
+# read may be enough. Without the last word no thread starts for so few bytes.
+SPREAD = [b"--block", b"1", b"--round", b"2", b"--workers", b"2", b"--always-spread"]
 
 # Rows that give more lines are not, since a round for each line takes its time.
 MOST_ROUNDS = 1000
@@ -87,7 +91,7 @@ def variants_of(row):
     """The words before which a row's own are run once more."""
     if "also" in row.keys or own_options(row.words) or lines_given(row) > MOST_ROUNDS:
         return row.variants
-    return [*row.variants, SMALLEST]
+    return [*row.variants, SMALLEST, SPREAD]
 
 
 def cases_of(row, with_variants):

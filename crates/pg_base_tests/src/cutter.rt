@@ -173,18 +173,23 @@ fn is_cut(heap: &Refusing, file: &[u8], most: u64) -> bool {
     is_taken(&mut cutter, heap, file) && gives_first(&mut cutter, heap, most)
 }
 
-/// Whether a cutter gives a finished block and the last one, and asks for no memory meanwhile.
+/// Whether there is a block, of these bytes.
+fn is_block<A: Allocator>(block: Option<Block<A>>, bytes: &[u8]) -> bool {
+    block.is_some_and(|block| block.bytes.as_slice() == bytes)
+}
+
+/// Whether a cutter gives the block `a` and its terminator, and `b` as the last one, and asks for no memory meanwhile.
 fn gives_both<A: Allocator + Copy>(cutter: Cutter<A>, heap: &Refusing) -> bool {
     let mut cutter = cutter;
     let requests = heap.requests();
-    let are_taken = cutter.take().is_some() && cutter.take().is_none();
-    are_taken && cutter.finish().is_some() && heap.requests() == requests
+    let are_taken = is_block(cutter.take(), b"a\n") && cutter.take().is_none();
+    are_taken && is_block(cutter.finish(), b"b") && heap.requests() == requests
 }
 
-/// Whether a file of two blocks comes, and both are given.
+/// Whether a file of two blocks comes in two pieces, of which the first finishes no block, and both blocks are given.
 fn is_given(heap: &Refusing) -> bool {
     let mut cutter = Cutter::new(heap, 0, 2, 100, b'\n');
-    is_taken(&mut cutter, heap, b"a\nb") && gives_both(cutter, heap)
+    is_taken(&mut cutter, heap, b"a") && is_taken(&mut cutter, heap, b"\nb") && gives_both(cutter, heap)
 }
 
 /// Whether a file of two blocks comes, and one of a block, whose memory is used again.

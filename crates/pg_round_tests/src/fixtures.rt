@@ -177,10 +177,10 @@ impl Gate for Counting {
 /// How often who waits for others asks for them before giving up.
 pub(crate) const PATIENCE: u32 = 10_000_000;
 
-/// Who searches a block waits until a second one does, or gives up. It counts those who met another, and those who gave
-/// up.
+/// Who searches a block waits until so many do, or gives up. It counts those who met all others, and those who gave up.
 #[derive(Drop)]
 pub(crate) struct Meeting {
+    wanted: u64,
     begun: AtomicU64,
     ended: AtomicU64,
     met: AtomicU64,
@@ -188,8 +188,10 @@ pub(crate) struct Meeting {
 }
 
 impl Meeting {
-    pub(crate) fn new() -> Meeting {
+    /// A meeting of so many.
+    pub(crate) fn of(wanted: u64) -> Meeting {
         Meeting {
+            wanted,
             begun: AtomicU64::new(0),
             ended: AtomicU64::new(0),
             met: AtomicU64::new(0),
@@ -197,7 +199,7 @@ impl Meeting {
         }
     }
 
-    /// How many met another, and how often a wait was given up.
+    /// How many met all others, and how often a wait was given up.
     pub(crate) fn outcome(&self) -> (u64, u64) {
         (
             self.met.load(Ordering::SeqCst),
@@ -205,10 +207,11 @@ impl Meeting {
         )
     }
 
-    /// Waits until two were counted, or gives up.
-    fn wait_for_two(&self, counter: &AtomicU64) {
+    /// Waits until all were counted, or gives up. Once one has given up, nobody waits any more.
+    fn wait_for_all(&self, counter: &AtomicU64) {
         for _ in 0..PATIENCE {
-            if counter.load(Ordering::SeqCst) >= 2 {
+            let is_over = self.given_up.load(Ordering::SeqCst) > 0;
+            if is_over || counter.load(Ordering::SeqCst) >= self.wanted {
                 return;
             }
             thread::yield_now();
@@ -220,14 +223,14 @@ impl Meeting {
 impl Gate for Meeting {
     fn before(&self, _number: u32) {
         self.begun.fetch_add(1, Ordering::SeqCst);
-        self.wait_for_two(&self.begun);
+        self.wait_for_all(&self.begun);
         if self.ended.load(Ordering::SeqCst) == 0 {
             self.met.fetch_add(1, Ordering::SeqCst);
         }
     }
 
     fn after(&self, _number: u32) {
-        self.wait_for_two(&self.met);
+        self.wait_for_all(&self.met);
         self.ended.fetch_add(1, Ordering::SeqCst);
     }
 }
@@ -270,11 +273,13 @@ impl Gate for Holding {
     fn after(&self, _number: u32) {}
 }
 
-/// Counts its steps, while there are some left. There is nothing to do until the first block's search has begun.
+/// Counts its steps, while there are some left, and how often it is asked for one. There is nothing to do until the
+/// first block's search has begun.
 #[derive(Drop)]
 pub(crate) struct Stepping<'g> {
     pub(crate) gate: &'g Holding,
     pub(crate) left: u32,
+    pub(crate) asked: u32,
 }
 
 impl<'g> Reader<u32> for Stepping<'g> {
@@ -283,6 +288,7 @@ impl<'g> Reader<u32> for Stepping<'g> {
     ghost reaches = { λ reader steps reader' steps'. reader'.left + steps' ≡ reader.left + steps };
 
     fn step(&mut self, steps: &mut u32) -> bool {
+        self.asked = self.asked.saturating_add(1);
         if self.left == 0 || !self.gate.begun.load(Ordering::SeqCst) {
             return false;
         }

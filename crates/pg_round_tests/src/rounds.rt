@@ -126,53 +126,80 @@ fn a_round_may_be_short(rt: HostRuntime) {
 
 #[test]
 fn two_search_at_once(rt: HostRuntime) {
-    let gate = Meeting::new();
+    let gate = Meeting::of(2);
     let found = search_some(&rt, rt.alloc(), 2, 3, &gate);
     assert!(rt; found == Ok(([1, 1, 0, 0, 0, 0, 0, 0], 3)));
     assert_eq!(rt; gate.outcome(), (2, 0), "met, and waited in vain");
 }
 
-/// Searches four blocks beside a reader that has 100 steps to make, of which so many are waited for. Answers whether
-/// each block was searched once; and how many steps were left, how many were made, and how often the wait was given up.
+#[test]
+fn all_workers_search_at_once(rt: HostRuntime) {
+    let gate = Meeting::of(7);
+    let found = search_some(&rt, rt.alloc(), 7, 8, &gate);
+    assert!(rt; found == Ok(([1, 1, 1, 1, 1, 1, 1, 0], 8)));
+    assert_eq!(rt; gate.outcome(), (7, 0), "met, and waited in vain");
+}
+
+/// What four blocks and a reader came to, where the reader had 100 steps to make.
+#[derive(Drop)]
+struct Beside {
+    /// Each block was searched once.
+    is_once: bool,
+    /// So many steps were left.
+    left: u32,
+    /// So many were made.
+    made: u32,
+    /// So often the reader was asked for one.
+    asked: u32,
+    /// So often a wait was given up.
+    given_up: u64,
+}
+
+/// Searches four blocks beside a reader that has 100 steps to make, of which so many are waited for.
 fn step_beside<R: Threads + Wait + Clock + Sync>(
     rt: &R,
     alloc: Global,
     wanted: u64,
     scratches_count: u32,
-) -> (bool, u32, u32, u64)
+) -> Beside
     requires { (0 < scratches_count) × (scratches_count ≤ 65) }
 {
     let gate = Holding::new(wanted);
     let mut reader = Stepping {
         gate: &gate,
         left: 100,
+        asked: 0,
     };
-    let mut steps = 0u32;
+    let mut made = 0u32;
     let found = search_beside(
         rt,
         alloc,
         4,
         scratches_count,
         &mut reader,
-        &mut steps,
+        &mut made,
         &gate,
     );
-    let is_once = found == Ok(([1, 1, 1, 1, 0, 0, 0, 0], scratches_count as usize));
-    (
-        is_once,
-        reader.left,
-        steps,
-        gate.given_up.load(Ordering::SeqCst),
-    )
+    Beside {
+        is_once: found == Ok(([1, 1, 1, 1, 0, 0, 0, 0], scratches_count as usize)),
+        left: reader.left,
+        made,
+        asked: reader.asked,
+        given_up: gate.given_up.load(Ordering::SeqCst),
+    }
 }
 
 #[test]
 fn steps_are_made_where_workers_search(rt: HostRuntime) {
-    assert!(rt; step_beside(&rt, rt.alloc(), 100, 3) == (true, 0, 100, 0));
-    assert!(rt;
-        step_beside(&rt, rt.alloc(), 0, 1) == (true, 100, 0, 0),
-        "no worker"
-    );
+    let found = step_beside(&rt, rt.alloc(), 100, 3);
+    assert!(rt; found.is_once && found.left == 0 && found.made == 100);
+    assert!(rt; found.given_up == 0);
+}
+
+#[test]
+fn without_workers_no_step_is_asked_for(rt: HostRuntime) {
+    let found = step_beside(&rt, rt.alloc(), 0, 1);
+    assert!(rt; found.is_once && found.left == 100 && found.asked == 0);
 }
 
 #[test]

@@ -100,7 +100,7 @@ fn writes<R: Abort + Threads + Wait + Clock + Sync, G: Gate + Sync>(
 fn two_blocks_of_a_run_are_searched_at_once(rt: HostRuntime) {
     let file: &[u8] = b"x1\nx2\n";
     for workers in [2u32, 64] {
-        let gate = Meeting::new();
+        let gate = Meeting::of(2);
         assert!(rt; writes(&rt, rt.alloc(), setup(workers, 2), file, file, &gate));
         assert_eq!(rt; gate.outcome(), (2, 0), "met, and waited in vain");
     }

@@ -121,6 +121,7 @@ fn arrive_in(
         right &= !sequencer.complete();
         right &= is_taken_once(alloc, &mut sequencer, query, other, *digit)?;
         right &= drains_to(&mut sequencer, &mut sink, front(&order[..=at]));
+        right &= is_answered(alloc, &mut sequencer, query, *digit, Arrival::Double)?;
     }
     Ok(right && sequencer.complete() && sequencer.status() == Some(0))
 }
