@@ -103,7 +103,7 @@ pub some_append : (xs ys : List ℕ) → something (xs ++ ys) ≡ (something xs 
 some_append [] ys = refl
 some_append (x ∷ xs) ys = refl
 
-some_row : (format : Format) (end : ℕ) (name : List ℕ) (number mark : ℕ) (text : List ℕ)
+pub some_row : (format : Format) (end : ℕ) (name : List ℕ) (number mark : ℕ) (text : List ℕ)
     → something (row format end name number mark text) ≡ true
 some_row format end name number mark text =
     let front = prefix_text format name number mark ++ text in

@@ -18,3 +18,4 @@ pub mod AheadLemmas
 pub mod SettleLemmas
 pub mod LongerLemmas
 pub mod WholeLemmas
+pub mod ShareLemmas

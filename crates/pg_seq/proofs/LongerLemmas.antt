@@ -2,7 +2,7 @@
 use Rattle.std.proofs.Common.{◌≡◌, ◌⊎◌, inl, inr, ℕ, Bool, true, false, not, cond, ◌&&◌, ◌||◌, List, [], ◌∷◌, ◌++◌}
 use Rattle.std.proofs.Common.{refl, sym, ap, ◌∙◌, subst, append_assoc}
 use Rattle.std.specs.List.{list_any}
-use Rattle.std.proofs.lemmas.Bool.{false≢true, or_left, or_right, or_cases}
+use Rattle.std.proofs.lemmas.Bool.{or_left, or_right, or_cases}
 use Rattle.std.proofs.lemmas.List.Folds.{list_any-append}
 use Rattle.pg_lines.specs.Search.{Search, terminator}
 use Rattle.pg_lines.specs.Lines.{lines, AreWhole}
@@ -28,7 +28,7 @@ stays_selected q bytes more whole e =
     ap (list_any (selects q)) (lines-append (terminator q) bytes more whole)
     ∙ (list_any-append (selects q) ls ms ∙ or_left (list_any (selects q) ls) (list_any (selects q) ms) e)
 
-abbrev status_by : Bool → Bool → Bool → ℕ
+abbrev pub status_by : Bool → Bool → Bool → ℕ
 status_by quiet selected bad = cond (quiet && selected) 0 (cond bad 2 (cond selected 0 1))
 
 module _ (q : Search) (format : Format) where

@@ -7,3 +7,4 @@ pub mod Buffer
 pub mod Standing
 pub mod Ahead
 pub mod Settled
+pub mod Shares

@@ -6,12 +6,13 @@ ghost use Rattle.pg_lines.specs.Lines.{AreWhole, lines};
 ghost use Rattle.pg_lines.specs.Searched.{Searched};
 ghost use Rattle.pg_rows.specs.declared.format.Format.{Format};
 ghost use Rattle.pg_rows.specs.Modes.{is_quiet};
-ghost use Rattle.pg_rows.specs.Output.{Entry, HasRoom, has_selected, output, status};
+ghost use Rattle.pg_rows.specs.Output.{Entry, HasRoom, has_context, has_selected, output, status};
 ghost use Rattle.pg_rows.specs.Enough.{lines_suffice};
 ghost use Rattle.pg_seq.specs.Plan.{IsPlan, Begins, announced, entries_of};
 ghost use Rattle.pg_seq.specs.History.{Past, IsComplete, plan, handed, answer, is_taken, taken_of};
 ghost use Rattle.pg_rows.specs.Sink.{IsBeginning};
 ghost use Rattle.pg_seq.specs.Settled.{IsSettled, AreLeftRightly, AreLonger, GiveTheSame};
+ghost use Rattle.pg_seq.specs.Shares.{joined_output, joined_status};
 ghost use Rattle.pg_seq.specs.declared.answers.Arrival.TheVariants.{Taken};
 
 /// What may be handed out is a beginning of the output of every list of files that the plan begins.
@@ -61,4 +62,19 @@ pub fn later_files_stay_unread()
     ensures same { (q : Search) (format : Format) (entries : List Entry) (later : List Entry) →
         is_quiet format.mode ≡ true → list_any (has_selected q) entries ≡ true →
         GiveTheSame q format entries (later ++ entries) }
+{}
+
+/// The files of a run may be searched in shares, by runs of their own, in this order: their outputs, one behind the
+/// other, are that of all files. With context the row of hyphens stands between two outputs that both have rows. Names
+/// stand before rows by the format alone, so where they are to be shown each share has to be asked for them (-H), also
+/// one of a single file.
+pub fn shares_join()
+    ensures plain { (q : Search) (format : Format) (first : List Entry) (later : List Entry) →
+        has_context format ≡ false →
+        output q format (later ++ first) ≡ output q format first ++ output q format later }
+    ensures output { (q : Search) (format : Format) (first : List Entry) (later : List Entry) →
+        output q format (later ++ first) ≡ joined_output q format (output q format first) (output q format later) }
+    ensures status { (q : Search) (format : Format) (first : List Entry) (later : List Entry) →
+        status q format (later ++ first)
+        ≡ joined_status format.mode (status q format first) (status q format later) }
 {}

@@ -7,52 +7,54 @@ pub const VERSION: &str = "pargrep 0.1.0\n";
 pub const HELP: &str = "\
 Usage: pargrep [OPTION ...] [PATTERN] [FILE ...]
 
-Writes the lines of each FILE that match PATTERN, which is the first operand
-where neither -e nor -f is given. FILE - is standard input, which is searched
-also where no FILE is given. Behind -- each word is an operand.
+Print the lines of each FILE that match PATTERN. Without -e and -f the first
+operand is PATTERN. With no FILE, or where FILE is -, read standard input.
+After -- every word is an operand.
 
 Patterns, one on each line:
-  -G, --basic-regexp         basic expressions, as without -E and -F
-  -E, --extended-regexp      extended expressions
-  -F, --fixed-strings        fixed strings
-  -e, --regexp=TEXT          the patterns in TEXT; may be repeated
-  -f, --file=FILE            the patterns in FILE; may be repeated
-  -i, --ignore-case          upper and lower case do not differ
-  -w, --word-regexp          a match is a word
-  -x, --line-regexp          a match is a whole line
-  -v, --invert-match         select the lines without a match
-  -z, --null-data            a NUL ends each line
+  -G, --basic-regexp         patterns are basic regular expressions (default)
+  -E, --extended-regexp      patterns are extended regular expressions
+  -F, --fixed-strings        patterns are fixed strings
+  -e, --regexp=TEXT          use the patterns in TEXT; can be repeated
+  -f, --file=FILE            use the patterns in FILE; can be repeated
+  -i, --ignore-case          ignore the case of letters
+  -w, --word-regexp          match only whole words
+  -x, --line-regexp          match only whole lines
+  -v, --invert-match         select the lines that do not match
+  -z, --null-data            lines end with a NUL, not with a newline
 
 Output:
-  -c, --count                write the number of selected lines of each file
-  -l, --files-with-matches   write the names of files with a selected line
-  -L, --files-without-match  write the names of files without one
-  -q, --quiet, --silent      write nothing; the status tells
-  -o, --only-matching        write the matched parts of selected lines
-  -n, --line-number          write the number of each line before it
-  -H, --with-filename        write the name of the file before each row
-  -h, --no-filename          write no names before rows
-  -Z, --null                 write a NUL behind each name, and no other mark
-  -m, --max-count=N          select at most N lines of each file, at least 1
-  -A, --after-context=N      write the N lines behind each selected line
-  -B, --before-context=N     write the N lines before it, at most 65,535
-  -C, --context=N            both, at most 65,535
-      --line-buffered        send rows on as soon as they are found
+  -c, --count                print the number of selected lines of each file
+  -l, --files-with-matches   print the names of files with a selected line
+  -L, --files-without-match  print the names of files without one
+  -q, --quiet, --silent      print nothing; only the exit status tells
+  -o, --only-matching        print the matching parts of selected lines
+  -n, --line-number          print the number of each line before it
+  -H, --with-filename        print the name of the file before each line
+  -h, --no-filename          never print names of files before lines
+  -Z, --null                 print a NUL after each name of a file
+  -m, --max-count=N          stop after N selected lines of each file
+  -A, --after-context=N      print N lines after each selected line
+  -B, --before-context=N     print N lines before it, at most 65,535
+  -C, --context=N            print N lines before and after, at most 65,535
+      --line-buffered        print lines as soon as they are found
 
 Files:
   -r, --recursive            search the files below each directory
-  -s, --no-messages          tell nothing of files that cannot be searched
+  -s, --no-messages          suppress messages about unreadable files
   -a, --text                 no effect: every file is text
 
-Work, which changes no output:
-      --workers=N            N threads beside the one that reads, 1 to 64
-                             (default 4)
-      --block=N              blocks of N bytes, 1 to 16,777,216 (default 65,536)
-      --round=N              rounds of N blocks, 1 to 1,024 (default 64)
+Performance (never changes the output):
+      --workers=N            search with up to N threads beside the one that
+                             reads, 1 to 64 (default 4)
+      --block=N              cut files into blocks of N bytes, 1 to 16,777,216
+                             (default 65,536)
+      --round=N              search up to N blocks together, 1 to 1,024
+                             (default 64); with 1 all is done by one thread
 
-      --help                 write this text
-  -V, --version              write the version
+      --help                 print this help and exit
+  -V, --version              print the version and exit
 
-The status is 0 where a line was selected, 1 where none was, 2 after a fault.
-A line has at most 1,073,741,824 bytes, and a pattern 4,096.
+The exit status is 0 if a line was selected, 1 if none was, and 2 after an
+error. Lines can have up to 1,073,741,824 bytes, and patterns up to 4,096.
 ";

@@ -1,0 +1,246 @@
+#!/usr/bin/env python3
+"""Times pargrep beside GNU grep and ripgrep: bench/bench.py PROGRAM [--megabytes N] [--rounds N] [--only WORD]
+
+Each program searches the same text in turn, so many rounds, and of each the least wall time counts, and the processor
+time of that run. What pargrep writes has to be what GNU grep writes, byte for byte (in a tree, in the order of lines).
+`one` is pargrep by one thread (`--round 1`, by which each block is searched where it was read), `four` by at most four
+beside the one that reads; ripgrep (`rg`) runs by one thread and by four. Times are in milliseconds, and the last column
+is pargrep's to GNU grep's, by one thread and by four. Nothing of this is in the gate.
+"""
+
+import argparse
+import math
+import os
+import shutil
+import subprocess
+import sys
+import tempfile
+import time
+from dataclasses import dataclass
+from pathlib import Path
+
+import texts
+
+ENVIRONMENT = {"LC_ALL": "C", "PATH": os.environ.get("PATH", os.defpath)}
+RIPGREP = ["--no-config", "--no-unicode", "-a", "-N", "-I"]
+
+# A program that takes longer in its first run isn't run again.
+SLOW = 3.0
+
+
+@dataclass
+class Case:
+    """A search: options, what is searched, and ripgrep's options; None where it has no such search."""
+
+    options: list
+    text: str
+    ripgrep: list | None
+    is_tree: bool = False
+    is_piped: bool = False
+
+    def label(self):
+        shown = " ".join(self.options)
+        return f"{shown} {self.text}" + (", by a pipe" if self.is_piped else "")
+
+
+def ripgrep_of(options):
+    """The same options for ripgrep, whose expressions are extended ones: without -E."""
+    words = [it.replace("E", "") if it.startswith("-") and not it.startswith("--") else it for it in options]
+    return [it for it in words if it != "-"]
+
+
+def split(rows, text):
+    """A case for each line of options, separated by blanks."""
+    for row in rows.split("\n"):
+        if row:
+            options = row.split()
+            yield Case(options, text, ripgrep_of(options))
+
+
+COMMON = """
+-F zzqq
+-F water
+-F the
+-F e
+-nF water
+-cF the
+-FC3 water
+-Fw the
+-Fx of.the.people
+-Fi WATER
+-Fi zzqq
+-Fv the
+-E wat.r
+-cE wat.r
+-oE wat.r
+-vE wat.r
+-wE wat.r
+-iE wat[er]+
+-xE of.*people
+-E zz.*qq
+-E (oil|call)ed?.now
+-E water|people
+-E water|people|number|other|which
+-E [a-z]{9,}
+-E [^aeiou]{6}
+-oE [a-z]{7}
+-cE [wn][aeiou]t
+-cE [a-z]+in[.,:;a]
+-cE ^[a-z]+.[a-z]+.of
+"""
+
+LOG = """
+-cF POST
+-oE id=[0-9]+
+-cE ^10[.][0-9]+[.]1
+-cE [0-9a-f]{8}-[0-9a-f]{4}
+-oE [0-9a-f]{4}-[0-9a-f]{12}
+-cE (GET|HEAD).*404
+"""
+
+LISTS = ("-c", "-ci", "-cw", "-cx", "-o", "-cvx")
+
+
+def cases(folder, megabytes):
+    """All cases. The texts are made before the first case that searches them."""
+    write(folder / "common", texts.common(megabytes))
+    yield from split(COMMON, "common")
+    yield Case(["-E", "[a-z]{9,}"], "common", ["[a-z]{9,}"], is_piped=True)
+    yield Case(["-F", "water"], "common", ["-F", "water"], is_piped=True)
+    words = texts.dictionary()
+    write(folder / "prose", texts.prose(words, 20))
+    for kind in (texts.altered, texts.known):
+        for count in (10, 60, 100, 400, 2000):
+            name = f"{kind.__name__}-{count}"
+            write(folder / name, ("\n".join(kind(words, count)) + "\n").encode())
+            for options in LISTS:
+                words_of = ["-F", options, "-f", name]
+                yield Case(words_of, "prose", words_of)
+    for name, chosen in (("known", texts.known(words, 200)), ("frequent", words[:200]), ("rare", words[-200:])):
+        write(folder / f"expressions-{name}", "".join(f"{word}[0-9]+x\n" for word in chosen).encode())
+        yield Case(["-cE", "-f", f"expressions-{name}"], "prose", ["-c", "-f", f"expressions-{name}"])
+    write(folder / "aab", "".join("a" * (2 + at) + "b\n" for at in range(60)).encode())
+    write(folder / "a", texts.near_misses(5))
+    yield Case(["-F", "-c", "-f", "aab"], "a", ["-F", "-c", "-f", "aab"])
+    yield from split("-cE (a*)*b\n-cE (a|aa)*[bc]\n-oE a{40}", "a")
+    write(folder / "log", texts.log(20))
+    yield from split(LOG, "log")
+    write(folder / "line", texts.one_line())
+    yield from split('-oE "id":[0-9]+\n-cE "id":6[0-9]+99\n-oF 99', "line")
+    write(folder / "binary", texts.binary(64))
+    yield from split("-acE [0-9]{3}-[a-z]+(foo|bar)\n-acE [1-3][7-9][24]5\n-acF linux", "binary")
+    texts.make_tree(folder / "tree")
+    for options in ("-rF", "-rcF", "-rlF"):
+        yield Case([options, "needle"], "tree", [options.replace("r", ""), "needle"], is_tree=True)
+
+
+def write(path, text):
+    path.write_bytes(text)
+
+
+class Bench:
+    """Runs of all programs in a folder."""
+
+    def __init__(self, program, folder, rounds):
+        self.folder, self.rounds = folder, rounds
+        self.programs = {
+            "grep": lambda case: ["grep", *case.options],
+            "rg": lambda case: self.ripgrep(case, 1),
+            "rg4": lambda case: self.ripgrep(case, 4),
+            "one": lambda case: [program, "--round", "1", *case.options],
+            "four": lambda case: [program, "--workers", "4", *case.options],
+        }
+
+    def ripgrep(self, case, jobs):
+        if case.ripgrep is None or not shutil.which("rg"):
+            return None
+        tree = ["-uuu"] if case.is_tree else []
+        return ["rg", *RIPGREP, *tree, "-j", str(jobs), *case.ripgrep]
+
+    def run(self, command, case):
+        """The wall and the processor time of a run, in seconds; its output goes to the file `out`."""
+        out = self.folder / "out"
+        out.unlink(missing_ok=True)
+        with open(out, "wb") as output, open(self.folder / case.text if case.is_piped else os.devnull, "rb") as text:
+            given = subprocess.Popen(["cat"], stdin=text, stdout=subprocess.PIPE) if case.is_piped else None
+            words = [*command, "-"] if case.is_piped else [*command, case.text]
+            before = time.perf_counter()
+            source = given.stdout if given else text
+            run = subprocess.Popen(words, cwd=self.folder, env=ENVIRONMENT, stdin=source, stdout=output)
+            _, status, usage = os.wait4(run.pid, 0)
+            run.returncode = os.waitstatus_to_exitcode(status)
+            took = time.perf_counter() - before
+            if given:
+                given.stdout.close()
+                given.wait()
+        if run.returncode not in (0, 1):
+            sys.exit(f"bench: {' '.join(words)} ended with status {run.returncode}")
+        return took, usage.ru_utime + usage.ru_stime
+
+    def output(self, case):
+        text = (self.folder / "out").read_bytes()
+        return b"".join(sorted(text.splitlines(keepends=True))) if case.is_tree else text
+
+    def times(self, case):
+        """The least wall time of each program and the processor time of that run."""
+        least, wanted = {}, None
+        for number in range(self.rounds):
+            for name, words in self.programs.items():
+                command = words(case)
+                if command is None or number and least[name][0] > SLOW:
+                    continue
+                least[name] = min(least.get(name, (math.inf, 0)), self.run(command, case))
+                if name == "grep" and wanted is None:
+                    wanted = self.output(case)
+                elif name in ("one", "four") and number == 0 and self.output(case) != wanted:
+                    sys.exit(f"bench: {case.label()}: pargrep ({name}) doesn't write what GNU grep writes")
+        return least
+
+
+def load():
+    return Path("/proc/loadavg").read_text().split()[0]
+
+
+def shown(times, name):
+    """A wall time in milliseconds, with the processor time behind it where they differ."""
+    if name not in times:
+        return ""
+    wall, busy = (1000 * it for it in times[name])
+    return f"{wall:.0f}" if busy < 1.25 * wall + 5 else f"{wall:.0f} ({busy:.0f})"
+
+
+def mean(ratios):
+    return math.exp(sum(math.log(it) for it in ratios) / len(ratios)) if ratios else math.nan
+
+
+def main():
+    parser = argparse.ArgumentParser(description="Times pargrep beside GNU grep and ripgrep.")
+    parser.add_argument("program")
+    parser.add_argument("--megabytes", type=int, default=128, help="how long the text of common words is")
+    parser.add_argument("--rounds", type=int, default=5)
+    parser.add_argument("--only", help="the cases in whose line this stands")
+    given = parser.parse_args()
+    program = str(Path(given.program).resolve())
+    ratios = {"one": [], "four": []}
+    print(f"{os.cpu_count()} processors, load {load()} at the start; best of {given.rounds}; milliseconds, and in")
+    print("brackets processor time where it is more.\n")
+    print("| Search | GNU grep | rg, one | rg, four | one | four | ratio |")
+    print("|---|---|---|---|---|---|---|")
+    with tempfile.TemporaryDirectory(prefix="pargrep-bench-") as room:
+        bench = Bench(program, Path(room), given.rounds)
+        for case in cases(Path(room), given.megabytes):
+            if given.only and given.only not in case.label():
+                continue
+            times = bench.times(case)
+            for name, found in ratios.items():
+                found.append(times[name][0] / times["grep"][0])
+            cells = [shown(times, name) for name in ("grep", "rg", "rg4", "one", "four")]
+            ratio = " ".join(f"{found[-1]:.2g}" for found in ratios.values())
+            label = case.label().replace("|", "\\|")
+            print(f"| `{label}` | {' | '.join(cells)} | {ratio} |", flush=True)
+    print(f"\nGeometric mean of {len(ratios['one'])} ratios to GNU grep: one thread {mean(ratios['one']):.2f}, "
+          f"four {mean(ratios['four']):.2f}. Load {load()} at the end.")
+
+
+if __name__ == "__main__":
+    main()

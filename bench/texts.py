@@ -1,0 +1,102 @@
+"""The texts that are searched, and the lists of patterns: made anew each time, by fixed sequences of pseudo-random
+numbers, so that they are the same on each machine."""
+
+import random
+from pathlib import Path
+
+COMMON = (
+    "the of and a to in is you that it he was for on are as with his they at be this have from or one had by word but not "
+    "what all were we when your can said there use an each which she do how their if will up other about out many then "
+    "them these so some her would make like him into time has look two more write go see number no way could people my "
+    "than first water been call who oil its now find long down day did get come made may part"
+).split()
+LETTERS = "etaoinshrdlucmfwypvbgkjqxz"
+MEGABYTE = 1 << 20
+
+
+def common(megabytes):
+    """Lines of three to twelve of the commonest English words; a megabyte of them so many times over."""
+    chance, lines, size = random.Random(1), [], 0
+    while size < MEGABYTE:
+        lines.append(" ".join(chance.choices(COMMON, k=chance.randint(3, 12))))
+        size += len(lines[-1]) + 1
+    return ("\n".join(lines) + "\n").encode() * megabytes
+
+
+def dictionary():
+    """20,000 made-up words of 4 to 10 letters, frequent letters first."""
+    chance, words = random.Random(11), {}
+    while len(words) < 20_000:
+        word = "".join(LETTERS[int(26 * chance.random() * chance.random())] for _ in range(chance.randint(4, 10)))
+        words[word] = None
+    return list(words)
+
+
+def prose(words, megabytes):
+    """Lines of four to thirteen of these words, of which the first ones are frequent."""
+    chance, lines, size, count = random.Random(3), [], 0, len(words)
+    while size < megabytes * MEGABYTE:
+        line = " ".join(words[int(count * chance.random() * chance.random())] for _ in range(chance.randint(4, 13)))
+        lines.append(line)
+        size += len(line) + 1
+    return ("\n".join(lines) + "\n").encode()
+
+
+def altered(words, count):
+    """So many of the words with another last letter, so that each begins in the text and stands nowhere."""
+    return [word[:-1] + "Z" for word in words[:count]]
+
+
+def known(words, count):
+    """So many of the words, frequent and rare ones."""
+    return words[3 :: len(words) // count][:count]
+
+
+def log(megabytes):
+    """Lines of a web server's log, with addresses, methods and identifiers."""
+    chance, lines, size = random.Random(5), [], 0
+    while size < megabytes * MEGABYTE:
+        address = ".".join(str(chance.randint(0, 255)) for _ in range(3))
+        time = f"{chance.randint(0, 23):02}:{chance.randint(0, 59):02}:{chance.randint(0, 59):02}"
+        method = chance.choice(("GET", "POST", "PUT", "DELETE", "HEAD"))
+        digits = f"{chance.getrandbits(128):032x}"
+        uuid = "-".join((digits[:8], digits[8:12], digits[12:16], digits[16:20], digits[20:]))
+        item = f"/item?id={chance.randint(0, 99_999)}"
+        status = 404 if chance.random() < 0.1 else 200
+        line = f'10.{address} - - [25/Nov/2026:{time}] "{method} {item} HTTP/1.1" {status} {uuid}'
+        lines.append(line)
+        size += len(line) + 1
+    return ("\n".join(lines) + "\n").encode()
+
+
+def one_line():
+    """One line of 13 MB, an array of 700,000 objects."""
+    return ("".join(f'{{"id":{number},"n":1}},' for number in range(700_000)) + "\n").encode()
+
+
+def near_misses(megabytes):
+    """Lines of 200 times the letter a."""
+    return (b"a" * 200 + b"\n") * (megabytes * MEGABYTE // 201)
+
+
+def binary(megabytes):
+    """The first megabytes of the programs of this machine, which have bytes of every kind and lines of any length."""
+    parts, size = [], 0
+    for path in sorted(Path("/usr/bin").iterdir()):
+        if size >= megabytes * MEGABYTE:
+            break
+        if path.is_file() and not path.is_symlink():
+            parts.append(path.read_bytes())
+            size += len(parts[-1])
+    return b"".join(parts)[: megabytes * MEGABYTE]
+
+
+def make_tree(folder):
+    """20,000 files of 100 short lines in 200 directories, of which each tenth line holds `needle`."""
+    lines = [f"a needle in line {i}" if i % 10 == 0 else f"some words of a line that is number {i}" for i in range(100)]
+    text = ("\n".join(lines) + "\n").encode()
+    for number in range(200):
+        below = folder / f"d{number}"
+        below.mkdir(parents=True)
+        for file in range(100):
+            (below / f"f{file}").write_bytes(text)
