@@ -12,7 +12,10 @@ INSTALL ?= install
 
 program = crates/pargrep/out/pargrep
 
-.PHONY: all help check rows check-grep check-workers refuse bench bench-parts install uninstall clean toolchain
+.PHONY: all help check rows check-grep check-workers check-parallel refuse bench bench-parts install uninstall dist deb \
+	clean toolchain
+
+version := $(shell sed -n 's/^pub const VERSION: .*"pargrep \([0-9.]*\).*/\1/p' crates/pg_words/src/help.rt)
 
 all: toolchain ## Prove the program and the crates that it uses, and build it.
 	@$(PYTHON) tools/build.py $(RT)
@@ -35,6 +38,9 @@ check-grep: ## Ask the machine's own grep the same command lines.
 
 check-workers: all ## Compare outputs by 1, 2, 3, 4 and 64 workers, over 20,000 files and over 256 MB.
 	@$(PYTHON) tests/check_workers.py
+
+check-parallel: all ## Compare one run with shares of its files, joined by GNU parallel; it says what it needs.
+	@$(PYTHON) tests/check_parallel.py
 
 # Run it before a change to a function that one of them turns. `make refuse edits="pg_seq pg_lines/long-line-taken"`
 # tries some.
@@ -64,12 +70,20 @@ install: ## Install what `make` has built, with its man page and completions. It
 	@echo "pargrep: installed $(DESTDIR)$(bindir)/pargrep, its man page and completions"
 	@case ":$$PATH:" in *":$(bindir):"*) ;; *) echo "pargrep: $(bindir) is not on your PATH yet" ;; esac
 
+dist: ## Make dist/pargrep-VERSION.tar.gz of what is committed.
+	@mkdir -p dist
+	@git archive --format=tar --prefix=pargrep-$(version)/ HEAD | gzip -9n > dist/pargrep-$(version).tar.gz
+	@echo "pargrep: made dist/pargrep-$(version).tar.gz"
+
+deb: all ## Make a Debian package of what was built, in dist.
+	@tools/make_deb.sh $(version) dist
+
 uninstall: ## Remove what was installed.
 	rm -f "$(DESTDIR)$(bindir)/pargrep" "$(DESTDIR)$(mandir)/man1/pargrep.1"
 	rm -f "$(DESTDIR)$(bashdir)/pargrep" "$(DESTDIR)$(zshdir)/_pargrep" "$(DESTDIR)$(fishdir)/pargrep.fish"
 
 clean: ## Remove what was built and kept.
-	rm -rf crates/*/out
+	rm -rf crates/*/out dist
 
 toolchain:
 	@command -v $(RT) >/dev/null 2>&1 || { echo "pargrep: the Rattle toolchain is missing: put its command rt on PATH, or run make RT=/path/to/rt" >&2; exit 1; }
