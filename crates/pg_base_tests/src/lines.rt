@@ -252,6 +252,35 @@ fn queries_are_compared_by_content(rt: HostRuntime) {
     assert_rows(&rt, rt.alloc(), Question::SameQueries, QUERIES);
 }
 
+/// Queries by their letters and patterns, bytes, and whether a line of these may have a hit.
+const MAY: [(&'static str, &'static [u8], &'static [u8], bool); 12] = [
+    ("E", b"foo|bar[0-9]", b"x\nfo\nBAR1\n", false),
+    ("E", b"foo|bar[0-9]", b"x\nabar\n", true),
+    ("Eo", b"foo|bar[0-9]", b"afoob", true),
+    ("Eiv", b"foo|bar[0-9]", b"fo\nba", false),
+    ("Eiv", b"foo|bar[0-9]", b"fo\nBARx", true),
+    ("E", b"[0-9]", b"x\n", true),
+    ("E", b"[0-9]", b"", false),
+    ("Ei", b"x*", b"y", true),
+    ("Ff", NINE, b"x\nd\nBc\nd8", false),
+    ("Ff", NINE, b"x\nd\nabc\nd8", true),
+    ("Ffi", NINE, b"X\nBC", true),
+    ("Ffi", NINE, b"X\nB\nC", false),
+];
+
+/// Nine strings, which are too many to be looked for one by one.
+const NINE: &'static [u8] = b"bb\nbc\nd1\nd2\nd3\nd4\nd5\nd6\nd7\n";
+
+#[test]
+fn bytes_that_may_have_a_hit(rt: HostRuntime) {
+    for (letters, pattern, bytes, want) in MAY {
+        assert!(rt; are_letters(letters), "letters of kinds and options");
+        let query = query_of(&rt, rt.alloc(), letters, pattern);
+        let searched: &Query = &query;
+        assert!(rt; searched.may(rt.alloc(), bytes) == Ok(want), "{letters}");
+    }
+}
+
 /// A fault of the third pattern.
 const FAULT: ListFault = ListFault {
     pattern: 3,

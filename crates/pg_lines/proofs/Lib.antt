@@ -18,6 +18,7 @@ pub mod LiteralLemmas
 pub mod LineLaws
 pub mod LineLemmas
 pub mod LongLemmas
+pub mod MayLemmas
 pub mod NeedleLemmas
 pub mod NeedleSetLemmas
 pub mod SoughtLemmas

@@ -7,6 +7,7 @@ mod cutter;
 mod laws;
 mod lines;
 mod literal_set;
+mod may;
 mod needle;
 mod needle_set;
 mod needles;
