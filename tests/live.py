@@ -6,14 +6,20 @@ that keeps rows back, or waits for more input than it needs, stands still. The i
 an operand, or by a terminal, on which the rows and the faults come too. Each case of CASES is run by each of its ways,
 with 1 and with 4 workers. No time is measured: what doesn't come within LIMIT seconds is missing.
 
+The cases of STOPPED are run once more, and each program is stopped before each line is sent and goes on behind it. On a
+terminal of its own, with a shell's job control, a search is stopped by Ctrl-Z, goes on by `fg`, and is ended by Ctrl-C:
+no row is lost, and none comes twice.
+
 The program may be GNU grep, which is given `--line-buffered` and no workers. The last line is `N passed, M failed`.
 """
 
 import errno
+import fcntl
 import os
 import pty
 import select
 import shlex
+import signal
 import subprocess
 import sys
 import tempfile
@@ -90,6 +96,9 @@ CASES = [
         ways=(TERMINAL,),
     ),
 ]
+
+# Those that are run once more while each program is stopped and goes on.
+STOPPED = [case for case in CASES if case.words in ("x IN", "-n -C 1 x IN", "-c x IN", "-n x IN | -v y | -o [0-9]:x")]
 
 
 class Missing(Exception):
@@ -264,11 +273,38 @@ def start(commands, folder, way):
     return runs
 
 
-def talk(case, way, output):
+def is_stopped(run):
+    """Whether the system tells that a process stands still."""
+    with open(f"/proc/{run.pid}/stat", encoding="ascii", errors="replace") as status:
+        return status.read().rpartition(")")[2].split()[0] == "T"
+
+
+def stop(runs):
+    """Stops processes, and waits until they stand still."""
+    for run in runs:
+        run.send_signal(signal.SIGSTOP)
+    deadline = time.monotonic() + LIMIT
+    while not all(is_stopped(run) for run in runs):
+        if time.monotonic() > deadline:
+            raise Missing("a process didn't stop")
+        time.sleep(0.001)
+
+
+def send(line, way, stopped):
+    """Sends a line; the processes that are to be stopped stand still meanwhile."""
+    if stopped and isinstance(way, Fifo):
+        way.open()
+    stop(stopped)
+    way.send(line.encode("ascii") + b"\n")
+    for run in stopped:
+        run.send_signal(signal.SIGCONT)
+
+
+def talk(case, way, output, stopped):
     """Sends what is to be sent, and waits for the rows. The input stays open where the program ends by itself."""
     for line, *rows in case.steps:
         if line is not None:
-            way.send(line.encode("ascii") + b"\n")
+            send(line, way, stopped)
         for row in rows:
             output.expect(row.replace("IN", way.name))
     if case.ends:
@@ -280,12 +316,12 @@ def talk(case, way, output):
         output.expect(row.replace("IN", way.name))
 
 
-def fault_of(case, program, folder, way):
+def fault_of(case, program, folder, way, are_stopped=False):
     """What is not as it has to be."""
     runs = start([[*program, *words_of(command, way)] for command in case.words.split(" | ")], folder, way)
     try:
         output = Output(way.source)
-        talk(case, way, output)
+        talk(case, way, output, runs if are_stopped else [])
         statuses = [run.wait(LIMIT) for run in runs]
         output.expect_end()
         if way.fault_source is not None:
@@ -300,6 +336,60 @@ def fault_of(case, program, folder, way):
             run.wait()
         way.end()
     return None if statuses[-1] == case.status else f"status {statuses[-1]} in place of {case.status}"
+
+
+class Shell:
+    """An interactive shell on a terminal of its own, by whose keys its jobs are stopped and ended."""
+
+    def __init__(self):
+        self.keys, terminal = pty.openpty()
+        words = ["bash", "--norc", "--noprofile", "--noediting", "-i"]
+        streams = {"stdin": terminal, "stdout": terminal, "stderr": terminal}
+        take = lambda: fcntl.ioctl(0, termios.TIOCSCTTY, 0)  # noqa: E731
+        self.run = subprocess.Popen(words, env=ENVIRONMENT, start_new_session=True, preexec_fn=take, **streams)
+        os.close(terminal)
+        self.output, self.lines = Output(self.keys), []
+        self.type("PS1= PS2=; stty -echo -opost; echo rea''dy\n")
+        self.wait_for("ready")
+
+    def type(self, text):
+        os.write(self.keys, text.encode("ascii"))
+
+    def wait_for(self, word):
+        """Waits for a line with a word, and keeps all lines up to it."""
+        while not self.lines or word not in self.lines[-1]:
+            line = self.output.line()
+            if line is None:
+                raise Missing(f"the shell ended before {word!r} came")
+            self.lines.append(line.strip("\r"))
+        self.lines.append("")
+
+    def end(self):
+        self.run.kill()
+        self.run.wait()
+        os.close(self.keys)
+
+
+def fault_of_keys(program):
+    """What is not as it has to be where a search is stopped by Ctrl-Z, goes on by `fg`, and is ended by Ctrl-C."""
+    shell = Shell()
+    try:
+        shell.type(shlex.join([*program, "x"]) + "\n")
+        for typed, wanted in (
+            ("ax1\n", "ax1"), ("\x1a", "Stopped"), ("fg\n", program[0]), ("none\nax2\n", "ax2"), ("\x1a", "Stopped"),
+            ("fg\n", program[0]), ("ax3\n", "ax3"), ("\x03", ""), ("echo status $?\n", "status"),
+        ):
+            shell.type(typed)
+            if wanted:
+                shell.wait_for(wanted)
+    except Missing as missing:
+        return str(missing)
+    finally:
+        shell.end()
+    rows = [line for line in shell.lines if line in ("ax1", "none", "ax2", "ax3")]
+    if rows != ["ax1", "ax2", "ax3"]:
+        return f"the rows were {rows}"
+    return None if "status 130" in shell.lines else f"it wasn't ended by the signal: {shell.lines[-3:]}"
 
 
 def options_of(program):
@@ -320,12 +410,19 @@ def main():
         for file, text in FILES.items():
             (folder / file).write_text(text)
         for options in options_of(program):
-            for case in CASES:
-                for kind in case.ways:
-                    fault = fault_of(case, [program, *options], folder, WAYS[kind](folder))
-                    passed, failed = passed + (not fault), failed + bool(fault)
-                    if fault:
-                        print(f"{' '.join(options)} {case.words}, by {kind}: {fault}", flush=True)
+            runs = [(case, kind, False) for case in CASES for kind in case.ways]
+            runs += [(case, kind, True) for case in STOPPED for kind in case.ways]
+            found = {
+                f"{case.words}, by {kind}{', stopped' if stopped else ''}":
+                    fault_of(case, [program, *options], folder, WAYS[kind](folder), stopped)
+                for case, kind, stopped in runs
+            }
+            found["Ctrl-Z, fg and Ctrl-C"] = fault_of_keys([program, *options])
+            passed, failed = passed + len(found), failed + sum(fault is not None for fault in found.values())
+            for what, fault in found.items():
+                if fault:
+                    print(f"{' '.join(options)} {what}: {fault}", flush=True)
+    passed -= failed
     print(f"{passed} passed, {failed} failed")
     return 1 if failed else 0
 
