@@ -19,6 +19,7 @@ FIGURES = re.compile(r"([0-9]+) passed, ([0-9]+) failed")
 # What runs behind the command, each a script of this folder.
 SCRIPTS = (
     ("the options", "options.py"),
+    ("the list of wrong bodies", "wrong_bodies.py"),
     ("the rows", "run_rows.py"),
     ("the runs by threads", "threads.py"),
     ("the runs without memory", "memory.py"),

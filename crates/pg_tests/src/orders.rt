@@ -105,7 +105,7 @@ fn drains_to(sequencer: &mut Sequencer, sink: &mut MemSink, blocks: usize) -> bo
 }
 
 /// Whether results that arrive in an order are taken, and behind each a drain writes the rows of the blocks at the
-/// front.
+/// front; and whether a result is a double where its block's rows were written.
 fn arrive_in(
     alloc: Global,
     query: &Arc<Query>,
@@ -121,8 +121,8 @@ fn arrive_in(
         right &= !sequencer.complete();
         right &= is_taken_once(alloc, &mut sequencer, query, other, *digit)?;
         right &= drains_to(&mut sequencer, &mut sink, front(&order[..=at]));
-        right &= is_answered(alloc, &mut sequencer, query, *digit, Arrival::Double)?;
     }
+    right &= is_answered(alloc, &mut sequencer, query, b'0', Arrival::Double)?;
     Ok(right && sequencer.complete() && sequencer.status() == Some(0))
 }
 
