@@ -22,9 +22,10 @@ ENVIRONMENT = {**os.environ, "LC_ALL": "C", "HOME": os.environ.get("HOME", "/roo
 FILES = 2_000
 LIMIT = 300
 
-# Options and pattern of each search. Where context is asked for, outputs that both have rows are joined by hyphens.
+# Options and pattern of each search. Where context is asked for, outputs that both have rows are joined by hyphens. The
+# first pattern stands in a file, for GNU parallel would replace its braces.
 SEARCHES = (
-    (["-n", "-H", "-E", "[aeiou]{3}"], False),
+    (["-n", "-H", "-E", "-f", "expressions"], False),
     (["-c", "-H", "water"], False),
     (["-l", "needle"], False),
     (["-o", "-H", "-E", "need[a-z]+"], False),
@@ -47,6 +48,7 @@ def make(folder):
             lines[number % 60] = "a needle here"
         path.write_text("\n".join(lines) + "\n")
     names = sorted(str(path.relative_to(folder)) for path in (folder / "tree").rglob("f*"))
+    (folder / "expressions").write_text("[aeiou]{3}\n")
     (folder / "names").write_text("\n".join(names) + "\n")
     return names
 

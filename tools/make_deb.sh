@@ -7,7 +7,7 @@ cd "$(dirname "$0")/.."
 version=${1:?usage: tools/make_deb.sh VERSION FOLDER}
 folder=$(mkdir -p "${2:?usage: tools/make_deb.sh VERSION FOLDER}" && cd "$2" && pwd)
 program=crates/pargrep/out/pargrep
-maintainer=${DEB_MAINTAINER:-Pargrep developers <pargrep@localhost.localdomain>}
+maintainer=${DEB_MAINTAINER:-Pargrep developers <developers@pargrep.example>}
 changed=$(git log -1 --format=%ct 2>/dev/null || stat -c %Y CHANGELOG.md)
 SOURCE_DATE_EPOCH=$changed
 export SOURCE_DATE_EPOCH
@@ -16,6 +16,7 @@ test -x "$program" || { echo "pargrep: there is no $program yet: run make first"
 command -v dpkg-deb >/dev/null 2>&1 || { echo "pargrep: dpkg-deb is missing: it comes with dpkg" >&2; exit 1; }
 umask 022
 root=$(mktemp -d)
+chmod 755 "$root"
 trap 'rm -rf "$root"' EXIT
 documents=$root/usr/share/doc/pargrep
 
@@ -24,7 +25,7 @@ strip --strip-all --remove-section=.comment --remove-section=.note "$root/usr/bi
 mkdir -p "$documents" "$root/DEBIAN"
 gzip -9n "$root/usr/share/man/man1/pargrep.1"
 cp README.md "$documents/"
-for document in ARCHITECTURE DECISIONS GLOSSARY PERFORMANCE PROOFS; do
+for document in ARCHITECTURE DECISIONS EDITORS GLOSSARY MANY-MACHINES PERFORMANCE PROOFS WRONG-BODIES; do
   gzip -9nc "docs/$document.md" >"$documents/$document.md.gz"
 done
 cat LICENSE-MIT - <<TEXT >"$documents/copyright"
@@ -50,10 +51,10 @@ Depends: libc6 (>= 2.34)
 Section: utils
 Priority: optional
 Description: grep whose output is proved, by several threads
- Prints the lines of files that match a POSIX basic or extended expression or a
- fixed string, with the options of GNU grep that scripts use. What it prints, its
- messages and its status are proved to be those that the definitions of grep give,
- for any number of threads, and no search takes more than linear time.
+ Prints the lines of files that match a POSIX basic or extended expression or
+ a fixed string, with the options of GNU grep that scripts use. Its output, its
+ messages and its status are proved to be those that the definitions of grep
+ give, for any number of threads, and no search takes more than linear time.
 TEXT
 (cd "$root" && find usr -type f | LC_ALL=C sort | xargs md5sum) >"$root/DEBIAN/md5sums"
 find "$root" -depth -exec touch -h -d "@$changed" {} +
