@@ -11,7 +11,7 @@ use Rattle.std.proofs.lemmas.List.{get_or-drop, get_or-map, get_or_default}
 use Rattle.std.proofs.lemmas.List.Elements.{All-weaker, All-contains}
 use Rattle.memchr.specs.Find.{OccursAt, FindsNeedle}
 use Rattle.pg_literal.specs.Literals.{as_searched}
-use Rattle.pg_literal.specs.Known.{byte_as_searched}
+use Rattle.pg_literal.specs.Rows.{byte_as_searched}
 use Rattle.pg_literal.proofs.FoldLemmas.{length_searched, searched_append}
 use Rattle.pg_lines.specs.Lines.{lines, IsLine, AreWhole, IsClear, Stops}
 use Rattle.pg_lines.specs.Literals.{LiteralData, AreLiterals}

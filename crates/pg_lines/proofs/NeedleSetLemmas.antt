@@ -8,7 +8,7 @@ use Rattle.std.proofs.lemmas.List.{length-map, get_or-map}
 use Rattle.std.proofs.lemmas.List.Elements.{All-contains, All-map}
 use Rattle.memchr.specs.Find.{OccursAt, Nowhere, NoneBefore as IsFirstOf}
 use Rattle.pg_literal.specs.Literals.{as_searched, Holds}
-use Rattle.pg_literal.specs.Known.{byte_as_searched}
+use Rattle.pg_literal.specs.Rows.{byte_as_searched}
 use Rattle.pg_literal.proofs.FoldLemmas.{length_searched}
 use Rattle.pg_strings.specs.Sets.{SomeStands}
 use Rattle.pg_lines.specs.Lines.{lines, IsLine, AreWhole, IsClear, Stops}

@@ -9,7 +9,7 @@ use Rattle.std.proofs.lemmas.List.{append-nil, take_at, drop_more, drop-drop, dr
 use Rattle.std.proofs.lemmas.List.Prefix.{at_reads}
 use Rattle.memchr.specs.Find.{OccursAt, Nowhere}
 use Rattle.pg_literal.specs.Literals.{as_searched, Holds}
-use Rattle.pg_literal.specs.Known.{byte_as_searched}
+use Rattle.pg_literal.specs.Rows.{byte_as_searched}
 use Rattle.pg_literal.proofs.FoldLemmas.{length_searched, searched_append}
 use Rattle.pg_lines.specs.Lines.{lines, IsLine, AreWhole, AreShort, IsClear, Stops, terminated}
 use Rattle.pg_lines.specs.Search.{Search, terminator}

@@ -15,8 +15,8 @@ use Rattle.pg_match.specs.Matches.{Match}
 use Rattle.pg_match.specs.Bounds.{is_word_byte, MayBegin, MayEnd}
 use Rattle.pg_match.specs.Hits.{Matched, Hit, IsNext}
 use Rattle.pg_literal.specs.Literals.{as_searched}
-use Rattle.pg_literal.specs.Known.{byte_as_searched, IsAlone}
-use Rattle.pg_literal.proofs.KnownLemmas.{occurs_nothing, occurs_more, occurs_first}
+use Rattle.pg_literal.specs.Rows.{byte_as_searched, IsAlone}
+use Rattle.pg_literal.proofs.RowLemmas.{occurs_nothing, occurs_more, occurs_first}
 use Rattle.pg_literal.proofs.FoldLemmas.{length_searched, searched_append, searched_nothing, searched_one}
 use Rattle.pg_literal.proofs.FoldLemmas.{searched_byte, byte_of_searched, folded_alone}
 use Rattle.pg_lines.specs.Search.{SearchText, Pattern, Kind, Bounds, Any, Word, Whole, Fixed, AreTreesOf, patterns}

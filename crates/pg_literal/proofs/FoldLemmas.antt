@@ -12,7 +12,7 @@ use Rattle.pg_bytes.specs.ByteSets.{bytes}
 use Rattle.pg_bytes.specs.Sets.{Bytes, one, closed, lower_case}
 use Rattle.pg_syntax.specs.Patterns.{folded}
 use Rattle.pg_literal.specs.Literals.{as_searched}
-use Rattle.pg_literal.specs.Known.{byte_as_searched, IsAlone}
+use Rattle.pg_literal.specs.Rows.{byte_as_searched, IsAlone}
 
 -- no byte is gained or lost
 pub length_searched : (fold : Bool) (line : List ℕ) → length (as_searched fold line) ≡ length line

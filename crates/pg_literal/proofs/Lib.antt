@@ -1,3 +1,4 @@
 pub mod FoldLemmas
 pub mod KnownLemmas
 pub mod LiteralLemmas
+pub mod RowLemmas

@@ -1,3 +1,4 @@
 pub mod Literals
+pub mod Rows
 pub mod Known
 pub mod Added

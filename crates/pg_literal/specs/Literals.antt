@@ -1,10 +1,10 @@
 -- What texts tell of the lines that some patterns match.
-use Rattle.std.specs.Prelude.{◌≡◌, ℕ, Bool, List, map, IsTrue, if◌then◌else◌}
+use Rattle.std.specs.Prelude.{◌≡◌, ◌<◌, ℕ, Bool, List, map, IsTrue, if◌then◌else◌}
 use Rattle.std.specs.List.{All, Any}
 use Rattle.memchr.specs.Find.{OccursAt}
 use Rattle.pg_bytes.specs.Sets.{lower_case}
 use Rattle.pg_syntax.specs.Patterns.{Pattern}
-use Rattle.pg_match.specs.Hits.{HasHit}
+use Rattle.pg_match.specs.Hits.{HasHit, Hit}
 use Rattle.pg_match.specs.declared.bounds.Bounds.{Bounds}
 use Rattle.pg_literal.specs.declared.literal.Literal.{Literal}
 
@@ -20,6 +20,12 @@ Holds fold line text = (place : ℕ) × OccursAt (as_searched fold line) text pl
 abbrev pub AreNeeded : {A : Type 0} → Bool → List Pattern → Bounds → List (Literal A) → Type 0
 AreNeeded fold patterns bounds literals =
     (line : List ℕ) → HasHit patterns bounds line → Any (λ literal. Holds fold line literal.text.items) literals
+
+-- no hit is empty, and each begins with one of the texts
+abbrev pub AreHeads : {A : Type 0} → Bool → List Pattern → Bounds → List (Literal A) → Type 0
+AreHeads fold patterns bounds literals =
+    (line : List ℕ) (i j : ℕ) → Hit patterns bounds line i j
+    → (i < j) × Any (λ literal. OccursAt (as_searched fold line) literal.text.items i) literals
 
 -- each line that holds the text has a hit
 abbrev pub IsEnough : Bool → List Pattern → Bounds → List ℕ → Type 0

@@ -1,28 +1,45 @@
 //! What is known of the matches of trees in a row.
-ghost use Rattle.std.specs.Prelude.{◌≡◌, ◌⊎◌, ◌++◌, ℕ, Bool, [], ◌∷◌, true, false, IsTrue, IfOk, MatchOption, length};
+ghost use Rattle.std.specs.Prelude.{◌≡◌, ℕ, Bool, List, [], ◌∷◌, map, reverse, IsTrue, IfOk, IfSome, IsSomeAnd};
 ghost use Rattle.pg_bytes.specs.ByteSets.{bytes};
-ghost use Rattle.pg_syntax.specs.Patterns.{Pattern, Begin, End, Set};
+ghost use Rattle.pg_syntax.specs.Patterns.{Begin, End, Set};
 ghost use Rattle.pg_syntax.specs.Trees.{pattern};
-ghost use Rattle.pg_literal.specs.Known.{byte_as_searched, IsAlone, IsNothing, Extends, Hides};
-ghost use Rattle.pg_literal.specs.Known.{HidesOthers, MatchesEmpty};
+ghost use Rattle.pg_literal.specs.Literals.{as_searched};
+ghost use Rattle.pg_literal.specs.Rows.{AreProduct};
+ghost use Rattle.pg_literal.specs.Known.{head_of, sets_of, IsNothing, Extends, Hides, HidesOthers, MatchesEmpty, IsChosen};
 
+use crate::row::{Expansion, Window, only_text, widest};
 use pg_bytes::ByteSet;
+use pg_match::Bounds;
 use pg_syntax::Tree;
 use std::alloc::{AllocError, Allocator};
 
 /// What is known of the matches of some trees in a row.
 ///
-/// Both texts lie backwards: trees are read from right to left, so that each byte found is pushed.
+/// Both rows lie backwards: trees are read from right to left, so that each set found is pushed.
 #[derive(Drop)]
 pub(crate) struct Known<A: Allocator> {
-    /// The text that each match begins with.
-    pub head: Vec<u8, A>,
-    /// Another text that each match holds: the longest one found further right.
-    pub best: Vec<u8, A>,
+    /// Each match begins with a byte of each of these sets, one behind the other.
+    pub head: Vec<ByteSet, A>,
+    /// Bytes of these sets stand so in each match: the row with the widest part found further right.
+    pub best: Vec<ByteSet, A>,
+    /// How many sets that part has.
+    pub best_width: usize,
     /// Wherever the head stands, a match begins.
     pub is_sure: bool,
-    /// Wherever the other text stands, a match begins.
+    /// Wherever the other row stands, a match begins.
     pub is_best_sure: bool,
+}
+
+/// A part of a row, to be multiplied out into texts.
+#[derive(Drop)]
+pub(crate) struct Chosen<A: Allocator> {
+    /// The whole row, backwards.
+    pub row: Vec<ByteSet, A>,
+    pub window: Window,
+    /// Wherever the part stands, a match begins that counts.
+    pub is_enough: bool,
+    /// Each match begins with the part, which isn't empty.
+    pub is_head: bool,
 }
 
 impl<A: Allocator + Copy> Known<A> {
@@ -33,24 +50,22 @@ impl<A: Allocator + Copy> Known<A> {
         Known {
             head: Vec::new(alloc),
             best: Vec::new(alloc),
+            best_width: 0,
             is_sure: true,
             is_best_sure: false,
         }
     }
 
-    /// With a byte in front.
-    fn with_byte(mut self, byte: u8) -> Result<Known<A>, AllocError>
-        ensures head { IfOk result (λ known. known.head.items ≡ self.head.items ++ byte ∷ []) }
-        ensures best { IfOk result (λ known. known.best.items ≡ self.best.items) }
-        ensures is_sure { IfOk result (λ known. known.is_sure ≡ self.is_sure) }
-        ensures is_best_sure { IfOk result (λ known. known.is_best_sure ≡ false) }
+    /// With a byte of a set in front.
+    fn with_set(mut self, set: &ByteSet) -> Result<Known<A>, AllocError>
+        ensures { (fold : Bool) → IfOk result (Extends fold (Set (bytes set.now)) self) }
     {
-        self.head.push(byte)?;
+        self.head.push(*set)?;
         self.is_best_sure = false;
         Ok(self)
     }
 
-    /// With an anchor in front. Both texts also stand where none holds.
+    /// With an anchor in front. Both rows also stand where none holds.
     fn with_anchor(mut self) -> Known<A>
         ensures begin { (fold : Bool) → Extends fold Begin self result }
         ensures end { (fold : Bool) → Extends fold End self result }
@@ -62,14 +77,16 @@ impl<A: Allocator + Copy> Known<A> {
 
     /// With something in front of which nothing is known, unless that it is optional: it matches the empty string
     /// everywhere.
-    fn hidden(self, alloc: A, is_optional: bool) -> Known<A>
+    fn hidden(self, alloc: A, expansion: Expansion, is_optional: bool) -> Known<A>
         ensures { Hides is_optional self result }
     {
         let is_sure = is_optional && self.is_sure && self.head.is_empty();
-        if self.head.len() < self.best.len() {
+        let width = widest(&self.head, expansion).len();
+        if width < self.best_width {
             Known {
                 head: Vec::new(alloc),
                 best: self.best,
+                best_width: self.best_width,
                 is_sure,
                 is_best_sure: is_optional && self.is_best_sure,
             }
@@ -77,6 +94,7 @@ impl<A: Allocator + Copy> Known<A> {
             Known {
                 head: Vec::new(alloc),
                 best: self.head,
+                best_width: width,
                 is_sure,
                 is_best_sure: is_optional && self.is_sure,
             }
@@ -84,76 +102,76 @@ impl<A: Allocator + Copy> Known<A> {
     }
 
     /// With all rounds of a repetition in front but its first one.
-    fn with_other_rounds(self, alloc: A, least: u8, most: Option<u8>) -> Known<A>
+    fn with_other_rounds(
+        self,
+        alloc: A,
+        expansion: Expansion,
+        least: u8,
+        most: Option<u8>,
+    ) -> Known<A>
         ensures { HidesOthers least most self result }
     {
         if least == 1 && most == Some(1) {
             self
         } else {
-            self.hidden(alloc, least == 1 && most != Some(0))
+            self.hidden(alloc, expansion, least == 1 && most != Some(0))
         }
     }
 
-    /// With a byte of the set in front.
-    fn with_set(self, alloc: A, set: &ByteSet, fold: bool) -> Result<Known<A>, AllocError>
-        ensures { IfOk result (Extends fold (Set (bytes set.now)) self) }
+    /// The text that each match is, backwards, where there is but one, as for a fixed string.
+    pub fn only_text(&self, alloc: A, fold: bool) -> Result<Option<Vec<u8, A>>, AllocError>
+        ensures sure { IfOk result (λ found. IfSome found (λ _. IsTrue self.now.is_sure)) }
+        ensures product { IfOk result (λ found. IfSome found
+            (λ text. AreProduct fold (head_of self.now) (reverse text.items ∷ []))) }
+        ensures fixed { (text : List ℕ) → map bytes self.now.head.items ≡ sets_of fold text
+            → IsTrue self.now.is_sure → self.now.best.items ≡ []
+            → IfOk result (λ found. IsSomeAnd found (λ only. only.items ≡ as_searched fold text)) }
     {
-        match only_byte(set, fold) {
-            Some(byte) => {
-                let known = self.with_byte(byte)?;
-                Ok(known)
+        if !self.is_sure || !self.best.is_empty() {
+            return Ok(None);
+        }
+        let text = only_text(alloc, &self.head, fold)?;
+        Ok(text)
+    }
+
+    /// The part of a row that serves best: a whole row that is sure, else the wider one of the widest parts of both.
+    pub fn chosen(self, bounds: Bounds, expansion: Expansion) -> Chosen<A>
+        ensures { IsChosen bounds self result }
+    {
+        let is_any = bounds == Bounds::Any;
+        let head = widest(&self.head, expansion);
+        let best = widest(&self.best, expansion);
+        let is_head = head.start < head.stop && head.stop == self.head.len();
+        if is_any && self.is_sure && head.len() == self.head.len() {
+            Chosen {
+                row: self.head,
+                window: head,
+                is_enough: true,
+                is_head,
             }
-            None => Ok(self.hidden(alloc, false)),
+        } else if is_any && self.is_best_sure && best.len() == self.best.len() {
+            Chosen {
+                row: self.best,
+                window: best,
+                is_enough: true,
+                is_head: false,
+            }
+        } else if best.len() <= head.len() {
+            Chosen {
+                row: self.head,
+                window: head,
+                is_enough: false,
+                is_head,
+            }
+        } else {
+            Chosen {
+                row: self.best,
+                window: best,
+                is_enough: false,
+                is_head: false,
+            }
         }
     }
-}
-
-/// The longer of two texts.
-pub(crate) fn longer<A: Allocator>(first: Vec<u8, A>, second: Vec<u8, A>) -> Vec<u8, A>
-    ensures either { (result ≡ first) ⊎ (result ≡ second) }
-    ensures first { length second.items ≡ 0 → result ≡ first }
-{
-    if first.len() < second.len() {
-        second
-    } else {
-        first
-    }
-}
-
-/// A byte as it is searched for: with `fold` letters are searched for in lower case.
-fn as_searched(byte: u8, fold: bool) -> u8
-    ensures { result ≡ byte_as_searched fold byte }
-{
-    if fold {
-        byte.to_ascii_lowercase()
-    } else {
-        byte
-    }
-}
-
-/// The least byte of a set.
-fn first_byte(set: &ByteSet) -> Option<u8>
-    ensures { MatchOption result ((b : ℕ) → bytes set.now b ≡ true → ⊥) (λ b. bytes set.now b ≡ true) }
-{
-    for byte in 0..=u8::MAX {
-        if set.contains(byte) {
-            return Some(byte);
-        }
-    }
-    None
-}
-
-/// The byte that those of a set are searched for as, where the set has all that are searched for as that byte.
-fn only_byte(set: &ByteSet, fold: bool) -> Option<u8>
-    ensures { MatchOption result ((b : ℕ) → IsAlone fold (bytes set.now) b → ⊥) (IsAlone fold (bytes set.now)) }
-{
-    let byte = as_searched(first_byte(set)?, fold);
-    for other in 0..=u8::MAX {
-        if set.contains(other) != (as_searched(other, fold) == byte) {
-            return None;
-        }
-    }
-    Some(byte)
 }
 
 /// Whether a tree is known to match the empty string everywhere. Where an anchor stands, that isn't known.
@@ -190,34 +208,34 @@ fn matches_empty<A: Allocator>(tree: &Tree<A>) -> bool
 pub(crate) fn with_tree<A: Allocator + Copy>(
     alloc: A,
     tree: &Tree<A>,
-    fold: bool,
+    expansion: Expansion,
     mut known: Known<A>,
 ) -> Result<Known<A>, AllocError>
-    ensures { IfOk result (Extends fold (pattern tree.now) known) }
+    ensures { (fold : Bool) → IfOk result (Extends fold (pattern tree.now) known) }
 {
     let mut tree = tree;
     loop {
         match tree {
             Tree::Empty => return Ok(known),
             Tree::Set(set) => {
-                let known = known.with_set(alloc, set, fold)?;
+                let known = known.with_set(set)?;
                 return Ok(known);
             }
             Tree::Begin | Tree::End => return Ok(known.with_anchor()),
             Tree::Cat(first, second) => {
-                known = with_tree(alloc, second, fold, known)?;
+                known = with_tree(alloc, second, expansion, known)?;
                 tree = first;
             }
             Tree::Alt(_, _) => {
                 let is_optional = matches_empty(tree);
-                return Ok(known.hidden(alloc, is_optional));
+                return Ok(known.hidden(alloc, expansion, is_optional));
             }
             Tree::Rep(inner, least, most) => {
                 if *least == 0 {
-                    return Ok(known.hidden(alloc, true));
+                    return Ok(known.hidden(alloc, expansion, true));
                 }
                 // Each match begins with a first round, so the walk goes on in that one.
-                known = known.with_other_rounds(alloc, *least, *most);
+                known = known.with_other_rounds(alloc, expansion, *least, *most);
                 tree = inner;
             }
         }

@@ -7,5 +7,6 @@
 
 mod known;
 mod literal;
+mod row;
 
 pub use literal::Literal;

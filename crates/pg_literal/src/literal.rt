@@ -1,18 +1,30 @@
 //! The texts of which each line with a hit holds one.
-ghost use Rattle.std.specs.Prelude.{◌≡◌, ◌⊎◌, ◌<◌, ◌≤◌, ℕ, List, [], length, map, reverse, true, IsTrue, IfOk, IfSome};
-ghost use Rattle.std.specs.Prelude.{IsSomeAnd};
-ghost use Rattle.std.specs.List.{AllZip};
+ghost use Rattle.std.specs.Prelude.{◌≡◌, ◌⊎◌, ◌<◌, ◌≤◌, ◌++◌, ◌∷◌, ℕ, Bool, List, [], length, map, reverse, true};
+ghost use Rattle.std.specs.Prelude.{IsTrue, IfOk, IfErr, OnOk};
+ghost use Rattle.std.specs.List.{All, AllZip};
 ghost use Rattle.pg_syntax.specs.Grammar.{Spells};
 ghost use Rattle.pg_syntax.specs.Trees.{pattern};
 ghost use Rattle.pg_syntax.specs.declared.pattern_list.Kind.TheVariants.{Fixed};
 ghost use Rattle.pg_match.specs.declared.bounds.Bounds.TheVariants.{Any};
-ghost use Rattle.pg_literal.specs.Literals.{as_searched, AreNeeded, AreEnough, AreTexts};
-ghost use Rattle.pg_literal.specs.Added.{Adds};
+ghost use Rattle.pg_literal.specs.Literals.{as_searched, AreNeeded, AreHeads, AreEnough, AreTexts};
+ghost use Rattle.pg_literal.specs.Rows.{row_of, AreProduct, Multiplies};
+ghost use Rattle.pg_literal.specs.Added.{Adds, AddsOnly};
 
-use crate::known::{Known, longer, with_tree};
+use crate::known::{Known, with_tree};
+use crate::row::{Expansion, texts_of};
+use pg_bytes::ByteSet;
 use pg_match::Bounds;
 use pg_syntax::Tree;
 use std::alloc::{AllocError, Allocator, Global};
+
+/// Up to so many texts are best looked for one by one: the fewer there are, the better.
+const FEW: usize = 8;
+
+/// Where there are more, a tree or alternative may give so many texts.
+const MOST_OF_ONE: usize = 16;
+
+/// Trees and alternatives give no more texts together, unless there are more of them.
+const MOST: usize = 4_096;
 
 /// A text that each line with a hit holds, unless it holds another one that was found with it.
 #[derive(Drop)]
@@ -21,6 +33,8 @@ pub struct Literal<A: Allocator = Global> {
     pub text: Vec<u8, A>,
     /// Each line that holds the text has a hit.
     pub is_enough: bool,
+    /// What is matched for the sake of this text begins with it, and isn't empty.
+    pub is_head: bool,
 }
 
 impl<A: Allocator + Copy> Literal<A> {
@@ -28,9 +42,10 @@ impl<A: Allocator + Copy> Literal<A> {
     /// found there is none, which tells nothing.
     ///
     /// With `fold` the case of letters is folded, as it was for the trees. Each tree gives one text, and each
-    /// alternative of a tree that is an alternation. The trees of plain fixed strings give those strings, in their
-    /// order; where the bounds aren't `Any` and one string is empty, there are none. A refused request for memory is
-    /// the only error.
+    /// alternative of a tree that is an alternation. Where that makes more than 8, each may give up to 16 texts, for
+    /// which sets of a few bytes are multiplied out: `gr[ae]y` gives `gray` and `grey`, where else it gives `gr`. The
+    /// trees of plain fixed strings give those strings, in their order; where the bounds aren't `Any` and one string is
+    /// empty, there are none. A refused request for memory is the only error.
     pub fn of(
         alloc: A,
         trees: &[Tree<A>],
@@ -39,6 +54,9 @@ impl<A: Allocator + Copy> Literal<A> {
     ) -> Result<Vec<Literal<A>, A>, AllocError>
         ensures needed { IfOk result (λ literals. 0 < length literals.items
             → AreNeeded fold (map pattern trees.now) bounds literals.items) }
+        ensures heads { IfOk result (λ literals. 0 < length literals.items
+            → All (λ literal. IsTrue literal.is_head) literals.items
+            → AreHeads fold (map pattern trees.now) bounds literals.items) }
         ensures enough { IfOk result (λ literals. AreEnough fold (map pattern trees.now) bounds literals.items) }
         ensures exact { IfOk result (λ literals. (texts : List (List ℕ))
             → AllZip (Spells Fixed fold) texts (map pattern trees.now) → 0 < length literals.items
@@ -47,15 +65,45 @@ impl<A: Allocator + Copy> Literal<A> {
             → AllZip (Spells Fixed fold) texts (map pattern trees.now) → bounds ≡ Any
             → AreTexts (map (as_searched fold) texts) literals.items) }
     {
-        let mut literals = Vec::new(alloc);
-        for tree in trees {
-            let found = push_literals(alloc, tree, bounds, fold, &mut literals)?;
-            if !found {
-                return Ok(Vec::new(alloc));
-            }
+        let literals = literals_of(alloc, trees, bounds, Expansion { fold, most: 1 })?;
+        let most = MOST_OF_ONE.min(MOST / literals.len().max(1));
+        if literals.len() <= FEW || most <= 1 {
+            return Ok(literals);
         }
+        let literals = literals_of(alloc, trees, bounds, Expansion { fold, most })?;
         Ok(literals)
     }
+}
+
+/// The same, of which each tree gives so many texts as its rows may become, and each alternative.
+fn literals_of<A: Allocator + Copy>(
+    alloc: A,
+    trees: &[Tree<A>],
+    bounds: Bounds,
+    expansion: Expansion,
+) -> Result<Vec<Literal<A>, A>, AllocError>
+    ensures needed { IfOk result (λ literals. 0 < length literals.items
+        → AreNeeded expansion.fold (map pattern trees.now) bounds literals.items) }
+    ensures heads { IfOk result (λ literals. 0 < length literals.items
+        → All (λ literal. IsTrue literal.is_head) literals.items
+        → AreHeads expansion.fold (map pattern trees.now) bounds literals.items) }
+    ensures enough { IfOk result
+        (λ literals. AreEnough expansion.fold (map pattern trees.now) bounds literals.items) }
+    ensures exact { IfOk result (λ literals. (texts : List (List ℕ))
+        → AllZip (Spells Fixed expansion.fold) texts (map pattern trees.now) → 0 < length literals.items
+        → map (λ literal. literal.text.items) literals.items ≡ map (as_searched expansion.fold) texts) }
+    ensures fixed { IfOk result (λ literals. (texts : List (List ℕ))
+        → AllZip (Spells Fixed expansion.fold) texts (map pattern trees.now) → bounds ≡ Any
+        → AreTexts (map (as_searched expansion.fold) texts) literals.items) }
+{
+    let mut literals = Vec::new(alloc);
+    for tree in trees {
+        let found = push_literals(alloc, tree, bounds, expansion, &mut literals)?;
+        if !found {
+            return Ok(Vec::new(alloc));
+        }
+    }
+    Ok(literals)
 }
 
 /// Adds the literals of a tree's alternatives, the last one first. Where one of them has none, the answer is false.
@@ -65,79 +113,108 @@ fn push_literals<A: Allocator + Copy>(
     alloc: A,
     tree: &Tree<A>,
     bounds: Bounds,
-    fold: bool,
+    expansion: Expansion,
     literals: &mut Vec<Literal<A>, A>,
 ) -> Result<bool, AllocError>
     ensures adds { IfOk result (λ found. IsTrue found
-        → Adds fold bounds (pattern tree.now) literals.old.items literals.new.items) }
-    ensures fixed { (text : List ℕ) → Spells Fixed fold text (pattern tree.now) → bounds ≡ Any
+        → Adds expansion.fold bounds (pattern tree.now) literals.old.items literals.new.items) }
+    ensures fixed { (text : List ℕ) → Spells Fixed expansion.fold text (pattern tree.now) → bounds ≡ Any
         → IfOk result IsTrue }
 {
     let mut tree = tree;
     while let Tree::Alt(first, second) = tree {
-        let found = push_literals(alloc, second, bounds, fold, literals)?;
+        let found = push_literals(alloc, second, bounds, expansion, literals)?;
         if !found {
             return Ok(false);
         }
         tree = first;
     }
-    let found = push_literal(alloc, tree, bounds, fold, literals)?;
+    let found = push_tree(alloc, tree, bounds, expansion, literals)?;
     Ok(found)
 }
 
-/// Adds the literal of a tree. Where it has none, the answer is false.
-fn push_literal<A: Allocator + Copy>(
+/// Adds the literals of a tree that isn't looked into for alternatives. Where it has none, the answer is false.
+fn push_tree<A: Allocator + Copy>(
     alloc: A,
     tree: &Tree<A>,
     bounds: Bounds,
-    fold: bool,
+    expansion: Expansion,
     literals: &mut Vec<Literal<A>, A>,
 ) -> Result<bool, AllocError>
     ensures adds { IfOk result (λ found. IsTrue found
-        → Adds fold bounds (pattern tree.now) literals.old.items literals.new.items) }
-    ensures fixed { (text : List ℕ) → Spells Fixed fold text (pattern tree.now) → bounds ≡ Any
+        → Adds expansion.fold bounds (pattern tree.now) literals.old.items literals.new.items) }
+    ensures fixed { (text : List ℕ) → Spells Fixed expansion.fold text (pattern tree.now) → bounds ≡ Any
         → IfOk result IsTrue }
 {
-    let known = with_tree(alloc, tree, fold, Known::nothing(alloc))?;
-    match best_text(known, bounds) {
-        Some(literal) => {
-            literals.push(literal)?;
-            Ok(true)
-        }
-        None => Ok(false),
+    let known = with_tree(alloc, tree, expansion, Known::nothing(alloc))?;
+    if let Some(text) = known.only_text(alloc, expansion.fold)? {
+        let found = push_text(text, bounds, literals)?;
+        return Ok(found);
     }
+    let chosen = known.chosen(bounds, expansion);
+    let row = &chosen.row[chosen.window.start..chosen.window.stop];
+    if row.is_empty() {
+        return Ok(false);
+    }
+    let found = push_row(
+        alloc,
+        row,
+        expansion.fold,
+        chosen.is_enough,
+        chosen.is_head,
+        literals,
+    )?;
+    Ok(found)
 }
 
-/// The text that serves best: one that is sure, else the longer one, unless it is empty.
-fn best_text<A: Allocator + Copy>(known: Known<A>, bounds: Bounds) -> Option<Literal<A>>
-    ensures text { IfSome result (λ literal. (literal.text.items ≡ reverse known.head.items)
-        ⊎ (literal.text.items ≡ reverse known.best.items)) }
-    ensures enough { IfSome result (λ literal. IsTrue literal.is_enough → (bounds ≡ Any)
-        × ((IsTrue known.is_sure × (literal.text.items ≡ reverse known.head.items))
-        ⊎ (IsTrue known.is_best_sure × (literal.text.items ≡ reverse known.best.items)))) }
-    ensures alone { IsTrue known.is_sure → known.best.items ≡ []
-        → IfSome result (λ literal. literal.text.items ≡ reverse known.head.items) }
-    ensures sure { IsTrue known.is_sure → bounds ≡ Any
-        → IsSomeAnd result (λ literal. (literal.text.items ≡ reverse known.head.items) × IsTrue literal.is_enough) }
+/// Adds a text that each match is, which lies backwards. Where it is empty and not every match counts, it tells nothing,
+/// and the answer is false.
+fn push_text<A: Allocator + Copy>(
+    mut text: Vec<u8, A>,
+    bounds: Bounds,
+    literals: &mut Vec<Literal<A>, A>,
+) -> Result<bool, AllocError>
+    ensures adds { IfOk result (λ found. IsTrue found
+        → AddsOnly bounds (reverse text.items) literals.old.items literals.new.items) }
+    ensures any { bounds ≡ Any → IfOk result IsTrue }
 {
-    let Known {
-        head,
-        best,
-        is_sure,
-        is_best_sure,
-    } = known;
-    let is_any = bounds == Bounds::Any;
-    let is_enough = is_any && (is_sure || is_best_sure);
-    let mut text = if is_any && is_sure {
-        head
-    } else if is_any && is_best_sure {
-        best
-    } else {
-        longer(head, best)
-    };
-    if !is_enough && text.is_empty() {
-        return None;
+    let is_enough = bounds == Bounds::Any;
+    let is_head = !text.is_empty();
+    if !is_enough && !is_head {
+        return Ok(false);
     }
     text.reverse();
-    Some(Literal { text, is_enough })
+    literals.push(Literal {
+        text,
+        is_enough,
+        is_head,
+    })?;
+    Ok(true)
+}
+
+/// Adds the texts that a row becomes, with two flags. Where it becomes none, the answer is false.
+fn push_row<A: Allocator + Copy>(
+    alloc: A,
+    row: &[ByteSet],
+    fold: bool,
+    is_enough: bool,
+    is_head: bool,
+    literals: &mut Vec<Literal<A>, A>,
+) -> Result<bool, AllocError>
+    ensures { IfOk result (λ found. IsTrue found
+        → Multiplies fold (row_of row.now) is_enough is_head literals.old.items literals.new.items) }
+{
+    let Some(texts) = texts_of(alloc, row, fold)? else {
+        return Ok(false);
+    };
+    for backwards in &texts {
+        let mut text = backwards.to_vec(alloc)?;
+        text.reverse();
+        literals.push(Literal {
+            text,
+            is_enough,
+            is_head,
+        })?;
+    }
+    Ok(true)
 }

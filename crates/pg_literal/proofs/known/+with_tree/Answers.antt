@@ -6,39 +6,40 @@ use Rattle.pg_literal.proofs.KnownLemmas.{extends_empty, extends_cat, extends_al
 use Rattle.pg_literal.proofs.known.+with_tree.Goals as goal
 
 pub returns-in-Empty : goal.returns-in-Empty
-returns-in-Empty g t c =
-    c.loop-tree.invariant.whole _ (rw (pattern-empty _ c.in-Empty.is) (extends_empty c.args.fold c.loop-tree.known))
+returns-in-Empty g t c = λ fold.
+    c.loop-tree.invariant.whole fold _ (rw (pattern-empty _ c.in-Empty.is) (extends_empty fold c.loop-tree.known))
 
 pub returns-in-Set : goal.returns-in-Set
-returns-in-Set g t c = c.loop-tree.invariant.whole _ (rw (pattern-set _ _ c.in-Set.is) c.in_ok-known-in-Set.ensures)
+returns-in-Set g t c = λ fold.
+    c.loop-tree.invariant.whole fold _ (rw (pattern-set _ _ c.in-Set.is) (c.in_ok-known-in-Set.ensures fold))
 
 pub returns-in-Begin : goal.returns-in-Begin
-returns-in-Begin g t c = elim c.in-Begin.is [
-  | inl begin ↦ c.loop-tree.invariant.whole _ (rw (pattern-begin _ begin) (c.with_anchor.ensures.begin c.args.fold))
-  | inr end ↦ c.loop-tree.invariant.whole _ (rw (pattern-end _ end) (c.with_anchor.ensures.end c.args.fold))
+returns-in-Begin g t c = λ fold. elim c.in-Begin.is [
+  | inl begin ↦ c.loop-tree.invariant.whole fold _ (rw (pattern-begin _ begin) (c.with_anchor.ensures.begin fold))
+  | inr end ↦ c.loop-tree.invariant.whole fold _ (rw (pattern-end _ end) (c.with_anchor.ensures.end fold))
 ]
 
 pub loop-tree-preserved-in-Cat-1 : goal.loop-tree-preserved-in-Cat-1
 loop-tree-preserved-in-Cat-1 g t c =
-    let second = rw c.deref.ensures at c.in_ok-known-in-Cat.ensures in
     record {
       below = search (rules, the_lemmas);
-      whole = λ whole outer.
+      whole = λ fold whole outer.
+          let second = rw c.deref.ensures at (c.in_ok-known-in-Cat.ensures fold) in
           let first = rw c.deref-tree.ensures at outer in
-          c.loop-tree.invariant.whole whole
-          (rw (pattern-cat _ _ _ c.in-Cat.is) (extends_cat c.args.fold _ _ _ _ whole second first));
+          c.loop-tree.invariant.whole fold whole
+          (rw (pattern-cat _ _ _ c.in-Cat.is) (extends_cat fold _ _ _ _ whole second first));
     }
 
 pub returns-in-Alt : goal.returns-in-Alt
-returns-in-Alt g t c =
+returns-in-Alt g t c = λ fold.
     let empty = rw (pattern-alt _ _ _ c.in-Alt.is) at c.matches_empty-is_optional.ensures in
-    let hidden = extends_alt c.args.fold _ _ c.matches_empty-is_optional.result _ _ c.hidden.ensures empty in
-    c.loop-tree.invariant.whole _ (rw (pattern-alt _ _ _ c.in-Alt.is) hidden)
+    let hidden = extends_alt fold _ _ c.matches_empty-is_optional.result _ _ c.hidden.ensures empty in
+    c.loop-tree.invariant.whole fold _ (rw (pattern-alt _ _ _ c.in-Alt.is) hidden)
 
 pub returns-then-least-eq0 : goal.returns-then-least-eq0
-returns-then-least-eq0 g t c =
-    c.loop-tree.invariant.whole _
-    (rw (pattern-rep _ _ _ _ c.in-Rep.is) (extends_rep c.args.fold _ _ _ _ _ (search rules)
+returns-then-least-eq0 g t c = λ fold.
+    c.loop-tree.invariant.whole fold _
+    (rw (pattern-rep _ _ _ _ c.in-Rep.is) (extends_rep fold _ _ _ _ _ (search rules)
     c.hidden-then-least-eq0.ensures))
 
 pub loop-tree-preserved : goal.loop-tree-preserved
@@ -46,8 +47,8 @@ loop-tree-preserved g t c =
     let others = c.with_other_rounds-known.ensures in
     record {
       below = search (rules, the_lemmas);
-      whole = λ whole inner.
+      whole = λ fold whole inner.
           let first = rw c.deref-tree-in-Rep.ensures at inner in
-          c.loop-tree.invariant.whole whole
-          (rw (pattern-rep _ _ _ _ c.in-Rep.is) (extends_first c.args.fold _ _ _ _ _ whole (omega arith) others first));
+          c.loop-tree.invariant.whole fold whole
+          (rw (pattern-rep _ _ _ _ c.in-Rep.is) (extends_first fold _ _ _ _ _ whole (omega arith) others first));
     }

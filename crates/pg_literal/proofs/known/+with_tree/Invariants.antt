@@ -1,4 +1,4 @@
-use Rattle.std.proofs.Common.{◌≤◌}
+use Rattle.std.proofs.Common.{◌≤◌, Bool}
 use Rattle.pg_syntax.specs.Trees.{pattern}
 use Rattle.pg_syntax.specs.declared.tree.Tree.{size-Tree}
 use Rattle.pg_literal.specs.Known.{Extends}
@@ -11,6 +11,6 @@ decreases-with_tree g l = goal.size-with_tree g l
 abbrev pub invariant-loop-tree : goal.invariant-loop-tree
 invariant-loop-tree g l = record {
   below : size-Tree _ l.tree ≤ size-Tree _ l.fn.tree;
-  whole : (whole : Known _) → Extends l.fold (pattern l.tree) l.known whole
-      → Extends l.fold (pattern l.fn.tree) l.fn.known whole;
+  whole : (fold : Bool) (whole : Known _) → Extends fold (pattern l.tree) l.known whole
+      → Extends fold (pattern l.fn.tree) l.fn.known whole;
 }

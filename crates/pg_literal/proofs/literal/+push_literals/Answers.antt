@@ -11,7 +11,7 @@ pub returns-then-not-found-clause-fixed : goal.returns-then-not-found-clause-fix
 returns-then-not-found-clause-fixed g t c = λ text spells any.
     let same = c.loop-tree.invariant.fixed text spells in
     let alt = sym same.0 ∙ pattern-alt _ _ _ c.in-Alt.is in
-    absurd (alt_unspelled c.args.fold _ _ text (subst (Spells Fixed c.args.fold text) alt spells))
+    absurd (alt_unspelled c.args.expansion.fold _ _ text (subst (Spells Fixed c.args.expansion.fold text) alt spells))
 
 pub loop-tree-preserved : goal.loop-tree-preserved
 loop-tree-preserved g t c =
@@ -21,11 +21,11 @@ loop-tree-preserved g t c =
       whole = λ new rest.
           let first = rw c.deref-tree.ensures at rest in
           c.loop-tree.invariant.whole new
-          (rw (pattern-alt _ _ _ c.in-Alt.is) (adds_alt c.args.fold c.args.bounds _ _ _ _ new second first));
+          (rw (pattern-alt _ _ _ c.in-Alt.is) (adds_alt c.args.expansion.fold c.args.bounds _ _ _ _ new second first));
       fixed = λ text spells.
           let same = c.loop-tree.invariant.fixed text spells in
           let alt = sym same.0 ∙ pattern-alt _ _ _ c.in-Alt.is in
-          absurd (alt_unspelled c.args.fold _ _ text (subst (Spells Fixed c.args.fold text) alt spells));
+          absurd (alt_unspelled c.args.expansion.fold _ _ text (subst (Spells Fixed c.args.expansion.fold text) alt spells));
     }
 
 pub returns : goal.returns
@@ -33,5 +33,5 @@ returns g t c = record {
   adds = λ yes. c.loop-tree.invariant.whole _ (c.in_ok-found-2.ensures.adds yes);
   fixed = λ text spells any.
       let same = c.loop-tree.invariant.fixed text spells in
-      c.in_ok-found-2.ensures.fixed text (subst (Spells Fixed c.args.fold text) (sym same.0) spells) any;
+      c.in_ok-found-2.ensures.fixed text (subst (Spells Fixed c.args.expansion.fold text) (sym same.0) spells) any;
 }

@@ -13,8 +13,8 @@ decreases-push_literals g l = goal.size-push_literals g l
 abbrev pub invariant-loop-tree : goal.invariant-loop-tree
 invariant-loop-tree g l = record {
   below : size-Tree _ l.tree ≤ size-Tree _ l.fn.tree;
-  whole : (new : List (Literal _)) → Adds l.fold l.bounds (pattern l.tree) l.literals.items new
-      → Adds l.fold l.bounds (pattern l.fn.tree) l.fn.literals.items new;
-  fixed : (text : List ℕ) → Spells Fixed l.fold text (pattern l.fn.tree)
+  whole : (new : List (Literal _)) → Adds l.expansion.fold l.bounds (pattern l.tree) l.literals.items new
+      → Adds l.expansion.fold l.bounds (pattern l.fn.tree) l.fn.literals.items new;
+  fixed : (text : List ℕ) → Spells Fixed l.expansion.fold text (pattern l.fn.tree)
       → (pattern l.tree ≡ pattern l.fn.tree) × (l.literals.items ≡ l.fn.literals.items);
 }

@@ -3,9 +3,9 @@ use Rattle.std.proofs.lemmas.Result.{IfOk-from_err}
 use Rattle.std.proofs.lemmas.List.{length-map, take_all}
 use Rattle.pg_syntax.specs.Trees.{pattern}
 use Rattle.pg_literal.specs.Literals.{as_searched, AreTexts}
-use Rattle.pg_literal.proofs.LiteralLemmas.{hit_alone, pattern_among, text_spells, zip_length}
-use Rattle.pg_literal.proofs.LiteralLemmas.{needed_more, enough_more, exact_more, texts_more}
-use Rattle.pg_literal.proofs.literal.Literal.of.Goals as goal
+use Rattle.pg_literal.proofs.LiteralLemmas.{hit_alone, hit_alone_at, pattern_among, text_spells, zip_length}
+use Rattle.pg_literal.proofs.LiteralLemmas.{needed_more, heads_more, enough_more, exact_more, texts_more}
+use Rattle.pg_literal.proofs.literal.literals_of.Goals as goal
 
 pub returns-then-not-found-clause-fixed : goal.returns-then-not-found-clause-fixed
 returns-then-not-found-clause-fixed g c = λ texts spelled any.
@@ -16,14 +16,14 @@ returns-then-not-found-clause-fixed g c = λ texts spelled any.
     let below : i < length ps = omega (arith, length-map trees (pattern {A = g.row.A.Denot})) in
     let at = pattern_among pattern trees i tree c.loop-tree-test.true c.tree-item.is in
     let yes = c.in_ok-found.ensures.fixed (get_or texts i [])
-    (text_spells c.args.fold ps texts spelled i (pattern tree) below at)
+    (text_spells c.args.expansion.fold ps texts spelled i (pattern tree) below at)
     any in
     absurd (search (rules, yes))
 
 pub loop-tree-preserved : goal.loop-tree-preserved
 loop-tree-preserved g c =
     let trees = c.args.trees.now in
-    let fold = c.args.fold in
+    let fold = c.args.expansion.fold in
     let bounds = c.args.bounds in
     let ps = map pattern trees in
     let i = c.loop-tree.tree-index in
@@ -36,6 +36,7 @@ loop-tree-preserved g c =
     let known = c.loop-tree.invariant in
     record {
       needed = needed_more fold bounds ps i p below at old new adds known.needed;
+      heads = heads_more fold bounds ps i p below at old new adds known.heads;
       enough = enough_more fold bounds ps i p below at old new adds known.enough;
       exact = λ texts spelled.
           exact_more fold bounds ps i p below at old new adds texts spelled (known.exact texts spelled);
@@ -50,12 +51,19 @@ returns-clause-needed g c = λ some line hit.
     c.loop-tree.invariant.needed line alone.0 alone.1
     (omega (arith, alone.2, length-map trees (pattern {A = g.row.A.Denot}))) alone.3 alone.4
 
+pub returns-clause-heads : goal.returns-clause-heads
+returns-clause-heads g c = λ some all line i j hit.
+    let trees = c.args.trees.now in
+    let alone = hit_alone_at (map pattern trees) c.args.bounds line i j hit in
+    c.loop-tree.invariant.heads all line i j alone.0 alone.1
+    (omega (arith, alone.2, length-map trees (pattern {A = g.row.A.Denot}))) alone.3 alone.4
+
 pub returns-clause-exact : goal.returns-clause-exact
 returns-clause-exact g c = λ texts spelled some.
     let trees = c.args.trees.now in
     let are = c.loop-tree.invariant.exact texts spelled in
     let P : List (List ℕ) → Type 0 =
-    λ ts. map (λ literal. literal.text.items) c.loop-tree.literals.items ≡ map (as_searched c.args.fold) ts in
+    λ ts. map (λ literal. literal.text.items) c.loop-tree.literals.items ≡ map (as_searched c.args.expansion.fold) ts in
     let size = zip_length _ texts (map pattern trees) spelled in
     subst P (take_all c.loop-tree.tree-index texts
     (omega (arith, size, length-map trees (pattern {A = g.row.A.Denot})))) are
@@ -64,7 +72,7 @@ pub returns-clause-fixed : goal.returns-clause-fixed
 returns-clause-fixed g c = λ texts spelled any.
     let trees = c.args.trees.now in
     let are = c.loop-tree.invariant.fixed texts spelled any in
-    let P : List (List ℕ) → Type 0 = λ ts. AreTexts (map (as_searched c.args.fold) ts) c.loop-tree.literals.items in
+    let P : List (List ℕ) → Type 0 = λ ts. AreTexts (map (as_searched c.args.expansion.fold) ts) c.loop-tree.literals.items in
     let size = zip_length _ texts (map pattern trees) spelled in
     subst P (take_all c.loop-tree.tree-index texts
     (omega (arith, size, length-map trees (pattern {A = g.row.A.Denot})))) are
@@ -80,3 +88,6 @@ returns-in_err-found-clause-fixed g c = IfOk-from_err c.from_residual.result _ c
 
 pub returns-in_err-found-clause-exact : goal.returns-in_err-found-clause-exact
 returns-in_err-found-clause-exact g c = IfOk-from_err c.from_residual.result _ c.from_residual.ensures.0
+
+pub returns-in_err-found-clause-heads : goal.returns-in_err-found-clause-heads
+returns-in_err-found-clause-heads g c = IfOk-from_err c.from_residual.result _ c.from_residual.ensures.0

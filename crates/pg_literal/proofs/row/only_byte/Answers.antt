@@ -1,7 +1,7 @@
 use Rattle.std.proofs.Common.{arith, below_more}
 use Rattle.pg_bytes.specs.ByteSets.{bytes}
 use Rattle.pg_literal.proofs.FoldLemmas.{searched_alike, alone_found}
-use Rattle.pg_literal.proofs.known.only_byte.Goals as goal
+use Rattle.pg_literal.proofs.row.only_byte.Goals as goal
 
 pub loop-other-preserved : goal.loop-other-preserved
 loop-other-preserved c =

@@ -1,7 +1,7 @@
 use Rattle.std.proofs.Common.{◌≡◌, ◌<◌, ◌↔◌, ℕ, true}
 use Rattle.pg_bytes.specs.ByteSets.{bytes}
-use Rattle.pg_literal.specs.Known.{byte_as_searched}
-use Rattle.pg_literal.proofs.known.only_byte.Given as goal
+use Rattle.pg_literal.specs.Rows.{byte_as_searched}
+use Rattle.pg_literal.proofs.row.only_byte.Given as goal
 
 abbrev pub invariant-loop-other : goal.invariant-loop-other
 invariant-loop-other l =

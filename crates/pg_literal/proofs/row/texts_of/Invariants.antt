@@ -1,0 +1,7 @@
+use Rattle.std.proofs.Common.{map, take, reverse}
+use Rattle.pg_literal.specs.Rows.{items_of, row_of, AreProduct}
+use Rattle.pg_literal.proofs.row.texts_of.Given as goal
+
+abbrev pub invariant-loop-set : goal.invariant-loop-set
+invariant-loop-set g l =
+    AreProduct l.fold (row_of (take l.set-index l.row)) (map reverse (map items_of l.texts.items))
