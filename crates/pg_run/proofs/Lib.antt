@@ -6,3 +6,4 @@ pub mod ReadingLemmas
 pub mod RoundLemmas
 pub mod RunLemmas
 pub mod StepLemmas
+pub mod ToldLemmas

@@ -3,6 +3,7 @@
 
 mod engine;
 mod fault;
+pub mod laws;
 mod pace;
 mod reader;
 mod reading;
