@@ -2,7 +2,9 @@ pub mod Lists
 pub mod Joins
 pub mod Reach
 pub mod Steps
+pub mod Lefts
 pub mod Only
 pub mod Exists
 pub mod Examples
 pub mod WithinLemmas
+pub mod WithinLefts

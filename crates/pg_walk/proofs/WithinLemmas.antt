@@ -7,9 +7,9 @@ use Rattle.std.specs.List.{All}
 use Rattle.pg_walk.specs.Answers.{Text}
 use Rattle.pg_walk.specs.Items.{Found, File, path_in}
 use Rattle.pg_walk.specs.Places.{child, is_standard_input}
-use Rattle.pg_walk.specs.Within.{IsWithin, FollowOperands, AddsWithin, AddsOf}
+use Rattle.pg_walk.specs.Within.{IsWithin, BelongTo, FollowOperands, AddsWithin, AddsOf}
 
-only : (path : Text) (item : Found) → path_in item ≡ path → All (IsWithin path) (item ∷ [])
+pub only : (path : Text) (item : Found) → path_in item ≡ path → All (IsWithin path) (item ∷ [])
 only path item at = All-cons (IsWithin path) item [] ([], at) (All-nil (IsWithin path))
 
 -- an item at the path itself was added
@@ -23,13 +23,14 @@ pub within_none : (path : Text) (old : List Found) → AddsWithin path old old
 within_none path old = record { items = []; joined = sym (append-nil old); within = All-nil (IsWithin path) }
 
 -- what lies at or below an entry lies below its directory
+pub lies_below : (path name : Text) (items : List Found) → All (IsWithin (child path name)) items
+    → All (IsWithin path) items
+lies_below path name items within i item at = let w = within i item at in (name ∷ w.0, w.1)
+
 pub within_entry : (path name : Text) (old new : List Found) → AddsWithin (child path name) old new
     → AddsWithin path old new
-within_entry path name old new a = record {
-  items = a.items;
-  joined = a.joined;
-  within = λ i item at. let w = a.within i item at in (name ∷ w.0, w.1);
-}
+within_entry path name old new a =
+    record { items = a.items; joined = a.joined; within = lies_below path name a.items a.within }
 
 -- more was added
 pub within_more : (path : Text) (old middle new : List Found) → AddsWithin path old middle
@@ -41,30 +42,35 @@ within_more path old middle new a b = record {
 }
 
 -- an operand's only item is at its path
+pub belong_one : (recursive : Bool) (operand : Text) (item : Found) → path_in item ≡ operand
+    → (is_standard_input operand ≡ true → item ≡ File operand) → BelongTo recursive operand (item ∷ [])
+belong_one recursive operand item at standard = record {
+  standard = λ e. ap (λ i. i ∷ []) (standard e);
+  flat = λ e. ap (λ p. p ∷ []) at;
+  within = only operand item at;
+}
+
 pub one_of : (recursive : Bool) (operand : Text) (item : Found) → path_in item ≡ operand
     → (is_standard_input operand ≡ true → item ≡ File operand) → (old new : List Found) → new ≡ old ++ item ∷ []
     → AddsOf recursive operand old new
-one_of recursive operand item at standard old new joined = record {
-  items = item ∷ [];
-  joined = joined;
-  belong = record {
-    standard = λ e. ap (λ i. i ∷ []) (standard e);
-    flat = λ e. ap (λ p. p ∷ []) at;
-    within = only operand item at;
-  };
-}
+one_of recursive operand item at standard old new joined =
+    record { items = item ∷ []; joined = joined; belong = belong_one recursive operand item at standard }
 
 -- a directory that is visited
+pub belong_visited : (recursive : Bool) (operand : Text) → is_standard_input operand ≡ false → recursive ≡ true
+    → (items : List Found) → All (IsWithin operand) items → BelongTo recursive operand items
+belong_visited recursive operand named visited items within = record {
+  standard = λ e. absurd (false≢true (sym named ∙ e));
+  flat = λ e. absurd (false≢true (sym e ∙ visited));
+  within = within;
+}
+
 pub visited_of : (recursive : Bool) (operand : Text) → is_standard_input operand ≡ false → recursive ≡ true
     → (old new : List Found) → AddsWithin operand old new → AddsOf recursive operand old new
 visited_of recursive operand named visited old new a = record {
   items = a.items;
   joined = a.joined;
-  belong = record {
-    standard = λ e. absurd (false≢true (sym named ∙ e));
-    flat = λ e. absurd (false≢true (sym e ∙ visited));
-    within = a.within;
-  };
+  belong = belong_visited recursive operand named visited a.items a.within;
 }
 
 -- the items of one more operand

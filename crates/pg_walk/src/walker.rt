@@ -16,10 +16,14 @@ use crate::tree::{FileKind, FileTree, Listing, LookFault};
 use std::alloc::{AllocError, Allocator};
 
 /// The deepest level below an operand whose directories are listed.
-const DEEPEST: u32 = 256;
+pub(crate) const DEEPEST: u32 = 256;
 
 /// The path of an entry of a directory.
-fn entry_path<A: Allocator>(alloc: A, directory: &str, name: &str) -> Result<String<A>, AllocError>
+pub(crate) fn entry_path<A: Allocator>(
+    alloc: A,
+    directory: &str,
+    name: &str,
+) -> Result<String<A>, AllocError>
     ensures { IfOk result (λ path. string_bytes path ≡ child directory.now name.now) }
 {
     let room = directory.len().saturating_add(name.len()).saturating_add(1);
@@ -34,7 +38,7 @@ fn entry_path<A: Allocator>(alloc: A, directory: &str, name: &str) -> Result<Str
 
 /// The names in ascending order of their bytes, each once.
 #[inline(never)]
-fn in_order<A: Allocator + Copy>(names: Vec<String<A>, A>) -> Vec<String<A>, A>
+pub(crate) fn in_order<A: Allocator + Copy>(names: Vec<String<A>, A>) -> Vec<String<A>, A>
     ensures rises { Ascending (slice_cmp nat_cmp) (map string_bytes result.items) }
     ensures same { (n : List ℕ) →
         Contains (map string_bytes result.items) n ↔ Contains (map string_bytes names.items) n }
@@ -55,7 +59,7 @@ fn add<A: Allocator>(items: &mut Vec<Item<A>, A>, item: Item<A>) -> Result<(), A
 
 /// Asks for a kind. What stack the tree takes for it is kept out of `entry`, whose calls nest 257 levels.
 #[inline(never)]
-fn look<T: FileTree>(tree: &T, path: &str, follow: bool) -> Result<FileKind, LookFault>
+pub(crate) fn look<T: FileTree>(tree: &T, path: &str, follow: bool) -> Result<FileKind, LookFault>
     ensures { T.tells tree.now → TellsKind ((T.answers tree.now).kind path.now follow) result }
 {
     tree.kind(path, follow)
@@ -63,7 +67,7 @@ fn look<T: FileTree>(tree: &T, path: &str, follow: bool) -> Result<FileKind, Loo
 
 /// Asks for a listing, kept out of `inside` likewise.
 #[inline(never)]
-fn list<A: Allocator + Copy, T: FileTree>(
+pub(crate) fn list<A: Allocator + Copy, T: FileTree>(
     alloc: A,
     tree: &T,
     path: &str,

@@ -1,0 +1,87 @@
+-- Where the items lie that are left of a walk. For the functions of `stream`.
+use Rattle.std.proofs.Common.{ℕ, ◌≡◌, Bool, true, false, List, [], ◌∷◌, ◌++◌, map, Option, Some, None, refl, sym}
+use Rattle.std.proofs.Common.{ap, ◌∙◌, append_assoc}
+use Rattle.std.proofs.lemmas.List.Elements.{All-append, All-nil}
+use Rattle.std.specs.List.{All}
+use Rattle.pg_walk.specs.Answers.{Text}
+use Rattle.pg_walk.specs.Items.{Found, File, path_in}
+use Rattle.pg_walk.specs.Places.{child, is_standard_input}
+use Rattle.pg_walk.specs.Within.{IsWithin, BelongTo, FollowOperands}
+use Rattle.pg_walk.specs.Left.{Spot, Operand, Entry, MayBeLeft, UnfoldsWithin, shown}
+use Rattle.pg_walk.proofs.WithinLemmas.{belong_one, belong_visited, lies_below, only}
+
+-- a place with nothing below it
+pub leaf_within : (r : Bool) (may : List Found → Type 0) (o : Option Found) (spots : List Spot) → may (shown o)
+    → UnfoldsWithin r may o spots spots
+leaf_within r may o spots h rest left = (shown o, rest, h, left, refl)
+
+pub unfolds_within_as : (r : Bool) (may might : List Found → Type 0) (o : Option Found) (old new : List Spot)
+    → ((items : List Found) → may items → might items) → UnfoldsWithin r may o old new → UnfoldsWithin r might o old new
+unfolds_within_as r may might o old new to h rest left =
+    let u = h rest left in
+    (u.0, u.1, to u.0 u.2, u.3, u.4)
+
+-- an item at the path, or none
+pub entry_leaf_within : (r : Bool) (path : Text) (item : Found) (spots : List Spot) → path_in item ≡ path
+    → UnfoldsWithin r (All (IsWithin path)) (Some item) spots spots
+entry_leaf_within r path item spots at = leaf_within r (All (IsWithin path)) (Some item) spots (only path item at)
+
+pub entry_none_within : (r : Bool) (path : Text) (spots : List Spot)
+    → UnfoldsWithin r (All (IsWithin path)) None spots spots
+entry_none_within r path spots = leaf_within r (All (IsWithin path)) None spots (All-nil (IsWithin path))
+
+-- an operand's one item
+pub operand_leaf_within : (r : Bool) (path : Text) (item : Found) (spots : List Spot) → path_in item ≡ path
+    → (is_standard_input path ≡ true → item ≡ File path) → UnfoldsWithin r (BelongTo r path) (Some item) spots spots
+operand_leaf_within r path item spots at standard =
+    leaf_within r (BelongTo r path) (Some item) spots (belong_one r path item at standard)
+
+-- an operand that is visited
+pub operand_inside_within : (r : Bool) (path : Text) (o : Option Found) (old new : List Spot)
+    → is_standard_input path ≡ false → r ≡ true → UnfoldsWithin r (All (IsWithin path)) o old new
+    → UnfoldsWithin r (BelongTo r path) o old new
+operand_inside_within r path o old new named visited =
+    unfolds_within_as r (All (IsWithin path)) (BelongTo r path) o old new (belong_visited r path named visited)
+
+below_within : (r : Bool) (depth : ℕ) (path : Text) (xs : List Text) (spots : List Spot) (rest : List Found)
+    → MayBeLeft r (map (λ x. Entry (child path x) depth) xs ++ spots) rest
+    → (here : List Found) × (more : List Found) × All (IsWithin path) here × MayBeLeft r spots more
+    × (rest ≡ here ++ more)
+below_within r depth path [] spots rest left = ([], rest, All-nil (IsWithin path), left, refl)
+below_within r depth path (x ∷ xs) spots rest left =
+    let u = below_within r depth path xs spots left.1 left.3 in (
+      left.0 ++ u.0,
+      u.1,
+      All-append (IsWithin path) left.0 u.0 (lies_below path x left.0 left.2) u.2,
+      u.3,
+      left.4 ∙ (ap (λ t. left.0 ++ t) u.4 ∙ sym (append_assoc left.0 u.0 u.1)),
+    )
+
+-- a directory whose entries are left
+pub inside_within : (r : Bool) (depth : ℕ) (path : Text) (xs : List Text) (o : Option Found) (spots : List Spot)
+    → All (IsWithin path) (shown o)
+    → UnfoldsWithin r (All (IsWithin path)) o spots (map (λ x. Entry (child path x) depth) xs ++ spots)
+inside_within r depth path xs o spots h rest left =
+    let u = below_within r depth path xs spots rest left in (
+      shown o ++ u.0,
+      u.1,
+      All-append (IsWithin path) (shown o) u.0 h u.2,
+      u.3,
+      ap (λ t. shown o ++ t) u.4 ∙ sym (append_assoc (shown o) u.0 u.1),
+    )
+
+-- what may be left at first follows the operands
+pub whole_within : (r : Bool) (ops : List Text) (items : List Found)
+    → MayBeLeft r (map (λ path. Operand path) ops) items → FollowOperands r ops items
+whole_within r [] items left = left
+whole_within r (o ∷ ops) items left = (left.0, left.1, left.4, left.2, whole_within r ops left.1 left.3)
+
+-- something may be left
+pub some_within : (r : Bool) (spots : List Spot) → (items : List Found) × MayBeLeft r spots items
+some_within r [] = ([], refl)
+some_within r (Operand path ∷ spots) =
+    let more = some_within r spots in
+    (File path ∷ more.0, (File path ∷ [], more.0, belong_one r path (File path) refl (λ e. refl), more.1, refl))
+some_within r (Entry path depth ∷ spots) =
+    let more = some_within r spots in
+    (more.0, ([], more.0, All-nil (IsWithin path), more.1, refl))

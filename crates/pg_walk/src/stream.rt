@@ -1,0 +1,265 @@
+//! The walk, one item at a time.
+ghost use Rattle.std.specs.Prelude.{◌≡◌, ◌≤◌, ◌+◌, ◌++◌, [], List, Bool, map, None, IfOk, OnOk};
+ghost use Rattle.std.specs.List.{All};
+ghost use Rattle.std.specs.Option.{option_map};
+ghost use Rattle.std.specs.String.{string_bytes};
+ghost use Rattle.pg_walk.specs.Answers.{Text};
+ghost use Rattle.pg_walk.specs.Items.{Found, found};
+ghost use Rattle.pg_walk.specs.Places.{child};
+ghost use Rattle.pg_walk.specs.Descent.{EntryGives, InsideGives, OperandGives};
+ghost use Rattle.pg_walk.specs.Within.{BelongTo, IsWithin};
+ghost use Rattle.pg_walk.specs.Left.{Operand, Entry, HasGiven, MayGive, Unfolds, UnfoldsWithin};
+ghost use Rattle.pg_walk.specs.Left.{shown, spot_of, spots_in, spot_gives};
+
+use crate::item::{Cause, Item};
+use crate::tree::{FileKind, FileTree, LookFault};
+use crate::walker::{DEEPEST, entry_path, in_order, list, look};
+use std::alloc::{AllocError, Allocator, Global};
+
+/// A path whose turn is still to come.
+#[derive(Drop)]
+pub enum Waiting<A: Allocator = Global> {
+    /// An operand.
+    Operand(String<A>),
+    /// An entry, and so many names it is below its operand.
+    Entry(String<A>, u32),
+}
+
+/// Adds the entries of a directory, the first one last.
+fn push_below<A: Allocator + Copy>(
+    alloc: A,
+    waiting: &mut Vec<Waiting<A>, A>,
+    path: &str,
+    names: &[String<A>],
+    depth: u32,
+) -> Result<(), AllocError>
+    requires { depth ≤ 256 }
+    ensures { OnOk result (spots_in waiting.new.items ≡
+        map (λ n. Entry (child path.now n) (depth + 1)) (map string_bytes names.now)
+        ++ spots_in waiting.old.items) }
+{
+    let mut left = names.len();
+    while left > 0 {
+        left -= 1;
+        let below = entry_path(alloc, path, names[left].as_str())?;
+        waiting.push(Waiting::Entry(below, depth + 1))?;
+    }
+    Ok(())
+}
+
+/// Lists a directory that is visited: its entries wait. The answer is what the directory gives itself.
+fn inside<A: Allocator + Copy, T: FileTree>(
+    alloc: A,
+    tree: &T,
+    path: String<A>,
+    depth: u32,
+    waiting: &mut Vec<Waiting<A>, A>,
+) -> Result<Option<Item<A>>, AllocError>
+    requires { depth ≤ 256 }
+    ensures gives { T.tells tree.now → IfOk result (λ item. (recursive : Bool) →
+        Unfolds (T.answers tree.now) recursive (InsideGives (T.answers tree.now) depth (string_bytes path))
+        (option_map found item) (spots_in waiting.old.items) (spots_in waiting.new.items)) }
+    ensures within { IfOk result (λ item. (recursive : Bool) →
+        UnfoldsWithin recursive (All (IsWithin (string_bytes path)))
+        (option_map found item) (spots_in waiting.old.items) (spots_in waiting.new.items)) }
+{
+    let listing = match list(alloc, tree, path.as_str()) {
+        Ok(listing) => listing,
+        Err(LookFault::Failed) => return Ok(Some(Item::Fault(path, Cause::CannotList))),
+        Err(LookFault::OutOfMemory) => return Err(AllocError),
+    };
+    let nameless = listing.nameless;
+    let names = in_order(listing.names);
+    push_below(alloc, waiting, path.as_str(), names.as_slice(), depth)?;
+    if nameless {
+        Ok(Some(Item::Fault(path, Cause::BadName)))
+    } else {
+        Ok(None)
+    }
+}
+
+/// Takes the turn of an entry.
+fn entry<A: Allocator + Copy, T: FileTree>(
+    alloc: A,
+    tree: &T,
+    path: String<A>,
+    depth: u32,
+    waiting: &mut Vec<Waiting<A>, A>,
+) -> Result<Option<Item<A>>, AllocError>
+    ensures gives { T.tells tree.now → IfOk result (λ item. (recursive : Bool) →
+        Unfolds (T.answers tree.now) recursive (EntryGives (T.answers tree.now) depth (string_bytes path))
+        (option_map found item) (spots_in waiting.old.items) (spots_in waiting.new.items)) }
+    ensures within { IfOk result (λ item. (recursive : Bool) →
+        UnfoldsWithin recursive (All (IsWithin (string_bytes path)))
+        (option_map found item) (spots_in waiting.old.items) (spots_in waiting.new.items)) }
+{
+    match look(tree, path.as_str(), false) {
+        Ok(FileKind::Regular) => Ok(Some(Item::File(path))),
+        Ok(FileKind::Directory) => {
+            if depth > DEEPEST {
+                Ok(Some(Item::Fault(path, Cause::TooDeep)))
+            } else {
+                inside(alloc, tree, path, depth, waiting)
+            }
+        }
+        Ok(FileKind::Link) => Ok(None),
+        Ok(FileKind::Other) => Ok(None),
+        Err(LookFault::Failed) => Ok(Some(Item::Fault(path, Cause::CannotOpen))),
+        Err(LookFault::OutOfMemory) => Err(AllocError),
+    }
+}
+
+/// Takes the turn of an operand.
+fn operand<A: Allocator + Copy, T: FileTree>(
+    alloc: A,
+    tree: &T,
+    path: String<A>,
+    recursive: bool,
+    waiting: &mut Vec<Waiting<A>, A>,
+) -> Result<Option<Item<A>>, AllocError>
+    ensures gives { T.tells tree.now → IfOk result (λ item.
+        Unfolds (T.answers tree.now) recursive (OperandGives (T.answers tree.now) recursive (string_bytes path))
+        (option_map found item) (spots_in waiting.old.items) (spots_in waiting.new.items)) }
+    ensures within { IfOk result (λ item. UnfoldsWithin recursive (BelongTo recursive (string_bytes path))
+        (option_map found item) (spots_in waiting.old.items) (spots_in waiting.new.items)) }
+{
+    if path.as_str() == "-" {
+        return Ok(Some(Item::File(path)));
+    }
+    match look(tree, path.as_str(), true) {
+        Ok(FileKind::Regular) => Ok(Some(Item::File(path))),
+        Ok(FileKind::Other) => Ok(Some(Item::File(path))),
+        Ok(FileKind::Directory) => {
+            if recursive {
+                inside(alloc, tree, path, 0, waiting)
+            } else {
+                Ok(Some(Item::Fault(path, Cause::IsDirectory)))
+            }
+        }
+        Ok(FileKind::Link) => Ok(Some(Item::Fault(path, Cause::CannotOpen))),
+        Err(LookFault::Failed) => Ok(Some(Item::Fault(path, Cause::CannotOpen))),
+        Err(LookFault::OutOfMemory) => Err(AllocError),
+    }
+}
+
+/// Takes a path's turn.
+fn visit<A: Allocator + Copy, T: FileTree>(
+    alloc: A,
+    tree: &T,
+    next: Waiting<A>,
+    recursive: bool,
+    waiting: &mut Vec<Waiting<A>, A>,
+) -> Result<Option<Item<A>>, AllocError>
+    ensures gives { T.tells tree.now → IfOk result (λ item.
+        Unfolds (T.answers tree.now) recursive (spot_gives (T.answers tree.now) recursive (spot_of next))
+        (option_map found item) (spots_in waiting.old.items) (spots_in waiting.new.items)) }
+    ensures within { IfOk result (λ item. UnfoldsWithin recursive (MayGive recursive (spot_of next))
+        (option_map found item) (spots_in waiting.old.items) (spots_in waiting.new.items)) }
+{
+    match next {
+        Waiting::Operand(path) => operand(alloc, tree, path, recursive, waiting),
+        Waiting::Entry(path, depth) => entry(alloc, tree, path, depth, waiting),
+    }
+}
+
+/// The operands as they wait, the first one last.
+fn operands_waiting<A: Allocator + Copy, B: Allocator>(
+    alloc: A,
+    operands: &[String<B>],
+) -> Result<Vec<Waiting<A>, A>, AllocError>
+    ensures { IfOk result (λ waiting.
+        spots_in waiting.items ≡ map (λ path. Operand path) (map string_bytes operands.now)) }
+{
+    let mut waiting = Vec::new(alloc);
+    let mut left = operands.len();
+    while left > 0 {
+        left -= 1;
+        let path = String::from_str(alloc, operands[left].as_str())?;
+        waiting.push(Waiting::Operand(path))?;
+    }
+    Ok(waiting)
+}
+
+/// A walk that gives one item after the other: the same as [`walk`](crate::walk), in the same order. It
+/// holds the paths that wait: the operands that are left, and of each directory that it is inside those
+/// entries that are left.
+pub struct Walker<'t, T: FileTree, A: Allocator + Copy = Global> {
+    alloc: A,
+    /// The tree.
+    pub tree: &'t T,
+    /// Whether directories are visited.
+    pub recursive: bool,
+    /// What waits, the next one last.
+    pub waiting: Vec<Waiting<A>, A>,
+}
+
+impl<T: FileTree, A: Allocator + Copy> Drop for Walker<'_, T, A> {
+    fn drop(self) {
+        let Walker {
+            alloc: _,
+            tree: _,
+            recursive: _,
+            waiting: _,
+        } = self;
+    }
+}
+
+impl<'t, T: FileTree, A: Allocator + Copy> Walker<'t, T, A> {
+    /// A walk over operands that has given nothing yet. Nothing was asked of the tree.
+    ///
+    /// # Errors
+    ///
+    /// `AllocError` where a request for memory was refused.
+    pub fn new<B: Allocator>(
+        alloc: A,
+        tree: &'t T,
+        operands: &[String<B>],
+        recursive: bool,
+    ) -> Result<Walker<'t, T, A>, AllocError>
+        ensures same { IfOk result (λ walker. (walker.tree.now ≡ tree.now) × (walker.recursive ≡ recursive)) }
+        ensures fresh { IfOk result (λ walker. HasGiven (T.tells tree.now) (T.answers tree.now)
+            (map string_bytes operands.now) recursive [] (spots_in walker.waiting.items)) }
+    {
+        let waiting = operands_waiting(alloc, operands)?;
+        Ok(Walker {
+            alloc,
+            tree,
+            recursive,
+            waiting,
+        })
+    }
+
+    /// The next item, or `None` at the end.
+    ///
+    /// # Errors
+    ///
+    /// `AllocError` where the tree was out of memory, or a request for memory was refused, or 2^64 - 1 paths in a
+    /// row gave no item. The path whose turn it was is lost then, so the walk can't go on.
+    pub fn next(&mut self) -> Result<Option<Item<A>>, AllocError>
+        ensures same { (self.new.tree.now ≡ self.old.tree.now) × (self.new.recursive ≡ self.old.recursive) }
+        ensures gives { (operands : List Text) → (items : List Found) →
+            HasGiven (T.tells self.old.tree.now) (T.answers self.old.tree.now) operands self.old.recursive
+            items (spots_in self.old.waiting.items) →
+            IfOk result (λ item.
+            HasGiven (T.tells self.old.tree.now) (T.answers self.old.tree.now) operands self.old.recursive
+            (items ++ shown (option_map found item)) (spots_in self.new.waiting.items)) }
+        ensures end { IfOk result (λ item. item ≡ None → spots_in self.new.waiting.items ≡ []) }
+    {
+        for _ in 0..u64::MAX {
+            let Some(next) = self.waiting.pop() else {
+                return Ok(None);
+            };
+            let item = visit(
+                self.alloc,
+                self.tree,
+                next,
+                self.recursive,
+                &mut self.waiting,
+            )?;
+            if let Some(item) = item {
+                return Ok(Some(item));
+            }
+        }
+        Err(AllocError)
+    }
+}
