@@ -229,6 +229,20 @@ impl<'t, T: FileTree, A: Allocator + Copy> Walker<'t, T, A> {
         })
     }
 
+    /// A walk over no operands.
+    pub fn over_nothing(alloc: A, tree: &'t T) -> Walker<'t, T, A>
+        ensures same { result.tree.now ≡ tree.now }
+        ensures fresh { HasGiven (T.tells result.tree.now) (T.answers result.tree.now) [] result.recursive []
+            (spots_in result.waiting.items) }
+    {
+        Walker {
+            alloc,
+            tree,
+            recursive: false,
+            waiting: Vec::new(alloc),
+        }
+    }
+
     /// The next item, or `None` at the end.
     ///
     /// # Errors
