@@ -1,7 +1,7 @@
 -- What was searched.
 use Rattle.std.proofs.Common.{◌≡◌, ℕ, Bool, true, List, [], length, map, drop, ap, subst, ◌∙◌}
 use Rattle.pg_walk.specs.Answers.{Answers as Tree}
-use Rattle.pg_walk.specs.Items.{Found, found}
+use Rattle.pg_walk.specs.Items.{found}
 use Rattle.pg_walk.specs.Left.{BeginsWalk, IsWalk}
 use Rattle.pg_walk.specs.declared.item.Item.{Item}
 use Rattle.pg_lines.specs.Search.{Search}
@@ -48,7 +48,7 @@ first_sought tree tree' asked items operands recursive spares past between none 
 -- Where it is so at the end of a run.
 module _ {X : Type 0} (tells : X → Type 0) (answers : X → Tree) (tree : X) (asked : Asked) (between : List Given)
     (s : Sought X) (is : s ≡ sought_for tree asked between) where
-  pub work_of : {A : Type 0} → (past past' : List Given) → (contents : List (List ℕ))
+  abbrev pub work_of : {A : Type 0} → (past past' : List Given) → (contents : List (List ℕ))
       → HasRead past between asked.pattern_files contents → (items : List (Item A))
       → ∥ BeginsWalk (tells s.tree) (answers s.tree) s.operands s.recursive (map found items) ∥₁ → (setup : Setup)
       → IsSetup (tells tree) (answers tree) asked setup → (done : Bool)

@@ -1,1 +1,0 @@
-use Rattle.pg_command.proofs.search.list_files.Goals as goal
