@@ -12,11 +12,11 @@ use Rattle.pg_walk.specs.Answers.{Answers, Text}
 use Rattle.pg_walk.specs.Items.{Found, File as AFile, Fault, found, path_in}
 use Rattle.pg_walk.specs.Left.{BeginsWalk, HasGiven, Spot, shown as found_in}
 use Rattle.pg_walk.specs.declared.item.Item.{Item}
-use Rattle.pg_files.specs.Given.{Given, NoFile, File, FilesPast, is_reading, gave_bytes, gave_end}
+use Rattle.pg_files.specs.Given.{Given, NoFile, File, is_reading, gave_bytes, gave_end}
 use Rattle.pg_files.specs.Given.{AreGiven, MaySpare, is_output, name_of, shown_name}
-use Rattle.pg_files.specs.Asking.{NextGives, ReadGives, read_given}
+use Rattle.pg_files.specs.Asking.{ReadGives, read_given}
 use Rattle.pg_files.specs.Listed.{asked_for, file_paths, of_items, shown, AreOpened, AreSpared}
-use Rattle.pg_files.specs.Listed.{Sought, files_past, given_by, sought, Reaches}
+use Rattle.pg_files.specs.Listed.{Sought, given_by, sought, Reaches}
 use Rattle.pg_files.specs.declared.files.Step.{Step}
 
 -- one more item is asked for
@@ -214,27 +214,6 @@ module _ (so_far : List Found) where
       subst (AreSpared spares (AFile path ∷ so_far)) (sym r.2)
       (spared_more spares path so_far (NoFile path r.0) past r.3 are)
 
-  abbrev given : Bool → List Found → List Given → FilesPast
-  given done found past = record { given = given_by found past; done = done }
-
-  gives_by : (spares done : Bool) (f : Found) (step : Step) (past past' : List Given)
-      → Reaches spares f step past past' → NextGives step (given done so_far past) (given done (f ∷ so_far) past')
-  gives_by spares done (Fault path cause) step past past' r =
-      subst (λ s. NextGives s (given done so_far past) (given done (Fault path cause ∷ so_far) past')) (sym r.0)
-      (shown_name path, ap (λ p. given done (Fault path cause ∷ so_far) p) r.1)
-  gives_by spares done (AFile path) step past past' (inl r) =
-      subst (λ s. NextGives s (given done so_far past) (given done (AFile path ∷ so_far) past')) (sym r.0)
-      (shown_name path, ap (λ p. given done (AFile path ∷ so_far) p) r.1)
-  gives_by spares done (AFile path) step past past' (inr r) =
-      subst (λ s. NextGives s (given done so_far past) (given done (AFile path ∷ so_far) past')) (sym r.1)
-      (shown_name path, ap (λ p. given done (AFile path ∷ so_far) p) r.2)
-
-  behind_by : (spares : Bool) (f : Found) (step : Step) (past past' : List Given) → Reaches spares f step past past' →
-      drop (length (file_paths (f ∷ so_far))) past' ≡ drop (length (file_paths so_far)) past
-  behind_by spares (Fault path cause) step past past' r = ap (drop (length (file_paths so_far))) r.1
-  behind_by spares (AFile path) step past past' (inl r) = ap (drop (length (file_paths (AFile path ∷ so_far)))) r.1
-  behind_by spares (AFile path) step past past' (inr r) = ap (drop (length (file_paths (AFile path ∷ so_far)))) r.2
-
   -- the same where the item stands in front of those
   module _ (f : Found) (asked : List Found) (more : asked ≡ f ∷ so_far) (spares : Bool) (step : Step)
       (past past' : List Given) (reaches : Reaches spares f step past past') where
@@ -245,15 +224,6 @@ module _ (so_far : List Found) where
     pub next_spared : AreSpared spares so_far past → AreSpared spares asked past'
     next_spared are =
         subst (λ items. AreSpared spares items past') (sym more) (spare_by spares f step past past' reaches are)
-
-    pub next_gives : (done : Bool) → NextGives step (files_past done so_far past) (files_past done asked past')
-    next_gives done =
-        subst (λ items. NextGives step (given done so_far past) (given done items past')) (sym more)
-        (gives_by spares done f step past past' reaches)
-
-    pub next_behind : drop (length (file_paths asked)) past' ≡ drop (length (file_paths so_far)) past
-    next_behind =
-        ap (λ items. drop (length (file_paths items)) past') more ∙ behind_by spares f step past past' reaches
 
 -- The walk goes on in the same tree.
 module _ {X : Type 0} (tells : X → Type 0) (answers : X → Answers) (ops : List Text) (tree tree' : X)

@@ -14,11 +14,11 @@ use Rattle.pg_walk.specs.Descent.{InsideGives, Adds}
 use Rattle.pg_walk.specs.Within.{FollowOperands}
 use Rattle.pg_walk.specs.Left.{Spot, Operand, Entry, AreLeft, MayBeLeft, MayGive, shown, Unfolds, UnfoldsWithin}
 use Rattle.pg_walk.specs.Left.{spot_of, spots_in, spot_gives, BeginsWalk, HasGiven, IsWalk}
-use Rattle.pg_walk.specs.declared.stream.Waiting.{Waiting}
+use Rattle.pg_walk.specs.declared.walker.Waiting.{Waiting}
 use Rattle.pg_walk.proofs.Steps.{some_more, some_all, SomeGive, first_none, first_more, first_all}
 use Rattle.pg_walk.proofs.Steps.{FirstGive}
 use Rattle.pg_walk.proofs.Exists.{some_left}
-use Rattle.pg_walk.proofs.WithinLefts.{some_within, whole_within}
+use Rattle.pg_walk.proofs.WithinLemmas.{some_within, whole_within}
 
 -- a place with nothing below it
 pub unfolds_leaf : (a : Answers) (r : Bool) (gives : Names → Found → Type 0) (o : Option Found) (spots : List Spot)

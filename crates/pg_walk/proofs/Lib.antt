@@ -7,4 +7,3 @@ pub mod Only
 pub mod Exists
 pub mod Examples
 pub mod WithinLemmas
-pub mod WithinLefts

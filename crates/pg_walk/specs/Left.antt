@@ -8,8 +8,8 @@ use Rattle.pg_walk.specs.Places.{Names}
 use Rattle.pg_walk.specs.Walks.{names_cmp, ItemsOf, FilesOf}
 use Rattle.pg_walk.specs.Within.{BelongTo, FollowOperands, IsWithin}
 use Rattle.pg_walk.specs.Descent.{EntryGives, OperandGives}
-use Rattle.pg_walk.specs.declared.stream.Waiting.{Waiting}
-use Rattle.pg_walk.specs.declared.stream.Waiting.TheVariants as V
+use Rattle.pg_walk.specs.declared.walker.Waiting.{Waiting}
+use Rattle.pg_walk.specs.declared.walker.Waiting.TheVariants as V
 
 -- a path whose turn is still to come: an operand, or an entry of this depth
 pub data Spot : Type 0 where

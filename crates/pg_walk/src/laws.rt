@@ -7,8 +7,8 @@ ghost use Rattle.pg_walk.specs.Left.{BeginsWalk, HasGiven, IsWalk, spots_in};
 ghost use Rattle.pg_walk.specs.MemTree.{nodes, answers_of};
 
 use crate::mem_tree::MemTree;
-use crate::stream::Walker;
 use crate::tree::FileTree;
+use crate::walker::Walker;
 use std::alloc::Allocator;
 
 /// A walk over operands gives some list of items, and no other, whatever the tree answers.

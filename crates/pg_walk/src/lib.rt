@@ -5,7 +5,6 @@ mod disk_tree;
 mod item;
 mod laws;
 mod mem_tree;
-mod stream;
 mod tree;
 mod walker;
 
@@ -13,6 +12,5 @@ pub use disk_tree::DiskTree;
 pub use item::{Cause, Item};
 pub use laws::{files_are_one, mem_tree_tells, what_is_given};
 pub use mem_tree::{MemTree, Node};
-pub use stream::{Waiting, Walker};
 pub use tree::{FileKind, FileTree, Listing, LookFault};
-pub use walker::walk;
+pub use walker::{Waiting, Walker};

@@ -5,7 +5,7 @@ use Rattle.pg_walk.specs.Places.{child}
 use Rattle.pg_walk.specs.Answers.{Text}
 use Rattle.pg_walk.specs.Left.{Spot, Entry, spots_in}
 use Rattle.pg_walk.proofs.Lefts.{pushed}
-use Rattle.pg_walk.proofs.stream.push_below.Goals as goal
+use Rattle.pg_walk.proofs.walker.push_below.Goals as goal
 
 pub loop-left-init : goal.loop-left-init
 loop-left-init g c = (

@@ -2,7 +2,7 @@ use Rattle.std.proofs.Common.{◌≡◌, List}
 use Rattle.pg_walk.specs.Answers.{Text}
 use Rattle.pg_walk.specs.Items.{Found}
 use Rattle.pg_walk.specs.Left.{spots_in, HasGiven}
-use Rattle.pg_walk.proofs.stream.Walker.next.Given as goal
+use Rattle.pg_walk.proofs.walker.Walker.next.Given as goal
 
 abbrev pub invariant-loop : goal.invariant-loop
 invariant-loop g l =

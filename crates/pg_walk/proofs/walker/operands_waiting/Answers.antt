@@ -4,7 +4,7 @@ use Rattle.std.specs.String.{string_bytes}
 use Rattle.pg_walk.specs.Answers.{Text}
 use Rattle.pg_walk.specs.Left.{Spot, Operand, spots_in}
 use Rattle.pg_walk.proofs.Lefts.{pushed}
-use Rattle.pg_walk.proofs.stream.operands_waiting.Goals as goal
+use Rattle.pg_walk.proofs.walker.operands_waiting.Goals as goal
 
 pub loop-left-init : goal.loop-left-init
 loop-left-init g c = (

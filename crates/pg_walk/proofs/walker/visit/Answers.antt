@@ -1,5 +1,5 @@
 use Rattle.std.proofs.lemmas.Result.{IfOk-weaker}
-use Rattle.pg_walk.proofs.stream.visit.Goals as goal
+use Rattle.pg_walk.proofs.walker.visit.Goals as goal
 
 pub returns-in-Operand-clause-gives : goal.returns-in-Operand-clause-gives
 returns-in-Operand-clause-gives g c = λ tells. rw c.in-Operand.is (c.operand.ensures.gives tells)

@@ -9,8 +9,8 @@ use Rattle.pg_walk.specs.declared.tree.FileKind.TheVariants.{Regular, Link, Othe
 use Rattle.pg_walk.specs.declared.item.Cause.TheVariants.{CannotOpen, TooDeep}
 use Rattle.pg_walk.proofs.Steps.{entry_leaf, entry_deep, entry_inside}
 use Rattle.pg_walk.proofs.Lefts.{unfolds_leaf, unfolds_as}
-use Rattle.pg_walk.proofs.WithinLefts.{entry_leaf_within, entry_none_within}
-use Rattle.pg_walk.proofs.stream.entry.Goals as goal
+use Rattle.pg_walk.proofs.WithinLemmas.{entry_leaf_within, entry_none_within}
+use Rattle.pg_walk.proofs.walker.entry.Goals as goal
 
 pub returns-in-Ok-Regular-clause-gives : goal.returns-in-Ok-Regular-clause-gives
 returns-in-Ok-Regular-clause-gives g c = λ tells r.

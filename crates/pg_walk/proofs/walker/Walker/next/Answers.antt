@@ -4,7 +4,7 @@ use Rattle.pg_walk.specs.Items.{Found, found}
 use Rattle.pg_walk.specs.declared.item.Item.{Item}
 use Rattle.pg_walk.specs.Left.{Spot, HasGiven, MayGive, Unfolds, UnfoldsWithin, spot_of, spots_in, spot_gives}
 use Rattle.pg_walk.proofs.Lefts.{given_more, given_same, spots_more}
-use Rattle.pg_walk.proofs.stream.Walker.next.Goals as goal
+use Rattle.pg_walk.proofs.walker.Walker.next.Goals as goal
 
 pub returns-in_default-clause-gives : goal.returns-in_default-clause-gives
 returns-in_default-clause-gives g c = λ operands items h.

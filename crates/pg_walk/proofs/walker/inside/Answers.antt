@@ -11,9 +11,9 @@ use Rattle.pg_walk.specs.Left.{Spot, Entry, spots_in, Unfolds, UnfoldsWithin}
 use Rattle.pg_walk.specs.declared.item.Cause.TheVariants.{CannotList, BadName}
 use Rattle.pg_walk.proofs.Steps.{inside_fails, some_bad, some_good}
 use Rattle.pg_walk.proofs.Lefts.{unfolds_leaf, unfolds_inside}
-use Rattle.pg_walk.proofs.WithinLefts.{entry_leaf_within, inside_within}
+use Rattle.pg_walk.proofs.WithinLemmas.{entry_leaf_within, inside_within}
 use Rattle.pg_walk.proofs.WithinLemmas.{only}
-use Rattle.pg_walk.proofs.stream.inside.Goals as goal
+use Rattle.pg_walk.proofs.walker.inside.Goals as goal
 
 pub returns-in-Err-Failed-clause-gives : goal.returns-in-Err-Failed-clause-gives
 returns-in-Err-Failed-clause-gives g c = λ tells r.
