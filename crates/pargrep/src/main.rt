@@ -23,7 +23,7 @@ fn main(rt: HostRuntime) -> ExitCode {
     };
     let words = words_of(&rt);
     let tree = DiskTree::new(&rt);
-    let mut files = Listed::new(alloc, DiskStore::new(&rt));
+    let mut files = Listed::new(alloc, &tree, DiskStore::new(&rt));
     let mut out = Out::new(buffered);
     ExitCode::from(run(&rt, alloc, words, &tree, &mut files, &mut out, &mut err))
 }

@@ -10,7 +10,7 @@ use std::process::Abort;
 use std::rt::Files;
 use std::{fs, io, process, thread};
 
-/// The stack of the thread that walks, in bytes: 4 KiB for each level of directories.
+/// The stack of the thread that walks, in bytes.
 const SMALL_STACK: usize = 0x10_0000;
 
 /// Makes a new directory, which is the test's own, and directories below it down to a level that is too deep, and one

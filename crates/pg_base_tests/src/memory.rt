@@ -1,6 +1,6 @@
 //! Walks over trees in memory.
 use crate::rows::{assert_text, cut, halves};
-use pg_walk::{FileKind, FileTree, Item, Listing, LookFault, MemTree, Node, walk};
+use pg_walk::{FileKind, FileTree, Item, Listing, LookFault, MemTree, Node, Walker};
 use refusing::Refusing;
 use std::alloc::{AllocError, Allocator, Global};
 use std::cell::Cell;
@@ -117,6 +117,21 @@ pub(crate) fn assert_walked(
     }
 }
 
+/// All items of a walk, which are at most 1,000.
+fn all_of<T: FileTree, A: Allocator + Copy>(
+    mut walker: Walker<'_, T, A>,
+    alloc: A,
+) -> Result<Vec<Item<A>, A>, AllocError> {
+    let mut items = Vec::new(alloc);
+    for _ in 0..1000u32 {
+        let Some(item) = walker.next()? else {
+            break;
+        };
+        items.push(item)?;
+    }
+    Ok(items)
+}
+
 /// Walks over operands, and shows the items.
 pub(crate) fn walked<T: FileTree>(
     alloc: Global,
@@ -125,7 +140,8 @@ pub(crate) fn walked<T: FileTree>(
     recursive: bool,
 ) -> Result<String, AllocError> {
     let operands = texts(alloc, operands)?;
-    let items = walk(alloc, tree, operands.as_slice(), recursive)?;
+    let walker = Walker::new(alloc, tree, operands.as_slice(), recursive)?;
+    let items = all_of(walker, alloc)?;
     shown(alloc, items.as_slice())
 }
 
@@ -389,12 +405,21 @@ fn some_walk(rt: &impl Abort, alloc: Global) -> Result<(MemTree, Vec<String>), A
     Ok((tree_of(rt, alloc, REFUSED)?, texts(alloc, "d d - gone")?))
 }
 
+/// Walks where requests may be refused.
+fn walk_refused<'h>(
+    heap: &'h Refusing,
+    tree: &MemTree,
+    operands: &[String],
+) -> Result<Vec<Item<&'h Refusing>, &'h Refusing>, AllocError> {
+    all_of(Walker::new(heap, tree, operands, true)?, heap)
+}
+
 /// Whether a walk gives what it should, or wants memory where a request is refused.
 pub(crate) fn is_walked(rt: &impl Abort, alloc: Global, heap: &Refusing) -> bool {
     let Ok((tree, operands)) = some_walk(rt, alloc) else {
         return false;
     };
-    match walk(heap, &tree, operands.as_slice(), true) {
+    match walk_refused(heap, &tree, operands.as_slice()) {
         Ok(items) => !heap.has_refused() && are_allowed(alloc, items.as_slice()),
         Err(AllocError) => heap.has_refused(),
     }

@@ -21,7 +21,7 @@ status_small q format entries =
     chosen (is_quiet format.mode && list_any (has_selected q) entries) (list_any is_bad entries)
     (list_any (has_selected q) entries)
 
-pub finishes_small : {q : Search} {setup : Setup} {listed : List Found} {past : FilesPast}
-    {out out' told told' : Stream} {answer : ℕ} → Finishes q setup listed past out out' told told' answer → answer ≤ 2
-finishes_small {q} {setup} {listed} {past} done =
+pub finishes_small : {q : Search} {setup : Setup} {finds : List Found → Type 0} {past : FilesPast}
+    {out out' told told' : Stream} {answer : ℕ} → Finishes q setup finds past out out' told told' answer → answer ≤ 2
+finishes_small {q} {setup} {finds} {past} done =
     subst (λ n. n ≤ 2) (sym done.answered) (status_small q setup.format (entries_given past.given))

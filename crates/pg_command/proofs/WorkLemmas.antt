@@ -1,42 +1,87 @@
 -- What was searched.
-use Rattle.std.proofs.Common.{◌≡◌, ◌∙◌, ℕ, Bool, true, List, length, drop, ap, subst, sym}
+use Rattle.std.proofs.Common.{◌≡◌, ℕ, Bool, true, List, [], length, map, drop, ap, subst, ◌∙◌}
 use Rattle.pg_walk.specs.Answers.{Answers as Tree}
-use Rattle.pg_walk.specs.Items.{Found}
-use Rattle.pg_walk.specs.Walks.{FilesOf}
-use Rattle.pg_walk.specs.Within.{FollowOperands}
-use Rattle.pg_files.specs.Given.{Given}
-use Rattle.pg_files.specs.Listed.{asked_for, file_paths, sources, AreOpened, AreSpared}
+use Rattle.pg_walk.specs.Items.{found}
+use Rattle.pg_walk.specs.Left.{BeginsWalk, IsWalk}
+use Rattle.pg_walk.specs.declared.item.Item.{Item}
+use Rattle.pg_lines.specs.Search.{Search}
+use Rattle.pg_files.specs.Given.{FilesPast, Given}
+use Rattle.pg_files.specs.Listed.{asked_for, file_paths, AreOpened, AreSpared, Sought, sought}
+use Rattle.pg_run.specs.Outcome.{Finishes, Stream}
 use Rattle.pg_run.specs.declared.setup.Setup.{Setup}
-use Rattle.pg_command.specs.Answers.{IsSetup, Work}
+use Rattle.pg_command.specs.Answers.{IsSetup, MayBeAll, Work}
 use Rattle.pg_command.specs.Asked.{Asked, spares_output}
 use Rattle.pg_command.specs.Reading.{HasRead}
 
--- the run has changed neither the list nor what was given before
-abbrev pub work_of : (tells : Type 0) (tree : Tree) (asked : Asked)
-    → (past between past' : List Given) (contents : List (List ℕ))
-    → HasRead past between asked.pattern_files contents
-    → (listed items : List Found) → (tells → FilesOf tree asked.files asked.recursive listed)
-    → FollowOperands asked.recursive asked.files listed → (setup : Setup) → IsSetup tells tree asked setup
-    → (first count : ℕ) → (done spares spares' : Bool) → first ≡ 0 → spares ≡ spares_output asked.format.mode
-    → (done ≡ true → count ≡ length items) → AreOpened (asked_for count items) past'
-    → AreSpared spares' (asked_for count items) past'
-    → sources count items spares' past' ≡ sources first listed spares between
-    → Work tells tree asked past past'
-work_of tells tree asked past between past' contents read listed items walked follow setup is_setup first count done
-    spares spares' fresh by_mode whole opened spared same = record {
-      contents = contents;
-      between = between;
-      read = read;
-      items = items;
-      walked = λ t. subst (FilesOf tree asked.files asked.recursive) (sym (ap (λ s. s.items) same)) (walked t);
-      follow = subst (FollowOperands asked.recursive asked.files) (sym (ap (λ s. s.items) same)) follow;
-      setup = setup;
-      is_setup = is_setup;
-      count = count;
-      done = done;
-      whole = whole;
-      opened = opened;
-      spared = subst (λ b. AreSpared b (asked_for count items) past') (ap (λ s. s.spares) same ∙ by_mode) spared;
-      earlier = ap (λ s. s.earlier) same
-          ∙ ap (λ n. drop (length (file_paths (asked_for n listed))) between) fresh;
-    }
+-- what a walk over the operands looks for, behind what was given before
+abbrev pub sought_for : {X : Type 0} → X → Asked → List Given → Sought X
+sought_for tree asked earlier = record {
+  tree = tree;
+  operands = asked.files;
+  recursive = asked.recursive;
+  spares = spares_output asked.format.mode;
+  earlier = earlier;
+}
+
+-- it is looked for, part by part
+pub is_sought : {X : Type 0} (tree : X) (asked : Asked) (earlier : List Given) (s : Sought X) → s.tree ≡ tree
+    → s.operands ≡ asked.files → s.recursive ≡ asked.recursive → s.spares ≡ spares_output asked.format.mode
+    → s.earlier ≡ earlier → s ≡ sought_for tree asked earlier
+is_sought {X} tree asked earlier s t o r p e =
+    let at : X → List (List ℕ) → Bool → Bool → List Given → Sought X = λ a b c d f.
+    record { tree = a; operands = b; recursive = c; spares = d; earlier = f } in
+    ap (λ a. at a s.operands s.recursive s.spares s.earlier) t
+    ∙ (ap (λ b. at tree b s.recursive s.spares s.earlier) o
+    ∙ (ap (λ c. at tree asked.files c s.spares s.earlier) r
+    ∙ (ap (λ d. at tree asked.files asked.recursive d s.earlier) p
+    ∙ ap (at tree asked.files asked.recursive (spares_output asked.format.mode)) e)))
+
+-- and so where nothing was asked for yet
+pub first_sought : {X A : Type 0} (tree tree' : X) (asked : Asked) (items : List (Item A)) (operands : List (List ℕ))
+    (recursive spares : Bool) (past between : List Given) → items ≡ [] → tree' ≡ tree → operands ≡ asked.files
+    → recursive ≡ asked.recursive → spares ≡ spares_output asked.format.mode → past ≡ between
+    → sought tree' operands recursive spares (asked_for items) past ≡ sought_for tree asked between
+first_sought tree tree' asked items operands recursive spares past between none t o r p e =
+    is_sought tree asked between (sought tree' operands recursive spares (asked_for items) past) t o r p
+    (ap (λ is. drop (length (file_paths (asked_for is))) past) none ∙ e)
+
+-- Where it is so at the end of a run.
+module _ {X : Type 0} (tells : X → Type 0) (answers : X → Tree) (tree : X) (asked : Asked) (between : List Given)
+    (s : Sought X) (is : s ≡ sought_for tree asked between) where
+  abbrev pub work_of : {A : Type 0} → (past past' : List Given) → (contents : List (List ℕ))
+      → HasRead past between asked.pattern_files contents → (items : List (Item A))
+      → ∥ BeginsWalk (tells s.tree) (answers s.tree) s.operands s.recursive (map found items) ∥₁ → (setup : Setup)
+      → IsSetup (tells tree) (answers tree) asked setup → (done : Bool)
+      → (done ≡ true → ∥ IsWalk (tells s.tree) (answers s.tree) s.operands s.recursive (map found items) ∥₁)
+      → AreOpened (asked_for items) past' → AreSpared s.spares (asked_for items) past'
+      → drop (length (file_paths (asked_for items))) past' ≡ s.earlier
+      → Work (tells tree) (answers tree) asked past past'
+  work_of past past' contents read items begins setup is_setup done whole opened spared earlier =
+      let B : Sought X → Type 0 = λ q.
+      ∥ BeginsWalk (tells q.tree) (answers q.tree) q.operands q.recursive (map found items) ∥₁ in
+      let W : Sought X → Type 0 = λ q.
+      ∥ IsWalk (tells q.tree) (answers q.tree) q.operands q.recursive (map found items) ∥₁ in
+      record {
+        contents = contents;
+        between = between;
+        read = read;
+        items = map found items;
+        begins = subst B is begins;
+        setup = setup;
+        is_setup = is_setup;
+        done = done;
+        whole = λ d. subst W is (whole d);
+        opened = opened;
+        spared = subst (λ q. AreSpared q.spares (asked_for items) past') is spared;
+        earlier = earlier ∙ ap (λ q. q.earlier) is;
+      }
+
+  pub finishes_so : (search : Search) (setup : Setup) (past : FilesPast) (out out' told told' : Stream) (status : ℕ)
+      → Finishes search setup (λ items. ∥ IsWalk (tells s.tree) (answers s.tree) s.operands s.recursive items ∥₁) past
+      out out' told told' status
+      → Finishes search setup (MayBeAll (tells tree) (answers tree) asked) past out out' told told' status
+  finishes_so search setup past out out' told told' status f =
+      let F : Sought X → Type 0 = λ q. Finishes search setup
+      (λ items. ∥ IsWalk (tells q.tree) (answers q.tree) q.operands q.recursive items ∥₁) past
+      out out' told told' status in
+      subst F is f

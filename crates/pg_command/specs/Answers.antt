@@ -1,16 +1,15 @@
 -- What a search answers, and what it writes.
-use Rattle.std.specs.Prelude.{◌≡◌, ℕ, ◌^◌, ◌⊎◌, Bool, not, ◌&&◌, List, [], ◌∷◌, codes, length, drop}
+use Rattle.std.specs.Prelude.{◌≡◌, ℕ, ◌^◌, ◌⊎◌, Bool, not, ◌&&◌, List, [], ◌∷◌, codes, length, drop, reverse}
 use Rattle.std.specs.Prelude.{Option, Some, None, Result, Ok, Err}
 use Rattle.pg_lines.specs.Search.{Search}
 use Rattle.pg_walk.specs.Answers.{Answers as Tree}
 use Rattle.pg_walk.specs.Items.{Found}
 use Rattle.pg_walk.specs.Places.{is_standard_input}
-use Rattle.pg_walk.specs.Walks.{FilesOf}
-use Rattle.pg_walk.specs.Within.{FollowOperands}
+use Rattle.pg_walk.specs.Left.{BeginsWalk, IsWalk}
 use Rattle.pg_walk.specs.declared.tree.FileKind.{FileKind}
 use Rattle.pg_walk.specs.declared.tree.FileKind.TheVariants.{Regular, Directory, Link, Other}
 use Rattle.pg_files.specs.Given.{Given}
-use Rattle.pg_files.specs.Listed.{asked_for, file_paths, files_past, AreOpened, AreSpared}
+use Rattle.pg_files.specs.Listed.{file_paths, files_past, AreOpened, AreSpared}
 use Rattle.pg_run.specs.Outcome.{Stream, IsSearchFor, Finishes, BreaksOff}
 use Rattle.pg_run.specs.declared.fault.RunFault.{RunFault}
 use Rattle.pg_run.specs.declared.setup.Setup.{Setup}
@@ -46,25 +45,27 @@ pub record IsSetup (tells : Type 0) (tree : Tree) (asked : Asked) (setup : Setup
   pub silent : setup.silent ≡ asked.silent
   pub line : setup.line ≡ 2 ^ 30
 
--- What was searched: the -f files were read, then the operands walked over, and some first items of the walk were asked
--- for, each file by its path, and nothing else was opened. `done` says that these are all. What is known of the walk is
--- all of it where the tree tells its answers; of any other tree that the items follow the operands. A file is refused
--- because standard output goes there only where rows are written.
+-- these may be all items of a walk over the operands
+abbrev pub MayBeAll : Type 0 → Tree → Asked → List Found → Type 0
+MayBeAll tells tree asked items = ∥ IsWalk tells tree asked.files asked.recursive items ∥₁
+
+-- What was searched: the -f files were read, then the operands walked over as far as items were asked for, each file
+-- opened by its path, and nothing else. The items are the first ones of the walk, and where `done` says so all of them.
+-- What is known of the walk is all of it where the tree tells its answers; of any other tree that the items follow the
+-- operands. A file is refused because standard output goes there only where rows are written.
 pub record Work (tells : Type 0) (tree : Tree) (asked : Asked) (past past' : List Given) : Type 0 where
   pub contents : List (List ℕ)
   pub between : List Given
   pub read : HasRead past between asked.pattern_files contents
   pub items : List Found
-  pub walked : tells → FilesOf tree asked.files asked.recursive items
-  pub follow : FollowOperands asked.recursive asked.files items
+  pub begins : ∥ BeginsWalk tells tree asked.files asked.recursive items ∥₁
   pub setup : Setup
   pub is_setup : IsSetup tells tree asked setup
-  pub count : ℕ
   pub done : Bool
-  pub whole : done ≡ Bool.true → count ≡ length items
-  pub opened : AreOpened (asked_for count items) past'
-  pub spared : AreSpared (spares_output asked.format.mode) (asked_for count items) past'
-  pub earlier : drop (length (file_paths (asked_for count items))) past' ≡ between
+  pub whole : done ≡ Bool.true → MayBeAll tells tree asked items
+  pub opened : AreOpened (reverse items) past'
+  pub spared : AreSpared (spares_output asked.format.mode) (reverse items) past'
+  pub earlier : drop (length (file_paths (reverse items))) past' ≡ between
 
 -- The run over all of it came to its end.
 pub record Succeeds (tells : Type 0) (tree : Tree) (asked : Asked) (past past' : List Given)
@@ -73,7 +74,7 @@ pub record Succeeds (tells : Type 0) (tree : Tree) (asked : Asked) (past past' :
   pub search : Search
   pub is_search : IsSearchFor (text_of_query asked work.contents) search
   pub finishes :
-      Finishes search work.setup work.items (files_past work.count work.done work.items past')
+      Finishes search work.setup (MayBeAll tells tree asked) (files_past work.done (reverse work.items) past')
       out out' err err' status
 
 -- Some -f file couldn't be read, and nothing was written.
@@ -97,7 +98,7 @@ pub record FailsInTheRun (tells : Type 0) (tree : Tree) (asked : Asked) (past pa
   pub run : RunFault
   pub is : fault ≡ fault_of_run run
   pub breaks :
-      BreaksOff (text_of_query asked work.contents) work.setup (files_past work.count work.done work.items past')
+      BreaksOff (text_of_query asked work.contents) work.setup (files_past work.done (reverse work.items) past')
       out out' err err' run
 
 abbrev pub Fails : (tells : Type 0) → Tree → Asked → (past past' : List Given) → (out out' err err' : Stream) → Fault

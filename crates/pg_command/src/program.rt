@@ -1,5 +1,5 @@
 //! The command, over any files and streams.
-ghost use Rattle.std.specs.Prelude.{◌≡◌, ◌≤◌, ◌++◌, false, ℕ, List, codes, IfOk, OnOk, IfErr, OnErr, IsErr};
+ghost use Rattle.std.specs.Prelude.{◌≡◌, ◌≤◌, ◌++◌, [], ℕ, List, codes, IfOk, OnOk, IfErr, OnErr, IsErr};
 ghost use Rattle.pg_command.specs.Command.{Commands, IsShown, Runs};
 ghost use Rattle.pg_command.specs.Told.{Tells, TellsText};
 
@@ -23,16 +23,23 @@ use std::time::Clock;
 /// # Errors
 ///
 /// `Told` where a fault ended it, whose line went to `err`; the words are looked at first.
-pub fn command<R: Threads + Wait + Clock + Sync, T: FileTree, S: Store + Drop, W: Sink, E: Sink>(
+pub fn command<
+    't,
+    R: Threads + Wait + Clock + Sync,
+    T: FileTree,
+    S: Store + Drop,
+    W: Sink,
+    E: Sink,
+>(
     rt: &R,
     alloc: Global,
     words: &[String],
-    tree: &T,
-    files: &mut Listed<S>,
+    tree: &'t T,
+    files: &mut Listed<'t, T, S>,
     out: &mut W,
     err: &mut E,
 ) -> Result<u8, Told>
-    requires { (files.old.asked ≡ 0) × (files.old.done ≡ false) }
+    requires { files.old.walk.asked.items ≡ [] }
     ensures commands { Commands (T.tells tree.now) (T.answers tree.now)
         (S.past files.old.store) (S.past files.new.store)
         (record { taken = W.taken out.old; failures = W.failures out.old })
@@ -91,16 +98,16 @@ fn show<W: Sink, E: Sink>(alloc: Global, text: &str, out: &mut W, err: &mut E) -
 /// Runs the command over the words, or tells why they can't be had. Nothing was asked of `files` yet. The
 /// answer is the exit status of the program: that of the command, or 2 where there are no words or what
 /// standard output held back can't be sent on, which is part of success.
-pub fn run<R: Threads + Wait + Clock + Sync, T: FileTree, S: Store + Drop, W: Write, E: Sink>(
+pub fn run<'t, R: Threads + Wait + Clock + Sync, T: FileTree, S: Store + Drop, W: Write, E: Sink>(
     rt: &R,
     alloc: Global,
     words: Result<Vec<String>, Fault<'_>>,
-    tree: &T,
-    files: &mut Listed<S>,
+    tree: &'t T,
+    files: &mut Listed<'t, T, S>,
     out: &mut Out<W>,
     err: &mut E,
 ) -> u8
-    requires { (files.old.asked ≡ 0) × (files.old.done ≡ false) }
+    requires { files.old.walk.asked.items ≡ [] }
     ensures runs { OnOk words.entry (Runs (T.tells tree.now) (T.answers tree.now)
         (S.past files.old.store) (S.past files.new.store)
         (record { taken = out.old.taken; failures = out.old.failures })
@@ -121,16 +128,16 @@ pub fn run<R: Threads + Wait + Clock + Sync, T: FileTree, S: Store + Drop, W: Wr
 
 /// Runs the command and sends on what standard output holds back. Nothing was asked of `files` yet. The
 /// answer is the exit status.
-fn run_words<R: Threads + Wait + Clock + Sync, T: FileTree, S: Store + Drop, W: Write, E: Sink>(
+fn run_words<'t, R: Threads + Wait + Clock + Sync, T: FileTree, S: Store + Drop, W: Write, E: Sink>(
     rt: &R,
     alloc: Global,
     words: &[String],
-    tree: &T,
-    files: &mut Listed<S>,
+    tree: &'t T,
+    files: &mut Listed<'t, T, S>,
     out: &mut Out<W>,
     err: &mut E,
 ) -> u8
-    requires { (files.old.asked ≡ 0) × (files.old.done ≡ false) }
+    requires { files.old.walk.asked.items ≡ [] }
     ensures runs { Runs (T.tells tree.now) (T.answers tree.now)
         (S.past files.old.store) (S.past files.new.store)
         (record { taken = out.old.taken; failures = out.old.failures })

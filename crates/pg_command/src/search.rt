@@ -1,9 +1,7 @@
 //! The search that a request asks for, over any files and streams.
-ghost use Rattle.std.specs.Prelude.{◌≡◌, ◌≤◌, ◌^◌, false, map, IfOk, IfErr, OnOk};
+ghost use Rattle.std.specs.Prelude.{◌≡◌, ◌≤◌, ◌^◌, [], false, map, IfOk, IfErr, OnOk};
+ghost use Rattle.std.specs.String.{string_bytes};
 ghost use Rattle.pg_syntax.specs.Slices.{bytes_of};
-ghost use Rattle.pg_walk.specs.Items.{found};
-ghost use Rattle.pg_walk.specs.Walks.{FilesOf};
-ghost use Rattle.pg_walk.specs.Within.{FollowOperands};
 ghost use Rattle.pg_command.specs.Asked.{asked_of, has_names, spares_output};
 ghost use Rattle.pg_command.specs.Answers.{Answers, Fails, IsSetup, Succeeds};
 
@@ -14,7 +12,7 @@ use crate::query::text_of;
 use pg_files::{Listed, Store};
 use pg_rows::{Format, Mode, Sink};
 use pg_run::{FreeGate, Setup, run};
-use pg_walk::{FileTree, walk};
+use pg_walk::FileTree;
 use pg_words::{Naming, Request};
 use std::alloc::{AllocError, Global};
 use std::sync::Wait;
@@ -29,27 +27,28 @@ const LONGEST_LINE: u32 = 1_073_741_824;
 pub struct Told;
 
 /// Searches the files that a request names, which a walk over its operands in a tree gives and the
-/// store of `files` opens. What is asked for of them goes to `out`, in the request's format; rows call
-/// a file by its path, and standard input `(standard input)`. Each name that gives no file, and each
-/// file whose reading fails, has a line in `err` unless the request is silent. The answer is the
-/// status: 0 where a line was selected, 1 where none was, and 2 where a name gave no file or a reading
-/// failed; but with -q 0 where a line was selected. Nothing was asked of `files` yet.
+/// store of `files` opens, each when its turn comes. What is asked for of them goes to `out`, in the
+/// request's format; rows call a file by its path, and standard input `(standard input)`. Each name that
+/// gives no file, and each file whose reading fails, has a line in `err` unless the request is silent. The
+/// answer is the status: 0 where a line was selected, 1 where none was, and 2 where a name gave no file or
+/// a reading failed; but with -q 0 where a line was selected. Nothing was asked of `files` yet, and no
+/// directory is listed before the patterns are read.
 ///
 /// # Errors
 ///
 /// `Told` where a fault ended the search, whose line went to `err`: that of the first -f file that
 /// can't be read, then that of the patterns, the first of them that has one, or of their size, and then
 /// those that end a run. `out` got a beginning of its output then.
-pub fn answer<R: Threads + Wait + Clock + Sync, T: FileTree, S: Store + Drop, W: Sink, E: Sink>(
+pub fn answer<'t, R: Threads + Wait + Clock + Sync, T: FileTree, S: Store + Drop, W: Sink, E: Sink>(
     rt: &R,
     alloc: Global,
     request: &Request<'_>,
-    tree: &T,
-    files: &mut Listed<S>,
+    tree: &'t T,
+    files: &mut Listed<'t, T, S>,
     out: &mut W,
     err: &mut E,
 ) -> Result<u8, Told>
-    requires { (files.old.asked ≡ 0) × (files.old.done ≡ false) }
+    requires { files.old.walk.asked.items ≡ [] }
     ensures answers { Answers (T.tells tree.now) (T.answers tree.now) (asked_of request.now)
         (S.past files.old.store) (S.past files.new.store)
         (record { taken = W.taken out.old; failures = W.failures out.old })
@@ -67,18 +66,18 @@ pub fn answer<R: Threads + Wait + Clock + Sync, T: FileTree, S: Store + Drop, W:
     }
 }
 
-/// Reads the files of patterns, walks over the operands, and searches the files that this gives. Nothing
-/// was asked of `files` yet.
-fn search<'a, R: Threads + Wait + Clock + Sync, T: FileTree, S: Store + Drop, W: Sink, E: Sink>(
+/// Reads the files of patterns, and searches the files that a walk over the operands gives. Nothing was
+/// asked of `files` yet.
+fn search<'a, 't, R: Threads + Wait + Clock + Sync, T: FileTree, S: Store + Drop, W: Sink, E: Sink>(
     rt: &R,
     alloc: Global,
     request: &Request<'a>,
-    tree: &T,
-    files: &mut Listed<S>,
+    tree: &'t T,
+    files: &mut Listed<'t, T, S>,
     out: &mut W,
     err: &mut E,
 ) -> Result<u8, Fault<'a>>
-    requires { (files.old.asked ≡ 0) × (files.old.done ≡ false) }
+    requires { files.old.walk.asked.items ≡ [] }
     ensures success { IfOk result (Succeeds (T.tells tree.now) (T.answers tree.now) (asked_of request.now)
         (S.past files.old.store) (S.past files.new.store)
         (record { taken = W.taken out.old; failures = W.failures out.old })
@@ -99,28 +98,25 @@ fn search<'a, R: Threads + Wait + Clock + Sync, T: FileTree, S: Store + Drop, W:
     Ok(run(rt, alloc, text, setup, files, out, err, &FreeGate)?)
 }
 
-/// Lists what a walk over the operands gives, and says how that is searched. Nothing was asked of
-/// `files` yet.
-fn list_files<T: FileTree, S: Store + Drop>(
+/// Has a walk over the operands listed, and says how that is searched. No directory is listed yet.
+fn list_files<'t, T: FileTree, S: Store + Drop>(
     alloc: Global,
     request: &Request<'_>,
-    tree: &T,
-    files: &mut Listed<S>,
+    tree: &'t T,
+    files: &mut Listed<'t, T, S>,
 ) -> Result<Setup, AllocError>
-    requires { (files.old.asked ≡ 0) × (files.old.done ≡ false) }
-    ensures fresh { (files.new.asked ≡ 0) × (files.new.done ≡ false) }
+    ensures fresh { OnOk result ((files.new.walk.asked.items ≡ []) × (files.new.done ≡ false)) }
     ensures store { files.new.store ≡ files.old.store }
-    ensures walked { T.tells tree.now → OnOk result (FilesOf (T.answers tree.now) (asked_of request.now).files
-        request.now.recursive (map found files.new.items.items)) }
-    ensures follow { OnOk result (FollowOperands request.now.recursive (asked_of request.now).files
-        (map found files.new.items.items)) }
+    ensures walk { OnOk result ((files.new.walk.walker.tree.now ≡ tree.now)
+        × (map string_bytes files.new.walk.operands.items ≡ (asked_of request.now).files)
+        × (files.new.walk.walker.recursive ≡ request.now.recursive)) }
     ensures spares { OnOk result (files.new.spares_output ≡ spares_output request.now.format.mode) }
     ensures setup { IfOk result (IsSetup (T.tells tree.now) (T.answers tree.now) (asked_of request.now)) }
 {
     let directory = is_directory(tree, request.files.as_slice())?;
     let operands = operands_of(alloc, request.files.as_slice())?;
-    let items = walk(alloc, tree, operands.as_slice(), request.recursive)?;
-    files.list(items, spares_output(request.format.mode));
+    let spares = spares_output(request.format.mode);
+    files.list(alloc, tree, operands.as_slice(), request.recursive, spares)?;
     Ok(setup_of(request, directory))
 }
 

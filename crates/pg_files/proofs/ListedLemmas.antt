@@ -1,25 +1,29 @@
 -- The items of a walk as files that are given.
-use Rattle.std.proofs.Common.{◌≡◌, ℕ, zero, suc, ◌+◌, ◌<◌, Bool, true, false, List, [], ◌∷◌, length, map, take, drop}
-use Rattle.std.proofs.Common.{reverse, Result, Ok, Err, refl, sym, ap, subst, ◌∙◌, arith, get_or, inl}
-use Rattle.std.proofs.Common.{inr, ◌||◌, ◌++◌}
+use Rattle.std.proofs.Common.{◌≡◌, ℕ, zero, suc, Bool, true, false, List, [], ◌∷◌, length, map, take, drop}
+use Rattle.std.proofs.Common.{reverse, Result, Ok, Err, refl, sym, ap, subst, ◌∙◌, arith, inl}
+use Rattle.std.proofs.Common.{inr, ◌||◌, ◌++◌, Option, append-nil}
 use Rattle.std.specs.List.{list_any}
+use Rattle.std.specs.Option.{option_map}
 use Rattle.std.proofs.lemmas.Bool.{false≢true}
-use Rattle.std.proofs.lemmas.List.{take_more, take_all, reverse-append, map-append, get_or-map, length-map}
+use Rattle.std.proofs.lemmas.List.{reverse-append, map-append}
+use Rattle.std.proofs.Math.Logic.{∥∥₁_map}
 use Rattle.pg_rows.specs.Output.{Left}
-use Rattle.pg_walk.specs.Items.{Found, File as AFile, Fault, path_in}
-use Rattle.pg_files.specs.Given.{Given, NoFile, File, FilesPast, is_reading, newest_name, gave_bytes, gave_end}
-use Rattle.pg_files.specs.Given.{Sources}
-use Rattle.pg_files.specs.Given.{AllGiven, MaySpare, is_output, name_of, shown_name}
-use Rattle.pg_files.specs.Asking.{NextGives, ReadGives, read_given}
+use Rattle.pg_walk.specs.Answers.{Answers, Text}
+use Rattle.pg_walk.specs.Items.{Found, File as AFile, Fault, found, path_in}
+use Rattle.pg_walk.specs.Left.{BeginsWalk, HasGiven, Spot, shown as found_in}
+use Rattle.pg_walk.specs.declared.item.Item.{Item}
+use Rattle.pg_files.specs.Given.{Given, NoFile, File, is_reading, gave_bytes, gave_end}
+use Rattle.pg_files.specs.Given.{AreGiven, MaySpare, is_output, name_of, shown_name}
+use Rattle.pg_files.specs.Asking.{ReadGives, read_given}
 use Rattle.pg_files.specs.Listed.{asked_for, file_paths, of_items, shown, AreOpened, AreSpared}
-use Rattle.pg_files.specs.Listed.{given_by, files_past, Reaches, sources}
+use Rattle.pg_files.specs.Listed.{Sought, given_by, sought, Reaches}
 use Rattle.pg_files.specs.declared.files.Step.{Step}
 
 -- one more item is asked for
-pub asked_more : (items : List Found) (asked : ℕ) (d : Found) → asked < length items →
-    asked_for (asked + 1) items ≡ get_or items asked d ∷ asked_for asked items
-asked_more items asked d l =
-    ap reverse (take_more items asked d l) ∙ reverse-append (take asked items) (get_or items asked d ∷ [])
+pub asked_more : {A : Type 0} (items : List (Item A)) (item : Item A) →
+    asked_for (items ++ item ∷ []) ≡ found item ∷ asked_for items
+asked_more items item =
+    ap reverse (map-append found items (item ∷ [])) ∙ reverse-append (map found items) (found item ∷ [])
 
 -- a file that is open goes on by bytes
 bytes_by : (more : List ℕ) (items : List Found) (past : List Given) → is_reading (given_by items past) ≡ true →
@@ -158,18 +162,6 @@ abbrev head_or : List (List ℕ) → List ℕ
 head_or [] = []
 head_or (x ∷ xs) = x
 
-newest_shown : (g : Given) (given : List Given) → newest_name (shown g ∷ given) ≡ shown_name (name_of g)
-newest_shown (NoFile path cause) given = refl
-newest_shown (File path bytes ending) given = refl
-
--- the newest that was given is called by the path of the newest item
-pub name_by : (item : Found) (items : List Found) (past : List Given) →
-    AreOpened (item ∷ items) past → shown_name (path_in item) ≡ newest_name (given_by (item ∷ items) past)
-name_by (Fault path cause) items past are = refl
-name_by (AFile path) items [] are = absurd (let l : 0 ≡ length (path ∷ file_paths items) = ap length are in omega arith)
-name_by (AFile path) items (g ∷ past) are =
-    sym (newest_shown g (given_by items past) ∙ ap shown_name (ap head_or are))
-
 abbrev behind_first : List (List ℕ) → List (List ℕ)
 behind_first [] = []
 behind_first (x ∷ xs) = xs
@@ -196,27 +188,14 @@ map-reverse f (x ∷ xs) =
     ∙ (map-append f (reverse xs) (x ∷ [])
     ∙ (ap (λ ys. ys ++ f x ∷ []) (map-reverse f xs) ∙ sym (reverse-append (f x ∷ []) (map f xs))))
 
--- and so all of them, once all were asked for
-pub all_given : (items : List Found) (asked : ℕ) (past : List Given) → asked ≡ length items →
-    AreOpened (asked_for asked items) past → AllGiven items (given_by (asked_for asked items) past)
-all_given items asked past all are =
-    let whole : asked_for asked items ≡ reverse items =
-    ap reverse (ap (λ n. take n items) all ∙ take_all (length items) items (omega arith)) in
-    names_by (asked_for asked items) past are
-    ∙ (ap (map (λ item. shown_name (path_in item))) whole ∙ map-reverse (λ item. shown_name (path_in item)) items)
+-- and so all that were asked for
+pub all_given : {A : Type 0} (items : List (Item A)) (past : List Given) → AreOpened (asked_for items) past →
+    AreGiven (map found items) (given_by (asked_for items) past)
+all_given items past are =
+    names_by (asked_for items) past are ∙ map-reverse (λ item. shown_name (path_in item)) (map found items)
 
--- What stands before and after the next item was reached.
-module _ {E : Type 0} (view : E → Found) (items : List E) (asked : ℕ) (item : E) (within : asked < length items)
-    (is : item ≡ get_or items asked item) where
-  more : asked_for (asked + 1) (map view items) ≡ view item ∷ asked_for asked (map view items)
-  more =
-      asked_more (map view items) asked (view item) (subst (λ n. asked < n) (sym (length-map items view)) within)
-      ∙ ap (λ x. x ∷ asked_for asked (map view items))
-      (get_or-map view items asked item (view item) within ∙ ap view (sym is))
-
-  abbrev so_far : List Found
-  so_far = asked_for asked (map view items)
-
+-- What stands before and after the next item was reached, behind those that were asked for.
+module _ (so_far : List Found) where
   opened_by : (spares : Bool) (f : Found) (step : Step) (past past' : List Given) → Reaches spares f step past past' →
       AreOpened so_far past → AreOpened (f ∷ so_far) past'
   opened_by spares (Fault path cause) step past past' r are = subst (AreOpened so_far) (sym r.1) are
@@ -224,12 +203,6 @@ module _ {E : Type 0} (view : E → Found) (items : List E) (asked : ℕ) (item 
       subst (AreOpened (AFile path ∷ so_far)) (sym r.1) (paths_more path so_far (File path [] Left) past refl are)
   opened_by spares (AFile path) step past past' (inr r) are =
       subst (AreOpened (AFile path ∷ so_far)) (sym r.2) (paths_more path so_far (NoFile path r.0) past refl are)
-
-  pub next_opened : (spares : Bool) (step : Step) (past past' : List Given)
-      → Reaches spares (view item) step past past' → AreOpened so_far past
-      → AreOpened (asked_for (asked + 1) (map view items)) past'
-  next_opened spares step past past' r are =
-      subst (λ found. AreOpened found past') (sym more) (opened_by spares (view item) step past past' r are)
 
   spare_by : (spares : Bool) (f : Found) (step : Step) (past past' : List Given) → Reaches spares f step past past' →
       AreSpared spares so_far past → AreSpared spares (f ∷ so_far) past'
@@ -241,51 +214,82 @@ module _ {E : Type 0} (view : E → Found) (items : List E) (asked : ℕ) (item 
       subst (AreSpared spares (AFile path ∷ so_far)) (sym r.2)
       (spared_more spares path so_far (NoFile path r.0) past r.3 are)
 
-  pub next_spared : (spares : Bool) (step : Step) (past past' : List Given)
-      → Reaches spares (view item) step past past' → AreSpared spares so_far past
-      → AreSpared spares (asked_for (asked + 1) (map view items)) past'
-  next_spared spares step past past' r are =
-      subst (λ found. AreSpared spares found past') (sym more) (spare_by spares (view item) step past past' r are)
+  -- the same where the item stands in front of those
+  module _ (f : Found) (asked : List Found) (more : asked ≡ f ∷ so_far) (spares : Bool) (step : Step)
+      (past past' : List Given) (reaches : Reaches spares f step past past') where
+    pub next_opened : AreOpened so_far past → AreOpened asked past'
+    next_opened are =
+        subst (λ items. AreOpened items past') (sym more) (opened_by spares f step past past' reaches are)
 
-  abbrev given : Bool → List Found → List Given → FilesPast
-  given done found past = record { given = given_by found past; done = done }
+    pub next_spared : AreSpared spares so_far past → AreSpared spares asked past'
+    next_spared are =
+        subst (λ items. AreSpared spares items past') (sym more) (spare_by spares f step past past' reaches are)
 
-  gives_by : (spares done : Bool) (f : Found) (step : Step) (past past' : List Given)
-      → Reaches spares f step past past' → NextGives step (given done so_far past) (given done (f ∷ so_far) past')
-  gives_by spares done (Fault path cause) step past past' r =
-      subst (λ s. NextGives s (given done so_far past) (given done (Fault path cause ∷ so_far) past')) (sym r.0)
-      (shown_name path, ap (λ p. given done (Fault path cause ∷ so_far) p) r.1)
-  gives_by spares done (AFile path) step past past' (inl r) =
-      subst (λ s. NextGives s (given done so_far past) (given done (AFile path ∷ so_far) past')) (sym r.0)
-      (shown_name path, ap (λ p. given done (AFile path ∷ so_far) p) r.1)
-  gives_by spares done (AFile path) step past past' (inr r) =
-      subst (λ s. NextGives s (given done so_far past) (given done (AFile path ∷ so_far) past')) (sym r.1)
-      (shown_name path, ap (λ p. given done (AFile path ∷ so_far) p) r.2)
+-- The walk goes on in the same tree.
+module _ {X : Type 0} (tells : X → Type 0) (answers : X → Answers) (ops : List Text) (tree tree' : X)
+    (recursive recursive' : Bool) (tree_is : tree' ≡ tree) (recursive_is : recursive' ≡ recursive) where
+  pub same_given : (items : List Found) (spots : List Spot) →
+      HasGiven (tells tree) (answers tree) ops recursive items spots →
+      HasGiven (tells tree') (answers tree') ops recursive' items spots
+  same_given items spots h =
+      let P : X → Type 0 = λ t. HasGiven (tells t) (answers t) ops recursive items spots in
+      let Q : Bool → Type 0 = λ r. HasGiven (tells tree') (answers tree') ops r items spots in
+      subst Q (sym recursive_is) (subst P (sym tree_is) h)
 
-  pub next_gives : (spares done : Bool) (step : Step) (past past' : List Given) →
-      Reaches spares (view item) step past past' →
-      NextGives step (files_past asked done (map view items) past) (files_past (asked + 1) done (map view items) past')
-  next_gives spares done step past past' r =
-      subst (λ found. NextGives step (given done so_far past) (given done found past')) (sym more)
-      (gives_by spares done (view item) step past past' r)
+  pub same_begins : (items : List Found) → ∥ BeginsWalk (tells tree) (answers tree) ops recursive items ∥₁ →
+      ∥ BeginsWalk (tells tree') (answers tree') ops recursive' items ∥₁
+  same_begins items h =
+      let P : X → Type 0 = λ t. ∥ BeginsWalk (tells t) (answers t) ops recursive items ∥₁ in
+      let Q : Bool → Type 0 = λ r. ∥ BeginsWalk (tells tree') (answers tree') ops r items ∥₁ in
+      subst Q (sym recursive_is) (subst P (sym tree_is) h)
 
-  behind_by : (spares : Bool) (f : Found) (step : Step) (past past' : List Given) → Reaches spares f step past past' →
-      drop (length (file_paths (f ∷ so_far))) past' ≡ drop (length (file_paths so_far)) past
-  behind_by spares (Fault path cause) step past past' r = ap (drop (length (file_paths so_far))) r.1
-  behind_by spares (AFile path) step past past' (inl r) = ap (drop (length (file_paths (AFile path ∷ so_far)))) r.1
-  behind_by spares (AFile path) step past past' (inr r) = ap (drop (length (file_paths (AFile path ∷ so_far)))) r.2
+  -- the same is looked for
+  pub same_sought : (spares : Bool) (asked asked' : List Found) (past past' : List Given) →
+      drop (length (file_paths asked')) past' ≡ drop (length (file_paths asked)) past →
+      sought tree' ops recursive' spares asked' past' ≡ sought tree ops recursive spares asked past
+  same_sought spares asked asked' past past' behind =
+      let at : X → Bool → List Given → Sought X = λ t r earlier.
+      record { tree = t; operands = ops; recursive = r; spares = spares; earlier = earlier } in
+      ap (λ t. at t recursive' (drop (length (file_paths asked')) past')) tree_is
+      ∙ ap (λ r. at tree r (drop (length (file_paths asked')) past')) recursive_is ∙ ap (at tree recursive) behind
 
-  pub next_behind : (spares : Bool) (step : Step) (past past' : List Given)
-      → Reaches spares (view item) step past past'
-      → sources (asked + 1) (map view items) spares past' ≡ sources asked (map view items) spares past
-  next_behind spares step past past' r =
-      let source : List Given → Sources = λ g. record { items = map view items; spares = spares; earlier = g } in
-      ap (λ found. source (drop (length (file_paths found)) past')) more
-      ∙ ap source (behind_by spares (view item) step past past' r)
+  -- it gave an item, or none
+  pub goes_on : {A : Type 0} (items items' : List (Item A)) (given is : Option (Item A)) (before after : List Spot) →
+      given ≡ is → map found items' ≡ map found items ++ found_in (option_map found is) →
+      ∥ HasGiven (tells tree) (answers tree) ops recursive (map found items) before ∥₁ →
+      (HasGiven (tells tree) (answers tree) ops recursive (map found items) before →
+      HasGiven (tells tree) (answers tree) ops recursive (map found items ++ found_in (option_map found given)) after) →
+      ∥ HasGiven (tells tree') (answers tree') ops recursive' (map found items') after ∥₁
+  goes_on items items' given is before after e more h step =
+      let P : List Found → Type 0 = λ fs. HasGiven (tells tree') (answers tree') ops recursive' fs after in
+      let now : map found items' ≡ map found items ++ found_in (option_map found given) =
+      more ∙ ap (λ o. map found items ++ found_in (option_map found o)) (sym e) in
+      ∥∥₁_map h (λ x. subst P (sym now)
+      (same_given (map found items ++ found_in (option_map found given)) after (step x)))
 
-  -- and then the newest is called by its path
-  pub next_name : (past : List Given) → AreOpened (asked_for (asked + 1) (map view items)) past →
-      shown_name (path_in (view item)) ≡ newest_name (given_by (asked_for (asked + 1) (map view items)) past)
-  next_name past are =
-      name_by (view item) so_far past (subst (λ found. AreOpened found past) more are)
-      ∙ ap (λ found. newest_name (given_by found past)) (sym more)
+-- no more items, and one more
+pub none_more : {A : Type 0} (items : List (Item A)) → map found items ≡ map found items ++ []
+none_more items = sym (append-nil (map found items))
+
+pub one_more : {A : Type 0} (items : List (Item A)) (item : Item A) →
+    map found (items ++ item ∷ []) ≡ map found items ++ found item ∷ []
+one_more items item = map-append found items (item ∷ [])
+
+-- what nothing was asked of
+pub none_asked : {A : Type 0} (P : List Text → List Found → Type 0) (ops ops' : List Text) (items : List (Item A)) →
+    ops' ≡ ops → items ≡ [] → P ops [] → P ops' (map found items)
+none_asked P ops ops' items e f h =
+    let Q : List Text → Type 0 = λ o. P o [] in
+    let R : List Found → Type 0 = λ i. P ops' i in
+    subst R (sym (ap (map found) f)) (subst Q (sym e) h)
+
+pub none_newest : {A : Type 0} (items : List (Item A)) → items ≡ [] → [] ≡ take 1 (asked_for items)
+none_newest items e = ap (λ i. take 1 (asked_for i)) (sym e)
+
+pub none_opened : {A : Type 0} (items : List (Item A)) (past : List Given) → items ≡ [] →
+    AreOpened (asked_for items) past
+none_opened items past e = subst (λ i. AreOpened (asked_for i) past) (sym e) refl
+
+pub none_spared : {A : Type 0} (items : List (Item A)) (spares : Bool) (past : List Given) → items ≡ [] →
+    AreSpared spares (asked_for items) past
+none_spared items spares past e = subst (λ i. AreSpared spares (asked_for i) past) (sym e) (λ s. refl)

@@ -18,13 +18,6 @@ pub record FilesPast : Type 0 where
   pub given : List Given
   pub done : Bool
 
--- what is looked for, in this order; whether the file that standard output goes to is refused; and what was given
--- before
-pub record Sources : Type 0 where
-  pub items : List Found
-  pub spares : Bool
-  pub earlier : List Given
-
 abbrev pub nothing_given : FilesPast
 nothing_given = record { given = []; done = false }
 
@@ -54,8 +47,12 @@ name_of (NoFile name cause) = name
 name_of (File name bytes ending) = name
 
 -- Each of the items was given under its name, in their order, and nothing else.
-abbrev pub AllGiven : List Found → List Given → Type 0
-AllGiven items given = map name_of given ≡ reverse (map (λ item. shown_name (path_in item)) items)
+abbrev pub AreGiven : List Found → List Given → Type 0
+AreGiven items given = map name_of given ≡ reverse (map (λ item. shown_name (path_in item)) items)
+
+-- And these are all that may be found.
+abbrev pub AllGiven : (List Found → Type 0) → List Given → Type 0
+AllGiven finds given = (items : List Found) × finds items × AreGiven items given
 
 -- it gives no file because standard output goes there
 abbrev pub is_output : Given → Bool

@@ -1,10 +1,13 @@
 -- The items of a walk as files that are given, by what a store gave for their paths.
-use Rattle.std.specs.Prelude.{◌≡◌, ◌⊎◌, ℕ, Bool, false, List, [], ◌∷◌, map, length, take, drop, reverse}
+use Rattle.std.specs.Prelude.{◌≡◌, ◌⊎◌, Bool, false, List, [], ◌∷◌, map, length, take, drop, reverse}
+use Rattle.std.specs.Prelude.{ℕ}
 use Rattle.std.specs.List.{list_any}
-use Rattle.pg_walk.specs.Items.{Found, File as AFile, Fault}
+use Rattle.pg_walk.specs.Answers.{Text}
+use Rattle.pg_walk.specs.Items.{Found, File as AFile, Fault, found}
+use Rattle.pg_walk.specs.declared.item.Item.{Item}
 use Rattle.pg_walk.specs.declared.item.Cause.{Cause}
 use Rattle.pg_rows.specs.Output.{Left}
-use Rattle.pg_files.specs.Given.{Given, NoFile, File, FilesPast, Sources, MaySpare, is_output, name_of, shown_name}
+use Rattle.pg_files.specs.Given.{Given, NoFile, File, FilesPast, MaySpare, is_output, name_of, shown_name}
 use Rattle.pg_files.specs.declared.files.Step.{Step}
 use Rattle.pg_files.specs.declared.files.Step.TheVariants.{File as NextFile, Miss as NextMiss}
 
@@ -12,9 +15,9 @@ abbrev pub shown : Given → Given
 shown (NoFile path cause) = NoFile (shown_name path) cause
 shown (File path bytes ending) = File (shown_name path) bytes ending
 
--- the first items, the last of them first
-abbrev pub asked_for : ℕ → List Found → List Found
-asked_for count items = reverse (take count items)
+-- the items that were asked for, the newest first
+abbrev pub asked_for : {A : Type 0} → List (Item A) → List Found
+asked_for items = reverse (map found items)
 
 -- The items that were asked for, the newest first, have given this: a fault itself, and a file what the store gave for
 -- it. The store's past has the newest access first, and one for each file.
@@ -50,10 +53,25 @@ Reaches spares (AFile path) step past past' =
     ⊎ ((cause : Cause) × (step ≡ NextMiss cause) × (past' ≡ NoFile path cause ∷ past)
     × MaySpare spares (NoFile path cause))
 
-abbrev pub files_past : ℕ → Bool → List Found → List Given → FilesPast
-files_past asked done items past = record { given = given_by (asked_for asked items) past; done = done }
+abbrev pub files_past : Bool → List Found → List Given → FilesPast
+files_past done asked past = record { given = given_by asked past; done = done }
+
+-- What is looked for: in which tree, from which operands, and whether directories are visited; whether the file that
+-- standard output goes to is refused; and what the store gave before.
+pub record Sought (Tree : Type 0) : Type 0 where
+  pub tree : Tree
+  pub operands : List Text
+  pub recursive : Bool
+  pub spares : Bool
+  pub earlier : List Given
 
 -- what the store gave before the items' files were opened stands behind these
-abbrev pub sources : ℕ → List Found → Bool → List Given → Sources
-sources asked items spares past =
-    record { items = items; spares = spares; earlier = drop (length (file_paths (asked_for asked items))) past }
+abbrev pub sought : {Tree : Type 0} → Tree → List Text → (recursive spares : Bool) → List Found → List Given
+    → Sought Tree
+sought tree operands recursive spares asked past = record {
+  tree = tree;
+  operands = operands;
+  recursive = recursive;
+  spares = spares;
+  earlier = drop (length (file_paths asked)) past;
+}

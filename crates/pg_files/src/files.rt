@@ -1,6 +1,7 @@
 //! Files that are given one after another.
-ghost use Rattle.std.specs.Prelude.{◌≡◌, ◌<◌, false, true, length, IfOk, OnErr};
-ghost use Rattle.pg_files.specs.Given.{AllGiven, FilesPast, Sources, is_reading, newest_name};
+ghost use Rattle.std.specs.Prelude.{◌≡◌, ◌<◌, false, true, List, length, IfOk, OnErr};
+ghost use Rattle.pg_walk.specs.Items.{Found};
+ghost use Rattle.pg_files.specs.Given.{AllGiven, FilesPast, is_reading, newest_name};
 ghost use Rattle.pg_files.specs.Asking.{NextGives, ReadGives};
 
 use pg_walk::Cause;
@@ -25,23 +26,29 @@ pub enum Step {
 
 /// Files that are given one after another, and read as far as that is asked for.
 pub trait Files {
-    /// What is looked for, and where. No call changes it.
-    ghost list: { Self → Sources };
+    /// What can be asked for.
+    ghost Request: { Type 0 };
+
+    /// What is asked for, and of what. No call changes it.
+    ghost list: { Self → Request };
+
+    /// Whether these may be all items that a request finds.
+    ghost finds: { Request → List Found → Type 0 };
 
     /// What was given.
     ghost past: { Self → FilesPast };
 
     /// Goes on to the next file or name, also where the one before wasn't read to its end. `Done` comes once all
-    /// that is listed was given. It isn't called behind `Done`.
+    /// that is found was given. It isn't called behind `Done`.
     ///
     /// # Errors
     ///
-    /// `AllocError` where a request for memory was refused. The next call tries the same again.
+    /// `AllocError` where a request for memory was refused. Nothing more is given then.
     fn next(&mut self) -> Result<Step, AllocError>
         requires { (past self.old).done ≡ false }
         ensures ok { IfOk result (λ step. NextGives step (past self.old) (past self.new)) }
         ensures all { IfOk result (λ step. step ≡ Step.Done
-            → AllGiven (list self.new).items (past self.new).given) }
+            → AllGiven (finds (list self.new)) (past self.new).given) }
         ensures err { OnErr result (past self.new ≡ past self.old) }
         ensures same_list { list self.new ≡ list self.old };
 

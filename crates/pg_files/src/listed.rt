@@ -1,37 +1,96 @@
 //! The items of a walk, given as files.
-ghost use Rattle.std.specs.Prelude.{◌≡◌, ◌≤◌, [], map, length, false, true, IfOk, OnErr};
+ghost use Rattle.std.specs.Prelude.{◌≡◌, [], map, take, false, true, None, IfOk, OnErr, OnOk};
+ghost use Rattle.std.specs.Option.{option_map};
+ghost use Rattle.std.specs.String.{string_bytes};
 ghost use Rattle.pg_walk.specs.Items.{found, path_in};
+ghost use Rattle.pg_walk.specs.Left.{BeginsWalk, HasGiven, IsWalk, shown, spots_in};
 ghost use Rattle.pg_files.specs.Given.{shown_name};
 ghost use Rattle.pg_files.specs.Listed.{asked_for, AreOpened, AreSpared, Reaches};
 
 use crate::files::{Files, ReadFault, Step};
 use crate::store::{OpenFault, Store};
-use pg_walk::Item;
+use pg_rows::History;
+use pg_walk::{FileTree, Item, Walker, what_is_given};
 use std::alloc::{AllocError, Global};
 
-/// The items of a walk, each file opened in a store when its turn comes.
-pub struct Listed<S: Store + Drop> {
-    /// What is given, in this order.
-    pub items: Vec<Item>,
-    /// So many of them were asked for.
-    pub asked: usize,
+/// A walk, and the items of it that were asked for.
+pub struct Walked<'t, T: FileTree> {
+    /// What is walked over. This takes no memory.
+    pub operands: History<String>,
+    /// What is left of the walk.
+    pub walker: Walker<'t, T>,
+    /// The items that were asked for, in their order. This takes no memory.
+    pub asked: History<Item>,
+    /// The last of them.
+    pub newest: Option<Item>,
+}
+
+impl<T: FileTree> Drop for Walked<'_, T> {
+    fn drop(self) {
+        let Walked {
+            operands: _,
+            walker: _,
+            asked: _,
+            newest: _,
+        } = self;
+    }
+}
+
+impl<'t, T: FileTree> Walked<'t, T> {
+    /// A walk over operands of which nothing was asked.
+    fn new(
+        alloc: Global,
+        tree: &'t T,
+        operands: &[String],
+        recursive: bool,
+    ) -> Result<Walked<'t, T>, AllocError>
+        ensures walk { IfOk result (λ walk. (walk.walker.tree.now ≡ tree.now) × (walk.walker.recursive ≡ recursive)
+            × (walk.operands.items ≡ operands.now)) }
+        ensures fresh { IfOk result (λ walk. (walk.asked.items ≡ []) × (walk.newest ≡ None)) }
+        ensures given { IfOk result (λ walk. HasGiven (T.tells walk.walker.tree.now) (T.answers walk.walker.tree.now)
+            (map string_bytes walk.operands.items) walk.walker.recursive [] (spots_in walk.walker.waiting.items)) }
+    {
+        let walker = Walker::new(alloc, tree, operands, recursive)?;
+        let mut named = History::new();
+        named.extend(operands);
+        Ok(Walked {
+            operands: named,
+            walker,
+            asked: History::new(),
+            newest: None,
+        })
+    }
+}
+
+/// The items of a walk, each asked of the walk when its turn comes and its file then opened in a store.
+pub struct Listed<'t, T: FileTree, S: Store + Drop> {
+    /// What is given.
+    pub walk: Walked<'t, T>,
+    /// Memory was lacking, and so the walk can't go on.
+    pub broken: bool,
     /// It was told that there is no more.
     pub done: bool,
     /// The file that the output goes to isn't opened.
     pub spares_output: bool,
     /// Where files are opened. It opened those that were asked for, and none since.
     pub store: S,
-    ghost within: { asked ≤ length items.items },
-    ghost all_asked: { done ≡ true → asked ≡ length items.items },
-    ghost are_opened: { AreOpened (asked_for asked (map found items.items)) (S.past store) },
-    ghost are_spared: { AreSpared spares_output (asked_for asked (map found items.items)) (S.past store) },
+    ghost begins: { ∥ BeginsWalk (T.tells walk.walker.tree.now) (T.answers walk.walker.tree.now)
+        (map string_bytes walk.operands.items) walk.walker.recursive (map found walk.asked.items) ∥₁ },
+    ghost goes_on: { broken ≡ false → ∥ HasGiven (T.tells walk.walker.tree.now) (T.answers walk.walker.tree.now)
+        (map string_bytes walk.operands.items) walk.walker.recursive (map found walk.asked.items)
+        (spots_in walk.walker.waiting.items) ∥₁ },
+    ghost all_asked: { done ≡ true → ∥ IsWalk (T.tells walk.walker.tree.now) (T.answers walk.walker.tree.now)
+        (map string_bytes walk.operands.items) walk.walker.recursive (map found walk.asked.items) ∥₁ },
+    ghost is_newest: { shown (option_map found walk.newest) ≡ take 1 (asked_for walk.asked.items) },
+    ghost are_opened: { AreOpened (asked_for walk.asked.items) (S.past store) },
+    ghost are_spared: { AreSpared spares_output (asked_for walk.asked.items) (S.past store) },
 }
 
-impl<S: Store + Drop> Drop for Listed<S> {
+impl<T: FileTree, S: Store + Drop> Drop for Listed<'_, T, S> {
     fn drop(self) {
         let Listed {
-            items: _,
-            asked: _,
+            walk: _,
+            broken: _,
             done: _,
             spares_output: _,
             store: _,
@@ -39,61 +98,99 @@ impl<S: Store + Drop> Drop for Listed<S> {
     }
 }
 
-impl<S: Store + Drop> Listed<S> {
-    /// No items.
-    pub fn new(alloc: Global, store: S) -> Listed<S>
-        ensures items { result.items.items ≡ [] }
-        ensures fresh { (result.asked ≡ 0) × (result.done ≡ false) }
+impl<'t, T: FileTree, S: Store + Drop> Listed<'t, T, S> {
+    /// Nothing is looked for in the tree.
+    pub fn new(alloc: Global, tree: &'t T, store: S) -> Listed<'t, T, S>
+        ensures fresh { (result.walk.asked.items ≡ []) × (result.done ≡ false) }
         ensures store { result.store ≡ store }
     {
+        let walker = Walker::over_nothing(alloc, tree);
+        what_is_given(&walker);
+        let walk = Walked {
+            operands: History::new(),
+            walker,
+            asked: History::new(),
+            newest: None,
+        };
         Listed {
-            items: Vec::new(alloc),
-            asked: 0,
+            walk,
+            broken: false,
             done: false,
             spares_output: false,
             store,
         }
     }
 
-    /// From now on these items are given, where `spares_output` is true without the file that the
-    /// output goes to.
-    pub fn list(&mut self, items: Vec<Item>, spares_output: bool)
-        ensures items { self.new.items ≡ items }
-        ensures fresh { (self.new.asked ≡ 0) × (self.new.done ≡ false) }
+    /// From now on the items of a walk over operands in a tree are given, where `spares_output` is true
+    /// without the file that the output goes to. Nothing was asked of the tree yet.
+    ///
+    /// # Errors
+    ///
+    /// `AllocError` where a request for memory was refused. What was listed before stays so.
+    pub fn list(
+        &mut self,
+        alloc: Global,
+        tree: &'t T,
+        operands: &[String],
+        recursive: bool,
+        spares_output: bool,
+    ) -> Result<(), AllocError>
+        ensures walk { OnOk result ((self.new.walk.walker.tree.now ≡ tree.now)
+            × (self.new.walk.walker.recursive ≡ recursive) × (self.new.walk.operands.items ≡ operands.now)) }
+        ensures fresh { OnOk result ((self.new.walk.asked.items ≡ []) × (self.new.done ≡ false)) }
+        ensures spares { OnOk result (self.new.spares_output ≡ spares_output) }
         ensures store { self.new.store ≡ self.old.store }
-        ensures spares { self.new.spares_output ≡ spares_output }
     {
-        self.items = items;
-        self.asked = 0;
+        let walk = Walked::new(alloc, tree, operands, recursive)?;
+        what_is_given(&walk.walker);
         self.done = false;
+        self.walk = walk;
+        self.broken = false;
         self.spares_output = spares_output;
+        Ok(())
     }
 }
 
-impl<S: Store + Drop> Files for Listed<S> {
+impl<T: FileTree, S: Store + Drop> Files for Listed<'_, T, S> {
     ghost use Rattle.std.specs.Prelude.{map};
-    ghost use Rattle.pg_walk.specs.Items.{found};
-    ghost use Rattle.pg_files.specs.Listed.{files_past, sources};
+    ghost use Rattle.std.specs.String.{string_bytes};
+    ghost use Rattle.pg_walk.specs.Left.{IsWalk};
+    ghost use Rattle.pg_files.specs.Listed.{Sought, asked_for, files_past, sought};
 
-    ghost list = { λ s. sources s.asked (map found s.items.items) s.spares_output (S.past s.store) };
+    ghost Request = { Sought T };
 
-    ghost past = { λ s. files_past s.asked s.done (map found s.items.items) (S.past s.store) };
+    ghost list = { λ s. sought s.walk.walker.tree.now (map string_bytes s.walk.operands.items) s.walk.walker.recursive
+        s.spares_output (asked_for s.walk.asked.items) (S.past s.store) };
+
+    ghost finds = { λ sought items.
+        ∥ IsWalk (T.tells sought.tree) (T.answers sought.tree) sought.operands sought.recursive items ∥₁ };
+
+    ghost past = { λ s. files_past s.done (asked_for s.walk.asked.items) (S.past s.store) };
 
     fn next(&mut self) -> Result<Step, AllocError> {
-        let Some(item) = self.items.get(self.asked) else {
+        if self.broken {
+            return Err(AllocError);
+        }
+        self.broken = true;
+        let Some(item) = self.walk.walker.next()? else {
+            what_is_given(&self.walk.walker);
+            self.broken = false;
             self.done = true;
             return Ok(Step::Done);
         };
-        let step = reach(&mut self.store, item, self.spares_output)?;
-        self.asked += 1;
+        let step = reach(&mut self.store, &item, self.spares_output)?;
+        what_is_given(&self.walk.walker);
+        self.walk.asked.push(&item);
+        self.walk.newest = Some(item);
+        self.broken = false;
         Ok(step)
     }
 
     fn name(&self) -> &[u8] {
-        if self.asked == 0 {
-            return &[];
+        match &self.walk.newest {
+            None => &[],
+            Some(item) => shown_name(path_in(item)).as_bytes(),
         }
-        shown_name(path_in(&self.items[self.asked - 1])).as_bytes()
     }
 
     fn may_wait(&self) -> bool {

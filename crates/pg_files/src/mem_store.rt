@@ -8,7 +8,7 @@ use crate::files::ReadFault;
 use crate::listed::Listed;
 use crate::past::StorePast;
 use crate::store::{OpenFault, Store};
-use pg_walk::Cause;
+use pg_walk::{Cause, MemTree};
 use std::alloc::{AllocError, Global};
 
 /// What happens behind the bytes of a file.
@@ -36,8 +36,8 @@ impl Drop for MemFile {
     }
 }
 
-/// Files in memory, given in the order of some items.
-pub type MemFiles = Listed<MemStore>;
+/// Files in memory, found in a tree in memory.
+pub type MemFiles<'t> = Listed<'t, MemTree, MemStore>;
 
 /// Files in memory. Standard input is the file at `-`.
 pub struct MemStore {

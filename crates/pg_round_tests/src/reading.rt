@@ -1,11 +1,11 @@
 //! Runs that read a file on while threads search what was read of it.
-ghost use Rattle.std.specs.Prelude.{IfOk, ◌≡◌, false};
+ghost use Rattle.std.specs.Prelude.{IfOk, ◌≡◌, [], false};
 
 use crate::fixtures::PATIENCE;
-use crate::runs::{run_over, setup, sink};
+use crate::runs::{operands_of, run_over, setup, sink, tree_of};
 use pg_files::{Ending, Listed, MemStore, OpenFault, ReadFault, Store};
 use pg_run::{Gate, RunFault};
-use pg_walk::Item;
+use pg_walk::MemTree;
 use std::alloc::{AllocError, Global};
 use std::process::Abort;
 use std::sync::Wait;
@@ -40,17 +40,17 @@ impl<'n> Store for Counted<'n> {
 }
 
 /// A file of these bytes, of which a read gives six.
-fn file_of<'n>(
+fn file_of<'n, 't>(
     alloc: Global,
+    tree: &'t MemTree,
     bytes: &[u8],
     ending: Ending,
     may_wait: bool,
     reads: &'n AtomicU64,
-) -> Result<Listed<Counted<'n>>, AllocError>
-    ensures { IfOk result (λ files. (files.asked ≡ 0) × (files.done ≡ false)) }
+) -> Result<Listed<'t, MemTree, Counted<'n>>, AllocError>
+    ensures { IfOk result (λ files. (files.walk.asked.items ≡ []) × (files.done ≡ false)) }
 {
-    let mut items = Vec::new(alloc);
-    items.push(Item::File(String::from_str(alloc, "f")?))?;
+    let operands = operands_of(alloc)?;
     let mut inner = MemStore::new(alloc);
     inner.add("f", bytes, ending)?;
     inner.set_read_limit(6);
@@ -59,8 +59,8 @@ fn file_of<'n>(
         may_wait,
         reads,
     };
-    let mut files = Listed::new(alloc, store);
-    files.list(items, true);
+    let mut files = Listed::new(alloc, tree, store);
+    files.list(alloc, tree, &operands, true, true)?;
     Ok(files)
 }
 
@@ -171,7 +171,15 @@ fn reads_on<R: Abort + Threads + Wait + Clock + Sync>(rt: &R, alloc: Global, cas
         patience: case.patience,
         given_up: AtomicU64::new(0),
     };
-    let files = file_of(alloc, case.file, case.ending, case.may_wait, &reads);
+    let tree = tree_of(alloc).expect(rt, "memory");
+    let files = file_of(
+        alloc,
+        &tree,
+        case.file,
+        case.ending,
+        case.may_wait,
+        &reads,
+    );
     let mut files = files.expect(rt, "memory");
     let mut out = sink(rt, alloc);
     let mut setup = setup(2, 2);

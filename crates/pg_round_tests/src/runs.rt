@@ -1,12 +1,12 @@
 //! Runs whose rounds are searched by threads: who searches when.
-ghost use Rattle.std.specs.Prelude.{◌≡◌, ◌≤◌, false, IfOk};
+ghost use Rattle.std.specs.Prelude.{◌≡◌, ◌≤◌, [], false, IfOk};
 ghost use Rattle.pg_files.specs.Given.{nothing_given};
 
 use crate::fixtures::{Counting, Meeting, PATIENCE, text};
-use pg_files::{Ending, Files, Listed, MemStore};
+use pg_files::{Ending, Files, Listed, MemFiles, MemStore};
 use pg_rows::{Format, MemSink, Mode, Sink, WriteError};
 use pg_run::{FreeGate, Gate, RunFault, Setup, run};
-use pg_walk::Item;
+use pg_walk::{FileKind, MemTree, Node};
 use std::alloc::{AllocError, Allocator, Global};
 use std::process::Abort;
 use std::sync::Wait;
@@ -39,16 +39,33 @@ pub(crate) fn setup(workers: u32, round: u32) -> Setup
     }
 }
 
+/// A tree of one file `f`.
+pub(crate) fn tree_of(alloc: Global) -> Result<MemTree, AllocError> {
+    let mut tree = MemTree::new(alloc);
+    tree.add("f", Node::new(FileKind::Regular))?;
+    Ok(tree)
+}
+
+/// Its path.
+pub(crate) fn operands_of(alloc: Global) -> Result<Vec<String>, AllocError> {
+    let mut operands = Vec::new(alloc);
+    operands.push(String::from_str(alloc, "f")?)?;
+    Ok(operands)
+}
+
 /// A file of these bytes, given in one read.
-fn file_of(alloc: Global, bytes: &[u8]) -> Result<Listed<MemStore>, AllocError>
-    ensures { IfOk result (λ files. (files.asked ≡ 0) × (files.done ≡ false)) }
+fn file_of<'t>(
+    alloc: Global,
+    tree: &'t MemTree,
+    bytes: &[u8],
+) -> Result<MemFiles<'t>, AllocError>
+    ensures { IfOk result (λ files. (files.walk.asked.items ≡ []) × (files.done ≡ false)) }
 {
-    let mut items = Vec::new(alloc);
-    items.push(Item::File(String::from_str(alloc, "f")?))?;
+    let operands = operands_of(alloc)?;
     let mut store = MemStore::new(alloc);
     store.add("f", bytes, Ending::Ends)?;
-    let mut files = Listed::new(alloc, store);
-    files.list(items, true);
+    let mut files = Listed::new(alloc, tree, store);
+    files.list(alloc, tree, &operands, true, true)?;
     Ok(files)
 }
 
@@ -90,7 +107,8 @@ fn writes<R: Abort + Threads + Wait + Clock + Sync, G: Gate + Sync>(
     output: &[u8],
     gate: &G,
 ) -> bool {
-    let mut files = file_of(alloc, file).expect(rt, "memory");
+    let tree = tree_of(alloc).expect(rt, "memory");
+    let mut files = file_of(alloc, &tree, file).expect(rt, "memory");
     let mut out = sink(rt, alloc);
     let found = run_over(rt, alloc, setup, &mut files, &mut out, gate);
     found.status == Ok(0) && out.bytes() == output && found.told.bytes().is_empty()
@@ -228,7 +246,8 @@ fn writes_watched<R: Abort + Threads + Wait + Clock + Sync>(
     alloc: Global,
     gate: &AfterWriting<'_>,
 ) -> bool {
-    let mut files = file_of(alloc, b"x1\nx2\n").expect(rt, "memory");
+    let tree = tree_of(alloc).expect(rt, "memory");
+    let mut files = file_of(alloc, &tree, b"x1\nx2\n").expect(rt, "memory");
     let mut out = Watched {
         inner: sink(rt, alloc),
         taken: gate.taken,

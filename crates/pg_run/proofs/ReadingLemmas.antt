@@ -22,7 +22,7 @@ use Rattle.pg_rows.specs.Sink.{IsBeginning, TakesPart}
 use Rattle.pg_rows.proofs.SinkLemmas.{takes_longer}
 use Rattle.pg_seq.specs.Plan.{Step, Announces, Ends, entries_of}
 use Rattle.pg_seq.proofs.CursorLemmas.{joined_push}
-use Rattle.pg_files.specs.Given.{Given, NoFile, File, FilesPast, Sources, entries_given, files_given}
+use Rattle.pg_files.specs.Given.{Given, NoFile, File, FilesPast, entries_given, files_given}
 use Rattle.pg_files.specs.Given.{gave_bytes, gave_end, is_reading}
 use Rattle.pg_files.specs.Given.{newest_name}
 use Rattle.pg_run.specs.Lengths.{IsTooLong}
@@ -648,11 +648,11 @@ module _ {A : Type 0} {reader : FileReader A} {aim : Aim} {given : List Given} {
 
 -- What one read came to.
 
-pub nothing_read : {A F : Type 0} {past : F → FilesPast} {list : F → Sources} {reader : FileReader A} {files : F}
+pub nothing_read : {A F L : Type 0} {past : F → FilesPast} {list : F → L} {reader : FileReader A} {files : F}
     → ReadsOn past list reader files reader files
 nothing_read = record { done = refl; before = refl; same_list = refl; cuts = λ aim steps h. h }
 
-module _ {A F : Type 0} {past : F → FilesPast} {list : F → Sources} {reader reader' : FileReader A} {files files' : F}
+module _ {A F L : Type 0} {past : F → FilesPast} {list : F → L} {reader reader' : FileReader A} {files files' : F}
     (more : reader.came ≡ More) (done : (past files').done ≡ (past files).done) (same : list files' ≡ list files) where
   -- its end, or a failure
   pub read_stopped : (failed : Bool) → (past files').given ≡ gave_end failed (past files).given
@@ -731,7 +731,7 @@ file_left {aim = aim} {given = given} h more engine' e k = record {
 }
 
 -- the file was read on
-pub read_on : {A F : Type 0} {past : F → FilesPast} {list : F → Sources} {reader reader' : FileReader A}
+pub read_on : {A F L : Type 0} {past : F → FilesPast} {list : F → L} {reader reader' : FileReader A}
     {files files' : F}
     {engine : Engine A} {aim : Aim} {out : Stream} → InFile reader engine aim (past files).given out
     → ReadsOn past list reader files reader' files' → InFile reader' engine aim (past files').given out

@@ -455,11 +455,11 @@ read_rightly {aim = aim} {given = given} b quiet none given' (inr e) =
       quiet = λ q. ends_at aim given' given e (none q);
     }
 
-module _ {A : Type 0} {engine : Engine A} {aim : Aim} {listed : List Found} {past : FilesPast} {out told : Stream}
-    (d : IsDone engine aim listed past out told) where
+module _ {A : Type 0} {engine : Engine A} {aim : Aim} {finds : List Found → Type 0} {past : FilesPast}
+    {out told : Stream} (d : IsDone engine aim finds past out told) where
   pub done_finishes : (out' : Stream) (answer : ℕ) → IsWritten aim d.rests.0.steps out'
       → answer ≡ status aim.query (format_of aim) (entries_of d.rests.0.steps) → out'.failures ≡ aim.out.failures
-      → Finishes aim.query aim.setup listed past aim.out out' aim.told told answer
+      → Finishes aim.query aim.setup finds past aim.out out' aim.told told answer
   done_finishes out' answer written answered calm =
       let b = d.rests.0 in
       let room = room_of b.holds in
@@ -547,12 +547,12 @@ breaks_first text setup past out told fault new cause =
     }
 
 -- a run is for the search that its text and trees make
-pub finishes_for : (r : Result ℕ RunFault) (text : SearchText) (setup : Setup) (listed : List Found) (past : FilesPast)
-    (out out' told told' : Stream) (own : (trees : List Pattern) × AreTreesOf text trees)
-    → IfOk r (Finishes (search_of text own.0) setup listed past out out' told told')
-    → IfOk r (λ answer. (q : Search) × IsSearchFor text q × Finishes q setup listed past out out' told told' answer)
-finishes_for (Ok answer) text setup listed past out out' told told' own f = (search_of text own.0, (refl, own.1), f)
-finishes_for (Err fault) text setup listed past out out' told told' own f = tt
+pub finishes_for : (r : Result ℕ RunFault) (text : SearchText) (setup : Setup) (finds : List Found → Type 0)
+    (past : FilesPast) (out out' told told' : Stream) (own : (trees : List Pattern) × AreTreesOf text trees)
+    → IfOk r (Finishes (search_of text own.0) setup finds past out out' told told')
+    → IfOk r (λ answer. (q : Search) × IsSearchFor text q × Finishes q setup finds past out out' told told' answer)
+finishes_for (Ok answer) text setup finds past out out' told told' own f = (search_of text own.0, (refl, own.1), f)
+finishes_for (Err fault) text setup finds past out out' told told' own f = tt
 
 pub breaks_for : (r : Result ℕ RunFault) (text : SearchText) (setup : Setup) (past : FilesPast)
     (out out' told told' : Stream) (own : (trees : List Pattern) × AreTreesOf text trees)

@@ -29,10 +29,10 @@ pub record Stream : Type 0 where
 abbrev pub IsSearchFor : SearchText → Search → Type 0
 IsSearchFor text q = (q.text ≡ text) × HasItsTrees q
 
--- all that was listed was given, each item under its name, or with -q a line was selected
-abbrev pub AsksToTheEnd : Search → Setup → List Found → FilesPast → Type 0
-AsksToTheEnd q setup listed past =
-    ((past.done ≡ true) × AllGiven listed past.given)
+-- all that may be found was given, each item under its name, or with -q a line was selected
+abbrev pub AsksToTheEnd : Search → Setup → (List Found → Type 0) → FilesPast → Type 0
+AsksToTheEnd q setup finds past =
+    ((past.done ≡ true) × AllGiven finds past.given)
     ⊎ ((is_quiet setup.format.mode ≡ true) × (list_any (has_selected q) (entries_given past.given) ≡ true))
 
 -- no name was asked for behind a file with a selected line
@@ -43,12 +43,12 @@ EndsAtSelected q (last ∷ entries) = list_any (has_selected q) entries ≡ fals
 -- A run came to its end: its output is that of what files gave, and so are the fault lines and the status. All that was
 -- listed was given, with -q up to a file with a selected line, and each file was read to its end, but where some whole
 -- lines at its front were enough.
-pub record Finishes (q : Search) (setup : Setup) (listed : List Found) (past : FilesPast)
+pub record Finishes (q : Search) (setup : Setup) (finds : List Found → Type 0) (past : FilesPast)
     (out out' told told' : Stream) (answer : ℕ) : Type 0 where
   pub written : out'.taken ≡ out.taken ++ output q setup.format (entries_given past.given)
   pub faults : told'.taken ≡ told.taken ++ told_of setup.silent past.given
   pub answered : answer ≡ status q setup.format (entries_given past.given)
-  pub asked : AsksToTheEnd q setup listed past
+  pub asked : AsksToTheEnd q setup finds past
   pub quiet : is_quiet setup.format.mode ≡ true → EndsAtSelected q (entries_given past.given)
   pub left : AreLeftRightly q setup.format (entries_given past.given)
   pub no_failure : (out'.failures ≡ out.failures) × (told'.failures ≡ told.failures)

@@ -10,7 +10,7 @@ use Rattle.pg_rows.specs.Modes.{is_quiet}
 use Rattle.pg_rows.specs.Output.{Entry, Ending, Ended, Failed, Left, output}
 use Rattle.pg_rows.specs.Sink.{TakesPart}
 use Rattle.pg_seq.specs.Plan.{Step, is_open, opened, last_blocks, entries_of}
-use Rattle.pg_files.specs.Given.{Given, FilesPast, Sources, entries_given, files_given}
+use Rattle.pg_files.specs.Given.{Given, FilesPast, entries_given, files_given}
 use Rattle.pg_run.specs.Lengths.{IsTooLong}
 use Rattle.pg_run.specs.Told.{told_of}
 use Rattle.pg_run.specs.Outcome.{Stream, GoesOn, EndsAtSelected, AsksToTheEnd, GotWholeLines, IsOfAFile, NoneFailed}
@@ -73,7 +73,7 @@ pub record InFile {A : Type 0} (reader : FileReader A) (engine : Engine A) (aim 
   pub cuts : HasCut reader aim given steps
 
 -- The reader read on: what was given before stands, and what was cut is cut.
-pub record ReadsOn {A F : Type 0} (past : F → FilesPast) (list : F → Sources) (reader : FileReader A) (files : F)
+pub record ReadsOn {A F L : Type 0} (past : F → FilesPast) (list : F → L) (reader : FileReader A) (files : F)
     (reader' : FileReader A) (files' : F) : Type 0 where
   pub done : (past files').done ≡ (past files).done
   pub before : drop 1 (past files').given ≡ drop 1 (past files).given
@@ -166,8 +166,8 @@ Goes true past past' = (drop 1 past'.given ≡ past.given) × (past'.done ≡ pa
 Goes false past past' = (past'.given ≡ past.given) × (past'.done ≡ true)
 
 -- all that is needed was given, searched and told
-pub record IsDone {A : Type 0} (engine : Engine A) (aim : Aim) (listed : List Found) (past : FilesPast)
+pub record IsDone {A : Type 0} (engine : Engine A) (aim : Aim) (finds : List Found → Type 0) (past : FilesPast)
     (out told : Stream) : Type 0 where
   pub rests : Rests engine aim past.given out told
-  pub asked : AsksToTheEnd aim.query aim.setup listed past
+  pub asked : AsksToTheEnd aim.query aim.setup finds past
   pub quiet : is_quiet (format_of aim).mode ≡ true → EndsAtSelected aim.query (entries_given past.given)

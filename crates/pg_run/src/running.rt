@@ -218,7 +218,7 @@ fn take_next<
         (stream (W.taken out.old) (W.failures out.old)) (stream (E.taken faults.old) (E.failures faults.old)) }
     ensures goes { IfOk result (λ more. Goes more (F.past files.old) (F.past files.new)) }
     ensures all { IfOk result (λ more. more ≡ false
-        → AllGiven (F.list files.new).items (F.past files.new).given) }
+        → AllGiven (F.finds (F.list files.new)) (F.past files.new).given) }
     ensures went { OnErr result (Went (F.past files.old).given (F.past files.new).given) }
     ensures same_list { F.list files.new ≡ F.list files.old }
     ensures ok { (aim : Aim) → Rests engine.old aim (F.past files.old).given
@@ -266,7 +266,7 @@ fn all_files<
     ensures same_list { F.list files.new ≡ F.list files.old }
     ensures ok { (aim : Aim) → Rests engine.old aim [] (stream (W.taken out.old) (W.failures out.old))
         (stream (E.taken faults.old) (E.failures faults.old)) →
-        OnOk result (IsDone engine.new aim (F.list files.new).items (F.past files.new)
+        OnOk result (IsDone engine.new aim (F.finds (F.list files.new)) (F.past files.new)
         (stream (W.taken out.new) (W.failures out.new)) (stream (E.taken faults.new) (E.failures faults.new))) }
     ensures err { (aim : Aim) → Rests engine.old aim [] (stream (W.taken out.old) (W.failures out.old))
         (stream (E.taken faults.old) (E.failures faults.old)) →
@@ -306,7 +306,7 @@ fn search_files<
     ensures same_list { F.list files.new ≡ F.list files.old }
     ensures ok { (aim : Aim) → Rests engine.old aim [] (stream (W.taken out.old) (W.failures out.old))
         (stream (E.taken faults.old) (E.failures faults.old)) →
-        IfOk result (Finishes aim.query aim.setup (F.list files.new).items (F.past files.new)
+        IfOk result (Finishes aim.query aim.setup (F.finds (F.list files.new)) (F.past files.new)
         aim.out (stream (W.taken out.new) (W.failures out.new))
         aim.told (stream (E.taken faults.new) (E.failures faults.new))) }
     ensures err { (aim : Aim) → Rests engine.old aim [] (stream (W.taken out.old) (W.failures out.old))
@@ -359,7 +359,7 @@ pub fn run<
 ) -> Result<u8, RunFault>
     requires { F.past files.old ≡ nothing_given }
     ensures ok { IfOk result (λ status. (q : Search) × IsSearchFor text q
-        × Finishes q setup (F.list files.new).items (F.past files.new)
+        × Finishes q setup (F.finds (F.list files.new)) (F.past files.new)
         (record { taken = W.taken out.old; failures = W.failures out.old })
         (record { taken = W.taken out.new; failures = W.failures out.new })
         (record { taken = E.taken faults.old; failures = E.failures faults.old })

@@ -99,7 +99,7 @@ impl Outcome {
 }
 
 /// The words of a text, which blanks set apart.
-fn words_of(alloc: Global, text: &str) -> Result<Vec<String>, AllocError> {
+pub(crate) fn words_of(alloc: Global, text: &str) -> Result<Vec<String>, AllocError> {
     let mut words = Vec::new(alloc);
     for word in text.split(' ') {
         words.push(String::from_str(alloc, word)?)?;
@@ -130,7 +130,7 @@ fn run(
     tree.add("broken", Node::new(FileKind::Regular))
         .expect(rt, "memory");
     let store = store_of(alloc, case.ending, case.read.max(1)).expect(rt, "memory");
-    let mut files = Listed::new(alloc, store);
+    let mut files = Listed::new(alloc, &tree, store);
     let mut out = MemSink::new(alloc, case.out).expect(rt, "memory");
     out.set_write_limit(case.write);
     let mut err = MemSink::new(alloc, case.err).expect(rt, "memory");

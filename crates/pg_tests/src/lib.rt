@@ -26,3 +26,5 @@ mod run;
 mod sequencer;
 #[cfg(test)]
 mod sinks;
+#[cfg(test)]
+mod walking;

@@ -1,15 +1,15 @@
 //! The run over files in memory: sinks that fail, reads that fail and memory that is refused.
-ghost use Rattle.std.specs.Prelude.{◌≡◌, ◌≤◌, ◌^◌, false, IfOk};
+ghost use Rattle.std.specs.Prelude.{◌≡◌, ◌≤◌, ◌^◌, [], false, IfOk};
 ghost use Rattle.pg_rows.specs.Output.{HasRoom};
 
 use crate::fixtures::PLAIN;
 use crate::formats::{cut, format_of, with_newlines};
-use pg_files::{Ending, Listed, MemStore};
+use pg_files::{Ending, Listed, MemFiles, MemStore};
 use pg_lines::{Kind, ListFault, PatternList, QueryFault, QueryText};
 use pg_rows::{Format, MemSink};
 use pg_run::{FreeGate, RunFault, Setup, run};
 use pg_syntax::{FaultKind, SyntaxFault};
-use pg_walk::{Cause, Item};
+use pg_walk::{FileKind, MemTree, Node};
 use refusing::Refusing;
 use std::alloc::{AllocError, Allocator, Global};
 use std::process::Abort;
@@ -149,29 +149,43 @@ fn text_of<A: Allocator + Copy>(
     })
 }
 
-/// The file, and behind it, unless it is alone, names that give none, and a second file.
-fn items_of(alloc: Global, is_alone: bool) -> Result<Vec<Item>, AllocError> {
-    let mut items = Vec::new(alloc);
-    items.push(Item::File(String::from_str(alloc, "f")?))?;
-    if !is_alone {
-        items.push(Item::File(String::from_str(alloc, "g")?))?;
-        items.push(Item::Fault(String::from_str(alloc, "d")?, Cause::CannotList))?;
-        items.push(Item::File(String::from_str(alloc, "h")?))?;
+/// Files `f`, `g` and `h`, and a directory `d` that can't be listed.
+fn tree_of(alloc: Global) -> Result<MemTree, AllocError> {
+    let mut tree = MemTree::new(alloc);
+    for path in ["f", "g", "h"] {
+        tree.add(path, Node::new(FileKind::Regular))?;
     }
-    Ok(items)
+    tree.add("d", Node::new(FileKind::Directory))?;
+    Ok(tree)
+}
+
+/// The file, and behind it, unless it is alone, names that give none, and a second file.
+fn operands_of(alloc: Global, is_alone: bool) -> Result<Vec<String>, AllocError> {
+    let mut operands = Vec::new(alloc);
+    operands.push(String::from_str(alloc, "f")?)?;
+    if !is_alone {
+        for path in ["g", "d", "h"] {
+            operands.push(String::from_str(alloc, path)?)?;
+        }
+    }
+    Ok(operands)
 }
 
 /// The file, listed in front of names that give none and the file `h`, a line of `b`, unless it is alone.
-fn list(alloc: Global, case: Case<'_>) -> Result<Listed<MemStore>, AllocError>
-    ensures { IfOk result (λ files. (files.asked ≡ 0) × (files.done ≡ false)) }
+fn list<'t>(
+    alloc: Global,
+    tree: &'t MemTree,
+    case: Case<'_>,
+) -> Result<MemFiles<'t>, AllocError>
+    ensures { IfOk result (λ files. (files.walk.asked.items ≡ []) × (files.done ≡ false)) }
 {
-    let items = items_of(alloc, case.is_alone)?;
+    let operands = operands_of(alloc, case.is_alone)?;
     let mut store = MemStore::new(alloc);
     store.add("f", case.file, case.ending)?;
     store.add("h", b"b\n", Ending::Ends)?;
     store.set_read_limit(case.read_limit);
-    let mut files = Listed::new(alloc, store);
-    files.list(items, true);
+    let mut files = Listed::new(alloc, tree, store);
+    files.list(alloc, tree, &operands, true, true)?;
     Ok(files)
 }
 
@@ -180,11 +194,11 @@ fn answer<R: Threads + Wait + Clock + Sync, A: Allocator + Copy + Send + Sync>(
     rt: &R,
     heap: A,
     case: Case<'_>,
-    files: &mut Listed<MemStore>,
+    files: &mut MemFiles<'_>,
     out: &mut MemSink,
     faults: &mut MemSink,
 ) -> Result<u8, RunFault>
-    requires { (files.old.asked ≡ 0) × (files.old.done ≡ false) }
+    requires { (files.old.walk.asked.items ≡ []) × (files.old.done ≡ false) }
 {
     let text = text_of(heap, case.letters, case.pattern)?;
     let setup = Setup {
@@ -215,7 +229,8 @@ fn run_case<R: Abort + Threads + Wait + Clock + Sync, A: Allocator + Copy + Send
     heap: A,
     case: Case<'_>,
 ) -> Outcome {
-    let mut files = list(alloc, case).expect(rt, "memory");
+    let tree = tree_of(alloc).expect(rt, "memory");
+    let mut files = list(alloc, &tree, case).expect(rt, "memory");
     let mut out = MemSink::new(alloc, case.room).expect(rt, "memory");
     out.set_write_limit(case.write_limit);
     let mut faults = MemSink::new(alloc, 100).expect(rt, "memory");

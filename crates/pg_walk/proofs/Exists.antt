@@ -1,6 +1,7 @@
 -- A walk over any operands has a list of items.
-use Rattle.std.proofs.Common.{ℕ, zero, suc, ◌≡◌, ◌≤◌, ◌+◌, ◌↔◌, Bool, true, false, List, [], ◌∷◌, ◌++◌, length, take}
-use Rattle.std.proofs.Common.{get_or, Option, Some, None, ◌⊎◌, inl, inr, refl, sym, ap, ◌∙◌, subst, take_all, arith}
+use Rattle.std.proofs.Common.{ℕ, zero, suc, ◌≡◌, ◌≤◌, ◌+◌, ◌-◌, ◌↔◌, Bool, true, false, List, [], ◌∷◌, ◌++◌}
+use Rattle.std.proofs.Common.{length, take, get_or, Option, Some, None, ◌⊎◌, inl, inr, refl, sym, ap, ◌∙◌, subst}
+use Rattle.std.proofs.Common.{take_all, arith}
 use Rattle.std.specs.List.{Contains}
 use Rattle.std.specs.declared.cmp.Ordering.{Ordering}
 use Rattle.std.specs.declared.cmp.Ordering.TheVariants.{Less, Equal, Greater}
@@ -13,6 +14,7 @@ use Rattle.pg_walk.specs.Items.{Found, File, Fault}
 use Rattle.pg_walk.specs.Places.{Names, child, is_standard_input}
 use Rattle.pg_walk.specs.Walks.{place_cmp, Ascending, ItemsOf, FilesOf}
 use Rattle.pg_walk.specs.Descent.{EntryGives, InsideGives, OperandGives, Adds}
+use Rattle.pg_walk.specs.Left.{Spot, Operand, Entry, spot_gives, AreLeft}
 use Rattle.pg_walk.specs.declared.tree.FileKind.{FileKind}
 use Rattle.pg_walk.specs.declared.tree.FileKind.TheVariants.{Regular, Directory, Link, Other}
 use Rattle.pg_walk.specs.declared.item.Cause.TheVariants.{CannotOpen, IsDirectory, CannotList, BadName, TooDeep}
@@ -230,3 +232,24 @@ pub some_items : (a : Answers) (ops : List Text) (r : Bool) → (items : List Fo
 some_items a ops r =
     let f = first_has a ops r (length ops) in
     (f.0, first_all a ops r (length ops) f.0 refl f.1)
+
+shallow_or_deep : (depth : ℕ) → (depth ≤ 257) ⊎ (257 ≤ depth)
+shallow_or_deep depth = grind arith
+
+entry_any : (a : Answers) (depth : ℕ) (path : Text) → HasItems (EntryGives a depth path)
+entry_any a depth path = elim (shallow_or_deep depth) [
+  | inl h ↦ entry_has a (257 - depth) depth (omega (arith, h)) path
+  | inr h ↦ entry_by a depth path (a.kind path false) refl
+      (λ e. (Fault path TooDeep ∷ [], entry_deep a depth path e (omega (arith, h)) [] _ refl))
+]
+
+spot_has : (a : Answers) (r : Bool) (spot : Spot) → HasItems (spot_gives a r spot)
+spot_has a r (Operand path) = operand_has a r path (is_standard_input path) refl
+spot_has a r (Entry path depth) = entry_any a depth path
+
+pub some_left : (a : Answers) (r : Bool) (spots : List Spot) → (items : List Found) × AreLeft a r spots items
+some_left a r [] = ([], refl)
+some_left a r (spot ∷ spots) =
+    let here = spot_has a r spot in
+    let more = some_left a r spots in
+    (here.1.items ++ more.0, (here.1.items, more.0, here.1.are, more.1, refl))

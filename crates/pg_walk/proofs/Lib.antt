@@ -2,6 +2,7 @@ pub mod Lists
 pub mod Joins
 pub mod Reach
 pub mod Steps
+pub mod Lefts
 pub mod Only
 pub mod Exists
 pub mod Examples

@@ -1,83 +1,113 @@
--- Where the items of a walk lie. For `entry`, `inside`, `operand` and `walk`.
-use Rattle.std.proofs.Common.{◌≡◌, Bool, true, false, List, [], ◌∷◌, ◌++◌, refl, sym, ap, ◌∙◌}
-use Rattle.std.proofs.Common.{append_assoc, append-nil}
+-- Where the items of a walk lie. For the functions of `walker`.
+use Rattle.std.proofs.Common.{ℕ, ◌≡◌, Bool, true, false, List, [], ◌∷◌, ◌++◌, map, Option, Some, None, refl, sym}
+use Rattle.std.proofs.Common.{ap, ◌∙◌, append_assoc}
 use Rattle.std.proofs.lemmas.Bool.{false≢true}
 use Rattle.std.proofs.lemmas.List.Elements.{All-append, All-cons, All-nil}
 use Rattle.std.specs.List.{All}
 use Rattle.pg_walk.specs.Answers.{Text}
 use Rattle.pg_walk.specs.Items.{Found, File, path_in}
 use Rattle.pg_walk.specs.Places.{child, is_standard_input}
-use Rattle.pg_walk.specs.Within.{IsWithin, FollowOperands, AddsWithin, AddsOf}
+use Rattle.pg_walk.specs.Within.{IsWithin, BelongTo, FollowOperands}
+use Rattle.pg_walk.specs.Left.{Spot, Operand, Entry, MayBeLeft, UnfoldsWithin, shown}
 
-only : (path : Text) (item : Found) → path_in item ≡ path → All (IsWithin path) (item ∷ [])
+pub only : (path : Text) (item : Found) → path_in item ≡ path → All (IsWithin path) (item ∷ [])
 only path item at = All-cons (IsWithin path) item [] ([], at) (All-nil (IsWithin path))
 
--- an item at the path itself was added
-pub within_one : (path : Text) (item : Found) → path_in item ≡ path → (old new : List Found) → new ≡ old ++ item ∷ []
-    → AddsWithin path old new
-within_one path item at old new joined =
-    record { items = item ∷ []; joined = joined; within = only path item at }
-
--- nothing was added
-pub within_none : (path : Text) (old : List Found) → AddsWithin path old old
-within_none path old = record { items = []; joined = sym (append-nil old); within = All-nil (IsWithin path) }
-
 -- what lies at or below an entry lies below its directory
-pub within_entry : (path name : Text) (old new : List Found) → AddsWithin (child path name) old new
-    → AddsWithin path old new
-within_entry path name old new a = record {
-  items = a.items;
-  joined = a.joined;
-  within = λ i item at. let w = a.within i item at in (name ∷ w.0, w.1);
-}
-
--- more was added
-pub within_more : (path : Text) (old middle new : List Found) → AddsWithin path old middle
-    → AddsWithin path middle new → AddsWithin path old new
-within_more path old middle new a b = record {
-  items = a.items ++ b.items;
-  joined = b.joined ∙ (ap (λ xs. xs ++ b.items) a.joined ∙ append_assoc old a.items b.items);
-  within = All-append (IsWithin path) a.items b.items a.within b.within;
-}
+lies_below : (path name : Text) (items : List Found) → All (IsWithin (child path name)) items
+    → All (IsWithin path) items
+lies_below path name items within i item at = let w = within i item at in (name ∷ w.0, w.1)
 
 -- an operand's only item is at its path
-pub one_of : (recursive : Bool) (operand : Text) (item : Found) → path_in item ≡ operand
-    → (is_standard_input operand ≡ true → item ≡ File operand) → (old new : List Found) → new ≡ old ++ item ∷ []
-    → AddsOf recursive operand old new
-one_of recursive operand item at standard old new joined = record {
-  items = item ∷ [];
-  joined = joined;
-  belong = record {
-    standard = λ e. ap (λ i. i ∷ []) (standard e);
-    flat = λ e. ap (λ p. p ∷ []) at;
-    within = only operand item at;
-  };
+belong_one : (recursive : Bool) (operand : Text) (item : Found) → path_in item ≡ operand
+    → (is_standard_input operand ≡ true → item ≡ File operand) → BelongTo recursive operand (item ∷ [])
+belong_one recursive operand item at standard = record {
+  standard = λ e. ap (λ i. i ∷ []) (standard e);
+  flat = λ e. ap (λ p. p ∷ []) at;
+  within = only operand item at;
 }
 
 -- a directory that is visited
-pub visited_of : (recursive : Bool) (operand : Text) → is_standard_input operand ≡ false → recursive ≡ true
-    → (old new : List Found) → AddsWithin operand old new → AddsOf recursive operand old new
-visited_of recursive operand named visited old new a = record {
-  items = a.items;
-  joined = a.joined;
-  belong = record {
-    standard = λ e. absurd (false≢true (sym named ∙ e));
-    flat = λ e. absurd (false≢true (sym e ∙ visited));
-    within = a.within;
-  };
+belong_visited : (recursive : Bool) (operand : Text) → is_standard_input operand ≡ false → recursive ≡ true
+    → (items : List Found) → All (IsWithin operand) items → BelongTo recursive operand items
+belong_visited recursive operand named visited items within = record {
+  standard = λ e. absurd (false≢true (sym named ∙ e));
+  flat = λ e. absurd (false≢true (sym e ∙ visited));
+  within = within;
 }
 
--- the items of one more operand
-pub follow_more : (recursive : Bool) (operands : List Text) (operand : Text) (old new : List Found)
-    → FollowOperands recursive operands old → AddsOf recursive operand old new
-    → FollowOperands recursive (operands ++ operand ∷ []) new
-follow_more recursive [] operand old new follow a =
-    (a.items, [], a.joined ∙ ap (λ xs. xs ++ a.items) follow ∙ sym (append-nil a.items), a.belong, refl)
-follow_more recursive (o ∷ operands) operand old new follow a = (
-  follow.0,
-  follow.1 ++ a.items,
-  a.joined ∙ ap (λ xs. xs ++ a.items) follow.2 ∙ append_assoc follow.0 follow.1 a.items,
-  follow.3,
-  follow_more recursive operands operand follow.1 (follow.1 ++ a.items) follow.4
-      (record { items = a.items; joined = refl; belong = a.belong }),
-)
+-- a place with nothing below it
+pub leaf_within : (r : Bool) (may : List Found → Type 0) (o : Option Found) (spots : List Spot) → may (shown o)
+    → UnfoldsWithin r may o spots spots
+leaf_within r may o spots h rest left = (shown o, rest, h, left, refl)
+
+pub unfolds_within_as : (r : Bool) (may might : List Found → Type 0) (o : Option Found) (old new : List Spot)
+    → ((items : List Found) → may items → might items) → UnfoldsWithin r may o old new → UnfoldsWithin r might o old new
+unfolds_within_as r may might o old new to h rest left =
+    let u = h rest left in
+    (u.0, u.1, to u.0 u.2, u.3, u.4)
+
+-- an item at the path, or none
+pub entry_leaf_within : (r : Bool) (path : Text) (item : Found) (spots : List Spot) → path_in item ≡ path
+    → UnfoldsWithin r (All (IsWithin path)) (Some item) spots spots
+entry_leaf_within r path item spots at = leaf_within r (All (IsWithin path)) (Some item) spots (only path item at)
+
+pub entry_none_within : (r : Bool) (path : Text) (spots : List Spot)
+    → UnfoldsWithin r (All (IsWithin path)) None spots spots
+entry_none_within r path spots = leaf_within r (All (IsWithin path)) None spots (All-nil (IsWithin path))
+
+-- an operand's one item
+pub operand_leaf_within : (r : Bool) (path : Text) (item : Found) (spots : List Spot) → path_in item ≡ path
+    → (is_standard_input path ≡ true → item ≡ File path) → UnfoldsWithin r (BelongTo r path) (Some item) spots spots
+operand_leaf_within r path item spots at standard =
+    leaf_within r (BelongTo r path) (Some item) spots (belong_one r path item at standard)
+
+-- an operand that is visited
+pub operand_inside_within : (r : Bool) (path : Text) (o : Option Found) (old new : List Spot)
+    → is_standard_input path ≡ false → r ≡ true → UnfoldsWithin r (All (IsWithin path)) o old new
+    → UnfoldsWithin r (BelongTo r path) o old new
+operand_inside_within r path o old new named visited =
+    unfolds_within_as r (All (IsWithin path)) (BelongTo r path) o old new (belong_visited r path named visited)
+
+below_within : (r : Bool) (depth : ℕ) (path : Text) (xs : List Text) (spots : List Spot) (rest : List Found)
+    → MayBeLeft r (map (λ x. Entry (child path x) depth) xs ++ spots) rest
+    → (here : List Found) × (more : List Found) × All (IsWithin path) here × MayBeLeft r spots more
+    × (rest ≡ here ++ more)
+below_within r depth path [] spots rest left = ([], rest, All-nil (IsWithin path), left, refl)
+below_within r depth path (x ∷ xs) spots rest left =
+    let u = below_within r depth path xs spots left.1 left.3 in (
+      left.0 ++ u.0,
+      u.1,
+      All-append (IsWithin path) left.0 u.0 (lies_below path x left.0 left.2) u.2,
+      u.3,
+      left.4 ∙ (ap (λ t. left.0 ++ t) u.4 ∙ sym (append_assoc left.0 u.0 u.1)),
+    )
+
+-- a directory whose entries are left
+pub inside_within : (r : Bool) (depth : ℕ) (path : Text) (xs : List Text) (o : Option Found) (spots : List Spot)
+    → All (IsWithin path) (shown o)
+    → UnfoldsWithin r (All (IsWithin path)) o spots (map (λ x. Entry (child path x) depth) xs ++ spots)
+inside_within r depth path xs o spots h rest left =
+    let u = below_within r depth path xs spots rest left in (
+      shown o ++ u.0,
+      u.1,
+      All-append (IsWithin path) (shown o) u.0 h u.2,
+      u.3,
+      ap (λ t. shown o ++ t) u.4 ∙ sym (append_assoc (shown o) u.0 u.1),
+    )
+
+-- what may be left at first follows the operands
+pub whole_within : (r : Bool) (ops : List Text) (items : List Found)
+    → MayBeLeft r (map (λ path. Operand path) ops) items → FollowOperands r ops items
+whole_within r [] items left = left
+whole_within r (o ∷ ops) items left = (left.0, left.1, left.4, left.2, whole_within r ops left.1 left.3)
+
+-- something may be left
+pub some_within : (r : Bool) (spots : List Spot) → (items : List Found) × MayBeLeft r spots items
+some_within r [] = ([], refl)
+some_within r (Operand path ∷ spots) =
+    let more = some_within r spots in
+    (File path ∷ more.0, (File path ∷ [], more.0, belong_one r path (File path) refl (λ e. refl), more.1, refl))
+some_within r (Entry path depth ∷ spots) =
+    let more = some_within r spots in
+    (more.0, ([], more.0, All-nil (IsWithin path), more.1, refl))

@@ -6,3 +6,4 @@ pub mod Within
 pub mod Descent
 pub mod MemTree
 pub mod Causes
+pub mod Left

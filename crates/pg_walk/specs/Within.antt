@@ -22,15 +22,3 @@ FollowOperands recursive [] items = items ≡ []
 FollowOperands recursive (operand ∷ operands) items =
     (own : List Found) × (later : List Found) × (items ≡ own ++ later) × BelongTo recursive operand own
     × FollowOperands recursive operands later
-
--- items that lie at a path or below it come behind those that there were
-pub record AddsWithin (path : Text) (old new : List Found) : Type 0 where
-  pub items : List Found
-  pub joined : new ≡ old ++ items
-  pub within : All (IsWithin path) items
-
--- those of an operand come behind those that there were
-pub record AddsOf (recursive : Bool) (operand : Text) (old new : List Found) : Type 0 where
-  pub items : List Found
-  pub joined : new ≡ old ++ items
-  pub belong : BelongTo recursive operand items

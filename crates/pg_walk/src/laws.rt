@@ -1,12 +1,14 @@
 //! Laws of the definitions that contracts cite. A call does nothing.
-ghost use Rattle.std.specs.Prelude.{◌≡◌, Bool, List};
+ghost use Rattle.std.specs.Prelude.{◌≡◌, Bool, List, []};
 ghost use Rattle.pg_walk.specs.Answers.{Text, Answers};
 ghost use Rattle.pg_walk.specs.Items.{Found};
 ghost use Rattle.pg_walk.specs.Walks.{FilesOf};
+ghost use Rattle.pg_walk.specs.Left.{BeginsWalk, HasGiven, IsWalk, spots_in};
 ghost use Rattle.pg_walk.specs.MemTree.{nodes, answers_of};
 
 use crate::mem_tree::MemTree;
 use crate::tree::FileTree;
+use crate::walker::Walker;
 use std::alloc::Allocator;
 
 /// A walk over operands gives some list of items, and no other, whatever the tree answers.
@@ -21,4 +23,16 @@ pub fn files_are_one()
 pub fn mem_tree_tells<A: Allocator + Copy>(tree: &MemTree<A>)
     ensures tells { ⟦<MemTree<A> as FileTree>⟧.tells tree.now }
     ensures answers { ⟦<MemTree<A> as FileTree>⟧.answers tree.now ≡ answers_of (nodes tree.now) }
+{}
+
+/// What a walk has given is a beginning of all that it gives, and that itself where nothing waits.
+pub fn what_is_given<T: FileTree, A: Allocator + Copy>(walker: &Walker<'_, T, A>)
+    ensures begins { (operands : List Text) → (items : List Found) →
+        HasGiven (T.tells walker.now.tree.now) (T.answers walker.now.tree.now) operands walker.now.recursive
+        items (spots_in walker.now.waiting.items) →
+        BeginsWalk (T.tells walker.now.tree.now) (T.answers walker.now.tree.now) operands walker.now.recursive items }
+    ensures whole { (operands : List Text) → (items : List Found) →
+        HasGiven (T.tells walker.now.tree.now) (T.answers walker.now.tree.now) operands walker.now.recursive
+        items (spots_in walker.now.waiting.items) → spots_in walker.now.waiting.items ≡ [] →
+        IsWalk (T.tells walker.now.tree.now) (T.answers walker.now.tree.now) operands walker.now.recursive items }
 {}

@@ -10,7 +10,7 @@ mod walker;
 
 pub use disk_tree::DiskTree;
 pub use item::{Cause, Item};
-pub use laws::{files_are_one, mem_tree_tells};
+pub use laws::{files_are_one, mem_tree_tells, what_is_given};
 pub use mem_tree::{MemTree, Node};
 pub use tree::{FileKind, FileTree, Listing, LookFault};
-pub use walker::walk;
+pub use walker::{Waiting, Walker};

@@ -1,19 +1,22 @@
 //! The walk.
-ghost use Rattle.std.specs.Prelude.{◌≡◌, ◌≤◌, ◌↔◌, ◌++◌, ◌∷◌, [], List, ℕ, map, OnOk, IfOk};
-ghost use Rattle.std.specs.String.{string_bytes};
-ghost use Rattle.std.specs.List.{Contains};
+ghost use Rattle.std.specs.Prelude.{◌≡◌, ◌≤◌, ◌+◌, ◌++◌, ◌↔◌, [], ℕ, List, Bool, map, None, IfOk, OnOk};
+ghost use Rattle.std.specs.List.{All, Contains};
+ghost use Rattle.std.specs.Option.{option_map};
 ghost use Rattle.std.specs.Ordering.{nat_cmp};
 ghost use Rattle.std.specs.Cmp.Lexicographic.{slice_cmp};
-ghost use Rattle.pg_walk.specs.Answers.{TellsKind, TellsContent};
+ghost use Rattle.std.specs.String.{string_bytes};
+ghost use Rattle.pg_walk.specs.Answers.{Text};
+ghost use Rattle.pg_walk.specs.Items.{Found, found};
 ghost use Rattle.pg_walk.specs.Places.{child};
-ghost use Rattle.pg_walk.specs.Walks.{Ascending, FilesOf};
-ghost use Rattle.pg_walk.specs.Descent.{EntryGives, OperandGives, InsideGives, Adds};
-ghost use Rattle.pg_walk.specs.Items.{found};
-ghost use Rattle.pg_walk.specs.Within.{AddsOf, AddsWithin, FollowOperands};
+ghost use Rattle.pg_walk.specs.Walks.{Ascending};
+ghost use Rattle.pg_walk.specs.Descent.{EntryGives, InsideGives, OperandGives};
+ghost use Rattle.pg_walk.specs.Within.{BelongTo, IsWithin};
+ghost use Rattle.pg_walk.specs.Left.{Operand, Entry, HasGiven, MayGive, Unfolds, UnfoldsWithin};
+ghost use Rattle.pg_walk.specs.Left.{shown, spot_of, spots_in, spot_gives};
 
 use crate::item::{Cause, Item};
-use crate::tree::{FileKind, FileTree, Listing, LookFault};
-use std::alloc::{AllocError, Allocator};
+use crate::tree::{FileKind, FileTree, LookFault};
+use std::alloc::{AllocError, Allocator, Global};
 
 /// The deepest level below an operand whose directories are listed.
 const DEEPEST: u32 = 256;
@@ -45,133 +48,171 @@ fn in_order<A: Allocator + Copy>(names: Vec<String<A>, A>) -> Vec<String<A>, A>
     names
 }
 
-/// Adds an item.
-fn add<A: Allocator>(items: &mut Vec<Item<A>, A>, item: Item<A>) -> Result<(), AllocError>
-    ensures { OnOk result (map found items.new.items ≡ map found items.old.items ++ found item ∷ []) }
+/// A path whose turn is still to come.
+#[derive(Drop)]
+pub enum Waiting<A: Allocator = Global> {
+    /// An operand.
+    Operand(String<A>),
+    /// An entry, and so many names it is below its operand.
+    Entry(String<A>, u32),
+}
+
+/// Adds the entries of a directory, the first one last.
+fn push_below<A: Allocator + Copy>(
+    alloc: A,
+    waiting: &mut Vec<Waiting<A>, A>,
+    path: &str,
+    names: &[String<A>],
+    depth: u32,
+) -> Result<(), AllocError>
+    requires { depth ≤ 256 }
+    ensures { OnOk result (spots_in waiting.new.items ≡
+        map (λ n. Entry (child path.now n) (depth + 1)) (map string_bytes names.now)
+        ++ spots_in waiting.old.items) }
 {
-    items.push(item)?;
+    let mut left = names.len();
+    while left > 0 {
+        left -= 1;
+        let below = entry_path(alloc, path, names[left].as_str())?;
+        waiting.push(Waiting::Entry(below, depth + 1))?;
+    }
     Ok(())
 }
 
-/// Asks for a kind. What stack the tree takes for it is kept out of `entry`, whose calls nest 257 levels.
-#[inline(never)]
-fn look<T: FileTree>(tree: &T, path: &str, follow: bool) -> Result<FileKind, LookFault>
-    ensures { T.tells tree.now → TellsKind ((T.answers tree.now).kind path.now follow) result }
-{
-    tree.kind(path, follow)
-}
-
-/// Asks for a listing, kept out of `inside` likewise.
-#[inline(never)]
-fn list<A: Allocator + Copy, T: FileTree>(
-    alloc: A,
-    tree: &T,
-    path: &str,
-) -> Result<Listing<A>, LookFault>
-    ensures { T.tells tree.now → TellsContent ((T.answers tree.now).content path.now) result }
-{
-    tree.entries(alloc, path)
-}
-
-/// Adds what an entry gives, and all below it.
-#[cycle(below)]
-fn entry<A: Allocator + Copy, T: FileTree>(
-    alloc: A,
-    tree: &T,
-    path: String<A>,
-    depth: u32,
-    items: &mut Vec<Item<A>, A>,
-) -> Result<(), AllocError>
-    requires { depth ≤ 257 }
-    ensures gives { T.tells tree.now → OnOk result (Adds
-        (EntryGives (T.answers tree.now) depth (string_bytes path))
-        (map found items.old.items) (map found items.new.items)) }
-    ensures within { OnOk result
-        (AddsWithin (string_bytes path) (map found items.old.items) (map found items.new.items)) }
-{
-    match look(tree, path.as_str(), false) {
-        Ok(FileKind::Regular) => add(items, Item::File(path)),
-        Ok(FileKind::Directory) => {
-            if depth > DEEPEST {
-                add(items, Item::Fault(path, Cause::TooDeep))
-            } else {
-                inside(alloc, tree, path, depth, items)
-            }
-        }
-        Ok(FileKind::Link) => Ok(()),
-        Ok(FileKind::Other) => Ok(()),
-        Err(LookFault::Failed) => add(items, Item::Fault(path, Cause::CannotOpen)),
-        Err(LookFault::OutOfMemory) => Err(AllocError),
-    }
-}
-
-/// Adds what a directory that is visited gives, and all below it.
-#[cycle(below)]
+/// Lists a directory that is visited: its entries wait. The answer is what the directory gives itself.
 fn inside<A: Allocator + Copy, T: FileTree>(
     alloc: A,
     tree: &T,
     path: String<A>,
     depth: u32,
-    items: &mut Vec<Item<A>, A>,
-) -> Result<(), AllocError>
+    waiting: &mut Vec<Waiting<A>, A>,
+) -> Result<Option<Item<A>>, AllocError>
     requires { depth ≤ 256 }
-    ensures gives { T.tells tree.now → OnOk result (Adds
-        (InsideGives (T.answers tree.now) depth (string_bytes path))
-        (map found items.old.items) (map found items.new.items)) }
-    ensures within { OnOk result
-        (AddsWithin (string_bytes path) (map found items.old.items) (map found items.new.items)) }
+    ensures gives { T.tells tree.now → IfOk result (λ item. (recursive : Bool) →
+        Unfolds (T.answers tree.now) recursive (InsideGives (T.answers tree.now) depth (string_bytes path))
+        (option_map found item) (spots_in waiting.old.items) (spots_in waiting.new.items)) }
+    ensures within { IfOk result (λ item. (recursive : Bool) →
+        UnfoldsWithin recursive (All (IsWithin (string_bytes path)))
+        (option_map found item) (spots_in waiting.old.items) (spots_in waiting.new.items)) }
 {
-    let listing = match list(alloc, tree, path.as_str()) {
+    let listing = match tree.entries(alloc, path.as_str()) {
         Ok(listing) => listing,
-        Err(LookFault::Failed) => return add(items, Item::Fault(path, Cause::CannotList)),
+        Err(LookFault::Failed) => return Ok(Some(Item::Fault(path, Cause::CannotList))),
         Err(LookFault::OutOfMemory) => return Err(AllocError),
     };
-    if listing.nameless {
-        let path = String::from_str(alloc, path.as_str())?;
-        add(items, Item::Fault(path, Cause::BadName))?;
-    }
+    let nameless = listing.nameless;
     let names = in_order(listing.names);
-    for name in &names {
-        let below = entry_path(alloc, path.as_str(), name.as_str())?;
-        entry(alloc, tree, below, depth + 1, items)?;
+    push_below(alloc, waiting, path.as_str(), names.as_slice(), depth)?;
+    if nameless {
+        Ok(Some(Item::Fault(path, Cause::BadName)))
+    } else {
+        Ok(None)
     }
-    Ok(())
 }
 
-/// Adds what an operand gives, and all below it.
+/// Takes the turn of an entry.
+fn entry<A: Allocator + Copy, T: FileTree>(
+    alloc: A,
+    tree: &T,
+    path: String<A>,
+    depth: u32,
+    waiting: &mut Vec<Waiting<A>, A>,
+) -> Result<Option<Item<A>>, AllocError>
+    ensures gives { T.tells tree.now → IfOk result (λ item. (recursive : Bool) →
+        Unfolds (T.answers tree.now) recursive (EntryGives (T.answers tree.now) depth (string_bytes path))
+        (option_map found item) (spots_in waiting.old.items) (spots_in waiting.new.items)) }
+    ensures within { IfOk result (λ item. (recursive : Bool) →
+        UnfoldsWithin recursive (All (IsWithin (string_bytes path)))
+        (option_map found item) (spots_in waiting.old.items) (spots_in waiting.new.items)) }
+{
+    match tree.kind(path.as_str(), false) {
+        Ok(FileKind::Regular) => Ok(Some(Item::File(path))),
+        Ok(FileKind::Directory) => {
+            if depth > DEEPEST {
+                Ok(Some(Item::Fault(path, Cause::TooDeep)))
+            } else {
+                inside(alloc, tree, path, depth, waiting)
+            }
+        }
+        Ok(FileKind::Link) => Ok(None),
+        Ok(FileKind::Other) => Ok(None),
+        Err(LookFault::Failed) => Ok(Some(Item::Fault(path, Cause::CannotOpen))),
+        Err(LookFault::OutOfMemory) => Err(AllocError),
+    }
+}
+
+/// Takes the turn of an operand.
 fn operand<A: Allocator + Copy, T: FileTree>(
     alloc: A,
     tree: &T,
     path: String<A>,
     recursive: bool,
-    items: &mut Vec<Item<A>, A>,
-) -> Result<(), AllocError>
-    ensures gives { T.tells tree.now → OnOk result (Adds
-        (OperandGives (T.answers tree.now) recursive (string_bytes path))
-        (map found items.old.items) (map found items.new.items)) }
-    ensures belongs { OnOk result
-        (AddsOf recursive (string_bytes path) (map found items.old.items) (map found items.new.items)) }
+    waiting: &mut Vec<Waiting<A>, A>,
+) -> Result<Option<Item<A>>, AllocError>
+    ensures gives { T.tells tree.now → IfOk result (λ item.
+        Unfolds (T.answers tree.now) recursive (OperandGives (T.answers tree.now) recursive (string_bytes path))
+        (option_map found item) (spots_in waiting.old.items) (spots_in waiting.new.items)) }
+    ensures within { IfOk result (λ item. UnfoldsWithin recursive (BelongTo recursive (string_bytes path))
+        (option_map found item) (spots_in waiting.old.items) (spots_in waiting.new.items)) }
 {
     if path.as_str() == "-" {
-        return add(items, Item::File(path));
+        return Ok(Some(Item::File(path)));
     }
-    match look(tree, path.as_str(), true) {
-        Ok(FileKind::Regular) => add(items, Item::File(path)),
-        Ok(FileKind::Other) => add(items, Item::File(path)),
+    match tree.kind(path.as_str(), true) {
+        Ok(FileKind::Regular) => Ok(Some(Item::File(path))),
+        Ok(FileKind::Other) => Ok(Some(Item::File(path))),
         Ok(FileKind::Directory) => {
             if recursive {
-                inside(alloc, tree, path, 0, items)
+                inside(alloc, tree, path, 0, waiting)
             } else {
-                add(items, Item::Fault(path, Cause::IsDirectory))
+                Ok(Some(Item::Fault(path, Cause::IsDirectory)))
             }
         }
-        Ok(FileKind::Link) => add(items, Item::Fault(path, Cause::CannotOpen)),
-        Err(LookFault::Failed) => add(items, Item::Fault(path, Cause::CannotOpen)),
+        Ok(FileKind::Link) => Ok(Some(Item::Fault(path, Cause::CannotOpen))),
+        Err(LookFault::Failed) => Ok(Some(Item::Fault(path, Cause::CannotOpen))),
         Err(LookFault::OutOfMemory) => Err(AllocError),
     }
 }
 
-/// The files and faults of the operands, in the operands' order.
+/// Takes a path's turn.
+fn visit<A: Allocator + Copy, T: FileTree>(
+    alloc: A,
+    tree: &T,
+    next: Waiting<A>,
+    recursive: bool,
+    waiting: &mut Vec<Waiting<A>, A>,
+) -> Result<Option<Item<A>>, AllocError>
+    ensures gives { T.tells tree.now → IfOk result (λ item.
+        Unfolds (T.answers tree.now) recursive (spot_gives (T.answers tree.now) recursive (spot_of next))
+        (option_map found item) (spots_in waiting.old.items) (spots_in waiting.new.items)) }
+    ensures within { IfOk result (λ item. UnfoldsWithin recursive (MayGive recursive (spot_of next))
+        (option_map found item) (spots_in waiting.old.items) (spots_in waiting.new.items)) }
+{
+    match next {
+        Waiting::Operand(path) => operand(alloc, tree, path, recursive, waiting),
+        Waiting::Entry(path, depth) => entry(alloc, tree, path, depth, waiting),
+    }
+}
+
+/// The operands as they wait, the first one last.
+fn operands_waiting<A: Allocator + Copy, B: Allocator>(
+    alloc: A,
+    operands: &[String<B>],
+) -> Result<Vec<Waiting<A>, A>, AllocError>
+    ensures { IfOk result (λ waiting.
+        spots_in waiting.items ≡ map (λ path. Operand path) (map string_bytes operands.now)) }
+{
+    let mut waiting = Vec::new(alloc);
+    let mut left = operands.len();
+    while left > 0 {
+        left -= 1;
+        let path = String::from_str(alloc, operands[left].as_str())?;
+        waiting.push(Waiting::Operand(path))?;
+    }
+    Ok(waiting)
+}
+
+/// A walk over operands: it gives their files and faults, one after the other, in the operands' order.
 ///
 /// An operand `-` is standard input, a file. An operand that is a directory is a fault, or where
 /// `recursive` is true it is visited: its entries follow in ascending order of their names' bytes,
@@ -181,26 +222,99 @@ fn operand<A: Allocator + Copy, T: FileTree>(
 /// Links are followed at operands alone. Below them links give nothing, and nor do pipes, sockets
 /// and devices.
 ///
-/// # Errors
-///
-/// `AllocError` where the tree was out of memory, or a request for memory was refused.
-pub fn walk<A: Allocator + Copy, B: Allocator, T: FileTree>(
+/// The walk holds the paths that wait: the operands that are left, and of each directory that it is
+/// inside those entries that are left. A directory is listed when its turn comes.
+pub struct Walker<'t, T: FileTree, A: Allocator + Copy = Global> {
     alloc: A,
-    tree: &T,
-    operands: &[String<B>],
-    recursive: bool,
-) -> Result<Vec<Item<A>, A>, AllocError>
-    ensures gives { T.tells tree.now → IfOk result (λ items.
-        FilesOf (T.answers tree.now) (map string_bytes operands.now) recursive
-        (map found items.items)) }
-    // Of any tree, also one that doesn't tell its answers.
-    ensures follows { IfOk result (λ items.
-        FollowOperands recursive (map string_bytes operands.now) (map found items.items)) }
-{
-    let mut items = Vec::new(alloc);
-    for name in operands {
-        let path = String::from_str(alloc, name.as_str())?;
-        operand(alloc, tree, path, recursive, &mut items)?;
+    /// The tree.
+    pub tree: &'t T,
+    /// Whether directories are visited.
+    pub recursive: bool,
+    /// What waits, the next one last.
+    pub waiting: Vec<Waiting<A>, A>,
+}
+
+impl<T: FileTree, A: Allocator + Copy> Drop for Walker<'_, T, A> {
+    fn drop(self) {
+        let Walker {
+            alloc: _,
+            tree: _,
+            recursive: _,
+            waiting: _,
+        } = self;
     }
-    Ok(items)
+}
+
+impl<'t, T: FileTree, A: Allocator + Copy> Walker<'t, T, A> {
+    /// A walk over operands that has given nothing yet. Nothing was asked of the tree.
+    ///
+    /// # Errors
+    ///
+    /// `AllocError` where a request for memory was refused.
+    pub fn new<B: Allocator>(
+        alloc: A,
+        tree: &'t T,
+        operands: &[String<B>],
+        recursive: bool,
+    ) -> Result<Walker<'t, T, A>, AllocError>
+        ensures same { IfOk result (λ walker. (walker.tree.now ≡ tree.now) × (walker.recursive ≡ recursive)) }
+        ensures fresh { IfOk result (λ walker. HasGiven (T.tells tree.now) (T.answers tree.now)
+            (map string_bytes operands.now) recursive [] (spots_in walker.waiting.items)) }
+    {
+        let waiting = operands_waiting(alloc, operands)?;
+        Ok(Walker {
+            alloc,
+            tree,
+            recursive,
+            waiting,
+        })
+    }
+
+    /// A walk over no operands.
+    pub fn over_nothing(alloc: A, tree: &'t T) -> Walker<'t, T, A>
+        ensures same { result.tree.now ≡ tree.now }
+        ensures fresh { HasGiven (T.tells result.tree.now) (T.answers result.tree.now) [] result.recursive []
+            (spots_in result.waiting.items) }
+    {
+        Walker {
+            alloc,
+            tree,
+            recursive: false,
+            waiting: Vec::new(alloc),
+        }
+    }
+
+    /// The next item, or `None` at the end.
+    ///
+    /// # Errors
+    ///
+    /// `AllocError` where the tree was out of memory, or a request for memory was refused, or 2^64 - 1 paths in a
+    /// row gave no item. The path whose turn it was is lost then, so the walk can't go on.
+    pub fn next(&mut self) -> Result<Option<Item<A>>, AllocError>
+        ensures same { (self.new.tree.now ≡ self.old.tree.now) × (self.new.recursive ≡ self.old.recursive) }
+        ensures gives { (operands : List Text) → (items : List Found) →
+            HasGiven (T.tells self.old.tree.now) (T.answers self.old.tree.now) operands self.old.recursive
+            items (spots_in self.old.waiting.items) →
+            IfOk result (λ item.
+            HasGiven (T.tells self.old.tree.now) (T.answers self.old.tree.now) operands self.old.recursive
+            (items ++ shown (option_map found item)) (spots_in self.new.waiting.items)) }
+        ensures end { IfOk result (λ item. item ≡ None → spots_in self.new.waiting.items ≡ []) }
+    {
+        for _ in 0..u64::MAX {
+            let Some(next) = self.waiting.pop() else {
+                return Ok(None);
+            };
+            let item = visit(
+                self.alloc,
+                self.tree,
+                next,
+                self.recursive,
+                &mut self.waiting,
+            )?;
+            if let Some(item) = item {
+                return Ok(Some(item));
+            }
+        }
+        Err(AllocError)
+    }
 }

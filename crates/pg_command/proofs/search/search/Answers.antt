@@ -1,7 +1,7 @@
 use Rattle.std.proofs.Common.{◌∙◌, map, ap, inr, refl, subst, sym}
+use Rattle.std.specs.String.{string_bytes}
 use Rattle.pg_syntax.specs.Slices.{bytes_of}
-use Rattle.pg_walk.specs.Items.{found}
-use Rattle.pg_files.specs.Listed.{files_past, sources}
+use Rattle.pg_files.specs.Listed.{asked_for, files_past, sought}
 use Rattle.pg_run.specs.Outcome.{BreaksOff, IsSearchFor, Stream}
 use Rattle.pg_command.specs.Asked.{asked_of, text_with}
 use Rattle.pg_command.specs.Answers.{Fails}
@@ -9,8 +9,7 @@ use Rattle.pg_command.specs.Reading.{HasRead}
 use Rattle.pg_command.specs.declared.fault.Fault.{Fault}
 use Rattle.pg_command.proofs.ReadingLemmas.{if_err}
 use Rattle.pg_command.proofs.StatusLemmas.{finishes_small}
-use Rattle.pg_command.proofs.WorkLemmas.{work_of}
-use Rattle.std.proofs.lemmas.List.{length-map}
+use Rattle.pg_command.proofs.WorkLemmas.{finishes_so, first_sought, work_of}
 use Rattle.std.proofs.lemmas.Result.{IfOk-from_err}
 use Rattle.pg_command.proofs.search.search.Goals as goal
 
@@ -20,36 +19,38 @@ returns-in_err-run-clause-fault g c =
     let contents = c.in_ok-lists.ensures.read.0 in
     let past = g.S.Store.past c.args.files.now.store in
     let between = g.S.Store.past c.read_patterns.new.store in
-    let past' = g.S.Store.past c.run.new.files.store in
-    let listed = map found c.list_files.new.files.items.items in
-    let items = map found c.run.new.files.items.items in
+    let files = c.run.new.files in
+    let past' = g.S.Store.past files.store in
+    let start = c.list_files.new.files in
+    let listed = c.in_ok-setup.ensures in
     let text = c.in_ok-text.ensures ∙ ap (text_with asked) c.in_ok-lists.ensures.read.1 in
-    let tells = g.T.FileTree.tells c.args.tree.now in
-    let tree = g.T.FileTree.answers c.args.tree.now in
+    let tells = g.T.FileTree.tells in
+    let answers = g.T.FileTree.answers in
+    let tree = c.args.tree.now in
     let read = subst (λ paths. HasRead past between (bytes_of paths) contents) c.as_slice.ensures.value
     c.in_ok-lists.ensures.read.2 in
+    let first = first_sought tree start.walk.walker.tree.now asked start.walk.asked.items
+    (map string_bytes start.walk.operands.items) start.walk.walker.recursive start.spares_output
+    (g.S.Store.past start.store) between listed.fresh.0 listed.walk.0 listed.walk.1 listed.walk.2 listed.spares
+    (ap g.S.Store.past listed.store) in
+    let at = sought files.walk.walker.tree.now (map string_bytes files.walk.operands.items) files.walk.walker.recursive
+    files.spares_output (asked_for files.walk.asked.items) past' in
     let out : Stream = record { taken = g.W.Sink.taken c.args.out.now; failures = g.W.Sink.failures c.args.out.now } in
     let out' : Stream = record { taken = g.W.Sink.taken c.run.new.out; failures = g.W.Sink.failures c.run.new.out } in
     let err : Stream = record { taken = g.E.Sink.taken c.args.err.now; failures = g.E.Sink.failures c.args.err.now } in
     let err' : Stream =
     record { taken = g.E.Sink.taken c.run.new.faults; failures = g.E.Sink.failures c.run.new.faults } in
-    let P : Fault → Type 0 = λ fault. Fails tells tree asked past past' out out' err err' fault in
+    let P : Fault → Type 0 = λ fault.
+    Fails (tells tree) (answers tree) asked past past' out out' err err' fault in
     if_err P _ c.from_residual-in_err-run.result c.from_residual-in_err-run.ensures.1
     (λ fault h. subst P (sym h) (inr (inr (record {
-      work = work_of tells tree asked past between past' contents read listed items c.in_ok-setup.ensures.walked
-          c.in_ok-setup.ensures.follow c.in_ok-setup.setup c.in_ok-setup.ensures.setup c.list_files.new.files.asked
-          c.run.new.files.asked c.run.new.files.done c.list_files.new.files.spares_output
-          c.run.new.files.spares_output c.in_ok-setup.ensures.fresh.0 c.in_ok-setup.ensures.spares
-          (λ d. c.run.new.files.all_asked d ∙ sym (length-map c.run.new.files.items.items found))
-          c.run.new.files.are_opened c.run.new.files.are_spared
-          (c.in_err-run.ensures.same_list
-          ∙ ap (λ store. sources c.list_files.new.files.asked listed c.list_files.new.files.spares_output
-          (g.S.Store.past store))
-          c.in_ok-setup.ensures.store);
+      work = work_of tells answers tree asked between at (c.in_err-run.ensures.same_list ∙ first) past past' contents
+          read files.walk.asked.items files.begins c.in_ok-setup.setup listed.setup files.done files.all_asked
+          files.are_opened files.are_spared refl;
       run = c.in_err-run.field-0.0;
       is = refl;
       breaks = subst (λ t. BreaksOff t c.in_ok-setup.setup
-          (files_past c.run.new.files.asked c.run.new.files.done items past') out out' err err' c.in_err-run.field-0.0)
+          (files_past files.done (asked_for files.walk.asked.items) past') out out' err err' c.in_err-run.field-0.0)
           text c.in_err-run.ensures.err;
     }))))
 
@@ -59,29 +60,32 @@ returns-clause-success g c =
     let contents = c.in_ok-lists.ensures.read.0 in
     let past = g.S.Store.past c.args.files.now.store in
     let between = g.S.Store.past c.read_patterns.new.store in
-    let past' = g.S.Store.past c.run.new.files.store in
-    let listed = map found c.list_files.new.files.items.items in
-    let items = map found c.run.new.files.items.items in
+    let files = c.run.new.files in
+    let past' = g.S.Store.past files.store in
+    let start = c.list_files.new.files in
+    let listed = c.in_ok-setup.ensures in
     let text = c.in_ok-text.ensures ∙ ap (text_with asked) c.in_ok-lists.ensures.read.1 in
-    let tells = g.T.FileTree.tells c.args.tree.now in
-    let tree = g.T.FileTree.answers c.args.tree.now in
+    let tells = g.T.FileTree.tells in
+    let answers = g.T.FileTree.answers in
+    let tree = c.args.tree.now in
     let read = subst (λ paths. HasRead past between (bytes_of paths) contents) c.as_slice.ensures.value
     c.in_ok-lists.ensures.read.2 in
+    let first = first_sought tree start.walk.walker.tree.now asked start.walk.asked.items
+    (map string_bytes start.walk.operands.items) start.walk.walker.recursive start.spares_output
+    (g.S.Store.past start.store) between listed.fresh.0 listed.walk.0 listed.walk.1 listed.walk.2 listed.spares
+    (ap g.S.Store.past listed.store) in
+    let at = sought files.walk.walker.tree.now (map string_bytes files.walk.operands.items) files.walk.walker.recursive
+    files.spares_output (asked_for files.walk.asked.items) past' in
     let done = c.in_ok-run.ensures.ok in
+    let is = c.in_ok-run.ensures.same_list ∙ first in
     record {
-      work = work_of tells tree asked past between past' contents read listed items c.in_ok-setup.ensures.walked
-          c.in_ok-setup.ensures.follow c.in_ok-setup.setup c.in_ok-setup.ensures.setup c.list_files.new.files.asked
-          c.run.new.files.asked c.run.new.files.done c.list_files.new.files.spares_output
-          c.run.new.files.spares_output c.in_ok-setup.ensures.fresh.0 c.in_ok-setup.ensures.spares
-          (λ d. c.run.new.files.all_asked d ∙ sym (length-map c.run.new.files.items.items found))
-          c.run.new.files.are_opened c.run.new.files.are_spared
-          (c.in_ok-run.ensures.same_list
-          ∙ ap (λ store. sources c.list_files.new.files.asked listed c.list_files.new.files.spares_output
-          (g.S.Store.past store))
-          c.in_ok-setup.ensures.store);
+      work = work_of tells answers tree asked between at is past past' contents read files.walk.asked.items
+          files.begins c.in_ok-setup.setup listed.setup files.done files.all_asked files.are_opened files.are_spared
+          refl;
       search = done.0;
       is_search = subst (λ t. IsSearchFor t done.0) text done.1;
-      finishes = done.2;
+      finishes = finishes_so tells answers tree asked between at is done.0 c.in_ok-setup.setup
+          (files_past files.done (asked_for files.walk.asked.items) past') _ _ _ _ _ done.2;
     }
 
 pub returns-clause-small : goal.returns-clause-small

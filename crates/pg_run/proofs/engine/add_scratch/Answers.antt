@@ -3,7 +3,6 @@ use Rattle.std.specs.List.{All}
 use Rattle.std.proofs.lemmas.List.{length_push}
 use Rattle.std.proofs.lemmas.List.Elements.{All-push}
 use Rattle.pg_match.specs.Machines.{Room, Fits}
-use Rattle.pg_run.proofs.HoldLemmas.{ok_of_err}
 use Rattle.pg_run.proofs.engine.add_scratch.Goals as goal
 
 pub returns-clause-more : goal.returns-clause-more

@@ -41,8 +41,8 @@ returns-clause-ok g c =
     let told' = stream (g.E.Sink.taken c.search_files.new.faults) (g.E.Sink.failures c.search_files.new.faults) in
     let own = c.in_ok-engine.ensures.trees in
     let aim = aim_for c.args.text own.0 c.args.setup out told in
-    finishes_for c.search_files.result c.args.text c.args.setup (g.F.Files.list c.search_files.new.files).items
-    (g.F.Files.past c.search_files.new.files)
+    finishes_for c.search_files.result c.args.text c.args.setup
+    (g.F.Files.finds (g.F.Files.list c.search_files.new.files)) (g.F.Files.past c.search_files.new.files)
     out out' told told' own
     (c.search_files.ensures.ok aim
     (between_new c.in_ok-engine.engine aim (c.in_ok-engine.ensures.holds aim own.1 refl refl), told_new aim))
