@@ -36,8 +36,14 @@ WORKERS = (1, 4)
 # What hasn't come after so many seconds is missing.
 LIMIT = 20
 
-# The files beside the input.
-FILES = {"first": "x in first\nnone\n", "other": "none\nx in other\n"}
+# The files beside the input, and what is named of them.
+FILES = {
+    "first": "x in first\nnone\n",
+    "other": "none\nx in other\n",
+    "tree/a/f": "x in f\n",
+    "tree/b": "none\nx in b\n",
+}
+NAMED = ("first", "other", "tree")
 
 # How the input comes: a FIFO is opened for writing when the first line is sent, or, if it is held, before the program
 # starts. The program's faults come by the terminal too, and else by a pipe of their own.
@@ -88,6 +94,14 @@ CASES = [
     Case("-c x first IN", (("x1",), ("x2",)), ("first:1", "IN:2"), ways=(*EACH, HELD)),
     Case("-n x first other IN", ((None, "first:1:x in first", "other:2:x in other"),), ways=(PIPE, HELD, TERMINAL)),
     Case("-q x first IN", ((None,),), ends=True, ways=(PIPE, HELD, TERMINAL)),
+    # A tree is walked as its files are read: its rows come before what stands behind it is read, and a search that is
+    # settled goes no further.
+    Case(
+        "-r -n x tree IN",
+        ((None, "tree/a/f:1:x in f", "tree/b:2:x in b"), ("x1", "IN:1:x1"), ("none",), ("x3", "IN:3:x3")),
+        ways=(PIPE, HELD, TERMINAL),
+    ),
+    Case("-r -q x tree IN", ((None,),), ends=True, ways=(*EACH, HELD)),
     # A fault is told where it comes in the order of the files.
     Case(
         "-H x first missing other IN",
@@ -253,7 +267,7 @@ WAYS = {PIPE: Pipe, FIFO: Fifo, HELD: HeldFifo, TERMINAL: Terminal}
 def words_of(command, way):
     """The words of a command: standard input is named only where it is not the only operand."""
     words = shlex.split(command)
-    if way.operand == "-" and not any(word in FILES for word in words):
+    if way.operand == "-" and not any(word in NAMED for word in words):
         return [word for word in words if word != "IN"]
     return [way.operand if word == "IN" else word for word in words]
 
@@ -355,6 +369,15 @@ class Shell:
     def type(self, text):
         os.write(self.keys, text.encode("ascii"))
 
+    def wait_for_prompt(self):
+        """Waits until the shell has the terminal again. What is typed before may be lost."""
+        deadline = time.monotonic() + LIMIT
+        while os.tcgetpgrp(self.keys) != self.run.pid:
+            if time.monotonic() > deadline:
+                raise Missing("the shell didn't get its terminal back")
+            time.sleep(0.001)
+        time.sleep(0.2)
+
     def wait_for(self, word):
         """Waits for a line with a word, and keeps all lines up to it."""
         while not self.lines or word not in self.lines[-1]:
@@ -375,13 +398,20 @@ def fault_of_keys(program):
     shell = Shell()
     try:
         shell.type(shlex.join([*program, "x"]) + "\n")
-        for typed, wanted in (
-            ("ax1\n", "ax1"), ("\x1a", "Stopped"), ("fg\n", program[0]), ("none\nax2\n", "ax2"), ("\x1a", "Stopped"),
-            ("fg\n", program[0]), ("ax3\n", "ax3"), ("\x03", ""), ("echo status $?\n", "status"),
-        ):
-            shell.type(typed)
-            if wanted:
-                shell.wait_for(wanted)
+        for lines, row in (("ax1\n", "ax1"), ("none\nax2\n", "ax2")):
+            shell.type(lines)
+            shell.wait_for(row)
+            shell.type("\x1a")
+            shell.wait_for("Stopped")
+            shell.wait_for_prompt()
+            shell.type("fg\n")
+            shell.wait_for(program[0])
+        shell.type("ax3\n")
+        shell.wait_for("ax3")
+        shell.type("\x03")
+        shell.wait_for_prompt()
+        shell.type("echo status $?\n")
+        shell.wait_for("status")
     except Missing as missing:
         return str(missing)
     finally:
@@ -408,6 +438,7 @@ def main():
     with tempfile.TemporaryDirectory(prefix="pargrep-live-") as name:
         folder = Path(name)
         for file, text in FILES.items():
+            (folder / file).parent.mkdir(parents=True, exist_ok=True)
             (folder / file).write_text(text)
         for options in options_of(program):
             runs = [(case, kind, False) for case in CASES for kind in case.ways]
