@@ -1,5 +1,6 @@
 #!/bin/sh
-# Prints the most memory that pargrep and GNU grep hold while they search a large file, in several formats.
+# Prints the most memory that pargrep and GNU grep hold while they search a large file, in several formats, and while
+# they walk over trees of 10,000, 100,000 and 1,000,000 empty files.
 # Usage: bench/memory.sh PARGREP [MEGABYTES]
 # The file is lines of 60 bytes, of which one in 100 is selected. It is kept in a folder of its own that is removed at
 # the end. The memory is the largest resident set that the system tells of the process, which GNU time prints.
@@ -33,3 +34,21 @@ measure -nF
 measure -cF
 measure -F -C 3
 measure -nF -B 1000
+
+# directory NUMBER: makes one with 1,000 empty files.
+directory() {
+  mkdir -p "$folder/tree/$(($1 / 100))/$1"
+  (cd "$folder/tree/$(($1 / 100))/$1" && seq 1000 | xargs touch)
+}
+
+made=0
+for thousands in 10 100 1000; do
+  while [ "$made" -lt "$thousands" ]; do
+    directory "$made"
+    made=$((made + 1))
+  done
+  /usr/bin/time -f %M -o "$folder/ours" "$pargrep" -rc needle "$folder/tree" > "$folder/out" || [ $? -eq 1 ]
+  /usr/bin/time -f %M -o "$folder/theirs" grep -rc needle "$folder/tree" > "$folder/expected" || [ $? -eq 1 ]
+  [ "$(wc -l < "$folder/out")" -eq "$((thousands * 1000))" ] || { echo "a file of the tree is lost" >&2; exit 1; }
+  printf '%-14s pargrep %6d kB  grep %6d kB\n' "-rc, ${thousands}000" "$(tail -n 1 "$folder/ours")" "$(tail -n 1 "$folder/theirs")"
+done
