@@ -20,8 +20,8 @@ COMPLETIONS = ROOT / "completions"
 HIDDEN = {"--always-spread"}
 
 OPTION = re.compile(
-    r"""Opt\(\s*Names::(?:Letter\('(?P<letter>.)',\s*&\[(?P<others>[^\]]*)\]\)|Long),\s*"""
-    r""""(?P<name>[a-z-]+)",\s*Value::(?P<value>\w+)"""
+    r"""OptionRow\(\s*Names::(?:Letter\('(?P<letter>.)',\s*&\[(?P<others>[^\]]*)\]\)|Long),\s*"""
+    r""""(?P<name>[a-z-]+)",\s*Behind::(?P<value>\w+)"""
 )
 
 
