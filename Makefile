@@ -48,9 +48,7 @@ refuse: toolchain ## Try the wrong bodies under crates/*/refused, which the gate
 	@RT="$(RT)" $(PYTHON) tests/refuse.py $(edits)
 
 bench: all ## Time the program beside GNU grep, and ripgrep where there is one.
-	bench/search.sh $(program)
-	bench/lists.sh $(program)
-	bench/tree.sh $(program)
+	$(PYTHON) bench/bench.py $(program)
 	bench/memory.sh $(program)
 
 bench-parts: toolchain ## Time the automaton and the walk by themselves.

@@ -132,6 +132,12 @@ def cases(folder, megabytes):
     texts.make_tree(folder / "tree")
     for options in ("-rF", "-rcF", "-rlF"):
         yield Case([options, "needle"], "tree", [options.replace("r", ""), "needle"], is_tree=True)
+    write(folder / "part", texts.common(8))
+    (folder / "large").mkdir()
+    for number in range(20):
+        os.link(folder / "part", folder / f"large/f{number}")
+    for options in (["-rF", "water"], ["-rcE", "[a-z]{7}"]):
+        yield Case(options, "large", [options[0].replace("r", "").replace("E", ""), options[1]], is_tree=True)
 
 
 def write(path, text):
@@ -176,6 +182,21 @@ class Bench:
         if run.returncode not in (0, 1):
             sys.exit(f"bench: {' '.join(words)} ended with status {run.returncode}")
         return took, usage.ru_utime + usage.ru_stime
+
+    def bare_loop(self):
+        """How long a loop takes that opens, reads and closes each file of the tree, in seconds; None without `cc`."""
+        if not shutil.which("cc"):
+            return None
+        loop, names = self.folder / "loop", self.folder / "names"
+        subprocess.run(["cc", "-O2", "-o", loop, Path(__file__).resolve().parent / "bare_loop.c"], check=True)
+        names.write_text("".join(f"{path}\n" for path in (self.folder / "tree").rglob("f*")))
+        least = math.inf
+        for _ in range(self.rounds):
+            with open(names, "rb") as given:
+                before = time.perf_counter()
+                subprocess.run([loop], stdin=given, stdout=subprocess.DEVNULL, check=True)
+                least = min(least, time.perf_counter() - before)
+        return least
 
     def output(self, case):
         text = (self.folder / "out").read_bytes()
@@ -238,6 +259,9 @@ def main():
             ratio = " ".join(f"{found[-1]:.2g}" for found in ratios.values())
             label = case.label().replace("|", "\\|")
             print(f"| `{label}` | {' | '.join(cells)} | {ratio} |", flush=True)
+        loop = bench.bare_loop() if (Path(room) / "tree").is_dir() else None
+    if loop is not None:
+        print(f"\nA bare loop that opens, reads and closes the files of the tree takes {1000 * loop:.0f} ms.")
     print(f"\nGeometric mean of {len(ratios['one'])} ratios to GNU grep: one thread {mean(ratios['one']):.2f}, "
           f"four {mean(ratios['four']):.2f}. Load {load()} at the end.")
 
