@@ -172,14 +172,7 @@ fn reads_on<R: Abort + Threads + Wait + Clock + Sync>(rt: &R, alloc: Global, cas
         given_up: AtomicU64::new(0),
     };
     let tree = tree_of(alloc).expect(rt, "memory");
-    let files = file_of(
-        alloc,
-        &tree,
-        case.file,
-        case.ending,
-        case.may_wait,
-        &reads,
-    );
+    let files = file_of(alloc, &tree, case.file, case.ending, case.may_wait, &reads);
     let mut files = files.expect(rt, "memory");
     let mut out = sink(rt, alloc);
     let mut setup = setup(2, 2);

@@ -54,11 +54,7 @@ pub(crate) fn operands_of(alloc: Global) -> Result<Vec<String>, AllocError> {
 }
 
 /// A file of these bytes, given in one read.
-fn file_of<'t>(
-    alloc: Global,
-    tree: &'t MemTree,
-    bytes: &[u8],
-) -> Result<MemFiles<'t>, AllocError>
+fn file_of<'t>(alloc: Global, tree: &'t MemTree, bytes: &[u8]) -> Result<MemFiles<'t>, AllocError>
     ensures { IfOk result (λ files. (files.walk.asked.items ≡ []) × (files.done ≡ false)) }
 {
     let operands = operands_of(alloc)?;

@@ -172,11 +172,7 @@ fn operands_of(alloc: Global, is_alone: bool) -> Result<Vec<String>, AllocError>
 }
 
 /// The file, listed in front of names that give none and the file `h`, a line of `b`, unless it is alone.
-fn list<'t>(
-    alloc: Global,
-    tree: &'t MemTree,
-    case: Case<'_>,
-) -> Result<MemFiles<'t>, AllocError>
+fn list<'t>(alloc: Global, tree: &'t MemTree, case: Case<'_>) -> Result<MemFiles<'t>, AllocError>
     ensures { IfOk result (λ files. (files.walk.asked.items ≡ []) × (files.done ≡ false)) }
 {
     let operands = operands_of(alloc, case.is_alone)?;
