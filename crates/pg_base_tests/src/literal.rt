@@ -8,7 +8,7 @@ use std::process::Abort;
 
 /// Bounds, with `fold-` before them where case is folded, extended expressions, which `;` parts, and their literals,
 /// with `only:` before those where each line that holds them has a hit.
-const LITERALS: [&str; 4] = [
+const LITERALS: [&str; 5] = [
     r"any foo => only:foo
 whole foo => foo
 word foo => foo
@@ -99,6 +99,15 @@ any a|b|c|d;e|f|g|h|i => only:d;only:c;only:b;only:a;only:i;only:h;only:g;only:f
 any a|b|c;d;e|f|g|h;[0-9] => none
 fold-any Foo|BAR;Baz => only:bar;only:foo;only:baz
 fold-word Foo|^BAR$ => bar;foo",
+    r"any gr[ae]y;b;c;d;e;f;g;h => gr;only:b;only:c;only:d;only:e;only:f;only:g;only:h
+any gr[ae]y;b;c;d;e;f;g;h;i => only:gray;only:grey;only:b;only:c;only:d;only:e;only:f;only:g;only:h;only:i
+whole [Ff]o;b;c;d;e;f;g;h;i => Fo;fo;b;c;d;e;f;g;h;i
+fold-any [Ff]o;b;c;d;e;f;g;h;i => only:fo;only:b;only:c;only:d;only:e;only:f;only:g;only:h;only:i
+fold-any [xY]o+z;b;c;d;e;f;g;h;i => xo;yo;only:b;only:c;only:d;only:e;only:f;only:g;only:h;only:i
+any w[01]+x;b;c;d;e;f;g;h;i => w0;w1;only:b;only:c;only:d;only:e;only:f;only:g;only:h;only:i
+any a[0-3][0-7]z.y;b;c;d;e;f;g;h;i => 0z;1z;2z;3z;4z;5z;6z;7z;only:b;only:c;only:d;only:e;only:f;only:g;only:h;only:i
+any [a-z];b;c;d;e;f;g;h;i => none
+any .*[01];b;c;d;e;f;g;h;i => only:0;only:1;only:b;only:c;only:d;only:e;only:f;only:g;only:h;only:i",
 ];
 
 /// The tree of an expression.

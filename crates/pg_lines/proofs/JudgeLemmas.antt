@@ -1,12 +1,12 @@
 -- Lines of a block that are judged by strings.
-use Rattle.std.proofs.Common.{Bor, ◌≡◌, ◌≤◌, ◌+◌, ◌-◌, ◌⊎◌, inl, inr, ℕ, Bool, true, false, IsTrue, Option, Some, None}
+use Rattle.std.proofs.Common.{Bor, ◌≡◌, ◌<◌, ◌≤◌, ◌+◌, ◌-◌, ◌⊎◌, inl, inr, ℕ, Bool, true, false, IsTrue, Option, Some, None}
 use Rattle.std.proofs.Common.{List, length, take, drop, slice_range, refl, sym, ap, ◌∙◌, subst, arith, length-drop}
 use Rattle.std.specs.Option.{IfSome, IsSomeAnd}
 use Rattle.std.proofs.lemmas.List.{take-map, take-take, take_rest, drop-drop, length-take-le}
 use Rattle.pg_literal.specs.Literals.{as_searched}
 use Rattle.pg_strings.specs.Outcomes.{strings_of}
 use Rattle.pg_lines.specs.Search.{SearchText}
-use Rattle.pg_lines.specs.Strings.{AreStrings, IsSetOf, AreBlockStrings, JudgesLine}
+use Rattle.pg_lines.specs.Strings.{IsHead, AreStrings, IsSetOf, AreBlockStrings, JudgesLine}
 use Rattle.pg_lines.specs.declared.literal_set.LiteralSet.{LiteralSet}
 use Rattle.pg_strings.specs.declared.set.StringSet.{StringSet}
 use Rattle.pg_lines.specs.declared.strings.BlockStrings.{BlockStrings}
@@ -26,17 +26,23 @@ module _ {A : Type 0} (text : SearchText) (bytes : List ℕ) (strings : BlockStr
   -- a line that stands at a place of the bytes
   pub judges_line : at + length line ≤ length bytes → line ≡ take (length line) (drop at bytes)
       → JudgesLine text strings line at
-  judges_line within is = if_some_more _ _ strings.set (λ set known.
-      let searched = strings.searched.now in
-      let behind = searched_behind text.fold bytes searched at known.1 (omega (arith, within)) in
-      let long = searched_length text.fold bytes searched known.1 in
-      let size : at + length line - at ≡ length line = omega arith in (
-        known.0,
-        omega (arith, within, long),
-        ap (λ n. take n (drop at searched)) size
-            ∙ (ap (take (length line)) behind
-            ∙ (take_searched text.fold (length line) (drop at bytes) ∙ ap (as_searched text.fold) (sym is))),
-      )) are
+  judges_line within is = (
+    if_some_more _ _ strings.set (λ set known. let l = lies known.1 in (known.0, l.0, l.1)) are.0,
+    if_some_more _ _ strings.head (λ head known. let l = lies known.1 in (known.0, l.0, l.1)) are.1,
+  )
+    where
+      lies : strings.searched.now ≡ as_searched text.fold bytes → (at + length line ≤ length strings.searched.now)
+          × (slice_range strings.searched.now at (at + length line) ≡ as_searched text.fold line)
+      lies folded =
+          let searched = strings.searched.now in
+          let behind = searched_behind text.fold bytes searched at folded (omega (arith, within)) in
+          let long = searched_length text.fold bytes searched folded in
+          let size : at + length line - at ≡ length line = omega arith in (
+            omega (arith, within, long),
+            ap (λ n. take n (drop at searched)) size
+                ∙ (ap (take (length line)) behind
+                ∙ (take_searched text.fold (length line) (drop at bytes) ∙ ap (as_searched text.fold) (sym is))),
+          )
 
   -- the front of a part of the bytes
   pub judges_front : (stop : ℕ) → at ≤ stop → stop ≤ length bytes
@@ -93,3 +99,14 @@ strings_known {A} text bytes searched seen set found own known folded fixed same
     go (Some x) (Some y) known folded fixed =
         let Q : StringSet A → Type 0 = λ s. AreStrings text (strings_of s) in
         (subst Q (sym fixed.1) (known.1 fixed.0), is ∙ folded)
+
+-- the text that hits begin with, over the bytes as they are searched
+pub head_known : (text : SearchText) (bytes searched seen : List ℕ) (found own : Option (List ℕ))
+    → (count : ℕ) → (0 < count → searched ≡ as_searched text.fold bytes) → IfSome found (IsHead text)
+    → IfSome found (λ _. 0 < count) → own ≡ found → seen ≡ searched
+    → IfSome own (λ head. IsHead text head × (seen ≡ as_searched text.fold bytes))
+head_known text bytes searched seen None own count folded heads some same is =
+    subst (λ o. IfSome o (λ head. IsHead text head × (seen ≡ as_searched text.fold bytes))) (sym same) tt
+head_known text bytes searched seen (Some head) own count folded heads some same is =
+    subst (λ o. IfSome o (λ head. IsHead text head × (seen ≡ as_searched text.fold bytes))) (sym same)
+    (heads, is ∙ folded some)

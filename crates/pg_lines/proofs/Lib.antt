@@ -11,6 +11,7 @@ pub mod CandidateLemmas
 pub mod Examples
 pub mod FaultLemmas
 pub mod GatherLemmas
+pub mod HeadLemmas
 pub mod HitLemmas
 pub mod JudgeLemmas
 pub mod LaneLemmas

@@ -22,7 +22,7 @@ use Rattle.pg_literal.proofs.FoldLemmas.{searched_byte, byte_of_searched, folded
 use Rattle.pg_lines.specs.Search.{SearchText, Pattern, Kind, Bounds, Any, Word, Whole, Fixed, AreTreesOf, patterns}
 use Rattle.pg_lines.specs.Strings.{AreStrings, IsStringHit, IsNextString, HasNoString, FindsString, FindsPart}
 use Rattle.pg_lines.specs.declared.strings.NextString.{NextString}
-use Rattle.pg_lines.specs.declared.strings.NextString.TheVariants.{Found, Nowhere, GaveUp}
+use Rattle.pg_lines.specs.declared.strings.NextString.TheVariants.{Found, Nowhere, Behind, GaveUp}
 
 -- the first of two texts in a row
 occurs_front : (xs s t : List ℕ) (i : ℕ) → OccursAt xs (s ++ t) i → OccursAt xs s i
@@ -271,4 +271,9 @@ module _ (text : SearchText) (strings : List (List ℕ)) (are : AreStrings text 
       → FindsPart trees bounds line place found
   found_part place (Found span) next = next_is_part place span.start span.end next
   found_part place Nowhere none = none_is_hit place none
+  found_part place (Behind next) behind = (
+    behind.0,
+    omega (arith, behind.1, length_searched text.fold line),
+    λ i j low hit. behind.2 i j low (hit_stands i j hit),
+  )
   found_part place GaveUp none = tt

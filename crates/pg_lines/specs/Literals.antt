@@ -2,11 +2,12 @@
 use Rattle.std.specs.Prelude.{◌<◌, List, ℕ, Bool, IsTrue, length, map}
 use Rattle.std.specs.List.{All, Any}
 use Rattle.pg_literal.specs.Literals.{Holds}
+use Rattle.pg_literal.specs.Literals as P
 use Rattle.pg_literal.specs.declared.literal.Literal.{Literal}
 use Rattle.pg_strings.specs.Outcomes.{strings_of}
 use Rattle.pg_lines.specs.declared.literal_set.LiteralSet.{LiteralSet}
 use Rattle.pg_lines.specs.Lines.{IsLine}
-use Rattle.pg_lines.specs.Search.{SearchText, Pattern, AreTreesOf, search_of, terminator_of}
+use Rattle.pg_lines.specs.Search.{SearchText, Pattern, AreTreesOf, bounds_of, search_of, terminator_of}
 use Rattle.pg_lines.specs.Selection.{HasHit}
 
 -- a literal as plain data
@@ -42,3 +43,10 @@ pub record AreLiterals (text : SearchText) (literals : List LiteralData) : Type 
   pub needed : 0 < length literals → (trees : List Pattern) → AreTreesOf text trees → (line : List ℕ)
       → HasHit (search_of text trees) line → HoldsOne text.fold literals line
   pub enough : All (IsEnough text) literals
+
+-- Where all literals are told to be heads, no hit is empty, and each begins with one of them; with -i in the line in
+-- lower case.
+abbrev pub TellHeads : {A : Type 0} → SearchText → List (Literal A) → Type 0
+TellHeads text literals =
+    0 < length literals → All (λ literal. IsTrue literal.is_head) literals → (trees : List Pattern)
+    → AreTreesOf text trees → P.AreHeads text.fold trees (bounds_of text) literals

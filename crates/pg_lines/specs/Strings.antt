@@ -7,12 +7,12 @@ use Rattle.pg_match.specs.Bounds.{MayBegin, MayEnd}
 use Rattle.pg_match.specs.Hits.{Hit, IsNext}
 use Rattle.pg_literal.specs.Literals.{as_searched}
 use Rattle.pg_strings.specs.Outcomes.{strings_of}
-use Rattle.pg_lines.specs.Search.{SearchText, Pattern, Bounds, Fixed, patterns}
+use Rattle.pg_lines.specs.Search.{SearchText, Pattern, Bounds, Fixed, AreTreesOf, bounds_of, patterns}
 use Rattle.pg_lines.specs.Literals.{AreLiterals, set_literals}
 use Rattle.pg_lines.specs.declared.literal_set.LiteralSet.{LiteralSet}
 use Rattle.pg_lines.specs.declared.strings.BlockStrings.{BlockStrings}
 use Rattle.pg_lines.specs.declared.strings.NextString.{NextString}
-use Rattle.pg_lines.specs.declared.strings.NextString.TheVariants.{Found, Nowhere, GaveUp}
+use Rattle.pg_lines.specs.declared.strings.NextString.TheVariants.{Found, Nowhere, Behind, GaveUp}
 
 -- the strings are the patterns, which are fixed strings; with -i they are in lower case
 pub record AreStrings (text : SearchText) (strings : List (List ℕ)) : Type 0 where
@@ -43,16 +43,23 @@ IsLongestHit strings bounds line place stop = MatchOption stop ((j : ℕ) → Is
     (λ stop. (place < stop) × IsStringHit strings bounds line place stop
     × ((j : ℕ) → IsStringHit strings bounds line place j → j ≤ stop))
 
--- the next string of a line, if the search wasn't given up
+-- the next string of a line, or a place that none begins before, if the search wasn't given up
 abbrev pub FindsString : List (List ℕ) → Bounds → List ℕ → ℕ → NextString → Type 0
 FindsString strings bounds line place (Found span) = IsNextString strings bounds line place span.start span.end
 FindsString strings bounds line place Nowhere = HasNoString strings bounds line place
+FindsString strings bounds line place (Behind next) =
+    (place ≤ next) × (next ≤ length line)
+    × ((i j : ℕ) → place ≤ i → IsStringHit strings bounds line i j → (next ≤ i) × (i < j))
 FindsString strings bounds line place GaveUp = Unit {0}
 
--- the next match of some patterns from a place on, none of which is empty; or there is none
+-- the next match of some patterns from a place on; or there is none; or a place that none begins before, and none is
+-- empty
 abbrev pub FindsPart : List Pattern → Bounds → List ℕ → ℕ → NextString → Type 0
 FindsPart patterns bounds line place (Found span) = IsNext patterns bounds line place span.start span.end
 FindsPart patterns bounds line place Nowhere = (i j : ℕ) → place ≤ i → Hit patterns bounds line i j → ⊥
+FindsPart patterns bounds line place (Behind next) =
+    (place ≤ next) × (next ≤ length line)
+    × ((i j : ℕ) → place ≤ i → Hit patterns bounds line i j → (next ≤ i) × (i < j))
 FindsPart patterns bounds line place GaveUp = Unit {0}
 
 -- the literals of a set tell of the query's lines; where it says so they are its patterns
@@ -60,15 +67,26 @@ abbrev pub IsSetOf : {A : Type 0} → SearchText → LiteralSet A → Type 0
 IsSetOf text set =
     AreLiterals text (set_literals set) × (IsTrue set.is_fixed → AreStrings text (strings_of set.strings))
 
--- the strings of a query, if there are such, and the bytes as they are searched for in them
+-- no hit of the search is empty, and each begins with the text; with -i in the line in lower case
+abbrev pub IsHead : SearchText → List ℕ → Type 0
+IsHead text head =
+    (trees : List Pattern) → AreTreesOf text trees → (line : List ℕ) (i j : ℕ) → Hit trees (bounds_of text) line i j
+    → (i < j) × OccursAt (as_searched text.fold line) head i
+
+-- the strings of a query or the text that its hits begin with, if there are such, and the bytes as they are searched for
+-- in them
 abbrev pub AreBlockStrings : {A : Type 0} → SearchText → List ℕ → BlockStrings A → Type 0
 AreBlockStrings text bytes strings =
     IfSome strings.set (λ set. AreStrings text (strings_of set.now)
     × (strings.searched.now ≡ as_searched text.fold bytes))
+    × IfSome strings.head (λ head. IsHead text head × (strings.searched.now ≡ as_searched text.fold bytes))
 
 -- the same, where the line stands at a place of the bytes
 abbrev pub JudgesLine : {A : Type 0} → SearchText → BlockStrings A → List ℕ → ℕ → Type 0
 JudgesLine text strings line at =
     IfSome strings.set (λ set. AreStrings text (strings_of set.now)
+    × (at + length line ≤ length strings.searched.now)
+    × (slice_range strings.searched.now at (at + length line) ≡ as_searched text.fold line))
+    × IfSome strings.head (λ head. IsHead text head
     × (at + length line ≤ length strings.searched.now)
     × (slice_range strings.searched.now at (at + length line) ≡ as_searched text.fold line))

@@ -18,7 +18,7 @@ use pg_match::Scratch;
 use std::alloc::{AllocError, Allocator};
 
 /// The next matched part of a line that stands at a place in its block: by the query's strings, where it has such, else
-/// by its automaton.
+/// by its automaton, from where a match may begin.
 fn next_part<A: Allocator>(
     query: &Query<A>,
     strings: &BlockStrings<'_, A>,
@@ -41,6 +41,7 @@ fn next_part<A: Allocator>(
     match strings.next_part(query, line, at, from) {
         NextString::Found(part) => Some((part.start, part.end)),
         NextString::Nowhere => None,
+        NextString::Behind(place) => machine.next_piece(scratch, line, place),
         NextString::GaveUp => machine.next_piece(scratch, line, from),
     }
 }

@@ -5,7 +5,7 @@ ghost use Rattle.pg_syntax.specs.Trees.{pattern};
 ghost use Rattle.pg_lines.specs.Search.{AreTreesOf, Fixed, bounds_of, patterns, terminator_of};
 ghost use Rattle.pg_lines.specs.Lines.{IsLine};
 ghost use Rattle.pg_literal.specs.Literals.{as_searched};
-ghost use Rattle.pg_lines.specs.Literals.{AreLiterals, data_of};
+ghost use Rattle.pg_lines.specs.Literals.{AreLiterals, TellHeads, data_of};
 ghost use Rattle.pg_lines.specs.Strings.{IsSetOf};
 ghost use Rattle.pg_lines.specs.Queries.{IsCompiled, IsQueryFault};
 ghost use Rattle.pg_lines.specs.declared.query.QueryFault.TheVariants.{OutOfMemory};
@@ -152,7 +152,7 @@ impl<A: Allocator> Drop for Query<A> {
 
 impl<A: Allocator> Model for Query<A> {
     ghost use Rattle.std.specs.Prelude.{map, IfSome};
-    ghost use Rattle.pg_lines.specs.Literals.{AreLiterals, data_of};
+    ghost use Rattle.pg_lines.specs.Literals.{AreLiterals, TellHeads, data_of};
     ghost use Rattle.pg_lines.specs.Strings.{IsSetOf};
     ghost use Rattle.pg_lines.specs.Queries.{Compiled, IsCompiled};
 
@@ -162,6 +162,7 @@ impl<A: Allocator> Model for Query<A> {
 
     ghost invariant = { λ q. IsCompiled (record { text = q.text; machine = q.machine })
         × AreLiterals q.text (map data_of q.literals.items)
+        × TellHeads q.text q.literals.items
         × IfSome q.literal_set (IsSetOf q.text) };
 }
 
@@ -220,6 +221,7 @@ impl<A: Allocator> Query<A> {
     /// they are searched for. Where a text is enough, each line that holds it has a hit, and the machine isn't asked.
     pub fn literals(&self) -> &[Literal<A>]
         ensures literals { AreLiterals self.now.text (map data_of result.now) }
+        ensures heads { TellHeads self.now.text result.now }
         ensures compiled { IsCompiled self.now }
     {
         &self.literals
@@ -277,6 +279,7 @@ fn literals_of<A: Allocator + Copy>(
 ) -> Result<Vec<Literal<A>, A>, AllocError>
     requires trees { AreTreesOf text.now (map pattern trees.now) }
     ensures literals { IfOk result (λ literals. AreLiterals text.now (map data_of literals.items)) }
+    ensures heads { IfOk result (λ literals. TellHeads text.now literals.items) }
     ensures fixed { text.now.kind ≡ Fixed → IfOk result (λ literals. 0 < length literals.items
         → map (λ literal. literal.text.items) literals.items
         ≡ map (as_searched text.now.fold) (patterns text.now.lists)) }

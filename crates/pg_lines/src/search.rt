@@ -9,7 +9,7 @@ ghost use Rattle.pg_lines.specs.Search.{Search, Pattern, AreTreesOf, search_of};
 ghost use Rattle.pg_lines.specs.Search.{terminator, terminator_of, uninverted};
 ghost use Rattle.pg_lines.specs.Queries.{IsCompiled};
 ghost use Rattle.pg_lines.specs.Selection.{has_hit};
-ghost use Rattle.pg_lines.specs.Literals.{AreLiterals, data_of};
+ghost use Rattle.pg_lines.specs.Literals.{AreLiterals, TellHeads, data_of};
 ghost use Rattle.pg_lines.specs.Strings.{AreBlockStrings, IsSetOf, JudgesLine};
 ghost use Rattle.pg_lines.specs.Candidates.{AreNeedles, literals_sought};
 ghost use Rattle.pg_lines.specs.Runs.{AllLines, HasRuns};
@@ -26,7 +26,7 @@ use crate::query::Query;
 use crate::result::BlockResult;
 use crate::run::{Found, Run};
 use crate::span::Span;
-use crate::strings::{BlockStrings, NextString};
+use crate::strings::{BlockStrings, NextString, only_head};
 use pg_literal::Literal;
 use pg_match::Scratch;
 use std::alloc::{AllocError, Allocator};
@@ -58,6 +58,7 @@ fn has_hit<A: Allocator>(
     match strings.next_part(query, line, at, 0) {
         NextString::Found(_) => true,
         NextString::Nowhere => false,
+        NextString::Behind(place) => query.machine().next_piece(scratch, line, place).is_some(),
         NextString::GaveUp => query.machine().selects(scratch, line),
     }
 }
@@ -394,6 +395,7 @@ fn search_by<A: Allocator + Copy>(
 ) -> Result<Found<A>, AllocError>
     requires compiled { IsCompiled query.now }
     requires literals { AreLiterals query.now.text (map data_of literals.now) }
+    requires heads { TellHeads query.now.text literals.now }
     requires set { IfSome set (λ set. IsSetOf query.now.text set.now) }
     requires searched { 0 < length literals.now → searched.now ≡ as_searched query.now.text.fold bytes.now }
     requires set_searched { IfSome set (λ _. searched.now ≡ as_searched query.now.text.fold bytes.now) }
@@ -404,7 +406,7 @@ fn search_by<A: Allocator + Copy>(
     ensures parts { IfOk result (λ found. HasParts query.now.text bytes.now found.parts.items) }
     ensures lines { IfOk result (λ found. found.lines ≡ length (lines (terminator_of query.now.text) bytes.now)) }
 {
-    let strings = BlockStrings::new(fixed_strings(set), searched);
+    let strings = BlockStrings::new(fixed_strings(set), only_head(query, literals), searched);
     let mut needles = Needles::new(alloc, literals, sought_set(query, set), searched)?;
     selected_runs(alloc, query, &strings, &mut needles, scratch, bytes)
 }

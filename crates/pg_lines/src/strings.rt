@@ -1,11 +1,15 @@
-//! The strings of a query whose patterns are all fixed strings: its lines are judged by them alone.
-ghost use Rattle.std.specs.Prelude.{◌≡◌, ◌≤◌, List, length};
+//! What judges lines before the automaton: the strings of a query whose patterns are all fixed strings, or a text that
+//! each match begins with.
+ghost use Rattle.std.specs.Prelude.{◌≡◌, ◌+◌, ◌<◌, ◌≤◌, List, length, IfSome};
 ghost use Rattle.pg_strings.specs.Outcomes.{strings_of};
-ghost use Rattle.pg_lines.specs.Search.{Pattern, AreTreesOf, bounds_of};
-ghost use Rattle.pg_lines.specs.Strings.{IsLongestHit, FindsString, FindsPart, JudgesLine};
+ghost use Rattle.pg_lines.specs.Search.{SearchText, Pattern, AreTreesOf, bounds_of};
+ghost use Rattle.pg_lines.specs.Literals.{TellHeads};
+ghost use Rattle.pg_lines.specs.Strings.{IsLongestHit, FindsString, FindsPart, IsHead, JudgesLine};
 
 use crate::query::Query;
 use crate::span::Span;
+use memchr::memmem::Finder;
+use pg_literal::Literal;
 use pg_match::Bounds;
 use pg_strings::{Budget, Outcome, StringSet};
 use std::alloc::Allocator;
@@ -20,13 +24,17 @@ pub(crate) enum NextString {
     Found(Span),
     /// There is none.
     Nowhere,
+    /// It doesn't begin before this place, and isn't empty.
+    Behind(usize),
     /// To look for strings takes too long here, or there are none to look for.
     GaveUp,
 }
 
-/// The strings by which the lines of a block are judged, if the query is one of fixed strings, and the block's bytes.
+/// The strings by which the lines of a block are judged, if the query is one of fixed strings; or the text that each
+/// match begins with, if there is one and parts are asked for; and the block's bytes.
 pub(crate) struct BlockStrings<'s, A: Allocator> {
     set: Option<&'s StringSet<A>>,
+    head: Option<Finder<'s>>,
     /// The block's bytes, where case is folded in lower case.
     searched: &'s [u8],
 }
@@ -35,6 +43,7 @@ impl<'s, A: Allocator> Drop for BlockStrings<'s, A> {
     fn drop(self) {
         let BlockStrings {
             set: _,
+            head: _,
             searched: _,
         } = self;
     }
@@ -122,12 +131,57 @@ fn next_string<A: Allocator>(
     }
 }
 
+/// The text that each match of a query begins with, if it has but this literal, and parts of lines are asked for. A line
+/// without them is judged faster by the automaton alone, which needn't find where a match ends.
+pub(crate) fn only_head<'l, A: Allocator>(
+    query: &Query<A>,
+    literals: &'l [Literal<A>],
+) -> Option<Finder<'l>>
+    requires { TellHeads query.now.text literals.now }
+    ensures head { IfSome result (IsHead query.now.text) }
+    ensures some { IfSome result (λ _. 0 < length literals.now) }
+{
+    let options = query.text();
+    if !options.pieces || options.invert || literals.len() != 1 || !literals[0].is_head {
+        return None;
+    }
+    Some(Finder::new(&literals[0].text))
+}
+
 impl<'s, A: Allocator> BlockStrings<'s, A> {
-    pub fn new(set: Option<&'s StringSet<A>>, searched: &'s [u8]) -> BlockStrings<'s, A>
+    pub fn new(
+        set: Option<&'s StringSet<A>>,
+        head: Option<Finder<'s>>,
+        searched: &'s [u8],
+    ) -> BlockStrings<'s, A>
         ensures set { result.set ≡ set.entry }
+        ensures head { result.head ≡ head.entry }
         ensures searched { result.searched.now ≡ searched.now }
     {
-        BlockStrings { set, searched }
+        BlockStrings {
+            set,
+            head,
+            searched,
+        }
+    }
+
+    /// Where the text next stands that each match begins with, from a place of the line on.
+    fn next_head(&self, line: &[u8], at: usize, from: usize) -> NextString
+        requires line { IfSome self.now.head (λ _. at + length line.now ≤ length self.now.searched.now) }
+        requires from { from ≤ length line.now }
+        ensures { (text : SearchText) → JudgesLine text self.now line.now at → (trees : List Pattern)
+            → AreTreesOf text trees → FindsPart trees (bounds_of text) line.now from result }
+    {
+        match &self.head {
+            Some(head) => {
+                let rest = &self.searched[at + from..at + line.len()];
+                match head.find(rest) {
+                    Some(place) => NextString::Behind(from + place),
+                    None => NextString::Nowhere,
+                }
+            }
+            None => NextString::GaveUp,
+        }
     }
 
     /// Of a line that stands at a place of the block the next match from a place of the line on.
@@ -142,7 +196,7 @@ impl<'s, A: Allocator> BlockStrings<'s, A> {
                 let searched = &self.searched[at..at + line.len()];
                 next_string(set, query.text().bounds(), searched, from)
             }
-            None => NextString::GaveUp,
+            None => self.next_head(line, at, from),
         }
     }
 }

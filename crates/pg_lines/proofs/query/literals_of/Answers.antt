@@ -1,5 +1,7 @@
 use Rattle.std.proofs.lemmas.Result.{IfOk-from_err}
-use Rattle.std.proofs.Common.{◌≡◌, ◌<◌, Bool, List, length, map, sym, ap, subst, rules}
+use Rattle.std.proofs.Common.{◌≡◌, ◌<◌, Bool, List, length, map, sym, ap, subst, rules, arith}
+use Rattle.std.specs.Bool.{IsTrue}
+use Rattle.pg_lines.proofs.HeadLemmas.{heads_are}
 use Rattle.std.specs.List.{All, AllZip}
 use Rattle.pg_syntax.specs.Trees.{pattern}
 use Rattle.pg_literal.specs.Literals as P
@@ -54,3 +56,21 @@ pub returns-else-are_within_lines-clause-literals : goal.returns-else-are_within
 returns-else-are_within_lines-clause-literals g c =
     let P : List (Literal g.row.A.Denot) → Type 0 = λ ls. AreLiterals c.args.text.now (map data_of ls) in
     subst P (sym c.new.ensures.items) (no_literals c.args.text.now)
+
+pub returns-then-are_within_lines-clause-heads : goal.returns-then-are_within_lines-clause-heads
+returns-then-are_within_lines-clause-heads g c =
+    let text = c.args.text.now in
+    let trees = map (pattern {A = g.row.A.Denot}) c.args.trees.now in
+    let literals = c.in_ok-literals.literals.items in
+    let fold : c.text.inside.fold ≡ text.fold = ap (λ (t : SearchText). t.fold) c.text.view_is in
+    let Says : _ → Bounds → Type 0 = λ f b. 0 < length literals → All (λ l. IsTrue l.is_head) literals
+    → P.AreHeads f trees b literals in
+    let says = subst (Says text.fold) c.bounds.ensures
+    (subst (λ f. Says f c.bounds.result) fold c.in_ok-literals.ensures.heads) in
+    heads_are text trees c.requires.trees literals says
+
+pub returns-in_err-literals-clause-heads : goal.returns-in_err-literals-clause-heads
+returns-in_err-literals-clause-heads g c = IfOk-from_err c.from_residual.result _ c.from_residual.ensures.0
+
+pub returns-else-are_within_lines-clause-heads : goal.returns-else-are_within_lines-clause-heads
+returns-else-are_within_lines-clause-heads g c = λ some. absurd (omega (arith, some, ap length c.new.ensures.items))

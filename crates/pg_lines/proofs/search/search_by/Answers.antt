@@ -1,6 +1,7 @@
+use Rattle.std.proofs.Common.{length}
 use Rattle.std.proofs.lemmas.Result.{IfOk-from_err}
 use Rattle.pg_lines.specs.Strings.{IsSetOf}
-use Rattle.pg_lines.proofs.JudgeLemmas.{if_some_more, sought_known, strings_known}
+use Rattle.pg_lines.proofs.JudgeLemmas.{if_some_more, sought_known, strings_known, head_known}
 use Rattle.pg_lines.proofs.search.search_by.Goals as goal
 
 pub selected_runs-requires-clause-needles : goal.selected_runs-requires-clause-needles
@@ -11,10 +12,14 @@ selected_runs-requires-clause-needles g c =
     (sought_known _ _ _ sought known) c.requires.searched (sought_known _ _ _ sought c.requires.set_searched)
 
 pub selected_runs-requires-clause-strings : goal.selected_runs-requires-clause-strings
-selected_runs-requires-clause-strings g c =
-    strings_known c.args.query.now.text c.args.bytes.now c.args.searched.now c.new-strings.result.searched.now
-    c.args.set c.fixed_strings.result c.new-strings.result.set c.requires.set c.requires.set_searched
-    c.fixed_strings.ensures c.new-strings.ensures.set c.new-strings.ensures.searched
+selected_runs-requires-clause-strings g c = (
+  strings_known c.args.query.now.text c.args.bytes.now c.args.searched.now c.new-strings.result.searched.now
+      c.args.set c.fixed_strings.result c.new-strings.result.set c.requires.set c.requires.set_searched
+      c.fixed_strings.ensures c.new-strings.ensures.set c.new-strings.ensures.searched,
+  head_known c.args.query.now.text c.args.bytes.now c.args.searched.now c.new-strings.result.searched.now
+      c.only_head.result c.new-strings.result.head (length c.args.literals.now) c.requires.searched
+      c.only_head.ensures.head c.only_head.ensures.some c.new-strings.ensures.head c.new-strings.ensures.searched,
+)
 
 pub returns-in_err-needles-clause-runs : goal.returns-in_err-needles-clause-runs
 returns-in_err-needles-clause-runs g c = IfOk-from_err c.from_residual.result _ c.from_residual.ensures.0

@@ -2,6 +2,7 @@ use Rattle.std.proofs.Common.{ℕ, List, ap, ◌∙◌, subst}
 use Rattle.pg_strings.specs.Outcomes.{strings_of}
 use Rattle.pg_lines.specs.Search.{Bounds, bounds_of}
 use Rattle.pg_lines.specs.Strings.{FindsString, FindsPart}
+use Rattle.pg_lines.proofs.JudgeLemmas.{if_some_more}
 use Rattle.pg_lines.proofs.StringLemmas.{found_part}
 use Rattle.pg_lines.proofs.strings.BlockStrings.next_part.Goals as goal
 
@@ -11,9 +12,15 @@ returns-in-Some g c = λ trees spelled.
     let strings = strings_of c.in-Some.set.now in
     let line = c.args.line.now in
     let result = c.next_string.result in
-    let own = rw c.in-Some.is at c.requires.line in
+    let own = rw c.in-Some.is at c.requires.line.0 in
     let same = c.bounds.ensures ∙ ap bounds_of c.text.ensures.text in
     let Found : List ℕ → Type 0 = λ l. FindsString strings c.bounds.result l c.args.from result in
     let Part : Bounds → Type 0 = λ b. FindsPart trees b line c.args.from result in
     subst Part same (found_part text strings own.0 trees spelled c.bounds.result line c.args.from result
     (subst Found own.2 c.next_string.ensures))
+
+pub returns-in-None : goal.returns-in-None
+returns-in-None g c = c.next_head.ensures c.args.query.now.text c.requires.line
+
+pub next_head-requires-clause-line : goal.next_head-requires-clause-line
+next_head-requires-clause-line g c = if_some_more _ _ c.args.self.now.head (λ head known. known.1) c.requires.line.1
