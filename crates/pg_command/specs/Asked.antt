@@ -1,57 +1,11 @@
--- What a command line asks for, as plain data.
-use Rattle.std.specs.Prelude.{ℕ, ◌+◌, ◌<◌, Bool, true, false, ◌&&◌, ◌||◌, List, [], ◌∷◌, map, ◌++◌, length}
-use Rattle.pg_syntax.specs.Slices.{bytes_of}
-use Rattle.pg_lines.specs.Search.{Kind, Patterns, Split, ByLine, SearchText}
-use Rattle.pg_rows.specs.Output.{HasRoom}
-use Rattle.pg_rows.specs.declared.format.Format.{Format}
+-- What is searched for where a search is asked for, and when rows have names.
+pub use Rattle.pg_words.specs.Asked.{Asked, asked_of}
+use Rattle.std.specs.Prelude.{ℕ, Bool, true, false, ◌&&◌, ◌||◌, List, [], ◌∷◌, map, ◌++◌}
+use Rattle.pg_lines.specs.Search.{Patterns, Split, ByLine, SearchText}
 use Rattle.pg_rows.specs.declared.format.Mode.{Mode}
 use Rattle.pg_rows.specs.Modes.{shows_rows}
 use Rattle.pg_words.specs.declared.options.Naming.{Naming}
 use Rattle.pg_words.specs.declared.options.Naming.TheVariants.{Always, Never, BySeveral}
-use Rattle.pg_words.specs.declared.request.Request.{Request}
-
--- the syntax of the patterns, the -e texts, the paths of the -f files, the options -i, -x, -w, -v, -z and -o, how rows
--- look and when they have names, the FILE operands, and the options -r and -s
-pub record Asked : Type 0 where
-  pub kind : Kind
-  pub texts : List (List ℕ)
-  pub pattern_files : List (List ℕ)
-  pub fold : Bool
-  pub whole : Bool
-  pub word : Bool
-  pub invert : Bool
-  pub zero : Bool
-  pub pieces : Bool
-  pub format : Format
-  pub names : Naming
-  pub files : List (List ℕ)
-  pub recursive : Bool
-  pub silent : Bool
-
--- there are patterns, or files of them, and something to be searched, and a limit isn't 0
-pub record IsRequest (asked : Asked) : Type 0 where
-  pub patterns : 0 < length asked.texts + length asked.pattern_files
-  pub files : 0 < length asked.files
-  pub limit : HasRoom asked.format
-
--- what a request asks for; by how many threads and in which blocks is no part of it
-abbrev pub asked_of : Request → Asked
-asked_of request = record {
-  kind = request.kind;
-  texts = bytes_of request.texts.items;
-  pattern_files = bytes_of request.pattern_files.items;
-  fold = request.fold;
-  whole = request.whole;
-  word = request.word;
-  invert = request.invert;
-  zero = request.zero;
-  pieces = request.pieces;
-  format = request.format;
-  names = request.names;
-  files = bytes_of request.files.items;
-  recursive = request.recursive;
-  silent = request.silent;
-}
 
 -- what is searched for with these lists behind the -e texts
 abbrev pub text_with : Asked → List Patterns → SearchText

@@ -1,25 +1,28 @@
 -- What the command answers, and what it writes.
 use Rattle.std.specs.Prelude.{◌≡◌, ℕ, ◌<◌, ◌⊎◌, List, ◌++◌, codes, Result, Ok, Err, MatchResult}
 use Rattle.std.specs.Result.{IsErr}
+use Rattle.std.specs.String.{string_bytes}
 use Rattle.pg_rows.specs.Sink.{TakesPart}
 use Rattle.pg_walk.specs.Answers.{Answers as Tree}
 use Rattle.pg_files.specs.Given.{Given}
 use Rattle.pg_run.specs.Outcome.{Stream}
 use Rattle.pg_words.specs.declared.help.TheConstants.{HELP, VERSION}
-use Rattle.pg_command.specs.Asked.{Asked, IsRequest}
+use Rattle.pg_words.specs.Asks.{Asks, AsksHelp, AsksSearch, AsksVersion, HasFault, IsRefused, asks}
+use Rattle.pg_words.specs.declared.words.WordsFault.{WordsFault}
+use Rattle.pg_words.specs.declared.words.WordsFault.TheVariants.{Refused, Usage as UsageOfWords}
+use Rattle.pg_words.specs.declared.words.WordsFault.TheVariants.{OutOfMemory as NoMemoryForWords}
 use Rattle.pg_command.specs.Answers.{Answers}
-use Rattle.pg_command.specs.Told.{Tells, TellsText}
-use Rattle.pg_command.specs.declared.fault.Fault.TheVariants.{WriteFailed}
+use Rattle.pg_command.specs.Told.{Tells, TellsText, line_of}
+use Rattle.pg_command.specs.declared.fault.Fault.TheVariants.{OutOfMemory, Usage, WriteFailed}
 use Rattle.pg_command.specs.declared.search.Told.{Told}
 
--- The words weren't taken: nothing was opened or written, and a text was told that says why, or that memory is lacking.
-pub record Refuses {T : Type 0} (past past' : List Given) (out out' err err' : Stream) (answer : Result ℕ T)
-    : Type 0 where
+-- The words weren't taken: nothing was opened or written, and this was told.
+pub record Refuses {T : Type 0} (text : List ℕ) (past past' : List Given) (out out' err err' : Stream)
+    (answer : Result ℕ T) : Type 0 where
   pub fault : IsErr answer
   pub unopened : past' ≡ past
   pub unwritten : out' ≡ out
-  pub text : List ℕ
-  pub told : TellsText (codes "pargrep: " ++ text) err err'
+  pub told : TellsText text err err'
 
 -- a text was written, and the status is 0; or a beginning of it, and the failure was told
 abbrev pub IsShown : {T : Type 0} → List ℕ → (out out' err err' : Stream) → Result ℕ T → Type 0
@@ -28,34 +31,45 @@ IsShown text out out' err err' (Ok status) =
 IsShown text out out' err err' (Err _) =
     TakesPart text out.taken out'.taken × (out.failures < out'.failures) × Tells WriteFailed err err'
 
--- what can be asked for of the program itself
-abbrev pub IsOfTheProgram : List ℕ → Type 0
-IsOfTheProgram text = (text ≡ HELP.now) ⊎ (text ≡ VERSION.now)
-
--- The words asked for such a text. Nothing was opened.
-pub record Shows {T : Type 0} (past past' : List Given) (out out' err err' : Stream) (answer : Result ℕ T)
-    : Type 0 where
+-- a text about the program was asked for; nothing was opened
+pub record Shows {T : Type 0} (text : List ℕ) (past past' : List Given) (out out' err err' : Stream)
+    (answer : Result ℕ T) : Type 0 where
   pub unopened : past' ≡ past
-  pub text : List ℕ
-  pub is : IsOfTheProgram text
   pub shown : IsShown text out out' err err' answer
 
--- The words asked for some search, which was answered, or for a text, or weren't taken. What they ask for is the
--- parser's to say.
-abbrev pub Commands : {T : Type 0} → (tells : Type 0) → Tree → (past past' : List Given) → (out out' err err' : Stream)
-    → Result ℕ T → Type 0
-Commands tells tree past past' out out' err err' answer =
-    ((asked : Asked) × IsRequest asked × Answers tells tree asked past past' out out' err err' answer)
-    ⊎ (Shows past past' out out' err err' answer ⊎ Refuses past past' out out' err err' answer)
+-- What is done where this is asked for. Why words are refused the parser of options says in its own text.
+abbrev pub Does : {T : Type 0} → (tells : Type 0) → Tree → Asks → (past past' : List Given)
+    → (out out' err err' : Stream) → Result ℕ T → Type 0
+Does tells tree (AsksSearch asked pace) past past' out out' err err' answer =
+    Answers tells tree asked past past' out out' err err' answer
+Does tells tree AsksHelp past past' out out' err err' answer = Shows HELP.now past past' out out' err err' answer
+Does tells tree AsksVersion past past' out out' err err' answer = Shows VERSION.now past past' out out' err err' answer
+Does tells tree (HasFault fault) past past' out out' err err' answer =
+    Refuses (line_of (Usage fault)) past past' out out' err err' answer
+Does tells tree IsRefused past past' out out' err err' answer =
+    (text : List ℕ) × Refuses (codes "pargrep: " ++ text) past past' out out' err err' answer
+
+-- What the words ask for was done, or memory was lacking before anything was.
+abbrev pub Commands : {T : Type 0} → (tells : Type 0) → Tree → (words : List (List ℕ)) → (past past' : List Given)
+    → (out out' err err' : Stream) → Result ℕ T → Type 0
+Commands tells tree words past past' out out' err err' answer =
+    Does tells tree (asks words) past past' out out' err err' answer
+    ⊎ Refuses (line_of OutOfMemory) past past' out out' err err' answer
+
+-- what is told of words that aren't taken
+abbrev pub TellsOfWords : WordsFault → Stream → Stream → Type 0
+TellsOfWords (Refused text) = TellsText (codes "pargrep: " ++ string_bytes text)
+TellsOfWords (UsageOfWords fault) = Tells (Usage fault)
+TellsOfWords NoMemoryForWords = Tells OutOfMemory
 
 -- The status of the command stands where all that was held back could be sent on; else that is told, and the status is
 -- 2, as after a fault that was told.
-pub record Runs (tells : Type 0) (tree : Tree) (past past' : List Given) (out out' err err' : Stream)
-    (status : ℕ) : Type 0 where
+pub record Runs (tells : Type 0) (tree : Tree) (words : List (List ℕ)) (past past' : List Given)
+    (out out' err err' : Stream) (status : ℕ) : Type 0 where
   pub middle : Stream
   pub told : Stream
   pub answer : Result ℕ Told
-  pub command : Commands tells tree past past' out middle err told answer
+  pub command : Commands tells tree words past past' out middle err told answer
   pub taken : out'.taken ≡ middle.taken
   pub ended : MatchResult answer
       (λ before. ((status ≡ before) × (out'.failures ≡ middle.failures) × (err' ≡ told))

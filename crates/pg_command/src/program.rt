@@ -1,7 +1,8 @@
 //! The command, over any files and streams.
-ghost use Rattle.std.specs.Prelude.{◌≡◌, ◌≤◌, ◌++◌, [], ℕ, List, codes, IfOk, OnOk, IfErr, OnErr, IsErr};
-ghost use Rattle.pg_command.specs.Command.{Commands, IsShown, Runs};
-ghost use Rattle.pg_command.specs.Told.{Tells, TellsText};
+ghost use Rattle.std.specs.Prelude.{◌≡◌, ◌≤◌, [], map, IfOk, IfErr, OnErr, IsErr};
+ghost use Rattle.std.specs.String.{string_bytes};
+ghost use Rattle.pg_command.specs.Command.{Commands, IsShown, Runs, TellsOfWords};
+ghost use Rattle.pg_command.specs.Told.{Tells};
 
 use crate::fault::{FAULT_STATUS, Fault, report};
 use crate::search::{Told, answer};
@@ -16,9 +17,9 @@ use std::sync::Wait;
 use std::thread::Threads;
 use std::time::Clock;
 
-/// Does what the words of a command line ask for, which leave out the program's name: a search, as
-/// [`answer`] has it, or a text about the program. The answer is the status. Nothing was asked of
-/// `files` yet.
+/// Does what the words of a command line ask for, as [`read_words`] has it; they leave out the program's
+/// name: a search, as [`answer`] has it, or a text about the program. The answer is the status. Nothing
+/// was asked of `files` yet.
 ///
 /// # Errors
 ///
@@ -40,7 +41,7 @@ pub fn command<
     err: &mut E,
 ) -> Result<u8, Told>
     requires { files.old.walk.asked.items ≡ [] }
-    ensures commands { Commands (T.tells tree.now) (T.answers tree.now)
+    ensures commands { Commands (T.tells tree.now) (T.answers tree.now) (map string_bytes words.now)
         (S.past files.old.store) (S.past files.new.store)
         (record { taken = W.taken out.old; failures = W.failures out.old })
         (record { taken = W.taken out.new; failures = W.failures out.new })
@@ -48,10 +49,10 @@ pub fn command<
         (record { taken = E.taken err.new; failures = E.failures err.new }) result }
     ensures small { IfOk result (λ status. status ≤ 2) }
 {
-    let Ok(words) = Words::new(alloc, words) else {
+    let Ok(joined) = Words::new(alloc, words) else {
         return refuse(alloc, WordsFault::OutOfMemory, err);
     };
-    match read_words(alloc, &words) {
+    match read_words(alloc, &joined) {
         Ok(Task::Search(request)) => answer(rt, alloc, &request, tree, files, out, err),
         Ok(Task::Help) => show(alloc, HELP, out, err),
         Ok(Task::Version) => show(alloc, VERSION, out, err),
@@ -62,7 +63,7 @@ pub fn command<
 /// Tells why the words aren't taken.
 fn refuse<E: Sink>(alloc: Global, fault: WordsFault, err: &mut E) -> Result<u8, Told>
     ensures fault { IsErr result }
-    ensures told { (text : List ℕ) × TellsText (codes "pargrep: " ++ text)
+    ensures told { TellsOfWords fault
         (record { taken = E.taken err.old; failures = E.failures err.old })
         (record { taken = E.taken err.new; failures = E.failures err.new }) }
 {
@@ -108,7 +109,8 @@ pub fn run<'t, R: Threads + Wait + Clock + Sync, T: FileTree, S: Store + Drop, W
     err: &mut E,
 ) -> u8
     requires { files.old.walk.asked.items ≡ [] }
-    ensures runs { OnOk words.entry (Runs (T.tells tree.now) (T.answers tree.now)
+    ensures runs { IfOk words.entry (λ texts. Runs (T.tells tree.now) (T.answers tree.now)
+        (map string_bytes texts.items)
         (S.past files.old.store) (S.past files.new.store)
         (record { taken = out.old.taken; failures = out.old.failures })
         (record { taken = out.new.taken; failures = out.new.failures })
@@ -138,7 +140,7 @@ fn run_words<'t, R: Threads + Wait + Clock + Sync, T: FileTree, S: Store + Drop,
     err: &mut E,
 ) -> u8
     requires { files.old.walk.asked.items ≡ [] }
-    ensures runs { Runs (T.tells tree.now) (T.answers tree.now)
+    ensures runs { Runs (T.tells tree.now) (T.answers tree.now) (map string_bytes words.now)
         (S.past files.old.store) (S.past files.new.store)
         (record { taken = out.old.taken; failures = out.old.failures })
         (record { taken = out.new.taken; failures = out.new.failures })

@@ -183,7 +183,7 @@ const BLOCK_SIZES: &str = "\
 65536 -F b -";
 
 /// The size of blocks that words give in a search for one text in standard input.
-fn block_asked(alloc: Global, words: &Words<'_>) -> Option<u32> {
+fn block_asked(alloc: Global, words: &Words) -> Option<u32> {
     match read_words(alloc, words) {
         Ok(Task::Search(request)) => {
             let files = &request.files;

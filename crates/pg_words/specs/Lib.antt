@@ -1,4 +1,11 @@
+pub mod App
+pub mod Asked
+pub mod Asks
+pub mod Found
+pub mod Gives
+pub mod Joined
+pub mod Line
 pub mod Operands
 pub mod Options
-pub mod Split
+pub mod Places
 pub mod Usage

@@ -1,8 +1,14 @@
 //! The options as `clap` knows them.
+ghost use Rattle.std.specs.Prelude.{◌≡◌, IfOk, true, false, map, not, []};
+ghost use Rattle.std.specs.List.{list_all};
+ghost use Rattle.clap.specs.Words.{app_of, rule_of};
+ghost use Rattle.pg_words.specs.App.{action_behind, bare_app, has_letter, has_name, has_value_behind, named_rule};
+ghost use Rattle.pg_words.specs.App.{opts_of, our_app, parser_behind, rule_for};
+ghost use Rattle.pg_words.specs.Joined.{takes_value};
+ghost use Rattle.pg_words.specs.Line.{by_letter, by_name, table};
 
-use crate::options::Options;
 use clap::builder::ValueParser;
-use clap::{Arg, ArgAction, ArgMatches, Command};
+use clap::{Arg, ArgAction, Command};
 use std::alloc::{AllocError, Global};
 
 /// The largest number of workers.
@@ -14,31 +20,30 @@ pub const MAX_ROUND: u32 = 1_024;
 /// The most lines before a selected one.
 const MAX_BEFORE: u32 = 65_535;
 
-/// What stands behind an option: whatever the next word is.
+/// What stands behind an option.
 #[derive(Clone, Copy)]
-enum Value {
+pub(crate) enum Behind {
     Nothing,
     /// A text, which faults call so. Texts collect.
     Text(&'static str),
     /// A number from the first to the second one. The last number counts.
     Number(u32, u32),
-    /// The operand itself. Operands collect, and none of them is a word of options.
+    /// The operand itself. Operands collect.
     Itself,
 }
 
-/// What a value is to `clap`: its name in faults, what a use does, what it has to be, and whether it may look like an
-/// option. The name and the hyphen have no effect where there is no value.
+/// What a value is to `clap`: its name in faults, what a use does, and what it has to be. The name has no effect where
+/// there is no value.
 #[derive(Clone, Copy)]
 struct Reading {
     name: &'static str,
     action: ArgAction,
     parser: ValueParser<'static>,
-    hyphens: bool,
 }
 
 /// What an option goes by.
 #[derive(Clone, Copy)]
-enum Names {
+pub(crate) enum Names {
     /// A letter and the long name, and further long names.
     Letter(char, &'static [&'static str]),
     /// The long name.
@@ -48,82 +53,90 @@ enum Names {
 }
 
 /// An option: what it goes by, its long name, and what stands behind it.
-struct Opt(Names, &'static str, Value);
+#[derive(Clone, Copy)]
+pub(crate) struct OptionRow(Names, &'static str, Behind);
 
 /// The options, and the operands: PATTERN, where neither -e nor -f is given, and each FILE. Of names that are equally
 /// close to a wrong one `clap` proposes the last. -G is read by nobody: it asks for what is taken without -E and -F,
 /// and has no effect beside them. Nor is -a, for every file is text. --always-spread serves tests alone, so that
 /// neither --help nor the manual page names it.
-static OPTIONS: [Opt; 34] = [
-    Opt(Names::Letter('q', &["silent"]), "quiet", Value::Nothing),
-    Opt(Names::Letter('E', &[]), "extended-regexp", Value::Nothing),
-    Opt(Names::Letter('F', &[]), "fixed-strings", Value::Nothing),
-    Opt(Names::Letter('G', &[]), "basic-regexp", Value::Nothing),
-    Opt(Names::Letter('i', &[]), "ignore-case", Value::Nothing),
-    Opt(Names::Letter('v', &[]), "invert-match", Value::Nothing),
-    Opt(Names::Letter('w', &[]), "word-regexp", Value::Nothing),
-    Opt(Names::Letter('x', &[]), "line-regexp", Value::Nothing),
-    Opt(Names::Letter('z', &[]), "null-data", Value::Nothing),
-    Opt(Names::Letter('e', &[]), "regexp", Value::Text("TEXT")),
-    Opt(Names::Letter('f', &[]), "file", Value::Text("FILE")),
-    Opt(Names::Letter('o', &[]), "only-matching", Value::Nothing),
-    Opt(Names::Letter('c', &[]), "count", Value::Nothing),
-    Opt(
+static OPTIONS: [OptionRow; 34] = [
+    OptionRow(Names::Letter('q', &["silent"]), "quiet", Behind::Nothing),
+    OptionRow(Names::Letter('E', &[]), "extended-regexp", Behind::Nothing),
+    OptionRow(Names::Letter('F', &[]), "fixed-strings", Behind::Nothing),
+    OptionRow(Names::Letter('G', &[]), "basic-regexp", Behind::Nothing),
+    OptionRow(Names::Letter('i', &[]), "ignore-case", Behind::Nothing),
+    OptionRow(Names::Letter('v', &[]), "invert-match", Behind::Nothing),
+    OptionRow(Names::Letter('w', &[]), "word-regexp", Behind::Nothing),
+    OptionRow(Names::Letter('x', &[]), "line-regexp", Behind::Nothing),
+    OptionRow(Names::Letter('z', &[]), "null-data", Behind::Nothing),
+    OptionRow(Names::Letter('e', &[]), "regexp", Behind::Text("TEXT")),
+    OptionRow(Names::Letter('f', &[]), "file", Behind::Text("FILE")),
+    OptionRow(Names::Letter('o', &[]), "only-matching", Behind::Nothing),
+    OptionRow(Names::Letter('c', &[]), "count", Behind::Nothing),
+    OptionRow(
         Names::Letter('l', &[]),
         "files-with-matches",
-        Value::Nothing,
+        Behind::Nothing,
     ),
-    Opt(
+    OptionRow(
         Names::Letter('L', &[]),
         "files-without-match",
-        Value::Nothing,
+        Behind::Nothing,
     ),
-    Opt(Names::Letter('Z', &[]), "null", Value::Nothing),
-    Opt(Names::Letter('n', &[]), "line-number", Value::Nothing),
-    Opt(Names::Letter('H', &[]), "with-filename", Value::Nothing),
-    Opt(Names::Letter('h', &[]), "no-filename", Value::Nothing),
-    Opt(
+    OptionRow(Names::Letter('Z', &[]), "null", Behind::Nothing),
+    OptionRow(Names::Letter('n', &[]), "line-number", Behind::Nothing),
+    OptionRow(Names::Letter('H', &[]), "with-filename", Behind::Nothing),
+    OptionRow(Names::Letter('h', &[]), "no-filename", Behind::Nothing),
+    OptionRow(
         Names::Letter('m', &[]),
         "max-count",
-        Value::Number(1, u32::MAX),
+        Behind::Number(1, u32::MAX),
     ),
-    Opt(
+    OptionRow(
         Names::Letter('A', &[]),
         "after-context",
-        Value::Number(0, u32::MAX),
+        Behind::Number(0, u32::MAX),
     ),
-    Opt(
+    OptionRow(
         Names::Letter('B', &[]),
         "before-context",
-        Value::Number(0, MAX_BEFORE),
+        Behind::Number(0, MAX_BEFORE),
     ),
-    Opt(
+    OptionRow(
         Names::Letter('C', &[]),
         "context",
-        Value::Number(0, MAX_BEFORE),
+        Behind::Number(0, MAX_BEFORE),
     ),
-    Opt(Names::Letter('r', &[]), "recursive", Value::Nothing),
-    Opt(Names::Letter('s', &[]), "no-messages", Value::Nothing),
-    Opt(Names::Letter('a', &[]), "text", Value::Nothing),
-    Opt(Names::Long, "line-buffered", Value::Nothing),
-    Opt(Names::Long, "workers", Value::Number(1, MAX_WORKERS)),
-    Opt(Names::Long, "block", Value::Number(1, MAX_BLOCK)),
-    Opt(Names::Long, "round", Value::Number(1, MAX_ROUND)),
-    Opt(Names::Long, "always-spread", Value::Nothing),
-    Opt(Names::Long, "help", Value::Nothing),
-    Opt(Names::Letter('V', &[]), "version", Value::Nothing),
-    Opt(Names::Place, "operands", Value::Itself),
+    OptionRow(Names::Letter('r', &[]), "recursive", Behind::Nothing),
+    OptionRow(Names::Letter('s', &[]), "no-messages", Behind::Nothing),
+    OptionRow(Names::Letter('a', &[]), "text", Behind::Nothing),
+    OptionRow(Names::Long, "line-buffered", Behind::Nothing),
+    OptionRow(Names::Long, "workers", Behind::Number(1, MAX_WORKERS)),
+    OptionRow(Names::Long, "block", Behind::Number(1, MAX_BLOCK)),
+    OptionRow(Names::Long, "round", Behind::Number(1, MAX_ROUND)),
+    OptionRow(Names::Long, "always-spread", Behind::Nothing),
+    OptionRow(Names::Long, "help", Behind::Nothing),
+    OptionRow(Names::Letter('V', &[]), "version", Behind::Nothing),
+    OptionRow(Names::Place, "operands", Behind::Itself),
 ];
 
 /// The options and operands of a search.
-pub fn search_command<'a>(alloc: Global) -> Result<Command<'a>, AllocError> {
-    let mut args = Vec::new(alloc);
-    add_options(alloc, &mut args)?;
+///
+/// # Errors
+///
+/// Where a request for memory was refused.
+pub(crate) fn search_command<'a>(alloc: Global) -> Result<Command<'a>, AllocError>
+    ensures { IfOk result (λ command. app_of command ≡ our_app) }
+{
+    let args = args_of(alloc, &OPTIONS)?;
     bare_command(alloc).args(args)
 }
 
 /// The command without options.
-fn bare_command<'a>(alloc: Global) -> Command<'a> {
+fn bare_command<'a>(alloc: Global) -> Command<'a>
+    ensures { app_of result ≡ bare_app }
+{
     Command::new(alloc, "pargrep")
         .override_usage("pargrep [OPTION ...] [PATTERN] [FILE ...]")
         .no_binary_name(true)
@@ -131,91 +144,143 @@ fn bare_command<'a>(alloc: Global) -> Command<'a> {
         .args_override_self(true)
 }
 
-/// Adds the options, in their order.
-fn add_options<'a>(alloc: Global, args: &mut Vec<Arg<'a>>) -> Result<(), AllocError> {
-    for option in &OPTIONS {
-        args.push(option.arg(alloc)?)?;
+/// The arguments of rows, in their order.
+fn args_of<'a>(alloc: Global, rows: &[OptionRow]) -> Result<Vec<Arg<'a>>, AllocError>
+    ensures rules { IfOk result (λ args. map rule_of args.items ≡ map rule_for rows.now) }
+    ensures local { IfOk result (λ args. list_all (λ arg. not arg.global) args.items ≡ true) }
+{
+    let mut args = Vec::new(alloc);
+    for row in rows {
+        args.push(row.arg(alloc)?)?;
     }
-    Ok(())
+    Ok(args)
 }
 
-impl Opt {
+/// Whether something stands behind the option of this letter.
+pub(crate) fn letter_has_value(letter: u8) -> bool
+    ensures { result ≡ takes_value (by_letter table letter) }
+{
+    row_of_letter_has_value(&OPTIONS, letter)
+}
+
+/// Whether something stands behind the option of this long name.
+pub(crate) fn name_has_value(name: &str) -> bool
+    ensures { result ≡ takes_value (by_name table name.now) }
+{
+    row_of_name_has_value(&OPTIONS, name)
+}
+
+/// The same of these rows.
+fn row_of_letter_has_value(rows: &[OptionRow], letter: u8) -> bool
+    ensures { result ≡ takes_value (by_letter (opts_of rows.now) letter) }
+{
+    for row in rows {
+        if row.is_letter(letter) {
+            return row.has_value();
+        }
+    }
+    false
+}
+
+/// The same of these rows.
+fn row_of_name_has_value(rows: &[OptionRow], name: &str) -> bool
+    ensures { result ≡ takes_value (by_name (opts_of rows.now) name.now) }
+{
+    for row in rows {
+        if row.is_called(name) {
+            return row.has_value();
+        }
+    }
+    false
+}
+
+impl OptionRow {
+    /// Whether this is the option's letter.
+    fn is_letter(&self, letter: u8) -> bool
+        ensures { result ≡ has_letter self.now letter }
+    {
+        match self.0 {
+            Names::Letter(own, _) => own == char::from(letter),
+            _ => false,
+        }
+    }
+
+    /// Whether the option goes by this long name.
+    fn is_called(&self, name: &str) -> bool
+        ensures { result ≡ has_name self.now name.now }
+    {
+        match self.0 {
+            Names::Letter(_, others) => self.1 == name || others.contains(&name),
+            Names::Long => self.1 == name,
+            Names::Place => false,
+        }
+    }
+
+    /// Whether something stands behind the option.
+    fn has_value(&self) -> bool
+        ensures { result ≡ has_value_behind self.now.2 }
+    {
+        !matches!(self.2, Behind::Nothing)
+    }
+
     /// The option as `clap` knows it.
-    fn arg<'a>(&self, alloc: Global) -> Result<Arg<'a>, AllocError> {
-        let Opt(names, name, value) = self;
+    fn arg<'a>(&self, alloc: Global) -> Result<Arg<'a>, AllocError>
+        ensures rule { IfOk result (λ arg. rule_of arg ≡ rule_for self.now) }
+        ensures local { IfOk result (λ arg. arg.global ≡ false) }
+    {
+        let OptionRow(names, name, behind) = self;
         match names {
-            Names::Letter(letter, others) => value
+            Names::Letter(letter, others) => behind
                 .named(alloc, name)
                 .long(name)
                 .short(*letter)
                 .aliases(others),
-            Names::Long => Ok(value.named(alloc, name).long(name)),
-            Names::Place => Ok(value.named(alloc, name)),
+            Names::Long => Ok(behind.named(alloc, name).long(name)),
+            Names::Place => Ok(behind.named(alloc, name)),
         }
     }
 }
 
-impl Value {
+impl Behind {
     /// What is found by this name, and has this behind it.
-    fn named<'a>(self, alloc: Global, name: &'a str) -> Arg<'a> {
+    fn named<'a>(self, alloc: Global, name: &'a str) -> Arg<'a>
+        ensures rule { rule_of result ≡ named_rule self name.now }
+        ensures local { result.global ≡ false }
+        ensures alone { result.aliases.items ≡ [] }
+    {
         let reading = self.reading();
         Arg::new(alloc, name)
             .value_name(reading.name)
             .action(reading.action)
             .value_parser(reading.parser)
-            .allow_hyphen_values(reading.hyphens)
     }
 
     /// What it is to `clap`.
-    fn reading(self) -> Reading {
+    fn reading(self) -> Reading
+        ensures action { result.action ≡ action_behind self }
+        ensures parser { result.parser ≡ parser_behind self }
+    {
         match self {
-            Value::Nothing => Reading {
+            Behind::Nothing => Reading {
                 name: "",
                 action: ArgAction::SetTrue,
                 parser: ValueParser::Bool,
-                hyphens: false,
             },
-            Value::Text(name) => Reading {
+            Behind::Text(name) => Reading {
                 name,
                 action: ArgAction::Append,
                 parser: ValueParser::String,
-                hyphens: true,
             },
-            Value::Number(first, last) => Reading {
+            Behind::Number(first, last) => Reading {
                 name: "N",
                 action: ArgAction::Set,
                 parser: ValueParser::Signed(i64::from(first), i64::from(last)),
-                hyphens: true,
             },
-            Value::Itself => Reading {
+            Behind::Itself => Reading {
                 name: "FILE",
                 action: ArgAction::Append,
                 parser: ValueParser::String,
-                hyphens: false,
             },
         }
-    }
-}
-
-/// The options that exclude one another, want operands or decide how rows look.
-pub fn options_of(found: &ArgMatches<'_>) -> Options {
-    Options {
-        extended: found.get_flag("extended-regexp"),
-        fixed: found.get_flag("fixed-strings"),
-        invert: found.get_flag("invert-match"),
-        pieces: found.get_flag("only-matching"),
-        count: found.get_flag("count"),
-        list: found.get_flag("files-with-matches"),
-        list_others: found.get_flag("files-without-match"),
-        quiet: found.get_flag("quiet"),
-        numbers: found.get_flag("line-number"),
-        null: found.get_flag("null"),
-        names: found.get_flag("with-filename"),
-        no_names: found.get_flag("no-filename"),
-        recursive: found.get_flag("recursive"),
-        limit: found.get_one("max-count"),
-        after: found.get_one("after-context"),
-        before: found.get_one("before-context"),
-        around: found.get_one("context"),
     }
 }

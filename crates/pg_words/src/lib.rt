@@ -1,12 +1,13 @@
 //! The words of the command line, read with `clap`.
 //!
-//! [`Words`] cuts the words so that each value stands alone, [`read_words`] reads them, and a [`Task`]
+//! [`Words`] joins each value to its option, [`read_words`] reads them, and a [`Task`]
 //! is what they ask for, mostly the search of a [`Request`]. [`check_usage`] says which [`Options`]
 //! exclude one another or want an operand.
 #![tactic(auto)]
 
 mod command;
 mod help;
+mod matches;
 mod operands;
 mod options;
 mod request;

@@ -1,159 +1,231 @@
-//! Words of a command line, cut so that each value of an option's letter stands alone.
-ghost use Rattle.std.specs.Prelude.{◌≡◌, ◌++◌, ◌≤◌, ◌<◌, ◌-◌, false, true, IfOk, OnOk, map, length, slice_index};
+//! Words of a command line, joined so that the value of an option stands in the option's word.
+ghost use Rattle.std.specs.Prelude.{◌≡◌, ◌++◌, ◌∷◌, ◌≤◌, ◌<◌, ◌-◌, ◌==◌, ◌&&◌, not, true, IfOk, map, length, List, ℕ};
+ghost use Rattle.std.specs.Prelude.{◌+◌, false, slice_index, option_map, OnOk, []};
+ghost use Rattle.std.specs.List.{position_or_len};
 ghost use Rattle.std.specs.String.{string_bytes};
-ghost use Rattle.pg_words.specs.Split.{bundle_pieces, cut, has_value, is_bundle, is_mark, pieces, place_behind};
-ghost use Rattle.pg_words.specs.Split.{texts_of, value_start, wants_value};
+ghost use Rattle.clap.specs.Lexer.{has_byte};
+ghost use Rattle.pg_words.specs.Joined.{asked, behind_text, complete, joined_from, joined_word, letter_takes_value, value_cut};
+ghost use Rattle.pg_words.specs.Joined.{waits, Free};
+ghost use Rattle.pg_words.specs.Places.{place_of};
+ghost use Rattle.pg_words.specs.Line.{by_letter, by_name, is_mark, table, uses_in};
 
+use crate::command::{letter_has_value, name_has_value};
 use std::alloc::{AllocError, Global};
 
-/// The words of a command line without the program's name, each value of -e, -f, -m, -A, -B or -C a
-/// word of its own: `-ve=x` is the two words `-ve` and `=x`.
+/// The words of a command line without the program's name, each value of an option in the option's word, behind `=`:
+/// `-ve x` and `-vex` are the word `-ve=x`, and `--file x` is `--file=x`.
 ///
-/// `clap` drops the `=` of `-e=x`, which belongs to the value here. A long name keeps its value, as in
-/// `--regexp=x`, and the word behind `--regexp` isn't cut.
+/// So `clap` takes no value for an option, and where a value begins with `=`, it drops another one.
 #[derive(Drop)]
-pub struct Words<'a> {
-    parts: Vec<&'a str>,
+pub struct Words {
+    parts: Vec<String>,
+    ghost complete: { complete table (map string_bytes parts.items) ≡ true },
 }
 
 /// What the next word is.
 #[derive(Clone, Copy)]
-enum Place {
+enum Place<'a> {
     /// An option or an operand.
     Free,
-    /// The value of the option that the word before it is, or of the letter that ends that word.
-    Value,
+    /// The value of the option at the end of this word.
+    Value(&'a str),
     /// An operand, since it stands behind `--`.
     Operand,
 }
 
-/// The words that a word is cut into.
-#[derive(Clone, Copy)]
-struct Pieces<'a> {
-    /// The word, or an option whose value stands behind it in the word.
-    first: &'a str,
-    /// That value.
-    value: Option<&'a str>,
-}
-
-impl<'a> Words<'a> {
-    /// Cuts the words.
+impl Words {
+    /// Joins the words.
     ///
     /// # Errors
     ///
     /// Where a request for memory was refused.
-    pub fn new(alloc: Global, words: &'a [String]) -> Result<Words<'a>, AllocError>
-        ensures { IfOk result (λ w. map (λ part. part.now) w.parts.items ≡ cut (map string_bytes words.entry.now)) }
+    pub fn new(alloc: Global, words: &[String]) -> Result<Words, AllocError>
+        ensures { IfOk result (λ joined. asked table (map string_bytes joined.parts.items)
+            ≡ uses_in (map string_bytes words.now)) }
     {
-        let mut parts = Vec::with_capacity(alloc, words.len())?;
-        let mut place = Place::Free;
-        for word in words {
-            push_pieces(&mut parts, pieces_of(place, word.as_str()))?;
-            place = place_behind(place, word.as_str());
-        }
+        let parts = join(alloc, words)?;
         Ok(Words { parts })
     }
 
     /// The words in their order.
-    pub(crate) fn as_slice(&self) -> &[&'a str]
+    pub(crate) fn as_slice(&self) -> &[String]
         ensures { result.now ≡ self.now.parts.items }
     {
         self.parts.as_slice()
     }
 }
 
-/// Adds the words that a word is cut into.
-fn push_pieces<'a>(parts: &mut Vec<&'a str>, pieces: Pieces<'a>) -> Result<(), AllocError>
-    ensures { OnOk result (map (λ part. part.now) parts.new.items
-        ≡ map (λ part. part.now) parts.old.items ++ texts_of pieces.entry) }
+/// The words, joined.
+fn join(alloc: Global, words: &[String]) -> Result<Vec<String>, AllocError>
+    ensures { IfOk result (λ parts. map string_bytes parts.items
+        ≡ joined_from table Free (map string_bytes words.now)) }
 {
-    parts.push(pieces.first)?;
-    if let Some(value) = pieces.value {
-        parts.push(value)?;
+    let mut parts = Vec::with_capacity(alloc, words.len())?;
+    let mut place = Place::Free;
+    for word in words {
+        place = add_word(alloc, &mut parts, place, word.as_str())?;
     }
+    add_last(alloc, &mut parts, place)?;
+    Ok(parts)
+}
+
+/// Adds the word whose option waits in vain for its value, if there is one.
+fn add_last(alloc: Global, parts: &mut Vec<String>, place: Place<'_>) -> Result<(), AllocError>
+    ensures { OnOk result (map string_bytes parts.new.items
+        ≡ map string_bytes parts.old.items ++ joined_from table (place_of place.entry) []) }
+{
+    match place {
+        Place::Value(option) => add_copy(alloc, parts, option),
+        _ => Ok(()),
+    }
+}
+
+/// Adds what a word is part of, unless that waits for the next word, and says what the next word is.
+fn add_word<'a>(
+    alloc: Global,
+    parts: &mut Vec<String>,
+    place: Place<'a>,
+    word: &'a str,
+) -> Result<Place<'a>, AllocError>
+    ensures { IfOk result (λ next. (rest : List (List ℕ))
+        → map string_bytes parts.new.items ++ joined_from table (place_of next) rest
+        ≡ map string_bytes parts.old.items ++ joined_from table (place_of place.entry) (word.entry.now ∷ rest)) }
+{
+    match place {
+        Place::Value(option) => {
+            add_joined(alloc, parts, option, word)?;
+            Ok(Place::Free)
+        }
+        Place::Operand => {
+            add_copy(alloc, parts, word)?;
+            Ok(Place::Operand)
+        }
+        Place::Free if is_mark(word) => {
+            add_copy(alloc, parts, word)?;
+            Ok(Place::Operand)
+        }
+        Place::Free if waits(word) => Ok(Place::Value(word)),
+        Place::Free => {
+            add_joined(alloc, parts, word, "")?;
+            Ok(Place::Free)
+        }
+    }
+}
+
+/// Adds a word as it is.
+fn add_copy(alloc: Global, parts: &mut Vec<String>, word: &str) -> Result<(), AllocError>
+    ensures { OnOk result (map string_bytes parts.new.items ≡ map string_bytes parts.old.items ++ word.now ∷ []) }
+{
+    parts.push(String::from_str(alloc, word)?)?;
     Ok(())
 }
 
-/// What a word is cut into.
-fn pieces_of(place: Place, word: &str) -> Pieces<'_>
-    ensures { texts_of result ≡ pieces place word.now }
+/// Adds a word with the value that it waits for, if it waits for one.
+fn add_joined(
+    alloc: Global,
+    parts: &mut Vec<String>,
+    word: &str,
+    value: &str,
+) -> Result<(), AllocError>
+    ensures { OnOk result (map string_bytes parts.new.items
+        ≡ map string_bytes parts.old.items ++ joined_word table word.now value.now ∷ []) }
 {
-    match place {
-        Place::Free if is_bundle(word) => bundle_pieces(word),
-        _ => Pieces {
-            first: word,
-            value: None,
-        },
+    parts.push(joined_word(alloc, word, value)?)?;
+    Ok(())
+}
+
+/// A word with the value that it waits for, if it waits for one.
+fn joined_word(alloc: Global, word: &str, value: &str) -> Result<String, AllocError>
+    ensures { IfOk result (λ text. string_bytes text ≡ joined_word table word.now value.now) }
+{
+    match value_cut(word) {
+        Some((option, inner)) => joined(alloc, option, inner_or(inner, value)),
+        None => String::from_str(alloc, word),
     }
 }
 
-/// A bundle of options and its value, where it holds one. Before the letter of the value stand options without one, or
-/// `clap` refuses the word.
-fn bundle_pieces(word: &str) -> Pieces<'_>
-    ensures { texts_of result ≡ bundle_pieces word.now }
+/// The text behind an option in its word, and else the value.
+fn inner_or<'a>(inner: &'a str, value: &'a str) -> &'a str
+    ensures { behind_text inner.now (61 ∷ value.now) ≡ 61 ∷ result.now }
+{
+    if inner.is_empty() {
+        return value;
+    }
+    inner
+}
+
+/// An option and its value.
+fn joined(alloc: Global, option: &str, value: &str) -> Result<String, AllocError>
+    ensures { IfOk result (λ text. string_bytes text ≡ option.now ++ 61 ∷ value.now) }
+{
+    let mut text = String::from_str(alloc, option)?;
+    text.push('=')?;
+    text.push_str(value)?;
+    Ok(text)
+}
+
+/// Whether the word ends with an option that waits for its value.
+fn waits(word: &str) -> bool
+    ensures { result ≡ waits table word.now }
+{
+    match value_cut(word) {
+        Some((_, inner)) => inner.is_empty(),
+        None => false,
+    }
+}
+
+/// An option with a value at the end of the word, or the option of a letter in it, and the text behind it.
+fn value_cut(word: &str) -> Option<(&str, &str)>
+    ensures { option_map (λ cut. (cut.0.now, cut.1.now)) result ≡ value_cut table word.now }
+{
+    if byte_at(word, 0) != b'-' {
+        return None;
+    }
+    if byte_at(word, 1) == b'-' {
+        return long_cut(word);
+    }
+    letter_cut(word)
+}
+
+/// The same of a word behind two hyphens.
+fn long_cut(word: &str) -> Option<(&str, &str)>
+    requires { (slice_index word.now 0 ≡ 45) × (slice_index word.now 1 ≡ 45) }
+    ensures { option_map (λ cut. (cut.0.now, cut.1.now)) result ≡ value_cut table word.now }
+{
+    let (_, name) = word.split_at(2);
+    if has_equals(name) {
+        return None;
+    }
+    if name_has_value(name) {
+        return Some((word, ""));
+    }
+    None
+}
+
+/// Whether there is a `=`, behind which a value stands.
+fn has_equals(name: &str) -> bool
+    ensures { result ≡ has_byte 61 name.now }
+{
+    name.as_bytes().contains(&b'=')
+}
+
+/// The same of a word behind one hyphen.
+fn letter_cut(word: &str) -> Option<(&str, &str)>
+    requires { (slice_index word.now 0 ≡ 45) × ((slice_index word.now 1 == 45) ≡ false) }
+    ensures { option_map (λ cut. (cut.0.now, cut.1.now)) result ≡ value_cut table word.now }
 {
     let start = value_start(word);
-    if start < word.len() {
-        let (option, value) = word.split_at(start);
-        return Pieces {
-            first: option,
-            value: Some(value),
-        };
+    if start <= word.len() {
+        return Some(word.split_at(start));
     }
-    Pieces {
-        first: word,
-        value: None,
-    }
-}
-
-/// What the next word is.
-fn place_behind(place: Place, word: &str) -> Place
-    ensures { result ≡ place_behind place word.now }
-{
-    match place {
-        Place::Value => Place::Free,
-        Place::Operand => Place::Operand,
-        Place::Free if is_bundle(word) => place_behind_bundle(word),
-        Place::Free => place_behind_word(word),
-    }
-}
-
-/// What the next word is behind a bundle.
-fn place_behind_bundle(word: &str) -> Place
-    ensures { is_bundle word.now ≡ true → result ≡ place_behind Place.Free word.now }
-{
-    if value_start(word) == word.len() {
-        Place::Value
-    } else {
-        Place::Free
-    }
-}
-
-/// What the next word is behind one that is no bundle.
-fn place_behind_word(word: &str) -> Place
-    ensures { is_bundle word.now ≡ false → result ≡ place_behind Place.Free word.now }
-{
-    if is_mark(word) {
-        Place::Operand
-    } else if wants_value(word) {
-        Place::Value
-    } else {
-        Place::Free
-    }
-}
-
-/// Whether a hyphen begins the word, and no second one follows.
-fn is_bundle(word: &str) -> bool
-    ensures { result ≡ is_bundle word.now }
-{
-    byte_at(word, 0) == b'-' && byte_at(word, 1) != b'-'
+    None
 }
 
 /// Whether the word is `--`.
 fn is_mark(word: &str) -> bool
     ensures { result ≡ is_mark word.now }
 {
-    word.len() == 2 && byte_at(word, 0) == b'-' && byte_at(word, 1) == b'-'
+    word == "--"
 }
 
 /// The byte at an offset, and 0 behind the end.
@@ -163,42 +235,14 @@ fn byte_at(word: &str, at: usize) -> u8
     word.as_bytes().get(at).copied().unwrap_or(0)
 }
 
-/// The offset behind the first letter of a bundle that has a value; one more than the end where none
-/// has.
+/// The offset behind the first letter whose option has a value; one more than the end where there is none.
 fn value_start(word: &str) -> usize
-    ensures exact { result ≡ value_start word.now }
-    ensures boundary { result ≤ length word.now → (0 < result) × (slice_index word.now (result - 1) < 128) }
+    ensures { result ≡ position_or_len letter_takes_value word.now + 1 }
 {
     for (at, letter) in word.as_bytes().iter().enumerate() {
-        if has_value(*letter) {
+        if letter_has_value(*letter) {
             return at + 1;
         }
     }
     word.len() + 1
-}
-
-/// Whether the letter's option has a value.
-fn has_value(letter: u8) -> bool
-    ensures exact { result ≡ has_value letter }
-    ensures ascii { result ≡ true → letter < 128 }
-{
-    matches!(letter, b'e' | b'f' | b'm' | b'A' | b'B' | b'C')
-}
-
-/// Whether the word is a long name whose option has a value, which is the next word.
-fn wants_value(word: &str) -> bool
-    ensures { result ≡ wants_value word.now }
-{
-    matches!(
-        word,
-        "--regexp"
-            | "--file"
-            | "--max-count"
-            | "--after-context"
-            | "--before-context"
-            | "--context"
-            | "--workers"
-            | "--block"
-            | "--round"
-    )
 }

@@ -1,8 +1,19 @@
 //! The words of the command line.
-ghost use Rattle.std.specs.Prelude.{◌≡◌, ◌<◌, ◌+◌, vec_len};
+ghost use Rattle.std.specs.Prelude.{◌≡◌, ◌<◌, ◌+◌, List, codes, map, vec_len};
+ghost use Rattle.std.specs.String.{string_bytes};
+ghost use Rattle.clap.specs.Words.{found_of, kind_of};
+ghost use Rattle.pg_syntax.specs.Slices.{bytes_of};
+ghost use Rattle.pg_words.specs.Asked.{asked_of, pace_of};
+ghost use Rattle.pg_words.specs.Asks.{asked_in, asks_of, fault_in, files_in, options_in, pace_in, search_or, texts_in};
+ghost use Rattle.pg_words.specs.Found.{AreSources, IsFound};
+ghost use Rattle.pg_words.specs.Gives.{Gives, IsRefusal};
+ghost use Rattle.pg_words.specs.Joined.{asked};
+ghost use Rattle.pg_words.specs.Line.{table, values_of, Use};
+ghost use Rattle.pg_words.specs.Operands.{searched};
 ghost use Rattle.pg_words.specs.declared.words.WordsFault.TheVariants.{OutOfMemory, Usage};
 
-use crate::command::{MAX_BLOCK, MAX_ROUND, MAX_WORKERS, options_of, search_command};
+use crate::command::{MAX_BLOCK, MAX_ROUND, MAX_WORKERS, search_command};
+use crate::matches::{flag, number_within, options_of, values_of};
 use crate::operands::{Sources, place_operands, searched_files};
 use crate::options::Options;
 use crate::request::Request;
@@ -81,7 +92,9 @@ impl<T: Drop> From<AllocFailed<T>> for WordsFault {
 /// or give an option no number in its range: --workers 1 to 64, --block 1 to 2^24, --round 1 to 1,024,
 /// -m 1 to 2^32 - 1, -A 0 to 2^32 - 1, -B and -C 0 to 65,535. `Usage` where `clap` takes them and
 /// [`check_usage`] finds a fault. `OutOfMemory` where a request for memory was refused.
-pub fn read_words<'a>(alloc: Global, words: &'a Words<'_>) -> Result<Task<'a>, WordsFault> {
+pub fn read_words<'a>(alloc: Global, words: &'a Words) -> Result<Task<'a>, WordsFault>
+    ensures { Gives (asks_of (asked table (map string_bytes words.now.parts.items))) result }
+{
     let command = search_command(alloc)?;
     match command.try_get_matches_from(words.as_slice()) {
         Ok(found) => task_of(alloc, &found),
@@ -90,7 +103,10 @@ pub fn read_words<'a>(alloc: Global, words: &'a Words<'_>) -> Result<Task<'a>, W
 }
 
 /// What `clap` said.
-fn refusal(alloc: Global, error: &Error) -> WordsFault {
+fn refusal(alloc: Global, error: &Error) -> WordsFault
+    ensures memory { kind_of error.now ≡ ErrorKind.OutOfMemory → result ≡ WordsFault.OutOfMemory }
+    ensures text { IsRefusal result }
+{
     if error.kind() == ErrorKind::OutOfMemory {
         return WordsFault::OutOfMemory;
     }
@@ -101,18 +117,22 @@ fn refusal(alloc: Global, error: &Error) -> WordsFault {
 }
 
 /// --help before --version, and both before a search.
-fn task_of<'a>(alloc: Global, found: &ArgMatches<'a>) -> Result<Task<'a>, WordsFault> {
-    if found.get_flag("help") {
+fn task_of<'a>(alloc: Global, found: &ArgMatches<'a>) -> Result<Task<'a>, WordsFault>
+    ensures { (us : List Use) → IsFound us (found_of found.now) → Gives (asks_of (Some us)) result }
+{
+    if flag(found, "help") {
         return Ok(Task::Help);
     }
-    if found.get_flag("version") {
+    if flag(found, "version") {
         return Ok(Task::Version);
     }
     search_of(alloc, found, &options_of(found), sources_of(found))
 }
 
 /// What the words name.
-fn sources_of<'w, 'a: 'w>(found: &'w ArgMatches<'a>) -> Sources<'w, 'a> {
+fn sources_of<'w, 'a: 'w>(found: &'w ArgMatches<'a>) -> Sources<'w, 'a>
+    ensures { (us : List Use) → IsFound us (found_of found.now) → AreSources us result }
+{
     place_operands(
         values_of(found, "regexp"),
         values_of(found, "file"),
@@ -120,18 +140,16 @@ fn sources_of<'w, 'a: 'w>(found: &'w ArgMatches<'a>) -> Sources<'w, 'a> {
     )
 }
 
-/// The values of an option, in their order, or the operands.
-fn values_of<'w, 'a: 'w>(found: &'w ArgMatches<'a>, name: &str) -> &'w [&'a str] {
-    found.get_strs(name).unwrap_or_default()
-}
-
-/// The search that the words ask for. `clap` has refused numbers out of range.
+/// The search that the words ask for.
 fn search_of<'a>(
     alloc: Global,
     found: &ArgMatches<'a>,
     options: &Options,
     sources: Sources<'_, 'a>,
-) -> Result<Task<'a>, WordsFault> {
+) -> Result<Task<'a>, WordsFault>
+    ensures { (us : List Use) → IsFound us (found_of found.now) → options.now ≡ options_in us
+        → AreSources us sources.entry → Gives (search_or us (fault_in us)) result }
+{
     check_usage(options, sources.texts, sources.pattern_files, sources.files)?;
     let texts = Vec::from_slice(alloc, sources.texts)?;
     let pattern_files = Vec::from_slice(alloc, sources.pattern_files)?;
@@ -140,7 +158,8 @@ fn search_of<'a>(
     Ok(Task::Search(request))
 }
 
-/// The search with these options, texts and files of patterns, and files that are searched.
+/// The search with these options, texts and files of patterns, and files that are searched. `clap` has refused numbers
+/// out of range.
 fn build_request<'a>(
     found: &ArgMatches<'a>,
     options: &Options,
@@ -150,31 +169,30 @@ fn build_request<'a>(
 ) -> Request<'a>
     requires some_pattern { 0 < vec_len texts + vec_len pattern_files }
     requires some_file { 0 < vec_len files }
+    ensures { (us : List Use) → IsFound us (found_of found.now) → options.now ≡ options_in us
+        → bytes_of texts.entry.items ≡ texts_in us → bytes_of pattern_files.entry.items ≡ values_of (codes "file") us
+        → bytes_of files.entry.items ≡ searched (files_in us)
+        → (asked_of result ≡ asked_in us) × (pace_of result ≡ pace_in us) }
 {
     Request {
         kind: options.kind(),
         texts,
         pattern_files,
-        fold: found.get_flag("ignore-case"),
-        whole: found.get_flag("line-regexp"),
-        word: found.get_flag("word-regexp"),
+        fold: flag(found, "ignore-case"),
+        whole: flag(found, "line-regexp"),
+        word: flag(found, "word-regexp"),
         invert: options.invert,
-        zero: found.get_flag("null-data"),
+        zero: flag(found, "null-data"),
         pieces: options.pieces,
         format: options.format(),
         names: options.naming(),
         files,
         recursive: options.recursive,
-        silent: found.get_flag("no-messages"),
-        line_buffered: found.get_flag("line-buffered"),
-        workers: number_of(found, "workers", DEFAULT_WORKERS).clamp(1, MAX_WORKERS),
-        block: number_of(found, "block", DEFAULT_BLOCK).clamp(1, MAX_BLOCK),
-        round: number_of(found, "round", DEFAULT_ROUND).clamp(1, MAX_ROUND),
-        always_spread: found.get_flag("always-spread"),
+        silent: flag(found, "no-messages"),
+        line_buffered: flag(found, "line-buffered"),
+        workers: number_within(found, "workers", DEFAULT_WORKERS, MAX_WORKERS),
+        block: number_within(found, "block", DEFAULT_BLOCK, MAX_BLOCK),
+        round: number_within(found, "round", DEFAULT_ROUND, MAX_ROUND),
+        always_spread: flag(found, "always-spread"),
     }
-}
-
-/// The number that an option gives, and this one where it isn't given.
-fn number_of(found: &ArgMatches<'_>, name: &str, default: u32) -> u32 {
-    found.get_one::<u32>(name).unwrap_or(default)
 }

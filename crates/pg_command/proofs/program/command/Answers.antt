@@ -1,31 +1,35 @@
-use Rattle.std.proofs.Common.{inl, inr, refl, arith}
-use Rattle.std.proofs.lemmas.List.{length-map}
-use Rattle.pg_words.specs.declared.help.TheConstants.{HELP, VERSION}
-use Rattle.pg_command.specs.Asked.{asked_of}
+use Rattle.std.proofs.Common.{rules, ◌≡◌, ◌∙◌, ap, inl, map, sym, subst, Ok, Result}
+use Rattle.std.specs.String.{string_bytes}
+use Rattle.pg_words.specs.Asked.{asked_of, pace_of}
+use Rattle.pg_words.specs.Asks.{Asks, AsksSearch, asks, asks_of}
+use Rattle.pg_words.specs.Gives.{Gives, IsTask}
+use Rattle.pg_words.specs.Joined.{asked}
+use Rattle.pg_words.specs.Line.{table}
+use Rattle.pg_words.specs.declared.words.Task.{Task}
+use Rattle.pg_words.specs.declared.words.Task.TheVariants.{Search}
+use Rattle.pg_words.specs.declared.words.WordsFault.{WordsFault}
+use Rattle.pg_command.specs.Command.{Does}
 use Rattle.pg_command.proofs.program.command.Goals as goal
 
+-- the words ask for the search of the request
 pub returns-in-Ok-Search-clause-commands : goal.returns-in-Ok-Search-clause-commands
 returns-in-Ok-Search-clause-commands g c =
     let request = c.in-Ok-Search.request in
+    let joined = asks_of (asked table (map string_bytes c.in-Ok.joined.parts.items)) in
+    let same : c.in-Ok-Search.field-0 ≡ Search request = search rules in
+    let given : joined ≡ AsksSearch (asked_of request) (pace_of request) =
+    subst (IsTask joined) same
+    (subst (λ (r : Result Task WordsFault). Gives joined r) c.in-Ok-Search.is c.read_words.ensures) in
+    let asked_for : asks (map string_bytes c.args.words.now) ≡ AsksSearch (asked_of request) (pace_of request) =
+    ap asks_of (sym c.in-Ok.ensures) ∙ given in
     inl (
-      asked_of request,
-      record {
-        patterns = omega (
-          arith,
-          request.has_pattern,
-          length-map request.texts.items (λ slice. slice.now),
-          length-map request.pattern_files.items (λ slice. slice.now),
-        );
-        files = omega (arith, request.some_file, length-map request.files.items (λ slice. slice.now));
-        limit = request.some_limit;
-      },
-      c.answer.ensures.answers,
+    subst
+    (λ (a : Asks). Does (g.T.FileTree.tells c.args.tree.now) (g.T.FileTree.answers c.args.tree.now) a
+    (g.S.Store.past c.args.files.now.store) (g.S.Store.past c.answer.new.files.store)
+    (record { taken = g.W.Sink.taken c.args.out.now; failures = g.W.Sink.failures c.args.out.now })
+    (record { taken = g.W.Sink.taken c.answer.new.out; failures = g.W.Sink.failures c.answer.new.out })
+    (record { taken = g.E.Sink.taken c.args.err.now; failures = g.E.Sink.failures c.args.err.now })
+    (record { taken = g.E.Sink.taken c.answer.new.err; failures = g.E.Sink.failures c.answer.new.err })
+    c.answer.result)
+    (sym asked_for) c.answer.ensures.answers
     )
-
-pub returns-in-Ok-Help-clause-commands : goal.returns-in-Ok-Help-clause-commands
-returns-in-Ok-Help-clause-commands g c =
-    inr (inl (record { unopened = refl; text = HELP.now; is = inl refl; shown = c.show.ensures }))
-
-pub returns-in-Ok-Version-clause-commands : goal.returns-in-Ok-Version-clause-commands
-returns-in-Ok-Version-clause-commands g c =
-    inr (inl (record { unopened = refl; text = VERSION.now; is = inr refl; shown = c.show-in-Ok-Version.ensures }))

@@ -1,0 +1,13 @@
+pub mod Answered
+pub mod Cuts
+pub mod Found
+pub mod Joins
+pub mod Level
+pub mod Numbers
+pub mod Ours
+pub mod Rows
+pub mod Rules
+pub mod Table
+pub mod Uses
+pub mod Waiting
+pub mod Walks

@@ -1,0 +1,151 @@
+-- The rows of the code's table, by letter and by name.
+use Rattle.std.proofs.Common.{◌≡◌, ◌∙◌, ap, refl, sym, true, false, ℕ, Bool, List, [], ◌∷◌, map, Option, Some, None}
+use Rattle.std.proofs.Common.{◌++◌, ◌||◌, ◌==◌, cond, not, ap₂, ◌+◌, ◌<◌, drop, drop-cons, add-one, get_or, length}
+use Rattle.std.proofs.Common.{append-nil, append_assoc}
+use Rattle.clap.proofs.WalkLemmas.{both}
+use Rattle.clap.proofs.SimpleLemmas.{is_false}
+use Rattle.std.specs.List.{list_any}
+use Rattle.std.specs.Str.{bytes_eq}
+use Rattle.std.specs.Borrow.{Bor}
+use Rattle.clap.specs.Words.{App, AddsAliases, AddsArg, AddsInTurn, Rule, app_of, rule_of, with_rule}
+use Rattle.clap.specs.declared.builder.arg.Arg.{Arg}
+use Rattle.clap.specs.declared.builder.command.Command.{Command}
+use Rattle.std.specs.List.{list_all}
+use Rattle.pg_words.specs.App.{app_of_rules, named_rule, rule_for, has_letter, has_name, has_value_behind, opts_of}
+use Rattle.pg_words.specs.App.{value_of}
+use Rattle.pg_words.specs.Joined.{takes_value}
+use Rattle.pg_words.specs.Line.{Text, Opt, by_letter, by_name}
+use Rattle.pg_words.specs.declared.command.OptionRow.{OptionRow}
+use Rattle.pg_words.specs.declared.command.Behind.{Behind}
+use Rattle.pg_words.specs.declared.command.Behind.TheVariants as behind
+use Rattle.pg_words.specs.declared.command.Names.{Names}
+use Rattle.pg_words.specs.declared.command.Names.TheVariants as names
+
+abbrev row : Names → Bor Text → Behind → OptionRow
+row n name b = record { 0 = n; 1 = name; 2 = b }
+
+same_value : (letter : Option ℕ) (name : Text) (others : List Text) (b : Behind)
+    → has_value_behind b ≡ takes_value (Some (record {
+      letter = letter;
+      name = name;
+      others = others;
+      value =
+          value_of b;
+    }))
+same_value letter name others behind.Nothing = refl
+same_value letter name others (behind.Text text) = refl
+same_value letter name others (behind.Number low high) = refl
+same_value letter name others behind.Itself = refl
+
+any_map : (name : Text) (others : List (Bor Text))
+    → list_any (λ other. bytes_eq other name) (map (λ other. other.now) others)
+    ≡ list_any (λ other. bytes_eq other.now name) others
+any_map name [] = refl
+any_map name (other ∷ others) = ap (λ (b : Bool). bytes_eq other.now name || b) (any_map name others)
+
+letter_found_by : (n : Names) (name : Bor Text) (b : Behind) (rows : List OptionRow) (x : ℕ)
+    → has_letter (row n name b) x ≡ true
+    → has_value_behind b ≡ takes_value (by_letter (opts_of (row n name b ∷ rows)) x)
+letter_found_by (names.Letter letter others) name b rows x e =
+    rw e (same_value (Some letter) name.now (map (λ other. other.now) others.now) b)
+letter_found_by names.Long name b rows x e = cc
+letter_found_by names.Place name b rows x e = cc
+
+letter_passed_by : (n : Names) (name : Bor Text) (b : Behind) (rows : List OptionRow) (x : ℕ)
+    → has_letter (row n name b) x ≡ false
+    → by_letter (opts_of (row n name b ∷ rows)) x ≡ by_letter (opts_of rows) x
+letter_passed_by (names.Letter letter others) name b rows x e = rw e refl
+letter_passed_by names.Long name b rows x e = refl
+letter_passed_by names.Place name b rows x e = refl
+
+pub letter_found : (r : OptionRow) (rows : List OptionRow) (x : ℕ) → has_letter r x ≡ true
+    → has_value_behind r.2 ≡ takes_value (by_letter (opts_of (r ∷ rows)) x)
+letter_found r rows x e = letter_found_by r.0 r.1 r.2 rows x e
+
+pub letter_passed : (r : OptionRow) (rows : List OptionRow) (x : ℕ) → has_letter r x ≡ false
+    → by_letter (opts_of (r ∷ rows)) x ≡ by_letter (opts_of rows) x
+letter_passed r rows x e = letter_passed_by r.0 r.1 r.2 rows x e
+
+name_found_by : (n : Names) (own : Bor Text) (b : Behind) (rows : List OptionRow) (name : Text)
+    → has_name (row n own b) name ≡ true
+    → has_value_behind b ≡ takes_value (by_name (opts_of (row n own b ∷ rows)) name)
+name_found_by (names.Letter letter others) own b rows name e =
+    rw (any_map name others.now, e) (same_value (Some letter) own.now (map (λ other. other.now) others.now) b)
+name_found_by names.Long own b rows name e = rw e (same_value None own.now [] b)
+name_found_by names.Place own b rows name e = cc
+
+or_false : (b : Bool) → (b || false) ≡ b
+or_false true = refl
+or_false false = refl
+
+name_passed_by : (n : Names) (own : Bor Text) (b : Behind) (rows : List OptionRow) (name : Text)
+    → has_name (row n own b) name ≡ false
+    → by_name (opts_of (row n own b ∷ rows)) name ≡ by_name (opts_of rows) name
+name_passed_by (names.Letter letter others) own b rows name e = rw (any_map name others.now, e) refl
+name_passed_by names.Long own b rows name e = rw e refl
+name_passed_by names.Place own b rows name e = refl
+
+pub name_found : (r : OptionRow) (rows : List OptionRow) (name : Text) → has_name r name ≡ true
+    → has_value_behind r.2 ≡ takes_value (by_name (opts_of (r ∷ rows)) name)
+name_found r rows name e = name_found_by r.0 r.1 r.2 rows name e
+
+pub name_passed : (r : OptionRow) (rows : List OptionRow) (name : Text) → has_name r name ≡ false
+    → by_name (opts_of (r ∷ rows)) name ≡ by_name (opts_of rows) name
+name_passed r rows name e = name_passed_by r.0 r.1 r.2 rows name e
+
+-- ---- the arguments of rows
+
+map_pairs : (others : List (Bor Text)) → map (λ (alias : Bor Text × Bool). alias.0.now) (map (λ n. (n, false)) others)
+    ≡ map (λ other. other.now) others
+map_pairs [] = refl
+map_pairs (other ∷ others) = ap (λ (l : List Text). other.now ∷ l) (map_pairs others)
+
+pub letter_rule : (named long short arg : Arg) (r : OptionRow) (letter : ℕ) (others : Bor (List (Bor Text)))
+    → r.0 ≡ names.Letter letter others → rule_of named ≡ named_rule r.2 r.1.now → named.aliases.items ≡ []
+    → long ≡ record named { long = Some r.1 } → short ≡ record long { short = Some letter }
+    → AddsAliases short arg (map (λ n. (n, false)) others.now) → rule_of arg ≡ rule_for r
+letter_rule named long short arg r letter others is rule none long_is short_is adds =
+    let aliases : short.aliases.items ≡ [] =
+    ap (λ (a : Arg). a.aliases.items) short_is ∙ (ap (λ (a : Arg). a.aliases.items) long_is ∙ none) in
+    let base : rule_of short ≡ record (named_rule r.2 r.1.now) { long = Some r.1.now; short = Some letter } =
+    ap rule_of short_is ∙ (ap (λ (a : Arg). record (rule_of a) { short = Some letter }) long_is
+    ∙ ap (λ (x : Rule). record x { long = Some r.1.now; short = Some letter }) rule) in
+    let texts : map (λ alias. alias.0.now) arg.aliases.items ≡ map (λ other. other.now) others.now =
+    ap (map (λ (alias : Bor Text × Bool). alias.0.now))
+    (adds.1 ∙ ap (λ l. l ++ map (λ n. (n, false)) others.now) aliases)
+    ∙ map_pairs others.now in
+    ap rule_of adds.0 ∙ (ap₂ (λ (x : Rule) (l : List Text). record x { aliases = l }) base texts ∙ sym (rw is refl))
+
+-- a command with each of the arguments added
+pub all_added : (args : List Arg) (old new : Command) → AddsInTurn AddsArg old args new
+    → list_all (λ arg. not arg.global) args ≡ true → (rules : List Rule) → app_of old ≡ app_of_rules rules
+    → app_of new ≡ app_of_rules (rules ++ map rule_of args)
+all_added [] old new same local rules is = ap app_of (sym same) ∙ (is ∙ ap app_of_rules (sym (append-nil rules)))
+all_added (arg ∷ args) old new adds local rules is =
+    let parts = both (not arg.global) (list_all (λ arg. not arg.global) args) local in
+    let one : app_of adds.0 ≡ app_of_rules (rules ++ rule_of arg ∷ []) =
+    adds.1.shape (is_false arg.global parts.0) ∙ ap (λ (a : App). with_rule a (rule_of arg)) is in
+    all_added args adds.0 new adds.2 parts.1 (rules ++ rule_of arg ∷ []) one
+    ∙ ap app_of_rules (append_assoc rules (rule_of arg ∷ []) (map rule_of args))
+
+-- ---- the loops over rows
+
+next_row : (rows : List OptionRow) (i : ℕ) (d : OptionRow) → i < length rows → drop i rows ≡ get_or rows i d
+    ∷ drop (i + 1) rows
+next_row rows i d within = rw (add-one, drop-cons rows i d) refl
+
+pub name_here : (rows : List OptionRow) (i : ℕ) (d : OptionRow) (name : Text) (called valued : Bool) → i < length rows
+    → called ≡ has_name (get_or rows i d) name → called ≡ true → valued ≡ has_value_behind (get_or rows i d).2
+    → takes_value (by_name (opts_of (drop i rows)) name) ≡ takes_value (by_name (opts_of rows) name)
+    → valued ≡ takes_value (by_name (opts_of rows) name)
+name_here rows i d name called valued within is called_so value before =
+    value ∙ (name_found (get_or rows i d) (drop (i + 1) rows) name (sym is ∙ called_so)
+    ∙ (ap (λ (l : List OptionRow). takes_value (by_name (opts_of l) name)) (sym (next_row rows i d within)) ∙ before))
+
+pub name_next : (rows : List OptionRow) (i : ℕ) (d : OptionRow) (name : Text) (called : Bool) → i < length rows
+    → called ≡ has_name (get_or rows i d) name → called ≡ false
+    → takes_value (by_name (opts_of (drop i rows)) name) ≡ takes_value (by_name (opts_of rows) name)
+    → takes_value (by_name (opts_of (drop (i + 1) rows)) name) ≡ takes_value (by_name (opts_of rows) name)
+name_next rows i d name called within is no_name before =
+    ap takes_value (sym (name_passed (get_or rows i d) (drop (i + 1) rows) name (sym is ∙ no_name)))
+    ∙ (ap (λ (l : List OptionRow). takes_value (by_name (opts_of l) name)) (sym (next_row rows i d within)) ∙ before)

@@ -1,0 +1,28 @@
+use Rattle.std.proofs.Common.{refl}
+use Rattle.pg_words.proofs.words.build_request.Goals as goal
+
+pub returns : goal.returns
+returns c = λ us is options texts patterns files.
+    let o = options in (
+      rw (
+        c.kind.ensures,
+        c.format.ensures.exact,
+        c.naming.ensures,
+        options,
+        texts,
+        patterns,
+        files,
+        c.flag.ensures us is refl,
+        c.flag-2.ensures us is refl,
+        c.flag-3.ensures us is refl,
+        c.flag-4.ensures us is refl,
+        c.flag-5.ensures us is refl,
+      ) refl,
+      rw (
+        c.flag-6.ensures us is refl,
+        c.flag-7.ensures us is refl,
+        c.number_within.ensures.exact us is refl,
+        c.number_within-2.ensures.exact us is refl,
+        c.number_within-3.ensures.exact us is refl,
+      ) refl,
+    )

@@ -1,0 +1,61 @@
+-- What a search asks for, as plain data.
+use Rattle.std.specs.Prelude.{ℕ, Bool, List}
+use Rattle.pg_syntax.specs.Slices.{bytes_of}
+use Rattle.pg_syntax.specs.declared.pattern_list.Kind.{Kind}
+use Rattle.pg_rows.specs.declared.format.Format.{Format}
+use Rattle.pg_words.specs.declared.options.Naming.{Naming}
+use Rattle.pg_words.specs.declared.request.Request.{Request}
+
+-- the syntax of the patterns, the -e texts, the paths of the -f files, the options -i, -x, -w, -v, -z and -o, how rows
+-- look and when they have names, the FILE operands, and the options -r and -s
+pub record Asked : Type 0 where
+  pub kind : Kind
+  pub texts : List (List ℕ)
+  pub pattern_files : List (List ℕ)
+  pub fold : Bool
+  pub whole : Bool
+  pub word : Bool
+  pub invert : Bool
+  pub zero : Bool
+  pub pieces : Bool
+  pub format : Format
+  pub names : Naming
+  pub files : List (List ℕ)
+  pub recursive : Bool
+  pub silent : Bool
+
+-- by how many threads, in which blocks and rounds it is done, and when rows are sent on
+pub record Pace : Type 0 where
+  pub workers : ℕ
+  pub block : ℕ
+  pub round : ℕ
+  pub line_buffered : Bool
+  pub always_spread : Bool
+
+-- what a request asks for; by how many threads and in which blocks is no part of it
+abbrev pub asked_of : Request → Asked
+asked_of request = record {
+  kind = request.kind;
+  texts = bytes_of request.texts.items;
+  pattern_files = bytes_of request.pattern_files.items;
+  fold = request.fold;
+  whole = request.whole;
+  word = request.word;
+  invert = request.invert;
+  zero = request.zero;
+  pieces = request.pieces;
+  format = request.format;
+  names = request.names;
+  files = bytes_of request.files.items;
+  recursive = request.recursive;
+  silent = request.silent;
+}
+
+abbrev pub pace_of : Request → Pace
+pace_of request = record {
+  workers = request.workers;
+  block = request.block;
+  round = request.round;
+  line_buffered = request.line_buffered;
+  always_spread = request.always_spread;
+}

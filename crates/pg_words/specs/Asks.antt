@@ -1,0 +1,104 @@
+-- What the words of a command line ask for.
+use Rattle.std.specs.Prelude.{ℕ, ◌+◌, ◌||◌, Bool, if◌then◌else◌, List, codes, length, take, drop, Option, Some, None}
+use Rattle.std.specs.Prelude.{option_map, unwrap_or}
+use Rattle.std.specs.Str.Parse.{digits_value, without_leading_sign}
+use Rattle.pg_words.specs.Asked.{Asked, Pace}
+use Rattle.pg_words.specs.Line.{Text, Use, Uses, is_given, last_value, operands_of, some_text, uses_in, values_of}
+use Rattle.pg_words.specs.Operands.{searched}
+use Rattle.pg_words.specs.Options.{format_of, kind_of, naming_of}
+use Rattle.pg_words.specs.Usage.{usage_fault}
+use Rattle.pg_words.specs.declared.options.Options.{Options}
+use Rattle.pg_words.specs.declared.usage.UsageFault.{UsageFault}
+
+-- a search, --help, --version, a usage fault, or nothing: the words are refused
+pub data Asks : Type 0 where
+  AsksSearch : Asked → Pace → Asks
+  AsksHelp : Asks
+  AsksVersion : Asks
+  HasFault : UsageFault → Asks
+  IsRefused : Asks
+
+-- the last number that is given
+abbrev pub number_in : Text → List Use → Option ℕ
+number_in name us = option_map (λ numeral. digits_value 10 (without_leading_sign numeral)) (last_value name us)
+
+-- the options that exclude one another, want operands or decide how rows look
+abbrev pub options_in : List Use → Options
+options_in us = record {
+  extended = is_given (codes "extended-regexp") us;
+  fixed = is_given (codes "fixed-strings") us;
+  invert = is_given (codes "invert-match") us;
+  pieces = is_given (codes "only-matching") us;
+  count = is_given (codes "count") us;
+  list = is_given (codes "files-with-matches") us;
+  list_others = is_given (codes "files-without-match") us;
+  quiet = is_given (codes "quiet") us;
+  numbers = is_given (codes "line-number") us;
+  null = is_given (codes "null") us;
+  names = is_given (codes "with-filename") us;
+  no_names = is_given (codes "no-filename") us;
+  recursive = is_given (codes "recursive") us;
+  limit = number_in (codes "max-count") us;
+  after = number_in (codes "after-context") us;
+  before = number_in (codes "before-context") us;
+  around = number_in (codes "context") us;
+}
+
+-- -e or -f
+abbrev pub gives_patterns : List Use → Bool
+gives_patterns us = some_text (values_of (codes "regexp") us) || some_text (values_of (codes "file") us)
+
+-- the -e texts; beside neither -e nor -f the first operand is PATTERN
+abbrev pub texts_in : List Use → List Text
+texts_in us = if gives_patterns us then values_of (codes "regexp") us else take 1 (operands_of us)
+
+-- each FILE
+abbrev pub files_in : List Use → List Text
+files_in us = if gives_patterns us then operands_of us else drop 1 (operands_of us)
+
+abbrev pub asked_in : List Use → Asked
+asked_in us = record {
+  kind = kind_of (options_in us);
+  texts = texts_in us;
+  pattern_files = values_of (codes "file") us;
+  fold = is_given (codes "ignore-case") us;
+  whole = is_given (codes "line-regexp") us;
+  word = is_given (codes "word-regexp") us;
+  invert = is_given (codes "invert-match") us;
+  zero = is_given (codes "null-data") us;
+  pieces = is_given (codes "only-matching") us;
+  format = format_of (options_in us);
+  names = naming_of (options_in us);
+  files = searched (files_in us);
+  recursive = is_given (codes "recursive") us;
+  silent = is_given (codes "no-messages") us;
+}
+
+abbrev pub pace_in : List Use → Pace
+pace_in us = record {
+  workers = unwrap_or (number_in (codes "workers") us) 4;
+  block = unwrap_or (number_in (codes "block") us) 65536;
+  round = unwrap_or (number_in (codes "round") us) 64;
+  line_buffered = is_given (codes "line-buffered") us;
+  always_spread = is_given (codes "always-spread") us;
+}
+
+-- a search that has no usage fault
+abbrev pub search_or : List Use → Option UsageFault → Asks
+search_or us None = AsksSearch (asked_in us) (pace_in us)
+search_or us (Some fault) = HasFault fault
+
+abbrev pub fault_in : List Use → Option UsageFault
+fault_in us = usage_fault (options_in us) (length (texts_in us) + length (values_of (codes "file") us))
+    (length (files_in us))
+
+-- --help comes before --version, and both come before a usage fault
+abbrev pub asks_of : Uses → Asks
+asks_of None = IsRefused
+asks_of (Some us) =
+    if is_given (codes "help") us then AsksHelp
+    else (if is_given (codes "version") us then AsksVersion else search_or us (fault_in us))
+
+-- what words ask for
+abbrev pub asks : List Text → Asks
+asks words = asks_of (uses_in words)
