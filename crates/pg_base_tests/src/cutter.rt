@@ -189,7 +189,9 @@ fn gives_both<A: Allocator + Copy>(cutter: Cutter<A>, heap: &Refusing) -> bool {
 /// Whether a file of two blocks comes in two pieces, of which the first finishes no block, and both blocks are given.
 fn is_given(heap: &Refusing) -> bool {
     let mut cutter = Cutter::new(heap, 0, 2, 100, b'\n');
-    is_taken(&mut cutter, heap, b"a") && is_taken(&mut cutter, heap, b"\nb") && gives_both(cutter, heap)
+    is_taken(&mut cutter, heap, b"a")
+        && is_taken(&mut cutter, heap, b"\nb")
+        && gives_both(cutter, heap)
 }
 
 /// Whether a file of two blocks comes, and one of a block, whose memory is used again.

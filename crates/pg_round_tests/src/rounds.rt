@@ -171,15 +171,7 @@ fn step_beside<R: Threads + Wait + Clock + Sync>(
         asked: 0,
     };
     let mut made = 0u32;
-    let found = search_beside(
-        rt,
-        alloc,
-        4,
-        scratches_count,
-        &mut reader,
-        &mut made,
-        &gate,
-    );
+    let found = search_beside(rt, alloc, 4, scratches_count, &mut reader, &mut made, &gate);
     Beside {
         is_once: found == Ok(([1, 1, 1, 1, 0, 0, 0, 0], scratches_count as usize)),
         left: reader.left,
