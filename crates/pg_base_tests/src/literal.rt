@@ -108,7 +108,7 @@ fold-any [xY]o+z;b;c;d;e;f;g;h;i => xo;yo;only:b;only:c;only:d;only:e;only:f;onl
 any w[01]+x;b;c;d;e;f;g;h;i => w0;w1;only:b;only:c;only:d;only:e;only:f;only:g;only:h;only:i
 word aa[0-3][0-7]zzz.y;b;c;d;e;f;g;h;i => 0zzz;1zzz;2zzz;3zzz;4zzz;5zzz;6zzz;7zzz;b;c;d;e;f;g;h;i
 any [a-z];b;c;d;e;f;g;h;i => none
-any .*[01];b;c;d;e;f;g;h;i => only:0;only:1;only:b;only:c;only:d;only:e;only:f;only:g;only:h;only:i",
+any .*[01];b;c;d;e;f;g;h;i => none",
 ];
 
 /// The tree of an expression.
