@@ -100,14 +100,15 @@ any a|b|c;d;e|f|g|h;[0-9] => none
 fold-any Foo|BAR;Baz => only:bar;only:foo;only:baz
 fold-word Foo|^BAR$ => bar;foo",
     r"any gr[ae]y;b;c;d;e;f;g;h => gr;only:b;only:c;only:d;only:e;only:f;only:g;only:h
+any a[0-3][0-7]z.y;b;c;d;e;f;g;h;i => a0;a1;a2;a3;only:b;only:c;only:d;only:e;only:f;only:g;only:h;only:i
 any gr[ae]y;b;c;d;e;f;g;h;i => only:gray;only:grey;only:b;only:c;only:d;only:e;only:f;only:g;only:h;only:i
 whole [Ff]o;b;c;d;e;f;g;h;i => Fo;fo;b;c;d;e;f;g;h;i
 fold-any [Ff]o;b;c;d;e;f;g;h;i => only:fo;only:b;only:c;only:d;only:e;only:f;only:g;only:h;only:i
 fold-any [xY]o+z;b;c;d;e;f;g;h;i => xo;yo;only:b;only:c;only:d;only:e;only:f;only:g;only:h;only:i
 any w[01]+x;b;c;d;e;f;g;h;i => w0;w1;only:b;only:c;only:d;only:e;only:f;only:g;only:h;only:i
-any a[0-3][0-7]z.y;b;c;d;e;f;g;h;i => 0z;1z;2z;3z;4z;5z;6z;7z;only:b;only:c;only:d;only:e;only:f;only:g;only:h;only:i
+word aa[0-3][0-7]zzz.y;b;c;d;e;f;g;h;i => 0zzz;1zzz;2zzz;3zzz;4zzz;5zzz;6zzz;7zzz;b;c;d;e;f;g;h;i
 any [a-z];b;c;d;e;f;g;h;i => none
-any .*[01];b;c;d;e;f;g;h;i => only:0;only:1;only:b;only:c;only:d;only:e;only:f;only:g;only:h;only:i",
+any .*[01];b;c;d;e;f;g;h;i => none",
 ];
 
 /// The tree of an expression.

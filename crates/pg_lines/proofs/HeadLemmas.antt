@@ -42,7 +42,8 @@ module _ (text : SearchText) (head : List ℕ) (is : IsHead text head) (searched
   rest_of =
       let long : at + length line - at ≡ length line = omega arith in
       let left : at + length line - (at + from) ≡ length line - from = omega arith in
-      let line_is : take (length line) (drop at searched) ≡ own = ap (λ n. take n (drop at searched)) (sym long) ∙ same in
+      let line_is : take (length line) (drop at searched) ≡ own =
+      ap (λ n. take n (drop at searched)) (sym long) ∙ same in
       ap (λ n. take n (drop (at + from) searched)) left
       ∙ (ap (take (length line - from)) (sym (drop-drop from at searched))
       ∙ (sym (drop_take from (length line) (drop at searched) within) ∙ ap (drop from) line_is))

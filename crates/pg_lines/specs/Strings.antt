@@ -73,8 +73,8 @@ IsHead text head =
     (trees : List Pattern) → AreTreesOf text trees → (line : List ℕ) (i j : ℕ) → Hit trees (bounds_of text) line i j
     → (i < j) × OccursAt (as_searched text.fold line) head i
 
--- the strings of a query or the text that its hits begin with, if there are such, and the bytes as they are searched for
--- in them
+-- the strings of a query or the text that its hits begin with, if there are such, and the bytes as they are searched
+-- for in them
 abbrev pub AreBlockStrings : {A : Type 0} → SearchText → List ℕ → BlockStrings A → Type 0
 AreBlockStrings text bytes strings =
     IfSome strings.set (λ set. AreStrings text (strings_of set.now)

@@ -131,8 +131,8 @@ fn next_string<A: Allocator>(
     }
 }
 
-/// The text that each match of a query begins with, if it has but this literal, and parts of lines are asked for. A line
-/// without them is judged faster by the automaton alone, which needn't find where a match ends.
+/// The text that each match of a query begins with, if it has but this literal, and parts of lines are asked for. Where
+/// they aren't, a line is judged faster by the automaton alone, which needn't find where a match ends.
 pub(crate) fn only_head<'l, A: Allocator>(
     query: &Query<A>,
     literals: &'l [Literal<A>],

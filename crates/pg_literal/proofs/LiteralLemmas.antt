@@ -7,7 +7,8 @@ use Rattle.std.specs.Option.{IsSomeAnd}
 use Rattle.std.specs.List.{Contains, Any as AnyOf, All, AllZip}
 use Rattle.std.proofs.lemmas.Bool.{cases_lt}
 use Rattle.std.proofs.lemmas.List.{append-nil, get_or-map, get_or_default, map-append}
-use Rattle.std.proofs.lemmas.List.{map_more, take_more, take_all, get_or-append-add, length-reverse, length-map, reverse-append, take-append-drop, drop_all, length-take-le}
+use Rattle.std.proofs.lemmas.List.{map_more, take_more, take_all, get_or-append-add, length-reverse, length-map}
+use Rattle.std.proofs.lemmas.List.{reverse-append, take-append-drop, drop_all, length-take-le}
 use Rattle.std.proofs.Math.ListN.{get_or-append}
 use Rattle.std.proofs.Common.{length-append, length-drop}
 use Rattle.std.proofs.lemmas.List.Elements.{All-append, All-weaker, All-cons, All-nil}
@@ -31,7 +32,8 @@ use Rattle.pg_literal.specs.Added.{Adds, AddsOnly}
 use Rattle.pg_literal.specs.declared.known.Known.{Known}
 use Rattle.pg_literal.specs.declared.literal.Literal.{Literal}
 use Rattle.pg_literal.proofs.KnownLemmas.{match_forward, alt_unspelled}
-use Rattle.pg_literal.proofs.RowLemmas.{stands_within, stands_append, any-map, any-unmap, product_some, fixed_text, fixed_backwards}
+use Rattle.pg_literal.proofs.RowLemmas.{stands_within, stands_append, any-map, any-unmap, product_some, fixed_text}
+use Rattle.pg_literal.proofs.RowLemmas.{fixed_backwards}
 
 -- an element of the list of one
 the_only : (p q : Pattern) (k : ℕ) → k < 1 → get_or (p ∷ []) k q ≡ q → q ≡ p
@@ -177,8 +179,8 @@ module _ {A : Type 0} (fold : Bool) (bounds : Bounds) (p q : Pattern) where
         fixed = λ text spells any. absurd (alt_unspelled fold p q text spells);
       }
 
--- A part of one of the rows that are known, with two flags. It may be enough only where it is all of a row that is sure,
--- and any match counts; it may be a head only where the head begins with it.
+-- A part of one of the rows that are known, with two flags. It may be enough only where it is all of a row that is
+-- sure, and any match counts; it may be a head only where the head begins with it.
 pub record Serves {A : Type 0} (bounds : Bounds) (known : Known A) (row : List Bytes) (is_enough is_head : Bool)
     : Type 0 where
   pub before : List Bytes
@@ -577,7 +579,8 @@ pushed_more {A} texts i backwards below is is_enough is_head old mid new literal
     let front = take i texts in
     let last : take (i + 1) texts ≡ front ++ backwards ∷ [] =
     take_more texts i backwards below ∙ ap (λ t. front ++ t ∷ []) (sym is) in
-    let all : map reverse (map items_of (take (i + 1) texts)) ≡ map reverse (map items_of front) ++ Turned backwards ∷ [] =
+    let all : map reverse (map items_of (take (i + 1) texts))
+    ≡ map reverse (map items_of front) ++ Turned backwards ∷ [] =
     ap (λ ts. map reverse (map items_of ts)) last
     ∙ (ap (map reverse) (map-append items_of front (backwards ∷ []))
     ∙ map-append reverse (map items_of front) (backwards.items ∷ [])) in

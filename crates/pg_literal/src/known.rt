@@ -5,7 +5,8 @@ ghost use Rattle.pg_syntax.specs.Patterns.{Begin, End, Set};
 ghost use Rattle.pg_syntax.specs.Trees.{pattern};
 ghost use Rattle.pg_literal.specs.Literals.{as_searched};
 ghost use Rattle.pg_literal.specs.Rows.{AreProduct};
-ghost use Rattle.pg_literal.specs.Known.{head_of, sets_of, IsNothing, Extends, Hides, HidesOthers, MatchesEmpty, IsChosen};
+ghost use Rattle.pg_literal.specs.Known.{head_of, sets_of, IsNothing, Extends, Hides, HidesOthers, MatchesEmpty};
+ghost use Rattle.pg_literal.specs.Known.{IsChosen};
 
 use crate::row::{Expansion, Window, only_text, widest};
 use pg_bytes::ByteSet;

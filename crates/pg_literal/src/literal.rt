@@ -42,10 +42,10 @@ impl<A: Allocator + Copy> Literal<A> {
     /// found there is none, which tells nothing.
     ///
     /// With `fold` the case of letters is folded, as it was for the trees. Each tree gives one text, and each
-    /// alternative of a tree that is an alternation. Where that makes more than 8, each may give up to 16 texts, for
-    /// which sets of a few bytes are multiplied out: `gr[ae]y` gives `gray` and `grey`, where else it gives `gr`. The
-    /// trees of plain fixed strings give those strings, in their order; where the bounds aren't `Any` and one string is
-    /// empty, there are none. A refused request for memory is the only error.
+    /// alternative of a tree that is an alternation. Where that makes more than 8 that aren't all enough, each may give
+    /// up to 16 texts, for which sets of a few bytes are multiplied out: `gr[ae]y` gives `gray` and `grey`, where else
+    /// it gives `gr`. The trees of plain fixed strings give those strings, in their order; where the bounds aren't
+    /// `Any` and one string is empty, there are none. A refused request for memory is the only error.
     pub fn of(
         alloc: A,
         trees: &[Tree<A>],
@@ -67,7 +67,9 @@ impl<A: Allocator + Copy> Literal<A> {
     {
         let literals = literals_of(alloc, trees, bounds, Expansion { fold, most: 1 })?;
         let most = MOST_OF_ONE.min(MOST / literals.len().max(1));
-        if literals.len() <= FEW || most <= 1 {
+        // Where each is enough, longer ones would save nothing.
+        let are_enough = literals.iter().all(|literal| literal.is_enough);
+        if literals.len() <= FEW || most <= 1 || are_enough {
             return Ok(literals);
         }
         let literals = literals_of(alloc, trees, bounds, Expansion { fold, most })?;
@@ -167,8 +169,8 @@ fn push_tree<A: Allocator + Copy>(
     Ok(found)
 }
 
-/// Adds a text that each match is, which lies backwards. Where it is empty and not every match counts, it tells nothing,
-/// and the answer is false.
+/// Adds a text that each match is, which lies backwards. Where it is empty and not every match counts, it tells
+/// nothing, and the answer is false.
 fn push_text<A: Allocator + Copy>(
     mut text: Vec<u8, A>,
     bounds: Bounds,

@@ -1,5 +1,6 @@
 //! Rows of sets of bytes, and the texts that they are multiplied out into. Rows and texts lie backwards here.
-ghost use Rattle.std.specs.Prelude.{◌≡◌, ◌≤◌, ◌-◌, ◌++◌, ℕ, List, [], ◌∷◌, length, map, true, reverse, IfOk, IfSome, MatchOption};
+ghost use Rattle.std.specs.Prelude.{◌≡◌, ◌≤◌, ◌-◌, ◌++◌, ℕ, List, [], ◌∷◌, length, map, true, reverse, IfOk, IfSome};
+ghost use Rattle.std.specs.Prelude.{MatchOption};
 ghost use Rattle.std.specs.Prelude.{IsTrue, IsSomeAnd, OnOk, nat_eq, ◌&&◌, if◌then◌else◌};
 ghost use Rattle.std.specs.List.{flat_map};
 ghost use Rattle.pg_bytes.specs.ByteSets.{bytes};
@@ -83,8 +84,8 @@ fn count_of(set: &ByteSet, fold: bool) -> usize {
     count
 }
 
-/// The widest part of a row that becomes at most so many texts as are allowed; of several the last one in the row, which
-/// is the first one in a line.
+/// The widest part of a row that becomes at most so many texts as are allowed; of several the last one in the row,
+/// which is the first one in a line.
 ///
 /// Where a further set makes too many, the part begins anew behind the last set of several bytes.
 pub(crate) fn widest(row: &[ByteSet], expansion: Expansion) -> Window

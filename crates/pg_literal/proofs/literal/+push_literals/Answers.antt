@@ -25,7 +25,8 @@ loop-tree-preserved g t c =
       fixed = λ text spells.
           let same = c.loop-tree.invariant.fixed text spells in
           let alt = sym same.0 ∙ pattern-alt _ _ _ c.in-Alt.is in
-          absurd (alt_unspelled c.args.expansion.fold _ _ text (subst (Spells Fixed c.args.expansion.fold text) alt spells));
+          absurd (alt_unspelled c.args.expansion.fold _ _ text
+          (subst (Spells Fixed c.args.expansion.fold text) alt spells));
     }
 
 pub returns : goal.returns

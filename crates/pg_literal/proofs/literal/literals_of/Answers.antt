@@ -72,7 +72,8 @@ pub returns-clause-fixed : goal.returns-clause-fixed
 returns-clause-fixed g c = λ texts spelled any.
     let trees = c.args.trees.now in
     let are = c.loop-tree.invariant.fixed texts spelled any in
-    let P : List (List ℕ) → Type 0 = λ ts. AreTexts (map (as_searched c.args.expansion.fold) ts) c.loop-tree.literals.items in
+    let P : List (List ℕ) → Type 0 =
+    λ ts. AreTexts (map (as_searched c.args.expansion.fold) ts) c.loop-tree.literals.items in
     let size = zip_length _ texts (map pattern trees) spelled in
     subst P (take_all c.loop-tree.tree-index texts
     (omega (arith, size, length-map trees (pattern {A = g.row.A.Denot})))) are

@@ -15,14 +15,16 @@ use Rattle.pg_literal.proofs.literal.literals_of.Given as goal
 abbrev pub invariant-loop-tree : goal.invariant-loop-tree
 invariant-loop-tree g l = record {
   needed : (line : List ℕ) (k : ℕ) (p : Pattern) → k < l.tree-index → get_or (map pattern l.trees) k p ≡ p
-      → HasHit (p ∷ []) l.bounds line → AnyOf (λ literal. Holds l.expansion.fold line literal.text.items) l.literals.items;
+      → HasHit (p ∷ []) l.bounds line
+      → AnyOf (λ literal. Holds l.expansion.fold line literal.text.items) l.literals.items;
   heads : All (λ literal. IsTrue literal.is_head) l.literals.items → (line : List ℕ) (i j k : ℕ) (p : Pattern)
       → k < l.tree-index → get_or (map pattern l.trees) k p ≡ p → Hit (p ∷ []) l.bounds line i j
       → (i < j)
       × AnyOf (λ literal. OccursAt (as_searched l.expansion.fold line) literal.text.items i) l.literals.items;
   enough : AreEnough l.expansion.fold (map pattern l.trees) l.bounds l.literals.items;
   exact : (texts : List (List ℕ)) → AllZip (Spells Fixed l.expansion.fold) texts (map pattern l.trees)
-      → map (λ literal. literal.text.items) l.literals.items ≡ map (as_searched l.expansion.fold) (take l.tree-index texts);
+      → map (λ literal. literal.text.items) l.literals.items
+      ≡ map (as_searched l.expansion.fold) (take l.tree-index texts);
   fixed : (texts : List (List ℕ)) → AllZip (Spells Fixed l.expansion.fold) texts (map pattern l.trees) → l.bounds ≡ Any
       → AreTexts (map (as_searched l.expansion.fold) (take l.tree-index texts)) l.literals.items;
 }

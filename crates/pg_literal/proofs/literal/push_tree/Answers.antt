@@ -38,7 +38,8 @@ returns-clause-adds g c = λ added.
     chosen.is_head c.args.literals.now.items c.push_row.new.literals.items in
     adds_row fold p c.nothing.result known c.nothing.ensures extends c.args.bounds _ chosen.is_enough
     chosen.is_head (chosen_serves c.args.bounds known chosen c.chosen-chosen.ensures) c.args.literals.now.items
-    c.push_row.new.literals.items (subst Out c.deref.ensures.value (c.in_ok-found-2.ensures added)) (λ text spells. absurd (none text spells))
+    c.push_row.new.literals.items (subst Out c.deref.ensures.value (c.in_ok-found-2.ensures added))
+    (λ text spells. absurd (none text spells))
     (λ text spells any. absurd (none text spells))
 
 pub returns-clause-fixed : goal.returns-clause-fixed

@@ -6,7 +6,8 @@ use Rattle.pg_literal.proofs.row.texts_of.Goals as goal
 pub loop-set-init : goal.loop-set-init
 loop-set-init g c =
     let P : List (List ℕ) → Type 0 = λ texts. AreProduct c.args.fold [] (map reverse texts) in
-    let one = ap (map items_of) (c.in_ok-push.ensures.items ∙ ap (λ ts. ts ++ c.new.result ∷ []) c.new-texts.ensures.items)
+    let one = ap (map items_of)
+    (c.in_ok-push.ensures.items ∙ ap (λ ts. ts ++ c.new.result ∷ []) c.new-texts.ensures.items)
     ∙ ap (λ t. t ∷ []) c.new.ensures.items in
     subst P (sym one) (product_none c.args.fold)
 
