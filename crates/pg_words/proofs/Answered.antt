@@ -1,16 +1,14 @@
 -- A parse gives what was asked, or refuses it.
-use Rattle.std.proofs.Common.{◌≡◌, ◌∙◌, ap, refl, sym, subst, true, false, true≢false, ℕ, Bool, List, [], ◌∷◌, Option}
+use Rattle.std.proofs.Common.{◌≡◌, ◌∙◌, ap, refl, sym, subst, true, false, true≢false, Bool, List, [], ◌∷◌, Option}
 use Rattle.std.proofs.Common.{Some, None}
-use Rattle.std.proofs.Common.{All, IsUtf8, ◌<◌, map, arith, length, zero, suc, codes, ◌⊎◌, inl, inr, ⊎_elim, String}
+use Rattle.std.proofs.Common.{All, IsUtf8, map, arith, zero, suc, codes, ◌⊎◌, ⊎_elim, String}
 use Rattle.std.proofs.Common.{Global}
-use Rattle.std.specs.Prelude.{unwrap_or, option_map}
+use Rattle.std.specs.Prelude.{unwrap_or}
 use Rattle.std.specs.String.{string_bytes}
 use Rattle.std.proofs.lemmas.Str.{IsUtf8-string_bytes}
 use Rattle.clap.specs.Faults.{fault_of}
-use Rattle.clap.specs.Lexer.{without_minus}
-use Rattle.clap.specs.Matches.{one_text}
 use Rattle.clap.specs.Simple.{matches_of}
-use Rattle.clap.specs.Walk.{Row, all_of, one_of, rows_of}
+use Rattle.clap.specs.Walk.{all_of, one_of, rows_of}
 use Rattle.clap.specs.declared.parser.matches.Found.{Found as Matches}
 use Rattle.clap.proofs.WalkLemmas.{one_text-rows, raw_values-rows}
 use Rattle.pg_words.specs.App.{our_app}
@@ -18,7 +16,7 @@ use Rattle.pg_words.specs.Asks.{asks_of}
 use Rattle.pg_words.specs.Found.{Flags, IsFound}
 use Rattle.pg_words.specs.Gives.{IsFault, IsRefusal}
 use Rattle.pg_words.specs.Joined.{asked, complete}
-use Rattle.pg_words.specs.Line.{Text, Use, Uses, fits, is_given, last_value, operands_of, table, values_of}
+use Rattle.pg_words.specs.Line.{Text, Use, Uses, is_given, table}
 use Rattle.pg_words.specs.declared.words.WordsFault.{WordsFault}
 use Rattle.pg_words.specs.declared.words.WordsFault.TheVariants as fault
 use Rattle.pg_words.proofs.Found.{IsRow, ascii_letters, end_rows, flag_named, letter_ids, name_ids, number_named}

@@ -1,12 +1,12 @@
 -- A joined word, by where its value stands.
-use Rattle.std.proofs.Common.{◌≡◌, ◌∙◌, ap, refl, sym, subst, true, false, not, ℕ, Bool, List, [], ◌∷◌, ◌++◌, Option}
+use Rattle.std.proofs.Common.{◌≡◌, ◌∙◌, ap, refl, sym, true, false, not, ℕ, Bool, List, [], ◌∷◌, ◌++◌, Option}
 use Rattle.std.proofs.Common.{Some, None}
-use Rattle.std.proofs.Common.{option_map, is_some, cond, ◌==◌, ◌+◌, ◌≤◌, ◌<◌, length, take, drop, arith, add-one}
+use Rattle.std.proofs.Common.{option_map, is_some, cond, ◌==◌, ◌+◌, ◌≤◌, ◌<◌, length, take, drop, arith}
 use Rattle.std.proofs.Common.{option_and_then, ne_eqb}
 use Rattle.std.proofs.Common.{suc, get_or}
 use Rattle.std.proofs.lemmas.List.Recursion.{is_position_or_len}
 use Rattle.pg_words.proofs.Ours.{ascii_letter}
-use Rattle.std.proofs.Common.{append-nil, append_assoc, map, eqb-true}
+use Rattle.std.proofs.Common.{append_assoc, eqb-true}
 use Rattle.std.specs.Prelude.{slice_index}
 use Rattle.std.specs.List.{position_or_len}
 use Rattle.std.specs.Option.{option_map_or}

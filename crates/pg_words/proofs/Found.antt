@@ -1,7 +1,7 @@
 -- What the getters read after a parse.
-use Rattle.std.proofs.Common.{◌≡◌, ◌∙◌, ap, ap₂, refl, sym, subst, true, false, true≢false, ℕ, Bool, List, [], ◌∷◌}
+use Rattle.std.proofs.Common.{◌≡◌, ◌∙◌, ap, refl, sym, subst, true, false, true≢false, ℕ, Bool, List, [], ◌∷◌}
 use Rattle.std.proofs.Common.{◌++◌, Option, Some}
-use Rattle.std.proofs.Common.{None, codes, fold, All, IsUtf8, ◌≤◌, ◌<◌, ◌⊎◌, inl, inr, arith, ⊎_elim, ◌==◌, cond}
+use Rattle.std.proofs.Common.{None, codes, fold, ◌≤◌, ◌<◌, ◌⊎◌, inl, inr, arith, ⊎_elim, ◌==◌, cond}
 use Rattle.std.proofs.Common.{ne_eqb, append-nil}
 use Rattle.std.proofs.Common.{append_assoc, find, ltb-true, nat_lt}
 use Rattle.std.specs.Prelude.{unwrap_or}

@@ -3,14 +3,14 @@ use Rattle.std.proofs.Common.{◌≡◌, ◌∙◌, ap, refl, sym, subst, true, 
 use Rattle.std.proofs.Common.{◌++◌, map}
 use Rattle.std.proofs.Common.{Option, Some, None, option_and_then, option_map, is_some, cond, ◌==◌, eqb-true}
 use Rattle.std.proofs.Common.{append_assoc, ◌||◌}
-use Rattle.std.proofs.Common.{arith, zero, suc, codes}
+use Rattle.std.proofs.Common.{arith, zero, suc}
 use Rattle.clap.proofs.CutLemmas.{Lacks}
 use Rattle.clap.proofs.LexerLemmas.{name_and_value-at, name_and_value-without}
 use Rattle.std.specs.List.{after_first}
 use Rattle.std.specs.Option.{option_map_or}
 use Rattle.clap.specs.Lexer.{long_of, long_of_rest, short_of, name_and_value, has_byte}
 use Rattle.clap.specs.Walk.{attached_value}
-use Rattle.pg_words.specs.Line.{Text, Opt, Use, Given, Operand, Uses, by_letter, by_name, fits, followed, has_value}
+use Rattle.pg_words.specs.Line.{Text, Opt, Use, Given, Operand, Uses, by_letter, by_name, followed, has_value}
 use Rattle.pg_words.specs.Line.{is_mark}
 use Rattle.pg_words.specs.Line.{Read, read_letter, read_letters, read_long, read_long_word, read_rest, read_short_word}
 use Rattle.pg_words.specs.Line.{read_value, read_word, then_uses, uses_from, valued, with_use}

@@ -1,7 +1,7 @@
 -- The number that a getter reads of a text in a range.
-use Rattle.std.proofs.Common.{◌≡◌, ◌∙◌, ap, refl, sym, subst, true, false, ℕ, Bool, List, [], ◌∷◌, Option, Some, None}
+use Rattle.std.proofs.Common.{◌≡◌, ◌∙◌, ap, refl, subst, true, false, ℕ, Bool, List, [], ◌∷◌, Option, Some, None}
 use Rattle.std.proofs.Common.{◌≤◌, ◌<◌}
-use Rattle.std.proofs.Common.{◌^◌, ◌==◌, cond, drop, arith, eqb-true, Result, Ok, Err}
+use Rattle.std.proofs.Common.{◌^◌, ◌==◌, cond, drop, arith, eqb-true, Result, Ok}
 use Rattle.std.specs.Prelude.{unwrap_or, option_map, pos}
 use Rattle.std.specs.Str.Parse.{IsNumeral, ParsesUnsigned, digits_value, starts_with_minus, without_leading_plus}
 use Rattle.std.specs.Str.Parse.{without_leading_sign}

@@ -1,5 +1,5 @@
 -- Our options: each is the only one of its name, and its letter is ASCII.
-use Rattle.std.proofs.Common.{◌≡◌, ap, refl, sym, true, false, true≢false, ◌∙◌, ℕ, Bool, ◌<◌, ◌≤◌, ◌⊎◌, inl, inr}
+use Rattle.std.proofs.Common.{◌≡◌, ap, refl, sym, true, false, true≢false, ◌∙◌, ℕ, ◌<◌, ◌≤◌, ◌⊎◌, inl, inr}
 use Rattle.pg_words.specs.Joined.{letter_takes_value, takes_value}
 use Rattle.pg_words.specs.Line.{table}
 use Rattle.pg_words.proofs.Found.{IsRow, ascii_letters}

@@ -1,6 +1,6 @@
 -- The rows of the code's table, by letter and by name.
 use Rattle.std.proofs.Common.{◌≡◌, ◌∙◌, ap, refl, sym, true, false, ℕ, Bool, List, [], ◌∷◌, map, Option, Some, None}
-use Rattle.std.proofs.Common.{◌++◌, ◌||◌, ◌==◌, cond, not, ap₂, ◌+◌, ◌<◌, drop, drop-cons, add-one, get_or, length}
+use Rattle.std.proofs.Common.{◌++◌, ◌||◌, not, ap₂, ◌+◌, ◌<◌, drop, drop-cons, add-one, get_or, length}
 use Rattle.std.proofs.Common.{append-nil, append_assoc}
 use Rattle.clap.proofs.WalkLemmas.{both}
 use Rattle.clap.proofs.SimpleLemmas.{is_false}
@@ -14,7 +14,7 @@ use Rattle.std.specs.List.{list_all}
 use Rattle.pg_words.specs.App.{app_of_rules, named_rule, rule_for, has_letter, has_name, has_value_behind, opts_of}
 use Rattle.pg_words.specs.App.{value_of}
 use Rattle.pg_words.specs.Joined.{takes_value}
-use Rattle.pg_words.specs.Line.{Text, Opt, by_letter, by_name}
+use Rattle.pg_words.specs.Line.{Text, by_letter, by_name}
 use Rattle.pg_words.specs.declared.command.OptionRow.{OptionRow}
 use Rattle.pg_words.specs.declared.command.Behind.{Behind}
 use Rattle.pg_words.specs.declared.command.Behind.TheVariants as behind

@@ -1,9 +1,9 @@
 -- A word whose option waits in vain for its value is refused.
-use Rattle.std.proofs.Common.{◌≡◌, ap, refl, sym, true, false, not, ℕ, Bool, List, [], ◌∷◌, Option, Some, None}
+use Rattle.std.proofs.Common.{◌≡◌, ap, refl, true, false, not, Bool, List, [], ◌∷◌, Option, Some, None}
 use Rattle.std.proofs.Common.{is_some, option_and_then, cond}
 use Rattle.clap.specs.Lexer.{long_of, short_of}
 use Rattle.clap.specs.Walk.{attached_value}
-use Rattle.pg_words.specs.Line.{Text, Opt, Given, Uses, by_letter, by_name, has_value, then_uses, valued}
+use Rattle.pg_words.specs.Line.{Text, Opt, Given, by_letter, by_name, has_value, then_uses, valued}
 use Rattle.pg_words.specs.Joined.{letter, letters, letters_wait, long, long_or_short_waits, long_waits, long_word}
 use Rattle.pg_words.specs.Joined.{short_waits, short_word, takes_value, waits, word}
 

@@ -1,5 +1,5 @@
 -- What reading gives, by what the words ask for.
-use Rattle.std.specs.Prelude.{◌≡◌, ℕ, ◌≤◌, List, Option, Some, Result, Ok, Err}
+use Rattle.std.specs.Prelude.{◌≡◌, ℕ, ◌≤◌, Some, Result, Ok, Err}
 use Rattle.pg_words.specs.Asked.{asked_of, pace_of}
 use Rattle.pg_words.specs.Asks.{Asks, AsksHelp, AsksSearch, AsksVersion, HasFault, IsRefused}
 use Rattle.pg_words.specs.Found.{value_behind}

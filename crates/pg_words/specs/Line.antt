@@ -2,7 +2,7 @@
 -- behind one hyphen (XBD 12.2, guideline 5), the value of an option is the rest of its word or else the next word,
 -- whatever that is (6 and 7), and `--` ends the options (10). As `getopt_long` has it, options may also stand behind
 -- operands, and each has a long name: `--name`, `--name value` or `--name=value`.
-use Rattle.std.specs.Prelude.{ℕ, ◌==◌, ◌||◌, Bool, true, false, if◌then◌else◌, List, [], ◌∷◌, ◌++◌, map, String}
+use Rattle.std.specs.Prelude.{ℕ, ◌==◌, ◌||◌, Bool, true, false, if◌then◌else◌, List, [], ◌∷◌, ◌++◌, map}
 use Rattle.std.specs.Prelude.{Option, Some, None, option_map, find, codes, pos, slice_get}
 use Rattle.std.specs.List.{list_any}
 use Rattle.std.specs.Option.{option_map_or}

@@ -4,7 +4,8 @@ ghost use Rattle.std.specs.Prelude.{◌+◌, false, slice_index, option_map, OnO
 ghost use Rattle.std.specs.List.{position_or_len};
 ghost use Rattle.std.specs.String.{string_bytes};
 ghost use Rattle.clap.specs.Lexer.{has_byte};
-ghost use Rattle.pg_words.specs.Joined.{asked, behind_text, complete, joined_from, joined_word, letter_takes_value, value_cut};
+ghost use Rattle.pg_words.specs.Joined.{asked, behind_text, complete, joined_from, joined_word};
+ghost use Rattle.pg_words.specs.Joined.{letter_takes_value, value_cut};
 ghost use Rattle.pg_words.specs.Joined.{waits, Free};
 ghost use Rattle.pg_words.specs.Places.{place_of};
 ghost use Rattle.pg_words.specs.Line.{by_letter, by_name, is_mark, table, uses_in};
@@ -15,7 +16,7 @@ use std::alloc::{AllocError, Global};
 /// The words of a command line without the program's name, each value of an option in the option's word, behind `=`:
 /// `-ve x` and `-vex` are the word `-ve=x`, and `--file x` is `--file=x`.
 ///
-/// So `clap` takes no value for an option, and where a value begins with `=`, it drops another one.
+/// So `clap` takes no value for an option, and drops no `=` with which a value begins.
 #[derive(Drop)]
 pub struct Words {
     parts: Vec<String>,

@@ -1,7 +1,6 @@
-use Rattle.std.proofs.Common.{◌≡◌, ◌∙◌, ◌≤◌, ap, arith, ℕ, Option}
+use Rattle.std.proofs.Common.{◌∙◌, ap, arith, ℕ, Option}
 use Rattle.std.specs.Prelude.{unwrap_or}
 use Rattle.clap.specs.Matches.{found_of}
-use Rattle.pg_words.specs.Asks.{number_in}
 use Rattle.pg_words.proofs.Numbers.{number_within}
 use Rattle.pg_words.proofs.matches.number_within.Goals as goal
 

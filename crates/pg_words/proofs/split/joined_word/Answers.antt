@@ -1,4 +1,4 @@
-use Rattle.std.proofs.Common.{◌∙◌, ap, sym, Some, None, List, ℕ, ◌++◌, ◌∷◌}
+use Rattle.std.proofs.Common.{◌∙◌, ap, sym, Some, None, List, ℕ, ◌++◌}
 use Rattle.std.specs.String.{string_bytes}
 use Rattle.std.proofs.lemmas.Result.{IfOk-weaker}
 use Rattle.pg_words.proofs.Cuts.{joined_cut}

@@ -1,4 +1,4 @@
-use Rattle.std.proofs.Common.{◌≡◌, ◌∙◌, ◌+◌, ◌<◌, ◌≤◌, ℕ, List, length, arith, subst, sym, ap, refl}
+use Rattle.std.proofs.Common.{◌≡◌, ◌+◌, ◌≤◌, ℕ, length, arith, subst, sym, refl}
 use Rattle.std.specs.Str.{IsCharBoundary}
 use Rattle.std.specs.List.{position_or_len}
 use Rattle.std.proofs.lemmas.Str.{IsCharBoundary-after_ascii}
