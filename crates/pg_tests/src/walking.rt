@@ -85,7 +85,7 @@ const ROWS: [Row; 5] = [
         passes: 9,
         answer: Err(Told),
         output: b"",
-        told: b"pargrep: pattern 1: unmatched group at 0\n",
+        told: b"pargrep: pattern 1: unmatched group at 1\n",
         listed: 0,
     },
     Row {
