@@ -26,5 +26,3 @@ mod run;
 mod sequencer;
 #[cfg(test)]
 mod sinks;
-#[cfg(test)]
-mod walking;
