@@ -352,6 +352,14 @@ def fault_of(case, program, folder, way, are_stopped=False):
     return None if statuses[-1] == case.status else f"status {statuses[-1]} in place of {case.status}"
 
 
+def take_terminal():
+    """Makes standard input the terminal of this process, whose keys send signals as they do at a login: who started the
+    tests in the background has them ignored."""
+    fcntl.ioctl(0, termios.TIOCSCTTY, 0)
+    for number in (signal.SIGHUP, signal.SIGINT, signal.SIGQUIT, signal.SIGTSTP, signal.SIGTTIN, signal.SIGTTOU):
+        signal.signal(number, signal.SIG_DFL)
+
+
 class Shell:
     """An interactive shell on a terminal of its own, by whose keys its jobs are stopped and ended."""
 
@@ -359,8 +367,7 @@ class Shell:
         self.keys, terminal = pty.openpty()
         words = ["bash", "--norc", "--noprofile", "--noediting", "-i"]
         streams = {"stdin": terminal, "stdout": terminal, "stderr": terminal}
-        take = lambda: fcntl.ioctl(0, termios.TIOCSCTTY, 0)  # noqa: E731
-        self.run = subprocess.Popen(words, env=ENVIRONMENT, start_new_session=True, preexec_fn=take, **streams)
+        self.run = subprocess.Popen(words, env=ENVIRONMENT, start_new_session=True, preexec_fn=take_terminal, **streams)
         os.close(terminal)
         self.output, self.lines = Output(self.keys), []
         self.type("PS1= PS2=; stty -echo -opost; echo rea''dy\n")
