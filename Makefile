@@ -12,7 +12,7 @@ INSTALL ?= install
 
 program = crates/pargrep/out/pargrep
 
-.PHONY: all help check rows check-grep check-workers check-parallel refuse bench bench-parts install uninstall dist deb \
+.PHONY: all help check rows check-grep check-workers check-parallel refuse bench install uninstall dist deb \
 	clean toolchain
 
 version := $(shell sed -n 's/^pub const VERSION: .*"pargrep \([0-9.]*\).*/\1/p' crates/pg_words/src/help.rt)
@@ -50,11 +50,6 @@ refuse: toolchain ## Try the wrong bodies under crates/*/refused, which the gate
 bench: all ## Time the program beside GNU grep, and ripgrep where there is one.
 	$(PYTHON) bench/bench.py $(program)
 	bench/memory.sh $(program)
-
-bench-parts: toolchain ## Time the automaton and the walk by themselves.
-	@cd crates/pg_bench && $(RT) run > /dev/null
-	bench/walk.sh crates/pg_bench/out/pg_bench
-	bench/patterns.sh crates/pg_bench/out/pg_bench
 
 install: ## Install what `make` has built, with its man page and completions. It proves nothing.
 	@test -x $(program) || { echo "pargrep: there is no $(program) yet: run make first" >&2; exit 1; }

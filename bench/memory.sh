@@ -4,7 +4,11 @@
 # Usage: bench/memory.sh PARGREP [MEGABYTES]
 # The file is lines of 60 bytes, of which one in 100 is selected. It is kept in a folder of its own that is removed at
 # the end. The memory is the largest resident set that the system tells of the process, which GNU time prints.
-. "$(dirname "$0")/lib.sh"
+set -eu
+export LC_ALL=C
+
+folder=$(mktemp -d)
+trap 'rm -rf "$folder"' EXIT
 
 pargrep=${1:?usage: bench/memory.sh PARGREP [MEGABYTES]}
 megabytes=${2:-1024}
