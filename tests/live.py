@@ -8,11 +8,13 @@ with 1 and with 4 workers. No time is measured: what doesn't come within LIMIT s
 
 The cases of STOPPED are run once more, and each program is stopped before each line is sent and goes on behind it. On a
 terminal of its own, with a shell's job control, a search is stopped by Ctrl-Z, goes on by `fg`, and is ended by Ctrl-C:
-no row is lost, and none comes twice.
+no row is lost, and none comes twice. And the system tells of each opening of a directory: a search lists one only where
+its listing matters.
 
 The program may be GNU grep, which is given `--line-buffered` and no workers. The last line is `N passed, M failed`.
 """
 
+import ctypes
 import errno
 import fcntl
 import os
@@ -113,6 +115,20 @@ CASES = [
 
 # Those that are run once more while each program is stopped and goes on.
 STOPPED = [case for case in CASES if case.words in ("x IN", "-n -C 1 x IN", "-c x IN", "-n x IN | -v y | -o [0-9]:x")]
+
+
+# Searches of the files and the tree, and whether they list the tree: not before the patterns are read, nor once a
+# selected line has settled what -q answers.
+LISTINGS = {
+    "-r x tree": True,
+    "-r -l x first tree": True,
+    "-r -E ( tree": False,
+    "-r -e x -f missing tree": False,
+    "-r -q x first tree": False,
+    "-m 0 -r x tree": False,
+}
+# The event of an opening, as Linux numbers it.
+IN_OPEN = 0x20
 
 
 class Missing(Exception):
@@ -429,6 +445,29 @@ def fault_of_keys(program):
     return None if "status 130" in shell.lines else f"it wasn't ended by the signal: {shell.lines[-3:]}"
 
 
+def fault_of_listing(words, is_listed, program, folder):
+    """What is not as it has to be where the openings of a directory are watched during a search."""
+    system = ctypes.CDLL(None, use_errno=True)
+    events = system.inotify_init1(os.O_NONBLOCK)
+    try:
+        if events < 0 or system.inotify_add_watch(events, os.fsencode(folder / "tree"), IN_OPEN) < 0:
+            return f"the folder can't be watched: {os.strerror(ctypes.get_errno())}"
+        streams = {"stdin": subprocess.DEVNULL, "stdout": subprocess.DEVNULL, "stderr": subprocess.DEVNULL}
+        command = [*program, *shlex.split(words)]
+        subprocess.run(command, cwd=folder, env=ENVIRONMENT, timeout=LIMIT, check=False, **streams)
+        try:
+            was_listed = bool(os.read(events, 1 << 16))
+        except BlockingIOError:
+            was_listed = False
+    except subprocess.TimeoutExpired:
+        return f"it has not ended after {LIMIT} seconds"
+    finally:
+        os.close(events)
+    if was_listed == is_listed:
+        return None
+    return "the tree was listed" if was_listed else "the tree was not listed"
+
+
 def options_of(program):
     """The options of each run, which stand in front: GNU grep knows no workers, and sends rows at once only if told."""
     told = subprocess.run([program, "--version"], env=ENVIRONMENT, capture_output=True, check=False).stdout
@@ -456,6 +495,8 @@ def main():
                 for case, kind, stopped in runs
             }
             found["Ctrl-Z, fg and Ctrl-C"] = fault_of_keys([program, *options])
+            for words, is_listed in LISTINGS.items():
+                found[f"listing: {words}"] = fault_of_listing(words, is_listed, [program, *options], folder)
             passed, failed = passed + len(found), failed + sum(fault is not None for fault in found.values())
             for what, fault in found.items():
                 if fault:
