@@ -44,8 +44,9 @@ class Case:
 
 
 def ripgrep_of(options):
-    """The same options for ripgrep, whose expressions are extended ones: without -E."""
-    words = [it.replace("E", "") if it.startswith("-") and not it.startswith("--") else it for it in options]
+    """The same options for ripgrep, whose expressions are extended ones: without -E, and without -a, which it has."""
+    letters = str.maketrans("", "", "Ea")
+    words = [it.translate(letters) if it.startswith("-") and not it.startswith("--") else it for it in options]
     return [it for it in words if it != "-"]
 
 
