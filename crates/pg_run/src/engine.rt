@@ -26,6 +26,9 @@ const LEAST_SPREAD: usize = 1_048_576;
 /// Shorter texts stand in many lines.
 const RARE: usize = 2;
 
+/// So many bytes are held in reserve while blocks wait for their round.
+const RESERVE: usize = 524_288;
+
 /// Searches the blocks of files, and has a sequencer put their rows in order.
 ///
 /// A block is searched at once, or waits until its round is searched by several threads.
@@ -48,6 +51,8 @@ pub(crate) struct Engine<A: Allocator + Copy = Global> {
     sequencer: Sequencer<A>,
     /// The memory of a block that is done with.
     spare: Option<Vec<u8, A>>,
+    /// Memory that blocks don't take while they wait. It is given back when they are searched, which needs some too.
+    reserve: Option<Vec<u8, A>>,
     ghost fits: { Fits scratch (arc_value query).machine },
     ghost all_fit: { All (λ s. Fits s (arc_value query).machine) scratches.items },
     ghost few_scratches: { length scratches.items ≤ 65 },
@@ -70,6 +75,7 @@ impl<A: Allocator + Copy> Drop for Engine<A> {
             round: _,
             sequencer: _,
             spare: _,
+            reserve: _,
         } = self;
     }
 }
@@ -180,6 +186,7 @@ impl<A: Allocator + Copy> Engine<A> {
             round: Vec::new(alloc),
             sequencer,
             spare: None,
+            reserve: None,
         })
     }
 
@@ -215,6 +222,9 @@ impl<A: Allocator + Copy> Engine<A> {
             IsReady self.old aim steps out (Announces block) →
             OnOk result (Holds self.new aim (Announces block ∷ steps) out) }
     {
+        if self.reserve.is_none() {
+            self.reserve = Vec::with_capacity(self.alloc, RESERVE).ok();
+        }
         let block = Arc::new(self.alloc, block)?;
         self.sequencer.announce(Arc::try_clone(&block)?)?;
         self.round.push(block)?;
@@ -442,6 +452,7 @@ impl<A: Allocator + Copy + Send + Sync> Engine<A> {
             Holds self.old aim steps (stream (W.taken out.old) (W.failures out.old)) →
             IfErr result (Broke aim steps (stream (W.taken out.new) (W.failures out.new))) }
     {
+        self.reserve = None;
         let bytes = self.waiting();
         let workers = self.workers(bytes);
         let begun = time(rt);

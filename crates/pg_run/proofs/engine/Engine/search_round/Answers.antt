@@ -54,7 +54,17 @@ search_round-requires-clause-fits g c κs within = λ k d below.
     c.in_ok-equip.ensures.fits k d below ∙ ap (λ q. q.machine) c.deref.ensures
 
 pub invariant_of-self : goal.invariant_of-self
-invariant_of-self g c =
+invariant_of-self g c = let engine = c.args.self.now in record {
+  fits = engine.fits;
+  all_fit = engine.all_fit;
+  few_scratches = engine.few_scratches;
+  endless = engine.endless;
+  at_once = engine.at_once;
+  few = engine.few;
+}
+
+pub invariant_of-self-in-Break-1 : goal.invariant_of-self-in-Break-1
+invariant_of-self-in-Break-1 g c =
     let engine = c.args.self.now in
     let none = ap (λ v. v.items) c.replace-scratches.ensures.after ∙ c.new.ensures.items in
     record {
