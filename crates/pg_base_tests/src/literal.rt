@@ -8,7 +8,7 @@ use std::process::Abort;
 
 /// Bounds, with `fold-` before them where case is folded, extended expressions, which `;` parts, and their literals,
 /// with `only:` before those where each line that holds them has a hit.
-const LITERALS: [&str; 5] = [
+const LITERALS: [&str; 7] = [
     r"any foo => only:foo
 whole foo => foo
 word foo => foo
@@ -38,14 +38,14 @@ any foo|bar => only:bar;only:foo",
 any (foo|bar)-baz(x|y) => -baz
 any ab.*cd => ab
 any ab.*cde => cde
-any a.b => a
+any a.b => b
 any . => none
 any %00%FF => only:%00%FF
 any (a(b(c)d)e) => only:abcde
 any (ab)(cd*) => only:abc
 any ((a|b)cd)+ => cd
 any (x*ab)cd => only:abcd
-any a++++b => a
+any a++++b => b
 any a{0}b => only:b
 any ab.cd.ef => ab
 any a.cd.ef => cd
@@ -74,7 +74,7 @@ fold-any [k]ey|[kK] => only:k;only:key
 fold-any [kK]ey[a-b] => key
 fold-any x.*NEEDLE => needle
 fold-any (Ab)+[^c]D => ab
-any [kK]ey => ey
+any [kK]ey => only:Key;only:key
 any foo;bar => only:foo;only:bar
 whole foo;bar => foo;bar
 word foo;bar => foo;bar",
@@ -106,9 +106,40 @@ whole [Ff]o;b;c;d;e;f;g;h;i => Fo;fo;b;c;d;e;f;g;h;i
 fold-any [Ff]o;b;c;d;e;f;g;h;i => only:fo;only:b;only:c;only:d;only:e;only:f;only:g;only:h;only:i
 fold-any [xY]o+z;b;c;d;e;f;g;h;i => xo;yo;only:b;only:c;only:d;only:e;only:f;only:g;only:h;only:i
 any w[01]+x;b;c;d;e;f;g;h;i => w0;w1;only:b;only:c;only:d;only:e;only:f;only:g;only:h;only:i
-word aa[0-3][0-7]zzz.y;b;c;d;e;f;g;h;i => 0zzz;1zzz;2zzz;3zzz;4zzz;5zzz;6zzz;7zzz;b;c;d;e;f;g;h;i
+word aa[0-3][0-7]zzz.y;b;c;d;e;f;g;h;i => zzz;b;c;d;e;f;g;h;i
 any [a-z];b;c;d;e;f;g;h;i => none
 any .*[01];b;c;d;e;f;g;h;i => none",
+    r"any [1-3][7-9][24]5 => only:1725;only:2725;only:3725;only:1825;only:2825;only:3825;only:1925;only:2925;only:3925;only:1745;only:2745;only:3745;only:1845;only:2845;only:3845;only:1945;only:2945;only:3945
+any [wn][aeiou]t => only:nat;only:wat;only:net;only:wet;only:nit;only:wit;only:not;only:wot;only:nut;only:wut
+word [wn][aeiou]t => nat;wat;net;wet;nit;wit;not;wot;nut;wut
+any [0-3][0-3]:[0-3][0-3] => 00:;10:;20:;30:;01:;11:;21:;31:;02:;12:;22:;32:;03:;13:;23:;33:
+any gr[ae]y => only:gray;only:grey
+any abcd[0-9] => abcd
+any [a-z]q => q
+any [0-9] => none
+fold-any [kK]ez => only:kez
+fold-any T[AB]Z[0-9]+q => taz;tbz
+any ab.*zq => zq
+any a{200}b => b",
+    r"any [0-9]{3}-[a-z]+(foo|bar) => bar;foo
+word [0-9]+(foo|bar) => bar;foo
+whole [0-9]+(foo|bar) => bar;foo
+fold-any [0-9]+(Foo|BAR) => bar;foo
+any a.*(foo|bar) => bar;foo
+any abc(foo|bar) => abc
+any (foo|bar)+ => bar;foo
+any ^(foo|bar)$ => bar;foo
+any x(foo|bar)(baz|quux) => quux;baz
+any a((b(foo|bar))c) => bar;foo
+any (x(foo|bar)y|baz)+ => baz;x
+any (x(foo|bar)){2,3} => bar;foo
+word z(foo|bar){0,3} => z
+word z(foo|bar)? => z
+word (foo|bar|x{0})x => x
+word (foo|a*)x => x
+word (foo|[^a])x => x
+any x(foo|bar);b;c;d;e;f;g;h;i => bar;foo;only:b;only:c;only:d;only:e;only:f;only:g;only:h;only:i
+any x(foo|bar);a[0-9];zoo => bar;foo;only:a0;only:a1;only:a2;only:a3;only:a4;only:a5;only:a6;only:a7;only:a8;only:a9;only:zoo",
 ];
 
 /// The tree of an expression.

@@ -19,7 +19,7 @@ use Rattle.pg_literal.specs.Known.{head_of, sets_of, HasRows, IsSureAt, MatchesE
 use Rattle.pg_literal.specs.declared.known.Known.{Known}
 
 -- spans that go forward do so one behind the other too
-chain_forward : (Span : ℕ → ℕ → Type 0) → ((i j : ℕ) → Span i j → i ≤ j) → (count i j : ℕ) → Chain Span count i j
+pub chain_forward : (Span : ℕ → ℕ → Type 0) → ((i j : ℕ) → Span i j → i ≤ j) → (count i j : ℕ) → Chain Span count i j
     → i ≤ j
 chain_forward Span forward zero i j e = omega arith
 chain_forward Span forward (suc count) i j c =
@@ -94,6 +94,20 @@ begin_unspelled fold text spells = shape spells
 pub end_unspelled : (fold : Bool) (text : List ℕ) → Spells Fixed fold text End → ⊥
 unfolding Shape
 end_unspelled fold text spells = shape spells
+
+-- nor a repetition
+pub rep_unspelled : (fold : Bool) (p : Pattern) (least : ℕ) (most : Option ℕ) (text : List ℕ)
+    → Spells Fixed fold text (Rep p least most) → ⊥
+unfolding Shape
+rep_unspelled fold p least most text spells = shape spells
+
+-- fixed strings spell the two parts of what one spells
+pub cat_spelled : (fold : Bool) (p q : Pattern) (text : List ℕ) → Spells Fixed fold text (Cat p q)
+    → ((part : List ℕ) × Spells Fixed fold part p) × ((part : List ℕ) × Spells Fixed fold part q)
+unfolding Shape
+cat_spelled fold p q text spells =
+    let is = shape spells in
+    ((is.0, is.2), (is.1 ∷ [], is.3))
 
 module _ {A : Type 0} (fold : Bool) where
   -- the empty pattern

@@ -1,4 +1,5 @@
 pub mod FoldLemmas
+pub mod InnerLemmas
 pub mod KnownLemmas
 pub mod LiteralLemmas
 pub mod RowLemmas

@@ -41,7 +41,7 @@ the_only p q zero less is = sym is
 the_only p q (suc k) less is = absurd (omega arith)
 
 -- the pattern of a hit of one alone
-alone_matched : (p : Pattern) (bounds : Bounds) (line : List ℕ) (i j : ℕ) → Hit (p ∷ []) bounds line i j
+pub alone_matched : (p : Pattern) (bounds : Bounds) (line : List ℕ) (i j : ℕ) → Hit (p ∷ []) bounds line i j
     → Match p line i j
 alone_matched p bounds line i j hit =
     let m = hit.matched in
@@ -59,7 +59,7 @@ with_pattern ps qs q bounds line i j hit among m = record {
 }
 
 -- the list of one has its element
-in_one : {X : Type 0} (x : X) → Contains (x ∷ []) x
+pub in_one : {X : Type 0} (x : X) → Contains (x ∷ []) x
 in_one x = (0, omega arith, refl)
 
 -- a line with a hit has one of some pattern alone

@@ -2,3 +2,4 @@ pub mod Literals
 pub mod Rows
 pub mod Known
 pub mod Added
+pub mod Inner

@@ -8,7 +8,7 @@ ghost use Rattle.pg_literal.specs.Rows.{AreProduct};
 ghost use Rattle.pg_literal.specs.Known.{head_of, sets_of, IsNothing, Extends, Hides, HidesOthers, MatchesEmpty};
 ghost use Rattle.pg_literal.specs.Known.{IsChosen};
 
-use crate::row::{Expansion, Window, only_text, widest};
+use crate::row::{Expansion, Window, Worth, only_text, widest, widest_or_whole};
 use pg_bytes::ByteSet;
 use pg_match::Bounds;
 use pg_syntax::Tree;
@@ -21,10 +21,10 @@ use std::alloc::{AllocError, Allocator};
 pub(crate) struct Known<A: Allocator> {
     /// Each match begins with a byte of each of these sets, one behind the other.
     pub head: Vec<ByteSet, A>,
-    /// Bytes of these sets stand so in each match: the row with the widest part found further right.
+    /// Bytes of these sets stand so in each match: the row with the best part found further right.
     pub best: Vec<ByteSet, A>,
-    /// How many sets that part has.
-    pub best_width: usize,
+    /// How well that part serves.
+    pub best_worth: Worth,
     /// Wherever the head stands, a match begins.
     pub is_sure: bool,
     /// Wherever the other row stands, a match begins.
@@ -51,7 +51,7 @@ impl<A: Allocator + Copy> Known<A> {
         Known {
             head: Vec::new(alloc),
             best: Vec::new(alloc),
-            best_width: 0,
+            best_worth: Worth::nothing(),
             is_sure: true,
             is_best_sure: false,
         }
@@ -82,12 +82,12 @@ impl<A: Allocator + Copy> Known<A> {
         ensures { Hides is_optional self result }
     {
         let is_sure = is_optional && self.is_sure && self.head.is_empty();
-        let width = widest(&self.head, expansion).len();
-        if width < self.best_width {
+        let worth = widest(&self.head, expansion).worth;
+        if worth.is_below(self.best_worth) {
             Known {
                 head: Vec::new(alloc),
                 best: self.best,
-                best_width: self.best_width,
+                best_worth: self.best_worth,
                 is_sure,
                 is_best_sure: is_optional && self.is_best_sure,
             }
@@ -95,7 +95,7 @@ impl<A: Allocator + Copy> Known<A> {
             Known {
                 head: Vec::new(alloc),
                 best: self.head,
-                best_width: width,
+                best_worth: worth,
                 is_sure,
                 is_best_sure: is_optional && self.is_sure,
             }
@@ -135,13 +135,13 @@ impl<A: Allocator + Copy> Known<A> {
         Ok(text)
     }
 
-    /// The part of a row that serves best: a whole row that is sure, else the wider one of the widest parts of both.
+    /// The part of a row that serves best: a whole row that is sure, else the better one of the best parts of both.
     pub fn chosen(self, bounds: Bounds, expansion: Expansion) -> Chosen<A>
         ensures { IsChosen bounds self result }
     {
         let is_any = bounds == Bounds::Any;
-        let head = widest(&self.head, expansion);
-        let best = widest(&self.best, expansion);
+        let head = widest_or_whole(&self.head, expansion, is_any && self.is_sure);
+        let best = widest_or_whole(&self.best, expansion, is_any && self.is_best_sure);
         let is_head = head.start < head.stop && head.stop == self.head.len();
         if is_any && self.is_sure && head.len() == self.head.len() {
             Chosen {
@@ -157,7 +157,7 @@ impl<A: Allocator + Copy> Known<A> {
                 is_enough: true,
                 is_head: false,
             }
-        } else if best.len() <= head.len() {
+        } else if !head.worth.is_below(best.worth) {
             Chosen {
                 row: self.head,
                 window: head,

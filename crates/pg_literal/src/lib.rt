@@ -5,6 +5,8 @@
 //! is nothing but that text, it isn't asked at all.
 #![tactic(auto)]
 
+mod cost;
+mod inner;
 mod known;
 mod literal;
 mod row;

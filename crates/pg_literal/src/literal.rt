@@ -1,6 +1,6 @@
 //! The texts of which each line with a hit holds one.
 ghost use Rattle.std.specs.Prelude.{◌≡◌, ◌⊎◌, ◌<◌, ◌≤◌, ◌++◌, ◌∷◌, ℕ, Bool, List, [], length, map, reverse, true};
-ghost use Rattle.std.specs.Prelude.{IsTrue, IfOk, IfErr, OnOk};
+ghost use Rattle.std.specs.Prelude.{IsTrue, IfOk, IfErr, IfSome, IsSome, OnOk};
 ghost use Rattle.std.specs.List.{All, AllZip};
 ghost use Rattle.pg_syntax.specs.Grammar.{Spells};
 ghost use Rattle.pg_syntax.specs.Trees.{pattern};
@@ -10,6 +10,8 @@ ghost use Rattle.pg_literal.specs.Literals.{as_searched, AreNeeded, AreHeads, Ar
 ghost use Rattle.pg_literal.specs.Rows.{row_of, AreProduct, Multiplies};
 ghost use Rattle.pg_literal.specs.Added.{Adds, AddsOnly};
 
+use crate::cost::{FEW, finding_cost, passing_cost};
+use crate::inner::inner_of;
 use crate::known::{Known, with_tree};
 use crate::row::{Expansion, texts_of};
 use pg_bytes::ByteSet;
@@ -17,10 +19,13 @@ use pg_match::Bounds;
 use pg_syntax::Tree;
 use std::alloc::{AllocError, Allocator, Global};
 
-/// Up to so many texts are best looked for one by one: the fewer there are, the better.
-const FEW: usize = 8;
+/// Texts of so many bytes are long enough where there are at most 8.
+const PLENTY: usize = 3;
 
-/// Where there are more, a tree or alternative may give so many texts.
+/// Up to 8 trees or alternatives may give so many texts together.
+const MOST_OF_FEW: usize = 128;
+
+/// Where there are more, each may give so many.
 const MOST_OF_ONE: usize = 16;
 
 /// Trees and alternatives give no more texts together, unless there are more of them.
@@ -42,10 +47,13 @@ impl<A: Allocator + Copy> Literal<A> {
     /// found there is none, which tells nothing.
     ///
     /// With `fold` the case of letters is folded, as it was for the trees. Each tree gives one text, and each
-    /// alternative of a tree that is an alternation. Where that makes more than 8 that aren't all enough, each may give
-    /// up to 16 texts, for which sets of a few bytes are multiplied out: `gr[ae]y` gives `gray` and `grey`, where else
-    /// it gives `gr`. The trees of plain fixed strings give those strings, in their order; where the bounds aren't
-    /// `Any` and one string is empty, there are none. A refused request for memory is the only error.
+    /// alternative of a tree that is an alternation. Where those are more than 8 or some have fewer than 3 bytes, and
+    /// not all are enough, others are taken if they cost less to look for. For these, sets of a few bytes are
+    /// multiplied out: `gr[ae]y` gives `gray` and `grey`, where else it gives `gr`. Each of more than 8 trees or
+    /// alternatives gives up to 16 texts, and fewer give up to 128 together. Or a tree gives the texts of an
+    /// alternation within it that each match passes: `[0-9]+-(foo|bar)` gives `foo` and `bar`, where else it gives `-`.
+    /// The trees of plain fixed strings give those strings, in their order; where the bounds aren't `Any` and one
+    /// string is empty, there are none. A refused request for memory is the only error.
     pub fn of(
         alloc: A,
         trees: &[Tree<A>],
@@ -65,16 +73,64 @@ impl<A: Allocator + Copy> Literal<A> {
             → AllZip (Spells Fixed fold) texts (map pattern trees.now) → bounds ≡ Any
             → AreTexts (map (as_searched fold) texts) literals.items) }
     {
-        let literals = literals_of(alloc, trees, bounds, Expansion { fold, most: 1 })?;
-        let most = MOST_OF_ONE.min(MOST / literals.len().max(1));
-        // Where each is enough, longer ones would save nothing.
-        let are_enough = literals.iter().all(|literal| literal.is_enough);
-        if literals.len() <= FEW || most <= 1 || are_enough {
+        let literals = literals_of(alloc, trees, bounds, single(fold))?;
+        let expansion = wider(fold, trees.len().max(literals.len()));
+        if expansion.most <= 1 || are_good(&literals) {
             return Ok(literals);
         }
-        let literals = literals_of(alloc, trees, bounds, Expansion { fold, most })?;
-        Ok(literals)
+        let others = literals_of(alloc, trees, bounds, expansion)?;
+        if cost_of(&others) < cost_of(&literals) {
+            Ok(others)
+        } else {
+            Ok(literals)
+        }
     }
+}
+
+/// Each row becomes one text.
+pub(crate) fn single(fold: bool) -> Expansion
+    ensures { result.fold ≡ fold }
+{
+    Expansion {
+        fold,
+        most: 1,
+        plenty: usize::MAX,
+    }
+}
+
+/// Rows of so many trees or alternatives may become several texts.
+fn wider(fold: bool, count: usize) -> Expansion
+    ensures { result.fold ≡ fold }
+{
+    if count <= FEW {
+        Expansion {
+            fold,
+            most: MOST_OF_FEW / count.max(1),
+            plenty: PLENTY,
+        }
+    } else {
+        Expansion {
+            fold,
+            most: MOST_OF_ONE.min(MOST / count),
+            plenty: usize::MAX,
+        }
+    }
+}
+
+/// Whether no better texts are looked for: there are some, and they are all enough, or few and long enough.
+fn are_good<A: Allocator>(literals: &[Literal<A>]) -> bool {
+    let are_enough = literals.iter().all(|literal| literal.is_enough);
+    let are_long = literals.iter().all(|literal| literal.text.len() >= PLENTY);
+    !literals.is_empty() && (are_enough || are_long && literals.len() <= FEW)
+}
+
+/// What it costs to look for texts.
+pub(crate) fn cost_of<A: Allocator>(literals: &[Literal<A>]) -> usize {
+    let mut cost = passing_cost(literals.len());
+    for literal in literals {
+        cost = cost.saturating_add(finding_cost(&literal.text, literal.is_enough));
+    }
+    cost
 }
 
 /// The same, of which each tree gives so many texts as its rows may become, and each alternative.
@@ -100,18 +156,42 @@ fn literals_of<A: Allocator + Copy>(
 {
     let mut literals = Vec::new(alloc);
     for tree in trees {
-        let found = push_literals(alloc, tree, bounds, expansion, &mut literals)?;
-        if !found {
+        let Some(mut own) = literals_of_tree(alloc, tree, bounds, expansion)? else {
             return Ok(Vec::new(alloc));
-        }
+        };
+        literals.append(&mut own)?;
     }
     Ok(literals)
+}
+
+/// The literals of a tree, where it has some: its own, or those of an alternation within it where they cost less. Where
+/// a row becomes but one text, no alternation is looked for.
+fn literals_of_tree<A: Allocator + Copy>(
+    alloc: A,
+    tree: &Tree<A>,
+    bounds: Bounds,
+    expansion: Expansion,
+) -> Result<Option<Vec<Literal<A>, A>>, AllocError>
+    ensures adds { IfOk result (λ found. IfSome found
+        (λ own. Adds expansion.fold bounds (pattern tree.now) [] own.items)) }
+    ensures fixed { (text : List ℕ) → Spells Fixed expansion.fold text (pattern tree.now) → bounds ≡ Any
+        → IfOk result IsSome }
+{
+    let mut own = Vec::new(alloc);
+    let found = push_literals(alloc, tree, bounds, expansion, &mut own)?;
+    if expansion.most > 1 && !(found && are_good(&own)) {
+        let inner = inner_of(alloc, tree, expansion.fold, Vec::new(alloc))?;
+        if !inner.is_empty() && !(found && cost_of(&own) <= cost_of(&inner)) {
+            return Ok(Some(inner));
+        }
+    }
+    if found { Ok(Some(own)) } else { Ok(None) }
 }
 
 /// Adds the literals of a tree's alternatives, the last one first. Where one of them has none, the answer is false.
 ///
 /// The left spine of an alternation may be as long as a text, so a loop walks it.
-fn push_literals<A: Allocator + Copy>(
+pub(crate) fn push_literals<A: Allocator + Copy>(
     alloc: A,
     tree: &Tree<A>,
     bounds: Bounds,

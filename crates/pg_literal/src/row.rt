@@ -1,6 +1,6 @@
 //! Rows of sets of bytes, and the texts that they are multiplied out into. Rows and texts lie backwards here.
-ghost use Rattle.std.specs.Prelude.{◌≡◌, ◌≤◌, ◌-◌, ◌++◌, ℕ, List, [], ◌∷◌, length, map, true, reverse, IfOk, IfSome};
-ghost use Rattle.std.specs.Prelude.{MatchOption};
+ghost use Rattle.std.specs.Prelude.{◌≡◌, ◌<◌, ◌≤◌, ◌+◌, ◌-◌, ◌^◌, ◌++◌, ℕ, List, [], ◌∷◌, length, map, true, reverse};
+ghost use Rattle.std.specs.Prelude.{MatchOption, IfOk, IfSome};
 ghost use Rattle.std.specs.Prelude.{IsTrue, IsSomeAnd, OnOk, nat_eq, ◌&&◌, if◌then◌else◌};
 ghost use Rattle.std.specs.List.{flat_map};
 ghost use Rattle.pg_bytes.specs.ByteSets.{bytes};
@@ -8,6 +8,7 @@ ghost use Rattle.pg_literal.specs.Literals.{as_searched};
 ghost use Rattle.pg_literal.specs.Rows.{items_of, byte_as_searched, row_of, IsAlone, AreChoices, AreProduct};
 ghost use Rattle.pg_literal.specs.Known.{sets_of};
 
+use crate::cost::{RAREST, rarity_of};
 use pg_bytes::ByteSet;
 use std::alloc::{AllocError, Allocator};
 
@@ -18,6 +19,41 @@ pub(crate) struct Expansion {
     pub fold: bool,
     /// A row becomes at most so many texts.
     pub most: usize,
+    /// A part of so many sets is wide enough: no wider one becomes several texts.
+    pub plenty: usize,
+}
+
+/// How well a part of a row serves.
+#[derive(Clone, Copy)]
+pub(crate) struct Worth {
+    /// How many sets it has.
+    width: usize,
+    /// How many texts it becomes.
+    texts: usize,
+    /// How rare these are: the sum of the rarities of the commonest byte of each set.
+    rarity: usize,
+}
+
+impl Worth {
+    /// The worth of no set.
+    pub fn nothing() -> Worth {
+        Worth {
+            width: 0,
+            texts: 1,
+            rarity: 0,
+        }
+    }
+
+    /// Whether another part serves better: the wider one, else the one that becomes fewer texts, else the rarer one.
+    pub fn is_below(self, other: Worth) -> bool {
+        if self.width != other.width {
+            self.width < other.width
+        } else if self.texts != other.texts {
+            self.texts > other.texts
+        } else {
+            self.rarity < other.rarity
+        }
+    }
 }
 
 /// A part of a row.
@@ -25,6 +61,7 @@ pub(crate) struct Expansion {
 pub(crate) struct Window {
     pub start: usize,
     pub stop: usize,
+    pub worth: Worth,
 }
 
 impl Window {
@@ -73,51 +110,122 @@ fn only_byte(set: &ByteSet, fold: bool) -> Option<u8>
     Some(byte)
 }
 
-/// How many bytes those of a set are searched for as, if it has all cases of its letters.
-fn count_of(set: &ByteSet, fold: bool) -> usize {
+/// How many bytes those of a set are searched for as, if it has all cases of its letters, and the rarity of the
+/// commonest of them.
+#[derive(Clone, Copy)]
+struct Weight {
+    count: usize,
+    rarity: usize,
+}
+
+/// The weight of a set. One without a byte that is searched for counts as if it had one.
+fn weight_of(set: &ByteSet, fold: bool) -> Weight {
     let mut count: usize = 0;
+    let mut rarity: usize = RAREST;
     for byte in 0..=u8::MAX {
         if set.contains(byte) && as_searched(byte, fold) == byte {
             count = count.saturating_add(1);
+            rarity = rarity.min(rarity_of(byte));
         }
     }
-    count
+    Weight {
+        count: count.max(1),
+        rarity,
+    }
 }
 
-/// The widest part of a row that becomes at most so many texts as are allowed; of several the last one in the row,
-/// which is the first one in a line.
-///
-/// Where a further set makes too many, the part begins anew behind the last set of several bytes.
+/// How many texts a row becomes.
+fn texts_in(row: &[ByteSet], fold: bool) -> usize {
+    let mut texts: usize = 1;
+    for set in row {
+        texts = texts.saturating_mul(weight_of(set, fold).count);
+    }
+    texts
+}
+
+/// The part with one more set behind it.
+fn with_next(part: Window, set: &ByteSet, expansion: Expansion) -> Window
+    requires { part.stop < 2 ^ 64 - 1 }
+    ensures { (result.start ≡ part.start) × (result.stop ≡ part.stop + 1) }
+{
+    let weight = weight_of(set, expansion.fold);
+    Window {
+        start: part.start,
+        stop: part.stop + 1,
+        worth: Worth {
+            width: part.worth.width.saturating_add(1),
+            texts: part.worth.texts.saturating_mul(weight.count),
+            rarity: part.worth.rarity.saturating_add(weight.rarity),
+        },
+    }
+}
+
+/// The part without its first set.
+fn without_first(part: Window, set: &ByteSet, expansion: Expansion) -> Window
+    requires { part.start < part.stop }
+    ensures { (result.start ≡ part.start + 1) × (result.stop ≡ part.stop) }
+{
+    let weight = weight_of(set, expansion.fold);
+    Window {
+        start: part.start + 1,
+        stop: part.stop,
+        worth: Worth {
+            width: part.worth.width.saturating_sub(1),
+            texts: part.worth.texts / weight.count.max(1),
+            rarity: part.worth.rarity.saturating_sub(weight.rarity),
+        },
+    }
+}
+
+/// What is left of a part as its first sets are left out, until it becomes as few texts as are allowed.
+fn narrowed(row: &[ByteSet], part: Window, expansion: Expansion) -> Window
+    requires { (part.start ≤ part.stop) × (part.stop ≤ length row.now) }
+    ensures { (result.start ≤ result.stop) × (result.stop ≡ part.stop) }
+{
+    let mut part = part;
+    while part.start < part.stop
+        && (part.worth.texts > expansion.most
+            || part.worth.texts > 1 && part.worth.width > expansion.plenty)
+    {
+        part = without_first(part, &row[part.start], expansion);
+    }
+    part
+}
+
+/// The part of a row that serves best, of those that become at most so many texts as are allowed; of several that serve
+/// alike the last one in the row, which is the first one in a line.
 pub(crate) fn widest(row: &[ByteSet], expansion: Expansion) -> Window
     ensures ordered { result.start ≤ result.stop }
     ensures within { result.stop ≤ length row.now }
 {
-    let mut widest = Window { start: 0, stop: 0 };
-    let mut start = 0;
-    let mut behind_several = 0;
-    let mut texts: usize = 1;
-    for (index, set) in row.iter().enumerate() {
-        let count = count_of(set, expansion.fold);
-        texts = texts.saturating_mul(count);
-        if texts > expansion.most {
-            start = behind_several;
-            texts = count;
-        }
-        if count > 1 {
-            behind_several = index + 1;
-        }
-        if count > expansion.most {
-            start = index + 1;
-            texts = 1;
-        }
-        if widest.len() <= index + 1 - start {
-            widest = Window {
-                start,
-                stop: index + 1,
-            };
+    let mut widest = Window {
+        start: 0,
+        stop: 0,
+        worth: Worth::nothing(),
+    };
+    let mut part = widest;
+    for set in row {
+        part = narrowed(row, with_next(part, set, expansion), expansion);
+        if !part.worth.is_below(widest.worth) {
+            widest = part;
         }
     }
     widest
+}
+
+/// The same, or the whole row where that is wanted and becomes so few texts.
+pub(crate) fn widest_or_whole(row: &[ByteSet], expansion: Expansion, is_wanted: bool) -> Window
+    ensures ordered { result.start ≤ result.stop }
+    ensures within { result.stop ≤ length row.now }
+{
+    if is_wanted && texts_in(row, expansion.fold) <= expansion.most {
+        return Window {
+            start: 0,
+            stop: row.len(),
+            worth: Worth::nothing(),
+        };
+    }
+    widest(row, expansion)
 }
 
 /// The one text that a row becomes, where each of its sets is searched for as one byte.

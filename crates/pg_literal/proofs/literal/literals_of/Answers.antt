@@ -1,24 +1,24 @@
 use Rattle.std.proofs.Common.{◌≡◌, ◌<◌, ℕ, List, [], length, get_or, map, subst, arith, rules}
-use Rattle.std.proofs.lemmas.Result.{IfOk-from_err}
 use Rattle.std.proofs.lemmas.List.{length-map, take_all}
 use Rattle.pg_syntax.specs.Trees.{pattern}
 use Rattle.pg_literal.specs.Literals.{as_searched, AreTexts}
 use Rattle.pg_literal.proofs.LiteralLemmas.{hit_alone, hit_alone_at, pattern_among, text_spells, zip_length}
 use Rattle.pg_literal.proofs.LiteralLemmas.{needed_more, heads_more, enough_more, exact_more, texts_more}
+use Rattle.pg_literal.proofs.InnerLemmas.{adds_behind}
 use Rattle.pg_literal.proofs.literal.literals_of.Goals as goal
 
-pub returns-then-not-found-clause-fixed : goal.returns-then-not-found-clause-fixed
-returns-then-not-found-clause-fixed g c = λ texts spelled any.
+pub returns-in_default-clause-fixed : goal.returns-in_default-clause-fixed
+returns-in_default-clause-fixed g c = λ texts spelled any.
     let trees = c.args.trees.now in
     let ps = map pattern trees in
     let i = c.loop-tree.tree-index in
     let tree = c.tree-item.result in
     let below : i < length ps = omega (arith, length-map trees (pattern {A = g.row.A.Denot})) in
     let at = pattern_among pattern trees i tree c.loop-tree-test.true c.tree-item.is in
-    let yes = c.in_ok-found.ensures.fixed (get_or texts i [])
+    let some = c.in_ok-own.ensures.fixed (get_or texts i [])
     (text_spells c.args.expansion.fold ps texts spelled i (pattern tree) below at)
     any in
-    absurd (search (rules, yes))
+    absurd (search (rules, some))
 
 pub loop-tree-preserved : goal.loop-tree-preserved
 loop-tree-preserved g c =
@@ -29,10 +29,11 @@ loop-tree-preserved g c =
     let i = c.loop-tree.tree-index in
     let p = pattern c.tree-item.result in
     let old = c.loop-tree.literals.items in
-    let new = c.push_literals.new.literals.items in
+    let new = c.append.new.self.items in
     let below : i < length ps = omega (arith, length-map trees (pattern {A = g.row.A.Denot})) in
     let at = pattern_among pattern trees i c.tree-item.result c.loop-tree-test.true c.tree-item.is in
-    let adds = c.in_ok-found.ensures.adds (search rules) in
+    let adds = adds_behind fold p bounds _ old new (rw c.in-Some.is at c.in_ok-own.ensures.adds)
+    c.in_ok-append.ensures.items in
     let known = c.loop-tree.invariant in
     record {
       needed = needed_more fold bounds ps i p below at old new adds known.needed;
@@ -77,18 +78,3 @@ returns-clause-fixed g c = λ texts spelled any.
     let size = zip_length _ texts (map pattern trees) spelled in
     subst P (take_all c.loop-tree.tree-index texts
     (omega (arith, size, length-map trees (pattern {A = g.row.A.Denot})))) are
-
-pub returns-in_err-found-clause-needed : goal.returns-in_err-found-clause-needed
-returns-in_err-found-clause-needed g c = IfOk-from_err c.from_residual.result _ c.from_residual.ensures.0
-
-pub returns-in_err-found-clause-enough : goal.returns-in_err-found-clause-enough
-returns-in_err-found-clause-enough g c = IfOk-from_err c.from_residual.result _ c.from_residual.ensures.0
-
-pub returns-in_err-found-clause-fixed : goal.returns-in_err-found-clause-fixed
-returns-in_err-found-clause-fixed g c = IfOk-from_err c.from_residual.result _ c.from_residual.ensures.0
-
-pub returns-in_err-found-clause-exact : goal.returns-in_err-found-clause-exact
-returns-in_err-found-clause-exact g c = IfOk-from_err c.from_residual.result _ c.from_residual.ensures.0
-
-pub returns-in_err-found-clause-heads : goal.returns-in_err-found-clause-heads
-returns-in_err-found-clause-heads g c = IfOk-from_err c.from_residual.result _ c.from_residual.ensures.0
