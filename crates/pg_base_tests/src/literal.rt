@@ -112,7 +112,7 @@ any .*[01];b;c;d;e;f;g;h;i => none",
     r"any [1-3][7-9][24]5 => only:1725;only:2725;only:3725;only:1825;only:2825;only:3825;only:1925;only:2925;only:3925;only:1745;only:2745;only:3745;only:1845;only:2845;only:3845;only:1945;only:2945;only:3945
 any [wn][aeiou]t => only:nat;only:wat;only:net;only:wet;only:nit;only:wit;only:not;only:wot;only:nut;only:wut
 word [wn][aeiou]t => nat;wat;net;wet;nit;wit;not;wot;nut;wut
-any [0-3][0-3]:[0-3][0-3] => 00:;10:;20:;30:;01:;11:;21:;31:;02:;12:;22:;32:;03:;13:;23:;33:
+any [0-4][0-4]:[0-4][0-4] => 00:;10:;20:;30:;40:;01:;11:;21:;31:;41:;02:;12:;22:;32:;42:;03:;13:;23:;33:;43:;04:;14:;24:;34:;44:
 any gr[ae]y => only:gray;only:grey
 any abcd[0-9] => abcd
 any [a-z]q => q
@@ -120,7 +120,13 @@ any [0-9] => none
 fold-any [kK]ez => only:kez
 fold-any T[AB]Z[0-9]+q => taz;tbz
 any ab.*zq => zq
-any a{200}b => b",
+any a{200}b => aaaaaaaaaaaaaaaaaaaaaaaaaaaaaaaa
+any ={5} => only:=====
+word ={5} => =====
+any ={5,} => only:=====
+any a={2,3}b => a==
+any [ab]{2}z => only:aaz;only:baz;only:abz;only:bbz
+any a[[:space:]]b => b",
     r"any [0-9]{3}-[a-z]+(foo|bar) => bar;foo
 word [0-9]+(foo|bar) => bar;foo
 whole [0-9]+(foo|bar) => bar;foo

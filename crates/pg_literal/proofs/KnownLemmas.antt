@@ -16,6 +16,7 @@ use Rattle.pg_match.specs.Matches.{Match, Chain}
 use Rattle.pg_literal.proofs.RowLemmas.{stands_within}
 use Rattle.pg_literal.specs.Rows.{StandsAt, row_of}
 use Rattle.pg_literal.specs.Known.{head_of, sets_of, HasRows, IsSureAt, MatchesEmpty, Extends, Hides, HidesOthers}
+use Rattle.pg_literal.specs.Known.{Repeats}
 use Rattle.pg_literal.specs.declared.known.Known.{Known}
 
 -- spans that go forward do so one behind the other too
@@ -26,6 +27,15 @@ chain_forward Span forward (suc count) i j c =
     let first = forward i c.0 c.1 in
     let others = chain_forward Span forward count c.0 j c.2 in
     omega arith
+
+-- the first spans of a chain
+chain_front : (Span : ℕ → ℕ → Type 0) → ((i j : ℕ) → Span i j → i ≤ j) → (count all i j : ℕ) → count ≤ all
+    → Chain Span all i j → (k : ℕ) × Chain Span count i k × (k ≤ j)
+chain_front Span forward zero all i j few c = (i, refl, chain_forward Span forward all i j c)
+chain_front Span forward (suc count) zero i j few c = absurd (omega arith)
+chain_front Span forward (suc count) (suc all) i j few c =
+    let others = chain_front Span forward count all c.0 j (omega arith) c.2 in
+    (others.0, (c.0, c.1, others.1), others.2)
 
 -- no match ends before it begins
 pub match_forward : (p : Pattern) (line : List ℕ) (i j : ℕ) → Match p line i j → i ≤ j
@@ -261,61 +271,84 @@ module _ {A : Type 0} (fold : Bool) where
         (head, longer.1 ∙ begun.1, longer.2 ∙ begun.2);
   }
 
-  -- one round alone
-  extends_once : (p : Pattern) (rest whole : Known A) → Extends fold p rest whole
-      → Extends fold (Rep p 1 (Some 1)) rest whole
+  -- rounds that lead to the rows of the rest begin at those of the whole
+  repeats_rows : (p : Pattern) (count : ℕ) (rest whole : Known A) → Repeats fold p count rest whole
+      → (line : List ℕ) (i j : ℕ) → Chain (Match p line) count i j → HasRows rest line j → HasRows whole line i
+  repeats_rows p zero rest whole is line i j c has =
+      subst (λ k. HasRows k line i) (sym is) (subst (HasRows rest line) (sym c) has)
+  repeats_rows p (suc n) rest whole more line i j c has =
+      more.2.rows line i c.0 c.1 (repeats_rows p n rest more.0 more.1 line c.0 j c.2 has)
+
+  -- they are as long as what they add to the head
+  repeats_long : (p : Pattern) (count : ℕ) (rest whole : Known A) → Repeats fold p count rest whole
+      → (line : List ℕ) (i j : ℕ) → Chain (Match p line) count i j
+      → i + length whole.head.items ≤ j + length rest.head.items
+  repeats_long p zero rest whole is line i j c = omega (arith, c, ap (λ k. length k.head.items) is)
+  repeats_long p (suc n) rest whole more line i j c =
+      omega (arith, more.2.long line i c.0 c.1, repeats_long p n rest more.0 more.1 line c.0 j c.2)
+
+  -- where a sure row of the whole stands, they lead to a sure row of the rest
+  repeats_sure : (p : Pattern) (count : ℕ) (rest whole : Known A) → Repeats fold p count rest whole
+      → (line : List ℕ) (i : ℕ) → IsSureAt whole line i
+      → (j : ℕ) × Chain (Match p line) count i j × IsSureAt rest line j
+  repeats_sure p zero rest whole is line i o = (i, refl, subst (λ k. IsSureAt k line i) is o)
+  repeats_sure p (suc n) rest whole more line i o =
+      let one = more.2.sure line i o in
+      let others = repeats_sure p n rest more.0 more.1 line one.0 one.2 in
+      (others.0, (one.0, one.1, others.1), others.2)
+
+  -- so many rounds and no others
+  extends_exactly : (p : Pattern) (count : ℕ) (rest whole : Known A) → Repeats fold p count rest whole
+      → Extends fold (Rep p count (Some count)) rest whole
   unfolding Shape
-  extends_once p rest whole known = record {
-    rows = λ line i j m has. known.rows line i j (single line i j m.0 m.1 m.2 m.3) has;
-    long = λ line i j m. known.long line i j (single line i j m.0 m.1 m.2 m.3);
+  extends_exactly p count rest whole all = record {
+    rows = λ line i j m has. repeats_rows p count rest whole all line i j (exact line i j m.0 m.1 m.2 m.3) has;
+    long = λ line i j m. repeats_long p count rest whole all line i j (exact line i j m.0 m.1 m.2 m.3);
     sure = λ line i o.
-        let at = known.sure line i o in
-        (at.0, (1, omega arith, omega arith, (at.0, at.1, refl)), at.2);
+        let at = repeats_sure p count rest whole all line i o in
+        (at.0, (count, omega arith, omega arith, at.1), at.2);
     fixed = λ text s. absurd (shape s);
   }
     where
-      single : (line : List ℕ) (i j count : ℕ) → 1 ≤ count → count ≤ 1 → Chain (Match p line) count i j
-          → Match p line i j
-      single line i j zero low high c = absurd (omega arith)
-      single line i j (suc zero) low high c = subst (Match p line i) c.2 c.1
-      single line i j (suc (suc n)) low high c = absurd (omega arith)
+      exact : (line : List ℕ) (i j n : ℕ) → count ≤ n → n ≤ count → Chain (Match p line) n i j
+          → Chain (Match p line) count i j
+      exact line i j n low high c =
+          let same : n ≡ count = omega arith in
+          subst (λ n. Chain (Match p line) n i j) same c
 
-  -- one round or more, of which the others hide what stands behind the first
-  extends_rounds : (p : Pattern) (least : ℕ) (most : Option ℕ) (optional : Bool) (rest hidden whole : Known A)
-      → 1 ≤ least → (IsTrue optional → (least ≡ 1) × IfSome most (λ most. 1 ≤ most)) → Hides optional rest hidden
-      → Extends fold p hidden whole → Extends fold (Rep p least most) rest whole
+  -- so many rounds or more, of which the others hide what stands behind the first ones
+  extends_more : (p : Pattern) (count least : ℕ) (most : Option ℕ) (optional : Bool) (rest hidden whole : Known A)
+      → count ≤ least → (IsTrue optional → (least ≡ count) × IfSome most (λ most. count ≤ most))
+      → Hides optional rest hidden → Repeats fold p count hidden whole → Extends fold (Rep p least most) rest whole
   unfolding Shape
-  extends_rounds p least most optional rest hidden whole some single hides known = record {
-    rows = λ line i j m has. rounds line i j m.0 (omega (arith, m.1)) m.3 has;
-    long = λ line i j m. longer line i j m.0 (omega (arith, m.1)) m.3;
+  extends_more p count least most optional rest hidden whole some single hides all = record {
+    rows = λ line i j m has.
+        let front = chain_front (Match p line) (match_forward p line) count m.0 i j (omega (arith, m.1)) m.3 in
+        repeats_rows p count hidden whole all line i front.0 front.1
+        (hidden_rows optional rest hidden hides line front.0 j front.2 has);
+    long = λ line i j m.
+        let front = chain_front (Match p line) (match_forward p line) count m.0 i j (omega (arith, m.1)) m.3 in
+        let behind = hidden_long optional rest hidden hides front.0 j front.2 in
+        omega (arith, repeats_long p count hidden whole all line i front.0 front.1, behind);
     sure = λ line i o.
-        let one = known.sure line i o in
-        let is = hidden_sure optional rest hidden hides line one.0 one.2 in
+        let at = repeats_sure p count hidden whole all line i o in
+        let is = hidden_sure optional rest hidden hides line at.0 at.2 in
         let once = single is.0 in
-        (one.0, (1, omega (arith, once.0), once.1, (one.0, one.1, refl)), is.1);
+        (at.0, (count, omega (arith, once.0), once.1, at.1), is.1);
     fixed = λ text s. absurd (shape s);
   }
-    where
-      rounds : (line : List ℕ) (i j count : ℕ) → 1 ≤ count → Chain (Match p line) count i j
-          → HasRows rest line j → HasRows whole line i
-      rounds line i j zero low c has = absurd (omega arith)
-      rounds line i j (suc n) low c has =
-          let forward = chain_forward (Match p line) (match_forward p line) n c.0 j c.2 in
-          known.rows line i c.0 c.1 (hidden_rows optional rest hidden hides line c.0 j forward has)
 
-      longer : (line : List ℕ) (i j count : ℕ) → 1 ≤ count → Chain (Match p line) count i j
-          → i + length whole.head.items ≤ j + length rest.head.items
-      longer line i j zero low c = absurd (omega arith)
-      longer line i j (suc n) low c =
-          let forward = chain_forward (Match p line) (match_forward p line) n c.0 j c.2 in
-          let behind = hidden_long optional rest hidden hides c.0 j forward in
-          omega (arith, known.long line i c.0 c.1, behind)
-
-  -- a repetition with a first round
-  pub extends_first : (p : Pattern) (least : ℕ) (most : Option ℕ) (rest behind whole : Known A) → 1 ≤ least
-      → HidesOthers least most rest behind → Extends fold p behind whole
-      → Extends fold (Rep p least most) rest whole
-  extends_first p least most rest behind whole some (inl single) first =
-      rw (single.0, single.1) (extends_once p rest whole (rw single.2 at first))
-  extends_first p least most rest behind whole some (inr hides) first =
-      extends_rounds p least most hides.0 rest behind whole some hides.1 hides.2 first
+  -- a repetition of which some first rounds are known
+  pub extends_rounds : (p : Pattern) (n rounds least : ℕ) (most : Option ℕ) (rest hidden behind whole : Known A)
+      → rounds ≡ suc n → rounds ≤ least → HidesOthers rounds least most rest hidden
+      → Repeats fold p n hidden behind → Extends fold p behind whole → Extends fold (Rep p least most) rest whole
+  extends_rounds p n rounds least most rest hidden behind whole size some (inl single) others first =
+      let all : Repeats fold p (suc n) hidden whole = (behind, others, first) in
+      rw (single.0, single.1)
+      (extends_exactly p rounds rest whole
+      (subst (λ k. Repeats fold p k rest whole) (sym size)
+      (subst (λ known. Repeats fold p (suc n) known whole) single.2 all)))
+  extends_rounds p n rounds least most rest hidden behind whole size some (inr hides) others first =
+      let all : Repeats fold p (suc n) hidden whole = (behind, others, first) in
+      extends_more p rounds least most hides.0 rest hidden whole some hides.1 hides.2
+      (subst (λ k. Repeats fold p k hidden whole) (sym size) all)

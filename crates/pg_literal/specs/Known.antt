@@ -1,8 +1,8 @@
 -- What is known of the matches of some patterns in a row.
-use Rattle.std.specs.Prelude.{◌≡◌, ◌⊎◌, ◌≤◌, ◌<◌, ℕ, ◌+◌, Bool, List, [], ◌++◌, length, map, Option, Some, IfSome, true}
+use Rattle.std.specs.Prelude.{◌≡◌, ◌⊎◌, ◌≤◌, ◌<◌, ℕ, zero, suc, ◌+◌, Bool, List, [], ◌++◌, length, map, Option, Some, IfSome, true}
 use Rattle.std.specs.Prelude.{IsTrue}
 use Rattle.pg_bytes.specs.Sets.{Bytes, one}
-use Rattle.pg_syntax.specs.Patterns.{Pattern, folded}
+use Rattle.pg_syntax.specs.Patterns.{Pattern, Rep, folded}
 use Rattle.pg_syntax.specs.Grammar.{Spells}
 use Rattle.pg_syntax.specs.declared.pattern_list.Kind.TheVariants.{Fixed}
 use Rattle.pg_match.specs.Matches.{Match}
@@ -65,13 +65,24 @@ pub record Hides {A : Type 0} (is_optional : Bool) (rest whole : Known A) : Type
       ⊎ ((whole.best ≡ rest.best) × (IsTrue whole.is_best_sure → IsTrue is_optional × IsTrue rest.is_best_sure))
   pub sure : IsTrue whole.is_sure → IsTrue is_optional × IsTrue rest.is_sure × (rest.head.items ≡ [])
 
--- the rounds of a repetition behind its first one, if there may be any, hide the rest; they are optional where one
--- round is enough
-abbrev pub HidesOthers : {A : Type 0} → ℕ → Option ℕ → Known A → Known A → Type 0
-HidesOthers least most rest whole =
-    ((least ≡ 1) × (most ≡ Some 1) × (whole ≡ rest))
-    ⊎ ((is_optional : Bool) × (IsTrue is_optional → (least ≡ 1) × IfSome most (λ most. 1 ≤ most))
+-- the pattern stands in front of the rest, so many times
+abbrev pub Repeats : {A : Type 0} → Bool → Pattern → ℕ → Known A → Known A → Type 0
+Repeats fold p zero rest whole = whole ≡ rest
+Repeats {A} fold p (suc count) rest whole =
+    (known : Known A) × Repeats fold p count rest known × Extends fold p known whole
+
+-- the rounds of a repetition behind its first ones, if there may be any, hide the rest; they are optional where the
+-- first ones are enough
+abbrev pub HidesOthers : {A : Type 0} → ℕ → ℕ → Option ℕ → Known A → Known A → Type 0
+HidesOthers rounds least most rest whole =
+    ((least ≡ rounds) × (most ≡ Some rounds) × (whole ≡ rest))
+    ⊎ ((is_optional : Bool) × (IsTrue is_optional → (least ≡ rounds) × IfSome most (λ most. rounds ≤ most))
     × Hides is_optional rest whole)
+
+-- with the pattern in front once more all rounds of a repetition are
+abbrev pub LacksFirst : {A : Type 0} → Bool → Pattern → ℕ → Option ℕ → Known A → Known A → Type 0
+LacksFirst {A} fold p least most rest behind =
+    (whole : Known A) → Extends fold p behind whole → Extends fold (Rep p least most) rest whole
 
 -- A part of one of the two rows. It is enough only where it is all of a row that is sure, and any match counts; it is a
 -- head only where each match begins with it.

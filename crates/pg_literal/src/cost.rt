@@ -19,7 +19,7 @@ const IN_VAIN: usize = 200_000;
 const SELECTED: usize = 50_000;
 
 /// How rare the rarest bytes are.
-pub(crate) const RAREST: usize = 8;
+pub(crate) const RAREST: usize = 9;
 
 /// How rare a byte is: how often one is halved for the part of all bytes that are this one, about as in prose, in logs
 /// and in the code of programs and machines.
@@ -31,6 +31,8 @@ pub(crate) fn rarity_of(byte: u8) -> usize {
         b'f' | b'g' | b'p' | b'w' | b'y' | b'b' | u8::MAX => 6,
         b'v' | b'k' | b'0'..=b'9' => 7,
         b'.' | b',' | b':' | b'-' | b'/' | b'_' | b'"' | b'=' | b'\t' => 7,
+        b'\'' | b'(' | b')' | b';' | b'<' | b'>' | b'*' | b'{' | b'}' => 7,
+        b'A'..=b'Z' => 8,
         _ => RAREST,
     }
 }

@@ -1,18 +1,21 @@
 //! What is known of the matches of trees in a row.
-ghost use Rattle.std.specs.Prelude.{◌≡◌, ℕ, Bool, List, [], ◌∷◌, map, reverse, IsTrue, IfOk, IfSome, IsSomeAnd};
+ghost use Rattle.std.specs.Prelude.{◌≡◌, ◌≤◌, ℕ, Bool, List, [], ◌∷◌, map, reverse, IsTrue, IfOk, IfSome, IsSomeAnd};
 ghost use Rattle.pg_bytes.specs.ByteSets.{bytes};
 ghost use Rattle.pg_syntax.specs.Patterns.{Begin, End, Set};
 ghost use Rattle.pg_syntax.specs.Trees.{pattern};
 ghost use Rattle.pg_literal.specs.Literals.{as_searched};
 ghost use Rattle.pg_literal.specs.Rows.{AreProduct};
 ghost use Rattle.pg_literal.specs.Known.{head_of, sets_of, IsNothing, Extends, Hides, HidesOthers, MatchesEmpty};
-ghost use Rattle.pg_literal.specs.Known.{IsChosen};
+ghost use Rattle.pg_literal.specs.Known.{IsChosen, LacksFirst, Repeats};
 
 use crate::row::{Expansion, Window, Worth, only_text, widest, widest_or_whole};
 use pg_bytes::ByteSet;
 use pg_match::Bounds;
 use pg_syntax::Tree;
 use std::alloc::{AllocError, Allocator};
+
+/// Of a repeated set so many rounds are looked at.
+const ROUNDS: u8 = 32;
 
 /// What is known of the matches of some trees in a row.
 ///
@@ -102,21 +105,33 @@ impl<A: Allocator + Copy> Known<A> {
         }
     }
 
-    /// With all rounds of a repetition in front but its first one.
+    /// With all rounds of a repetition in front but its first ones, of which there are so many.
     fn with_other_rounds(
         self,
         alloc: A,
         expansion: Expansion,
+        rounds: u8,
         least: u8,
         most: Option<u8>,
     ) -> Known<A>
-        ensures { HidesOthers least most self result }
+        ensures { HidesOthers rounds least most self result }
     {
-        if least == 1 && most == Some(1) {
+        if least == rounds && most == Some(rounds) {
             self
         } else {
-            self.hidden(alloc, expansion, least == 1 && most != Some(0))
+            self.hidden(alloc, expansion, least == rounds && allows(most, rounds))
         }
+    }
+
+    /// With so many bytes of a set in front.
+    fn with_sets(self, set: &ByteSet, count: u8) -> Result<Known<A>, AllocError>
+        ensures { (fold : Bool) → IfOk result (Repeats fold (Set (bytes set.now)) count self) }
+    {
+        let mut known = self;
+        for _round in 0..count {
+            known = known.with_set(set)?;
+        }
+        Ok(known)
     }
 
     /// The text that each match is, backwards, where there is but one, as for a fixed string.
@@ -172,6 +187,40 @@ impl<A: Allocator + Copy> Known<A> {
                 is_head: false,
             }
         }
+    }
+}
+
+/// Whether a greatest count, where there is one, allows so many rounds.
+fn allows(most: Option<u8>, rounds: u8) -> bool
+    ensures { IsTrue result → IfSome most (λ most. rounds ≤ most) }
+{
+    match most {
+        Some(most) => rounds <= most,
+        None => true,
+    }
+}
+
+/// What is known of a repetition, followed by what was known so far, but for its first round. A repeated set stands in
+/// a row, so many of its rounds are known.
+fn with_later_rounds<A: Allocator + Copy>(
+    alloc: A,
+    inner: &Tree<A>,
+    least: u8,
+    most: Option<u8>,
+    expansion: Expansion,
+    known: Known<A>,
+) -> Result<Known<A>, AllocError>
+    requires { 1 ≤ least }
+    ensures { (fold : Bool) → IfOk result (LacksFirst fold (pattern inner.now) least most known) }
+{
+    match inner {
+        Tree::Set(set) => {
+            let rounds = least.min(ROUNDS);
+            let hidden = known.with_other_rounds(alloc, expansion, rounds, least, most);
+            let behind = hidden.with_sets(set, rounds - 1)?;
+            Ok(behind)
+        }
+        _ => Ok(known.with_other_rounds(alloc, expansion, 1, least, most)),
     }
 }
 
@@ -236,7 +285,7 @@ pub(crate) fn with_tree<A: Allocator + Copy>(
                     return Ok(known.hidden(alloc, expansion, true));
                 }
                 // Each match begins with a first round, so the walk goes on in that one.
-                known = known.with_other_rounds(alloc, expansion, *least, *most);
+                known = with_later_rounds(alloc, inner, *least, *most, expansion, known)?;
                 tree = inner;
             }
         }

@@ -23,7 +23,7 @@ use std::alloc::{AllocError, Allocator, Global};
 const PLENTY: usize = 3;
 
 /// Up to 8 trees or alternatives may give so many texts together.
-const MOST_OF_FEW: usize = 128;
+const MOST_OF_FEW: usize = 256;
 
 /// Where there are more, each may give so many.
 const MOST_OF_ONE: usize = 16;
@@ -50,7 +50,7 @@ impl<A: Allocator + Copy> Literal<A> {
     /// alternative of a tree that is an alternation. Where those are more than 8 or some have fewer than 3 bytes, and
     /// not all are enough, others are taken if they cost less to look for. For these, sets of a few bytes are
     /// multiplied out: `gr[ae]y` gives `gray` and `grey`, where else it gives `gr`. Each of more than 8 trees or
-    /// alternatives gives up to 16 texts, and fewer give up to 128 together. Or a tree gives the texts of an
+    /// alternatives gives up to 16 texts, and fewer give up to 256 together. Or a tree gives the texts of an
     /// alternation within it that each match passes: `[0-9]+-(foo|bar)` gives `foo` and `bar`, where else it gives `-`.
     /// The trees of plain fixed strings give those strings, in their order; where the bounds aren't `Any` and one
     /// string is empty, there are none. A refused request for memory is the only error.

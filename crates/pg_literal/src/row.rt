@@ -110,12 +110,19 @@ fn only_byte(set: &ByteSet, fold: bool) -> Option<u8>
     Some(byte)
 }
 
-/// How many bytes those of a set are searched for as, if it has all cases of its letters, and the rarity of the
-/// commonest of them.
+/// How many texts a set makes of one, if it has all cases of its letters, and the rarity of the commonest of its bytes.
 #[derive(Clone, Copy)]
 struct Weight {
     count: usize,
     rarity: usize,
+}
+
+/// More than any row becomes.
+const TOO_MANY: usize = 257;
+
+/// Whether a set of several bytes has one that may end a line: a text with such a byte stands in no line.
+fn has_terminator(set: &ByteSet, count: usize) -> bool {
+    count > 1 && (set.contains(b'\n') || set.contains(0))
 }
 
 /// The weight of a set. One without a byte that is searched for counts as if it had one.
@@ -127,6 +134,9 @@ fn weight_of(set: &ByteSet, fold: bool) -> Weight {
             count = count.saturating_add(1);
             rarity = rarity.min(rarity_of(byte));
         }
+    }
+    if has_terminator(set, count) {
+        count = TOO_MANY;
     }
     Weight {
         count: count.max(1),

@@ -1,8 +1,8 @@
-use Rattle.std.proofs.Common.{inl, inr, arith, rules}
+use Rattle.std.proofs.Common.{inl, inr, rules}
 use Rattle.pg_syntax.specs.declared.tree.Tree.{the_lemmas}
 use Rattle.pg_match.proofs.PatternLemmas.{pattern-empty, pattern-set, pattern-begin, pattern-end}
 use Rattle.pg_match.proofs.PatternLemmas.{pattern-cat, pattern-alt, pattern-rep}
-use Rattle.pg_literal.proofs.KnownLemmas.{extends_empty, extends_cat, extends_alt, extends_rep, extends_first}
+use Rattle.pg_literal.proofs.KnownLemmas.{extends_empty, extends_cat, extends_alt, extends_rep}
 use Rattle.pg_literal.proofs.known.+with_tree.Goals as goal
 
 pub returns-in-Empty : goal.returns-in-Empty
@@ -44,11 +44,10 @@ returns-then-least-eq0 g t c = λ fold.
 
 pub loop-tree-preserved : goal.loop-tree-preserved
 loop-tree-preserved g t c =
-    let others = c.with_other_rounds-known.ensures in
     record {
       below = search (rules, the_lemmas);
       whole = λ fold whole inner.
           let first = rw c.deref-tree-in-Rep.ensures at inner in
-          c.loop-tree.invariant.whole fold whole
-          (rw (pattern-rep _ _ _ _ c.in-Rep.is) (extends_first fold _ _ _ _ _ whole (omega arith) others first));
+          let all = rw c.deref-in-Rep.ensures at (c.in_ok-known-in-Rep.ensures fold) in
+          c.loop-tree.invariant.whole fold whole (rw (pattern-rep _ _ _ _ c.in-Rep.is) (all whole first));
     }
