@@ -47,13 +47,13 @@ impl<A: Allocator + Copy> Literal<A> {
     /// found there is none, which tells nothing.
     ///
     /// With `fold` the case of letters is folded, as it was for the trees. Each tree gives one text, and each
-    /// alternative of a tree that is an alternation. Where those are more than 8 or some have fewer than 3 bytes, and
-    /// not all are enough, others are taken if they cost less to look for. For these, sets of a few bytes are
-    /// multiplied out: `gr[ae]y` gives `gray` and `grey`, where else it gives `gr`. Each of more than 8 trees or
-    /// alternatives gives up to 16 texts, and fewer give up to 256 together. Or a tree gives the texts of an
-    /// alternation within it that each match passes: `[0-9]+-(foo|bar)` gives `foo` and `bar`, where else it gives `-`.
-    /// The trees of plain fixed strings give those strings, in their order; where the bounds aren't `Any` and one
-    /// string is empty, there are none. A refused request for memory is the only error.
+    /// alternative of a tree that is an alternation. Where those are more than 8, and not all are enough, longer ones
+    /// are taken, for which sets of a few bytes are multiplied out: `gr[ae]y` gives `gray` and `grey`, where else it
+    /// gives `gr`. Each tree or alternative gives up to 16 texts then. Where they are fewer, and some of them shorter
+    /// than 3 bytes, up to 256 texts together are taken instead if they cost less to look for. Either way a tree may
+    /// give the texts of an alternation within it that each match passes: `[0-9]+-(foo|bar)` gives `foo` and `bar`,
+    /// where else it gives `-`. The trees of plain fixed strings give those strings, in their order; where the bounds
+    /// aren't `Any` and one string is empty, there are none. A refused request for memory is the only error.
     pub fn of(
         alloc: A,
         trees: &[Tree<A>],
@@ -79,7 +79,7 @@ impl<A: Allocator + Copy> Literal<A> {
             return Ok(literals);
         }
         let others = literals_of(alloc, trees, bounds, expansion)?;
-        if cost_of(&others) < cost_of(&literals) {
+        if are_better(&others, &literals) {
             Ok(others)
         } else {
             Ok(literals)
@@ -122,6 +122,16 @@ fn are_good<A: Allocator>(literals: &[Literal<A>]) -> bool {
     let are_enough = literals.iter().all(|literal| literal.is_enough);
     let are_long = literals.iter().all(|literal| literal.text.len() >= PLENTY);
     !literals.is_empty() && (are_enough || are_long && literals.len() <= FEW)
+}
+
+/// Whether others are better than some literals: they cost less to look for, or there are more than 8, and longer ones
+/// are wanted in any case.
+fn are_better<A: Allocator>(others: &[Literal<A>], literals: &[Literal<A>]) -> bool {
+    if literals.len() > FEW {
+        !others.is_empty()
+    } else {
+        cost_of(others) < cost_of(literals)
+    }
 }
 
 /// What it costs to look for texts.
