@@ -21,17 +21,16 @@ const SELECTED: usize = 50_000;
 /// How rare the rarest bytes are.
 pub(crate) const RAREST: usize = 9;
 
-/// How rare a byte is: how often one is halved for the part of all bytes that are this one, about as in prose, in logs
-/// and in the code of programs and machines.
+/// How rare a byte is: how often one is halved for the part of all bytes that are this one, about as in prose and in
+/// programs. Punctuation counts as rare: where it is, a search for it alone is by far the fastest, and where it isn't,
+/// texts with it hardly spare the automaton a line.
 pub(crate) fn rarity_of(byte: u8) -> usize {
     match byte {
         b' ' => 3,
         0 | b'e' | b't' | b'a' | b'o' | b'i' | b'n' | b's' | b'r' | b'h' => 4,
         b'l' | b'd' | b'c' | b'u' | b'm' => 5,
         b'f' | b'g' | b'p' | b'w' | b'y' | b'b' | u8::MAX => 6,
-        b'v' | b'k' | b'0'..=b'9' => 7,
-        b'.' | b',' | b':' | b'-' | b'/' | b'_' | b'"' | b'=' | b'\t' => 7,
-        b'\'' | b'(' | b')' | b';' | b'<' | b'>' | b'*' | b'{' | b'}' => 7,
+        b'v' | b'k' | b'\t' | b'0'..=b'9' => 7,
         b'A'..=b'Z' => 8,
         _ => RAREST,
     }

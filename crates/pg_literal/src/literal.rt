@@ -13,7 +13,7 @@ ghost use Rattle.pg_literal.specs.Added.{Adds, AddsOnly};
 use crate::cost::{FEW, finding_cost, passing_cost};
 use crate::inner::inner_of;
 use crate::known::{Known, with_tree};
-use crate::row::{Expansion, texts_of};
+use crate::row::{Expansion, WIDE, texts_of};
 use pg_bytes::ByteSet;
 use pg_match::Bounds;
 use pg_syntax::Tree;
@@ -94,7 +94,7 @@ pub(crate) fn single(fold: bool) -> Expansion
     Expansion {
         fold,
         most: 1,
-        plenty: usize::MAX,
+        plenty: WIDE,
     }
 }
 
@@ -112,7 +112,7 @@ fn wider(fold: bool, count: usize) -> Expansion
         Expansion {
             fold,
             most: MOST_OF_ONE.min(MOST / count),
-            plenty: usize::MAX,
+            plenty: WIDE,
         }
     }
 }

@@ -8,7 +8,7 @@ ghost use Rattle.pg_literal.specs.Literals.{as_searched};
 ghost use Rattle.pg_literal.specs.Rows.{items_of, byte_as_searched, row_of, IsAlone, AreChoices, AreProduct};
 ghost use Rattle.pg_literal.specs.Known.{sets_of};
 
-use crate::cost::{RAREST, rarity_of};
+use crate::cost::{FEW, RAREST, rarity_of};
 use pg_bytes::ByteSet;
 use std::alloc::{AllocError, Allocator};
 
@@ -117,6 +117,9 @@ struct Weight {
     rarity: usize,
 }
 
+/// No part of more sets becomes several texts, which take the square of its width to write out.
+pub(crate) const WIDE: usize = 32;
+
 /// More than any row becomes.
 const TOO_MANY: usize = 257;
 
@@ -223,19 +226,24 @@ pub(crate) fn widest(row: &[ByteSet], expansion: Expansion) -> Window
     widest
 }
 
-/// The same, or the whole row where that is wanted and becomes so few texts.
+/// The same, or the whole row where that is wanted and becomes few enough texts. Where it becomes many, and the part
+/// only a few, the part is looked for faster.
 pub(crate) fn widest_or_whole(row: &[ByteSet], expansion: Expansion, is_wanted: bool) -> Window
     ensures ordered { result.start ≤ result.stop }
     ensures within { result.stop ≤ length row.now }
 {
-    if is_wanted && texts_in(row, expansion.fold) <= expansion.most {
-        return Window {
+    let part = widest(row, expansion);
+    let texts = texts_in(row, expansion.fold);
+    let is_small = texts == 1 || texts <= expansion.most && row.len() <= WIDE;
+    if is_wanted && is_small && (texts <= FEW || part.worth.texts > FEW) {
+        Window {
             start: 0,
             stop: row.len(),
             worth: Worth::nothing(),
-        };
+        }
+    } else {
+        part
     }
-    widest(row, expansion)
 }
 
 /// The one text that a row becomes, where each of its sets is searched for as one byte.
