@@ -501,6 +501,27 @@ visits_on p h n v w le later add = let more : p + 1 ≤ h + 1 = omega arith in o
 pub visits_after : (l n size v w k : ℕ) → size ≡ n → v ≤ l * size → w ≤ v + k → k ≤ n → w ≤ (l + 1) * n
 visits_after l n size v w k same le more few = let le' = subst (λ u. v ≤ l * u) same le in omega arith
 
+pub visits_reached : (r h n v k size : ℕ) → v ≤ r * n + k → k ≤ size → size ≡ n → r ≤ h → v ≤ (h + 1) * n
+visits_reached r h n v k size le few same later =
+    let more : r + 1 ≤ h + 1 = omega arith in omega (arith, mul-le-mul_left n more)
+
+pub visits_back : (p r n v k : ℕ) → v ≤ r * n + k → k ≡ 0 → p < r → v ≤ (r - 1 + 1) * n
+visits_back p r n v k le none later =
+    let same : r - 1 + 1 ≡ r = omega arith in subst (λ x. v ≤ x * n) (sym same) (omega arith)
+
+pub visits_more : (a v w k : ℕ) → v ≤ a → w ≤ v + k → w ≤ a + k
+visits_more a v w k le more = omega arith
+
+pub visits_from : (p n size v k : ℕ) → size ≡ n → v ≤ p * size → v ≤ p * n + k
+visits_from p n size v k same le = let le' = subst (λ u. v ≤ p * u) same le in omega arith
+
+pub product_fits : (p n size : ℕ) → size ≡ n → p ≤ 2 ^ 30 → n < 2 ^ 64 → p * size < 2 ^ 128
+product_fits p n size same short few =
+    let less : size ≤ 2 ^ 64 = omega arith in omega (arith, mul-le-mul_left p less)
+
+pub told_on : (u v w a b d : ℕ) → v + a ≡ u + b → w + b ≡ v + d → w + a ≡ u + d
+told_on u v w a b d first then = omega arith
+
 pub zeros : (xs : List ℕ) (n : ℕ) → xs ≡ replicate n 0 → (i : ℕ) → slice_index xs i ≡ 0
 zeros xs n e i = ap (λ v. slice_index v i) e ∙ at n i
   where

@@ -6,7 +6,7 @@ use Rattle.pg_match.specs.Views.{nfa, members, remembered}
 use Rattle.pg_match.proofs.StateSetLemmas.{few}
 use Rattle.pg_match.proofs.StandsLemmas.{stands_next, run_before}
 use Rattle.pg_match.proofs.StartLemmas.{stands_whole}
-use Rattle.pg_match.proofs.CacheLemmas.{visits_on, visits_later}
+use Rattle.pg_match.proofs.CacheLemmas.{visits_on, visits_later, visits_small, visits_more, told_on}
 use Rattle.pg_match.proofs.automaton.Automaton.cross.Goals as goal
 
 pub returns-in-Hit-clause-crossed : goal.returns-in-Hit-clause-crossed
@@ -73,3 +73,36 @@ returns-in-Hit-clause-visits g c =
     let v = visits_on p p n c.args.sets.now.visits c.learn.new.sets.visits c.requires.visits (omega arith)
     (omega (arith, c.in-Hit.ensures.visits)) in
     visits_later (p + 1) (length c.args.line.now) n c.learn.new.sets.visits v (omega (arith, c.requires.more))
+
+pub learn-requires-clause-visits : goal.learn-requires-clause-visits
+learn-requires-clause-visits g c =
+    let size = c.args.self.now.states.ok.0 in
+    let low = visits_small c.args.cursor.place (length c.args.self.now.states.items) c.args.sets.now.visits
+    c.requires.visits (omega (arith, c.requires.more, c.requires.short)) (omega arith) in
+    omega (arith, low)
+
+pub go_without-requires-clause-visits : goal.go_without-requires-clause-visits
+go_without-requires-clause-visits g c =
+    visits_more _ c.args.sets.now.visits c.learn.new.sets.visits _ c.requires.visits c.in-Lost.ensures.visits
+
+pub returns-in-Dead-clause-visits : goal.returns-in-Dead-clause-visits
+returns-in-Dead-clause-visits g c =
+    let n : ℕ = length c.args.self.now.states.items in
+    let p = c.args.cursor.place in
+    let fewer = few (members c.learn.new.sets.current) c.in-Dead.ensures.room.now in
+    let size = c.in-Dead.ensures.room.now_size in
+    let v = visits_on p p n c.args.sets.now.visits c.learn.new.sets.visits c.requires.visits (omega arith)
+    (omega (arith, c.in-Dead.ensures.visits)) in
+    visits_later (p + 1) (length c.args.line.now) n c.learn.new.sets.visits v (omega (arith, c.requires.more))
+
+pub returns-in-Row-clause-visits : goal.returns-in-Row-clause-visits
+returns-in-Row-clause-visits g c =
+    let n : ℕ = length c.args.self.now.states.items in
+    let p = c.args.cursor.place in
+    let fewer = few (members c.learn.new.sets.current) c.in-Row.ensures.room.now in
+    let size = c.in-Row.ensures.room.now_size in
+    visits_on p p n c.args.sets.now.visits c.learn.new.sets.visits c.requires.visits (omega arith)
+    (omega (arith, c.in-Row.ensures.visits))
+
+pub returns-in-Lost-clause-told : goal.returns-in-Lost-clause-told
+returns-in-Lost-clause-told g c = told_on _ _ _ _ _ _ c.learn.ensures.told c.go_without.ensures.told

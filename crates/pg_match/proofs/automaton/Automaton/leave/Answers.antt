@@ -1,4 +1,4 @@
-use Rattle.std.proofs.Common.{◌/◌, ◌∙◌, ◌≤◌, IsTrue, false, arith, sym, refl, true≢false}
+use Rattle.std.proofs.Common.{◌/◌, ◌∙◌, ◌≤◌, IsTrue, false, length, arith, sym, refl, true≢false}
 use Rattle.std.proofs.lemmas.Option.{slice_get-get_or}
 use Rattle.pg_match.specs.Memories.{In}
 use Rattle.pg_match.specs.Stands.{NoneBefore}
@@ -8,7 +8,7 @@ use Rattle.pg_match.specs.Views.{nfa, members, remembered}
 use Rattle.pg_match.proofs.CursorLemmas.{stands_begun, runs_same, crosses_from}
 use Rattle.pg_match.proofs.StandsLemmas.{stands_next, run_before}
 use Rattle.pg_match.proofs.StartLemmas.{goes_whole, plain_whole}
-use Rattle.pg_match.proofs.CacheLemmas.{stands_at}
+use Rattle.pg_match.proofs.CacheLemmas.{stands_at, visits_later, visits_more, visits_from, product_fits}
 use Rattle.pg_match.proofs.automaton.Automaton.leave.Goals as goal
 use Rattle.pg_match.proofs.automaton.Automaton.leave.Goals.{in-Known, in-Known-2}
 
@@ -65,3 +65,40 @@ go_without-requires-2-clause-stands g c =
     (goes_whole m seeds c.requires.seeds l p _ _ S (Has (members c.go_on.new.sets.current)) byte c.go_on.ensures.goes)
     here.near c.requires.runs
     (λ h. true≢false (sym (c.hits_before.ensures.1 ((none 0).1 h.0, h.1)) ∙ c.if-hits_before.false))
+
+pub returns-in-NoHit-clause-visits : goal.returns-in-NoHit-clause-visits
+returns-in-NoHit-clause-visits g c =
+    visits_later c.args.cursor.place (length c.args.line.now) (length c.args.self.now.states.items)
+    c.args.sets.now.visits c.requires.visits (omega (arith, c.requires.cursor.within))
+
+pub returns-then-hits_before-clause-visits : goal.returns-then-hits_before-clause-visits
+returns-then-hits_before-clause-visits g c =
+    visits_later c.args.cursor.place (length c.args.line.now) (length c.args.self.now.states.items)
+    c.args.sets.now.visits c.requires.visits (omega (arith, c.requires.cursor.within))
+
+pub go_without-requires-2-clause-visits : goal.go_without-requires-2-clause-visits
+go_without-requires-2-clause-visits g c =
+    visits_more _ c.args.sets.now.visits c.go_on.new.sets.visits _ c.requires.visits
+    (omega (arith, c.go_on.ensures.visits))
+
+pub go_without-requires-clause-within : goal.go_without-requires-clause-within
+go_without-requires-clause-within g c = elim c.match-skim.branch [
+  | in-Known w ↦ rw w.start-is w.in-Known.ensures.1
+  | in-Known-2 w ↦ rw w.start-is w.in-Known.ensures.1
+]
+
+pub overflow_mul-start : goal.overflow_mul-start
+overflow_mul-start g c =
+    let within : c.match-skim.start ≤ length c.args.line.now = elim c.match-skim.branch [
+      | in-Known w ↦ rw w.start-is w.in-Known.ensures.1
+      | in-Known-2 w ↦ rw w.start-is w.in-Known.ensures.1
+    ] in
+    let size = c.args.self.now.states.ok.0 in
+    record {
+      fits = product_fits _ (length c.args.self.now.states.items) _ (c.len.ensures ∙ size)
+          (omega (arith, within, c.requires.short)) (omega arith);
+    }
+
+pub go_without-requires-clause-visits : goal.go_without-requires-clause-visits
+go_without-requires-clause-visits g c =
+    visits_from _ _ _ c.args.sets.now.visits _ (c.len.ensures ∙ c.args.self.now.states.ok.0) c.if-sets-start.true

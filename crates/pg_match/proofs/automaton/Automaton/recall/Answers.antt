@@ -3,7 +3,7 @@ use Rattle.std.proofs.lemmas.Option.{slice_get-get_or}
 use Rattle.pg_match.specs.Memories.{In}
 use Rattle.pg_match.specs.Views.{nfa, remembered}
 use Rattle.pg_match.proofs.StandsLemmas.{stands_first}
-use Rattle.pg_match.proofs.CacheLemmas.{at_row, visits_small, visits_later, visits_on}
+use Rattle.pg_match.proofs.CacheLemmas.{at_row, visits_small, visits_later, visits_on, told_on}
 use Rattle.pg_match.proofs.automaton.Automaton.recall.Goals as goal
 
 pub search_first-requires-clause-begun : goal.search_first-requires-clause-begun
@@ -73,6 +73,18 @@ loop-cursor-preserved g c =
       visits = on.visits;
       told = omega (arith, c.loop-cursor.invariant.told, on.told);
     }
+
+pub cross-requires-clause-visits : goal.cross-requires-clause-visits
+cross-requires-clause-visits g c =
+    visits_later c.loop-cursor.cursor.place c.walk-state.result.1 (length c.args.self.now.states.items)
+    c.loop-cursor.sets.visits c.loop-cursor.invariant.visits c.walk-state.ensures.onward
+
+pub returns-then-place-line-clause-told : goal.returns-then-place-line-clause-told
+returns-then-place-line-clause-told g c =
+    told_on _ _ _ _ _ _ c.loop-cursor.invariant.told c.finish.ensures.told
+
+pub returns-in-Found-clause-told : goal.returns-in-Found-clause-told
+returns-in-Found-clause-told g c = told_on _ _ _ _ _ _ c.loop-cursor.invariant.told c.cross.ensures.told
 
 pub returns-in-Found-clause-exact : goal.returns-in-Found-clause-exact
 returns-in-Found-clause-exact g c =

@@ -6,6 +6,8 @@ use Rattle.pg_match.specs.Stands.{HasRun}
 use Rattle.pg_match.specs.Starts.{Searched}
 use Rattle.pg_match.specs.Steps.{Has}
 use Rattle.pg_match.specs.Views.{nfa, members}
+use Rattle.pg_match.proofs.CacheLemmas.{visits_reached, told_on}
+use Rattle.pg_match.proofs.StateSetLemmas.{few}
 use Rattle.pg_match.proofs.StandsLemmas.{stands_first, stands_next, run_before}
 use Rattle.pg_match.proofs.StartLemmas.{stands_whole}
 use Rattle.pg_match.proofs.automaton.Automaton.search_first.Goals as goal
@@ -39,3 +41,25 @@ returns-clause-exact g c =
     (stands_next m l 0 0 _ S U (slice_get-get_or l 0 0 lt) lt (stands_first m l S c.requires.begun)
     c.go.ensures.goes (omega arith) c.requires.runs
     (λ h. true≢false (sym (c.hits_before.ensures.1 h) ∙ c.if-hits_before.false)))))
+
+pub search_on-requires-clause-visits : goal.search_on-requires-clause-visits
+search_on-requires-clause-visits g c =
+    let fewer = few (members c.args.sets.now.current) c.requires.room.now in
+    let size = c.requires.room.now_size in
+    omega (arith, c.go.ensures.visits, c.requires.visits)
+
+pub returns-clause-visits : goal.returns-clause-visits
+returns-clause-visits g c =
+    let sets = c.search_on.new.sets in
+    let found = c.search_on.ensures in
+    visits_reached c.search_on.result.1 _ _ sets.visits sets.current.len _ found.visits
+    (few (members sets.current) found.room.now) found.room.now_size found.within
+
+pub returns-then-hits_before-clause-visits : goal.returns-then-hits_before-clause-visits
+returns-then-hits_before-clause-visits g c =
+    visits_reached 0 (length c.args.line.now) (length c.args.self.now.states.items) c.args.sets.now.visits
+    c.args.sets.now.current.len _ (omega (arith, c.requires.visits))
+    (few (members c.args.sets.now.current) c.requires.room.now) c.requires.room.now_size (omega arith)
+
+pub returns-clause-told : goal.returns-clause-told
+returns-clause-told g c = told_on _ _ _ _ _ _ c.go.ensures.told c.search_on.ensures.told
