@@ -1,12 +1,12 @@
-use Rattle.std.proofs.Common.{◌/◌, ◌+◌, ℕ, length, arith, refl, sym, true≢false}
+use Rattle.std.proofs.Common.{◌/◌, ◌+◌, ℕ, get_or, length, arith, refl, subst, sym, true≢false}
 use Rattle.std.proofs.lemmas.Option.{slice_get-get_or}
-use Rattle.pg_match.specs.Memories.{In}
+use Rattle.pg_match.specs.Memories.{In, IsMemoryOf}
 use Rattle.pg_match.specs.Steps.{Has}
 use Rattle.pg_match.specs.Views.{nfa, members, remembered}
 use Rattle.pg_match.proofs.StateSetLemmas.{few}
 use Rattle.pg_match.proofs.StandsLemmas.{stands_next, run_before}
 use Rattle.pg_match.proofs.StartLemmas.{stands_whole}
-use Rattle.pg_match.proofs.CacheLemmas.{visits_on, visits_later, visits_small, visits_more, told_on}
+use Rattle.pg_match.proofs.CacheLemmas.{visits_on, visits_later, visits_small, visits_more, told_on, in_table}
 use Rattle.pg_match.proofs.automaton.Automaton.cross.Goals as goal
 
 pub returns-in-Hit-clause-crossed : goal.returns-in-Hit-clause-crossed
@@ -106,3 +106,27 @@ returns-in-Row-clause-visits g c =
 
 pub returns-in-Lost-clause-told : goal.returns-in-Lost-clause-told
 returns-in-Lost-clause-told g c = told_on _ _ _ _ _ _ c.learn.ensures.told c.go_without.ensures.told
+
+pub index-requires : goal.index-requires
+index-requires g c =
+    let size = c.args.memory.now.steps.ok.0 in
+    let inside = in_table (nfa c.args.self.now) (remembered c.args.memory.now) c.args.cursor.state
+    (get_or c.args.line.now c.args.cursor.place 0) c.requires.memory c.requires.cursor.row
+    (c.type_inv.line c.args.cursor.place).fits in
+    omega (arith, inside, size)
+
+pub learn-requires-clause-known : goal.learn-requires-clause-known
+learn-requires-clause-known g c = c.requires.cursor.row.known
+
+pub overflow_cast-cursor-2 : goal.overflow_cast-cursor-2
+overflow_cast-cursor-2 g c = record {
+  fits = omega (arith, c.requires.cursor.row.known, c.requires.memory.shape.few);
+}
+
+pub returns-then-index-eq-LOST-clause-memory : goal.returns-then-index-eq-LOST-clause-memory
+returns-then-index-eq-LOST-clause-memory g c =
+    subst (λ t. IsMemoryOf (nfa c.args.self.now) t) (sym c.leave.ensures.same) c.requires.memory
+
+pub returns-in-Lost-clause-memory : goal.returns-in-Lost-clause-memory
+returns-in-Lost-clause-memory g c =
+    subst (λ t. IsMemoryOf (nfa c.args.self.now) t) (sym c.go_without.ensures.same) c.in-Lost.ensures.memory

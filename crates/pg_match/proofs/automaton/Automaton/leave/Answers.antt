@@ -8,7 +8,8 @@ use Rattle.pg_match.specs.Views.{nfa, members, remembered}
 use Rattle.pg_match.proofs.CursorLemmas.{stands_begun, runs_same, crosses_from}
 use Rattle.pg_match.proofs.StandsLemmas.{stands_next, run_before}
 use Rattle.pg_match.proofs.StartLemmas.{goes_whole, plain_whole}
-use Rattle.pg_match.proofs.CacheLemmas.{stands_at, visits_later, visits_more, visits_from, product_fits}
+use Rattle.pg_match.proofs.CacheLemmas.{stands_at, visits_small, visits_later, visits_more, visits_from}
+use Rattle.pg_match.proofs.CacheLemmas.{product_fits}
 use Rattle.pg_match.proofs.automaton.Automaton.leave.Goals as goal
 use Rattle.pg_match.proofs.automaton.Automaton.leave.Goals.{in-Known, in-Known-2}
 
@@ -102,3 +103,25 @@ overflow_mul-start g c =
 pub go_without-requires-clause-visits : goal.go_without-requires-clause-visits
 go_without-requires-clause-visits g c =
     visits_from _ _ _ c.args.sets.now.visits _ (c.len.ensures ∙ c.args.self.now.states.ok.0) c.if-sets-start.true
+
+pub load-requires-clause-known : goal.load-requires-clause-known
+load-requires-clause-known g c = c.requires.cursor.row.known
+
+pub overflow_cast-cursor : goal.overflow_cast-cursor
+overflow_cast-cursor g c = record {
+  fits = omega (arith, c.requires.cursor.row.known, c.requires.memory.shape.few);
+}
+
+pub go_on-requires-clause-visits : goal.go_on-requires-clause-visits
+go_on-requires-clause-visits g c =
+    let size = c.args.self.now.states.ok.0 in
+    let low = visits_small c.args.cursor.place (length c.args.self.now.states.items) c.args.sets.now.visits
+    c.requires.visits (omega (arith, c.requires.cursor.within, c.requires.short)) (omega arith) in
+    omega (arith, low)
+
+pub returns-then-sets-start-clause-told : goal.returns-then-sets-start-clause-told
+returns-then-sets-start-clause-told g c = omega (arith, c.clear.ensures.added, c.go_without.ensures.told)
+
+pub returns-clause-told : goal.returns-clause-told
+returns-clause-told g c =
+    omega (arith, c.load.ensures.added, c.go_on.ensures.told, c.go_without-2.ensures.told)

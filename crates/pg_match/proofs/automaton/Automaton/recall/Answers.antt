@@ -86,6 +86,25 @@ returns-then-place-line-clause-told g c =
 pub returns-in-Found-clause-told : goal.returns-in-Found-clause-told
 returns-in-Found-clause-told g c = told_on _ _ _ _ _ _ c.loop-cursor.invariant.told c.cross.ensures.told
 
+pub walk-state-requires-clause-from_in : goal.walk-state-requires-clause-from_in
+walk-state-requires-clause-from_in g c = c.loop-cursor.invariant.cursor.within
+
+pub walk-state-requires-clause-row : goal.walk-state-requires-clause-row
+walk-state-requires-clause-row g c = c.loop-cursor.invariant.cursor.row
+
+pub cross-requires-clause-cursor : goal.cross-requires-clause-cursor
+cross-requires-clause-cursor g c =
+    let here = c.loop-cursor.invariant.cursor in
+    record {
+      within = c.walk-state.ensures.within;
+      near = omega (arith, here.near, c.walk-state.ensures.onward);
+      row = c.walk-state.ensures.row;
+      stands = c.walk-state.ensures.stands c.loop-cursor.cursor.from here.near here.stands;
+    }
+
+pub returns-then-not-first-clause-told : goal.returns-then-not-first-clause-told
+returns-then-not-first-clause-told g c = told_on _ _ _ _ _ _ c.first.ensures.told c.search_first.ensures.told
+
 pub returns-in-Found-clause-exact : goal.returns-in-Found-clause-exact
 returns-in-Found-clause-exact g c =
     let so = c.in-Found.ensures.crossed in

@@ -12,7 +12,7 @@ use Rattle.pg_match.specs.Views.{nfa, members}
 use Rattle.pg_match.proofs.StandsLemmas.{stands_next, run_before}
 use Rattle.pg_match.proofs.StartLemmas.{goes_whole, with_so}
 use Rattle.pg_match.proofs.StateSetLemmas.{few}
-use Rattle.pg_match.proofs.CacheLemmas.{ended_so, stands_at, visits_small}
+use Rattle.pg_match.proofs.CacheLemmas.{ended_so, stands_at, visits_small, told_on}
 use Rattle.pg_match.proofs.automaton.Automaton.search_on.Goals as goal
 
 -- the set of a place, with the starts there
@@ -126,3 +126,12 @@ returns-then-hits_here-clause-told g c = c.loop-place.invariant.told
 
 pub returns-clause-told : goal.returns-clause-told
 returns-clause-told g c = omega (arith, c.loop-place.invariant.told, c.hits_behind.ensures.told)
+
+pub returns-then-sets-eq0-clause-visits : goal.returns-then-sets-eq0-clause-visits
+returns-then-sets-eq0-clause-visits g c =
+    let fewer = few (members c.loop-place.sets.current) c.loop-place.invariant.room.now in
+    let size = c.loop-place.invariant.room.now_size in
+    omega (arith, c.loop-place.invariant.visits, c.go_on.ensures.visits)
+
+pub returns-then-sets-eq0-clause-told : goal.returns-then-sets-eq0-clause-told
+returns-then-sets-eq0-clause-told g c = told_on _ _ _ _ _ _ c.loop-place.invariant.told c.go_on.ensures.told
