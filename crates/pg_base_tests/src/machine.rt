@@ -1,4 +1,4 @@
-//! Machines of patterns: what a search visits.
+//! Machines of patterns: what a search visits, and the matched parts that it finds.
 ghost use Rattle.std.specs.Prelude.{◌≤◌, ◌^◌, All, map, length};
 ghost use Rattle.pg_syntax.specs.Patterns.{IsProper};
 ghost use Rattle.pg_syntax.specs.Trees.{pattern};
@@ -114,9 +114,65 @@ fn counted(alloc: Global, search: &mut Search, line: &[u8]) -> Result<String, Al
     format!(in alloc; "{first} {again} {part} {part_again}")
 }
 
+/// The matched parts of a line. The scratch is the machine's, and the line has at most 2^30 bytes.
+fn parts_of(
+    alloc: Global,
+    search: &mut Search,
+    line: &[u8],
+) -> Result<Vec<(usize, usize)>, AllocError>
+    requires fits { Fits search.old.scratch search.old.machine }
+    requires short { length line.now ≤ 2 ^ 30 }
+    ensures fits { Fits search.new.scratch search.new.machine }
+{
+    let mut parts = Vec::new(alloc);
+    let mut from = 0;
+    for _ in 0..line.len() {
+        let place = from.min(line.len());
+        match search.machine.next_piece(&mut search.scratch, line, place) {
+            Some(part) => {
+                parts.push(part)?;
+                from = part.1;
+            }
+            None => break,
+        }
+    }
+    Ok(parts)
+}
+
+/// Shows the matched parts of some lines. The scratch is the machine's.
+fn shown_parts(rt: &impl Abort, alloc: Global, search: &mut Search, lines: &str) -> String
+    requires fits { Fits search.old.scratch search.old.machine }
+    ensures fits { Fits search.new.scratch search.new.machine }
+{
+    let mut shown = String::new(alloc);
+    for line in lines.split(' ') {
+        let line = line_of(rt, alloc, line);
+        let parts = parts_of(alloc, search, &line).expect(rt, "memory");
+        write!(shown, " {parts:?}").expect(rt, "memory");
+    }
+    shown
+}
+
+/// Shows the matched parts of some lines, found twice with one scratch that is made for them.
+fn parted(rt: &impl Abort, alloc: Global, word: &str, text: &[u8], lines: &str) -> String {
+    let Search {
+        machine,
+        scratch: _,
+    } = machine_of(rt, alloc, word, text);
+    let scratch = Scratch::with_parts(alloc, &machine).expect(rt, "memory");
+    let mut search = Search { machine, scratch };
+    let first = shown_parts(rt, alloc, &mut search, lines);
+    let again = shown_parts(rt, alloc, &mut search, lines);
+    assert!(rt; first == again, "{first} and then {again}");
+    again
+}
+
 /// Shows what a search of a line visits, as a row asks.
 pub(crate) fn searched(rt: &impl Abort, alloc: Global, word: &str, asked: &str) -> String {
     let (text, rest) = cut(rt, asked, " on ");
+    if let Some(lines) = rest.strip_suffix(" parted") {
+        return parted(rt, alloc, word, &repeated(rt, alloc, text), lines);
+    }
     if let Some(line) = rest.strip_suffix(" counted") {
         let line = line_of(rt, alloc, line);
         let mut search = machine_of(rt, alloc, word, &repeated(rt, alloc, text));
@@ -176,6 +232,25 @@ fixed a:4096 on a:4096 within 268500992 => (true, Some((0, 4096)))";
 #[test]
 fn deep_trees(rt: HostRuntime) {
     assert_rows(&rt, rt.alloc(), Question::Visits, DEEP);
+}
+
+/// Bounds, an extended expression, and lines; the matched parts of each line. They are found twice, the second time by
+/// what is remembered.
+const PARTS: &str =
+    "any a{3}:1 on xaaaaaax:1 xaaa:1 aaaa:1 parted => [(1, 4), (4, 7)] [(1, 4)] [(0, 3)]
+any [a-c]+b:1 on xabcbaxcb:1 xb:1 parted => [(1, 5), (7, 9)] []
+any ab|abc|a:1 on xabcaab:1 -a:1 parted => [(1, 4), (4, 5), (5, 7)] [(1, 2)]
+any x*$:1 on axbxx:1 axxb:1 -x:1 parted => [(3, 5)] [] [(1, 2)]
+word a{3}:1 on -aaa-aaaa-aaa:1 -aaa:1 parted => [(1, 4), (10, 13)] [(1, 4)]
+word [a-c]+b:1 on -abcbd-ab:1 -abcb-:1 parted => [(7, 9)] [(1, 5)]
+word ab|abc|a:1 on -abc-ab-a-abcd:1 -ab:1 parted => [(1, 4), (5, 7), (8, 9)] [(1, 3)]
+word x*$:1 on -x-xx:1 axx:1 parted => [(3, 5)] []
+word a|a-b:1 on -a-bc:1 -a-b:1 parted => [(1, 2)] [(1, 4)]
+whole a|a-b:1 on -a:1 a-b:1 parted => [] [(0, 3)]";
+
+#[test]
+fn parts(rt: HostRuntime) {
+    assert_rows(&rt, rt.alloc(), Question::Visits, PARTS);
 }
 
 /// A machine of a fixed string, and a scratch for it.

@@ -229,7 +229,7 @@ stands_at m l from p S U same s = record {
   none = s.none;
 }
 
-nothing_known : (v : ℕ) → v ≡ 0 → IsUnknown v
+pub nothing_known : (v : ℕ) → v ≡ 0 → IsUnknown v
 nothing_known v zero_v = (omega arith, λ one. omega arith, λ two. omega arith)
 
 told_moves : (m : Nfa) (old new : Remembered) (r b v : ℕ) → Keeps old new → r ≤ old.count → Told m old r b v
@@ -306,7 +306,7 @@ pub memory_added : (m : Nfa) (old new : Remembered) (s : Members) (fresh r : Boo
 memory_added m old new s fresh true is grown_so _ first = memory_grown m old new s fresh is (grown_so refl) first
 memory_added m old new s fresh false is _ same first = subst (IsMemoryOf m) (sym (same refl)) is
 
-sets_keep : (old new : Remembered) → SameSets old new → Keeps old new
+pub sets_keep : (old new : Remembered) → SameSets old new → Keeps old new
 sets_keep old new w =
     let c : (r : ℕ) → cut new r ≡ cut old r = λ r. ap (λ u. slice_index u r) w.cuts in
     let p : (j : ℕ) → slice_index new.pool j ≡ slice_index old.pool j = λ j. ap (λ u. slice_index u j) w.pool in
@@ -322,7 +322,7 @@ sets_keep old new w =
       more = omega arith;
     }
 
-sets_shape : (n : ℕ) (old new : Remembered) → IsShape n old → SameSets old new → length new.steps ≡ length old.steps
+pub sets_shape : (n : ℕ) (old new : Remembered) → IsShape n old → SameSets old new → length new.steps ≡ length old.steps
     → length new.ends ≡ length old.ends
     → IsShape n new
 sets_shape n old new s w steps ends =

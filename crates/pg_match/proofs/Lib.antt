@@ -10,6 +10,7 @@ pub mod StartLemmas
 pub mod CacheLemmas
 pub mod SkimLemmas
 pub mod CursorLemmas
+pub mod AnchoredLemmas
 pub mod BuildLemmas
 pub mod HitLaws
 pub mod TestLemmas

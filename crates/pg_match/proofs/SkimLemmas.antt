@@ -19,7 +19,8 @@ use Rattle.pg_match.proofs.SearchLemmas.{edge_moves}
 use Rattle.pg_match.proofs.StandsLemmas.{reads_edge, edge_reads, stands_first, stands_next}
 use Rattle.pg_match.proofs.CacheLemmas.{row_next, at_row, in_table}
 
-no_cross : (m : Nfa) (l : List ℕ) (p b : ℕ) (S : ℕ → Type 0) → slice_get l p ≡ Some b
+-- where no state reads the byte, no run goes past it
+pub no_cross : (m : Nfa) (l : List ℕ) (p b : ℕ) (S : ℕ → Type 0) → slice_get l p ≡ Some b
     → ((q r : ℕ) → S q → Edge (slice_get m.states q) l p r p → S r) → ReadsNone m b S
     → (k q j : ℕ) → S q → Runs m.states l k q p j → p + 1 ≤ j → ⊥
 no_cross m l p b S is closed none zero q j h run past = omega (arith, run.1)

@@ -100,7 +100,7 @@ ends_last Any l p e = tt
 ends_last Word l p e = inl e
 ends_last Whole l p e = e
 
-ends_at_last : (o : Bounds) (l : List ℕ) → MayEnd o l (length l)
+pub ends_at_last : (o : Bounds) (l : List ℕ) → MayEnd o l (length l)
 ends_at_last o l = ends_last o l (length l) refl
 
 quiet_edge : (o : Option State) (l : List ℕ) (i r k : ℕ) → (i ≡ 0 → ⊥) → IsQuiet o → Edge o l i r k
@@ -144,7 +144,7 @@ module _ (m : Nfa) (l : List ℕ) where
   }
 
   -- a match ends at p only if 0 is in a set that is closed there
-  ends_here : (p : ℕ) (S : ℕ → Type 0) → ((q r : ℕ) → S q → Edge (slice_get m.states q) l p r p → S r) → IsRunnable m
+  pub ends_here : (p : ℕ) (S : ℕ → Type 0) → ((q r : ℕ) → S q → Edge (slice_get m.states q) l p r p → S r) → IsRunnable m
       → (k q : ℕ) → S q → Runs m.states l k q p p → S 0
   ends_here p S closed is zero q h run = subst S (is.only q run.0) h
   ends_here p S closed is (suc k) q h run =

@@ -17,4 +17,5 @@ pub mod Steps
 pub mod Starts
 pub mod Stands
 pub mod Memories
+pub mod Anchored
 pub mod Views

@@ -7,6 +7,7 @@ use Rattle.pg_match.specs.declared.automaton.Automaton.{Automaton}
 use Rattle.pg_match.specs.declared.sparse_set.StateSet.{StateSet}
 use Rattle.pg_match.specs.declared.search.StateSets.{StateSets}
 use Rattle.pg_match.specs.Memories.{Remembered, IsMemoryOf}
+use Rattle.pg_match.specs.Anchored.{IsAnchoredMemoryOf}
 use Rattle.pg_match.specs.declared.dfa_cache.Cache.{Cache}
 use Rattle.std.specs.Prelude.{◌≡◌, ℕ, ◌+◌, Option, Some, None, length}
 
@@ -49,3 +50,8 @@ remembered t = record {
 abbrev pub Remembers : {A : Type 0} → Option (Cache A) → Nfa → Type 0
 Remembers None m = Unit {0}
 Remembers (Some t) m = IsMemoryOf m (remembered t)
+
+-- what is remembered of the runs of one start, if anything is, is true of the automaton
+abbrev pub RemembersAnchored : {A : Type 0} → Option (Cache A) → Nfa → Type 0
+RemembersAnchored None m = Unit {0}
+RemembersAnchored (Some t) m = IsAnchoredMemoryOf m (remembered t)

@@ -10,12 +10,12 @@ use crate::sparse_set::StateSet;
 use std::alloc::{AllocError, Allocator, Global};
 
 /// The most sets.
-const SETS: usize = 256;
+pub(crate) const SETS: usize = 256;
 
 /// A row for each set, and row 0, which is that of the empty one.
 const ROWS: usize = SETS + 1;
 
-/// The most state numbers of all sets together.
+/// The most state numbers of all sets together. Two tables of a scratch have half of them each.
 const POOL: usize = 1_048_576;
 
 /// How many bytes are searched without the table before the sets are forgotten. That takes several times as long as to
@@ -47,6 +47,8 @@ pub struct Cache<A: Allocator = Global> {
     pub cuts: Vec<u32, A>,
     /// How many sets there are.
     pub count: usize,
+    /// How many sets there may be, since another table may have the room of some.
+    most: usize,
     /// How many bytes were searched without the table, since it was begun.
     lost: usize,
 }
@@ -60,14 +62,15 @@ impl<A: Allocator> Drop for Cache<A> {
             pool: _,
             cuts: _,
             count: _,
+            most: _,
             lost: _,
         } = self;
     }
 }
 
 impl<A: Allocator> Cache<A> {
-    /// A table without a set, for automata with so many states.
-    pub fn new(alloc: A, states: usize) -> Result<Cache<A>, AllocError>
+    /// A table without a set, for automata with so many states. It may have half of the room, beside another one.
+    pub fn new(alloc: A, states: usize, is_half: bool) -> Result<Cache<A>, AllocError>
     where
         A: Copy,
         ensures { IfOk result (λ memory. IsBlank states (remembered memory)) }
@@ -75,7 +78,8 @@ impl<A: Allocator> Cache<A> {
         let steps = vec![in alloc; 0u32; 256 * ROWS]?;
         let ends = vec![in alloc; None; ROWS]?;
         let fresh = vec![in alloc; false; ROWS]?;
-        let pool = vec![in alloc; 0u32; states.saturating_mul(SETS).min(POOL)]?;
+        let room = if is_half { POOL / 2 } else { POOL };
+        let pool = vec![in alloc; 0u32; states.saturating_mul(SETS).min(room)]?;
         let cuts = vec![in alloc; 0u32; ROWS + 1]?;
         Ok(Cache {
             steps,
@@ -84,8 +88,16 @@ impl<A: Allocator> Cache<A> {
             pool,
             cuts,
             count: 0,
+            most: SETS,
             lost: 0,
         })
+    }
+
+    /// Leaves the room of so many sets to another table.
+    pub fn leave_room(&mut self, sets: usize)
+        ensures { remembered self.new ≡ remembered self.old }
+    {
+        self.most = SETS.saturating_sub(sets);
     }
 
     /// Takes all sets out.
@@ -177,6 +189,9 @@ impl<A: Allocator> Cache<A> {
             is_fresh }
         ensures full { result ≡ false → self.new ≡ self.old }
     {
+        if self.count >= self.most {
+            return false;
+        }
         let start = self.cuts[self.count + 1] as usize;
         if self.count == SETS || self.pool.len() - start < set.len {
             return false;

@@ -9,7 +9,8 @@ ghost use Rattle.pg_match.specs.StateSets.{HaveRoom};
 ghost use Rattle.pg_match.specs.Searches.{IsBest};
 ghost use Rattle.pg_match.specs.Steps.{EndsBehind};
 ghost use Rattle.pg_match.specs.Memories.{IsMemoryOf, IsAtRow, In, Finishes, HasSkimmed, Skimmed};
-ghost use Rattle.pg_match.specs.Views.{nfa, buffers, remembered, added, HasSeeds, HasStarts, Remembers, Tells};
+ghost use Rattle.pg_match.specs.Views.{nfa, buffers, remembered, added, HasSeeds, HasStarts, Remembers};
+ghost use Rattle.pg_match.specs.Views.{RemembersAnchored, Tells};
 
 use crate::automaton::Automaton;
 use crate::dfa_cache::{Cache, DEAD, HIT, LOST};
@@ -217,6 +218,7 @@ impl<A: Allocator> Automaton<A> {
         &self,
         sets: &mut StateSets<A>,
         memory: &mut Cache<A>,
+        anchored: &mut Option<Cache<A>>,
         line: &[u8],
         from: usize,
     ) -> Option<(usize, usize)>
@@ -225,11 +227,13 @@ impl<A: Allocator> Automaton<A> {
         requires starts { HasStarts self.now }
         requires room { HaveRoom (buffers sets.old) (length self.now.states.items) }
         requires memory { IsMemoryOf (nfa self.now) (remembered memory.old) }
+        requires anchored { RemembersAnchored anchored.old (nfa self.now) }
         requires bytes { 1 ≤ length line.now }
         requires short { length line.now ≤ 2 ^ 30 }
         requires from_in { from ≤ length line.now }
         ensures room { HaveRoom (buffers sets.new) (length self.now.states.items) }
         ensures memory { IsMemoryOf (nfa self.now) (remembered memory.new) }
+        ensures anchored { RemembersAnchored anchored.new (nfa self.now) }
         ensures best { IsBest self.now.states.items line.now self.now.start (MayBegin self.now.bounds line.now)
             (MayEnd self.now.bounds line.now) from (length line.now + 1) result }
         ensures visits { sets.new.visits ≤ (length line.now + 1) * length self.now.states.items }
@@ -244,7 +248,10 @@ impl<A: Allocator> Automaton<A> {
                 sets.visits = 0;
                 Some((start, start + 1))
             }
-            Skim::Known(start) => self.find(sets, line, start),
+            Skim::Known(start) => match anchored {
+                Some(anchored) => self.find_from(sets, memory, anchored, line, start),
+                None => self.find(sets, line, start),
+            },
             Skim::Unknown(start) => {
                 let best = self.find(sets, line, start);
                 self.study(sets, memory, line, from);
@@ -258,6 +265,7 @@ impl<A: Allocator> Automaton<A> {
         &self,
         sets: &mut StateSets<A>,
         memory: &mut Option<Cache<A>>,
+        anchored: &mut Option<Cache<A>>,
         line: &[u8],
         from: usize,
     ) -> Option<(usize, usize)>
@@ -266,10 +274,12 @@ impl<A: Allocator> Automaton<A> {
         requires starts { HasStarts self.now }
         requires room { HaveRoom (buffers sets.old) (length self.now.states.items) }
         requires memory { Remembers memory.old (nfa self.now) }
+        requires anchored { RemembersAnchored anchored.old (nfa self.now) }
         requires short { length line.now ≤ 2 ^ 30 }
         requires from_in { from ≤ length line.now }
         ensures room { HaveRoom (buffers sets.new) (length self.now.states.items) }
         ensures memory { Remembers memory.new (nfa self.now) }
+        ensures anchored { RemembersAnchored anchored.new (nfa self.now) }
         ensures next { (patterns : List Pattern) → Agrees (nfa self.now) patterns
             → MatchOption result (HasNoNext patterns self.now.bounds line.now from)
             (λ b. IsNext patterns self.now.bounds line.now from b.0 b.1) }
@@ -277,7 +287,7 @@ impl<A: Allocator> Automaton<A> {
         ensures told { added sets.new ≡ added sets.old + sets.new.visits }
     {
         match memory {
-            Some(memory) if !line.is_empty() => self.find_by(sets, memory, line, from),
+            Some(memory) if !line.is_empty() => self.find_by(sets, memory, anchored, line, from),
             _ => self.find(sets, line, from),
         }
     }

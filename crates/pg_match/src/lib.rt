@@ -7,12 +7,17 @@
 //! Where a byte leads from a set doesn't depend on the line, so a scratch remembers up to 256 sets and the steps from
 //! them. A line whose steps are all remembered costs one look-up a byte. Where a step leads to a set for which there is
 //! no room, the search goes on without the table, and comes back to it as soon as no run is left.
+//!
+//! A scratch that is made for matched parts has a second table, in a share of the same room: of the sets that the runs
+//! from one place lead to. The first table tells before which place no match begins, and the second one where the
+//! longest from that place ends.
 #![tactic(auto)]
 
 mod automaton;
 mod bounds;
 mod build;
 mod closure;
+mod dfa_anchored;
 mod dfa_cache;
 mod dfa_cursor;
 mod dfa_search;

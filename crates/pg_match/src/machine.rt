@@ -1,11 +1,13 @@
 //! Machines, and what a search needs.
 ghost use Rattle.std.specs.Prelude.{◌≡◌, ◌+◌, ◌*◌, ◌^◌, ◌<◌, ◌≤◌, ◌↔◌, List, All};
-ghost use Rattle.std.specs.Prelude.{length, map, IsTrue, IfOk, IsErrOf, MatchOption};
+ghost use Rattle.std.specs.Prelude.{length, map, IsTrue, IfOk, IfSome, IsErrOf, MatchOption};
 ghost use Rattle.pg_syntax.specs.Patterns.{Pattern, IsProper};
 ghost use Rattle.pg_syntax.specs.Trees.{pattern};
 ghost use Rattle.pg_match.specs.Sizes.{list_size};
 ghost use Rattle.pg_match.specs.Hits.{HasHit, HasNoNext, IsNext};
 ghost use Rattle.pg_match.specs.Machines.{IsMachineOf, IsOfSome, Fits};
+ghost use Rattle.pg_match.specs.Memories.{IsBlank};
+ghost use Rattle.pg_match.specs.Views.{remembered};
 ghost use Rattle.pg_match.specs.declared.bounds.Bounds.{Bounds};
 
 use crate::automaton::Automaton;
@@ -58,6 +60,8 @@ pub struct Scratch<A: Allocator = Global> {
     sets: StateSets<A>,
     /// None where the memory for it was refused. Searches are slower then.
     memory: Option<Cache<A>>,
+    /// What the runs from one place lead to. None where it wasn't asked for, or the memory for it was refused.
+    anchored: Option<Cache<A>>,
 }
 
 impl<A: Allocator> Drop for Scratch<A> {
@@ -66,6 +70,7 @@ impl<A: Allocator> Drop for Scratch<A> {
             automaton: _,
             sets: _,
             memory: _,
+            anchored: _,
         } = self;
     }
 }
@@ -75,7 +80,7 @@ impl<A: Allocator> Model for Scratch<A> {
     ghost use Rattle.std.specs.Arc.{arc_value};
     ghost use Rattle.pg_match.specs.Machines.{Room};
     ghost use Rattle.pg_match.specs.StateSets.{HaveRoom};
-    ghost use Rattle.pg_match.specs.Views.{nfa, buffers, added, Remembers};
+    ghost use Rattle.pg_match.specs.Views.{nfa, buffers, added, Remembers, RemembersAnchored};
 
     ghost Value = { Room };
 
@@ -86,7 +91,7 @@ impl<A: Allocator> Model for Scratch<A> {
     } };
 
     ghost invariant = { λ s. HaveRoom (buffers s.sets) (length (nfa (arc_value s.automaton)).states)
-        × Remembers s.memory (nfa (arc_value s.automaton)) };
+        × Remembers s.memory (nfa (arc_value s.automaton)) × RemembersAnchored s.anchored (nfa (arc_value s.automaton)) };
 }
 
 impl From<AllocError> for BuildFault {
@@ -161,7 +166,8 @@ impl<A: Allocator> Machine<A> {
         ensures some { IsOfSome self.now }
     {
         let automaton: &Automaton<A> = &self.automaton;
-        automaton.next_piece(&mut scratch.sets, &mut scratch.memory, line, from)
+        let sets = &mut scratch.sets;
+        automaton.next_piece(sets, &mut scratch.memory, &mut scratch.anchored, line, from)
     }
 }
 
@@ -180,9 +186,44 @@ fn share<A: Allocator + Copy>(
     Ok(Machine { automaton })
 }
 
+/// A table for automata with so many states, if it is wanted and there is memory.
+fn table<A: Allocator + Copy>(alloc: A, states: usize, is_wanted: bool) -> Option<Cache<A>>
+    ensures { IfSome result (λ memory. IsBlank states (remembered memory)) }
+{
+    if is_wanted {
+        Cache::new(alloc, states, true).ok()
+    } else {
+        None
+    }
+}
+
 impl<A: Allocator> Scratch<A> {
-    /// Room for searches with a machine. Where only the memory for what they remember is refused, they are slower.
+    /// Room for searches with a machine, of which few ask for matched parts. Where only the memory for what they
+    /// remember is refused, they are slower.
     pub fn new(alloc: A, machine: &Machine<A>) -> Result<Scratch<A>, AllocError>
+    where
+        A: Copy,
+        ensures fits { IfOk result (λ scratch. Fits scratch machine.now) }
+        ensures visits { IfOk result (λ scratch. scratch.visits ≡ 0) }
+        ensures added { IfOk result (λ scratch. scratch.added ≡ 0) }
+    {
+        Scratch::prepare(alloc, machine, false)
+    }
+
+    /// The same where matched parts are asked for, line after line: what the runs from one place lead to is remembered
+    /// too, in half of the room. It takes twice the memory, and the searches answer the same.
+    pub fn with_parts(alloc: A, machine: &Machine<A>) -> Result<Scratch<A>, AllocError>
+    where
+        A: Copy,
+        ensures fits { IfOk result (λ scratch. Fits scratch machine.now) }
+        ensures visits { IfOk result (λ scratch. scratch.visits ≡ 0) }
+        ensures added { IfOk result (λ scratch. scratch.added ≡ 0) }
+    {
+        Scratch::prepare(alloc, machine, true)
+    }
+
+    /// Room for searches with a machine, with or without a table for matched parts.
+    fn prepare(alloc: A, machine: &Machine<A>, with_parts: bool) -> Result<Scratch<A>, AllocError>
     where
         A: Copy,
         ensures fits { IfOk result (λ scratch. Fits scratch machine.now) }
@@ -192,11 +233,13 @@ impl<A: Allocator> Scratch<A> {
         let automaton = Arc::try_clone(&machine.automaton)?;
         let states: &Automaton<A> = &machine.automaton;
         let sets = StateSets::new(alloc, states.states.len())?;
-        let memory = Cache::new(alloc, states.states.len()).ok();
+        let memory = Cache::new(alloc, states.states.len(), with_parts).ok();
+        let anchored = table(alloc, states.states.len(), with_parts);
         Ok(Scratch {
             automaton,
             sets,
             memory,
+            anchored,
         })
     }
 

@@ -1,6 +1,7 @@
 //! The search for any match at all, which needs no marks.
 ghost use Rattle.std.specs.Prelude.{◌≡◌, ℕ, ◌+◌, ◌*◌, ◌<◌, ◌≤◌, ◌^◌, ◌↔◌, length, IsTrue, IsNone, false};
 ghost use Rattle.pg_match.specs.Automata.{IsTidy, IsRunnable};
+ghost use Rattle.pg_match.specs.Anchored.{StartsInside};
 ghost use Rattle.pg_match.specs.StateSets.{IsGood, HaveRoom, CountedAnew};
 ghost use Rattle.pg_match.specs.Steps.{Spread, Closed, Aimed, Has, Goes, Starts, HitBefore, AnswersEnd, ReadsNone};
 ghost use Rattle.pg_match.specs.Steps.{begins_after, ends_before};
@@ -125,6 +126,22 @@ impl<A: Allocator> Automaton<A> {
         sets.current.clear();
         sets.current.insert(self.start, 1);
         close(&self.states, &mut sets.current, true, false);
+        sets.visits += sets.current.len as u128;
+    }
+
+    /// Makes the set of a start at a place inside a line, but for what needs the line's end.
+    pub(crate) fn begin_inside(&self, sets: &mut StateSets<A>)
+        requires runs { IsRunnable (nfa self.now) }
+        requires room { HaveRoom (buffers sets.old) (length self.now.states.items) }
+        requires visits { sets.old.visits < 2 ^ 100 }
+        ensures room { HaveRoom (buffers sets.new) (length self.now.states.items) }
+        ensures starts { StartsInside (nfa self.now) (Has (members sets.new.current)) }
+        ensures visits { sets.new.visits ≡ sets.old.visits + sets.new.current.len }
+        ensures told { Tells sets.old sets.new }
+    {
+        sets.current.clear();
+        sets.current.insert(self.start, 1);
+        close(&self.states, &mut sets.current, false, false);
         sets.visits += sets.current.len as u128;
     }
 

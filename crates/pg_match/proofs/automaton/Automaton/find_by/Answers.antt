@@ -12,8 +12,8 @@ returns-in-Known-clause-best g c =
     best_later (nfa c.args.self.now) c.args.line.now c.args.from _
     (Some (c.in-Known.start, c.in-Known.start + 1)) s.0 s.2 (c.is_one_byte.ensures c.if-is_one_byte.true)
 
-pub returns-in-Known-2-clause-best : goal.returns-in-Known-2-clause-best
-returns-in-Known-2-clause-best g c =
+pub returns-in-None-clause-best : goal.returns-in-None-clause-best
+returns-in-None-clause-best g c =
     let s = c.in-Known.ensures in
     best_later (nfa c.args.self.now) c.args.line.now c.args.from _ c.find.result s.0 s.2 c.find.ensures.best
 
@@ -85,14 +85,14 @@ returns-in-NoHit-clause-room g c = c.requires.room
 pub returns-in-NoHit-clause-memory : goal.returns-in-NoHit-clause-memory
 returns-in-NoHit-clause-memory g c = c.requires.memory
 
-pub returns-in-Known-2-clause-room : goal.returns-in-Known-2-clause-room
-returns-in-Known-2-clause-room g c = c.find.ensures.room
+pub returns-in-None-clause-room : goal.returns-in-None-clause-room
+returns-in-None-clause-room g c = c.find.ensures.room
 
-pub returns-in-Known-2-clause-visits : goal.returns-in-Known-2-clause-visits
-returns-in-Known-2-clause-visits g c = c.find.ensures.visits
+pub returns-in-None-clause-visits : goal.returns-in-None-clause-visits
+returns-in-None-clause-visits g c = c.find.ensures.visits
 
-pub returns-in-Known-2-clause-memory : goal.returns-in-Known-2-clause-memory
-returns-in-Known-2-clause-memory g c = c.requires.memory
+pub returns-in-None-clause-memory : goal.returns-in-None-clause-memory
+returns-in-None-clause-memory g c = c.requires.memory
 
 pub returns-in-Unknown-clause-room : goal.returns-in-Unknown-clause-room
 returns-in-Unknown-clause-room g c = c.study.ensures.room
@@ -108,3 +108,32 @@ find-requires-clause-starts g c = c.requires.starts
 
 pub find-best-requires-clause-starts : goal.find-best-requires-clause-starts
 find-best-requires-clause-starts g c = c.requires.starts
+
+pub returns-in-Some-clause-best : goal.returns-in-Some-clause-best
+returns-in-Some-clause-best g c =
+    let s = c.in-Known.ensures in
+    best_later (nfa c.args.self.now) c.args.line.now c.args.from _ c.find_from.result s.0 s.2 c.find_from.ensures.best
+
+pub returns-in-Some-clause-room : goal.returns-in-Some-clause-room
+returns-in-Some-clause-room g c = c.find_from.ensures.room
+
+pub returns-in-Some-clause-visits : goal.returns-in-Some-clause-visits
+returns-in-Some-clause-visits g c = c.find_from.ensures.visits
+
+pub returns-in-Some-clause-memory : goal.returns-in-Some-clause-memory
+returns-in-Some-clause-memory g c = rw c.find_from.ensures.same c.requires.memory
+
+pub find_from-requires-clause-runs : goal.find_from-requires-clause-runs
+find_from-requires-clause-runs g c = c.requires.runs
+
+pub find_from-requires-clause-seeds : goal.find_from-requires-clause-seeds
+find_from-requires-clause-seeds g c = c.requires.seeds
+
+pub find_from-requires-clause-starts : goal.find_from-requires-clause-starts
+find_from-requires-clause-starts g c = c.requires.starts
+
+pub find_from-requires-clause-room : goal.find_from-requires-clause-room
+find_from-requires-clause-room g c = c.requires.room
+
+pub find_from-requires-clause-short : goal.find_from-requires-clause-short
+find_from-requires-clause-short g c = c.requires.short

@@ -3,8 +3,9 @@ use Rattle.std.proofs.Common.{◌≡◌, ◌∙◌, ap, length, subst, sym}
 use Rattle.std.specs.Arc.{arc_value}
 use Rattle.pg_match.specs.StateSets.{HaveRoom}
 use Rattle.pg_match.specs.Views.{nfa, buffers}
+use Rattle.pg_match.proofs.AnchoredLemmas.{blank_anchored}
 use Rattle.pg_match.proofs.CacheLemmas.{new_remembers}
-use Rattle.pg_match.proofs.machine.Scratch.new.Goals as goal
+use Rattle.pg_match.proofs.machine.Scratch.prepare.Goals as goal
 
 pub returns-in_err-automaton-clause-fits : goal.returns-in_err-automaton-clause-fits
 returns-in_err-automaton-clause-fits g c = IfOk-from_err c.from_residual.result _ c.from_residual.ensures.0
@@ -35,7 +36,9 @@ invariant_of-result g c =
     ap (λ a. length (nfa a).states) (c.deref-states.ensures ∙ sym c.in_ok-automaton.ensures) in
     let room = c.in_ok-sets.ensures.room in
     let size = c.len-2.ensures ∙ states.ok.0 ∙ same in
+    let size_too = c.len-3.ensures ∙ states.ok.0 ∙ same in
     let memory = new_remembers c.new-2.result c.len-2.result m c.new-2.ensures size in (
       subst (HaveRoom (buffers c.in_ok-sets.sets)) (c.len.ensures ∙ states.ok.0 ∙ same) room,
       rw c.ok-memory.ensures.value memory,
+      blank_anchored c.table-anchored.result c.len-3.result m c.table-anchored.ensures size_too,
     )

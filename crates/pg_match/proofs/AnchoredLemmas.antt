@@ -1,0 +1,522 @@
+-- What remembered sets tell of the runs that began at one place.
+use Rattle.std.proofs.Common.{◌≡◌, ◌≢◌, ℕ, zero, suc, ◌+◌, ◌*◌, ◌/◌, ◌<◌, ◌≤◌, ◌⊎◌, ◌↔◌, inl, inr, List, length, get_or}
+use Rattle.std.proofs.Common.{Bool, true, false, true≢false, not, eqb, ne_eqb, Option, Some, None, refl, sym, ap, ◌∙◌}
+use Rattle.std.proofs.Common.{subst, arith, IsTrue, length-set, get_or-set_same, get_or-set_other}
+use Rattle.std.specs.Prelude.{IfSome, slice_index, slice_get}
+use Rattle.std.proofs.lemmas.List.{get_or_read}
+use Rattle.std.proofs.lemmas.Option.{slice_get-get_or}
+use Rattle.std.proofs.lemmas.Bool.{cases_eq, cases_lt}
+use Rattle.pg_match.specs.Anchored.{StandsFrom, StartsInside, GoesAlone, ToldAlone, IsAnchoredMemoryOf}
+use Rattle.pg_match.specs.Automata.{Nfa, Edge, Runs, IsRunnable}
+use Rattle.pg_match.specs.Bounds.{MayBegin, MayEnd}
+use Rattle.pg_match.specs.Memories.{Remembered, ended, fresh_at, In, Same, IsShape, IsUnknown, IsBlank, Keeps}
+use Rattle.pg_match.specs.Memories.{Grown, Marked, MarkedEnd, IsAtRow}
+use Rattle.pg_match.specs.Searches.{IsBest}
+use Rattle.pg_match.specs.Starts.{GoesOn}
+use Rattle.pg_match.specs.StateSets.{Members, mark, IsGood, IsEmpty, Inserted}
+use Rattle.pg_match.specs.Steps.{Reads, Has, Closed, ReadsNone, HitAtEnd, NoHitAtEnd, AnswersEnd}
+use Rattle.pg_match.specs.Views.{remembered, RemembersAnchored}
+use Rattle.pg_match.specs.declared.dfa_cache.Cache.{Cache}
+use Rattle.pg_match.specs.declared.state.State.{State}
+use Rattle.pg_match.proofs.CacheLemmas.{answers_same, nothing_known, row_of, at_row, same_back, same_on, sets_keep}
+use Rattle.pg_match.proofs.CacheLemmas.{sets_shape}
+use Rattle.pg_match.proofs.SearchLemmas.{edge_moves}
+use Rattle.pg_match.proofs.SkimLemmas.{no_cross}
+use Rattle.pg_match.proofs.StandsLemmas.{reads_edge, edge_reads, ends_here, ends_at_last}
+use Rattle.pg_match.proofs.StepLemmas.{edge_still}
+
+-- the set of a start inside a line is made
+pub started_inside : (m : Nfa) (none seeded after : Members) → IsEmpty none → Inserted none seeded m.start 1
+    → Closed m.states false false seeded after → StartsInside m (Has after)
+started_inside m none seeded after empty ins c = record {
+  comes = λ r h.
+      let w = c.fresh r h in
+      let z = empty.1 w.0 in
+      let f = ins.fresh w.0 z w.1 in
+      subst (λ q. (l : List ℕ) (i : ℕ) → (IsTrue false → i ≡ 0) → (IsTrue false → i ≡ length l)
+      → (n j : ℕ) → Runs m.states l n r i j → (k : ℕ) × Runs m.states l k q i j) f.0 w.2;
+  seeded = c.kept m.start ins.here;
+  still = c.still;
+}
+
+-- where no start is sown, a step goes alone
+pub gone_alone : (t : List State) (seeds : List ℕ) (b : ℕ) (S U : ℕ → Type 0) → GoesOn t seeds b (IsTrue false) S U
+    → GoesAlone t b S U
+gone_alone t seeds b S U g = record {
+  comes = λ r h. let w = g.comes r h in elim w.2 [
+    | inl old ↦ (w.0, w.1, old, w.3, w.4)
+    | inr seed ↦ absurd (true≢false (sym seed.0))
+  ];
+  goes = λ q r h read. g.goes q r (inl h) read;
+  still = g.still;
+}
+
+-- where it leads to nothing, no state reads the byte
+pub read_by_none : (m : Nfa) (b : ℕ) (S : ℕ → Type 0) (u : Members) → GoesAlone m.states b S (Has u) → IsGood u
+    → u.len ≡ 0 → ReadsNone m b S
+read_by_none m b S u g good none = λ q r h read.
+    let k = good.found r (g.goes q r h read) in absurd (omega (arith, k.1))
+
+pub none_same : (m : Nfa) (b : ℕ) (S U : ℕ → Type 0) → Same S U → ReadsNone m b S → ReadsNone m b U
+none_same m b S U s h = λ q r at read. h q r ((s q).1 at) read
+
+pub alone_same : (t : List State) (b : ℕ) (S S' U U' : ℕ → Type 0) → Same S S' → Same U U' → GoesAlone t b S U
+    → GoesAlone t b S' U'
+alone_same t b S S' U U' s u g = record {
+  comes = λ r h. let w = g.comes r ((u r).1 h) in (w.0, w.1, (s w.0).0 w.2, w.3, w.4);
+  goes = λ q r h read. (u r).0 (g.goes q r ((s q).1 h) read);
+  still = λ q h r edge. (u r).0 (g.still q ((u q).1 h) r edge);
+}
+
+inside_same : (m : Nfa) (S U : ℕ → Type 0) → Same S U → StartsInside m S → StartsInside m U
+inside_same m S U s g = record {
+  comes = λ r h. g.comes r ((s r).1 h);
+  seeded = (s m.start).0 g.seeded;
+  still = λ q h r edge. (s r).0 (g.still q ((s q).1 h) r edge);
+}
+
+-- what stands at a place
+module _ (m : Nfa) (l : List ℕ) (s : ℕ) where
+  -- where the start is
+  pub stands_start : (S : ℕ → Type 0) → 0 < s → s < length l → StartsInside m S → StandsFrom m l s s S
+  stands_start S some inside g = record {
+    sound = λ q h. g.comes q h l s (λ f. absurd (true≢false (sym f))) (λ f. absurd (true≢false (sym f)));
+    complete = λ n j run past. (m.start, n, g.seeded, run);
+    closed = λ lt q r h edge.
+        g.still q h r (edge_still false false (slice_get m.states q) l s r (λ z. absurd (omega arith))
+        (λ z. absurd (omega arith)) edge);
+  }
+
+  module _ (p b : ℕ) (S U : ℕ → Type 0) (is : slice_get l p ≡ Some b) (lt : p < length l) (at : StandsFrom m l s p S)
+      (g : GoesAlone m.states b S U) where
+    crosses : (k q j : ℕ) → S q → Runs m.states l k q p j → p + 1 ≤ j
+        → (r : ℕ) × (n : ℕ) × U r × Runs m.states l n r (p + 1) j
+    crosses zero q j h run past = absurd (omega (arith, run.1))
+    crosses (suc k) q j h run past =
+        elim (edge_moves (slice_get m.states q) l p run.0 run.1 run.2) [
+          | inl stays ↦
+              crosses k run.0 j (at.closed lt q run.0 h
+              (subst (λ v. Edge (slice_get m.states q) l p run.0 v) stays run.2))
+              (subst (λ v. Runs m.states l k run.0 v j) stays run.3) past
+          | inr moves ↦ (
+            run.0,
+            k,
+            g.goes q run.0 h (edge_reads (slice_get m.states q) l p b run.0 is
+                (subst (λ v. Edge (slice_get m.states q) l p run.0 v) moves run.2)),
+            subst (λ v. Runs m.states l k run.0 v j) moves run.3,
+          )
+        ]
+
+    -- behind the byte
+    pub stands_behind : StandsFrom m l s (p + 1) U
+    stands_behind = record {
+      sound = λ r h.
+          let w = g.comes r h in
+          λ n j run.
+          let to_y = w.4 l (p + 1) (λ f. absurd (true≢false (sym f))) (λ f. absurd (true≢false (sym f))) n j run in
+          at.sound w.0 w.2 (suc to_y.0) j (w.1, p + 1, reads_edge (slice_get m.states w.0) l p b w.1 is w.3, to_y.1);
+      complete = λ n j run past. let c = at.complete n j run (omega arith) in crosses c.1 c.0 j c.2 c.3 past;
+      closed = λ more q r h edge.
+          g.still q h r (edge_still false false (slice_get m.states q) l (p + 1) r (λ z. absurd (omega arith))
+          (λ z. absurd (omega arith)) edge);
+    }
+
+  -- a run ends at a place inside the line only if state 0 stands there
+  ends_at : (p : ℕ) (S : ℕ → Type 0) → IsRunnable m → StandsFrom m l s p S → p < length l → (n : ℕ)
+      → Runs m.states l n m.start s p → S 0
+  ends_at p S is at lt n run =
+      let c = at.complete n p run (omega arith) in ends_here m l p S (at.closed lt) is c.1 c.0 c.2 c.3
+
+  -- and one does if it stands there
+  end_run : (p : ℕ) (S : ℕ → Type 0) → IsRunnable m → StandsFrom m l s p S → S 0
+      → (n : ℕ) × Runs m.states l n m.start s p
+  end_run p S is at h = at.sound 0 h 0 p (is.accept, refl)
+
+-- no run from s ends where it may behind a place, up to another and before the line's end
+abbrev pub NoEnd : Nfa → List ℕ → ℕ → ℕ → ℕ → Type 0
+NoEnd m l s behind upto =
+    (n j : ℕ) → behind < j → j ≤ upto → j < length l → MayEnd m.bounds l j → Runs m.states l n m.start s j → ⊥
+
+-- the last place behind s, up to p, where a run from s ends and may
+abbrev pub IsLastEnd : Nfa → List ℕ → ℕ → ℕ → Option ℕ → Type 0
+IsLastEnd m l s p None = NoEnd m l s s p
+IsLastEnd m l s p (Some e) =
+    (s < e) × (e ≤ p) × MayEnd m.bounds l e × ((n : ℕ) × Runs m.states l n m.start s e) × NoEnd m l s e p
+
+-- in the middle of following the runs from s: the row of the state is the set of the place p
+pub record Follows (m : Nfa) (t : Remembered) (l : List ℕ) (s p state : ℕ) (last : Option ℕ) : Type 0 where
+  pub onward : s ≤ p
+  pub within : p ≤ length l
+  pub row : IsAtRow t state
+  pub stands : StandsFrom m l s p (In t (state / 256))
+  pub found : IsLastEnd m l s p last
+
+module _ (m : Nfa) (t : Remembered) (is : IsAnchoredMemoryOf m t) where
+  pub in_steps : (state b : ℕ) → IsAtRow t state → b < 256 → state + b < length t.steps
+  in_steps state b s lt = omega (arith, is.shape.steps_size, is.shape.few, s.row, s.known)
+
+  pub in_rows : (state : ℕ) → IsAtRow t state → state / 256 < 257
+  in_rows state s = omega (arith, is.shape.few, s.known)
+
+  told_at : (state v b : ℕ) → IsAtRow t state → b < 256 → v ≡ slice_index t.steps (state + b)
+      → ToldAlone m t (state / 256) b v
+  told_at state v b s lt read =
+      let cell : state + b ≡ 256 * (state / 256) + b = ap (λ u. u + b) s.row in
+      let here : v ≡ slice_index t.steps (256 * (state / 256) + b) = read ∙ ap (slice_index t.steps) cell in
+      subst (ToldAlone m t (state / 256) b) (sym here) (is.told (state / 256) b s.known lt)
+
+  -- a step to a row
+  row_behind : (state v b : ℕ) → IsAtRow t state → b < 256 → v ≡ slice_index t.steps (state + b) → 256 ≤ v
+      → IsAtRow t v × (1 ≤ v / 256) × GoesAlone m.states b (In t (state / 256)) (In t (v / 256))
+  row_behind state v b s lt read big = elim (told_at state v b s lt read) [
+    | inl unknown ↦ absurd (omega (arith, unknown.0))
+    | inr rest ↦ elim rest [
+      | inl dead ↦ absurd (omega (arith, dead.0))
+      | inr go ↦
+          let k = row_of v go.0 go.1 in (
+            at_row t v go.0 go.1 go.3,
+            omega (arith, k, go.2),
+            subst (λ u. GoesAlone m.states b (In t (state / 256)) (In t u)) (sym k) go.4,
+          )
+    ]
+  ]
+
+  -- a step to nothing
+  dead_behind : (state v b : ℕ) → IsAtRow t state → b < 256 → v ≡ slice_index t.steps (state + b) → v ≡ 2
+      → ReadsNone m b (In t (state / 256))
+  dead_behind state v b s lt read two = elim (told_at state v b s lt read) [
+    | inl unknown ↦ absurd (unknown.2 two)
+    | inr rest ↦ elim rest [ inl dead ↦ dead.1 | inr go ↦ absurd (omega (arith, go.1, go.2)) ]
+  ]
+
+  module _ (l : List ℕ) (s : ℕ) (is_m : IsRunnable m) where
+    pub follows_first : 1 ≤ t.count → 0 < s → s < length l → Follows m t l s s 256 None
+    follows_first some later inside = record {
+      onward = omega arith;
+      within = omega arith;
+      row = at_row t 256 1 refl some;
+      stands = stands_start m l s (In t 1) later inside (is.first some);
+      found = λ n j behind upto. absurd (omega arith);
+    }
+
+    -- no end is found behind a place whose set doesn't accept, or where none may be
+    no_end : (p behind : ℕ) (S : ℕ → Type 0) → StandsFrom m l s (p + 1) S → (S 0 → MayEnd m.bounds l (p + 1) → ⊥)
+        → NoEnd m l s behind p → NoEnd m l s behind (p + 1)
+    no_end p behind S at refused none n j later upto inside may run = elim (cases_eq j (p + 1)) [
+      | inl same ↦
+          refused (ends_at m l s (p + 1) S is_m at (omega arith) n
+          (subst (λ v. Runs m.states l n m.start s v) same run)) (subst (MayEnd m.bounds l) same may)
+      | inr other ↦ none n j later (omega arith) inside may run
+    ]
+
+    not_found : (p : ℕ) (last : Option ℕ) (S : ℕ → Type 0) → StandsFrom m l s (p + 1) S
+        → (S 0 → MayEnd m.bounds l (p + 1) → ⊥) → IsLastEnd m l s p last → IsLastEnd m l s (p + 1) last
+    not_found p None S at refused f = no_end p s S at refused f
+    not_found p (Some e) S at refused f =
+        (f.0, omega (arith, f.1), f.2, f.3, no_end p e S at refused f.4)
+
+    module _ (p at v : ℕ) (last : Option ℕ) (f : Follows m t l s p at last) (byte : get_or l p 0 < 256)
+        (lt : p < length l) (read : v ≡ get_or t.steps (at + get_or l p 0) v) (big : 256 ≤ v) where
+      cell : v ≡ slice_index t.steps (at + get_or l p 0)
+      cell = get_or_read t.steps _ v (in_steps at (get_or l p 0) f.row byte) read 0
+
+      step : IsAtRow t v × (1 ≤ v / 256) × GoesAlone m.states (get_or l p 0) (In t (at / 256)) (In t (v / 256))
+      step = row_behind at v (get_or l p 0) f.row byte cell big
+
+      stands : StandsFrom m l s (p + 1) (In t (v / 256))
+      stands = stands_behind m l s p (get_or l p 0) (In t (at / 256)) (In t (v / 256)) (slice_get-get_or l p 0 lt) lt
+          f.stands step.2
+
+      pub in_flags : v / 256 < length t.fresh
+      in_flags = omega (arith, in_rows v step.0, is.shape.fresh_size)
+
+      accepts : (flag : Bool) → flag ≡ get_or t.fresh (v / 256) flag → (flag ≡ true) ↔ In t (v / 256) 0
+      accepts flag flagged =
+          let same = get_or_read t.fresh (v / 256) flag in_flags flagged false in
+          let so = is.accepts (v / 256) step.1 step.0.known in
+          (λ e. so.0 (sym same ∙ e), λ h. same ∙ so.1 h)
+
+      -- on to the next row, where no end is found
+      pub follows_on : (flag : Bool) → flag ≡ get_or t.fresh (v / 256) flag
+          → (flag ≡ true → MayEnd m.bounds l (p + 1) → ⊥) → Follows m t l s (p + 1) v last
+      follows_on flag flagged refused = record {
+        onward = omega (arith, f.onward);
+        within = omega arith;
+        row = step.0;
+        stands = stands;
+        found = not_found p last (In t (v / 256)) stands (λ h. refused ((accepts flag flagged).1 h)) f.found;
+      }
+
+      -- and where one is
+      pub follows_end : (flag : Bool) → flag ≡ get_or t.fresh (v / 256) flag → flag ≡ true
+          → MayEnd m.bounds l (p + 1) → Follows m t l s (p + 1) v (Some (p + 1))
+      follows_end flag flagged is_so may = record {
+        onward = omega (arith, f.onward);
+        within = omega arith;
+        row = step.0;
+        stands = stands;
+        found = (
+          omega (arith, f.onward),
+          omega arith,
+          may,
+          end_run m l s (p + 1) (In t (v / 256)) is_m stands ((accepts flag flagged).0 is_so),
+          λ n j later upto. absurd (omega arith),
+        );
+      }
+
+    -- the end that was found is the best one's, where no run ends behind p
+    abbrev IsEnd : ℕ → Type 0
+    IsEnd e = IsBest m.states l m.start (MayBegin m.bounds l) (MayEnd m.bounds l) s (length l + 1) (Some (s, e))
+
+    best_end : (p : ℕ) (last : Option ℕ) → MayBegin m.bounds l s → IsLastEnd m l s p last → p ≤ length l
+        → ((n j : ℕ) → p < j → j ≤ length l → Runs m.states l n m.start s j → ⊥)
+        → (p ≡ length l → (n : ℕ) → Runs m.states l n m.start s p → ⊥) → IfSome last IsEnd
+    best_end p None begins f within none not_last = tt
+    best_end p (Some e) begins f within none not_last = (
+      omega arith,
+      f.0,
+      omega (arith, f.1),
+      (begins, f.2, f.3),
+      λ v j ge less inside run. (
+        ge,
+        λ same.
+            let here = subst (λ w. Runs m.states l run.2.0 m.start w j) same run.2.1 in
+            elim (cases_lt e j) [
+              | inl behind ↦ elim (cases_lt p j) [
+                | inl past ↦ absurd (none run.2.0 j past (omega arith) here)
+                | inr upto ↦ elim (cases_lt j (length l)) [
+                  | inl before ↦ absurd (f.4 run.2.0 j behind (omega arith) before run.1 here)
+                  | inr end ↦
+                      let is_p : j ≡ p = omega arith in
+                      absurd (not_last (omega arith) run.2.0
+                      (subst (λ w. Runs m.states l run.2.0 m.start s w) is_p here))
+                ]
+              ]
+              | inr upto ↦ upto
+            ],
+      ),
+    )
+
+    pub best_dead : (p at v : ℕ) (last : Option ℕ) → Follows m t l s p at last → MayBegin m.bounds l s
+        → get_or l p 0 < 256 → p < length l → v ≡ get_or t.steps (at + get_or l p 0) v → v ≡ 2 → IfSome last IsEnd
+    best_dead p at v last f begins byte lt read two =
+        let b = get_or l p 0 in
+        let cell = get_or_read t.steps _ v (in_steps at b f.row byte) read 0 in
+        let none = dead_behind at v b f.row byte cell two in
+        best_end p last begins f.found f.within
+        (λ n j past inside run.
+        let c = f.stands.complete n j run (omega arith) in
+        no_cross m l p b (In t (at / 256)) (slice_get-get_or l p 0 lt) (f.stands.closed lt) none c.1 c.0 j c.2 c.3
+        (omega arith))
+        (λ e. absurd (omega arith))
+
+    pub best_no_more : (at p : ℕ) (last : Option ℕ) → Follows m t l s p at last → MayBegin m.bounds l s
+        → p ≡ length l → 0 < s → NoHitAtEnd m false (In t (at / 256)) → IfSome last IsEnd
+    best_no_more at p last f begins end later missed =
+        best_end p last begins f.found f.within (λ n j past inside run. absurd (omega arith))
+        (λ e n run.
+        let here = subst (λ w. StandsFrom m l s w (In t (at / 256))) end f.stands in
+        let last_run = subst (λ w. Runs m.states l n m.start s w) end run in
+        let c = here.complete n (length l) last_run (omega arith) in
+        missed l c.0 c.1 c.2 (λ z. absurd (omega (arith, f.onward))) c.3)
+
+    pub best_at_end : (at p : ℕ) (last : Option ℕ) → Follows m t l s p at last → MayBegin m.bounds l s
+        → p ≡ length l → s < length l → HitAtEnd m false (In t (at / 256)) → IsEnd p
+    best_at_end at p last f begins end inside h =
+        let here = subst (λ w. StandsFrom m l s w (In t (at / 256))) end f.stands in
+        let zero_run = h.2 l (length l) (λ z. absurd (true≢false (sym z))) (λ z. refl) 0 (length l)
+        (is_m.accept, refl) in
+        let run = here.sound h.0 h.1 zero_run.0 (length l) zero_run.1 in
+        subst IsEnd (sym end) (
+          omega arith,
+          inside,
+          omega arith,
+          (begins, ends_at_last m.bounds l, run),
+          λ v j ge less within other. (ge, λ same. omega arith),
+        )
+
+  -- what a row's answer at a line's end says
+  pub ends_told : (r : ℕ) (read : Option Bool) (told answer : Bool) → read ≡ ended t r → read ≡ Some told
+      → told ≡ answer → AnswersEnd m false (In t r) answer
+  ends_told r read told answer here so same =
+      subst (AnswersEnd m false (In t r)) same (is.told_end r told (sym here ∙ so)).1
+
+told_moves : (m : Nfa) (old new : Remembered) (r b v : ℕ) → Keeps old new → r ≤ old.count → ToldAlone m old r b v
+    → ToldAlone m new r b v
+told_moves m old new r b v k le (inl unknown) = inl unknown
+told_moves m old new r b v k le (inr (inl dead)) =
+    inr (inl (dead.0, none_same m b (In old r) (In new r) (k.sets r le) dead.1))
+told_moves m old new r b v k le (inr (inr go)) =
+    let more = k.more in
+    inr (inr (
+      go.0,
+      go.1,
+      go.2,
+      omega (arith, go.3),
+      alone_same m.states b (In old r) (In new r) (In old go.0) (In new go.0) (k.sets r le) (k.sets go.0 go.3) go.4,
+    ))
+
+-- the memory of a table that keeps the rows, where each cell is blank, or is an old one, or is told
+moved : (m : Nfa) (old new : Remembered) → IsAnchoredMemoryOf m old → IsShape (length m.states) new → Keeps old new
+    → ((r b : ℕ) → r ≤ new.count → b < 256 → (slice_index new.steps (256 * r + b) ≡ slice_index old.steps (256 * r + b))
+    ⊎ ToldAlone m new r b (slice_index new.steps (256 * r + b)))
+    → ((i : ℕ) → 256 * (new.count + 1) ≤ i → slice_index new.steps i ≡ slice_index old.steps i)
+    → ((r : ℕ) → old.count < r → r ≤ new.count → (fresh_at new r ≡ true) ↔ In new r 0)
+    → ((r : ℕ) (answer : Bool) → ended new r ≡ Some answer → (ended old r ≡ Some answer)
+    ⊎ ((r ≤ new.count) × AnswersEnd m false (In new r) answer))
+    → (old.count ≡ 0 → 1 ≤ new.count → StartsInside m (In new 1)) → IsAnchoredMemoryOf m new
+moved m old new is shape k cells past flags ends first =
+    let more = k.more in
+    record {
+      shape = shape;
+      told = λ r b le lt. elim (cells r b le lt) [
+        | inl same ↦ elim (cases_lt old.count r) [
+          | inl new_row ↦ inl (nothing_known _ (same ∙ is.blank (256 * r + b) (omega arith)))
+          | inr old_row ↦
+              let le' : r ≤ old.count = omega arith in
+              subst (ToldAlone m new r b) (sym same) (told_moves m old new r b _ k le' (is.told r b le' lt))
+        ]
+        | inr told ↦ told
+      ];
+      blank = λ i le. past i le ∙ is.blank i (omega arith);
+      accepts = λ r ge le. elim (cases_lt old.count r) [
+        | inl new_row ↦ flags r new_row le
+        | inr old_row ↦
+            let le' : r ≤ old.count = omega arith in
+            let flag = k.fresh r le' in
+            let so = is.accepts r ge le' in
+            let sets = k.sets r le' 0 in
+            (λ e. sets.0 (so.0 (sym flag ∙ e)), λ h. flag ∙ so.1 (sets.1 h))
+      ];
+      told_end = λ r answer e. elim (ends r answer e) [
+        | inl same ↦
+            let w = is.told_end r answer same in
+            (omega (arith, w.0), answers_same m false (In old r) (In new r) answer (k.sets r w.0) w.1)
+        | inr told ↦ told
+      ];
+      first = λ some. elim (cases_eq old.count 0) [
+        | inl none ↦ first none some
+        | inr had ↦ inside_same m (In old 1) (In new 1) (k.sets 1 (omega arith)) (is.first (omega arith))
+      ];
+    }
+
+-- a set was added to the table, with a flag that says whether state 0 is in it
+pub alone_grown : (m : Nfa) (old new : Remembered) (s : Members) (flag : Bool) → IsAnchoredMemoryOf m old
+    → Grown (length m.states) old new s flag → (flag ≡ true) ↔ Has s 0
+    → (old.count ≡ 0 → StartsInside m (Has s)) → IsAnchoredMemoryOf m new
+alone_grown m old new s flag is g so first =
+    let n = g.count in
+    moved m old new is g.shape g.keeps (λ r b le lt. inl (ap (λ v. slice_index v (256 * r + b)) g.steps))
+    (λ i le. ap (λ v. slice_index v i) g.steps)
+    (λ r later le.
+    let last : r ≡ new.count = omega arith in
+    let here = g.here 0 in
+    let told = ap (fresh_at new) last ∙ g.fresh_here in (
+      λ e. subst (λ v. In new v 0) (sym last) (here.0 (so.0 (sym told ∙ e))),
+      λ h. told ∙ so.1 (here.1 (subst (λ v. In new v 0) last h)),
+    ))
+    (λ r answer e. inl (sym (ap (λ v. get_or v r None) g.ends) ∙ e))
+    (λ none some.
+    let one : new.count ≡ 1 = omega arith in
+    inside_same m (Has s) (In new 1) (subst (λ v. Same (Has s) (In new v)) one g.here) (first none))
+
+-- a set was added, if there was room
+pub alone_added : (m : Nfa) (old new : Remembered) (s : Members) (flag r : Bool) → IsAnchoredMemoryOf m old
+    → (IsTrue r → Grown (length m.states) old new s flag) → (r ≡ false → new ≡ old) → (flag ≡ true) ↔ Has s 0
+    → (old.count ≡ 0 → StartsInside m (Has s)) → IsAnchoredMemoryOf m new
+alone_added m old new s flag true is grown_so _ so first = alone_grown m old new s flag is (grown_so refl) so first
+alone_added m old new s flag false is _ same so first = subst (IsAnchoredMemoryOf m) (sym (same refl)) is
+
+-- where a byte leads was written
+pub alone_marked : (m : Nfa) (old new : Remembered) (r b v : ℕ) → IsAnchoredMemoryOf m old
+    → Marked old new (256 * r + b) v → r ≤ old.count → b < 256 → ToldAlone m old r b v → IsAnchoredMemoryOf m new
+alone_marked m old new r b v is w le lt told =
+    let k = sets_keep old new w.sets in
+    let n = w.sets.count in
+    let few = is.shape.few in
+    let size = is.shape.steps_size in
+    let here : slice_index new.steps (256 * r + b) ≡ v =
+    ap (λ u. slice_index u (256 * r + b)) w.steps ∙ get_or-set_same old.steps (256 * r + b) v 0 (omega arith) in
+    let other : (i : ℕ) → i ≢ 256 * r + b → slice_index new.steps i ≡ slice_index old.steps i =
+    λ i ne. ap (λ u. slice_index u i) w.steps ∙ get_or-set_other old.steps (256 * r + b) i v 0 ne in
+    moved m old new is
+    (sets_shape (length m.states) old new is.shape w.sets (ap length w.steps ∙ length-set old.steps (256 * r + b) v)
+    (ap length w.ends)) k
+    (λ r' b' le' lt'. elim (cases_eq (256 * r' + b') (256 * r + b)) [
+      | inl same ↦
+          let er : r ≡ r' = omega arith in
+          let eb : b ≡ b' = omega arith in
+          let moved_told = told_moves m old new r b v k le told in
+          inr (subst (λ u. ToldAlone m new r' b' (slice_index new.steps u)) (sym same)
+          (subst (ToldAlone m new r' b') (sym here)
+          (subst (λ u. ToldAlone m new r' u v) eb (subst (λ u. ToldAlone m new u b v) er moved_told))))
+      | inr differs ↦ inl (other (256 * r' + b') differs)
+    ]) (λ i past. other i (omega arith)) (λ r' later upto. absurd (omega arith))
+    (λ r' answer e. inl (sym (ap (λ u. get_or u r' None) w.ends) ∙ e)) (λ none some. absurd (omega arith))
+
+-- the answer at a line's end was written
+pub alone_marked_end : (m : Nfa) (old new : Remembered) (r : ℕ) (answer : Bool) → IsAnchoredMemoryOf m old
+    → MarkedEnd old new r answer → r ≤ old.count → AnswersEnd m false (In old r) answer → IsAnchoredMemoryOf m new
+alone_marked_end m old new r answer is w le told =
+    let k = sets_keep old new w.sets in
+    let n = w.sets.count in
+    let few = is.shape.few in
+    let size = is.shape.ends_size in
+    let here : ended new r ≡ Some answer =
+    ap (λ u. get_or u r None) w.ends ∙ get_or-set_same old.ends r (Some answer) None (omega arith) in
+    moved m old new is
+    (sets_shape (length m.states) old new is.shape w.sets (ap length w.steps)
+    (ap length w.ends ∙ length-set old.ends r (Some answer))) k
+    (λ r' b' le' lt'. inl (ap (λ u. slice_index u (256 * r' + b')) w.steps))
+    (λ i past. ap (λ u. slice_index u i) w.steps) (λ r' later upto. absurd (omega arith))
+    (λ r' answer' e. elim (cases_eq r' r) [
+      | inl same ↦
+          let both : Some answer' ≡ Some answer = sym e ∙ ap (ended new) same ∙ here in
+          let is_so : answer ≡ answer' = sym (same_some answer' answer both) in
+          inr (
+            omega arith,
+            subst (λ u. AnswersEnd m false (In new u) answer') (sym same)
+                (subst (AnswersEnd m false (In new r)) is_so
+                (answers_same m false (In old r) (In new r) answer (k.sets r le) told)),
+          )
+      | inr differs ↦ inl (sym (ap (λ u. get_or u r' None) w.ends
+          ∙ get_or-set_other old.ends r r' (Some answer) None differs) ∙ e)
+    ]) (λ none some. absurd (omega arith))
+  where
+    same_some : (a c : Bool) → Some a ≡ Some c → a ≡ c
+    same_some a c e = cc
+
+-- where the byte leads from row r of the table: to row k
+pub told_alone : (m : Nfa) (old mid : Remembered) (r b k v : ℕ) (s u : Members) → v ≡ 256 * k → 1 ≤ k → k ≤ mid.count
+    → r ≤ old.count → Keeps old mid → Same (In old r) (Has s) → GoesAlone m.states b (Has s) (Has u)
+    → Same (Has u) (In mid k) → ToldAlone m mid r b v
+told_alone m old mid r b k v s u e ge le le_r keeps from goes to =
+    let back = same_on (Has s) (In old r) (In mid r) (same_back (In old r) (Has s) from) (keeps.sets r le_r) in
+    inr (inr (k, e, ge, le, alone_same m.states b (Has s) (In mid r) (Has u) (In mid k) back to goes))
+
+-- a new table remembers nothing
+pub blank_alone : (m : Nfa) (t : Remembered) → IsBlank (length m.states) t → IsAnchoredMemoryOf m t
+blank_alone m t b =
+    let none = b.count in
+    record {
+      shape = b.shape;
+      told = λ r c le lt. inl (nothing_known _ (b.steps (256 * r + c)));
+      blank = λ i le. b.steps i;
+      accepts = λ r ge le. absurd (omega arith);
+      told_end = λ r answer e. absurd (no_some answer (sym (b.ends r) ∙ e));
+      first = λ some. absurd (omega arith);
+    }
+  where
+    no_some : (a : Bool) → None ≡ Some a → ⊥
+    no_some a e = cc
+
+pub blank_anchored : {A : Type 0} (table : Option (Cache A)) (n : ℕ) (m : Nfa)
+    → IfSome table (λ t. IsBlank n (remembered t)) → n ≡ length m.states → RemembersAnchored table m
+blank_anchored (Some t) n m blank same =
+    blank_alone m (remembered t) (subst (λ k. IsBlank k (remembered t)) same blank)
+blank_anchored None n m blank same = tt
+
+-- whether state 0 is in a set, as its mark is read
+pub accepts_so : (s : Members) (v : ℕ) → v ≡ mark s 0 → (not (eqb v 0) ≡ true) ↔ Has s 0
+accepts_so s zero e = (λ no. absurd (true≢false (sym no)), λ h. absurd (omega arith))
+accepts_so s (suc v) e = (λ yes. omega arith, λ h. ap not (ne_eqb (suc v) 0 (omega arith)))

@@ -1,0 +1,48 @@
+use Rattle.std.proofs.Common.{◌≤◌, ◌∙◌, arith, sym, refl, inl, inr, ◌*◌, ◌+◌, ◌≡◌, length, subst}
+use Rattle.std.proofs.lemmas.List.{get_or_read}
+use Rattle.pg_match.specs.Memories.{In}
+use Rattle.pg_match.specs.Steps.{Has}
+use Rattle.pg_match.specs.Views.{nfa, members, remembered}
+use Rattle.pg_match.proofs.AnchoredLemmas.{alone_marked, told_alone, gone_alone, read_by_none, none_same}
+use Rattle.pg_match.proofs.CacheLemmas.{same_back}
+use Rattle.pg_match.proofs.StateSetLemmas.{few}
+use Rattle.pg_match.proofs.automaton.Automaton.learn_alone.Goals as goal
+
+pub returns-then-sets-eq0-clause-memory : goal.returns-then-sets-eq0-clause-memory
+returns-then-sets-eq0-clause-memory g c =
+    let m = nfa c.args.self.now in
+    let old = remembered c.args.memory.now in
+    let r = c.args.row in
+    let b = c.args.byte in
+    let S = Has (members c.load.new.set) in
+    let u = members c.go_on.new.sets.current in
+    let goes = gone_alone m.states c.args.self.now.seeds.items b S (Has u) c.go_on.ensures.goes in
+    let none = read_by_none m b S u goes c.go_on.ensures.room.now c.if-sets-eq0.true in
+    alone_marked m old (remembered c.mark.new.self) r b 2 c.requires.memory c.mark.ensures c.requires.known (omega arith)
+    (inr (inl (refl, none_same m b S (In old r) (same_back (In old r) S c.load.ensures.same) none)))
+
+pub returns-then-to-eq0-clause-memory : goal.returns-then-to-eq0-clause-memory
+returns-then-to-eq0-clause-memory g c =
+    let mid = remembered c.keep_alone-to.new.memory in
+    let more = c.keep_alone-to.ensures.keeps.more in
+    let known = c.requires.known in
+    alone_marked (nfa c.args.self.now) mid (remembered c.mark-then-to-eq0.new.self) c.args.row c.args.byte 3
+    c.keep_alone-to.ensures.memory c.mark-then-to-eq0.ensures (omega arith) (omega arith)
+    (inl (omega arith, λ one. omega arith, λ two. omega arith))
+
+pub returns-clause-memory : goal.returns-clause-memory
+returns-clause-memory g c =
+    let m = nfa c.args.self.now in
+    let old = remembered c.args.memory.now in
+    let mid = remembered c.keep_alone-to.new.memory in
+    let k = c.keep_alone-to.result in
+    let s = members c.load.new.set in
+    let u = members c.go_on.new.sets.current in
+    let some : 1 ≤ k = omega (arith, c.if-to-eq0.false) in
+    let more = c.keep_alone-to.ensures.keeps.more in
+    let known = c.requires.known in
+    let goes = gone_alone m.states c.args.self.now.seeds.items c.args.byte (Has s) (Has u) c.go_on.ensures.goes in
+    alone_marked m mid (remembered c.mark-2.new.self) c.args.row c.args.byte _ c.keep_alone-to.ensures.memory
+    c.mark-2.ensures (omega arith) (omega arith)
+    (told_alone m old mid c.args.row c.args.byte k _ s u refl some c.keep_alone-to.ensures.known c.requires.known
+    c.keep_alone-to.ensures.keeps c.load.ensures.same goes (c.keep_alone-to.ensures.same some))

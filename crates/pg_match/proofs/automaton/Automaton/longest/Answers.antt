@@ -1,0 +1,85 @@
+use Rattle.std.proofs.Common.{◌≡◌, ◌+◌, ◌/◌, ◌<◌, ◌≤◌, ◌∙◌, get_or, length, arith, sym, true≢false, true, false, None}
+use Rattle.std.proofs.lemmas.List.{get_or_read}
+use Rattle.pg_match.specs.Views.{nfa, remembered}
+use Rattle.pg_match.proofs.AnchoredLemmas.{follows_first, follows_on, follows_end, in_flags, in_rows, best_dead}
+use Rattle.pg_match.proofs.AnchoredLemmas.{best_no_more, best_at_end, ends_told}
+use Rattle.pg_match.proofs.automaton.Automaton.longest.Goals as goal
+use Rattle.pg_match.proofs.automaton.Automaton.longest.Goals.{else-index-via-then-index+else-may_end}
+use Rattle.pg_match.proofs.automaton.Automaton.longest.Goals.{else-index-via-else-index}
+
+pub loop-place-init : goal.loop-place-init
+loop-place-init g c =
+    follows_first (nfa c.args.self.now) (remembered c.args.memory.now) c.requires.memory c.args.line.now c.args.start
+    c.requires.runs (omega arith) (omega arith) (omega arith)
+
+pub returns-then-next-eq-DEAD : goal.returns-then-next-eq-DEAD
+returns-then-next-eq-DEAD g c =
+    best_dead (nfa c.args.self.now) (remembered c.args.memory.now) c.requires.memory c.args.line.now c.args.start
+    c.requires.runs c.loop-place.place c.loop-place.state c.index-next.result.now c.loop-place.last
+    c.loop-place.invariant (c.may_begin.ensures.0 c.if-not-may_begin.false) (omega (arith, c.type_inv.line c.loop-place.place))
+    c.loop-place-test.true c.index-next.ensures c.if-next-eq-DEAD.true
+
+pub index-requires : goal.index-requires
+index-requires g c =
+    let size = c.args.memory.now.fresh.ok.0 in
+    let m = nfa c.args.self.now in
+    let t = remembered c.args.memory.now in
+    let p = c.loop-place.place in
+    let inside = in_flags m t c.requires.memory c.args.line.now c.args.start c.requires.runs p c.loop-place.state
+    c.index-next.result.now c.loop-place.last c.loop-place.invariant (omega (arith, c.type_inv.line p))
+    c.loop-place-test.true c.index-next.ensures c.if-next-lt256.false in
+    omega arith
+
+pub loop-place-preserved-then-may_end : goal.loop-place-preserved-then-may_end
+loop-place-preserved-then-may_end g c =
+    let p = c.loop-place.place in
+    follows_end (nfa c.args.self.now) (remembered c.args.memory.now) c.requires.memory c.args.line.now c.args.start
+    c.requires.runs p c.loop-place.state c.index-next.result.now c.loop-place.last c.loop-place.invariant
+    (omega (arith, c.type_inv.line p)) c.loop-place-test.true c.index-next.ensures c.if-next-lt256.false
+    c.index.result.now c.index.ensures c.if-index.true (c.may_end.ensures.0 c.if-may_end.true)
+
+pub loop-place-preserved : goal.loop-place-preserved
+loop-place-preserved g c =
+    let p = c.loop-place.place in
+    follows_on (nfa c.args.self.now) (remembered c.args.memory.now) c.requires.memory c.args.line.now c.args.start
+    c.requires.runs p c.loop-place.state c.index-next.result.now c.loop-place.last c.loop-place.invariant
+    (omega (arith, c.type_inv.line p)) c.loop-place-test.true c.index-next.ensures c.if-next-lt256.false
+    c.index.result.now c.index.ensures
+    (λ flag may. elim c.else-index.branch [
+      | else-index-via-then-index+else-may_end w ↦ true≢false (sym (w.may_end.ensures.1 may) ∙ w.if-may_end.false)
+      | else-index-via-else-index w ↦ true≢false (sym flag ∙ w.if-index.false)
+    ])
+
+pub returns-then-is_end : goal.returns-then-is_end
+returns-then-is_end g c =
+    let m = nfa c.args.self.now in
+    let t = remembered c.args.memory.now in
+    let f = c.loop-place.invariant in
+    let at = c.loop-place.state in
+    let inside : at / 256 < length t.ends = omega (
+      arith,
+      in_rows m t c.requires.memory at f.row,
+      c.requires.memory.shape.ends_size,
+    ) in
+    let told = get_or_read t.ends (at / 256) c.index-2.result.now inside c.index-2.ensures None in
+    best_at_end m t c.requires.memory c.args.line.now c.args.start c.requires.runs at c.loop-place.place
+    c.loop-place.last f (c.may_begin.ensures.0 c.if-not-may_begin.false) (omega arith) (omega arith)
+    (ends_told m t c.requires.memory (at / 256) c.index-2.result.now c.in-Some.is_end true told c.in-Some.is
+    c.if-is_end.true)
+
+pub returns-else-is_end : goal.returns-else-is_end
+returns-else-is_end g c =
+    let m = nfa c.args.self.now in
+    let t = remembered c.args.memory.now in
+    let f = c.loop-place.invariant in
+    let at = c.loop-place.state in
+    let inside : at / 256 < length t.ends = omega (
+      arith,
+      in_rows m t c.requires.memory at f.row,
+      c.requires.memory.shape.ends_size,
+    ) in
+    let told = get_or_read t.ends (at / 256) c.index-2.result.now inside c.index-2.ensures None in
+    best_no_more m t c.requires.memory c.args.line.now c.args.start c.requires.runs at c.loop-place.place
+    c.loop-place.last f (c.may_begin.ensures.0 c.if-not-may_begin.false) (omega arith) (omega arith)
+    (ends_told m t c.requires.memory (at / 256) c.index-2.result.now c.in-Some.is_end false told c.in-Some.is
+    c.if-is_end.false)

@@ -1,0 +1,10 @@
+use Rattle.std.proofs.Common.{◌-◌, length}
+use Rattle.pg_match.specs.Views.{nfa, remembered}
+use Rattle.pg_match.proofs.AnchoredLemmas.{Follows}
+use Rattle.pg_match.proofs.automaton.Automaton.longest.Given as goal
+
+abbrev pub invariant-loop-place : goal.invariant-loop-place
+invariant-loop-place g l = Follows (nfa l.self) (remembered l.memory) l.line l.start l.place l.state l.last
+
+abbrev pub decreases-loop-place : goal.decreases-loop-place
+decreases-loop-place g l = length l.line - l.place

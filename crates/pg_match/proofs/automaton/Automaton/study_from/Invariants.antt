@@ -1,0 +1,15 @@
+use Rattle.std.proofs.Common.{◌+◌, ◌*◌, ◌≤◌, length}
+use Rattle.pg_match.specs.Anchored.{IsAnchoredMemoryOf}
+use Rattle.pg_match.specs.StateSets.{HaveRoom}
+use Rattle.pg_match.specs.Views.{nfa, buffers, remembered, Tells}
+use Rattle.pg_match.proofs.automaton.Automaton.study_from.Given as goal
+
+abbrev pub invariant-loop-place : goal.invariant-loop-place
+invariant-loop-place g l = record {
+  room : HaveRoom (buffers l.sets) (length l.self.states.items);
+  memory : IsAnchoredMemoryOf (nfa l.self) (remembered l.memory);
+  some : 1 ≤ l.memory.count;
+  known : l.row ≤ l.memory.count;
+  visits : l.sets.visits ≤ (length l.line + 1) * length l.self.states.items;
+  told : Tells l.fn.sets l.sets;
+}

@@ -1,0 +1,43 @@
+-- Sets of the runs that began at one place, and where each byte leads from them: the table of anchored searches.
+use Rattle.std.specs.Prelude.{◌≡◌, ℕ, ◌+◌, ◌*◌, ◌<◌, ◌≤◌, ◌⊎◌, ◌↔◌, Bool, true, false, List, length, Some}
+use Rattle.std.specs.Prelude.{slice_get, slice_index}
+use Rattle.pg_match.specs.Automata.{Nfa, Edge, Runs}
+use Rattle.pg_match.specs.Closures.{Leads}
+use Rattle.pg_match.specs.Memories.{Remembered, In, IsShape, IsUnknown, fresh_at, ended}
+use Rattle.pg_match.specs.Steps.{Reads, LeadsStill, IsStill, ReadsNone, AnswersEnd}
+use Rattle.pg_match.specs.declared.state.State.{State}
+
+-- S holds the states at p of the runs that began at s
+pub record StandsFrom (m : Nfa) (l : List ℕ) (s p : ℕ) (S : ℕ → Type 0) : Type 0 where
+  pub sound : (q : ℕ) → S q → Leads m.states l m.start s q p
+  pub complete : (n j : ℕ) → Runs m.states l n m.start s j → p ≤ j → (q : ℕ) × (k : ℕ) × S q × Runs m.states l k q p j
+  pub closed : p < length l → (q r : ℕ) → S q → Edge (slice_get m.states q) l p r p → S r
+
+-- the set of a start inside a line, but for what needs the line's end
+pub record StartsInside (m : Nfa) (S : ℕ → Type 0) : Type 0 where
+  pub comes : (r : ℕ) → S r → LeadsStill m.states false false m.start r
+  pub seeded : S m.start
+  pub still : IsStill m.states false false S
+
+-- from S alone, with no start behind the byte, the byte leads to U, but for what needs the line's end
+pub record GoesAlone (t : List State) (b : ℕ) (S U : ℕ → Type 0) : Type 0 where
+  pub comes : (r : ℕ) → U r → (q : ℕ) × (y : ℕ) × S q × Reads (slice_get t q) b y × LeadsStill t false false y r
+  pub goes : (q r : ℕ) → S q → Reads (slice_get t q) b r → U r
+  pub still : IsStill t false false U
+
+-- what is known of a row and a byte: nothing, that no state of the row reads the byte, or which row is next
+abbrev pub ToldAlone : Nfa → Remembered → ℕ → ℕ → ℕ → Type 0
+ToldAlone m t r b v =
+    IsUnknown v ⊎ (((v ≡ 2) × ReadsNone m b (In t r))
+    ⊎ ((k : ℕ) × (v ≡ 256 * k) × (1 ≤ k) × (k ≤ t.count) × GoesAlone m.states b (In t r) (In t k)))
+
+-- What is remembered of the runs of one start is true of the automaton, for every line. A row's flag says whether a match
+-- may end at a place inside a line whose set the row is, and row 1 is that of a start inside a line.
+pub record IsAnchoredMemoryOf (m : Nfa) (t : Remembered) : Type 0 where
+  pub shape : IsShape (length m.states) t
+  pub told : (r b : ℕ) → r ≤ t.count → b < 256 → ToldAlone m t r b (slice_index t.steps (256 * r + b))
+  pub blank : (i : ℕ) → 256 * (t.count + 1) ≤ i → slice_index t.steps i ≡ 0
+  pub accepts : (r : ℕ) → 1 ≤ r → r ≤ t.count → (fresh_at t r ≡ true) ↔ In t r 0
+  pub told_end : (r : ℕ) (answer : Bool) → ended t r ≡ Some answer
+      → (r ≤ t.count) × AnswersEnd m false (In t r) answer
+  pub first : 1 ≤ t.count → StartsInside m (In t 1)

@@ -1,0 +1,235 @@
+//! The longest match from a known start, by the remembered sets of the runs that begin there.
+ghost use Rattle.std.specs.Prelude.{◌≡◌, ◌+◌, ◌*◌, ◌<◌, ◌≤◌, ◌^◌, length, IfSome, IsTrue, Some, true};
+ghost use Rattle.pg_match.specs.Automata.{IsRunnable};
+ghost use Rattle.pg_match.specs.Anchored.{IsAnchoredMemoryOf};
+ghost use Rattle.pg_match.specs.Bounds.{MayBegin, MayEnd};
+ghost use Rattle.pg_match.specs.Memories.{In, Keeps, Same, fresh_at};
+ghost use Rattle.pg_match.specs.Searches.{IsBest};
+ghost use Rattle.pg_match.specs.StateSets.{IsGood, HaveRoom};
+ghost use Rattle.pg_match.specs.Steps.{Has};
+ghost use Rattle.pg_match.specs.Views.{nfa, members, buffers, remembered, added, HasSeeds, HasStarts, Tells};
+
+use crate::automaton::Automaton;
+use crate::dfa_cache::{Cache, DEAD, LOST, SETS};
+use crate::search::StateSets;
+use crate::sparse_set::StateSet;
+use std::alloc::Allocator;
+
+impl<A: Allocator> Automaton<A> {
+    /// The end of the best span from a place on, if that begins there and is remembered.
+    pub(crate) fn longest(&self, memory: &Cache<A>, line: &[u8], start: usize) -> Option<usize>
+        requires runs { IsRunnable (nfa self.now) }
+        requires memory { IsAnchoredMemoryOf (nfa self.now) (remembered memory.now) }
+        requires start_in { start ≤ length line.now }
+        ensures { IfSome result (λ end. IsBest self.now.states.items line.now self.now.start
+            (MayBegin self.now.bounds line.now) (MayEnd self.now.bounds line.now) start (length line.now + 1)
+            (Some (start, end))) }
+    {
+        if start == 0 || start >= line.len() || memory.count == 0 {
+            return None;
+        }
+        if !self.bounds.may_begin(line, start) {
+            return None;
+        }
+        let mut state = 256;
+        let mut place = start;
+        let mut last = None;
+        while place < line.len() {
+            let next = memory.steps[state as usize + line[place] as usize];
+            if next < 256 {
+                return if next == DEAD { last } else { None };
+            }
+            state = next;
+            place += 1;
+            if memory.fresh[(next / 256) as usize] && self.bounds.may_end(line, place) {
+                last = Some(place);
+            }
+        }
+        match memory.ends[(state / 256) as usize] {
+            Some(is_end) => if is_end { Some(place) } else { last },
+            None => None,
+        }
+    }
+
+    /// The row of a set, or 0 where there is no room.
+    fn keep_alone(&self, memory: &mut Cache<A>, set: &StateSet<A>) -> usize
+        requires runs { IsRunnable (nfa self.now) }
+        requires memory { IsAnchoredMemoryOf (nfa self.now) (remembered memory.old) }
+        requires good { IsGood (members set.now) }
+        requires size { length set.now.marks.items ≡ length self.now.states.items }
+        requires some { 1 ≤ memory.old.count }
+        ensures memory { IsAnchoredMemoryOf (nfa self.now) (remembered memory.new) }
+        ensures keeps { Keeps (remembered memory.old) (remembered memory.new) }
+        ensures known { result ≤ memory.new.count }
+        ensures same { 1 ≤ result → Same (Has (members set.now)) (In (remembered memory.new) result) }
+    {
+        let accepts = set.marks[0] != 0;
+        let known = memory.find(set, accepts);
+        if known != 0 {
+            return known;
+        }
+        if memory.add(set, accepts) {
+            memory.count
+        } else {
+            0
+        }
+    }
+
+    /// The row that a byte leads to from a row, if it is known or there is room to remember it.
+    fn learn_alone(
+        &self,
+        sets: &mut StateSets<A>,
+        memory: &mut Cache<A>,
+        row: usize,
+        byte: u8,
+    ) -> Option<usize>
+        requires runs { IsRunnable (nfa self.now) }
+        requires seeds { HasSeeds self.now }
+        requires starts { HasStarts self.now }
+        requires room { HaveRoom (buffers sets.old) (length self.now.states.items) }
+        requires memory { IsAnchoredMemoryOf (nfa self.now) (remembered memory.old) }
+        requires known { row ≤ memory.old.count }
+        requires some { 1 ≤ memory.old.count }
+        requires visits { sets.old.visits < 2 ^ 99 }
+        ensures room { HaveRoom (buffers sets.new) (length self.now.states.items) }
+        ensures memory { IsAnchoredMemoryOf (nfa self.now) (remembered memory.new) }
+        ensures some { 1 ≤ memory.new.count }
+        ensures known { IfSome result (λ next. next ≤ memory.new.count) }
+        ensures visits { sets.new.visits ≤ sets.old.visits + length self.now.states.items }
+        ensures told { Tells sets.old sets.new }
+    {
+        let step = memory.steps[256 * row + byte as usize];
+        if step >= 256 {
+            return Some((step / 256) as usize);
+        }
+        if step != 0 {
+            return None;
+        }
+        memory.load(row, &mut sets.current);
+        self.go_on(sets, byte, false);
+        if sets.current.len == 0 {
+            memory.mark(row, byte, DEAD);
+            return None;
+        }
+        let to = self.keep_alone(memory, &sets.current);
+        if to == 0 {
+            memory.mark(row, byte, LOST);
+            return None;
+        }
+        memory.mark(row, byte, 256 * to as u32);
+        Some(to)
+    }
+
+    /// Learns whether a match ends where a line does, at a row.
+    fn learn_end(&self, sets: &mut StateSets<A>, memory: &mut Cache<A>, row: usize)
+        requires runs { IsRunnable (nfa self.now) }
+        requires room { HaveRoom (buffers sets.old) (length self.now.states.items) }
+        requires memory { IsAnchoredMemoryOf (nfa self.now) (remembered memory.old) }
+        requires known { row ≤ memory.old.count }
+        requires visits { sets.old.visits < 2 ^ 98 }
+        ensures room { HaveRoom (buffers sets.new) (length self.now.states.items) }
+        ensures memory { IsAnchoredMemoryOf (nfa self.now) (remembered memory.new) }
+        ensures visits { sets.new.visits ≤ sets.old.visits + length self.now.states.items }
+        ensures told { Tells sets.old sets.new }
+    {
+        if memory.ends[row].is_some() {
+            return;
+        }
+        memory.load(row, &mut sets.current);
+        let answer = self.hits_at_end(sets, false);
+        memory.mark_end(row, answer);
+    }
+
+    /// Sees to the first row, if there is room.
+    fn first_alone(&self, sets: &mut StateSets<A>, memory: &mut Cache<A>) -> bool
+        requires runs { IsRunnable (nfa self.now) }
+        requires room { HaveRoom (buffers sets.old) (length self.now.states.items) }
+        requires memory { IsAnchoredMemoryOf (nfa self.now) (remembered memory.old) }
+        requires visits { sets.old.visits < 2 ^ 98 }
+        ensures room { HaveRoom (buffers sets.new) (length self.now.states.items) }
+        ensures memory { IsAnchoredMemoryOf (nfa self.now) (remembered memory.new) }
+        ensures visits { sets.new.visits ≤ sets.old.visits + length self.now.states.items }
+        ensures told { Tells sets.old sets.new }
+        ensures some { IsTrue result → 1 ≤ memory.new.count }
+    {
+        if memory.count > 0 {
+            return true;
+        }
+        self.begin_inside(sets);
+        let accepts = sets.current.marks[0] != 0;
+        memory.add(&sets.current, accepts)
+    }
+
+    /// Learns more of the runs that begin at a place of a line, as far as the visits allow.
+    fn study_from(&self, sets: &mut StateSets<A>, memory: &mut Cache<A>, line: &[u8], start: usize)
+        requires runs { IsRunnable (nfa self.now) }
+        requires seeds { HasSeeds self.now }
+        requires starts { HasStarts self.now }
+        requires room { HaveRoom (buffers sets.old) (length self.now.states.items) }
+        requires memory { IsAnchoredMemoryOf (nfa self.now) (remembered memory.old) }
+        requires short { length line.now ≤ 2 ^ 30 }
+        requires visits { sets.old.visits ≤ (length line.now + 1) * length self.now.states.items }
+        ensures room { HaveRoom (buffers sets.new) (length self.now.states.items) }
+        ensures memory { IsAnchoredMemoryOf (nfa self.now) (remembered memory.new) }
+        ensures visits { sets.new.visits ≤ (length line.now + 1) * length self.now.states.items }
+        ensures told { Tells sets.old sets.new }
+    {
+        let size = self.states.len() as u128;
+        let most = line.len() as u128 * size;
+        if sets.visits > most {
+            return;
+        }
+        if !self.first_alone(sets, memory) {
+            return;
+        }
+        let mut row = 1;
+        for place in start..line.len() {
+            if sets.visits > most {
+                return;
+            }
+            match self.learn_alone(sets, memory, row, line[place]) {
+                Some(next) => row = next,
+                None => return,
+            }
+        }
+        if sets.visits <= most {
+            self.learn_end(sets, memory, row);
+        }
+    }
+
+    /// The best span from a place on, by what is remembered of the runs that begin there, or else by runs of the
+    /// automaton; then more is remembered, in a share of the room that both tables have.
+    pub(crate) fn find_from(
+        &self,
+        sets: &mut StateSets<A>,
+        memory: &mut Cache<A>,
+        anchored: &mut Cache<A>,
+        line: &[u8],
+        start: usize,
+    ) -> Option<(usize, usize)>
+        requires runs { IsRunnable (nfa self.now) }
+        requires seeds { HasSeeds self.now }
+        requires starts { HasStarts self.now }
+        requires room { HaveRoom (buffers sets.old) (length self.now.states.items) }
+        requires anchored { IsAnchoredMemoryOf (nfa self.now) (remembered anchored.old) }
+        requires short { length line.now ≤ 2 ^ 30 }
+        requires start_in { start ≤ length line.now }
+        ensures room { HaveRoom (buffers sets.new) (length self.now.states.items) }
+        ensures same { remembered memory.new ≡ remembered memory.old }
+        ensures anchored { IsAnchoredMemoryOf (nfa self.now) (remembered anchored.new) }
+        ensures best { IsBest self.now.states.items line.now self.now.start (MayBegin self.now.bounds line.now)
+            (MayEnd self.now.bounds line.now) start (length line.now + 1) result }
+        ensures visits { sets.new.visits ≤ (length line.now + 1) * length self.now.states.items }
+        ensures told { added sets.new ≡ added sets.old + sets.new.visits }
+    {
+        if let Some(end) = self.longest(anchored, line, start) {
+            sets.visits = 0;
+            return Some((start, end));
+        }
+        let best = self.find(sets, line, start);
+        anchored.leave_room(memory.count.max(SETS / 2));
+        self.study_from(sets, anchored, line, start);
+        memory.leave_room(anchored.count);
+        best
+    }
+}
