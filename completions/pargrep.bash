@@ -4,9 +4,9 @@ _pargrep() {
   local -a options=(
     -A --after-context= -B --before-context= -C --context= -E --extended-regexp -F --fixed-strings
     -G --basic-regexp -H --with-filename -L --files-without-match -V --version -Z --null -a --text
-    -c --count -e --regexp= -f --file= -h --no-filename -i --ignore-case -l --files-with-matches
-    -m --max-count= -n --line-number -o --only-matching -q --quiet --silent -r --recursive
-    -s --no-messages -v --invert-match -w --word-regexp -x --line-regexp -z --null-data
+    -c --count -e --regexp= -f --file= -h --no-filename -i -y --ignore-case --no-ignore-case
+    -l --files-with-matches -m --max-count= -n --line-number -o --only-matching -q --quiet --silent
+    -r --recursive -s --no-messages -v --invert-match -w --word-regexp -x --line-regexp -z --null-data
     --block= --help --line-buffered --round= --workers=
   )
   COMPREPLY=()

@@ -5,6 +5,8 @@ complete -c pargrep -s G -l basic-regexp -d 'basic expressions, as without -E an
 complete -c pargrep -s e -l regexp -x -d 'the patterns in this text'
 complete -c pargrep -s f -l file -r -d 'the patterns in this file'
 complete -c pargrep -s i -l ignore-case -d 'upper and lower case do not differ'
+complete -c pargrep -s y -d 'upper and lower case do not differ'
+complete -c pargrep -l no-ignore-case -d 'upper and lower case differ'
 complete -c pargrep -s w -l word-regexp -d 'match only whole words'
 complete -c pargrep -s x -l line-regexp -d 'match only whole lines'
 complete -c pargrep -s v -l invert-match -d 'select the lines without a match'

@@ -19,6 +19,9 @@ COMPLETIONS = ROOT / "completions"
 # Options for tests alone, which nothing names.
 HIDDEN = {"--always-spread"}
 
+# Letters that are other names of one in the table (specs/Spelled.antt).
+OLDER = {"-y": "-i"}
+
 OPTION = re.compile(
     r"""OptionRow\(\s*Names::(?:Letter\('(?P<letter>.)',\s*&\[(?P<others>[^\]]*)\]\)|Long),\s*"""
     r""""(?P<name>[a-z-]+)",\s*Behind::(?P<value>\w+)"""
@@ -36,6 +39,7 @@ def options_of_table():
         names = [f"--{it}" for it in (option["name"], *others)]
         names += [f"-{option['letter']}"] if option["letter"] else []
         found |= {name: option["value"] != "Nothing" for name in names}
+    found |= {older: found[letter] for older, letter in OLDER.items() if letter in found}
     return {name: takes for name, takes in found.items() if name not in HIDDEN}
 
 

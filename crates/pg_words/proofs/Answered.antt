@@ -1,7 +1,7 @@
 -- A parse gives what was asked, or refuses it.
 use Rattle.std.proofs.Common.{◌≡◌, ◌∙◌, ap, refl, sym, subst, true, false, true≢false, Bool, List, [], ◌∷◌, Option}
 use Rattle.std.proofs.Common.{Some, None}
-use Rattle.std.proofs.Common.{All, IsUtf8, map, arith, zero, suc, codes, ◌⊎◌, ⊎_elim, String}
+use Rattle.std.proofs.Common.{All, IsUtf8, map, arith, zero, suc, codes, ⊎_elim, String}
 use Rattle.std.proofs.Common.{Global}
 use Rattle.std.specs.Prelude.{unwrap_or}
 use Rattle.std.specs.String.{string_bytes}

@@ -1,7 +1,7 @@
 -- What the getters read after a parse.
 use Rattle.std.proofs.Common.{◌≡◌, ◌∙◌, ap, refl, sym, subst, true, false, true≢false, ℕ, Bool, List, [], ◌∷◌}
 use Rattle.std.proofs.Common.{◌++◌, Option, Some}
-use Rattle.std.proofs.Common.{None, codes, fold, ◌≤◌, ◌<◌, ◌⊎◌, inl, inr, arith, ⊎_elim, ◌==◌, cond}
+use Rattle.std.proofs.Common.{None, codes, fold, ◌≤◌, ◌<◌, inl, inr, arith, ⊎_elim, ◌==◌, cond}
 use Rattle.std.proofs.Common.{ne_eqb, append-nil}
 use Rattle.std.proofs.Common.{append_assoc, find, ltb-true, nat_lt}
 use Rattle.std.specs.Prelude.{unwrap_or}
@@ -179,7 +179,7 @@ last_fits val [] before v all first e = first v e
 last_fits val (x ∷ vs) before v all first e = last_fits val vs (Some x) v all.1
     (λ w is. ap (fits val) (ap (λ (q : Option Text). unwrap_or q w) (sym is)) ∙ all.0) e
 
-find_holds : (q : Opt → Bool) (os : List Opt) (o : Opt) → find q os ≡ Some o → q o ≡ true
+pub find_holds : (q : Opt → Bool) (os : List Opt) (o : Opt) → find q os ≡ Some o → q o ≡ true
 find_holds q [] o e = cc
 find_holds q (x ∷ os) o e = go (q x) refl e (find_holds q os o)
   where

@@ -1,4 +1,5 @@
 pub mod Answered
+pub mod Cases
 pub mod Cuts
 pub mod Found
 pub mod Joins
@@ -7,6 +8,7 @@ pub mod Numbers
 pub mod Ours
 pub mod Rows
 pub mod Rules
+pub mod Spells
 pub mod Table
 pub mod Uses
 pub mod Waiting

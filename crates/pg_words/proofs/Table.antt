@@ -15,6 +15,7 @@ use Rattle.pg_words.specs.App.{app_of_rules, named_rule, rule_for, has_letter, h
 use Rattle.pg_words.specs.App.{value_of}
 use Rattle.pg_words.specs.Joined.{takes_value}
 use Rattle.pg_words.specs.Line.{Text, by_letter, by_name}
+use Rattle.pg_words.specs.Spelled.{is_flag}
 use Rattle.pg_words.specs.declared.command.OptionRow.{OptionRow}
 use Rattle.pg_words.specs.declared.command.Behind.{Behind}
 use Rattle.pg_words.specs.declared.command.Behind.TheVariants as behind
@@ -65,6 +66,18 @@ letter_found r rows x e = letter_found_by r.0 r.1 r.2 rows x e
 pub letter_passed : (r : OptionRow) (rows : List OptionRow) (x : ℕ) → has_letter r x ≡ false
     → by_letter (opts_of (r ∷ rows)) x ≡ by_letter (opts_of rows) x
 letter_passed r rows x e = letter_passed_by r.0 r.1 r.2 rows x e
+
+flag_found_by : (n : Names) (name : Bor Text) (b : Behind) (rows : List OptionRow) (x : ℕ)
+    → has_letter (row n name b) x ≡ true
+    → not (has_value_behind b) ≡ is_flag (by_letter (opts_of (row n name b ∷ rows)) x)
+flag_found_by (names.Letter letter others) name b rows x e =
+    rw e (ap not (same_value (Some letter) name.now (map (λ other. other.now) others.now) b))
+flag_found_by names.Long name b rows x e = cc
+flag_found_by names.Place name b rows x e = cc
+
+pub flag_found : (r : OptionRow) (rows : List OptionRow) (x : ℕ) → has_letter r x ≡ true
+    → not (has_value_behind r.2) ≡ is_flag (by_letter (opts_of (r ∷ rows)) x)
+flag_found r rows x e = flag_found_by r.0 r.1 r.2 rows x e
 
 name_found_by : (n : Names) (own : Bor Text) (b : Behind) (rows : List OptionRow) (name : Text)
     → has_name (row n own b) name ≡ true

@@ -3,8 +3,9 @@ use Rattle.std.specs.Prelude.{ℕ, ◌+◌, ◌||◌, Bool, if◌then◌else◌,
 use Rattle.std.specs.Prelude.{option_map, unwrap_or}
 use Rattle.std.specs.Str.Parse.{digits_value, without_leading_sign}
 use Rattle.pg_words.specs.Asked.{Asked, Pace}
-use Rattle.pg_words.specs.Line.{Text, Use, Uses, is_given, last_value, operands_of, some_text, uses_in, values_of}
+use Rattle.pg_words.specs.Line.{Text, Use, Uses, ignores_case, is_given, last_value, operands_of, some_text, values_of}
 use Rattle.pg_words.specs.Operands.{searched}
+use Rattle.pg_words.specs.Spelled.{uses_in}
 use Rattle.pg_words.specs.Options.{format_of, kind_of, naming_of}
 use Rattle.pg_words.specs.Usage.{usage_fault}
 use Rattle.pg_words.specs.declared.options.Options.{Options}
@@ -28,6 +29,7 @@ options_in us = record {
   extended = is_given (codes "extended-regexp") us;
   fixed = is_given (codes "fixed-strings") us;
   invert = is_given (codes "invert-match") us;
+  fold = ignores_case us;
   pieces = is_given (codes "only-matching") us;
   count = is_given (codes "count") us;
   list = is_given (codes "files-with-matches") us;
@@ -61,7 +63,7 @@ asked_in us = record {
   kind = kind_of (options_in us);
   texts = texts_in us;
   pattern_files = values_of (codes "file") us;
-  fold = is_given (codes "ignore-case") us;
+  fold = ignores_case us;
   whole = is_given (codes "line-regexp") us;
   word = is_given (codes "word-regexp") us;
   invert = is_given (codes "invert-match") us;

@@ -1,7 +1,7 @@
 -- The words that `clap` is given: each value stands behind `=` in the word of its option, so that none of them is taken
 -- for an option, and none loses a `=` of its own.
 use Rattle.std.specs.Prelude.{Bool, true, false, ◌&&◌, not, is_some, if◌then◌else◌, List, [], ◌∷◌, ◌++◌, map}
-use Rattle.std.specs.Prelude.{ℕ, Option, Some, None, option_and_then, option_map}
+use Rattle.std.specs.Prelude.{ℕ, ◌==◌, Option, Some, None, option_and_then, option_map}
 use Rattle.clap.specs.Lexer.{long_of, short_of}
 use Rattle.clap.specs.Walk.{attached_value}
 use Rattle.pg_words.specs.Line.{Text, Opt, Given, Operand, Uses, by_letter, by_name, has_value, is_mark, table}
@@ -98,6 +98,12 @@ value_cut os w = long_or_short_cut os (long_of w) w
 -- the option of this letter has a value
 abbrev pub letter_takes_value : ℕ → Bool
 letter_takes_value x = takes_value (by_letter table x)
+
+-- `-i` is one of the letters before a value
+abbrev pub case_letters : Text → Bool
+case_letters [] = false
+case_letters (x ∷ rest) =
+    if letter_takes_value x then false else (if x == 105 then true else case_letters rest)
 
 -- ---- what joined words ask for
 

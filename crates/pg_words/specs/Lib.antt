@@ -8,4 +8,5 @@ pub mod Line
 pub mod Operands
 pub mod Options
 pub mod Places
+pub mod Spelled
 pub mod Usage

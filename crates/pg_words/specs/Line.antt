@@ -40,6 +40,7 @@ table = record (opt (codes "q") (codes "quiet") Nothing) { others = codes "silen
     ∷ opt (codes "F") (codes "fixed-strings") Nothing
     ∷ opt (codes "G") (codes "basic-regexp") Nothing
     ∷ opt (codes "i") (codes "ignore-case") Nothing
+    ∷ opt [] (codes "no-ignore-case") Nothing
     ∷ opt (codes "v") (codes "invert-match") Nothing
     ∷ opt (codes "w") (codes "word-regexp") Nothing
     ∷ opt (codes "x") (codes "line-regexp") Nothing
@@ -169,10 +170,6 @@ uses_from os (w ∷ ws) (Some o) = then_uses (valued o w) (uses_from os ws None)
 uses_from os (w ∷ ws) None =
     if is_mark w then Some (map Operand ws) else followed (read_word os w) (uses_from os ws)
 
--- what the words of a command line come to
-abbrev pub uses_in : List Text → Uses
-uses_in words = uses_from table words None
-
 -- ---- what uses come to
 
 -- the values of the option of this name, in their order
@@ -192,6 +189,22 @@ some_text (v ∷ vs) = true
 
 abbrev pub is_given : Text → List Use → Bool
 is_given name us = some_text (values_of name us)
+
+-- -i ignores case, and --no-ignore-case doesn't
+abbrev pub case_by : Text → Bool → Bool
+case_by name before =
+    if bytes_eq name (codes "ignore-case") then true
+    else (if bytes_eq name (codes "no-ignore-case") then false else before)
+
+-- the last of these options counts
+abbrev pub case_after : List Use → Bool → Bool
+case_after [] before = before
+case_after (Given o v ∷ us) before = case_after us (case_by o.name before)
+case_after (Operand v ∷ us) before = case_after us before
+
+-- case is ignored
+abbrev pub ignores_case : List Use → Bool
+ignores_case us = case_after us false
 
 -- the last of the texts, or this one where there is none
 abbrev pub last_of : List Text → Option Text → Option Text

@@ -6,6 +6,7 @@ ghost use Rattle.pg_words.specs.App.{action_behind, bare_app, has_letter, has_na
 ghost use Rattle.pg_words.specs.App.{opts_of, our_app, parser_behind, rule_for};
 ghost use Rattle.pg_words.specs.Joined.{takes_value};
 ghost use Rattle.pg_words.specs.Line.{by_letter, by_name, table};
+ghost use Rattle.pg_words.specs.Spelled.{is_flag};
 
 use clap::builder::ValueParser;
 use clap::{Arg, ArgAction, Command};
@@ -60,12 +61,13 @@ pub(crate) struct OptionRow(Names, &'static str, Behind);
 /// close to a wrong one `clap` proposes the last. -G is read by nobody: it asks for what is taken without -E and -F,
 /// and has no effect beside them. Nor is -a, for every file is text. --always-spread serves tests alone, so that
 /// neither --help nor the manual page names it.
-static OPTIONS: [OptionRow; 34] = [
+static OPTIONS: [OptionRow; 35] = [
     OptionRow(Names::Letter('q', &["silent"]), "quiet", Behind::Nothing),
     OptionRow(Names::Letter('E', &[]), "extended-regexp", Behind::Nothing),
     OptionRow(Names::Letter('F', &[]), "fixed-strings", Behind::Nothing),
     OptionRow(Names::Letter('G', &[]), "basic-regexp", Behind::Nothing),
     OptionRow(Names::Letter('i', &[]), "ignore-case", Behind::Nothing),
+    OptionRow(Names::Long, "no-ignore-case", Behind::Nothing),
     OptionRow(Names::Letter('v', &[]), "invert-match", Behind::Nothing),
     OptionRow(Names::Letter('w', &[]), "word-regexp", Behind::Nothing),
     OptionRow(Names::Letter('x', &[]), "line-regexp", Behind::Nothing),
@@ -163,6 +165,13 @@ pub(crate) fn letter_has_value(letter: u8) -> bool
     row_of_letter_has_value(&OPTIONS, letter)
 }
 
+/// Whether this is the letter of an option behind which nothing stands.
+pub(crate) fn letter_is_flag(letter: u8) -> bool
+    ensures { result ≡ is_flag (by_letter table letter) }
+{
+    row_of_letter_is_flag(&OPTIONS, letter)
+}
+
 /// Whether something stands behind the option of this long name.
 pub(crate) fn name_has_value(name: &str) -> bool
     ensures { result ≡ takes_value (by_name table name.now) }
@@ -177,6 +186,18 @@ fn row_of_letter_has_value(rows: &[OptionRow], letter: u8) -> bool
     for row in rows {
         if row.is_letter(letter) {
             return row.has_value();
+        }
+    }
+    false
+}
+
+/// The same of these rows.
+fn row_of_letter_is_flag(rows: &[OptionRow], letter: u8) -> bool
+    ensures { result ≡ is_flag (by_letter (opts_of rows.now) letter) }
+{
+    for row in rows {
+        if row.is_letter(letter) {
+            return !row.has_value();
         }
     }
     false

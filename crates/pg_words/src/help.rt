@@ -17,7 +17,8 @@ Patterns, one on each line:
   -F, --fixed-strings        patterns are fixed strings
   -e, --regexp=TEXT          use the patterns in TEXT; can be repeated
   -f, --file=FILE            use the patterns in FILE; can be repeated
-  -i, --ignore-case          ignore the case of letters
+  -i, -y, --ignore-case      ignore the case of letters
+      --no-ignore-case       heed it (default); the last one counts
   -w, --word-regexp          match only whole words
   -x, --line-regexp          match only whole lines
   -v, --invert-match         select the lines that do not match
@@ -36,7 +37,8 @@ Output:
   -m, --max-count=N          stop after N selected lines of each file
   -A, --after-context=N      print N lines after each selected line
   -B, --before-context=N     print N lines before it, at most 65,535
-  -C, --context=N            print N lines before and after, at most 65,535
+  -C, --context=N            print N lines before and after, at most 65,535;
+                             -5 is the same as -C 5
       --line-buffered        print lines as soon as they are found
 
 Files:

@@ -5,12 +5,14 @@
 //! exclude one another or want an operand.
 #![tactic(auto)]
 
+mod case;
 mod command;
 mod help;
 mod matches;
 mod operands;
 mod options;
 mod request;
+mod spell;
 mod split;
 mod usage;
 mod words;

@@ -4,19 +4,21 @@ ghost use Rattle.clap.specs.Words.{found_of, matched_of, raw_values};
 ghost use Rattle.pg_words.specs.Asks.{number_in, options_in};
 ghost use Rattle.pg_words.specs.Found.{found_values, value_behind, IsFound};
 ghost use Rattle.pg_words.specs.Gives.{IsNumberUpTo};
-ghost use Rattle.pg_words.specs.Line.{is_given, Nothing, Number, Use};
+ghost use Rattle.pg_words.specs.Line.{ignores_case, is_given, Nothing, Number, Use};
 
 use crate::options::Options;
 use clap::ArgMatches;
 
-/// The options that exclude one another, want operands or decide how rows look.
-pub(crate) fn options_of(found: &ArgMatches<'_>) -> Options
-    ensures { (us : List Use) → IsFound us (found_of found.now) → result ≡ options_in us }
+/// The options that exclude one another, want operands or decide how rows look, and whether case is ignored, which
+/// `clap` doesn't know.
+pub(crate) fn options_of(found: &ArgMatches<'_>, fold: bool) -> Options
+    ensures { (us : List Use) → IsFound us (found_of found.now) → fold ≡ ignores_case us → result ≡ options_in us }
 {
     Options {
         extended: flag(found, "extended-regexp"),
         fixed: flag(found, "fixed-strings"),
         invert: flag(found, "invert-match"),
+        fold,
         pieces: flag(found, "only-matching"),
         count: flag(found, "count"),
         list: flag(found, "files-with-matches"),

@@ -25,6 +25,8 @@ pub struct Options {
     pub fixed: bool,
     /// -v: the lines without a match.
     pub invert: bool,
+    /// -i, unless --no-ignore-case follows: upper and lower case don't differ.
+    pub fold: bool,
     /// -o: the matched parts of lines.
     pub pieces: bool,
     /// -c: the number of lines.

@@ -8,13 +8,16 @@ ghost use Rattle.pg_words.specs.Joined.{asked, behind_text, complete, joined_fro
 ghost use Rattle.pg_words.specs.Joined.{letter_takes_value, value_cut};
 ghost use Rattle.pg_words.specs.Joined.{waits, Free};
 ghost use Rattle.pg_words.specs.Places.{place_of};
-ghost use Rattle.pg_words.specs.Line.{by_letter, by_name, is_mark, table, uses_in};
+ghost use Rattle.pg_words.specs.Line.{by_letter, by_name, is_mark, table};
+ghost use Rattle.pg_words.specs.Spelled.{uses_in};
 
 use crate::command::{letter_has_value, name_has_value};
+use crate::spell::spell;
 use std::alloc::{AllocError, Global};
 
-/// The words of a command line without the program's name, each value of an option in the option's word, behind `=`:
-/// `-ve x` and `-vex` are the word `-ve=x`, and `--file x` is `--file=x`.
+/// The words of a command line without the program's name, each letter in a word of its own and each value of an option
+/// in the option's word, behind `=`: `-ve x` and `-vex` are the words `-v` and `-e=x`, `-v5` is `-v` and `-C=5`, and
+/// `--file x` is `--file=x`.
 ///
 /// So `clap` takes no value for an option, and drops no `=` with which a value begins.
 #[derive(Drop)]
@@ -25,7 +28,7 @@ pub struct Words {
 
 /// What the next word is.
 #[derive(Clone, Copy)]
-enum Place<'a> {
+pub(crate) enum Place<'a> {
     /// An option or an operand.
     Free,
     /// The value of the option at the end of this word.
@@ -44,7 +47,8 @@ impl Words {
         ensures { IfOk result (λ joined. asked table (map string_bytes joined.parts.items)
             ≡ uses_in (map string_bytes words.now)) }
     {
-        let parts = join(alloc, words)?;
+        let spelled = spell(alloc, words)?;
+        let parts = join(alloc, spelled.as_slice())?;
         Ok(Words { parts })
     }
 
@@ -114,7 +118,7 @@ fn add_word<'a>(
 }
 
 /// Adds a word as it is.
-fn add_copy(alloc: Global, parts: &mut Vec<String>, word: &str) -> Result<(), AllocError>
+pub(crate) fn add_copy(alloc: Global, parts: &mut Vec<String>, word: &str) -> Result<(), AllocError>
     ensures { OnOk result (map string_bytes parts.new.items ≡ map string_bytes parts.old.items ++ word.now ∷ []) }
 {
     parts.push(String::from_str(alloc, word)?)?;
@@ -166,7 +170,7 @@ fn joined(alloc: Global, option: &str, value: &str) -> Result<String, AllocError
 }
 
 /// Whether the word ends with an option that waits for its value.
-fn waits(word: &str) -> bool
+pub(crate) fn waits(word: &str) -> bool
     ensures { result ≡ waits table word.now }
 {
     match value_cut(word) {
@@ -223,14 +227,14 @@ fn letter_cut(word: &str) -> Option<(&str, &str)>
 }
 
 /// Whether the word is `--`.
-fn is_mark(word: &str) -> bool
+pub(crate) fn is_mark(word: &str) -> bool
     ensures { result ≡ is_mark word.now }
 {
     word == "--"
 }
 
 /// The byte at an offset, and 0 behind the end.
-fn byte_at(word: &str, at: usize) -> u8
+pub(crate) fn byte_at(word: &str, at: usize) -> u8
     ensures { result ≡ slice_index word.now at }
 {
     word.as_bytes().get(at).copied().unwrap_or(0)

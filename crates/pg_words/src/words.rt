@@ -8,10 +8,11 @@ ghost use Rattle.pg_words.specs.Asks.{asked_in, asks_of, fault_in, files_in, opt
 ghost use Rattle.pg_words.specs.Found.{AreSources, IsFound};
 ghost use Rattle.pg_words.specs.Gives.{Gives, IsRefusal};
 ghost use Rattle.pg_words.specs.Joined.{asked};
-ghost use Rattle.pg_words.specs.Line.{table, values_of, Use};
+ghost use Rattle.pg_words.specs.Line.{ignores_case, table, values_of, Use};
 ghost use Rattle.pg_words.specs.Operands.{searched};
 ghost use Rattle.pg_words.specs.declared.words.WordsFault.TheVariants.{OutOfMemory, Usage};
 
+use crate::case::ignores_case;
 use crate::command::{MAX_BLOCK, MAX_ROUND, MAX_WORKERS, search_command};
 use crate::matches::{flag, number_within, options_of, values_of};
 use crate::operands::{Sources, place_operands, searched_files};
@@ -80,8 +81,9 @@ impl<T: Drop> From<AllocFailed<T>> for WordsFault {
 ///
 /// `pargrep [options] [PATTERN] [FILE ...]`: PATTERN is the first operand where neither -e nor -f is
 /// given. Options may stand behind operands, until `--`. Of an option that is given twice the last
-/// one counts; -e and -f collect. -C gives the lines before and after where -B or -A doesn't. -G has no
-/// effect beside -E or -F, and -a has none at all.
+/// one counts, and of -i and --no-ignore-case too; -e and -f collect. -C gives the lines before and after where
+/// -B or -A doesn't. -y is -i, and digits among letters are -C with that number. -G has no effect beside -E or -F,
+/// and -a has none at all.
 ///
 /// The long names are GNU grep's, written out, and --workers, --block and --round. --help comes before
 /// --version, and both come before a fault that [`check_usage`] finds.
@@ -97,7 +99,7 @@ pub fn read_words<'a>(alloc: Global, words: &'a Words) -> Result<Task<'a>, Words
 {
     let command = search_command(alloc)?;
     match command.try_get_matches_from(words.as_slice()) {
-        Ok(found) => task_of(alloc, &found),
+        Ok(found) => task_of(alloc, &found, ignores_case(words.as_slice())),
         Err(error) => Err(refusal(alloc, &error)),
     }
 }
@@ -116,9 +118,10 @@ fn refusal(alloc: Global, error: &Error) -> WordsFault
     }
 }
 
-/// --help before --version, and both before a search.
-fn task_of<'a>(alloc: Global, found: &ArgMatches<'a>) -> Result<Task<'a>, WordsFault>
-    ensures { (us : List Use) → IsFound us (found_of found.now) → Gives (asks_of (Some us)) result }
+/// --help before --version, and both before a search, in which case is ignored or not.
+fn task_of<'a>(alloc: Global, found: &ArgMatches<'a>, fold: bool) -> Result<Task<'a>, WordsFault>
+    ensures { (us : List Use) → IsFound us (found_of found.now) → fold ≡ ignores_case us
+        → Gives (asks_of (Some us)) result }
 {
     if flag(found, "help") {
         return Ok(Task::Help);
@@ -126,7 +129,7 @@ fn task_of<'a>(alloc: Global, found: &ArgMatches<'a>) -> Result<Task<'a>, WordsF
     if flag(found, "version") {
         return Ok(Task::Version);
     }
-    search_of(alloc, found, &options_of(found), sources_of(found))
+    search_of(alloc, found, &options_of(found, fold), sources_of(found))
 }
 
 /// What the words name.
@@ -178,7 +181,7 @@ fn build_request<'a>(
         kind: options.kind(),
         texts,
         pattern_files,
-        fold: flag(found, "ignore-case"),
+        fold: options.fold,
         whole: flag(found, "line-regexp"),
         word: flag(found, "word-regexp"),
         invert: options.invert,

@@ -16,11 +16,10 @@ returns c = λ us is options texts patterns files.
         c.flag-2.ensures us is refl,
         c.flag-3.ensures us is refl,
         c.flag-4.ensures us is refl,
-        c.flag-5.ensures us is refl,
       ) refl,
       rw (
+        c.flag-5.ensures us is refl,
         c.flag-6.ensures us is refl,
-        c.flag-7.ensures us is refl,
         c.number_within.ensures.exact us is refl,
         c.number_within-2.ensures.exact us is refl,
         c.number_within-3.ensures.exact us is refl,

@@ -1,4 +1,4 @@
-use Rattle.std.proofs.Common.{◌≡◌, ◌∙◌, ap, sym, subst, map, List, ⊎_elim, []}
+use Rattle.std.proofs.Common.{◌≡◌, ◌∙◌, ap, sym, subst, map, List, ℕ, ⊎_elim, []}
 use Rattle.std.specs.String.{string_bytes}
 use Rattle.clap.specs.Words.{App, app_of, fault_of, found_of, is_simple, is_simple_and_free, matches_of, rows_of}
 use Rattle.clap.specs.Words.{IsAmong, kind_of}
@@ -27,7 +27,9 @@ returns-in-Ok c =
     (c.in-Ok.ensures.matches (ap is_simple is_app)).0
     ∙ (ap (λ (a : App). matches_of a (map string_bytes c.as_slice.result.now)) is_app ∙ ap (matches_of our_app) same) in
     let got = gives ws (found_of c.in-Ok.found) (utf8_strings parts) c.args.words.now.complete none rows in
-    subst (λ (U : Uses). Gives (asks_of U) c.task_of.result) (sym got.1) (c.task_of.ensures got.0 got.2)
+    subst (λ (U : Uses). Gives (asks_of U) c.task_of.result) (sym got.1)
+    (c.task_of.ensures got.0 got.2 (c.ignores_case.ensures got.0
+    (ap (λ (l : List (List ℕ)). asked table l) (ap (map string_bytes) c.as_slice-in-Ok.ensures) ∙ got.1)))
 
 pub returns-in-Err : goal.returns-in-Err
 returns-in-Err c =

@@ -1,0 +1,30 @@
+use Rattle.std.proofs.Common.{◌∙◌, sym, map}
+use Rattle.std.specs.String.{string_bytes}
+use Rattle.pg_words.specs.Places.{place_of}
+use Rattle.pg_words.proofs.Spells.{spell_free, spell_mark, spell_rest, spell_value}
+use Rattle.pg_words.proofs.spell.add_spelled.Goals as goal
+
+pub returns-in_ok-add_copy-in-Value : goal.returns-in_ok-add_copy-in-Value
+returns-in_ok-add_copy-in-Value c = λ rest.
+    rw c.in-Value.is (spell_value (map string_bytes c.args.parts.now.items)
+    (map string_bytes c.add_copy.new.parts.items) rest c.args.word.now c.in-Value.field-0.now
+    c.in_ok-add_copy-in-Value.ensures)
+
+pub returns-in_ok-add_copy-in-Operand : goal.returns-in_ok-add_copy-in-Operand
+returns-in_ok-add_copy-in-Operand c = λ rest.
+    rw c.in-Operand.is (spell_rest (map string_bytes c.args.parts.now.items)
+    (map string_bytes c.add_copy-in-Operand.new.parts.items) rest c.args.word.now
+    c.in_ok-add_copy-in-Operand.ensures)
+
+pub returns-in_ok-add_copy-in-Free : goal.returns-in_ok-add_copy-in-Free
+returns-in_ok-add_copy-in-Free c = λ rest.
+    rw c.in-Free.is (spell_mark (map string_bytes c.args.parts.now.items)
+    (map string_bytes c.add_copy-in-Free.new.parts.items) rest c.args.word.now
+    (sym c.is_mark.ensures ∙ c.if-is_mark.true) c.in_ok-add_copy-in-Free.ensures)
+
+pub returns-in_ok-add_word_spelled-in-Free-2 : goal.returns-in_ok-add_word_spelled-in-Free-2
+returns-in_ok-add_word_spelled-in-Free-2 c = λ rest.
+    rw c.in-Free-2.is (spell_free (map string_bytes c.args.parts.now.items)
+    (map string_bytes c.add_word_spelled.new.parts.items) rest c.args.word.now (place_of c.place_behind.result)
+    (sym c.is_mark.ensures ∙ c.if-is_mark.false) c.place_behind.ensures
+    c.in_ok-add_word_spelled-in-Free-2.ensures)
