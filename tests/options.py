@@ -16,8 +16,8 @@ HELP = ROOT / "crates/pg_words/src/help.rt"
 PAGE = ROOT / "docs/man/pargrep.1"
 COMPLETIONS = ROOT / "completions"
 
-# Options for tests alone, which nothing names.
-HIDDEN = {"--always-spread"}
+# Options that nothing names: one for tests alone, and those that are always refused.
+HIDDEN = {"--always-spread", "-P", "--perl-regexp"}
 
 # Letters that are other names of one in the table (specs/Spelled.antt).
 OLDER = {"-y": "-i"}

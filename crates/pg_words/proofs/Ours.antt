@@ -7,7 +7,118 @@ use Rattle.pg_words.proofs.Uses.{EachOpt}
 use Rattle.pg_words.proofs.Walks.{lt_or_le}
 
 pub all_rows : EachOpt (IsRow table) table
-all_rows = ((refl, refl, refl, refl), ((refl, refl, refl, refl), ((refl, refl, refl, refl), ((refl, refl, refl, refl), ((refl, refl, refl, refl), ((refl, refl, refl, refl), ((refl, refl, refl, refl), ((refl, refl, refl, refl), ((refl, refl, refl, refl), ((refl, refl, refl, refl), ((refl, refl, refl, refl), ((refl, refl, refl, refl), ((refl, refl, refl, refl), ((refl, refl, refl, refl), ((refl, refl, refl, refl), ((refl, refl, refl, refl), ((refl, refl, refl, refl), ((refl, refl, refl, refl), ((refl, refl, refl, refl), ((refl, refl, refl, refl), ((refl, refl, refl, refl), ((refl, refl, refl, refl), ((refl, refl, refl, refl), ((refl, refl, refl, refl), ((refl, refl, refl, refl), ((refl, refl, refl, refl), ((refl, refl, refl, refl), ((refl, refl, refl, refl), ((refl, refl, refl, refl), ((refl, refl, refl, refl), ((refl, refl, refl, refl), ((refl, refl, refl, refl), ((refl, refl, refl, refl), ((refl, refl, refl, refl), tt))))))))))))))))))))))))))))))))))
+all_rows = (
+  (refl, refl, refl, refl),
+  (
+    (refl, refl, refl, refl),
+    (
+      (refl, refl, refl, refl),
+      (
+        (refl, refl, refl, refl),
+        (
+          (refl, refl, refl, refl),
+          (
+            (refl, refl, refl, refl),
+            (
+              (refl, refl, refl, refl),
+              (
+                (refl, refl, refl, refl),
+                (
+                  (refl, refl, refl, refl),
+                  (
+                    (refl, refl, refl, refl),
+                    (
+                      (refl, refl, refl, refl),
+                      (
+                        (refl, refl, refl, refl),
+                        (
+                          (refl, refl, refl, refl),
+                          (
+                            (refl, refl, refl, refl),
+                            (
+                              (refl, refl, refl, refl),
+                              (
+                                (refl, refl, refl, refl),
+                                (
+                                  (refl, refl, refl, refl),
+                                  (
+                                    (refl, refl, refl, refl),
+                                    (
+                                      (refl, refl, refl, refl),
+                                      (
+                                        (refl, refl, refl, refl),
+                                        (
+                                          (refl, refl, refl, refl),
+                                          (
+                                            (refl, refl, refl, refl),
+                                            (
+                                              (refl, refl, refl, refl),
+                                              (
+                                                (refl, refl, refl, refl),
+                                                (
+                                                  (refl, refl, refl, refl),
+                                                  (
+                                                    (refl, refl, refl, refl),
+                                                    (
+                                                      (refl, refl, refl, refl),
+                                                      (
+                                                        (refl, refl, refl, refl),
+                                                        (
+                                                          (refl, refl, refl, refl),
+                                                          (
+                                                            (refl, refl, refl, refl),
+                                                            (
+                                                              (refl, refl, refl, refl),
+                                                              (
+                                                                (refl, refl, refl, refl),
+                                                                (
+                                                                  (refl, refl, refl, refl),
+                                                                  (
+                                                                    (refl, refl, refl, refl),
+                                                                    (
+                                                                      (refl, refl, refl, refl),
+                                                                      (
+                                                                        (refl, refl, refl, refl),
+                                                                        (
+                                                                          (refl, refl, refl, refl),
+                                                                          tt,
+                                                                        ),
+                                                                      ),
+                                                                    ),
+                                                                  ),
+                                                                ),
+                                                              ),
+                                                            ),
+                                                          ),
+                                                        ),
+                                                      ),
+                                                    ),
+                                                  ),
+                                                ),
+                                              ),
+                                            ),
+                                          ),
+                                        ),
+                                      ),
+                                    ),
+                                  ),
+                                ),
+                              ),
+                            ),
+                          ),
+                        ),
+                      ),
+                    ),
+                  ),
+                ),
+              ),
+            ),
+          ),
+        ),
+      ),
+    ),
+  ),
+)
 
 pub ascii_letter : (x : ℕ) → letter_takes_value x ≡ true → x < 128
 ascii_letter x e = go (lt_or_le x)

@@ -1,6 +1,8 @@
 -- What the words of a command line ask for.
-use Rattle.std.specs.Prelude.{ℕ, ◌+◌, ◌||◌, Bool, if◌then◌else◌, List, codes, length, take, drop, Option, Some, None}
+use Rattle.std.specs.Prelude.{ℕ, ◌+◌, ◌||◌, Bool, not, if◌then◌else◌, List, codes, length, take, drop, Option, Some, None}
 use Rattle.std.specs.Prelude.{option_map, unwrap_or}
+use Rattle.std.specs.List.{list_any}
+use Rattle.std.specs.Str.{bytes_eq}
 use Rattle.std.specs.Str.Parse.{digits_value, without_leading_sign}
 use Rattle.pg_words.specs.Asked.{Asked, Pace}
 use Rattle.pg_words.specs.Line.{Text, Use, Uses, ignores_case, is_given, last_value, operands_of, some_text, values_of}
@@ -23,11 +25,17 @@ pub data Asks : Type 0 where
 abbrev pub number_in : Text → List Use → Option ℕ
 number_in name us = option_map (λ numeral. digits_value 10 (without_leading_sign numeral)) (last_value name us)
 
+-- a type of files other than text
+abbrev pub has_other_type : List Text → Bool
+has_other_type names = list_any (λ name. not (bytes_eq name (codes "text"))) names
+
 -- the options that exclude one another, want operands or decide how rows look
 abbrev pub options_in : List Use → Options
 options_in us = record {
   extended = is_given (codes "extended-regexp") us;
   fixed = is_given (codes "fixed-strings") us;
+  perl = is_given (codes "perl-regexp") us;
+  binary = has_other_type (values_of (codes "binary-files") us);
   invert = is_given (codes "invert-match") us;
   fold = ignores_case us;
   pieces = is_given (codes "only-matching") us;

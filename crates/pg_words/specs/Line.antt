@@ -39,6 +39,7 @@ table = record (opt (codes "q") (codes "quiet") Nothing) { others = codes "silen
     ∷ opt (codes "E") (codes "extended-regexp") Nothing
     ∷ opt (codes "F") (codes "fixed-strings") Nothing
     ∷ opt (codes "G") (codes "basic-regexp") Nothing
+    ∷ opt (codes "P") (codes "perl-regexp") Nothing
     ∷ opt (codes "i") (codes "ignore-case") Nothing
     ∷ opt [] (codes "no-ignore-case") Nothing
     ∷ opt (codes "v") (codes "invert-match") Nothing
@@ -62,6 +63,8 @@ table = record (opt (codes "q") (codes "quiet") Nothing) { others = codes "silen
     ∷ opt (codes "r") (codes "recursive") Nothing
     ∷ opt (codes "s") (codes "no-messages") Nothing
     ∷ opt (codes "a") (codes "text") Nothing
+    ∷ opt (codes "U") (codes "binary") Nothing
+    ∷ opt [] (codes "binary-files") AnyText
     ∷ opt [] (codes "line-buffered") Nothing
     ∷ opt [] (codes "workers") (Number 1 64)
     ∷ opt [] (codes "block") (Number 1 16777216)

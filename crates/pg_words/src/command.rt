@@ -59,13 +59,14 @@ pub(crate) struct OptionRow(Names, &'static str, Behind);
 
 /// The options, and the operands: PATTERN, where neither -e nor -f is given, and each FILE. Of names that are equally
 /// close to a wrong one `clap` proposes the last. -G is read by nobody: it asks for what is taken without -E and -F,
-/// and has no effect beside them. Nor is -a, for every file is text. --always-spread serves tests alone, so that
-/// neither --help nor the manual page names it.
-static OPTIONS: [OptionRow; 35] = [
+/// and has no effect beside them. Nor are -a and -U, for every file is text. --always-spread serves tests alone, so that
+/// neither --help nor the manual page names it. -P is known to be refused with what to do instead.
+static OPTIONS: [OptionRow; 38] = [
     OptionRow(Names::Letter('q', &["silent"]), "quiet", Behind::Nothing),
     OptionRow(Names::Letter('E', &[]), "extended-regexp", Behind::Nothing),
     OptionRow(Names::Letter('F', &[]), "fixed-strings", Behind::Nothing),
     OptionRow(Names::Letter('G', &[]), "basic-regexp", Behind::Nothing),
+    OptionRow(Names::Letter('P', &[]), "perl-regexp", Behind::Nothing),
     OptionRow(Names::Letter('i', &[]), "ignore-case", Behind::Nothing),
     OptionRow(Names::Long, "no-ignore-case", Behind::Nothing),
     OptionRow(Names::Letter('v', &[]), "invert-match", Behind::Nothing),
@@ -113,6 +114,8 @@ static OPTIONS: [OptionRow; 35] = [
     OptionRow(Names::Letter('r', &[]), "recursive", Behind::Nothing),
     OptionRow(Names::Letter('s', &[]), "no-messages", Behind::Nothing),
     OptionRow(Names::Letter('a', &[]), "text", Behind::Nothing),
+    OptionRow(Names::Letter('U', &[]), "binary", Behind::Nothing),
+    OptionRow(Names::Long, "binary-files", Behind::Text("TYPE")),
     OptionRow(Names::Long, "line-buffered", Behind::Nothing),
     OptionRow(Names::Long, "workers", Behind::Number(1, MAX_WORKERS)),
     OptionRow(Names::Long, "block", Behind::Number(1, MAX_BLOCK)),

@@ -45,6 +45,8 @@ Files:
   -r, --recursive            search the files below each directory
   -s, --no-messages          suppress messages about unreadable files
   -a, --text                 no effect: every file is text
+  -U, --binary               no effect either, and so has
+      --binary-files=text    this; other types are refused
 
 Performance (never changes the output):
       --workers=N            search with up to N threads beside the one that

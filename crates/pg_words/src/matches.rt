@@ -1,7 +1,7 @@
 //! What `clap` found, by the names of options.
 ghost use Rattle.std.specs.Prelude.{◌≡◌, ◌≤◌, ◌<◌, ℕ, List, Option, [], map, option_map, unwrap_or, IfSome};
 ghost use Rattle.clap.specs.Words.{found_of, matched_of, raw_values};
-ghost use Rattle.pg_words.specs.Asks.{number_in, options_in};
+ghost use Rattle.pg_words.specs.Asks.{has_other_type, number_in, options_in};
 ghost use Rattle.pg_words.specs.Found.{found_values, value_behind, IsFound};
 ghost use Rattle.pg_words.specs.Gives.{IsNumberUpTo};
 ghost use Rattle.pg_words.specs.Line.{ignores_case, is_given, Nothing, Number, Use};
@@ -17,6 +17,8 @@ pub(crate) fn options_of(found: &ArgMatches<'_>, fold: bool) -> Options
     Options {
         extended: flag(found, "extended-regexp"),
         fixed: flag(found, "fixed-strings"),
+        perl: flag(found, "perl-regexp"),
+        binary: has_other_type(values_of(found, "binary-files")),
         invert: flag(found, "invert-match"),
         fold,
         pieces: flag(found, "only-matching"),
@@ -34,6 +36,18 @@ pub(crate) fn options_of(found: &ArgMatches<'_>, fold: bool) -> Options
         before: small_number(found, "before-context"),
         around: small_number(found, "context"),
     }
+}
+
+/// Whether one of the types of files is another than `text`.
+fn has_other_type(types: &[&str]) -> bool
+    ensures { result ≡ has_other_type (map (λ name. name.now) types.now) }
+{
+    for name in types {
+        if *name != "text" {
+            return true;
+        }
+    }
+    false
 }
 
 /// The values of an option, in their order, or the operands.

@@ -23,6 +23,10 @@ pub struct Options {
     pub extended: bool,
     /// -F: fixed strings.
     pub fixed: bool,
+    /// -P: Perl's expressions.
+    pub perl: bool,
+    /// --binary-files with another type than `text`.
+    pub binary: bool,
     /// -v: the lines without a match.
     pub invert: bool,
     /// -i, unless --no-ignore-case follows: upper and lower case don't differ.

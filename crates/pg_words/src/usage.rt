@@ -9,6 +9,10 @@ use crate::options::Options;
 /// is told.
 #[derive(Clone, Copy, Debug)]
 pub enum UsageFault {
+    /// -P is given.
+    PerlExpressions,
+    /// --binary-files is given with another type than `text`.
+    OtherThanText,
     /// More than one of -c, -l, -L and -q is given.
     SeveralModes,
     /// Both -E and -F are given.
@@ -29,6 +33,10 @@ impl UsageFault {
         ensures { result.now ≡ usage_text self }
     {
         match self {
+            UsageFault::PerlExpressions => {
+                "-P is not supported: use -E, which has no lookaround, lazy repetition or back reference"
+            }
+            UsageFault::OtherThanText => "--binary-files may only be text, and can be left out",
             UsageFault::SeveralModes => "only one of -c, -l, -L and -q may be given",
             UsageFault::ExtendedAndFixed => "only one of -E and -F may be given",
             UsageFault::NamesAndNoNames => "only one of -H and -h may be given",
@@ -56,6 +64,12 @@ pub fn check_usage(
         ≡ usage_fault options.now (length texts.now + length pattern_files.now) (length files.now) }
     ensures some_pattern { OnOk result (0 < length texts.now + length pattern_files.now) }
 {
+    if options.perl {
+        return Err(UsageFault::PerlExpressions);
+    }
+    if options.binary {
+        return Err(UsageFault::OtherThanText);
+    }
     if options.has_several_modes() {
         return Err(UsageFault::SeveralModes);
     }
