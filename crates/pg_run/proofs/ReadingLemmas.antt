@@ -30,9 +30,9 @@ use Rattle.pg_run.specs.Told.{faults_of, fault_line}
 use Rattle.pg_files.specs.Asking.{read_given}
 use Rattle.pg_run.specs.Faults.{fault_of_cut}
 use Rattle.pg_run.specs.Outcome.{Stream, GoesOn, GotWholeLines, IsOfAFile, NoneFailed}
-use Rattle.pg_run.specs.Cover.{is_left, Covers, IsReading}
+use Rattle.pg_run.specs.Cover.{is_left, IsReading}
 use Rattle.pg_run.specs.Holding.{Aim, Holds, May, Broke, SearchCause, IsWritten, IsWrittenFirst, format_of, output_of}
-use Rattle.pg_run.specs.Reading.{InFile, HasCut, IsLost, CutCause, IsWhole, Between, Breaks, IsSafe, ReadCause}
+use Rattle.pg_run.specs.Reading.{InFile, HasCut, IsLost, CutCause, MayEnd, Between, Breaks, IsSafe, ReadCause}
 use Rattle.pg_run.specs.Reading.{ReadsOn, ending_of, ending_after}
 use Rattle.pg_run.specs.declared.engine.Engine.{Engine}
 use Rattle.pg_run.specs.declared.reader.FileReader.{FileReader}
@@ -420,7 +420,7 @@ module _ {A : Type 0} {reader : FileReader A} {engine : Engine A} {aim : Aim} {g
 
   pub last_searched : (engine' : Engine A) (b : BlockData) (out' : Stream) (failed : Bool) → IsAtEnd failed
       → AreAllBlocks (handed_out h.cuts.fed (Some b)) → Holds engine' aim (Announces b ∷ h.steps) out'
-      → IsWhole engine' aim (ending_of failed) given out'
+      → MayEnd engine' aim failed given out'
   last_searched engine' b out' failed e all k =
       let front = joined h.cuts.fed.taken ++ b.bytes in
       let R : List ℕ → Ending → Type 0 =
@@ -431,16 +431,16 @@ module _ {A : Type 0} {reader : FileReader A} {engine : Engine A} {aim : Aim} {g
         holds = k;
         running = h.cuts.running;
         number = h.cuts.number;
-        name = h.cuts.name;
-        front = front;
-        reads =
-            subst (R []) e
+        covers =
+            ends aim.query (format_of aim) h.cuts.name front failed (entries_of (Announces b ∷ h.steps))
+            (entries_given given)
+            (subst (R []) e
             (subst (λ rest. R rest (ending h.cuts)) (none_behind failed e)
-            (reads_block h.cuts b [] (gives_last h.cuts.fed b all) (last_seam b failed e)));
+            (reads_block h.cuts b [] (gives_last h.cuts.fed b all) (last_seam b failed e))));
       }
 
   pub none_last : (failed : Bool) → IsAtEnd failed → AreAllBlocks (handed_out h.cuts.fed None)
-      → IsWhole engine aim (ending_of failed) given out
+      → MayEnd engine aim failed given out
   none_last failed e all =
       let c = h.cuts in
       let f = c.fed in
@@ -458,9 +458,9 @@ module _ {A : Type 0} {reader : FileReader A} {engine : Engine A} {aim : Aim} {g
         holds = h.holds;
         running = c.running;
         number = c.number;
-        name = c.name;
-        front = joined f.taken;
-        reads = subst (R []) e (subst (λ rest. R rest (ending c)) none c.reads);
+        covers =
+            ends aim.query (format_of aim) c.name (joined f.taken) failed (entries_of h.steps) (entries_given given)
+            (subst (R []) e (subst (λ rest. R rest (ending c)) none c.reads));
       }
 
   -- the cutter took no more
@@ -715,15 +715,14 @@ module _ {A F L : Type 0} {past : F → FilesPast} {list : F → L} {reader read
         (file h.fed h.cut));
   }
 
--- it is left
-pub file_left : {A : Type 0} {reader : FileReader A} {engine : Engine A} {aim : Aim} {given : List Given} {out : Stream}
-    (h : InFile reader engine aim given out) → reader.came ≡ More → (engine' : Engine A)
-    → is_enough aim.query (format_of aim) (entries_of h.steps) ≡ true → Holds engine' aim (Ends false ∷ h.steps) out
-    → Between engine' aim given out
-file_left {aim = aim} {given = given} h more engine' e k = record {
-  steps = Ends false ∷ h.steps;
-  holds = k;
-  closed = refl;
+-- it may be left
+pub may_leave : {A : Type 0} {reader : FileReader A} {engine : Engine A} {aim : Aim} {given : List Given} {out : Stream}
+    (h : InFile reader engine aim given out) → reader.came ≡ More
+    → is_enough aim.query (format_of aim) (entries_of h.steps) ≡ true → MayEnd engine aim false given out
+may_leave {aim = aim} {given = given} h more e = record {
+  steps = h.steps;
+  holds = h.holds;
+  running = h.cuts.running;
   number = h.cuts.number;
   covers =
       leaves aim.query (format_of aim) h.cuts.name (joined h.cuts.fed.taken) h.cuts.rest (entries_of h.steps)
@@ -793,13 +792,9 @@ told_more {reader = reader} {reader' = reader'} {given = given} {given' = given'
     ∙ (ap (λ xs. xs ++ line (is_failed (ending_after reader'.came))) (sym none)
     ∙ ap (λ f. faults_of given ++ line f) e))
 
--- The file was searched whole, and is ended.
+-- The file may end, and does.
 module _ {A : Type 0} {engine : Engine A} {aim : Aim} {given : List Given} {out : Stream} (failed : Bool)
-    (h : IsWhole engine aim (ending_of failed) given out) where
-  ended_covers : Covers aim.query (format_of aim) (entries_of (Ends failed ∷ h.steps)) (entries_given given)
-  ended_covers =
-      ends aim.query (format_of aim) h.name h.front failed (entries_of h.steps) (entries_given given) h.reads
-
+    (h : MayEnd engine aim failed given out) where
   pub file_ended : (engine' : Engine A) (out' : Stream) → Holds engine' aim (Ends failed ∷ h.steps) out'
       → Between engine' aim given out'
   file_ended engine' out' k = record {
@@ -807,17 +802,17 @@ module _ {A : Type 0} {engine : Engine A} {aim : Aim} {given : List Given} {out 
     holds = k;
     closed = refl;
     number = h.number;
-    covers = ended_covers;
+    covers = h.covers;
   }
 
-  -- its rows couldn't be sent on
+  -- its rows couldn't be written
   pub ended_breaks : (out' : Stream) (fault : RunFault) → Broke aim (Ends failed ∷ h.steps) out' fault
       → Breaks aim given out' fault
   ended_breaks out' fault k = record {
     cause = read_cause fault aim given out' k.cause;
     written = safe_by aim (Ends failed ∷ h.steps) given out'.taken k.part (λ files on.
         follows_begins aim.query (format_of aim) (entries_of (Ends failed ∷ h.steps)) (entries_given given) files
-        (room_of h.holds) (inl ended_covers) on);
+        (room_of h.holds) (inl h.covers) on);
     lines = λ of. absurd (none_at_fault fault aim out' k.cause of);
     calm = k.calm;
   }

@@ -1,5 +1,5 @@
 -- How an engine stands inside a file and between files.
-use Rattle.std.specs.Prelude.{◌≡◌, ◌⊎◌, ℕ, ◌+◌, ◌-◌, ◌<◌, ◌^◌, Bool, true, false, if◌then◌else◌, List, [], ◌++◌}
+use Rattle.std.specs.Prelude.{◌≡◌, ◌⊎◌, ℕ, ◌+◌, ◌-◌, ◌<◌, ◌^◌, Bool, true, false, if◌then◌else◌, List, [], ◌∷◌, ◌++◌}
 use Rattle.std.specs.Prelude.{drop}
 use Rattle.pg_lines.specs.Search.{terminator}
 use Rattle.pg_lines.specs.Blocks.{joined}
@@ -9,7 +9,7 @@ use Rattle.pg_lines.specs.declared.cutter.CutFault.TheVariants.{OutOfMemory as N
 use Rattle.pg_rows.specs.Modes.{is_quiet}
 use Rattle.pg_rows.specs.Output.{Entry, Ending, Ended, Failed, Left, output}
 use Rattle.pg_rows.specs.Sink.{TakesPart}
-use Rattle.pg_seq.specs.Plan.{Step, is_open, opened, last_blocks, entries_of}
+use Rattle.pg_seq.specs.Plan.{Step, Ends, is_open, opened, last_blocks, entries_of}
 use Rattle.pg_files.specs.Given.{Given, FilesPast, entries_given, files_given}
 use Rattle.pg_run.specs.Lengths.{IsTooLong}
 use Rattle.pg_run.specs.Told.{told_of}
@@ -81,16 +81,14 @@ pub record ReadsOn {A F L : Type 0} (past : F → FilesPast) (list : F → L) (r
   pub cuts : (aim : Aim) (steps : List Step) → HasCut reader aim (past files).given steps
       → HasCut reader' aim (past files').given steps
 
--- The open file was announced and searched whole.
-pub record IsWhole {A : Type 0} (engine : Engine A) (aim : Aim) (ending : Ending) (given : List Given) (out : Stream)
+-- A file is open, and once it has ended so the plan has all that is needed of what was given.
+pub record MayEnd {A : Type 0} (engine : Engine A) (aim : Aim) (failed : Bool) (given : List Given) (out : Stream)
     : Type 0 where
   pub steps : List Step
   pub holds : Holds engine aim steps out
   pub running : is_open steps ≡ true
   pub number : opened steps ≡ files_given given
-  pub name : List ℕ
-  pub front : List ℕ
-  pub reads : IsReading aim.query (format_of aim) name front [] ending (entries_of steps) (entries_given given)
+  pub covers : Covers aim.query (format_of aim) (entries_of (Ends failed ∷ steps)) (entries_given given)
 
 -- No file is open, and the plan has all that is needed of what was given.
 pub record Between {A : Type 0} (engine : Engine A) (aim : Aim) (given : List Given) (out : Stream) : Type 0 where

@@ -29,6 +29,9 @@ const RARE: usize = 2;
 /// So many bytes are held in reserve while blocks wait for their round.
 const RESERVE: usize = 524_288;
 
+/// So many files more than blocks may wait for their rows to be written.
+const MOST_EMPTY: usize = 1_024;
+
 /// Searches the blocks of files, and has a sequencer put their rows in order.
 ///
 /// A block is searched at once, or waits until its round is searched by several threads.
@@ -37,6 +40,8 @@ pub(crate) struct Engine<A: Allocator + Copy = Global> {
     pub(crate) setup: Setup,
     /// How many files were opened.
     pub(crate) files: u32,
+    /// So many of them were opened when all that could be was written last.
+    written: u32,
     query: Arc<Query<A>, A>,
     /// For blocks that are searched at once.
     scratch: Scratch<A>,
@@ -67,6 +72,7 @@ impl<A: Allocator + Copy> Drop for Engine<A> {
             alloc: _,
             setup: _,
             files: _,
+            written: _,
             query: _,
             scratch: _,
             scratches: _,
@@ -178,6 +184,7 @@ impl<A: Allocator + Copy> Engine<A> {
             alloc,
             setup,
             files: 0,
+            written: 0,
             query,
             scratch,
             scratches: Vec::new(alloc),
@@ -245,6 +252,7 @@ impl<A: Allocator + Copy> Engine<A> {
             IfErr result (Broke aim steps (stream (W.taken out.new) (W.failures out.new))) }
     {
         self.sequencer.drain(out)?;
+        self.written = self.files;
         Ok(())
     }
 
@@ -405,6 +413,13 @@ impl<A: Allocator + Copy> Engine<A> {
         !self.round.is_empty()
     }
 
+    /// Whether many files without lines wait for blocks that wait for their round. The names of files that wait are
+    /// held, and files without lines never fill a round.
+    fn has_many_empty(&self) -> bool {
+        let files = self.files.saturating_sub(self.written) as usize;
+        files > self.round.len().saturating_add(MOST_EMPTY)
+    }
+
     /// Whether enough was read.
     pub(crate) fn enough(&self) -> bool
         ensures { (aim : Aim) → (steps : List Step) → (out : Stream) → Holds self.now aim steps out →
@@ -479,6 +494,7 @@ impl<A: Allocator + Copy + Send + Sync> Engine<A> {
         self.pace = self.pace.after(rt, begun, bytes, workers + 1);
         self.scratches = scratches;
         self.round.clear();
+        self.written = self.files;
         Ok(())
     }
 
@@ -547,6 +563,29 @@ impl<A: Allocator + Copy + Send + Sync> Engine<A> {
             IfErr result (Broke aim steps (stream (W.taken out.new) (W.failures out.new))) }
     {
         if !self.has_waiting() {
+            return Ok(());
+        }
+        self.flush(rt, gate, out)
+    }
+
+    /// Writes what the files give that have ended, unless blocks wait for their round, and no more files wait behind
+    /// them than may.
+    pub(crate) fn flush_ended<R: Threads + Wait + Clock + Sync, W: Sink, G: Gate + Sync>(
+        &mut self,
+        rt: &R,
+        gate: &G,
+        out: &mut W,
+    ) -> Result<(), RunFault>
+        requires holds { (aim : Aim) × (steps : List Step)
+            × Holds self.old aim steps (stream (W.taken out.old) (W.failures out.old)) }
+        ensures ok { (aim : Aim) → (steps : List Step) →
+            Holds self.old aim steps (stream (W.taken out.old) (W.failures out.old)) →
+            OnOk result (Holds self.new aim steps (stream (W.taken out.new) (W.failures out.new))) }
+        ensures err { (aim : Aim) → (steps : List Step) →
+            Holds self.old aim steps (stream (W.taken out.old) (W.failures out.old)) →
+            IfErr result (Broke aim steps (stream (W.taken out.new) (W.failures out.new))) }
+    {
+        if self.has_waiting() && !self.has_many_empty() {
             return Ok(());
         }
         self.flush(rt, gate, out)

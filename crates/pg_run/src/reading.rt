@@ -7,7 +7,7 @@ ghost use Rattle.pg_files.specs.Given.{Given, newest_name};
 ghost use Rattle.pg_run.specs.Outcome.{Stream};
 ghost use Rattle.pg_run.specs.Told.{faults_of, fault_line};
 ghost use Rattle.pg_run.specs.Holding.{Aim, stream};
-ghost use Rattle.pg_run.specs.Reading.{InFile, IsWhole, Between, Breaks, ending_of, ending_after};
+ghost use Rattle.pg_run.specs.Reading.{InFile, MayEnd, Between, Breaks, ending_of, ending_after};
 ghost use Rattle.pg_run.specs.declared.reader.Came.TheVariants.{More};
 
 use crate::engine::Engine;
@@ -235,8 +235,7 @@ fn search_last<R: Clock, A: Allocator + Copy + Send + Sync, W: Sink, G: Gate>(
         × InFile reader.old engine.old aim given (stream (W.taken out.old) (W.failures out.old)) }
     ensures ok { (aim : Aim) → (given : List Given) →
         InFile reader.old engine.old aim given (stream (W.taken out.old) (W.failures out.old)) →
-        OnOk result (IsWhole engine.new aim (ending_of failed) given
-        (stream (W.taken out.new) (W.failures out.new))) }
+        OnOk result (MayEnd engine.new aim failed given (stream (W.taken out.new) (W.failures out.new))) }
     ensures err { (aim : Aim) → (given : List Given) →
         InFile reader.old engine.old aim given (stream (W.taken out.old) (W.failures out.old)) →
         IfErr result (Breaks aim given (stream (W.taken out.new) (W.failures out.new))) }
@@ -247,8 +246,38 @@ fn search_last<R: Clock, A: Allocator + Copy + Send + Sync, W: Sink, G: Gate>(
     }
 }
 
-/// Ends a file that can't go on, and answers whether a read failed. Its rows are sent on before that is told.
-fn finish_file<R: Clock, A: Allocator + Copy + Send + Sync, W: Sink, G: Gate>(
+/// Ends the open file, and answers whether a read of it failed. What it gives is written, unless blocks wait for their
+/// round. It is sent on where each row is to be seen at once, and before a failed read is told.
+fn end_file<
+    R: Threads + Wait + Clock + Sync,
+    A: Allocator + Copy + Send + Sync,
+    W: Sink,
+    G: Gate + Sync,
+>(rt: &R, gate: &G, engine: &mut Engine<A>, failed: bool, out: &mut W) -> Result<bool, RunFault>
+    requires may_end { (aim : Aim) × (given : List Given)
+        × MayEnd engine.old aim failed given (stream (W.taken out.old) (W.failures out.old)) }
+    ensures failed { IfOk result (λ answer. answer ≡ failed) }
+    ensures ok { (aim : Aim) → (given : List Given) →
+        MayEnd engine.old aim failed given (stream (W.taken out.old) (W.failures out.old)) →
+        OnOk result (Between engine.new aim given (stream (W.taken out.new) (W.failures out.new))) }
+    ensures err { (aim : Aim) → (given : List Given) →
+        MayEnd engine.old aim failed given (stream (W.taken out.old) (W.failures out.old)) →
+        IfErr result (Breaks aim given (stream (W.taken out.new) (W.failures out.new))) }
+{
+    engine.end(failed);
+    engine.flush_ended(rt, gate, out)?;
+    let is_due = engine.setup.line_buffered || failed && !engine.setup.silent;
+    engine.send_on(is_due, out)?;
+    Ok(failed)
+}
+
+/// Searches what is left of a file that can't go on, ends it, and answers whether a read of it failed.
+fn finish_file<
+    R: Threads + Wait + Clock + Sync,
+    A: Allocator + Copy + Send + Sync,
+    W: Sink,
+    G: Gate + Sync,
+>(
     rt: &R,
     gate: &G,
     reader: &mut FileReader<A>,
@@ -269,9 +298,7 @@ fn finish_file<R: Clock, A: Allocator + Copy + Send + Sync, W: Sink, G: Gate>(
         IfErr result (Breaks aim given (stream (W.taken out.new) (W.failures out.new))) }
 {
     search_last(rt, gate, reader, engine, failed, out)?;
-    engine.end(failed);
-    engine.send_on(failed && !engine.setup.silent, out)?;
-    Ok(failed)
+    end_file(rt, gate, engine, failed, out)
 }
 
 /// Reads the open file until enough was read, its end is met or a read fails, and ends it. What came is searched before
@@ -309,8 +336,7 @@ pub(crate) fn read_file<
     for _ in rt.forever() {
         settle(rt, gate, reader, engine, files, out)?;
         if engine.enough() {
-            engine.end(false);
-            return Ok(false);
+            return end_file(rt, gate, engine, false, out);
         }
         read_once(rt, gate, reader, engine, files, out)?;
         match reader.came {

@@ -20,7 +20,8 @@ pub struct Setup {
     pub round: u32,
     /// Threads search where they can, also where that doesn't pay.
     pub always_spread: bool,
-    /// The output is told to send on what it holds back as each block, or round of blocks, was searched.
+    /// The output is told to send on what it holds back as each block, or round of blocks, was searched, and as each
+    /// file ended.
     pub line_buffered: bool,
     /// Fault lines of files are left out.
     pub silent: bool,

@@ -1,9 +1,7 @@
-use Rattle.std.proofs.Common.{refl}
 use Rattle.std.proofs.lemmas.Result.{IfOk-from_err}
 use Rattle.pg_run.specs.Holding.{stream}
 use Rattle.pg_run.specs.Reading.{Breaks}
 use Rattle.pg_run.proofs.HoldLemmas.{err_by, ok_of_err}
-use Rattle.pg_run.proofs.ReadingLemmas.{file_ended, ended_breaks}
 use Rattle.pg_run.proofs.reading.finish_file.Goals as goal
 
 pub search_last-requires-clause-ended : goal.search_last-requires-clause-ended
@@ -28,37 +26,18 @@ returns-in_err-search_last-clause-err g c = λ aim given h.
     err_by c.from_residual.result (Breaks aim given out') c.in_err-search_last.field-0.0 c.from_residual.ensures.1
     (c.in_err-search_last.ensures.err aim given h)
 
-pub end-requires : goal.end-requires
-end-requires g c =
-    let k = c.in_ok-search_last.ensures.ok c.requires.in_file.0 c.requires.in_file.1 c.requires.in_file.3 in
-    (c.requires.in_file.0, k.steps, _, (k.holds, (k.running, tt)))
+pub end_file-requires-clause-may_end : goal.end_file-requires-clause-may_end
+end_file-requires-clause-may_end g c κs within =
+    let r = c.requires.in_file in
+    (r.0, r.1, c.in_ok-search_last.ensures.ok r.0 r.1 r.3)
 
 pub returns-clause-failed : goal.returns-clause-failed
-returns-clause-failed g c = refl
+returns-clause-failed g c = c.end_file.ensures.failed
 
 pub returns-clause-ok : goal.returns-clause-ok
 returns-clause-ok g c = λ aim given h.
-    let k = c.in_ok-search_last.ensures.ok aim given h in
-    let ended = c.end.ensures aim k.steps _ (k.holds, (k.running, tt)) in
-    file_ended c.args.failed k c.end.new.self _ (c.in_ok-send_on.ensures.ok aim _ ended)
+    c.end_file.ensures.ok aim given (c.in_ok-search_last.ensures.ok aim given h)
 
 pub returns-clause-err : goal.returns-clause-err
-returns-clause-err g c = λ aim given h. tt
-
-pub returns-in_err-send_on-clause-failed : goal.returns-in_err-send_on-clause-failed
-returns-in_err-send_on-clause-failed g c =
-    IfOk-from_err c.from_residual-in_err-send_on.result _ c.from_residual-in_err-send_on.ensures.0
-
-pub returns-in_err-send_on-clause-ok : goal.returns-in_err-send_on-clause-ok
-returns-in_err-send_on-clause-ok g c = λ aim given h.
-    ok_of_err c.from_residual-in_err-send_on.result _ c.from_residual-in_err-send_on.ensures.0
-
-pub returns-in_err-send_on-clause-err : goal.returns-in_err-send_on-clause-err
-returns-in_err-send_on-clause-err g c = λ aim given h.
-    let out' = stream (g.W.Sink.taken c.send_on.new.out) (g.W.Sink.failures c.send_on.new.out) in
-    let fault = c.in_err-send_on.field-0.0 in
-    let k = c.in_ok-search_last.ensures.ok aim given h in
-    err_by c.from_residual-in_err-send_on.result (Breaks aim given out') fault
-    c.from_residual-in_err-send_on.ensures.1
-    (ended_breaks c.args.failed k out' fault
-    (c.in_err-send_on.ensures.err aim _ (c.end.ensures aim k.steps _ (k.holds, (k.running, tt)))))
+returns-clause-err g c = λ aim given h.
+    c.end_file.ensures.err aim given (c.in_ok-search_last.ensures.ok aim given h)

@@ -7,7 +7,7 @@ use Rattle.pg_run.specs.Told.{faults_of, fault_line}
 use Rattle.pg_run.specs.Holding.{stream}
 use Rattle.pg_run.specs.Reading.{Breaks, ending_after}
 use Rattle.pg_run.proofs.HoldLemmas.{err_by, ok_of_err}
-use Rattle.pg_run.proofs.ReadingLemmas.{file_left, ok_by, told_more, refused_last}
+use Rattle.pg_run.proofs.ReadingLemmas.{may_leave, ok_by, told_more, refused_last}
 use Rattle.pg_run.proofs.reading.read_file.Goals as goal
 
 pub returns-then-enough-clause-done : goal.returns-then-enough-clause-done
@@ -19,29 +19,42 @@ returns-then-enough-clause-before g c = c.loop.invariant.before
 pub returns-then-enough-clause-same_list : goal.returns-then-enough-clause-same_list
 returns-then-enough-clause-same_list g c = c.loop.invariant.same_list
 
-pub returns-then-enough-clause-err : goal.returns-then-enough-clause-err
-returns-then-enough-clause-err g c = λ aim start. tt
-
-pub end-requires : goal.end-requires
-end-requires g c =
+pub end_file-requires-clause-may_end : goal.end_file-requires-clause-may_end
+end_file-requires-clause-may_end g c κs within =
     let r = c.requires.in_file in
-    let h = c.in_ok-settle.ensures.ok r.0 _ (c.loop.invariant.reads r.0 r.1) in
-    (r.0, h.steps, _, (h.holds, (h.cuts.running, tt)))
+    let h = c.in_ok-settle.ensures.ok r.0 _ (c.loop.invariant.reads r.0 r.1) in (
+      r.0,
+      (g.F.Files.past c.loop.files).given,
+      may_leave h (c.in_ok-settle.ensures.came ∙ c.loop.invariant.more)
+          (sym (c.enough.ensures r.0 h.steps _ h.holds) ∙ c.if-enough.true),
+    )
 
 pub returns-then-enough-clause-told : goal.returns-then-enough-clause-told
 returns-then-enough-clause-told g c =
     let r = c.requires.in_file in
     let h = c.in_ok-settle.ensures.ok r.0 _ (c.loop.invariant.reads r.0 r.1) in
-    told_more r.1.cuts h.cuts false c.requires.more
+    let given = (g.F.Files.past c.args.files.now).given in
+    let given' = (g.F.Files.past c.loop.files).given in
+    let P : Bool → Type 0 =
+    λ failed. faults_of given' ≡ faults_of given ++ when failed (fault_line (newest_name given') ReadFailed) in
+    ok_by c.end_file.result P false c.end_file.ensures.failed
+    (told_more r.1.cuts h.cuts false c.requires.more
     (ap (λ x. is_failed (ending_after x)) (c.in_ok-settle.ensures.came ∙ c.loop.invariant.more))
-    c.loop.invariant.before
+    c.loop.invariant.before)
 
 pub returns-then-enough-clause-ok : goal.returns-then-enough-clause-ok
 returns-then-enough-clause-ok g c = λ aim start.
     let h = c.in_ok-settle.ensures.ok aim _ (c.loop.invariant.reads aim start) in
-    file_left h (c.in_ok-settle.ensures.came ∙ c.loop.invariant.more) _
-    (sym (c.enough.ensures aim h.steps _ h.holds) ∙ c.if-enough.true)
-    (c.end.ensures aim h.steps _ (h.holds, (h.cuts.running, tt)))
+    c.end_file.ensures.ok aim _
+    (may_leave h (c.in_ok-settle.ensures.came ∙ c.loop.invariant.more)
+    (sym (c.enough.ensures aim h.steps _ h.holds) ∙ c.if-enough.true))
+
+pub returns-then-enough-clause-err : goal.returns-then-enough-clause-err
+returns-then-enough-clause-err g c = λ aim start.
+    let h = c.in_ok-settle.ensures.ok aim _ (c.loop.invariant.reads aim start) in
+    c.end_file.ensures.err aim _
+    (may_leave h (c.in_ok-settle.ensures.came ∙ c.loop.invariant.more)
+    (sym (c.enough.ensures aim h.steps _ h.holds) ∙ c.if-enough.true))
 
 pub read_once-requires-clause-more : goal.read_once-requires-clause-more
 read_once-requires-clause-more g c κs within = c.in_ok-settle.ensures.came ∙ c.loop.invariant.more
