@@ -92,8 +92,13 @@ CASES = [
     # The rows of the first file come before anything is known of the second one; but rows are sent on before reads
     # alone, and the opening of a FIFO that nobody writes to waits too.
     Case("-h x first IN", ((None, "x in first"), ("x1", "x1"), ("none",), ("x3", "x3")), ways=(PIPE, HELD, TERMINAL)),
-    # A gap: the count of a file is written only with what follows it.
-    Case("-c x first IN", (("x1",), ("x2",)), ("first:1", "IN:2"), ways=(*EACH, HELD)),
+    # Where rows are sent on at once, they come before such an opening too.
+    Case("--line-buffered -h x first IN", ((None, "x in first"), ("x1", "x1")), ways=(*EACH, HELD)),
+    Case("--line-buffered -h -c x first IN", ((None, "1"), ("x1",)), ("1",), ways=(*EACH, HELD)),
+    # What a file gives at its end comes before anything is known of the next one.
+    Case("-c x first IN", ((None, "first:1"), ("x1",), ("x2",)), ("IN:2",), ways=(PIPE, HELD, TERMINAL)),
+    Case("-l x first IN", ((None, "first"), ("none",), ("x2", "IN")), ends=True, ways=(PIPE, HELD, TERMINAL)),
+    Case("-L y first IN", ((None, "first"), ("x1",)), ("IN",), status=1, ways=(PIPE, HELD, TERMINAL)),
     Case("-n x first other IN", ((None, "first:1:x in first", "other:2:x in other"),), ways=(PIPE, HELD, TERMINAL)),
     Case("-q x first IN", ((None,),), ends=True, ways=(PIPE, HELD, TERMINAL)),
     # A tree is walked as its files are read: its rows come before what stands behind it is read, and a search that is

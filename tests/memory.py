@@ -41,6 +41,8 @@ ALONE = """\
 -e ok -e 'a\\{' row
 -r -n x tree
 -r -l x tree missing row
+-r -c x sparse
+-r -L x sparse missing empty
 -e x -e a -e e row words
 -i -F WATER words
 -i -n -E W[A-C]TER|FIRE words
@@ -69,12 +71,14 @@ SPREAD = """\
 --always-spread --workers 3 --block 1 --round 4 -o -n -E [wf][a-z]+ words row
 --always-spread --workers 2 --block 1 --round 2 -v -n x row words
 --always-spread --workers 2 --block 1 --round 2 -r -c x tree row
+--always-spread --workers 2 --block 1 --round 2 -r -c x sparse
 """
 
 
 def make(folder):
     """Makes the files that the lines name."""
     (folder / "tree/b/c").mkdir(parents=True)
+    (folder / "sparse/c").mkdir(parents=True)
     files = {
         "row": b"a\nb\nx\nc\nd\ne\nx\n",
         "words": b"water\nfire\nFirewater\nearth\n\nx",
@@ -84,6 +88,12 @@ def make(folder):
         "tree/a": b"x\n",
         "tree/b/f": b"ax\nb\n",
         "tree/b/c/g": b"x",
+        "sparse/a": b"",
+        "sparse/b": b"x\ny\nx\n",
+        "sparse/c/d": b"",
+        "sparse/c/e": b"",
+        "sparse/f": b"x\n",
+        "sparse/g": b"",
         "long": b"abc xyz yxa zzb zac\nq w e r t\n" * 40_000,
     }
     for name, text in files.items():

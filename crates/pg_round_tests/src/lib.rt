@@ -2,6 +2,8 @@
 #![tactic(auto)]
 
 #[cfg(test)]
+mod empty_files;
+#[cfg(test)]
 mod fixtures;
 #[cfg(test)]
 mod reading;

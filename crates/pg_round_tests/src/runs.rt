@@ -183,9 +183,9 @@ fn numbers_of_blocks_begin_anew_in_each_round(rt: HostRuntime) {
 
 /// A sink over memory that tells others how many bytes it took.
 #[derive(Drop)]
-struct Watched<'n> {
-    inner: MemSink,
-    taken: &'n AtomicU64,
+pub(crate) struct Watched<'n> {
+    pub(crate) inner: MemSink,
+    pub(crate) taken: &'n AtomicU64,
 }
 
 impl<'n> Sink for Watched<'n> {
