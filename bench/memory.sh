@@ -1,6 +1,7 @@
 #!/bin/sh
 # Prints the most memory that pargrep and GNU grep hold while they search a large file, in several formats, and while
-# they walk over trees of 10,000, 100,000 and 1,000,000 empty files.
+# they walk over trees of 10,000, 100,000 and 1,000,000 files, of which one in 1,000 has a line: by a text, where a block
+# is searched at once, and by an expression, where it waits for a round.
 # Usage: bench/memory.sh PARGREP [MEGABYTES]
 # The file is lines of 60 bytes, of which one in 100 is selected. It is kept in a folder of its own that is removed at
 # the end. The memory is the largest resident set that the system tells of the process, which GNU time prints.
@@ -39,10 +40,20 @@ measure -cF
 measure -F -C 3
 measure -nF -B 1000
 
-# directory NUMBER: makes one with 1,000 empty files.
+# directory NUMBER: makes one with 1,000 files, of which the first has a line.
 directory() {
   mkdir -p "$folder/tree/$(($1 / 100))/$1"
-  (cd "$folder/tree/$(($1 / 100))/$1" && seq 1000 | xargs touch)
+  (cd "$folder/tree/$(($1 / 100))/$1" && seq 1000 | xargs touch && echo needle > 1)
+}
+
+# measure_tree FILES OPTIONS..: the same as measure, over the tree.
+measure_tree() {
+  files=$1
+  shift
+  /usr/bin/time -f %M -o "$folder/ours" "$pargrep" "$@" "$folder/tree" > "$folder/out"
+  /usr/bin/time -f %M -o "$folder/theirs" grep "$@" "$folder/tree" > "$folder/expected"
+  [ "$(wc -l < "$folder/out")" -eq "$files" ] || { echo "a file of the tree is lost" >&2; exit 1; }
+  printf '%-24s pargrep %6d kB  grep %6d kB\n' "$*, $files" "$(tail -n 1 "$folder/ours")" "$(tail -n 1 "$folder/theirs")"
 }
 
 made=0
@@ -51,8 +62,6 @@ for thousands in 10 100 1000; do
     directory "$made"
     made=$((made + 1))
   done
-  /usr/bin/time -f %M -o "$folder/ours" "$pargrep" -rc needle "$folder/tree" > "$folder/out" || [ $? -eq 1 ]
-  /usr/bin/time -f %M -o "$folder/theirs" grep -rc needle "$folder/tree" > "$folder/expected" || [ $? -eq 1 ]
-  [ "$(wc -l < "$folder/out")" -eq "$((thousands * 1000))" ] || { echo "a file of the tree is lost" >&2; exit 1; }
-  printf '%-14s pargrep %6d kB  grep %6d kB\n' "-rc, ${thousands}000" "$(tail -n 1 "$folder/ours")" "$(tail -n 1 "$folder/theirs")"
+  measure_tree "${thousands}000" -rc needle
+  measure_tree "${thousands}000" -rcE '[a-z]{6}'
 done
