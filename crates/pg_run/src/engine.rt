@@ -112,6 +112,20 @@ fn is_spread<A: Allocator>(query: &Query<A>, setup: &Setup, pace: Pace) -> bool
     pays && setup.workers > 0 && setup.round > 1 && is_endless(setup.format)
 }
 
+/// Room for the searches of a thread.
+fn scratch_for<A: Allocator + Copy>(
+    alloc: A,
+    query: &Query<A>,
+) -> Result<Scratch<A>, AllocError>
+    ensures { IfOk result (λ scratch. Fits scratch query.now.machine) }
+{
+    if query.text().pieces {
+        Scratch::with_parts(alloc, query.machine())
+    } else {
+        Scratch::new(alloc, query.machine())
+    }
+}
+
 /// Makes one more scratch for a query. There are fewer than 65.
 fn add_scratch<A: Allocator + Copy>(
     alloc: A,
@@ -124,7 +138,7 @@ fn add_scratch<A: Allocator + Copy>(
     ensures few { length scratches.new.items ≤ 65 }
     ensures fits { All (λ s. Fits s query.now.machine) scratches.new.items }
 {
-    let scratch = Scratch::new(alloc, query.machine())?;
+    let scratch = scratch_for(alloc, query)?;
     scratches.push(scratch)?;
     Ok(())
 }
@@ -179,7 +193,7 @@ impl<A: Allocator + Copy> Engine<A> {
         let pace = Pace::new();
         let spread = is_spread(&query, &setup, pace);
         let sequencer = Sequencer::new(alloc, Arc::try_clone(&query)?, setup.format)?;
-        let scratch = Scratch::new(alloc, query.machine())?;
+        let scratch = scratch_for(alloc, &query)?;
         Ok(Engine {
             alloc,
             setup,
