@@ -153,14 +153,21 @@ fn shown_parts(rt: &impl Abort, alloc: Global, search: &mut Search, lines: &str)
     shown
 }
 
-/// Shows the matched parts of some lines, found twice with one scratch that is made for them.
-fn parted(rt: &impl Abort, alloc: Global, word: &str, text: &[u8], lines: &str) -> String {
+/// The machine of a search, with a scratch that is made for matched parts.
+fn for_parts(rt: &impl Abort, alloc: Global, search: Search) -> Search
+    ensures { Fits result.scratch result.machine }
+{
     let Search {
         machine,
         scratch: _,
-    } = machine_of(rt, alloc, word, text);
+    } = search;
     let scratch = Scratch::with_parts(alloc, &machine).expect(rt, "memory");
-    let mut search = Search { machine, scratch };
+    Search { machine, scratch }
+}
+
+/// Shows the matched parts of some lines, found twice with one scratch that is made for them.
+fn parted(rt: &impl Abort, alloc: Global, search: Search, lines: &str) -> String {
+    let mut search = for_parts(rt, alloc, search);
     let first = shown_parts(rt, alloc, &mut search, lines);
     let again = shown_parts(rt, alloc, &mut search, lines);
     assert!(rt; first == again, "{first} and then {again}");
@@ -171,7 +178,14 @@ fn parted(rt: &impl Abort, alloc: Global, word: &str, text: &[u8], lines: &str) 
 pub(crate) fn searched(rt: &impl Abort, alloc: Global, word: &str, asked: &str) -> String {
     let (text, rest) = cut(rt, asked, " on ");
     if let Some(lines) = rest.strip_suffix(" parted") {
-        return parted(rt, alloc, word, &repeated(rt, alloc, text), lines);
+        let search = machine_of(rt, alloc, word, &repeated(rt, alloc, text));
+        return parted(rt, alloc, search, lines);
+    }
+    if let Some(line) = rest.strip_suffix(" counted with parts") {
+        let line = line_of(rt, alloc, line);
+        let search = machine_of(rt, alloc, word, &repeated(rt, alloc, text));
+        let mut search = for_parts(rt, alloc, search);
+        return counted(alloc, &mut search, &line).expect(rt, "memory");
     }
     if let Some(line) = rest.strip_suffix(" counted") {
         let line = line_of(rt, alloc, line);
@@ -206,10 +220,13 @@ fn visits(rt: HostRuntime) {
 
 /// The same, and exactly how many states the first search visits, and the same search once more; then those for the
 /// first matched part. `a` begins in one state, and behind it are that one and the end of the match; a part has its own
-/// run alone. `a*b` begins in three states, which it has behind each `a` too, and behind `b` it also has the end.
+/// run alone. `a*b` begins in three states, which it has behind each `a` too, and behind `b` it also has the end. `aa` has
+/// one state at each place of its run. With a scratch that is made for parts that run is learned, and then it visits none.
 const COUNTS: &str = "any a:1 on a:1 counted => 3 0 2 2
 any a*b:1 on aab:1 counted => 13 0 10 10
-any a*b:1 on a:10000 counted => 12 0 0 0";
+any a*b:1 on a:10000 counted => 12 0 0 0
+any aa:1 on xaa:1 counted => 7 0 3 3
+any aa:1 on xaa:1 counted with parts => 7 0 6 0";
 
 #[test]
 fn counts(rt: HostRuntime) {

@@ -9,12 +9,12 @@ use Rattle.std.proofs.lemmas.Bool.{cases_eq, cases_lt}
 use Rattle.pg_match.specs.Anchored.{StandsFrom, StartsInside, GoesAlone, ToldAlone, IsAnchoredMemoryOf}
 use Rattle.pg_match.specs.Automata.{Nfa, Edge, Runs, IsRunnable}
 use Rattle.pg_match.specs.Bounds.{MayBegin, MayEnd}
-use Rattle.pg_match.specs.Memories.{Remembered, ended, fresh_at, In, Same, IsShape, IsUnknown, IsBlank, Keeps}
+use Rattle.pg_match.specs.Memories.{Remembered, ended, fresh_at, In, Same, IsShape, IsBlank, Keeps}
 use Rattle.pg_match.specs.Memories.{Grown, Marked, MarkedEnd, IsAtRow}
 use Rattle.pg_match.specs.Searches.{IsBest}
 use Rattle.pg_match.specs.Starts.{GoesOn}
 use Rattle.pg_match.specs.StateSets.{Members, mark, IsGood, IsEmpty, Inserted}
-use Rattle.pg_match.specs.Steps.{Reads, Has, Closed, ReadsNone, HitAtEnd, NoHitAtEnd, AnswersEnd}
+use Rattle.pg_match.specs.Steps.{Has, Closed, ReadsNone, HitAtEnd, NoHitAtEnd, AnswersEnd}
 use Rattle.pg_match.specs.Views.{remembered, RemembersAnchored}
 use Rattle.pg_match.specs.declared.dfa_cache.Cache.{Cache}
 use Rattle.pg_match.specs.declared.state.State.{State}

@@ -39,7 +39,8 @@ pub struct Cache<A: Allocator = Global> {
     pub steps: Vec<u32, A>,
     /// For each row whether a match ends where a line ends that isn't empty.
     pub ends: Vec<Option<bool>, A>,
-    /// For each row whether it is only for places where no run is left that began before them.
+    /// For each row whether it is only for places where no run is left that began before them. In a table of the runs
+    /// that begin at one place, whether a match may end where its set is that of a place inside a line.
     pub fresh: Vec<bool, A>,
     /// The states of the rows, one row behind the other.
     pub pool: Vec<u32, A>,

@@ -210,8 +210,8 @@ impl<A: Allocator> Scratch<A> {
         Scratch::prepare(alloc, machine, false)
     }
 
-    /// The same where matched parts are asked for, line after line: what the runs from one place lead to is remembered
-    /// too, in half of the room. It takes twice the memory, and the searches answer the same.
+    /// The same where matched parts are asked for, line after line: what the runs that begin at one place lead to is
+    /// remembered too. That takes more memory, and searches answer the same.
     pub fn with_parts(alloc: A, machine: &Machine<A>) -> Result<Scratch<A>, AllocError>
     where
         A: Copy,

@@ -1,4 +1,6 @@
 use Rattle.std.proofs.Common.{arith, refl}
+use Rattle.pg_match.specs.Views.{nfa, members}
+use Rattle.pg_match.proofs.AnchoredLemmas.{started_inside}
 use Rattle.pg_match.proofs.automaton.Automaton.begin_inside.Goals as goal
 
 pub overflow_add-sets : goal.overflow_add-sets
@@ -31,3 +33,8 @@ returns-clause-visits g c = refl
 pub returns-clause-told : goal.returns-clause-told
 returns-clause-told g c =
     omega (arith, c.clear.ensures.added, c.clear.ensures.empty.0, c.insert.ensures.counted, c.close.ensures.counted)
+
+pub returns-clause-starts : goal.returns-clause-starts
+returns-clause-starts g c =
+    started_inside (nfa c.args.self.now) (members c.clear.new.self) (members c.insert.new.self) (members c.close.new.set)
+    c.clear.ensures.empty c.insert.ensures.inserted (rw c.deref.ensures.value at c.close.ensures)

@@ -1,4 +1,4 @@
-use Rattle.std.proofs.Common.{◌≡◌, ◌+◌, ◌<◌, ◌≤◌, ◌^◌, ℕ, ap, subst, sym, arith, length, not, eqb}
+use Rattle.std.proofs.Common.{◌≡◌, ◌+◌, ◌<◌, ◌≤◌, ℕ, ap, subst, sym, arith, length, not, eqb}
 use Rattle.std.proofs.lemmas.List.{get_or_read}
 use Rattle.pg_match.proofs.StateSetLemmas.{few}
 use Rattle.pg_match.specs.Memories.{Grown, IsShape}

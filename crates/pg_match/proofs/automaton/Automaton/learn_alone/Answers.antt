@@ -1,11 +1,9 @@
-use Rattle.std.proofs.Common.{◌≤◌, ◌∙◌, arith, sym, refl, inl, inr, ◌*◌, ◌+◌, ◌≡◌, length, subst}
-use Rattle.std.proofs.lemmas.List.{get_or_read}
+use Rattle.std.proofs.Common.{◌≤◌, arith, refl, inl, inr}
 use Rattle.pg_match.specs.Memories.{In}
 use Rattle.pg_match.specs.Steps.{Has}
 use Rattle.pg_match.specs.Views.{nfa, members, remembered}
 use Rattle.pg_match.proofs.AnchoredLemmas.{alone_marked, told_alone, gone_alone, read_by_none, none_same}
 use Rattle.pg_match.proofs.CacheLemmas.{same_back}
-use Rattle.pg_match.proofs.StateSetLemmas.{few}
 use Rattle.pg_match.proofs.automaton.Automaton.learn_alone.Goals as goal
 
 pub returns-then-sets-eq0-clause-memory : goal.returns-then-sets-eq0-clause-memory

@@ -1,4 +1,4 @@
-use Rattle.std.proofs.Common.{◌≡◌, ◌+◌, ◌/◌, ◌<◌, ◌≤◌, ◌∙◌, get_or, length, arith, sym, true≢false, true, false, None}
+use Rattle.std.proofs.Common.{◌/◌, ◌<◌, ◌∙◌, length, arith, sym, true≢false, true, false, None}
 use Rattle.std.proofs.lemmas.List.{get_or_read}
 use Rattle.pg_match.specs.Views.{nfa, remembered}
 use Rattle.pg_match.proofs.AnchoredLemmas.{follows_first, follows_on, follows_end, in_flags, in_rows, best_dead}

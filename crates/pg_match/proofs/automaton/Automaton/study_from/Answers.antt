@@ -39,3 +39,45 @@ learn_alone-requires-clause-visits g c =
     let size = c.args.self.now.states.ok.0 in
     within_room _ (length c.args.self.now.states.items) _ _ (c.len-size.ensures ∙ size)
     c.requires.short (omega arith) c.if-sets-most-2.false
+
+pub first_alone-requires-clause-runs : goal.first_alone-requires-clause-runs
+first_alone-requires-clause-runs g c = c.requires.runs
+
+pub first_alone-requires-clause-room : goal.first_alone-requires-clause-room
+first_alone-requires-clause-room g c = c.requires.room
+
+pub first_alone-requires-clause-memory : goal.first_alone-requires-clause-memory
+first_alone-requires-clause-memory g c = c.requires.memory
+
+pub learn_alone-requires-clause-runs : goal.learn_alone-requires-clause-runs
+learn_alone-requires-clause-runs g c = c.requires.runs
+
+pub learn_alone-requires-clause-seeds : goal.learn_alone-requires-clause-seeds
+learn_alone-requires-clause-seeds g c = c.requires.seeds
+
+pub learn_alone-requires-clause-starts : goal.learn_alone-requires-clause-starts
+learn_alone-requires-clause-starts g c = c.requires.starts
+
+pub learn_alone-requires-clause-room : goal.learn_alone-requires-clause-room
+learn_alone-requires-clause-room g c = c.loop-place.invariant.room
+
+pub learn_alone-requires-clause-memory : goal.learn_alone-requires-clause-memory
+learn_alone-requires-clause-memory g c = c.loop-place.invariant.memory
+
+pub learn_alone-requires-clause-known : goal.learn_alone-requires-clause-known
+learn_alone-requires-clause-known g c = c.loop-place.invariant.known
+
+pub learn_alone-requires-clause-some : goal.learn_alone-requires-clause-some
+learn_alone-requires-clause-some g c = c.loop-place.invariant.some
+
+pub learn_end-requires-clause-runs : goal.learn_end-requires-clause-runs
+learn_end-requires-clause-runs g c = c.requires.runs
+
+pub learn_end-requires-clause-room : goal.learn_end-requires-clause-room
+learn_end-requires-clause-room g c = c.loop-place.invariant.room
+
+pub learn_end-requires-clause-memory : goal.learn_end-requires-clause-memory
+learn_end-requires-clause-memory g c = c.loop-place.invariant.memory
+
+pub learn_end-requires-clause-known : goal.learn_end-requires-clause-known
+learn_end-requires-clause-known g c = c.loop-place.invariant.known
