@@ -177,25 +177,22 @@ fn parted(rt: &impl Abort, alloc: Global, search: Search, lines: &str) -> String
 /// Shows what a search of a line visits, as a row asks.
 pub(crate) fn searched(rt: &impl Abort, alloc: Global, word: &str, asked: &str) -> String {
     let (text, rest) = cut(rt, asked, " on ");
+    let mut search = machine_of(rt, alloc, word, &repeated(rt, alloc, text));
     if let Some(lines) = rest.strip_suffix(" parted") {
-        let search = machine_of(rt, alloc, word, &repeated(rt, alloc, text));
         return parted(rt, alloc, search, lines);
     }
     if let Some(line) = rest.strip_suffix(" counted with parts") {
         let line = line_of(rt, alloc, line);
-        let search = machine_of(rt, alloc, word, &repeated(rt, alloc, text));
         let mut search = for_parts(rt, alloc, search);
         return counted(alloc, &mut search, &line).expect(rt, "memory");
     }
     if let Some(line) = rest.strip_suffix(" counted") {
         let line = line_of(rt, alloc, line);
-        let mut search = machine_of(rt, alloc, word, &repeated(rt, alloc, text));
         return counted(alloc, &mut search, &line).expect(rt, "memory");
     }
     let (line, most) = cut(rt, rest, " within ");
     let most: u128 = most.parse().expect(rt, "a number");
     let line = line_of(rt, alloc, line);
-    let mut search = machine_of(rt, alloc, word, &repeated(rt, alloc, text));
     shown_visits(alloc, &mut search, &line, most).expect(rt, "memory")
 }
 
