@@ -1,9 +1,9 @@
 //! The longest match from a known start, by the remembered sets of the runs that begin there.
-ghost use Rattle.std.specs.Prelude.{◌≡◌, ◌+◌, ◌*◌, ◌<◌, ◌≤◌, ◌^◌, length, IfSome, IsTrue, Some, true};
+ghost use Rattle.std.specs.Prelude.{◌≡◌, ◌+◌, ◌*◌, ◌<◌, ◌≤◌, ◌^◌, length, IfSome, IsTrue, Some};
 ghost use Rattle.pg_match.specs.Automata.{IsRunnable};
 ghost use Rattle.pg_match.specs.Anchored.{IsAnchoredMemoryOf};
 ghost use Rattle.pg_match.specs.Bounds.{MayBegin, MayEnd};
-ghost use Rattle.pg_match.specs.Memories.{In, Keeps, Same, fresh_at};
+ghost use Rattle.pg_match.specs.Memories.{In, Keeps, Same};
 ghost use Rattle.pg_match.specs.Searches.{IsBest};
 ghost use Rattle.pg_match.specs.StateSets.{IsGood, HaveRoom};
 ghost use Rattle.pg_match.specs.Steps.{Has};
