@@ -1,5 +1,6 @@
-//! Words of a command line, with each letter in a word of its own, as -i where it is -y, and numbers as -C.
-ghost use Rattle.std.specs.Prelude.{◌≡◌, ◌++◌, ◌∷◌, ◌<◌, ◌≤◌, ◌||◌, length, slice_index, true, IfOk, OnOk, List, ℕ, map, option_map, []};
+//! Words of a command line, spelled out: each letter in a word of its own, -y as -i, and a number as that of -C.
+ghost use Rattle.std.specs.Prelude.{◌≡◌, ◌++◌, ◌∷◌, ◌<◌, ◌≤◌, ◌||◌, length, slice_index, true, IfOk, OnOk};
+ghost use Rattle.std.specs.Prelude.{List, ℕ, map, option_map, []};
 ghost use Rattle.std.specs.Char.{is_ascii_digit};
 ghost use Rattle.std.specs.String.{string_bytes};
 ghost use Rattle.clap.specs.Lexer.{short_of};
@@ -57,7 +58,7 @@ fn add_spelled<'a>(
     }
 }
 
-/// What follows a word.
+/// What follows a word that is spelled out: the value of its last option, if that waits for it.
 fn place_behind(word: &str) -> Place<'_>
     ensures { place_of result ≡ place_behind table word.now }
 {
@@ -78,7 +79,7 @@ fn add_word_spelled(alloc: Global, parts: &mut Vec<String>, word: &str) -> Resul
     }
 }
 
-/// What stands behind the one hyphen of a word.
+/// What stands behind the one hyphen of a word; nothing of an operand, of `-` and of a long name.
 pub(crate) fn letters_of(word: &str) -> Option<&str>
     ensures { option_map (λ letters. letters.now) result ≡ short_of word.now }
 {
@@ -104,7 +105,7 @@ fn behind_first(word: &str) -> &str
     letters
 }
 
-/// Adds the words for the letters of a word.
+/// Adds the words for the letters of a word, up to the first that has none of its own.
 fn add_letters(
     alloc: Global,
     parts: &mut Vec<String>,
@@ -177,7 +178,8 @@ fn add_flag(
     Ok(())
 }
 
-/// Adds the words for digits and for the rest of their word.
+/// Adds the words for digits and for the rest of their word. A rest that begins with a hyphen
+/// would be a long name behind one more, so the whole word stays as it is, and is refused.
 fn add_rest(
     alloc: Global,
     parts: &mut Vec<String>,

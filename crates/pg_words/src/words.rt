@@ -83,7 +83,7 @@ impl<T: Drop> From<AllocFailed<T>> for WordsFault {
 /// given. Options may stand behind operands, until `--`. Of an option that is given twice the last
 /// one counts, and of -i and --no-ignore-case too; -e and -f collect. -C gives the lines before and after where
 /// -B or -A doesn't. -y is -i, and digits among letters are -C with that number. -G has no effect beside -E or -F,
-/// and -a has none at all.
+/// and -a, -U and --binary-files=text have none at all.
 ///
 /// The long names are GNU grep's, written out, and --workers, --block and --round. --help comes before
 /// --version, and both come before a fault that [`check_usage`] finds.
