@@ -1,4 +1,5 @@
 pub mod ReadingLemmas
-pub mod WorkLemmas
+pub mod RefusalLemmas
 pub mod StatusLemmas
 pub mod ToldLemmas
+pub mod WorkLemmas

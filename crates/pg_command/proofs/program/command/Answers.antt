@@ -1,14 +1,15 @@
-use Rattle.std.proofs.Common.{rules, ◌≡◌, ◌∙◌, ap, inl, map, sym, subst, Ok, Result}
+use Rattle.std.proofs.Common.{rules, ◌≡◌, ◌∙◌, ap, inl, map, sym, subst, Result}
 use Rattle.std.specs.String.{string_bytes}
 use Rattle.pg_words.specs.Asked.{asked_of, pace_of}
 use Rattle.pg_words.specs.Asks.{Asks, AsksSearch, asks, asks_of}
-use Rattle.pg_words.specs.Gives.{Gives, IsTask}
+use Rattle.pg_words.specs.Gives.{Gives, IsFault, IsTask}
 use Rattle.pg_words.specs.Joined.{asked}
 use Rattle.pg_words.specs.Line.{table}
 use Rattle.pg_words.specs.declared.words.Task.{Task}
 use Rattle.pg_words.specs.declared.words.Task.TheVariants.{Search}
 use Rattle.pg_words.specs.declared.words.WordsFault.{WordsFault}
 use Rattle.pg_command.specs.Command.{Does}
+use Rattle.pg_command.proofs.RefusalLemmas.{refusal_told}
 use Rattle.pg_command.proofs.program.command.Goals as goal
 
 -- the words ask for the search of the request
@@ -33,3 +34,23 @@ returns-in-Ok-Search-clause-commands g c =
     c.answer.result)
     (sym asked_for) c.answer.ensures.answers
     )
+
+-- why the words aren't taken was told
+pub returns-clause-commands : goal.returns-clause-commands
+returns-clause-commands g c =
+    let fault = c.in-Err.fault in
+    let joined = asks_of (asked table (map string_bytes c.in-Ok.joined.parts.items)) in
+    let given : IsFault joined fault =
+    subst (λ (r : Result Task WordsFault). Gives joined r) c.in-Err.is c.read_words.ensures in
+    let asked_for : IsFault (asks (map string_bytes c.args.words.now)) fault =
+    subst (λ (a : Asks). IsFault a fault) (ap asks_of c.in-Ok.ensures) given in
+    refusal_told (g.T.FileTree.tells c.args.tree.now) (g.T.FileTree.answers c.args.tree.now)
+    (g.S.Store.past c.args.files.now.store)
+    (record { taken = g.W.Sink.taken c.args.out.now; failures = g.W.Sink.failures c.args.out.now })
+    (record { taken = g.E.Sink.taken c.args.err.now; failures = g.E.Sink.failures c.args.err.now })
+    (record {
+      taken = g.E.Sink.taken c.refuse-in-Err.new.err;
+      failures = g.E.Sink.failures c.refuse-in-Err.new.err;
+    })
+    c.refuse-in-Err.result fault (asks (map string_bytes c.args.words.now)) asked_for
+    c.refuse-in-Err.ensures.told c.refuse-in-Err.ensures.fault
