@@ -85,6 +85,9 @@ COMMON = """
 -E [a-z]{9,}
 -E [^aeiou]{6}
 -oE [a-z]{7}
+-oE [a-z]+ing
+-oE [^[:space:]]+
+-owE [a-z]{5}
 -cE [wn][aeiou]t
 -cE [a-z]+in[.,:;a]
 -cE ^[a-z]+.[a-z]+.of
@@ -124,6 +127,8 @@ def cases(folder, megabytes):
     write(folder / "a", texts.near_misses(5))
     yield Case(["-F", "-c", "-f", "aab"], "a", ["-F", "-c", "-f", "aab"])
     yield from split("-cE (a*)*b\n-cE (a|aa)*[bc]\n-oE a{40}", "a")
+    write(folder / "letters", b"a" * 20_000 + b"\n")
+    yield from split("-oE a*b|a", "letters")
     write(folder / "log", texts.log(20))
     yield from split(LOG, "log")
     write(folder / "line", texts.one_line())
@@ -133,6 +138,9 @@ def cases(folder, megabytes):
     texts.make_tree(folder / "tree")
     for options in ("-rF", "-rcF", "-rlF"):
         yield Case([options, "needle"], "tree", [options.replace("r", ""), "needle"], is_tree=True)
+    texts.make_empty_files(folder / "empty", 30_000)
+    for options in ("-rcF", "-rlF"):
+        yield Case([options, "needle"], "empty", [options.replace("r", ""), "needle"], is_tree=True)
     write(folder / "part", texts.common(8))
     (folder / "large").mkdir()
     for number in range(20):

@@ -100,3 +100,10 @@ def make_tree(folder):
         below.mkdir(parents=True)
         for file in range(100):
             (below / f"f{file}").write_bytes(text)
+
+
+def make_empty_files(folder, count):
+    """Empty files in one directory."""
+    folder.mkdir(parents=True)
+    for file in range(count):
+        (folder / f"f{file}").touch()
