@@ -113,10 +113,7 @@ fn is_spread<A: Allocator>(query: &Query<A>, setup: &Setup, pace: Pace) -> bool
 }
 
 /// Room for the searches of a thread.
-fn scratch_for<A: Allocator + Copy>(
-    alloc: A,
-    query: &Query<A>,
-) -> Result<Scratch<A>, AllocError>
+fn scratch_for<A: Allocator + Copy>(alloc: A, query: &Query<A>) -> Result<Scratch<A>, AllocError>
     ensures { IfOk result (λ scratch. Fits scratch query.now.machine) }
 {
     if query.text().pieces {
