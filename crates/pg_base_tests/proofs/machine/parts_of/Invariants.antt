@@ -1,5 +1,5 @@
 use Rattle.pg_match.specs.Machines.{Fits}
 use Rattle.pg_base_tests.proofs.machine.parts_of.Given as goal
 
-abbrev pub invariant-loop-_ : goal.invariant-loop-_
-invariant-loop-_ g l = record { fits : Fits l.search.scratch l.search.machine }
+abbrev pub invariant-loop : goal.invariant-loop
+invariant-loop g l = record { fits : Fits l.search.scratch l.search.machine }
