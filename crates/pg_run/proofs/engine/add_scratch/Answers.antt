@@ -22,7 +22,7 @@ pub returns-clause-fits : goal.returns-clause-fits
 returns-clause-fits g c =
     let machine = c.args.query.now.machine in
     let scratch = c.in_ok-scratch.scratch in
-    let fits : Fits scratch machine = c.in_ok-scratch.ensures.fits ∙ c.machine.ensures.machine in
+    let fits : Fits scratch machine = c.in_ok-scratch.ensures in
     let P : List Room → Type 0 = λ xs. All (λ s. Fits s machine) xs in
     subst P (sym c.in_ok-push.ensures.items)
     (All-push (λ s. Fits s machine) c.args.scratches.now.items scratch c.requires.fits fits)

@@ -19,11 +19,11 @@ returns g c = λ aim trees text set.
     λ t. Stands c.in_ok-sequencer.sequencer (start (search_of t aim.query.trees) c.args.setup.format) in
     let F : Format → Type 0 = λ f. Stands c.in_ok-sequencer.sequencer (start aim.query f) in
     let stands = subst S same (c.in_ok-sequencer.ensures aim.query.trees (subst T (sym same) trees)) in
-    holds_new _ aim own (sym set) refl (ap (λ xs. map arc_value xs) c.new-5.ensures.items)
+    holds_new _ aim own (sym set) refl (ap (λ xs. map arc_value xs) c.new-4.ensures.items)
     (subst F (ap (λ s. s.format) (sym set)) stands)
 
 pub invariant_of-result-clause-all_fit : goal.invariant_of-result-clause-all_fit
-invariant_of-result-clause-all_fit g c = λ k d below. absurd (omega (arith, ap length c.new-4.ensures.items, below))
+invariant_of-result-clause-all_fit g c = λ k d below. absurd (omega (arith, ap length c.new-3.ensures.items, below))
 
 pub returns-in_err-query : goal.returns-in_err-query
 returns-in_err-query g c = IfOk-from_err c.from_residual.result _ c.from_residual.ensures.0
@@ -42,10 +42,10 @@ returns-in_err-scratch g c =
 
 pub invariant_of-result-clause-fits : goal.invariant_of-result-clause-fits
 invariant_of-result-clause-fits g c =
-    c.in_ok-scratch.ensures.fits ∙ (c.machine.ensures.machine ∙ ap (λ q. q.machine) c.deref-2.ensures)
+    c.in_ok-scratch.ensures ∙ ap (λ q. q.machine) c.deref-2.ensures
 
 pub invariant_of-result-clause-endless : goal.invariant_of-result-clause-endless
 invariant_of-result-clause-endless g c = c.is_spread-spread.ensures
 
 pub invariant_of-result-clause-at_once : goal.invariant_of-result-clause-at_once
-invariant_of-result-clause-at_once g c = λ spread. c.new-5.ensures.items
+invariant_of-result-clause-at_once g c = λ spread. c.new-4.ensures.items
