@@ -6,38 +6,24 @@ use Rattle.std.specs.Prelude.{IfSome, slice_index, slice_get}
 use Rattle.std.proofs.lemmas.List.{get_or_read}
 use Rattle.std.proofs.lemmas.Option.{slice_get-get_or}
 use Rattle.std.proofs.lemmas.Bool.{cases_eq, cases_lt}
-use Rattle.pg_match.specs.Anchored.{StandsFrom, StartsInside, GoesAlone, ToldAlone, IsAnchoredMemoryOf}
+use Rattle.pg_match.specs.Anchored.{StandsFrom, GoesAlone, ToldAlone, IsAnchoredMemoryOf, start_row}
 use Rattle.pg_match.specs.Automata.{Nfa, Edge, Runs, IsRunnable}
 use Rattle.pg_match.specs.Bounds.{MayBegin, MayEnd}
 use Rattle.pg_match.specs.Memories.{Remembered, ended, fresh_at, In, Same, IsShape, IsBlank, Keeps}
 use Rattle.pg_match.specs.Memories.{Grown, Marked, MarkedEnd, IsAtRow}
 use Rattle.pg_match.specs.Searches.{IsBest}
 use Rattle.pg_match.specs.Starts.{GoesOn}
-use Rattle.pg_match.specs.StateSets.{Members, mark, IsGood, IsEmpty, Inserted}
-use Rattle.pg_match.specs.Steps.{Has, Closed, ReadsNone, HitAtEnd, NoHitAtEnd, AnswersEnd}
+use Rattle.pg_match.specs.StateSets.{Members, mark, IsGood}
+use Rattle.pg_match.specs.Steps.{Has, Starts, ReadsNone, HitAtEnd, NoHitAtEnd, AnswersEnd}
 use Rattle.pg_match.specs.Views.{remembered, RemembersAnchored}
 use Rattle.pg_match.specs.declared.dfa_cache.Cache.{Cache}
 use Rattle.pg_match.specs.declared.state.State.{State}
 use Rattle.pg_match.proofs.CacheLemmas.{answers_same, nothing_known, row_of, at_row, same_back, same_on, sets_keep}
-use Rattle.pg_match.proofs.CacheLemmas.{sets_shape}
+use Rattle.pg_match.proofs.CacheLemmas.{sets_shape, starts_same}
 use Rattle.pg_match.proofs.SearchLemmas.{edge_moves}
 use Rattle.pg_match.proofs.SkimLemmas.{no_cross}
 use Rattle.pg_match.proofs.StandsLemmas.{reads_edge, edge_reads, ends_here, ends_at_last}
 use Rattle.pg_match.proofs.StepLemmas.{edge_still}
-
--- the set of a start inside a line is made
-pub started_inside : (m : Nfa) (none seeded after : Members) → IsEmpty none → Inserted none seeded m.start 1
-    → Closed m.states false false seeded after → StartsInside m (Has after)
-started_inside m none seeded after empty ins c = record {
-  comes = λ r h.
-      let w = c.fresh r h in
-      let z = empty.1 w.0 in
-      let f = ins.fresh w.0 z w.1 in
-      subst (λ q. (l : List ℕ) (i : ℕ) → (IsTrue false → i ≡ 0) → (IsTrue false → i ≡ length l)
-      → (n j : ℕ) → Runs m.states l n r i j → (k : ℕ) × Runs m.states l k q i j) f.0 w.2;
-  seeded = c.kept m.start ins.here;
-  still = c.still;
-}
 
 -- where no start is sown, a step goes alone
 pub gone_alone : (t : List State) (seeds : List ℕ) (b : ℕ) (S U : ℕ → Type 0) → GoesOn t seeds b (IsTrue false) S U
@@ -68,23 +54,20 @@ alone_same t b S S' U U' s u g = record {
   still = λ q h r edge. (u r).0 (g.still q ((u q).1 h) r edge);
 }
 
-inside_same : (m : Nfa) (S U : ℕ → Type 0) → Same S U → StartsInside m S → StartsInside m U
-inside_same m S U s g = record {
-  comes = λ r h. g.comes r ((s r).1 h);
-  seeded = (s m.start).0 g.seeded;
-  still = λ q h r edge. (s r).0 (g.still q ((s q).1 h) r edge);
-}
+pub start_row_few : (s : ℕ) → start_row s ≤ 2
+start_row_few zero = omega arith
+start_row_few (suc s) = omega arith
 
 -- what stands at a place
 module _ (m : Nfa) (l : List ℕ) (s : ℕ) where
   -- where the start is
-  pub stands_start : (S : ℕ → Type 0) → 0 < s → s < length l → StartsInside m S → StandsFrom m l s s S
-  stands_start S some inside g = record {
-    sound = λ q h. g.comes q h l s (λ f. absurd (true≢false (sym f))) (λ f. absurd (true≢false (sym f)));
+  pub stands_start : (first : Bool) (S : ℕ → Type 0) → (IsTrue first → s ≡ 0) → (s ≡ 0 → IsTrue first) → s < length l
+      → Starts m first S → StandsFrom m l s s S
+  stands_start first S at_first is_first inside g = record {
+    sound = λ q h. g.comes q h l s at_first (λ f. absurd (true≢false (sym f)));
     complete = λ n j run past. (m.start, n, g.seeded, run);
     closed = λ lt q r h edge.
-        g.still q h r (edge_still false false (slice_get m.states q) l s r (λ z. absurd (omega arith))
-        (λ z. absurd (omega arith)) edge);
+        g.still q h r (edge_still first false (slice_get m.states q) l s r is_first (λ z. absurd (omega arith)) edge);
   }
 
   module _ (p b : ℕ) (S U : ℕ → Type 0) (is : slice_get l p ≡ Some b) (lt : p < length l) (at : StandsFrom m l s p S)
@@ -189,13 +172,22 @@ module _ (m : Nfa) (t : Remembered) (is : IsAnchoredMemoryOf m t) where
     | inr rest ↦ elim rest [ inl dead ↦ dead.1 | inr go ↦ absurd (omega (arith, go.1, go.2)) ]
   ]
 
+  -- the row of a start is the set of its place
+  start_stands : (l : List ℕ) (s : ℕ) → start_row s ≤ t.count → s < length l → StandsFrom m l s s (In t (start_row s))
+  start_stands l zero known inside =
+      stands_start m l 0 true (In t 2) (λ f. refl) (λ z. refl) inside (is.first known)
+  start_stands l (suc s) known inside =
+      stands_start m l (suc s) false (In t 1) (λ f. absurd (true≢false (sym f))) (λ z. absurd (omega arith)) inside
+      (is.inside known)
+
   module _ (l : List ℕ) (s : ℕ) (is_m : IsRunnable m) where
-    pub follows_first : 1 ≤ t.count → 0 < s → s < length l → Follows m t l s s 256 None
-    follows_first some later inside = record {
+    pub follows_first : (r : ℕ) → r ≡ start_row s → r ≤ t.count → s < length l → Follows m t l s s (256 * r) None
+    follows_first r is_row known inside = record {
       onward = omega arith;
       within = omega arith;
-      row = at_row t 256 1 refl some;
-      stands = stands_start m l s (In t 1) later inside (is.first some);
+      row = at_row t (256 * r) r refl known;
+      stands = subst (λ k. StandsFrom m l s s (In t k)) (sym is_row ∙ sym (row_of (256 * r) r refl))
+          (start_stands l s (subst (λ k. k ≤ t.count) is_row known) inside);
       found = λ n j behind upto. absurd (omega arith);
     }
 
@@ -311,14 +303,14 @@ module _ (m : Nfa) (t : Remembered) (is : IsAnchoredMemoryOf m t) where
         (λ e. absurd (omega arith))
 
     pub best_no_more : (at p : ℕ) (last : Option ℕ) → Follows m t l s p at last → MayBegin m.bounds l s
-        → p ≡ length l → 0 < s → NoHitAtEnd m false (In t (at / 256)) → IfSome last IsEnd
-    best_no_more at p last f begins end later missed =
-        best_end p last begins f.found f.within (λ n j past inside run. absurd (omega arith))
+        → p ≡ length l → s < length l → NoHitAtEnd m false (In t (at / 256)) → IfSome last IsEnd
+    best_no_more at p last f begins end inside missed =
+        best_end p last begins f.found f.within (λ n j past upto run. absurd (omega arith))
         (λ e n run.
         let here = subst (λ w. StandsFrom m l s w (In t (at / 256))) end f.stands in
         let last_run = subst (λ w. Runs m.states l n m.start s w) end run in
         let c = here.complete n (length l) last_run (omega arith) in
-        missed l c.0 c.1 c.2 (λ z. absurd (omega (arith, f.onward))) c.3)
+        missed l c.0 c.1 c.2 (λ z. absurd (omega arith)) c.3)
 
     pub best_at_end : (at p : ℕ) (last : Option ℕ) → Follows m t l s p at last → MayBegin m.bounds l s
         → p ≡ length l → s < length l → HitAtEnd m false (In t (at / 256)) → IsEnd p
@@ -364,8 +356,9 @@ moved : (m : Nfa) (old new : Remembered) → IsAnchoredMemoryOf m old → IsShap
     → ((r : ℕ) → old.count < r → r ≤ new.count → (fresh_at new r ≡ true) ↔ In new r 0)
     → ((r : ℕ) (answer : Bool) → ended new r ≡ Some answer → (ended old r ≡ Some answer)
     ⊎ ((r ≤ new.count) × AnswersEnd m false (In new r) answer))
-    → (old.count ≡ 0 → 1 ≤ new.count → StartsInside m (In new 1)) → IsAnchoredMemoryOf m new
-moved m old new is shape k cells past flags ends first =
+    → (old.count < 1 → 1 ≤ new.count → Starts m false (In new 1))
+    → (old.count < 2 → 2 ≤ new.count → Starts m true (In new 2)) → IsAnchoredMemoryOf m new
+moved m old new is shape k cells past flags ends inside first =
     let more = k.more in
     record {
       shape = shape;
@@ -394,17 +387,21 @@ moved m old new is shape k cells past flags ends first =
             (omega (arith, w.0), answers_same m false (In old r) (In new r) answer (k.sets r w.0) w.1)
         | inr told ↦ told
       ];
-      first = λ some. elim (cases_eq old.count 0) [
+      inside = λ some. elim (cases_lt old.count 1) [
+        | inl none ↦ inside none some
+        | inr had ↦ starts_same m false (In old 1) (In new 1) (k.sets 1 had) (is.inside had)
+      ];
+      first = λ some. elim (cases_lt old.count 2) [
         | inl none ↦ first none some
-        | inr had ↦ inside_same m (In old 1) (In new 1) (k.sets 1 (omega arith)) (is.first (omega arith))
+        | inr had ↦ starts_same m true (In old 2) (In new 2) (k.sets 2 had) (is.first had)
       ];
     }
 
 -- a set was added to the table, with a flag that says whether state 0 is in it
 pub alone_grown : (m : Nfa) (old new : Remembered) (s : Members) (flag : Bool) → IsAnchoredMemoryOf m old
     → Grown (length m.states) old new s flag → (flag ≡ true) ↔ Has s 0
-    → (old.count ≡ 0 → StartsInside m (Has s)) → IsAnchoredMemoryOf m new
-alone_grown m old new s flag is g so first =
+    → (old.count < 2 → Starts m (eqb old.count 1) (Has s)) → IsAnchoredMemoryOf m new
+alone_grown m old new s flag is g so starts =
     let n = g.count in
     moved m old new is g.shape g.keeps (λ r b le lt. inl (ap (λ v. slice_index v (256 * r + b)) g.steps))
     (λ i le. ap (λ v. slice_index v i) g.steps)
@@ -416,16 +413,20 @@ alone_grown m old new s flag is g so first =
       λ h. told ∙ so.1 (here.1 (subst (λ v. In new v 0) last h)),
     ))
     (λ r answer e. inl (sym (ap (λ v. get_or v r None) g.ends) ∙ e))
-    (λ none some.
-    let one : new.count ≡ 1 = omega arith in
-    inside_same m (Has s) (In new 1) (subst (λ v. Same (Has s) (In new v)) one g.here) (first none))
+    (λ none some. started_at 0 (omega arith) (omega arith)) (λ less some. started_at 1 (omega arith) less)
+  where
+    started_at : (k : ℕ) → old.count ≡ k → old.count < 2 → Starts m (eqb k 1) (In new (k + 1))
+    started_at k at less =
+        let last : new.count ≡ k + 1 = omega (arith, g.count) in
+        starts_same m (eqb k 1) (Has s) (In new (k + 1)) (subst (λ v. Same (Has s) (In new v)) last g.here)
+        (subst (λ v. Starts m (eqb v 1) (Has s)) at (starts less))
 
 -- a set was added, if there was room
 pub alone_added : (m : Nfa) (old new : Remembered) (s : Members) (flag r : Bool) → IsAnchoredMemoryOf m old
     → (IsTrue r → Grown (length m.states) old new s flag) → (r ≡ false → new ≡ old) → (flag ≡ true) ↔ Has s 0
-    → (old.count ≡ 0 → StartsInside m (Has s)) → IsAnchoredMemoryOf m new
-alone_added m old new s flag true is grown_so _ so first = alone_grown m old new s flag is (grown_so refl) so first
-alone_added m old new s flag false is _ same so first = subst (IsAnchoredMemoryOf m) (sym (same refl)) is
+    → (old.count < 2 → Starts m (eqb old.count 1) (Has s)) → IsAnchoredMemoryOf m new
+alone_added m old new s flag true is grown_so _ so starts = alone_grown m old new s flag is (grown_so refl) so starts
+alone_added m old new s flag false is _ same so starts = subst (IsAnchoredMemoryOf m) (sym (same refl)) is
 
 -- where a byte leads was written
 pub alone_marked : (m : Nfa) (old new : Remembered) (r b v : ℕ) → IsAnchoredMemoryOf m old
@@ -453,6 +454,7 @@ alone_marked m old new r b v is w le lt told =
       | inr differs ↦ inl (other (256 * r' + b') differs)
     ]) (λ i past. other i (omega arith)) (λ r' later upto. absurd (omega arith))
     (λ r' answer e. inl (sym (ap (λ u. get_or u r' None) w.ends) ∙ e)) (λ none some. absurd (omega arith))
+    (λ less some. absurd (omega arith))
 
 -- the answer at a line's end was written
 pub alone_marked_end : (m : Nfa) (old new : Remembered) (r : ℕ) (answer : Bool) → IsAnchoredMemoryOf m old
@@ -481,7 +483,7 @@ alone_marked_end m old new r answer is w le told =
           )
       | inr differs ↦ inl (sym (ap (λ u. get_or u r' None) w.ends
           ∙ get_or-set_other old.ends r r' (Some answer) None differs) ∙ e)
-    ]) (λ none some. absurd (omega arith))
+    ]) (λ none some. absurd (omega arith)) (λ less some. absurd (omega arith))
   where
     same_some : (a c : Bool) → Some a ≡ Some c → a ≡ c
     same_some a c e = cc
@@ -504,6 +506,7 @@ blank_alone m t b =
       blank = λ i le. b.steps i;
       accepts = λ r ge le. absurd (omega arith);
       told_end = λ r answer e. absurd (no_some answer (sym (b.ends r) ∙ e));
+      inside = λ some. absurd (omega arith);
       first = λ some. absurd (omega arith);
     }
   where

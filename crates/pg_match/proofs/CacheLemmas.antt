@@ -212,8 +212,8 @@ pub answers_same : (m : Nfa) (first : Bool) (S U : ℕ → Type 0) (answer : Boo
 answers_same m first S U true s h = (h.0, (s h.0).0 h.1, h.2)
 answers_same m first S U false s h = λ l q n at empty run. h l q n ((s q).1 at) empty run
 
-starts_same : (m : Nfa) (S U : ℕ → Type 0) → Same S U → Starts m S → Starts m U
-starts_same m S U s g = record {
+pub starts_same : (m : Nfa) (first : Bool) (S U : ℕ → Type 0) → Same S U → Starts m first S → Starts m first U
+starts_same m first S U s g = record {
   comes = λ r h. g.comes r ((s r).1 h);
   seeded = (s m.start).0 g.seeded;
   still = λ q h r edge. (s r).0 (g.still q ((s q).1 h) r edge);
@@ -260,7 +260,7 @@ moved : (m : Nfa) (old new : Remembered) → IsMemoryOf m old → IsShape (lengt
     → ((i : ℕ) → 256 * (new.count + 1) ≤ i → slice_index new.steps i ≡ slice_index old.steps i)
     → ((r : ℕ) (answer : Bool) → ended new r ≡ Some answer → (ended old r ≡ Some answer)
     ⊎ ((r ≤ new.count) × AnswersEnd m false (In new r) answer))
-    → (old.count ≡ 0 → 1 ≤ new.count → Starts m (In new 1)) → IsMemoryOf m new
+    → (old.count ≡ 0 → 1 ≤ new.count → Starts m true (In new 1)) → IsMemoryOf m new
 moved m old new is shape k cells past ends first =
     let more = k.more in
     record {
@@ -283,26 +283,26 @@ moved m old new is shape k cells past ends first =
       ];
       first = λ some. elim (cases_eq old.count 0) [
         | inl none ↦ first none some
-        | inr had ↦ starts_same m (In old 1) (In new 1) (k.sets 1 (omega arith)) (is.first (omega arith))
+        | inr had ↦ starts_same m true (In old 1) (In new 1) (k.sets 1 (omega arith)) (is.first (omega arith))
       ];
     }
 
 -- a set was added to the table
 pub memory_grown : (m : Nfa) (old new : Remembered) (s : Members) (fresh : Bool) → IsMemoryOf m old
     → Grown (length m.states) old new s fresh
-    → (old.count ≡ 0 → Starts m (Has s)) → IsMemoryOf m new
+    → (old.count ≡ 0 → Starts m true (Has s)) → IsMemoryOf m new
 memory_grown m old new s fresh is g first =
     let n = g.count in
     moved m old new is g.shape g.keeps (λ r b le lt. inl (ap (λ v. slice_index v (256 * r + b)) g.steps))
     (λ i le. ap (λ v. slice_index v i) g.steps) (λ r answer e. inl (sym (ap (λ v. get_or v r None) g.ends) ∙ e))
     (λ none some.
     let one : new.count ≡ 1 = omega arith in
-    starts_same m (Has s) (In new 1) (subst (λ v. Same (Has s) (In new v)) one g.here) (first none))
+    starts_same m true (Has s) (In new 1) (subst (λ v. Same (Has s) (In new v)) one g.here) (first none))
 
 -- a set was added, if there was room
 pub memory_added : (m : Nfa) (old new : Remembered) (s : Members) (fresh r : Bool) → IsMemoryOf m old
     → (IsTrue r → Grown (length m.states) old new s fresh) → (r ≡ false → new ≡ old)
-    → (old.count ≡ 0 → Starts m (Has s)) → IsMemoryOf m new
+    → (old.count ≡ 0 → Starts m true (Has s)) → IsMemoryOf m new
 memory_added m old new s fresh true is grown_so _ first = memory_grown m old new s fresh is (grown_so refl) first
 memory_added m old new s fresh false is _ same first = subst (IsMemoryOf m) (sym (same refl)) is
 

@@ -127,7 +127,7 @@ begins_whole : (o : Bounds) (l : List ℕ) (i : ℕ) → o ≡ Whole → MayBegi
 begins_whole o l i is h = subst (λ o. MayBegin o l i) is h
 
 module _ (m : Nfa) (l : List ℕ) where
-  pub stands_first : (S : ℕ → Type 0) → Starts m S → Stands m l 0 0 S
+  pub stands_first : (S : ℕ → Type 0) → Starts m true S → Stands m l 0 0 S
   stands_first S s = record {
     sound = λ q h. (
       0,

@@ -287,15 +287,15 @@ aimed_at_none m b now next good a none q r h read =
     let k = a.good.found r there in
     absurd (omega (arith, k.1))
 
--- the set of a line's first place
-pub started : (m : Nfa) (none seeded after : Members) → IsEmpty none → Inserted none seeded m.start 1
-    → Closed m.states true false seeded after → Starts m (Has after)
-started m none seeded after empty ins c = record {
+-- the set of a start
+pub started : (m : Nfa) (first : Bool) (none seeded after : Members) → IsEmpty none → Inserted none seeded m.start 1
+    → Closed m.states first false seeded after → Starts m first (Has after)
+started m first none seeded after empty ins c = record {
   comes = λ r h.
       let w = c.fresh r h in
       let z = empty.1 w.0 in
       let f = ins.fresh w.0 z w.1 in
-      subst (λ q. LeadsStill m.states true false q r) f.0 w.2;
+      subst (λ q. LeadsStill m.states first false q r) f.0 w.2;
   seeded = c.kept m.start ins.here;
   still = c.still;
 }

@@ -1,10 +1,10 @@
 -- Sets of the runs that began at one place, and where each byte leads from them: the table of anchored searches.
-use Rattle.std.specs.Prelude.{◌≡◌, ℕ, ◌+◌, ◌*◌, ◌<◌, ◌≤◌, ◌⊎◌, ◌↔◌, Bool, true, false, List, length, Some}
+use Rattle.std.specs.Prelude.{◌≡◌, ℕ, zero, suc, ◌+◌, ◌*◌, ◌<◌, ◌≤◌, ◌⊎◌, ◌↔◌, Bool, true, false, List, length, Some}
 use Rattle.std.specs.Prelude.{slice_get, slice_index}
 use Rattle.pg_match.specs.Automata.{Nfa, Edge, Runs}
 use Rattle.pg_match.specs.Closures.{Leads}
 use Rattle.pg_match.specs.Memories.{Remembered, In, IsShape, IsUnknown, fresh_at, ended}
-use Rattle.pg_match.specs.Steps.{Reads, LeadsStill, IsStill, ReadsNone, AnswersEnd}
+use Rattle.pg_match.specs.Steps.{Reads, LeadsStill, IsStill, Starts, ReadsNone, AnswersEnd}
 use Rattle.pg_match.specs.declared.state.State.{State}
 
 -- S holds the states at p of the runs that began at s
@@ -12,12 +12,6 @@ pub record StandsFrom (m : Nfa) (l : List ℕ) (s p : ℕ) (S : ℕ → Type 0) 
   pub sound : (q : ℕ) → S q → Leads m.states l m.start s q p
   pub complete : (n j : ℕ) → Runs m.states l n m.start s j → p ≤ j → (q : ℕ) × (k : ℕ) × S q × Runs m.states l k q p j
   pub closed : p < length l → (q r : ℕ) → S q → Edge (slice_get m.states q) l p r p → S r
-
--- the set of a start inside a line, but for what needs the line's end
-pub record StartsInside (m : Nfa) (S : ℕ → Type 0) : Type 0 where
-  pub comes : (r : ℕ) → S r → LeadsStill m.states false false m.start r
-  pub seeded : S m.start
-  pub still : IsStill m.states false false S
 
 -- from S alone, with no start behind the byte, the byte leads to U, but for what needs the line's end
 pub record GoesAlone (t : List State) (b : ℕ) (S U : ℕ → Type 0) : Type 0 where
@@ -31,8 +25,14 @@ ToldAlone m t r b v =
     IsUnknown v ⊎ (((v ≡ 2) × ReadsNone m b (In t r))
     ⊎ ((k : ℕ) × (v ≡ 256 * k) × (1 ≤ k) × (k ≤ t.count) × GoesAlone m.states b (In t r) (In t k)))
 
--- What is remembered of the runs of one start is true of the automaton, for every line. A row's flag says whether a match
--- may end at a place inside a line whose set the row is, and row 1 is that of a start inside a line.
+-- the row of a start at a place: at a line's first one, or inside a line
+abbrev pub start_row : ℕ → ℕ
+start_row zero = 2
+start_row (suc s) = 1
+
+-- What is remembered of the runs of one start is true of the automaton, for every line. A row's flag says whether a
+-- match may end at a place inside a line whose set the row is. Row 1 is that of a start inside a line, and row 2 that
+-- of a start at a line's first place.
 pub record IsAnchoredMemoryOf (m : Nfa) (t : Remembered) : Type 0 where
   pub shape : IsShape (length m.states) t
   pub told : (r b : ℕ) → r ≤ t.count → b < 256 → ToldAlone m t r b (slice_index t.steps (256 * r + b))
@@ -40,4 +40,5 @@ pub record IsAnchoredMemoryOf (m : Nfa) (t : Remembered) : Type 0 where
   pub accepts : (r : ℕ) → 1 ≤ r → r ≤ t.count → (fresh_at t r ≡ true) ↔ In t r 0
   pub told_end : (r : ℕ) (answer : Bool) → ended t r ≡ Some answer
       → (r ≤ t.count) × AnswersEnd m false (In t r) answer
-  pub first : 1 ≤ t.count → StartsInside m (In t 1)
+  pub inside : 1 ≤ t.count → Starts m false (In t 1)
+  pub first : 2 ≤ t.count → Starts m true (In t 2)

@@ -81,7 +81,7 @@ pub record IsMemoryOf (m : Nfa) (t : Remembered) : Type 0 where
   pub blank : (i : ℕ) → 256 * (t.count + 1) ≤ i → slice_index t.steps i ≡ 0
   pub told_end : (r : ℕ) (answer : Bool) → ended t r ≡ Some answer
       → (r ≤ t.count) × AnswersEnd m false (In t r) answer
-  pub first : 1 ≤ t.count → Starts m (In t 1)
+  pub first : 1 ≤ t.count → Starts m true (In t 1)
 
 -- room for sets, and none of them
 pub record IsBlank (n : ℕ) (t : Remembered) : Type 0 where

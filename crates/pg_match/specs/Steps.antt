@@ -103,11 +103,11 @@ ends_before Any b = true
 ends_before Word b = not (is_word_byte b)
 ends_before Whole b = false
 
--- the set of a line's first place, but for what needs the line's end
-pub record Starts (m : Nfa) (S : ℕ → Type 0) : Type 0 where
-  pub comes : (r : ℕ) → S r → LeadsStill m.states true false m.start r
+-- the set of a start at a line's first place, or else inside a line, but for what needs the line's end
+pub record Starts (m : Nfa) (first : Bool) (S : ℕ → Type 0) : Type 0 where
+  pub comes : (r : ℕ) → S r → LeadsStill m.states first false m.start r
   pub seeded : S m.start
-  pub still : IsStill m.states true false S
+  pub still : IsStill m.states first false S
 
 -- from S the byte leads to U, but for what needs the line's end
 pub record Goes (m : Nfa) (b : ℕ) (S U : ℕ → Type 0) : Type 0 where

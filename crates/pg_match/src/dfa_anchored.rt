@@ -1,7 +1,7 @@
 //! The longest match from a known start, by the remembered sets of the runs that begin there.
 ghost use Rattle.std.specs.Prelude.{◌≡◌, ◌+◌, ◌*◌, ◌<◌, ◌≤◌, ◌^◌, length, IfSome, IsTrue, Some};
 ghost use Rattle.pg_match.specs.Automata.{IsRunnable};
-ghost use Rattle.pg_match.specs.Anchored.{IsAnchoredMemoryOf};
+ghost use Rattle.pg_match.specs.Anchored.{IsAnchoredMemoryOf, start_row};
 ghost use Rattle.pg_match.specs.Bounds.{MayBegin, MayEnd};
 ghost use Rattle.pg_match.specs.Memories.{In, Keeps, Same};
 ghost use Rattle.pg_match.specs.Searches.{IsBest};
@@ -15,6 +15,13 @@ use crate::search::StateSets;
 use crate::sparse_set::StateSet;
 use std::alloc::Allocator;
 
+/// The row of the set of a start at a place.
+fn start_row(start: usize) -> usize
+    ensures { result ≡ start_row start }
+{
+    if start == 0 { 2 } else { 1 }
+}
+
 impl<A: Allocator> Automaton<A> {
     /// The end of the best span from a place on, if that begins there and is remembered.
     pub(crate) fn longest(&self, memory: &Cache<A>, line: &[u8], start: usize) -> Option<usize>
@@ -25,13 +32,14 @@ impl<A: Allocator> Automaton<A> {
             (MayBegin self.now.bounds line.now) (MayEnd self.now.bounds line.now) start (length line.now + 1)
             (Some (start, end))) }
     {
-        if start == 0 || start >= line.len() || memory.count == 0 {
+        let row = start_row(start);
+        if start >= line.len() || row > memory.count {
             return None;
         }
         if !self.bounds.may_begin(line, start) {
             return None;
         }
-        let mut state = 256;
+        let mut state = 256 * row as u32;
         let mut place = start;
         let mut last = None;
         while place < line.len() {
@@ -57,7 +65,7 @@ impl<A: Allocator> Automaton<A> {
         requires memory { IsAnchoredMemoryOf (nfa self.now) (remembered memory.old) }
         requires good { IsGood (members set.now) }
         requires size { length set.now.marks.items ≡ length self.now.states.items }
-        requires some { 1 ≤ memory.old.count }
+        requires some { 2 ≤ memory.old.count }
         ensures memory { IsAnchoredMemoryOf (nfa self.now) (remembered memory.new) }
         ensures keeps { Keeps (remembered memory.old) (remembered memory.new) }
         ensures known { result ≤ memory.new.count }
@@ -89,11 +97,11 @@ impl<A: Allocator> Automaton<A> {
         requires room { HaveRoom (buffers sets.old) (length self.now.states.items) }
         requires memory { IsAnchoredMemoryOf (nfa self.now) (remembered memory.old) }
         requires known { row ≤ memory.old.count }
-        requires some { 1 ≤ memory.old.count }
+        requires some { 2 ≤ memory.old.count }
         requires visits { sets.old.visits < 2 ^ 99 }
         ensures room { HaveRoom (buffers sets.new) (length self.now.states.items) }
         ensures memory { IsAnchoredMemoryOf (nfa self.now) (remembered memory.new) }
-        ensures some { 1 ≤ memory.new.count }
+        ensures some { 2 ≤ memory.new.count }
         ensures known { IfSome result (λ next. next ≤ memory.new.count) }
         ensures visits { sets.new.visits ≤ sets.old.visits + length self.now.states.items }
         ensures told { Tells sets.old sets.new }
@@ -140,22 +148,20 @@ impl<A: Allocator> Automaton<A> {
         memory.mark_end(row, answer);
     }
 
-    /// Sees to the first row, if there is room.
+    /// Adds the next of the first two rows, those of a start, if there is room.
     fn first_alone(&self, sets: &mut StateSets<A>, memory: &mut Cache<A>) -> bool
         requires runs { IsRunnable (nfa self.now) }
         requires room { HaveRoom (buffers sets.old) (length self.now.states.items) }
         requires memory { IsAnchoredMemoryOf (nfa self.now) (remembered memory.old) }
+        requires few { memory.old.count < 2 }
         requires visits { sets.old.visits < 2 ^ 98 }
         ensures room { HaveRoom (buffers sets.new) (length self.now.states.items) }
         ensures memory { IsAnchoredMemoryOf (nfa self.now) (remembered memory.new) }
+        ensures more { IsTrue result → memory.old.count < memory.new.count }
         ensures visits { sets.new.visits ≤ sets.old.visits + length self.now.states.items }
         ensures told { Tells sets.old sets.new }
-        ensures some { IsTrue result → 1 ≤ memory.new.count }
     {
-        if memory.count > 0 {
-            return true;
-        }
-        self.begin_inside(sets);
+        self.begin(sets, memory.count == 1);
         let accepts = sets.current.marks[0] != 0;
         memory.add(&sets.current, accepts)
     }
@@ -176,13 +182,15 @@ impl<A: Allocator> Automaton<A> {
     {
         let size = self.states.len() as u128;
         let most = line.len() as u128 * size;
-        if sets.visits > most {
-            return;
+        while memory.count < 2 {
+            if sets.visits > most {
+                return;
+            }
+            if !self.first_alone(sets, memory) {
+                return;
+            }
         }
-        if !self.first_alone(sets, memory) {
-            return;
-        }
-        let mut row = 1;
+        let mut row = start_row(start);
         for place in start..line.len() {
             if sets.visits > most {
                 return;

@@ -1,6 +1,6 @@
 //! The search for any match at all, by remembered sets.
 ghost use Rattle.std.specs.Prelude.{◌≡◌, ℕ, ◌+◌, ◌*◌, ◌/◌, ◌<◌, ◌≤◌, ◌^◌, ◌↔◌, ◌⊎◌};
-ghost use Rattle.std.specs.Prelude.{length, IsTrue, IfSome, List, false, slice_get};
+ghost use Rattle.std.specs.Prelude.{length, IsTrue, IfSome, List, true, false, slice_get};
 ghost use Rattle.pg_syntax.specs.Patterns.{Pattern};
 ghost use Rattle.pg_match.specs.Automata.{IsRunnable};
 ghost use Rattle.pg_match.specs.Hits.{HasHit};
@@ -218,13 +218,13 @@ impl<A: Allocator> Automaton<A> {
         ensures told { Tells sets.old sets.new }
         ensures some { IsTrue result → 1 ≤ memory.new.count }
         ensures full { result ≡ false → (sets.new.visits ≡ sets.old.visits + sets.new.current.len)
-            × Starts (nfa self.now) (Has (members sets.new.current)) }
+            × Starts (nfa self.now) true (Has (members sets.new.current)) }
     {
         memory.refresh();
         if memory.count > 0 {
             return true;
         }
-        self.begin(sets);
+        self.begin(sets, true);
         memory.add(&sets.current, true)
     }
 

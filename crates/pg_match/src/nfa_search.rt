@@ -1,7 +1,6 @@
 //! The search for any match at all, which needs no marks.
-ghost use Rattle.std.specs.Prelude.{◌≡◌, ℕ, ◌+◌, ◌*◌, ◌<◌, ◌≤◌, ◌^◌, ◌↔◌, length, IsTrue, IsNone, false};
+ghost use Rattle.std.specs.Prelude.{◌≡◌, ℕ, ◌+◌, ◌*◌, ◌<◌, ◌≤◌, ◌^◌, ◌↔◌, length, IsTrue, IsNone, true, false};
 ghost use Rattle.pg_match.specs.Automata.{IsTidy, IsRunnable};
-ghost use Rattle.pg_match.specs.Anchored.{StartsInside};
 ghost use Rattle.pg_match.specs.StateSets.{IsGood, HaveRoom, CountedAnew};
 ghost use Rattle.pg_match.specs.Steps.{Spread, Closed, Aimed, Has, Goes, Starts, HitBefore, AnswersEnd, ReadsNone};
 ghost use Rattle.pg_match.specs.Steps.{begins_after, ends_before};
@@ -113,35 +112,19 @@ impl Bounds {
 }
 
 impl<A: Allocator> Automaton<A> {
-    /// Makes the set of a line's first place, but for what needs the line's end.
-    pub(crate) fn begin(&self, sets: &mut StateSets<A>)
+    /// Makes the set of a start at a line's first place, or else inside a line, but for what needs the line's end.
+    pub(crate) fn begin(&self, sets: &mut StateSets<A>, first: bool)
         requires runs { IsRunnable (nfa self.now) }
         requires room { HaveRoom (buffers sets.old) (length self.now.states.items) }
         requires visits { sets.old.visits < 2 ^ 100 }
         ensures room { HaveRoom (buffers sets.new) (length self.now.states.items) }
-        ensures starts { Starts (nfa self.now) (Has (members sets.new.current)) }
+        ensures starts { Starts (nfa self.now) first (Has (members sets.new.current)) }
         ensures visits { sets.new.visits ≡ sets.old.visits + sets.new.current.len }
         ensures told { Tells sets.old sets.new }
     {
         sets.current.clear();
         sets.current.insert(self.start, 1);
-        close(&self.states, &mut sets.current, true, false);
-        sets.visits += sets.current.len as u128;
-    }
-
-    /// Makes the set of a start at a place inside a line, but for what needs the line's end.
-    pub(crate) fn begin_inside(&self, sets: &mut StateSets<A>)
-        requires runs { IsRunnable (nfa self.now) }
-        requires room { HaveRoom (buffers sets.old) (length self.now.states.items) }
-        requires visits { sets.old.visits < 2 ^ 100 }
-        ensures room { HaveRoom (buffers sets.new) (length self.now.states.items) }
-        ensures starts { StartsInside (nfa self.now) (Has (members sets.new.current)) }
-        ensures visits { sets.new.visits ≡ sets.old.visits + sets.new.current.len }
-        ensures told { Tells sets.old sets.new }
-    {
-        sets.current.clear();
-        sets.current.insert(self.start, 1);
-        close(&self.states, &mut sets.current, false, false);
+        close(&self.states, &mut sets.current, first, false);
         sets.visits += sets.current.len as u128;
     }
 
@@ -317,7 +300,7 @@ impl<A: Allocator> Automaton<A> {
         requires room { HaveRoom (buffers sets.old) (length self.now.states.items) }
         requires short { length line.now ≤ 2 ^ 30 }
         requires bytes { 1 ≤ length line.now }
-        requires begun { Starts (nfa self.now) (Has (members sets.old.current)) }
+        requires begun { Starts (nfa self.now) true (Has (members sets.old.current)) }
         requires visits { sets.old.visits ≡ sets.old.current.len }
         ensures room { HaveRoom (buffers sets.new) (length self.now.states.items) }
         ensures exact { IsTrue result ↔ HasRun (nfa self.now) line.now 0 }
@@ -345,7 +328,7 @@ impl<A: Allocator> Automaton<A> {
         ensures visits { sets.new.visits ≤ (length line.now + 1) * length self.now.states.items }
         ensures told { Tells sets.old sets.new }
     {
-        self.begin(sets);
+        self.begin(sets, true);
         if line.is_empty() {
             return self.hits_at_end(sets, true);
         }

@@ -6,23 +6,20 @@ use Rattle.pg_match.specs.Views.{nfa, members, remembered}
 use Rattle.pg_match.proofs.AnchoredLemmas.{alone_added, accepts_so}
 use Rattle.pg_match.proofs.automaton.Automaton.first_alone.Goals as goal
 
-at_most : (v n : ℕ) → v ≤ v + n
-at_most v n = omega arith
-
 visited : (old new len n : ℕ) → new ≡ old + len → len ≤ n → new ≤ old + n
 visited old new len n more fits = omega arith
 
-counted : (n m : ℕ) → n ≡ m + 1 → 1 ≤ n
+counted : (n m : ℕ) → n ≡ m + 1 → m < n
 counted n m more = omega arith
 
 pub add-requires-clause-shape : goal.add-requires-clause-shape
 add-requires-clause-shape g c =
-    let begun = c.begin_inside.ensures.room in
+    let begun = c.begin.ensures.room in
     subst (λ n. IsShape n (remembered c.args.memory.now)) (sym begun.now_size) c.requires.memory.shape
 
 pub returns-clause-memory : goal.returns-clause-memory
 returns-clause-memory g c =
-    let begun = c.begin_inside in
+    let begun = c.begin in
     let old = remembered c.args.memory.now in
     let new = remembered c.add.new.self in
     let s = members begun.new.sets.current in
@@ -34,27 +31,15 @@ returns-clause-memory g c =
     alone_added (nfa c.args.self.now) old new s flag c.add.result c.requires.memory
     (λ t. subst (λ n. Grown n old new s flag) size (c.add.ensures.grown t))
     (λ f. ap remembered (c.add.ensures.full f))
-    (accepts_so s mark_0 (get_or_read s.marks 0 mark_0 inside c.index.ensures 0)) (λ z. begun.ensures.starts)
+    (accepts_so s mark_0 (get_or_read s.marks 0 mark_0 inside c.index.ensures 0)) (λ less. begun.ensures.starts)
 
 pub returns-clause-visits : goal.returns-clause-visits
 returns-clause-visits g c =
-    let sets = c.begin_inside.new.sets in
-    let begun = c.begin_inside.ensures in
+    let sets = c.begin.new.sets in
+    let begun = c.begin.ensures in
     let s = members sets.current in
     let fits = subst (λ n. s.len ≤ n) begun.room.now_size (few s begun.room.now) in
     visited c.args.sets.now.visits sets.visits s.len _ begun.visits fits
 
-pub returns-then-memory-gt0-clause-memory : goal.returns-then-memory-gt0-clause-memory
-returns-then-memory-gt0-clause-memory g c = c.requires.memory
-
-pub returns-then-memory-gt0-clause-room : goal.returns-then-memory-gt0-clause-room
-returns-then-memory-gt0-clause-room g c = c.requires.room
-
-pub returns-then-memory-gt0-clause-visits : goal.returns-then-memory-gt0-clause-visits
-returns-then-memory-gt0-clause-visits g c = at_most c.args.sets.now.visits _
-
-pub returns-then-memory-gt0-clause-some : goal.returns-then-memory-gt0-clause-some
-returns-then-memory-gt0-clause-some g c = λ _. c.if-memory-gt0.true
-
-pub returns-clause-some : goal.returns-clause-some
-returns-clause-some g c = λ t. counted _ _ (c.add.ensures.grown t).count
+pub returns-clause-more : goal.returns-clause-more
+returns-clause-more g c = λ t. counted _ _ (c.add.ensures.grown t).count

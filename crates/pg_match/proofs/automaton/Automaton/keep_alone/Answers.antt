@@ -19,7 +19,7 @@ returns-then-add-clause-memory g c =
     let grown = c.add.ensures.grown c.if-add.true in
     alone_grown (nfa c.args.self.now) old new s flag c.requires.memory
     (subst (λ n. Grown n old new s flag) size grown)
-    (accepts_so s mark_0 (get_or_read s.marks 0 mark_0 inside c.index.ensures 0)) (λ z. absurd (omega arith))
+    (accepts_so s mark_0 (get_or_read s.marks 0 mark_0 inside c.index.ensures 0)) (λ less. absurd (omega arith))
 
 pub returns-then-known-ne0-clause-memory : goal.returns-then-known-ne0-clause-memory
 returns-then-known-ne0-clause-memory g c = c.requires.memory

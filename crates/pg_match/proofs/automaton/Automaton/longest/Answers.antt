@@ -1,8 +1,8 @@
 use Rattle.std.proofs.Common.{◌/◌, ◌<◌, ◌∙◌, length, arith, sym, true≢false, true, false, None}
 use Rattle.std.proofs.lemmas.List.{get_or_read}
 use Rattle.pg_match.specs.Views.{nfa, remembered}
-use Rattle.pg_match.proofs.AnchoredLemmas.{follows_first, follows_on, follows_end, in_flags, in_rows, best_dead}
-use Rattle.pg_match.proofs.AnchoredLemmas.{best_no_more, best_at_end, ends_told}
+use Rattle.pg_match.proofs.AnchoredLemmas.{start_row_few, follows_first, follows_on, follows_end, in_flags, in_rows}
+use Rattle.pg_match.proofs.AnchoredLemmas.{best_dead, best_no_more, best_at_end, ends_told}
 use Rattle.pg_match.proofs.automaton.Automaton.longest.Goals as goal
 use Rattle.pg_match.proofs.automaton.Automaton.longest.Goals.{else-index-via-then-index+else-may_end}
 use Rattle.pg_match.proofs.automaton.Automaton.longest.Goals.{else-index-via-else-index}
@@ -10,7 +10,10 @@ use Rattle.pg_match.proofs.automaton.Automaton.longest.Goals.{else-index-via-els
 pub loop-place-init : goal.loop-place-init
 loop-place-init g c =
     follows_first (nfa c.args.self.now) (remembered c.args.memory.now) c.requires.memory c.args.line.now c.args.start
-    c.requires.runs (omega arith) (omega arith) (omega arith)
+    c.requires.runs c.start_row-row.result c.start_row-row.ensures (omega arith) (omega arith)
+
+pub overflow_cast-state : goal.overflow_cast-state
+overflow_cast-state g c = omega (arith, c.start_row-row.ensures, start_row_few c.args.start)
 
 pub returns-then-next-eq-DEAD : goal.returns-then-next-eq-DEAD
 returns-then-next-eq-DEAD g c =

@@ -1,6 +1,7 @@
-use Rattle.std.proofs.Common.{◌≡◌, ℕ, ◌+◌, ◌*◌, ◌^◌, ◌<◌, ◌≤◌, ◌∙◌, length, arith}
+use Rattle.std.proofs.Common.{◌≡◌, ℕ, ◌+◌, ◌*◌, ◌^◌, ◌<◌, ◌≤◌, ◌∙◌, length, arith, refl}
 use Rattle.std.proofs.Math.Nat.{mul-le-mul_left}
-use Rattle.pg_match.proofs.CacheLemmas.{visits_after}
+use Rattle.pg_match.proofs.AnchoredLemmas.{start_row_few}
+use Rattle.pg_match.proofs.CacheLemmas.{told_on, visits_after}
 use Rattle.pg_match.proofs.automaton.Automaton.study_from.Goals as goal
 
 most_small : (l n size : ℕ) → size ≡ n → l ≤ 2 ^ 30 → n < 2 ^ 64 → l * size < 2 ^ 98
@@ -14,6 +15,42 @@ within_room l n size v same short few le = let small = most_small l n size same 
 
 visits_whole : (l n size v w : ℕ) → size ≡ n → v ≤ l * size → w ≤ v + n → w ≤ (l + 1) * n
 visits_whole l n size v w same le more = visits_after l n size v w n same le more (omega arith)
+
+pub loop-memory-init : goal.loop-memory-init
+loop-memory-init g c = record {
+  room = c.requires.room;
+  memory = c.requires.memory;
+  visits = c.requires.visits;
+  told = refl;
+}
+
+pub loop-memory-preserved : goal.loop-memory-preserved
+loop-memory-preserved g c =
+    let added = c.first_alone.ensures in
+    record {
+      room = added.room;
+      memory = added.memory;
+      visits = visits_whole _ _ _ _ _ (c.len-size.ensures ∙ c.args.self.now.states.ok.0) c.if-sets-most.false
+          added.visits;
+      told = told_on _ _ _ _ _ _ c.loop-memory.invariant.told added.told;
+    }
+
+pub loop-memory-smaller : goal.loop-memory-smaller
+loop-memory-smaller g c =
+    let more = c.first_alone.ensures.more c.if-not-first_alone.false in omega (arith, c.loop-memory-test.true)
+
+pub loop-place-init : goal.loop-place-init
+loop-place-init g c =
+    let few = start_row_few c.args.start in
+    let kept = c.loop-memory.invariant in
+    record {
+      room = kept.room;
+      memory = kept.memory;
+      some = c.loop-memory-test.false;
+      known = omega (arith, c.start_row-row.ensures, c.loop-memory-test.false);
+      visits = kept.visits;
+      told = kept.told;
+    }
 
 pub loop-place-preserved : goal.loop-place-preserved
 loop-place-preserved g c =
@@ -44,10 +81,10 @@ pub first_alone-requires-clause-runs : goal.first_alone-requires-clause-runs
 first_alone-requires-clause-runs g c = c.requires.runs
 
 pub first_alone-requires-clause-room : goal.first_alone-requires-clause-room
-first_alone-requires-clause-room g c = c.requires.room
+first_alone-requires-clause-room g c = c.loop-memory.invariant.room
 
 pub first_alone-requires-clause-memory : goal.first_alone-requires-clause-memory
-first_alone-requires-clause-memory g c = c.requires.memory
+first_alone-requires-clause-memory g c = c.loop-memory.invariant.memory
 
 pub learn_alone-requires-clause-runs : goal.learn_alone-requires-clause-runs
 learn_alone-requires-clause-runs g c = c.requires.runs
@@ -81,3 +118,91 @@ learn_end-requires-clause-memory g c = c.loop-place.invariant.memory
 
 pub learn_end-requires-clause-known : goal.learn_end-requires-clause-known
 learn_end-requires-clause-known g c = c.loop-place.invariant.known
+
+pub first_alone-requires-clause-few : goal.first_alone-requires-clause-few
+first_alone-requires-clause-few g c = c.loop-memory-test.true
+
+pub returns-then-sets-most-clause-room : goal.returns-then-sets-most-clause-room
+returns-then-sets-most-clause-room g c = c.loop-memory.invariant.room
+
+pub returns-then-sets-most-clause-memory : goal.returns-then-sets-most-clause-memory
+returns-then-sets-most-clause-memory g c = c.loop-memory.invariant.memory
+
+pub returns-then-sets-most-clause-visits : goal.returns-then-sets-most-clause-visits
+returns-then-sets-most-clause-visits g c = c.loop-memory.invariant.visits
+
+pub returns-then-sets-most-clause-told : goal.returns-then-sets-most-clause-told
+returns-then-sets-most-clause-told g c = c.loop-memory.invariant.told
+
+pub returns-then-sets-most-2-clause-room : goal.returns-then-sets-most-2-clause-room
+returns-then-sets-most-2-clause-room g c = c.loop-place.invariant.room
+
+pub returns-then-sets-most-2-clause-memory : goal.returns-then-sets-most-2-clause-memory
+returns-then-sets-most-2-clause-memory g c = c.loop-place.invariant.memory
+
+pub returns-then-sets-most-2-clause-visits : goal.returns-then-sets-most-2-clause-visits
+returns-then-sets-most-2-clause-visits g c = c.loop-place.invariant.visits
+
+pub returns-then-sets-most-2-clause-told : goal.returns-then-sets-most-2-clause-told
+returns-then-sets-most-2-clause-told g c = c.loop-place.invariant.told
+
+pub returns-else-sets-most-3-clause-room : goal.returns-else-sets-most-3-clause-room
+returns-else-sets-most-3-clause-room g c = c.loop-place.invariant.room
+
+pub returns-else-sets-most-3-clause-memory : goal.returns-else-sets-most-3-clause-memory
+returns-else-sets-most-3-clause-memory g c = c.loop-place.invariant.memory
+
+pub returns-else-sets-most-3-clause-visits : goal.returns-else-sets-most-3-clause-visits
+returns-else-sets-most-3-clause-visits g c = c.loop-place.invariant.visits
+
+pub returns-else-sets-most-3-clause-told : goal.returns-else-sets-most-3-clause-told
+returns-else-sets-most-3-clause-told g c = c.loop-place.invariant.told
+
+pub returns-then-not-first_alone-clause-room : goal.returns-then-not-first_alone-clause-room
+returns-then-not-first_alone-clause-room g c = c.first_alone.ensures.room
+
+pub returns-then-not-first_alone-clause-memory : goal.returns-then-not-first_alone-clause-memory
+returns-then-not-first_alone-clause-memory g c = c.first_alone.ensures.memory
+
+pub returns-then-not-first_alone-clause-visits : goal.returns-then-not-first_alone-clause-visits
+returns-then-not-first_alone-clause-visits g c =
+    visits_whole _ _ _ _ _ (c.len-size.ensures ∙ c.args.self.now.states.ok.0) c.if-sets-most.false
+    c.first_alone.ensures.visits
+
+pub returns-then-not-first_alone-clause-told : goal.returns-then-not-first_alone-clause-told
+returns-then-not-first_alone-clause-told g c =
+    told_on _ _ _ _ _ _ c.loop-memory.invariant.told c.first_alone.ensures.told
+
+pub returns-in-None-clause-room : goal.returns-in-None-clause-room
+returns-in-None-clause-room g c = c.in-None.ensures.room
+
+pub returns-in-None-clause-memory : goal.returns-in-None-clause-memory
+returns-in-None-clause-memory g c = c.in-None.ensures.memory
+
+pub returns-in-None-clause-visits : goal.returns-in-None-clause-visits
+returns-in-None-clause-visits g c =
+    visits_whole _ _ _ _ _ (c.len-size.ensures ∙ c.args.self.now.states.ok.0) c.if-sets-most-2.false
+    c.in-None.ensures.visits
+
+pub returns-in-None-clause-told : goal.returns-in-None-clause-told
+returns-in-None-clause-told g c = told_on _ _ _ _ _ _ c.loop-place.invariant.told c.in-None.ensures.told
+
+pub returns-then-sets-most-3-clause-room : goal.returns-then-sets-most-3-clause-room
+returns-then-sets-most-3-clause-room g c = c.learn_end.ensures.room
+
+pub returns-then-sets-most-3-clause-memory : goal.returns-then-sets-most-3-clause-memory
+returns-then-sets-most-3-clause-memory g c = c.learn_end.ensures.memory
+
+pub returns-then-sets-most-3-clause-visits : goal.returns-then-sets-most-3-clause-visits
+returns-then-sets-most-3-clause-visits g c =
+    visits_whole _ _ _ _ _ (c.len-size.ensures ∙ c.args.self.now.states.ok.0) c.if-sets-most-3.true
+    c.learn_end.ensures.visits
+
+pub returns-then-sets-most-3-clause-told : goal.returns-then-sets-most-3-clause-told
+returns-then-sets-most-3-clause-told g c = told_on _ _ _ _ _ _ c.loop-place.invariant.told c.learn_end.ensures.told
+
+pub learn_end-requires-clause-visits : goal.learn_end-requires-clause-visits
+learn_end-requires-clause-visits g c =
+    let size = c.args.self.now.states.ok.0 in
+    within_most _ (length c.args.self.now.states.items) _ _ (c.len-size.ensures ∙ size)
+    c.requires.short (omega arith) c.if-sets-most-3.true
