@@ -1,0 +1,4 @@
+pub mod Globs
+pub mod Brackets
+pub mod Filters
+pub mod Views
