@@ -1,5 +1,5 @@
 -- Which files and directories are left out of a search, by globs.
-use Rattle.std.specs.Prelude.{ℕ, Bool, true, false, not, ◌&&◌, ◌||◌, ◌==◌, if◌then◌else◌, List, [], ◌∷◌}
+use Rattle.std.specs.Prelude.{Bool, false, not, ◌&&◌, ◌||◌, ◌==◌, if◌then◌else◌, List, [], ◌∷◌}
 use Rattle.pg_glob.specs.Brackets.{Text}
 use Rattle.pg_glob.specs.Globs.{Piece, matches}
 

@@ -24,7 +24,7 @@ bracket_or (Some b) = (OneOf b.0, b.1)
 
 -- the piece that a byte begins, and how many of the bytes behind it belong to that: `*` (42), `?` (63), a backslash
 -- (92), `[` (91), or the byte itself
-abbrev pub piece : ℕ → Text → Piece × ℕ
+unfoldable pub piece : ℕ → Text → Piece × ℕ
 piece x t =
     if x == 42 then (AnyBytes, 0)
     else (if x == 63 then (OneOf all, 0)

@@ -1,4 +1,4 @@
-use Rattle.std.proofs.Common.{◌≡◌, ℕ, length}
+use Rattle.std.proofs.Common.{◌≡◌, length}
 use Rattle.pg_glob.specs.Filters.{last_name}
 use Rattle.pg_glob.proofs.filter.last_name.Given as goal
 

@@ -1,4 +1,4 @@
-use Rattle.std.proofs.Common.{◌≡◌, ℕ, length}
+use Rattle.std.proofs.Common.{◌≡◌, length}
 use Rattle.pg_glob.specs.Filters.{matches_behind_slash}
 use Rattle.pg_glob.specs.Views.{pieces}
 use Rattle.pg_glob.proofs.filter.matches_behind_slash.Given as goal

@@ -1,4 +1,4 @@
-use Rattle.std.proofs.Common.{ℕ, ◌+◌, length}
+use Rattle.std.proofs.Common.{◌+◌, length}
 use Rattle.pg_glob.proofs.matching.+parts_match.Given as goal
 
 abbrev pub decreases-parts_match : goal.decreases-parts_match
