@@ -1,1 +1,2 @@
 pub mod ReadingLemmas
+pub mod MatchLemmas

@@ -4,9 +4,11 @@
 mod bracket;
 mod filter;
 mod glob;
+mod laws;
 mod matching;
 mod reading;
 mod sets;
 
 pub use filter::Filter;
 pub use glob::Glob;
+pub use laws::globs_match;
