@@ -1,0 +1,3 @@
+pub mod ReadingLemmas
+pub mod MatchLemmas
+pub mod Examples

@@ -1,0 +1,5 @@
+pub mod Globs
+pub mod Brackets
+pub mod Filters
+pub mod Views
+pub mod Runs
