@@ -6,7 +6,7 @@ use crate::fixtures::{Counting, Meeting, PATIENCE, text};
 use pg_files::{Ending, Files, Listed, MemFiles, MemStore};
 use pg_rows::{Format, MemSink, Mode, Sink, WriteError};
 use pg_run::{FreeGate, Gate, RunFault, Setup, run};
-use pg_walk::{FileKind, MemTree, Node};
+use pg_walk::{FileKind, MemTree, Node, Scope};
 use std::alloc::{AllocError, Allocator, Global};
 use std::process::Abort;
 use std::sync::Wait;
@@ -61,7 +61,7 @@ fn file_of<'t>(alloc: Global, tree: &'t MemTree, bytes: &[u8]) -> Result<MemFile
     let mut store = MemStore::new(alloc);
     store.add("f", bytes, Ending::Ends)?;
     let mut files = Listed::new(alloc, tree, store);
-    files.list(alloc, tree, &operands, true, true)?;
+    files.list(alloc, tree, &operands, Scope::all(alloc, true), true)?;
     Ok(files)
 }
 
