@@ -23,6 +23,8 @@ pub(crate) fn setup(workers: u32, round: u32) -> Setup
         format: Format {
             names: false,
             null: false,
+            tabs: false,
+            separators: true,
             numbers: false,
             mode: Mode::Rows,
             limit: None,
