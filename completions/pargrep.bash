@@ -7,12 +7,12 @@ _pargrep() {
     --text -c --count -e --regexp= -f --file= -h --no-filename -i -y --ignore-case --no-ignore-case -l
     --files-with-matches -m --max-count= -n --line-number -o --only-matching -q --quiet --silent -r
     --recursive -s --no-messages -v --invert-match -w --word-regexp -x --line-regexp -z --null-data
-    --binary-files= --block= --help --line-buffered --round= --workers=
+    --binary-files= --block= --exclude= --exclude-dir= --help --include= --line-buffered --round= --workers=
   )
   COMPREPLY=()
   case $before in
     -[ABCem] | --after-context | --before-context | --context | --regexp | --max-count | --binary-files | --block | \
-      --round | --workers)
+      --exclude | --exclude-dir | --include | --round | --workers)
       return ;;
   esac
   case $current in

@@ -13,7 +13,7 @@ use Rattle.pg_files.specs.Listed.{file_paths, files_past, AreOpened, AreSpared}
 use Rattle.pg_run.specs.Outcome.{Stream, IsSearchFor, Finishes, BreaksOff}
 use Rattle.pg_run.specs.declared.fault.RunFault.{RunFault}
 use Rattle.pg_run.specs.declared.setup.Setup.{Setup}
-use Rattle.pg_command.specs.Asked.{Asked, has_names, spares_output, text_of_query}
+use Rattle.pg_command.specs.Asked.{Asked, has_names, scope_for, spares_output, text_of_query}
 use Rattle.pg_command.specs.Causes.{fault_of_run}
 use Rattle.pg_command.specs.Reading.{HasRead, FailsToReadAll}
 use Rattle.pg_command.specs.Told.{Tells}
@@ -47,7 +47,7 @@ pub record IsSetup (tells : Type 0) (tree : Tree) (asked : Asked) (setup : Setup
 
 -- these may be all items of a walk over the operands
 abbrev pub MayBeAll : Type 0 → Tree → Asked → List Found → Type 0
-MayBeAll tells tree asked items = ∥ IsWalk tells tree asked.files asked.recursive items ∥₁
+MayBeAll tells tree asked items = ∥ IsWalk tells tree asked.files (scope_for asked) items ∥₁
 
 -- What was searched: the -f files were read, then the operands walked over as far as items were asked for, each file
 -- opened by its path, and nothing else. The items are the first ones of the walk, and where `done` says so all of them.
@@ -58,7 +58,7 @@ pub record Work (tells : Type 0) (tree : Tree) (asked : Asked) (past past' : Lis
   pub between : List Given
   pub read : HasRead past between asked.pattern_files contents
   pub items : List Found
-  pub begins : ∥ BeginsWalk tells tree asked.files asked.recursive items ∥₁
+  pub begins : ∥ BeginsWalk tells tree asked.files (scope_for asked) items ∥₁
   pub setup : Setup
   pub is_setup : IsSetup tells tree asked setup
   pub done : Bool

@@ -1,6 +1,10 @@
 -- What is searched for where a search is asked for, and when rows have names.
 pub use Rattle.pg_words.specs.Asked.{Asked, asked_of}
-use Rattle.std.specs.Prelude.{ℕ, Bool, true, false, ◌&&◌, ◌||◌, List, [], ◌∷◌, map, ◌++◌}
+use Rattle.std.specs.Prelude.{ℕ, ◌-◌, ◌==◌, Bool, true, false, ◌&&◌, ◌||◌, if◌then◌else◌, List, [], ◌∷◌, map, ◌++◌}
+use Rattle.std.specs.Prelude.{length, slice_index, take}
+use Rattle.pg_glob.specs.Filters.{Rule}
+use Rattle.pg_glob.specs.Globs.{pieces_of}
+use Rattle.pg_walk.specs.Scopes.{Scope}
 use Rattle.pg_lines.specs.Search.{Patterns, Split, ByLine, SearchText}
 use Rattle.pg_rows.specs.declared.format.Mode.{Mode}
 use Rattle.pg_rows.specs.Modes.{shows_rows}
@@ -39,3 +43,24 @@ abbrev pub has_names : Naming → (files : List (List ℕ)) → (recursive direc
 has_names Always files recursive directory = true
 has_names Never files recursive directory = false
 has_names BySeveral files recursive directory = are_several files || (recursive && directory)
+
+-- the file rules of --include and --exclude
+abbrev pub file_rule : Bool × List ℕ → Rule
+file_rule filter = record { keeps = filter.0; glob = pieces_of filter.1 }
+
+-- a glob without a slash (47) at its end
+abbrev pub without_slash : List ℕ → List ℕ
+without_slash glob =
+    if slice_index glob (length glob - 1) == 47 then take (length glob - 1) glob else glob
+
+-- the rule of --exclude-dir
+abbrev pub directory_rule : List ℕ → Rule
+directory_rule glob = record { keeps = false; glob = pieces_of (without_slash glob) }
+
+-- Which part of the trees is searched: with -r what is in directories too, but for what the globs leave out.
+abbrev pub scope_for : Asked → Scope
+scope_for asked = record {
+  recursive = asked.recursive;
+  files = map file_rule asked.filters;
+  directories = map directory_rule asked.excluded;
+}

@@ -6,6 +6,7 @@ mod names;
 mod patterns;
 mod program;
 mod query;
+mod scope;
 mod search;
 mod words;
 

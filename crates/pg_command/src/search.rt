@@ -2,13 +2,15 @@
 ghost use Rattle.std.specs.Prelude.{◌≡◌, ◌≤◌, ◌^◌, [], false, map, IfOk, IfErr, OnOk};
 ghost use Rattle.std.specs.String.{string_bytes};
 ghost use Rattle.pg_syntax.specs.Slices.{bytes_of};
-ghost use Rattle.pg_command.specs.Asked.{asked_of, has_names, spares_output};
+ghost use Rattle.pg_walk.specs.Scopes.{scope_of};
+ghost use Rattle.pg_command.specs.Asked.{asked_of, has_names, scope_for, spares_output};
 ghost use Rattle.pg_command.specs.Answers.{Answers, Fails, IsSetup, Succeeds};
 
 use crate::fault::{Fault, report};
 use crate::names::{is_directory, operands_of};
 use crate::patterns::read_patterns;
 use crate::query::text_of;
+use crate::scope::scope_of;
 use pg_files::{Listed, Store};
 use pg_rows::{Format, Mode, Sink};
 use pg_run::{FreeGate, Setup, run};
@@ -109,14 +111,15 @@ fn list_files<'t, T: FileTree, S: Store + Drop>(
     ensures store { files.new.store ≡ files.old.store }
     ensures walk { OnOk result ((files.new.walk.walker.tree.now ≡ tree.now)
         × (map string_bytes files.new.walk.operands.items ≡ (asked_of request.now).files)
-        × (files.new.walk.walker.recursive ≡ request.now.recursive)) }
+        × (scope_of files.new.walk.walker.scope ≡ scope_for (asked_of request.now))) }
     ensures spares { OnOk result (files.new.spares_output ≡ spares_output request.now.format.mode) }
     ensures setup { IfOk result (IsSetup (T.tells tree.now) (T.answers tree.now) (asked_of request.now)) }
 {
     let directory = is_directory(tree, request.files.as_slice())?;
     let operands = operands_of(alloc, request.files.as_slice())?;
+    let scope = scope_of(alloc, request)?;
     let spares = spares_output(request.format.mode);
-    files.list(alloc, tree, operands.as_slice(), request.recursive, spares)?;
+    files.list(alloc, tree, operands.as_slice(), scope, spares)?;
     Ok(setup_of(request, directory))
 }
 

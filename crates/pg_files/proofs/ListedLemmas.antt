@@ -9,6 +9,7 @@ use Rattle.std.proofs.lemmas.List.{reverse-append, map-append}
 use Rattle.std.proofs.Math.Logic.{∥∥₁_map}
 use Rattle.pg_rows.specs.Output.{Left}
 use Rattle.pg_walk.specs.Answers.{Answers, Text}
+use Rattle.pg_walk.specs.Scopes.{Scope}
 use Rattle.pg_walk.specs.Items.{Found, File as AFile, Fault, found, path_in}
 use Rattle.pg_walk.specs.Left.{BeginsWalk, HasGiven, Spot, shown as found_in}
 use Rattle.pg_walk.specs.declared.item.Item.{Item}
@@ -227,41 +228,41 @@ module _ (so_far : List Found) where
 
 -- The walk goes on in the same tree.
 module _ {X : Type 0} (tells : X → Type 0) (answers : X → Answers) (ops : List Text) (tree tree' : X)
-    (recursive recursive' : Bool) (tree_is : tree' ≡ tree) (recursive_is : recursive' ≡ recursive) where
+    (scope scope' : Scope) (tree_is : tree' ≡ tree) (scope_is : scope' ≡ scope) where
   pub same_given : (items : List Found) (spots : List Spot) →
-      HasGiven (tells tree) (answers tree) ops recursive items spots →
-      HasGiven (tells tree') (answers tree') ops recursive' items spots
+      HasGiven (tells tree) (answers tree) ops scope items spots →
+      HasGiven (tells tree') (answers tree') ops scope' items spots
   same_given items spots h =
-      let P : X → Type 0 = λ t. HasGiven (tells t) (answers t) ops recursive items spots in
-      let Q : Bool → Type 0 = λ r. HasGiven (tells tree') (answers tree') ops r items spots in
-      subst Q (sym recursive_is) (subst P (sym tree_is) h)
+      let P : X → Type 0 = λ t. HasGiven (tells t) (answers t) ops scope items spots in
+      let Q : Scope → Type 0 = λ r. HasGiven (tells tree') (answers tree') ops r items spots in
+      subst Q (sym scope_is) (subst P (sym tree_is) h)
 
-  pub same_begins : (items : List Found) → ∥ BeginsWalk (tells tree) (answers tree) ops recursive items ∥₁ →
-      ∥ BeginsWalk (tells tree') (answers tree') ops recursive' items ∥₁
+  pub same_begins : (items : List Found) → ∥ BeginsWalk (tells tree) (answers tree) ops scope items ∥₁ →
+      ∥ BeginsWalk (tells tree') (answers tree') ops scope' items ∥₁
   same_begins items h =
-      let P : X → Type 0 = λ t. ∥ BeginsWalk (tells t) (answers t) ops recursive items ∥₁ in
-      let Q : Bool → Type 0 = λ r. ∥ BeginsWalk (tells tree') (answers tree') ops r items ∥₁ in
-      subst Q (sym recursive_is) (subst P (sym tree_is) h)
+      let P : X → Type 0 = λ t. ∥ BeginsWalk (tells t) (answers t) ops scope items ∥₁ in
+      let Q : Scope → Type 0 = λ r. ∥ BeginsWalk (tells tree') (answers tree') ops r items ∥₁ in
+      subst Q (sym scope_is) (subst P (sym tree_is) h)
 
   -- the same is looked for
   pub same_sought : (spares : Bool) (asked asked' : List Found) (past past' : List Given) →
       drop (length (file_paths asked')) past' ≡ drop (length (file_paths asked)) past →
-      sought tree' ops recursive' spares asked' past' ≡ sought tree ops recursive spares asked past
+      sought tree' ops scope' spares asked' past' ≡ sought tree ops scope spares asked past
   same_sought spares asked asked' past past' behind =
-      let at : X → Bool → List Given → Sought X = λ t r earlier.
-      record { tree = t; operands = ops; recursive = r; spares = spares; earlier = earlier } in
-      ap (λ t. at t recursive' (drop (length (file_paths asked')) past')) tree_is
-      ∙ ap (λ r. at tree r (drop (length (file_paths asked')) past')) recursive_is ∙ ap (at tree recursive) behind
+      let at : X → Scope → List Given → Sought X = λ t r earlier.
+      record { tree = t; operands = ops; scope = r; spares = spares; earlier = earlier } in
+      ap (λ t. at t scope' (drop (length (file_paths asked')) past')) tree_is
+      ∙ ap (λ r. at tree r (drop (length (file_paths asked')) past')) scope_is ∙ ap (at tree scope) behind
 
   -- it gave an item, or none
   pub goes_on : {A : Type 0} (items items' : List (Item A)) (given is : Option (Item A)) (before after : List Spot) →
       given ≡ is → map found items' ≡ map found items ++ found_in (option_map found is) →
-      ∥ HasGiven (tells tree) (answers tree) ops recursive (map found items) before ∥₁ →
-      (HasGiven (tells tree) (answers tree) ops recursive (map found items) before →
-      HasGiven (tells tree) (answers tree) ops recursive (map found items ++ found_in (option_map found given)) after) →
-      ∥ HasGiven (tells tree') (answers tree') ops recursive' (map found items') after ∥₁
+      ∥ HasGiven (tells tree) (answers tree) ops scope (map found items) before ∥₁ →
+      (HasGiven (tells tree) (answers tree) ops scope (map found items) before →
+      HasGiven (tells tree) (answers tree) ops scope (map found items ++ found_in (option_map found given)) after) →
+      ∥ HasGiven (tells tree') (answers tree') ops scope' (map found items') after ∥₁
   goes_on items items' given is before after e more h step =
-      let P : List Found → Type 0 = λ fs. HasGiven (tells tree') (answers tree') ops recursive' fs after in
+      let P : List Found → Type 0 = λ fs. HasGiven (tells tree') (answers tree') ops scope' fs after in
       let now : map found items' ≡ map found items ++ found_in (option_map found given) =
       more ∙ ap (λ o. map found items ++ found_in (option_map found o)) (sym e) in
       ∥∥₁_map h (λ x. subst P (sym now)

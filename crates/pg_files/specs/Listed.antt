@@ -3,6 +3,7 @@ use Rattle.std.specs.Prelude.{◌≡◌, ◌⊎◌, Bool, false, List, [], ◌�
 use Rattle.std.specs.Prelude.{ℕ}
 use Rattle.std.specs.List.{list_any}
 use Rattle.pg_walk.specs.Answers.{Text}
+use Rattle.pg_walk.specs.Scopes.{Scope}
 use Rattle.pg_walk.specs.Items.{Found, File as AFile, Fault, found}
 use Rattle.pg_walk.specs.declared.item.Item.{Item}
 use Rattle.pg_walk.specs.declared.item.Cause.{Cause}
@@ -56,22 +57,22 @@ Reaches spares (AFile path) step past past' =
 abbrev pub files_past : Bool → List Found → List Given → FilesPast
 files_past done asked past = record { given = given_by asked past; done = done }
 
--- What is looked for: in which tree, from which operands, and whether directories are visited; whether the file that
+-- What is looked for: in which tree, from which operands, and what of it; whether the file that
 -- standard output goes to is refused; and what the store gave before.
 pub record Sought (Tree : Type 0) : Type 0 where
   pub tree : Tree
   pub operands : List Text
-  pub recursive : Bool
+  pub scope : Scope
   pub spares : Bool
   pub earlier : List Given
 
 -- what the store gave before the items' files were opened stands behind these
-abbrev pub sought : {Tree : Type 0} → Tree → List Text → (recursive spares : Bool) → List Found → List Given
+abbrev pub sought : {Tree : Type 0} → Tree → List Text → Scope → (spares : Bool) → List Found → List Given
     → Sought Tree
-sought tree operands recursive spares asked past = record {
+sought tree operands scope spares asked past = record {
   tree = tree;
   operands = operands;
-  recursive = recursive;
+  scope = scope;
   spares = spares;
   earlier = drop (length (file_paths asked)) past;
 }

@@ -3,6 +3,7 @@ ghost use Rattle.std.specs.Prelude.{◌≡◌, [], map, take, false, true, None,
 ghost use Rattle.std.specs.Option.{option_map};
 ghost use Rattle.std.specs.String.{string_bytes};
 ghost use Rattle.pg_walk.specs.Items.{found, path_in};
+ghost use Rattle.pg_walk.specs.Scopes.{scope_of};
 ghost use Rattle.pg_walk.specs.Left.{BeginsWalk, HasGiven, IsWalk, shown, spots_in};
 ghost use Rattle.pg_files.specs.Given.{shown_name};
 ghost use Rattle.pg_files.specs.Listed.{asked_for, AreOpened, AreSpared, Reaches};
@@ -10,7 +11,7 @@ ghost use Rattle.pg_files.specs.Listed.{asked_for, AreOpened, AreSpared, Reaches
 use crate::files::{Files, ReadFault, Step};
 use crate::store::{OpenFault, Store};
 use pg_rows::History;
-use pg_walk::{FileTree, Item, Walker, what_is_given};
+use pg_walk::{FileTree, Item, Scope, Walker, what_is_given};
 use std::alloc::{AllocError, Global};
 
 /// A walk, and the items of it that were asked for.
@@ -42,15 +43,15 @@ impl<'t, T: FileTree> Walked<'t, T> {
         alloc: Global,
         tree: &'t T,
         operands: &[String],
-        recursive: bool,
+        scope: Scope,
     ) -> Result<Walked<'t, T>, AllocError>
-        ensures walk { IfOk result (λ walk. (walk.walker.tree.now ≡ tree.now) × (walk.walker.recursive ≡ recursive)
+        ensures walk { IfOk result (λ walk. (walk.walker.tree.now ≡ tree.now) × (walk.walker.scope ≡ scope)
             × (walk.operands.items ≡ operands.now)) }
         ensures fresh { IfOk result (λ walk. (walk.asked.items ≡ []) × (walk.newest ≡ None)) }
         ensures given { IfOk result (λ walk. HasGiven (T.tells walk.walker.tree.now) (T.answers walk.walker.tree.now)
-            (map string_bytes walk.operands.items) walk.walker.recursive [] (spots_in walk.walker.waiting.items)) }
+            (map string_bytes walk.operands.items) (scope_of walk.walker.scope) [] (spots_in walk.walker.waiting.items)) }
     {
-        let walker = Walker::new(alloc, tree, operands, recursive)?;
+        let walker = Walker::new(alloc, tree, operands, scope)?;
         let mut named = History::new();
         named.extend(operands);
         Ok(Walked {
@@ -75,12 +76,12 @@ pub struct Listed<'t, T: FileTree, S: Store + Drop> {
     /// Where files are opened. It opened those that were asked for, and none since.
     pub store: S,
     ghost begins: { ∥ BeginsWalk (T.tells walk.walker.tree.now) (T.answers walk.walker.tree.now)
-        (map string_bytes walk.operands.items) walk.walker.recursive (map found walk.asked.items) ∥₁ },
+        (map string_bytes walk.operands.items) (scope_of walk.walker.scope) (map found walk.asked.items) ∥₁ },
     ghost goes_on: { broken ≡ false → ∥ HasGiven (T.tells walk.walker.tree.now) (T.answers walk.walker.tree.now)
-        (map string_bytes walk.operands.items) walk.walker.recursive (map found walk.asked.items)
+        (map string_bytes walk.operands.items) (scope_of walk.walker.scope) (map found walk.asked.items)
         (spots_in walk.walker.waiting.items) ∥₁ },
     ghost all_asked: { done ≡ true → ∥ IsWalk (T.tells walk.walker.tree.now) (T.answers walk.walker.tree.now)
-        (map string_bytes walk.operands.items) walk.walker.recursive (map found walk.asked.items) ∥₁ },
+        (map string_bytes walk.operands.items) (scope_of walk.walker.scope) (map found walk.asked.items) ∥₁ },
     ghost is_newest: { shown (option_map found walk.newest) ≡ take 1 (asked_for walk.asked.items) },
     ghost are_opened: { AreOpened (asked_for walk.asked.items) (S.past store) },
     ghost are_spared: { AreSpared spares_output (asked_for walk.asked.items) (S.past store) },
@@ -121,7 +122,8 @@ impl<'t, T: FileTree, S: Store + Drop> Listed<'t, T, S> {
         }
     }
 
-    /// From now on the items of a walk over operands in a tree are given, where `spares_output` is true
+    /// From now on the items of a walk over operands in a tree are given, as far as a scope asks for them, where
+    /// `spares_output` is true
     /// without the file that the output goes to. Nothing was asked of the tree yet.
     ///
     /// # Errors
@@ -132,16 +134,16 @@ impl<'t, T: FileTree, S: Store + Drop> Listed<'t, T, S> {
         alloc: Global,
         tree: &'t T,
         operands: &[String],
-        recursive: bool,
+        scope: Scope,
         spares_output: bool,
     ) -> Result<(), AllocError>
         ensures walk { OnOk result ((self.new.walk.walker.tree.now ≡ tree.now)
-            × (self.new.walk.walker.recursive ≡ recursive) × (self.new.walk.operands.items ≡ operands.now)) }
+            × (self.new.walk.walker.scope ≡ scope) × (self.new.walk.operands.items ≡ operands.now)) }
         ensures fresh { OnOk result ((self.new.walk.asked.items ≡ []) × (self.new.done ≡ false)) }
         ensures spares { OnOk result (self.new.spares_output ≡ spares_output) }
         ensures store { self.new.store ≡ self.old.store }
     {
-        let walk = Walked::new(alloc, tree, operands, recursive)?;
+        let walk = Walked::new(alloc, tree, operands, scope)?;
         what_is_given(&walk.walker);
         self.done = false;
         self.walk = walk;
@@ -155,15 +157,16 @@ impl<T: FileTree, S: Store + Drop> Files for Listed<'_, T, S> {
     ghost use Rattle.std.specs.Prelude.{map};
     ghost use Rattle.std.specs.String.{string_bytes};
     ghost use Rattle.pg_walk.specs.Left.{IsWalk};
+    ghost use Rattle.pg_walk.specs.Scopes.{scope_of};
     ghost use Rattle.pg_files.specs.Listed.{Sought, asked_for, files_past, sought};
 
     ghost Request = { Sought T };
 
-    ghost list = { λ s. sought s.walk.walker.tree.now (map string_bytes s.walk.operands.items) s.walk.walker.recursive
-        s.spares_output (asked_for s.walk.asked.items) (S.past s.store) };
+    ghost list = { λ s. sought s.walk.walker.tree.now (map string_bytes s.walk.operands.items)
+        (scope_of s.walk.walker.scope) s.spares_output (asked_for s.walk.asked.items) (S.past s.store) };
 
     ghost finds = { λ sought items.
-        ∥ IsWalk (T.tells sought.tree) (T.answers sought.tree) sought.operands sought.recursive items ∥₁ };
+        ∥ IsWalk (T.tells sought.tree) (T.answers sought.tree) sought.operands sought.scope items ∥₁ };
 
     ghost past = { λ s. files_past s.done (asked_for s.walk.asked.items) (S.past s.store) };
 

@@ -5,7 +5,7 @@ use crate::runs::{Watched, run_over, setup, tree_of};
 use pg_files::{Ending, Listed, MemStore, OpenFault, ReadFault, Store};
 use pg_rows::{MemSink, Mode};
 use pg_run::{FreeGate, Setup};
-use pg_walk::{FileKind, MemTree, Node};
+use pg_walk::{FileKind, MemTree, Node, Scope};
 use std::alloc::{AllocError, Global};
 use std::process::Abort;
 use std::sync::Wait;
@@ -83,7 +83,7 @@ fn files_of<'n, 't>(
         most,
     };
     let mut files = Listed::new(alloc, tree, store);
-    files.list(alloc, tree, &paths, false, false)?;
+    files.list(alloc, tree, &paths, Scope::all(alloc, false), false)?;
     Ok(files)
 }
 

@@ -5,7 +5,7 @@ use crate::fixtures::PATIENCE;
 use crate::runs::{operands_of, run_over, setup, sink, tree_of};
 use pg_files::{Ending, Listed, MemStore, OpenFault, ReadFault, Store};
 use pg_run::{Gate, RunFault};
-use pg_walk::MemTree;
+use pg_walk::{MemTree, Scope};
 use std::alloc::{AllocError, Global};
 use std::process::Abort;
 use std::sync::Wait;
@@ -60,7 +60,7 @@ fn file_of<'n, 't>(
         reads,
     };
     let mut files = Listed::new(alloc, tree, store);
-    files.list(alloc, tree, &operands, true, true)?;
+    files.list(alloc, tree, &operands, Scope::all(alloc, true), true)?;
     Ok(files)
 }
 

@@ -6,7 +6,7 @@ use crate::fixtures::{Counting, Meeting, PATIENCE, text};
 use pg_files::{Ending, Files, Listed, MemFiles, MemStore};
 use pg_rows::{Format, MemSink, Mode, Sink, WriteError};
 use pg_run::{FreeGate, Gate, RunFault, Setup, run};
-use pg_walk::{FileKind, MemTree, Node};
+use pg_walk::{FileKind, MemTree, Node, Scope};
 use std::alloc::{AllocError, Allocator, Global};
 use std::process::Abort;
 use std::sync::Wait;
@@ -23,6 +23,8 @@ pub(crate) fn setup(workers: u32, round: u32) -> Setup
         format: Format {
             names: false,
             null: false,
+            tabs: false,
+            separators: true,
             numbers: false,
             mode: Mode::Rows,
             limit: None,
@@ -61,7 +63,7 @@ fn file_of<'t>(alloc: Global, tree: &'t MemTree, bytes: &[u8]) -> Result<MemFile
     let mut store = MemStore::new(alloc);
     store.add("f", bytes, Ending::Ends)?;
     let mut files = Listed::new(alloc, tree, store);
-    files.list(alloc, tree, &operands, true, true)?;
+    files.list(alloc, tree, &operands, Scope::all(alloc, true), true)?;
     Ok(files)
 }
 

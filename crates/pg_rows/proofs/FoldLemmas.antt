@@ -106,7 +106,7 @@ some_append (x ∷ xs) ys = refl
 pub some_row : (format : Format) (end : ℕ) (name : List ℕ) (number mark : ℕ) (text : List ℕ)
     → something (row format end name number mark text) ≡ true
 some_row format end name number mark text =
-    let front = prefix_text format name number mark ++ text in
+    let front = prefix_text format name number mark (not (is_nothing text)) ++ text in
     some_append front (end ∷ []) ∙ or_right (something front) true refl
 
 or_turn : (a r s : Bool) → ((a || r) || s) ≡ (r || (a || s))

@@ -10,7 +10,7 @@ use Rattle.pg_lines.specs.Lines.{lines, AreWhole}
 use Rattle.pg_lines.proofs.LineLemmas.{lines-append}
 use Rattle.pg_rows.specs.declared.format.Format.{Format}
 use Rattle.pg_rows.specs.declared.progress.Progress.{Progress}
-use Rattle.pg_rows.specs.Output.{context, has_context, when, is_below}
+use Rattle.pg_rows.specs.Output.{context, has_separators, when, is_below}
 use Rattle.pg_rows.specs.Trail.{Trail, run, run_rows, gap_row, context_rows}
 use Rattle.pg_rows.specs.Cursor.{Cursor}
 use Rattle.pg_rows.specs.Progress.{Tells, Passes, Keeps}
@@ -59,8 +59,8 @@ keep_none xs = drop_all (length xs - 0) xs (omega arith)
 gap_is : (format : Format) (end : ℕ) (earlier : Bool) (p : Progress) (t : Trail) → Tells p format t
     → gap_row format end earlier t ≡ gap_of format end earlier p
 gap_is format end earlier p t told =
-    ap (λ s. when (has_context format && cond t.some s earlier) (45 ∷ 45 ∷ end ∷ [])) told.skipped
-    ∙ ap (λ s. when (has_context format && cond s (nat_lt (context format.before) p.behind) earlier)
+    ap (λ s. when (has_separators format && cond t.some s earlier) (45 ∷ 45 ∷ end ∷ [])) told.skipped
+    ∙ ap (λ s. when (has_separators format && cond s (nat_lt (context format.before) p.behind) earlier)
     (45 ∷ 45 ∷ end ∷ []))
     (sym told.some)
 

@@ -1,5 +1,5 @@
 -- Rows of stretches of lines.
-use Rattle.std.proofs.Common.{◌≡◌, ℕ, suc, ◌+◌, ◌<◌, Bool, true, false, cond, nat_lt, ◌||◌, List, [], ◌∷◌, ◌++◌, length}
+use Rattle.std.proofs.Common.{◌≡◌, ℕ, suc, ◌+◌, ◌<◌, Bool, true, false, cond, nat_lt, not, ◌&&◌, ◌||◌, List, [], ◌∷◌, ◌++◌, length}
 use Rattle.std.proofs.Common.{drop}
 use Rattle.std.proofs.Common.{get_or, refl, sym, ap, ◌∙◌, arith, append_assoc}
 use Rattle.std.specs.List.{flat_map, filter}
@@ -8,11 +8,12 @@ use Rattle.std.proofs.lemmas.List.{append-nil, drop_more}
 use Rattle.pg_lines.specs.Lines.{terminated}
 use Rattle.pg_rows.specs.declared.format.Format.{Format}
 use Rattle.pg_lines.specs.declared.run.Part.{Part}
-use Rattle.pg_rows.specs.Output.{name_mark, when, row}
-use Rattle.pg_rows.specs.Stretch.{marked_rows, prefix_text, part_row, part_rows}
+use Rattle.pg_rows.specs.Output.{is_nothing, name_mark, when, row}
+use Rattle.pg_rows.specs.Stretch.{has_text, marked_rows, prefix_text, part_row, part_rows}
 
 pub row_is : (format : Format) (end : ℕ) (name : List ℕ) (number mark : ℕ) (text : List ℕ)
-    → row format end name number mark text ≡ prefix_text format name number mark ++ (text ++ end ∷ [])
+    → row format end name number mark text
+    ≡ prefix_text format name number mark (not (is_nothing text)) ++ (text ++ end ∷ [])
 row_is format end name number mark text = simp append_assoc
 
 -- the rows of lines, and of lines behind them
@@ -31,12 +32,17 @@ marked_append format end name mark number (x ∷ xs) ys =
 
 -- the row of one line
 pub marked_one : (format : Format) (end : ℕ) (name : List ℕ) (mark number : ℕ) (ls : List (List ℕ)) → length ls ≡ 1
-    → marked_rows format end name mark number ls ≡ prefix_text format name number mark ++ terminated end ls
+    → marked_rows format end name mark number ls
+    ≡ prefix_text format name number mark (has_text ls) ++ terminated end ls
 marked_one format end name mark number [] one = absurd (omega arith)
 marked_one format end name mark number (l ∷ []) one =
     append-nil (row format end name number mark l) ∙ (row_is format end name number mark l
-    ∙ ap (λ xs. prefix_text format name number mark ++ xs) (sym (append-nil (l ++ end ∷ []))))
+    ∙ ap (λ xs. prefix_text format name number mark (not (is_nothing l)) ++ xs) (sym (append-nil (l ++ end ∷ []))))
 marked_one format end name mark number (l ∷ k ∷ ls) one = absurd (omega arith)
+
+no_tab : (tabs : Bool) → (tabs && false) ≡ false
+no_tab false = refl
+no_tab true = refl
 
 -- rows without names and numbers
 pub marked_bare : (format : Format) (end : ℕ) (name : List ℕ) (mark number : ℕ) (ls : List (List ℕ))
@@ -45,10 +51,12 @@ pub marked_bare : (format : Format) (end : ℕ) (name : List ℕ) (mark number :
 marked_bare format end name mark number [] names numbers = refl
 marked_bare format end name mark number (l ∷ ls) names numbers =
     let later = marked_rows format end name mark (number + 1) ls in
+    let tab : Bool → Bool → List ℕ = λ s t. when (format.tabs && ((s || t) && not (is_nothing l))) (9 ∷ []) in
     ap (λ t. (when t (name ++ name_mark format mark ∷ []) ++ when format.numbers (decimal number ++ mark ∷ [])
-    ++ l ++ end ∷ []) ++ later) names
-    ∙ (ap (λ t. (when t (decimal number ++ mark ∷ []) ++ l ++ end ∷ []) ++ later) numbers
-    ∙ ap (λ xs. (l ++ end ∷ []) ++ xs) (marked_bare format end name mark (number + 1) ls names numbers))
+    ++ tab t format.numbers ++ l ++ end ∷ []) ++ later) names
+    ∙ (ap (λ t. (when t (decimal number ++ mark ∷ []) ++ tab false t ++ l ++ end ∷ []) ++ later) numbers
+    ∙ (ap (λ t. (when t (9 ∷ []) ++ l ++ end ∷ []) ++ later) (no_tab format.tabs)
+    ∙ ap (λ xs. (l ++ end ∷ []) ++ xs) (marked_bare format end name mark (number + 1) ls names numbers)))
 
 none_of : (b c : Bool) → (b || c) ≡ false → (b ≡ false) × (c ≡ false)
 none_of false false e = (refl, refl)

@@ -10,7 +10,7 @@ use Rattle.std.proofs.Math.Seq.{drop-nil}
 use Rattle.pg_lines.specs.Search.{Search, terminator}
 use Rattle.pg_lines.specs.Selection.{selects}
 use Rattle.pg_rows.specs.declared.format.Format.{Format}
-use Rattle.pg_rows.specs.Output.{is_below, context, when, row, has_context}
+use Rattle.pg_rows.specs.Output.{is_below, context, when, row, has_separators}
 use Rattle.pg_rows.specs.Trail.{Trail, keeps, after_kept, after_context, after_other, step, run, run_rows, pieces_in}
 use Rattle.pg_rows.specs.Trail.{run_pieces, gap_row, context_rows, kept_rows}
 use Rattle.pg_rows.specs.Stretch.{marked_rows, AllSelected, AreUnkept, IsPassed, IsKept}
@@ -258,7 +258,7 @@ more_kept_rows q format name earlier t (l ∷ ls) selected below =
     ∙ (ap (λ v. kept_rows format (terminator q) name earlier u l ++ run_rows q format name earlier v ls)
     (step_kept format u s l kept)
     ∙ (ap (λ b. (when b (45 ∷ 45 ∷ terminator q ∷ []) ++ own) ++ run_rows q format name earlier
-    (after_kept format u) ls) (and_right (has_context format) false refl)
+    (after_kept format u) ls) (and_right (has_separators format) false refl)
     ∙ ap (λ xs. own ++ xs) (more_kept_rows q format name earlier u ls selected.1
     (ap (λ k. is_below k format.limit) (sym sum) ∙ below))))
 

@@ -15,7 +15,7 @@ use Rattle.pg_lines.specs.Search.{Search, terminator}
 use Rattle.pg_lines.specs.Selection.{selects}
 use Rattle.pg_lines.proofs.HitLemmas.{some_in_range}
 use Rattle.pg_rows.specs.declared.format.Format.{Format}
-use Rattle.pg_rows.specs.Output.{line_at, is_below, is_kept, is_near, context, members, when, row, has_context}
+use Rattle.pg_rows.specs.Output.{line_at, is_below, is_kept, is_near, context, members, when, row, has_separators}
 use Rattle.pg_rows.specs.Output.{is_behind, separator, mark_of, line_rows, piece_rows}
 use Rattle.pg_rows.specs.Trail.{Trail, no_lines, keeps, after_kept, after_context, after_other, step, gap_row}
 use Rattle.pg_rows.specs.Trail.{context_rows, kept_rows, added, pieces_in, added_pieces}
@@ -410,9 +410,9 @@ module _ (q : Search) (format : Format) (ls : List (List ℕ)) (l : List ℕ) (t
     no_separator i some s =
         let k : (i - 1) + 1 ≡ i = omega arith in
         let b : is_behind set' i ≡ true = behind_at set' (i - 1) i k ∙ s (i - 1) k in
-        ap (λ u. when (has_context format && not u && (earlier || list_any set' (range_with_len 0 i)))
+        ap (λ u. when (has_separators format && not u && (earlier || list_any set' (range_with_len 0 i)))
         (45 ∷ 45 ∷ end ∷ []) ++ bare i) b
-        ∙ drop_when (has_context format) (earlier || list_any set' (range_with_len 0 i))
+        ∙ drop_when (has_separators format) (earlier || list_any set' (range_with_len 0 i))
       where
         drop_when : (c x : Bool) → when (c && false && x) (45 ∷ 45 ∷ end ∷ []) ++ bare i ≡ bare i
         drop_when true x = refl
@@ -469,7 +469,7 @@ module _ (q : Search) (format : Format) (ls : List (List ℕ)) (l : List ℕ) (t
     first_separator e =
         let tail : List ℕ = 45 ∷ 45 ∷ end ∷ [] in
         let b = at_low in
-        ap (λ c. when c tail) (separator_is (has_context format) earlier (is_behind set' at)
+        ap (λ c. when c tail) (separator_is (has_separators format) earlier (is_behind set' at)
         (list_any set' (range_with_len 0 at)) t.some t.skipped (elim (cases_lt 0 h.done) [
           | inl pos ↦
               let lastly : set' (h.done - 1) ≡ true = below_done e (h.done - 1) (omega arith)

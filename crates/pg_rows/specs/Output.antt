@@ -1,5 +1,5 @@
--- What is written for files, and the exit status (XCU grep, STDOUT and EXIT STATUS; GNU grep for -m, -A, -B, -C, -o, -L
--- and -Z).
+-- What is written for files, and the exit status (XCU grep, STDOUT and EXIT STATUS; GNU grep for -m, -A, -B, -C, -o, -L,
+-- -T, -Z and --no-group-separator).
 use Rattle.std.specs.Prelude.{◌≡◌, ℕ, zero, suc, ◌+◌, nat_lt, nat_le, Bool, true, false, not, ◌&&◌, ◌||◌, if◌then◌else◌}
 use Rattle.std.specs.Prelude.{is_some, Option, Some, None, List, [], ◌∷◌, ◌++◌, length, take, slice_range}
 use Rattle.std.specs.Prelude.{slice_index_or, unwrap_or}
@@ -52,14 +52,23 @@ when shown text = if shown then text else []
 abbrev pub name_mark : Format → ℕ → ℕ
 name_mark format mark = if format.null then 0 else mark
 
--- a row: the name and the line's number where they are asked for, each with a mark; the text; the terminator
+abbrev pub is_nothing : List ℕ → Bool
+is_nothing [] = true
+is_nothing (b ∷ bytes) = false
+
+-- with -T a tab (9) stands before a text that isn't empty, where the name or the number stands before it
+abbrev pub tab_before : Format → Bool → List ℕ
+tab_before format has_text = when (format.tabs && ((format.names || format.numbers) && has_text)) (9 ∷ [])
+
+-- a row: the name and the line's number where they are asked for, each with a mark; a tab; the text; the terminator
 abbrev pub row : Format → ℕ → List ℕ → ℕ → ℕ → List ℕ → List ℕ
 row format end name number mark text =
     when format.names (name ++ name_mark format mark ∷ []) ++ when format.numbers (decimal number ++ mark ∷ [])
-    ++ text ++ end ∷ []
+    ++ tab_before format (not (is_nothing text)) ++ text ++ end ∷ []
 
-abbrev pub has_context : Format → Bool
-has_context format = is_some format.before || is_some format.after
+-- groups of rows are parted: there is context, and --no-group-separator isn't given
+abbrev pub has_separators : Format → Bool
+has_separators format = format.separators && (is_some format.before || is_some format.after)
 
 abbrev pub is_behind : (ℕ → Bool) → ℕ → Bool
 is_behind set zero = false
@@ -68,7 +77,7 @@ is_behind set (suc i) = set i
 -- two hyphens stand before a shown line that doesn't follow a shown line, unless it is the run's first
 abbrev pub separator : Format → ℕ → (ℕ → Bool) → Bool → ℕ → List ℕ
 separator format end shown earlier i =
-    when (has_context format && not (is_behind shown i) && (earlier || list_any shown (range_with_len 0 i)))
+    when (has_separators format && not (is_behind shown i) && (earlier || list_any shown (range_with_len 0 i)))
     (45 ∷ 45 ∷ end ∷ [])
 
 -- a colon marks a kept line, a hyphen its context
@@ -129,10 +138,6 @@ is_failed Left = false
 pub data Entry : Type 0 where
   Missed : (name : List ℕ) → Entry
   Read : (name bytes : List ℕ) (ending : Ending) → Entry
-
-abbrev pub is_nothing : List ℕ → Bool
-is_nothing [] = true
-is_nothing (b ∷ bytes) = false
 
 -- the output of the files; the last one stands first in the list
 abbrev pub output : Search → Format → List Entry → List ℕ

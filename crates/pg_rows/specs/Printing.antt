@@ -7,7 +7,7 @@ use Rattle.pg_lines.specs.Lines.{lines, AreWhole}
 use Rattle.pg_lines.specs.declared.run.Run.{Run}
 use Rattle.pg_rows.specs.declared.format.Format.{Format}
 use Rattle.pg_rows.specs.declared.progress.Progress.{Progress}
-use Rattle.pg_rows.specs.Output.{context, has_context, when}
+use Rattle.pg_rows.specs.Output.{context, has_separators, when}
 use Rattle.pg_rows.specs.Trail.{Trail, run, run_rows}
 use Rattle.pg_rows.specs.Cursor.{Cursor}
 use Rattle.pg_rows.specs.Progress.{Tells}
@@ -16,7 +16,7 @@ use Rattle.pg_rows.specs.Stretch.{marked_rows}
 -- whether two hyphens stand before the next kept line and its context
 abbrev pub has_gap : Format → Bool → Progress → Bool
 has_gap format earlier p =
-    has_context format && (if p.shown then nat_lt (context format.before) p.behind else earlier)
+    has_separators format && (if p.shown then nat_lt (context format.before) p.behind else earlier)
 
 abbrev pub gap_of : Format → ℕ → Bool → Progress → List ℕ
 gap_of format end earlier p = when (has_gap format earlier p) (45 ∷ 45 ∷ end ∷ [])

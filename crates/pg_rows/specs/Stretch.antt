@@ -1,6 +1,6 @@
 -- What whole stretches of lines leave remembered, and their rows.
 use Rattle.std.specs.Prelude.{◌≡◌, ℕ, ◌+◌, ◌-◌, ◌≤◌, nat_lt, Bool, true, false, ◌||◌, List, [], ◌∷◌, ◌++◌, length, drop}
-use Rattle.std.specs.Prelude.{slice_range}
+use Rattle.std.specs.Prelude.{not, slice_index_or, slice_range}
 use Rattle.std.specs.List.{AllByRecursion, flat_map, filter}
 use Rattle.std.specs.Fmt.{decimal}
 use Rattle.circular_buffer.specs.Buffer.{keep_last}
@@ -8,7 +8,7 @@ use Rattle.pg_lines.specs.Search.{Search}
 use Rattle.pg_lines.specs.Selection.{selects}
 use Rattle.pg_lines.specs.declared.run.Part.{Part}
 use Rattle.pg_rows.specs.declared.format.Format.{Format}
-use Rattle.pg_rows.specs.Output.{name_mark, context, when, row}
+use Rattle.pg_rows.specs.Output.{name_mark, context, is_nothing, when, row, tab_before}
 use Rattle.pg_rows.specs.Trail.{Trail, keeps}
 
 -- rows with a mark, of lines numbered from a number on
@@ -44,10 +44,15 @@ pub record IsKept (format : Format) (t : Trail) (count : ℕ) (later : Trail) : 
   pub skipped : later.skipped ≡ false
   pub window : later.window ≡ []
 
--- what a row has before its text
-abbrev pub prefix_text : Format → List ℕ → ℕ → ℕ → List ℕ
-prefix_text format name number mark =
+-- what a row has before its text, where it has a text or not
+abbrev pub prefix_text : Format → List ℕ → ℕ → ℕ → Bool → List ℕ
+prefix_text format name number mark has_text =
     when format.names (name ++ name_mark format mark ∷ []) ++ when format.numbers (decimal number ++ mark ∷ [])
+    ++ tab_before format has_text
+
+-- the first of some lines isn't empty
+abbrev pub has_text : List (List ℕ) → Bool
+has_text ls = not (is_nothing (slice_index_or ls 0 []))
 
 -- the row of a part of some bytes, which stands in the line with this place behind so many lines of the file
 abbrev pub part_row : Format → ℕ → List ℕ → ℕ → List ℕ → Part → List ℕ

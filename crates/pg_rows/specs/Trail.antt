@@ -6,7 +6,7 @@ use Rattle.circular_buffer.specs.Buffer.{keep_last}
 use Rattle.pg_lines.specs.Search.{Search, terminator}
 use Rattle.pg_lines.specs.Selection.{selects, parts}
 use Rattle.pg_rows.specs.declared.format.Format.{Format}
-use Rattle.pg_rows.specs.Output.{is_below, context, when, row, has_context}
+use Rattle.pg_rows.specs.Output.{is_below, context, when, row, has_separators}
 
 -- what is remembered of the lines so far: their number, how many are kept, how many more are shown as context,
 -- whether one was shown, and of those behind the last shown one the last `before` ones and whether there are more
@@ -61,7 +61,7 @@ trail_of q format ls = run q format no_lines ls
 
 -- two hyphens stand before the window and the kept line behind it, where they don't follow a shown line
 abbrev pub gap_row : Format → ℕ → Bool → Trail → List ℕ
-gap_row format end earlier t = when (has_context format && (if t.some then t.skipped else earlier)) (45 ∷ 45 ∷ end ∷ [])
+gap_row format end earlier t = when (has_separators format && (if t.some then t.skipped else earlier)) (45 ∷ 45 ∷ end ∷ [])
 
 abbrev pub context_rows : Format → ℕ → List ℕ → ℕ → List (List ℕ) → List ℕ
 context_rows format end name number [] = []

@@ -1,7 +1,7 @@
 //! How rows look.
 ghost use Rattle.std.specs.Prelude.{◌≡◌, ◌||◌};
 ghost use Rattle.pg_rows.specs.Modes.{shows_rows, settles_at_first, is_quiet, is_named};
-ghost use Rattle.pg_rows.specs.Output.{name_mark};
+ghost use Rattle.pg_rows.specs.Output.{has_separators, name_mark};
 
 /// What is written of each file.
 #[derive(Clone, Copy, Debug, PartialEq, Eq)]
@@ -69,6 +69,8 @@ pub struct Format {
     pub null: bool,
     /// -n: each row has its line's number, from 1.
     pub numbers: bool,
+    /// -T: a tab stands before a row's text, where that isn't empty and the name or the number stands before it.
+    pub tabs: bool,
     pub mode: Mode,
     /// -m: at most so many selected lines of a file count.
     pub limit: Option<u32>,
@@ -76,6 +78,9 @@ pub struct Format {
     pub before: Option<u16>,
     /// -A: so many lines after a selected line are shown as its context.
     pub after: Option<u32>,
+    /// Where there is context, two hyphens stand between groups of lines that aren't adjacent: not with
+    /// --no-group-separator.
+    pub separators: bool,
 }
 
 impl Format {
@@ -84,6 +89,13 @@ impl Format {
         ensures { result ≡ name_mark self.now mark }
     {
         if self.null { 0 } else { mark }
+    }
+
+    /// Whether groups of lines that aren't adjacent are parted.
+    pub(crate) fn has_separators(&self) -> bool
+        ensures { result ≡ has_separators self.now }
+    {
+        self.separators && (self.before.is_some() || self.after.is_some())
     }
 
     /// Whether a row has something before its text.

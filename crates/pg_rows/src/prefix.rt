@@ -2,7 +2,7 @@
 ghost use Rattle.std.specs.Prelude.{◌≡◌, ◌+◌, ◌<◌, ◌≤◌, ◌++◌, [], ◌∷◌, IfOk, OnOk, OnErr};
 ghost use Rattle.std.specs.Prelude.{length, vec_len, vec_capacity};
 ghost use Rattle.std.specs.Fmt.{decimal};
-ghost use Rattle.pg_rows.specs.Output.{when, name_mark};
+ghost use Rattle.pg_rows.specs.Output.{when, name_mark, tab_before};
 ghost use Rattle.pg_rows.specs.Stretch.{prefix_text};
 ghost use Rattle.pg_rows.specs.Sink.{TakesPart};
 
@@ -12,8 +12,8 @@ use itoa::Buffer;
 use std::alloc::{AllocError, Allocator, Global};
 use std::marker::Model;
 
-/// The bytes that a name's mark, a number and its mark take at most.
-const ROOM: usize = 22;
+/// The bytes that a name's mark, a number and its mark, and a tab take at most.
+const ROOM: usize = 23;
 
 /// A file's name, with room behind it for all that a row has before its text. The room is reserved
 /// when the value is made, so rows take no memory.
@@ -29,7 +29,7 @@ impl<A: Allocator> Model for Prefix<A> {
 
     ghost view = { λ p. p.buffer.items };
 
-    ghost invariant = { λ p. vec_len p.buffer + 22 ≤ vec_capacity p.buffer };
+    ghost invariant = { λ p. vec_len p.buffer + 23 ≤ vec_capacity p.buffer };
 }
 
 impl<A: Allocator> Prefix<A> {
@@ -53,7 +53,8 @@ impl<A: Allocator> Prefix<A> {
         self.buffer.as_slice()
     }
 
-    /// Writes the name and the line's number where rows have them, each with the mark, in one text.
+    /// Writes the name and the line's number where rows have them, each with the mark, and a tab before a text where
+    /// rows have that, in one text.
     ///
     /// # Errors
     ///
@@ -64,12 +65,13 @@ impl<A: Allocator> Prefix<A> {
         format: &Format,
         number: u64,
         mark: u8,
+        has_text: bool,
     ) -> Result<(), WriteError>
         ensures same { self.new ≡ self.old }
         ensures all { OnOk result (W.taken out.new
-            ≡ W.taken out.old ++ prefix_text format.now self.old number mark) }
+            ≡ W.taken out.old ++ prefix_text format.now self.old number mark has_text) }
         ensures part { OnErr result
-            (TakesPart (prefix_text format.now self.old number mark) (W.taken out.old) (W.taken out.new)) }
+            (TakesPart (prefix_text format.now self.old number mark has_text) (W.taken out.old) (W.taken out.new)) }
         ensures failure { OnErr result (W.failures out.old < W.failures out.new) }
         ensures no_failure { OnOk result (W.failures out.new ≡ W.failures out.old) }
         ensures never_falls { W.failures out.old ≤ W.failures out.new }
@@ -78,7 +80,7 @@ impl<A: Allocator> Prefix<A> {
             return Ok(());
         }
         let len = self.buffer.len();
-        append_marks(&mut self.buffer, format, number, mark);
+        append_marks(&mut self.buffer, format, number, mark, has_text);
         let start = if format.names { 0 } else { len };
         let written = write_all(out, &self.buffer.as_slice()[start..]);
         self.buffer.truncate(len);
@@ -86,12 +88,19 @@ impl<A: Allocator> Prefix<A> {
     }
 }
 
-/// Puts the name's mark, the number and its mark behind a name, as far as rows have them.
-fn append_marks<A: Allocator>(buffer: &mut Vec<u8, A>, format: &Format, number: u64, mark: u8)
-    requires { vec_len buffer.old + 22 ≤ vec_capacity buffer.old }
+/// Puts the name's mark, the number and its mark, and a tab behind a name, as far as rows have them.
+fn append_marks<A: Allocator>(
+    buffer: &mut Vec<u8, A>,
+    format: &Format,
+    number: u64,
+    mark: u8,
+    has_text: bool,
+)
+    requires { vec_len buffer.old + 23 ≤ vec_capacity buffer.old }
     ensures items { buffer.new.items ≡ buffer.old.items
         ++ (when format.now.names (name_mark format.now mark ∷ [])
-        ++ when format.now.numbers (decimal number ++ mark ∷ [])) }
+        ++ when format.now.numbers (decimal number ++ mark ∷ [])
+        ++ tab_before format.now has_text) }
     ensures len { vec_len buffer.old ≤ vec_len buffer.new }
     ensures capacity { vec_capacity buffer.old ≤ vec_capacity buffer.new }
 {
@@ -104,5 +113,8 @@ fn append_marks<A: Allocator>(buffer: &mut Vec<u8, A>, format: &Format, number: 
             .extend_from_slice(digits.format(number).as_bytes())
             .unwrap();
         buffer.push(mark).unwrap();
+    }
+    if format.tabs && format.has_prefix() && has_text {
+        buffer.push(b'\t').unwrap();
     }
 }

@@ -367,7 +367,7 @@ impl<A: Allocator> Printer<A> {
     fn has_gap(&self, progress: Progress) -> bool
         ensures { result ≡ has_gap self.now.format self.now.earlier progress }
     {
-        if self.format.before.is_none() && self.format.after.is_none() {
+        if !self.format.has_separators() {
             return false;
         }
         if progress.shown {

@@ -4,7 +4,7 @@ ghost use Rattle.std.specs.Prelude.{length, nat_lt, EachIndex, get_or};
 ghost use Rattle.std.specs.Fmt.{decimal};
 ghost use Rattle.pg_lines.specs.Lines.{lines, terminated};
 ghost use Rattle.pg_rows.specs.Output.{when, name_mark, row};
-ghost use Rattle.pg_rows.specs.Stretch.{marked_rows, part_row, part_rows, IsPartOf, no_part};
+ghost use Rattle.pg_rows.specs.Stretch.{has_text, marked_rows, part_row, part_rows, IsPartOf, no_part};
 ghost use Rattle.pg_rows.specs.Sink.{TakesPart};
 
 use crate::format::Format;
@@ -54,6 +54,16 @@ fn write_both<W: Sink>(out: &mut W, first: &[u8], second: &[u8]) -> Result<(), W
     write_all(out, second)
 }
 
+/// Whether the first of some lines isn't empty.
+fn has_text(end: u8, text: &[u8]) -> bool
+    ensures { result ≡ has_text (lines end text.now) }
+{
+    match text.first() {
+        Some(byte) => *byte != end,
+        None => false,
+    }
+}
+
 /// Writes the row of a line, which may lack its terminator.
 fn write_line<W: Sink, A: Allocator>(
     out: &mut W,
@@ -74,7 +84,7 @@ fn write_line<W: Sink, A: Allocator>(
     ensures no_failure { OnOk result (W.failures out.new ≡ W.failures out.old) }
     ensures never_falls { W.failures out.old ≤ W.failures out.new }
 {
-    prefix.write(out, format, number, mark)?;
+    prefix.write(out, format, number, mark, has_text(end, line))?;
     write_bare_lines(out, end, line)
 }
 
@@ -160,7 +170,7 @@ fn write_row<W: Sink, A: Allocator>(
     ensures no_failure { OnOk result (W.failures out.new ≡ W.failures out.old) }
     ensures never_falls { W.failures out.old ≤ W.failures out.new }
 {
-    prefix.write(out, format, number, mark)?;
+    prefix.write(out, format, number, mark, !text.is_empty())?;
     write_both(out, text, &[end])
 }
 

@@ -40,7 +40,17 @@ abbrev zeros : ℕ → Search
 zeros b = search_of (record (text_of b) { zero = true }) (Set (one b) ∷ [])
 
 abbrev plain : Format
-plain = record { names = false; null = false; numbers = false; mode = Rows; limit = None; before = None; after = None }
+plain = record {
+  names = false;
+  null = false;
+  numbers = false;
+  tabs = false;
+  mode = Rows;
+  limit = None;
+  before = None;
+  after = None;
+  separators = true;
+}
 
 abbrev file : List ℕ → Entry
 file bytes = Read (codes "f") bytes Ended

@@ -10,7 +10,7 @@ use Rattle.pg_lines.specs.Lines.{lines}
 use Rattle.pg_lines.specs.Selection.{selects}
 use Rattle.pg_rows.specs.declared.format.Format.{Format}
 use Rattle.pg_rows.specs.Modes.{end_row, is_quiet, shows_rows}
-use Rattle.pg_rows.specs.Output.{Entry, Missed, Read, is_running, is_bad, has_selected, has_context, is_nothing}
+use Rattle.pg_rows.specs.Output.{Entry, Missed, Read, is_running, is_bad, has_selected, has_separators, is_nothing}
 use Rattle.pg_rows.specs.Output.{count_row, file_rows, line_rows, name_row, output, piece_rows, row, status, when}
 use Rattle.pg_rows.specs.Trail.{Trail, no_lines, step, keeps, after_kept, after_context, after_other, added}
 use Rattle.pg_rows.specs.Trail.{context_rows, gap_row, run_rows}
@@ -32,7 +32,7 @@ module _ (q : Search) (format : Format) (name : List ℕ) where
       → gap_row format (terminator q) a t ≡ gap_row format (terminator q) b t
   gap_same a b t e =
       let gap : Bool → Bool → List ℕ = λ some earlier.
-      when (has_context format && cond some t.skipped earlier) (45 ∷ 45 ∷ terminator q ∷ []) in
+      when (has_separators format && cond some t.skipped earlier) (45 ∷ 45 ∷ terminator q ∷ []) in
       ap (λ some. gap some a) e ∙ sym (ap (λ some. gap some b) e)
 
   stays_shown : (t : Trail) (m : List ℕ) → t.some ≡ true → (kept near : Bool)
@@ -59,8 +59,8 @@ module _ (q : Search) (format : Format) (name : List ℕ) where
   -- before the first line that is shown the row of hyphens stands where the run had a row
   first_apart : (t : Trail) (ms : List (List ℕ)) → t.some ≡ false → nat_lt 0 t.countdown ≡ false
       → run_rows q format name true t ms
-      ≡ with_hyphens (has_context format) (terminator q) (run_rows q format name false t ms)
-  first_apart t [] unshown none = sym (with_none (has_context format) (terminator q))
+      ≡ with_hyphens (has_separators format) (terminator q) (run_rows q format name false t ms)
+  first_apart t [] unshown none = sym (with_none (has_separators format) (terminator q))
   first_apart t (m ∷ ms) unshown none =
       go (keeps format t (selects q m)) (nat_lt 0 t.countdown) none
       (first_apart (after_other format t m) ms unshown none)
@@ -81,14 +81,14 @@ module _ (q : Search) (format : Format) (name : List ℕ) where
       next kept near = cond kept (after_kept format t) (cond near (after_context t) (after_other format t m))
 
       gap : Bool → Bool → List ℕ
-      gap some earlier = when (has_context format && cond some t.skipped earlier) (45 ∷ 45 ∷ end ∷ [])
+      gap some earlier = when (has_separators format && cond some t.skipped earlier) (45 ∷ 45 ∷ end ∷ [])
 
       go : (kept near : Bool) → near ≡ false
           → run_rows q format name true (after_other format t m) ms
-          ≡ with_hyphens (has_context format) end (run_rows q format name false (after_other format t m) ms)
+          ≡ with_hyphens (has_separators format) end (run_rows q format name false (after_other format t m) ms)
           → cond kept (gap_row format end true t ++ body) (when near other)
           ++ run_rows q format name true (next kept near) ms
-          ≡ with_hyphens (has_context format) end
+          ≡ with_hyphens (has_separators format) end
           (cond kept (gap_row format end false t ++ body) (when near other)
           ++ run_rows q format name false (next kept near) ms)
       go true near e others =
@@ -97,9 +97,9 @@ module _ (q : Search) (format : Format) (name : List ℕ) where
           ap (λ g. (g ++ body) ++ run_rows q format name true (after_kept format t) ms) (ap (λ s. gap s true) unshown)
           ∙ (ap (λ xs. (gap false true ++ body) ++ xs) (same_behind true false (after_kept format t) ms refl)
           ∙ (append_assoc (gap false true) body rest
-          ∙ (sym (ap (λ s. when (has_context format && s) (45 ∷ 45 ∷ end ∷ []) ++ (body ++ rest)) shown)
-          ∙ sym (ap (λ g. with_hyphens (has_context format) end ((g ++ body) ++ rest))
-          (ap (λ s. gap s false) unshown ∙ gap_none (has_context format))))))
+          ∙ (sym (ap (λ s. when (has_separators format && s) (45 ∷ 45 ∷ end ∷ []) ++ (body ++ rest)) shown)
+          ∙ sym (ap (λ g. with_hyphens (has_separators format) end ((g ++ body) ++ rest))
+          (ap (λ s. gap s false) unshown ∙ gap_none (has_separators format))))))
         where
           gap_none : (c : Bool) → when (c && false) (45 ∷ 45 ∷ end ∷ []) ≡ []
           gap_none true = refl
@@ -116,11 +116,11 @@ module _ (q : Search) (format : Format) (name : List ℕ) where
       go false false e others = others
 
   lines_apart : (ls : List (List ℕ)) → line_rows q format name ls true
-      ≡ with_hyphens (has_context format) (terminator q) (line_rows q format name ls false)
+      ≡ with_hyphens (has_separators format) (terminator q) (line_rows q format name ls false)
   lines_apart ls =
       rows_more q format name true [] ls no_lines (trail_is q format [])
       ∙ (first_apart no_lines ls refl refl
-      ∙ ap (with_hyphens (has_context format) (terminator q))
+      ∙ ap (with_hyphens (has_separators format) (terminator q))
       (sym (rows_more q format name false [] ls no_lines (trail_is q format []))))
 
 module _ (q : Search) (format : Format) where
@@ -140,7 +140,7 @@ module _ (q : Search) (format : Format) where
           cond shows (cond pieces (piece_rows q format name ls) (line_rows q format name ls earlier)) last
 
       go : (shows pieces : Bool) → rows shows pieces true
-          ≡ with_hyphens (shows && (not pieces && has_context format)) (terminator q) (rows shows pieces false)
+          ≡ with_hyphens (shows && (not pieces && has_separators format)) (terminator q) (rows shows pieces false)
       go true true = refl
       go true false = lines_apart q format name ls
       go false pieces = refl
@@ -187,7 +187,7 @@ outputs_join q format first (Read name bytes ending ∷ later) =
     ∙ join_more q format (output q format first) (output q format later) rows
     (file_apart q format name bytes (not (is_running ending)))
 
-pub plain_join : (q : Search) (format : Format) (first later : List Entry) → has_context format ≡ false
+pub plain_join : (q : Search) (format : Format) (first later : List Entry) → has_separators format ≡ false
     → output q format (later ++ first) ≡ output q format first ++ output q format later
 plain_join q format first later e =
     let front = output q format first in
@@ -195,7 +195,7 @@ plain_join q format first later e =
     let both = not (is_nothing front) && not (is_nothing rest) in
     let apart : Bool → List ℕ = λ b. when (b && both) (45 ∷ 45 ∷ terminator q ∷ []) in
     outputs_join q format first later
-    ∙ (ap (λ b. (front ++ apart b) ++ rest) (no_groups (shows_rows format.mode) q.text.pieces (has_context format) e)
+    ∙ (ap (λ b. (front ++ apart b) ++ rest) (no_groups (shows_rows format.mode) q.text.pieces (has_separators format) e)
     ∙ ap (λ xs. xs ++ rest) (append-nil front))
   where
     no_groups : (shows pieces context : Bool) → context ≡ false → (shows && (not pieces && context)) ≡ false

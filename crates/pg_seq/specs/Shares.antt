@@ -5,11 +5,11 @@ use Rattle.pg_lines.specs.Search.{Search, terminator}
 use Rattle.pg_rows.specs.declared.format.Format.{Format}
 use Rattle.pg_rows.specs.declared.format.Mode.{Mode}
 use Rattle.pg_rows.specs.Modes.{shows_rows, is_quiet}
-use Rattle.pg_rows.specs.Output.{has_context, is_nothing, when}
+use Rattle.pg_rows.specs.Output.{has_separators, is_nothing, when}
 
 -- groups of lines are set apart by two hyphens: lines are shown, and context with them
 abbrev pub has_groups : Search → Format → Bool
-has_groups q format = shows_rows format.mode && (not q.text.pieces && has_context format)
+has_groups q format = shows_rows format.mode && (not q.text.pieces && has_separators format)
 
 -- what stands between the outputs of two shares: the row of hyphens where both have rows, of groups of lines
 abbrev pub between : Search → Format → List ℕ → List ℕ → List ℕ

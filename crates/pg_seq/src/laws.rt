@@ -6,7 +6,7 @@ ghost use Rattle.pg_lines.specs.Lines.{AreWhole, lines};
 ghost use Rattle.pg_lines.specs.Searched.{Searched};
 ghost use Rattle.pg_rows.specs.declared.format.Format.{Format};
 ghost use Rattle.pg_rows.specs.Modes.{is_quiet};
-ghost use Rattle.pg_rows.specs.Output.{Entry, HasRoom, has_context, has_selected, output, status};
+ghost use Rattle.pg_rows.specs.Output.{Entry, HasRoom, has_separators, has_selected, output, status};
 ghost use Rattle.pg_rows.specs.Enough.{lines_suffice};
 ghost use Rattle.pg_seq.specs.Plan.{IsPlan, Begins, announced, entries_of};
 ghost use Rattle.pg_seq.specs.History.{Past, IsComplete, plan, handed, answer, is_taken, taken_of};
@@ -70,7 +70,7 @@ pub fn later_files_stay_unread()
 /// one of a single file.
 pub fn shares_join()
     ensures plain { (q : Search) (format : Format) (first : List Entry) (later : List Entry) →
-        has_context format ≡ false →
+        has_separators format ≡ false →
         output q format (later ++ first) ≡ output q format first ++ output q format later }
     ensures output { (q : Search) (format : Format) (first : List Entry) (later : List Entry) →
         output q format (later ++ first) ≡ joined_output q format (output q format first) (output q format later) }

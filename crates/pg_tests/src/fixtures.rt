@@ -11,6 +11,8 @@ use std::sync::Arc;
 pub(crate) const PLAIN: Format = Format {
     names: false,
     null: false,
+    tabs: false,
+    separators: true,
     numbers: false,
     mode: Mode::Rows,
     limit: None,

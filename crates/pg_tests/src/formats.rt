@@ -74,6 +74,8 @@ pub(crate) fn format_of(rt: &impl Abort, letters: &str) -> Format
     Format {
         names: is_given(rt, *names, b'H'),
         null: false,
+        tabs: false,
+        separators: true,
         numbers: is_given(rt, *numbers, b'n'),
         mode: mode_of(rt, *mode),
         limit: limit_of(rt, *limit),

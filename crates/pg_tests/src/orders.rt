@@ -21,6 +21,8 @@ const ORDERS: usize = 720;
 const NUMBERED: Format = Format {
     names: false,
     null: false,
+    tabs: false,
+    separators: true,
     numbers: true,
     mode: Mode::Rows,
     limit: None,

@@ -9,7 +9,7 @@ use pg_lines::{Kind, ListFault, PatternList, QueryFault, QueryText};
 use pg_rows::{Format, MemSink};
 use pg_run::{FreeGate, RunFault, Setup, run};
 use pg_syntax::{FaultKind, SyntaxFault};
-use pg_walk::{FileKind, MemTree, Node};
+use pg_walk::{FileKind, MemTree, Node, Scope};
 use refusing::Refusing;
 use std::alloc::{AllocError, Allocator, Global};
 use std::process::Abort;
@@ -181,7 +181,7 @@ fn list<'t>(alloc: Global, tree: &'t MemTree, case: Case<'_>) -> Result<MemFiles
     store.add("h", b"b\n", Ending::Ends)?;
     store.set_read_limit(case.read_limit);
     let mut files = Listed::new(alloc, tree, store);
-    files.list(alloc, tree, &operands, true, true)?;
+    files.list(alloc, tree, &operands, Scope::all(alloc, true), true)?;
     Ok(files)
 }
 

@@ -9,7 +9,8 @@ use Rattle.std.specs.Ordering.{nat_cmp, ordering_reverse}
 use Rattle.std.specs.Cmp.Lexicographic.{slice_cmp}
 use Rattle.std.proofs.lemmas.Cmp.{nat_list_cmp_total}
 use Rattle.std.proofs.lemmas.List.Elements.{All-cons, All-weaker, All-contains}
-use Rattle.pg_walk.specs.Answers.{Text, Content, Answers}
+use Rattle.pg_walk.specs.Answers.{Text, Content}
+use Rattle.pg_walk.specs.Scopes.{Sight, Sights, Is, IsLeftOut, IsUntold}
 use Rattle.pg_walk.specs.Items.{Found, File, Fault}
 use Rattle.pg_walk.specs.Places.{Names, child, is_standard_input}
 use Rattle.pg_walk.specs.Walks.{place_cmp, Ascending, ItemsOf, FilesOf}
@@ -21,7 +22,7 @@ use Rattle.pg_walk.specs.declared.item.Cause.TheVariants.{CannotOpen, IsDirector
 use Rattle.pg_walk.proofs.Lists.{contains_none, contains_more, contains_one, front_or_rest, all_none, all_from_contains}
 use Rattle.pg_walk.proofs.Lists.{bytes_same}
 use Rattle.pg_walk.proofs.Steps.{entry_leaf, entry_deep, entry_inside, inside_fails, some_bad, some_good, some_more}
-use Rattle.pg_walk.proofs.Steps.{some_all, SomeGive, operand_standard, operand_kind, operand_refused, operand_inside}
+use Rattle.pg_walk.proofs.Steps.{some_all, SomeGive, operand_standard, operand_kind, operand_none, operand_refused, operand_inside}
 use Rattle.pg_walk.proofs.Steps.{first_none, first_more, first_all, FirstGive}
 
 -- one more name in its place among ascending ones; `more` are the later ones with it
@@ -133,12 +134,12 @@ HasItems gives = (items : List Found) × Adds gives [] items
 behind : (gives : Names → Found → Type 0) (old : List Found) → HasItems gives → (new : List Found) × Adds gives old new
 behind gives old f = (old ++ f.1.items, record { items = f.1.items; are = f.1.are; joined = refl })
 
-flag_some : (a : Answers) (depth : ℕ) (path : Text) (c : Content) (b : Bool) → c.nameless ≡ b
+flag_some : (a : Sights) (depth : ℕ) (path : Text) (c : Content) (b : Bool) → c.nameless ≡ b
     → HasItems (SomeGive a depth path c [])
 flag_some a depth path c true e = (Fault path BadName ∷ [], some_bad a depth path c e [] _ refl)
 flag_some a depth path c false e = ([], some_good a depth path c e [] _ refl)
 
-names_some : (a : Answers) (depth : ℕ) (path : Text) (c : Content) (xs : List Text) → Ascending (slice_cmp nat_cmp) xs
+names_some : (a : Sights) (depth : ℕ) (path : Text) (c : Content) (xs : List Text) → Ascending (slice_cmp nat_cmp) xs
     → ((p : Text) → HasItems (EntryGives a (depth + 1) p)) → (k : ℕ) → k ≤ length xs
     → HasItems (SomeGive a depth path c (take k xs))
 names_some a depth path c xs up below zero h = flag_some a depth path c c.nameless refl
@@ -149,7 +150,7 @@ names_some a depth path c xs up below (suc k) h =
     let Q : ℕ → Type 0 = λ n. Adds (SomeGive a depth path c (take n xs)) [] e.0 in
     (e.0, subst Q next (some_more a depth path c xs k up (omega arith) [] f.0 e.0 f.1 e.1))
 
-inside_by : (a : Answers) (depth : ℕ) (path : Text) (o : Option Content) → a.content path ≡ o
+inside_by : (a : Sights) (depth : ℕ) (path : Text) (o : Option Content) → a.content path ≡ o
     → ((p : Text) → HasItems (EntryGives a (depth + 1) p)) → HasItems (InsideGives a depth path)
 inside_by a depth path None e below = (Fault path CannotList ∷ [], inside_fails a depth path e [] _ refl)
 inside_by a depth path (Some c) e below =
@@ -161,21 +162,23 @@ inside_by a depth path (Some c) e below =
           (subst Q (take_all (length xs) xs (omega arith)) f.1),
     )
 
-entry_by : (a : Answers) (depth : ℕ) (path : Text) (o : Option FileKind) → a.kind path false ≡ o
-    → (o ≡ Some Directory → HasItems (EntryGives a depth path)) → HasItems (EntryGives a depth path)
-entry_by a depth path None e directory = (
+entry_by : (a : Sights) (depth : ℕ) (path : Text) (o : Sight) → a.kind path false ≡ o
+    → (o ≡ Is Directory → HasItems (EntryGives a depth path)) → HasItems (EntryGives a depth path)
+entry_by a depth path IsUntold e directory = (
   Fault path CannotOpen ∷ [],
-  entry_leaf a depth path None (Some (Fault path CannotOpen)) e refl (λ k d. cc) [] _ refl,
+  entry_leaf a depth path IsUntold (Some (Fault path CannotOpen)) e refl (λ k d. cc) [] _ refl,
 )
-entry_by a depth path (Some Regular) e directory =
-    (File path ∷ [], entry_leaf a depth path (Some Regular) (Some (File path)) e refl (λ k d. cc) [] _ refl)
-entry_by a depth path (Some Link) e directory =
-    ([], entry_leaf a depth path (Some Link) None e refl (λ k d. cc) [] _ refl)
-entry_by a depth path (Some Other) e directory =
-    ([], entry_leaf a depth path (Some Other) None e refl (λ k d. cc) [] _ refl)
-entry_by a depth path (Some Directory) e directory = directory refl
+entry_by a depth path (Is Regular) e directory =
+    (File path ∷ [], entry_leaf a depth path (Is Regular) (Some (File path)) e refl (λ k d. cc) [] _ refl)
+entry_by a depth path (Is Link) e directory =
+    ([], entry_leaf a depth path (Is Link) None e refl (λ k d. cc) [] _ refl)
+entry_by a depth path (Is Other) e directory =
+    ([], entry_leaf a depth path (Is Other) None e refl (λ k d. cc) [] _ refl)
+entry_by a depth path IsLeftOut e directory =
+    ([], entry_leaf a depth path IsLeftOut None e refl (λ k d. cc) [] _ refl)
+entry_by a depth path (Is Directory) e directory = directory refl
 
-entry_has : (a : Answers) (levels depth : ℕ) → levels + depth ≡ 257 → (path : Text) → HasItems (EntryGives a depth path)
+entry_has : (a : Sights) (levels depth : ℕ) → levels + depth ≡ 257 → (path : Text) → HasItems (EntryGives a depth path)
 entry_has a zero depth h path =
     entry_by a depth path (a.kind path false) refl
     (λ e. (Fault path TooDeep ∷ [], entry_deep a depth path e (omega arith) [] _ refl))
@@ -185,39 +188,40 @@ entry_has a (suc levels) depth h path =
     let f = inside_by a depth path (a.content path) refl (entry_has a levels (depth + 1) (omega arith)) in
     (f.0, entry_inside a depth path e (omega arith) [] f.0 f.1))
 
-directory_has : (a : Answers) (r : Bool) (path : Text) → is_standard_input path ≡ false
-    → a.kind path true ≡ Some Directory → (b : Bool) → r ≡ b → HasItems (OperandGives a r path)
+directory_has : (a : Sights) (r : Bool) (path : Text) → is_standard_input path ≡ false
+    → a.kind path true ≡ Is Directory → (b : Bool) → r ≡ b → HasItems (OperandGives a r path)
 directory_has a r path s k true t =
     let f = inside_by a 0 path (a.content path) refl (entry_has a 256 1 refl) in
     (f.0, operand_inside a r path s t k [] f.0 f.1)
 directory_has a r path s k false t = (Fault path IsDirectory ∷ [], operand_refused a r path s t k [] _ refl)
 
-kind_has : (a : Answers) (r : Bool) (path : Text) → is_standard_input path ≡ false → (o : Option FileKind)
+kind_has : (a : Sights) (r : Bool) (path : Text) → is_standard_input path ≡ false → (o : Sight)
     → a.kind path true ≡ o → HasItems (OperandGives a r path)
-kind_has a r path s None k = (
+kind_has a r path s IsUntold k = (
   Fault path CannotOpen ∷ [],
-  operand_kind a r path None (Fault path CannotOpen) s k refl (λ d. cc) [] _ refl,
+  operand_kind a r path IsUntold (Fault path CannotOpen) s k refl (λ d. cc) [] _ refl,
 )
-kind_has a r path s (Some Regular) k = (
+kind_has a r path s (Is Regular) k = (
   File path ∷ [],
-  operand_kind a r path (Some Regular) (File path) s k refl (λ d. cc) [] _ refl,
+  operand_kind a r path (Is Regular) (File path) s k refl (λ d. cc) [] _ refl,
 )
-kind_has a r path s (Some Link) k = (
+kind_has a r path s (Is Link) k = (
   Fault path CannotOpen ∷ [],
-  operand_kind a r path (Some Link) (Fault path CannotOpen) s k refl (λ d. cc) [] _ refl,
+  operand_kind a r path (Is Link) (Fault path CannotOpen) s k refl (λ d. cc) [] _ refl,
 )
-kind_has a r path s (Some Other) k = (
+kind_has a r path s (Is Other) k = (
   File path ∷ [],
-  operand_kind a r path (Some Other) (File path) s k refl (λ d. cc) [] _ refl,
+  operand_kind a r path (Is Other) (File path) s k refl (λ d. cc) [] _ refl,
 )
-kind_has a r path s (Some Directory) k = directory_has a r path s k r refl
+kind_has a r path s IsLeftOut k = ([], operand_none a r path s k)
+kind_has a r path s (Is Directory) k = directory_has a r path s k r refl
 
-operand_has : (a : Answers) (r : Bool) (path : Text) (b : Bool) → is_standard_input path ≡ b
+operand_has : (a : Sights) (r : Bool) (path : Text) (b : Bool) → is_standard_input path ≡ b
     → HasItems (OperandGives a r path)
 operand_has a r path true s = (File path ∷ [], operand_standard a r path s [] _ refl)
 operand_has a r path false s = kind_has a r path s (a.kind path true) refl
 
-first_has : (a : Answers) (ops : List Text) (r : Bool) (k : ℕ) → (items : List Found)
+first_has : (a : Sights) (ops : List Text) (r : Bool) (k : ℕ) → (items : List Found)
     × ItemsOf place_cmp (FirstGive a ops r k) items
 first_has a ops r zero = ([], first_none a ops r)
 first_has a ops r (suc k) =
@@ -228,7 +232,7 @@ first_has a ops r (suc k) =
     let Q : ℕ → Type 0 = λ n. ItemsOf place_cmp (FirstGive a ops r n) e.0 in
     (e.0, subst Q next (first_more a ops r k f.0 e.0 f.1 e.1))
 
-pub some_items : (a : Answers) (ops : List Text) (r : Bool) → (items : List Found) × FilesOf a ops r items
+pub some_items : (a : Sights) (ops : List Text) (r : Bool) → (items : List Found) × FilesOf a ops r items
 some_items a ops r =
     let f = first_has a ops r (length ops) in
     (f.0, first_all a ops r (length ops) f.0 refl f.1)
@@ -236,18 +240,18 @@ some_items a ops r =
 shallow_or_deep : (depth : ℕ) → (depth ≤ 257) ⊎ (257 ≤ depth)
 shallow_or_deep depth = grind arith
 
-entry_any : (a : Answers) (depth : ℕ) (path : Text) → HasItems (EntryGives a depth path)
+entry_any : (a : Sights) (depth : ℕ) (path : Text) → HasItems (EntryGives a depth path)
 entry_any a depth path = elim (shallow_or_deep depth) [
   | inl h ↦ entry_has a (257 - depth) depth (omega (arith, h)) path
   | inr h ↦ entry_by a depth path (a.kind path false) refl
       (λ e. (Fault path TooDeep ∷ [], entry_deep a depth path e (omega (arith, h)) [] _ refl))
 ]
 
-spot_has : (a : Answers) (r : Bool) (spot : Spot) → HasItems (spot_gives a r spot)
+spot_has : (a : Sights) (r : Bool) (spot : Spot) → HasItems (spot_gives a r spot)
 spot_has a r (Operand path) = operand_has a r path (is_standard_input path) refl
 spot_has a r (Entry path depth) = entry_any a depth path
 
-pub some_left : (a : Answers) (r : Bool) (spots : List Spot) → (items : List Found) × AreLeft a r spots items
+pub some_left : (a : Sights) (r : Bool) (spots : List Spot) → (items : List Found) × AreLeft a r spots items
 some_left a r [] = ([], refl)
 some_left a r (spot ∷ spots) =
     let here = spot_has a r spot in

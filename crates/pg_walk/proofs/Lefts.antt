@@ -7,6 +7,7 @@ use Rattle.std.specs.List.{Contains}
 use Rattle.std.specs.Ordering.{nat_cmp}
 use Rattle.std.specs.Cmp.Lexicographic.{slice_cmp}
 use Rattle.pg_walk.specs.Answers.{Text, Content, Answers}
+use Rattle.pg_walk.specs.Scopes.{Scope, Sights, sights}
 use Rattle.pg_walk.specs.Items.{Found}
 use Rattle.pg_walk.specs.Places.{Names, child}
 use Rattle.pg_walk.specs.Walks.{place_cmp, Ascending, ItemsOf, FilesOf}
@@ -21,11 +22,11 @@ use Rattle.pg_walk.proofs.Exists.{some_left}
 use Rattle.pg_walk.proofs.WithinLemmas.{some_within, whole_within}
 
 -- a place with nothing below it
-pub unfolds_leaf : (a : Answers) (r : Bool) (gives : Names → Found → Type 0) (o : Option Found) (spots : List Spot)
+pub unfolds_leaf : (a : Sights) (r : Bool) (gives : Names → Found → Type 0) (o : Option Found) (spots : List Spot)
     → Adds gives [] (shown o) → Unfolds a r gives o spots spots
 unfolds_leaf a r gives o spots h rest left = (h.items, rest, h.are, left, ap (λ t. t ++ rest) h.joined)
 
-pub unfolds_as : (a : Answers) (r : Bool) (G H : Names → Found → Type 0) (o : Option Found) (old new : List Spot)
+pub unfolds_as : (a : Sights) (r : Bool) (G H : Names → Found → Type 0) (o : Option Found) (old new : List Spot)
     → ((items : List Found) → Adds G [] items → Adds H [] items) → Unfolds a r G o old new → Unfolds a r H o old new
 unfolds_as a r G H o old new to h rest left =
     let u = h rest left in
@@ -33,7 +34,7 @@ unfolds_as a r G H o old new to h rest left =
     (x.items, u.1, x.are, u.3, u.4 ∙ ap (λ t. t ++ u.1) x.joined)
 
 -- the entries of a directory, from one of them on, and then others
-below_left : (a : Answers) (r : Bool) (depth : ℕ) (path : Text) (f : Content) (xs : List Text) (spots : List Spot)
+below_left : (a : Sights) (r : Bool) (depth : ℕ) (path : Text) (f : Content) (xs : List Text) (spots : List Spot)
     → Ascending (slice_cmp nat_cmp) xs → (n k : ℕ) → n + k ≡ length xs → (rest : List Found)
     → AreLeft a r (map (λ x. Entry (child path x) (depth + 1)) (drop k xs) ++ spots) rest → (old : List Found)
     → Adds (SomeGive a depth path f (take k xs)) [] old
@@ -56,7 +57,7 @@ below_left a r depth path f xs spots up (suc n) k e rest left old h =
     (u.0, u.1, u.2, u.3, ap (λ t. old ++ t) l.4 ∙ (sym (append_assoc old l.0 l.1) ∙ u.4))
 
 -- a directory whose entries are left
-pub unfolds_inside : (a : Answers) (r : Bool) (depth : ℕ) (path : Text) (f : Content) (xs : List Text)
+pub unfolds_inside : (a : Sights) (r : Bool) (depth : ℕ) (path : Text) (f : Content) (xs : List Text)
     (o : Option Found) (spots : List Spot) → a.content path ≡ Some f → Ascending (slice_cmp nat_cmp) xs
     → ((n : Text) → Contains xs n ↔ Contains f.names n) → Adds (SomeGive a depth path f []) [] (shown o)
     → Unfolds a r (InsideGives a depth path) o spots (map (λ x. Entry (child path x) (depth + 1)) xs ++ spots)
@@ -66,7 +67,7 @@ unfolds_inside a r depth path f xs o spots e up same h rest left =
     (x.items, u.1, x.are, u.3, u.4 ∙ ap (λ t. t ++ u.1) x.joined)
 
 -- the operands from one of them on
-first_left : (a : Answers) (r : Bool) (ops : List Text) (n k : ℕ) → n + k ≡ length ops → (rest : List Found)
+first_left : (a : Sights) (r : Bool) (ops : List Text) (n k : ℕ) → n + k ≡ length ops → (rest : List Found)
     → AreLeft a r (map (λ path. Operand path) (drop k ops)) rest → (old : List Found)
     → ItemsOf place_cmp (FirstGive a ops r k) old → FilesOf a ops r (old ++ rest)
 first_left a r ops zero k e rest left old h =
@@ -86,7 +87,7 @@ first_left a r ops (suc n) k e rest left old h =
     (first_left a r ops n (k + 1) (omega arith) l.1 l.3 (old ++ l.0) next)
 
 -- what is left at first is what the walk gives
-pub whole_left : (a : Answers) (r : Bool) (ops : List Text) (items : List Found)
+pub whole_left : (a : Sights) (r : Bool) (ops : List Text) (items : List Found)
     → AreLeft a r (map (λ path. Operand path) ops) items → FilesOf a ops r items
 whole_left a r ops items left =
     first_left a r ops (length ops) 0 (omega arith) items left [] (first_none a ops r)
@@ -111,58 +112,58 @@ pushed at text xs old new w x base left some within push is here before =
     ∙ sym (at_drop_more (λ l. map at (map text l) ++ base) xs k x (omega arith)))))))
 
 -- a walk that has given nothing yet
-pub given_none : (tells : Type 0) (a : Answers) (ops : List Text) (r : Bool) (spots : List Spot)
-    → spots ≡ map (λ path. Operand path) ops → HasGiven tells a ops r [] spots
-given_none tells a ops r spots e = record {
+pub given_none : (tells : Type 0) (a : Answers) (ops : List Text) (s : Scope) (spots : List Spot)
+    → spots ≡ map (λ path. Operand path) ops → HasGiven tells a ops s [] spots
+given_none tells a ops s spots e = record {
   gives = λ t rest left.
-      whole_left a r ops rest (let L : List Spot → Type 0 = λ s. AreLeft a r s rest in subst L e left);
+      whole_left (sights s a) s.recursive ops rest (let L : List Spot → Type 0 = λ ss. AreLeft (sights s a) s.recursive ss rest in subst L e left);
   follows = λ rest left.
-      whole_within r ops rest (let L : List Spot → Type 0 = λ s. MayBeLeft r s rest in subst L e left);
+      whole_within s ops rest (let L : List Spot → Type 0 = λ ss. MayBeLeft s ss rest in subst L e left);
 }
 
 -- one step of it
-pub given_more : (tells : Type 0) (a : Answers) (ops : List Text) (r : Bool) (items : List Found) (o : Option Found)
-    (spot : Spot) (old before after : List Spot) → HasGiven tells a ops r items old → old ≡ spot ∷ before
-    → (tells → Unfolds a r (spot_gives a r spot) o before after) → UnfoldsWithin r (MayGive r spot) o before after
-    → HasGiven tells a ops r (items ++ shown o) after
-given_more tells a ops r items o spot old before after h e unfolds within = record {
+pub given_more : (tells : Type 0) (a : Answers) (ops : List Text) (s : Scope) (items : List Found) (o : Option Found)
+    (spot : Spot) (old before after : List Spot) → HasGiven tells a ops s items old → old ≡ spot ∷ before
+    → (tells → Unfolds (sights s a) s.recursive (spot_gives (sights s a) s.recursive spot) o before after) → UnfoldsWithin s (MayGive s spot) o before after
+    → HasGiven tells a ops s (items ++ shown o) after
+given_more tells a ops s items o spot old before after h e unfolds within = record {
   gives = λ t rest left.
-      let L : List Spot → Type 0 = λ s. AreLeft a r s (shown o ++ rest) in
-      let F : List Found → Type 0 = λ all. FilesOf a ops r all in
+      let L : List Spot → Type 0 = λ ss. AreLeft (sights s a) s.recursive ss (shown o ++ rest) in
+      let F : List Found → Type 0 = λ all. FilesOf (sights s a) ops s.recursive all in
       subst F (sym (append_assoc items (shown o) rest))
       (h.gives t (shown o ++ rest) (subst L (sym e) (unfolds t rest left)));
   follows = λ rest left.
-      let L : List Spot → Type 0 = λ s. MayBeLeft r s (shown o ++ rest) in
-      let F : List Found → Type 0 = λ all. FollowOperands r ops all in
+      let L : List Spot → Type 0 = λ ss. MayBeLeft s ss (shown o ++ rest) in
+      let F : List Found → Type 0 = λ all. FollowOperands s ops all in
       subst F (sym (append_assoc items (shown o) rest))
       (h.follows (shown o ++ rest) (subst L (sym e) (within rest left)));
 }
 
 -- a step that gives nothing
-pub given_same : (tells : Type 0) (a : Answers) (ops : List Text) (r : Bool) (items : List Found) (spots : List Spot)
-    → HasGiven tells a ops r (items ++ []) spots → HasGiven tells a ops r items spots
-given_same tells a ops r items spots h =
-    let H : List Found → Type 0 = λ all. HasGiven tells a ops r all spots in
+pub given_same : (tells : Type 0) (a : Answers) (ops : List Text) (s : Scope) (items : List Found) (spots : List Spot)
+    → HasGiven tells a ops s (items ++ []) spots → HasGiven tells a ops s items spots
+given_same tells a ops s items spots h =
+    let H : List Found → Type 0 = λ all. HasGiven tells a ops s all spots in
     subst H (append-nil items) h
 
 -- the first items of a walk, and all of them
-pub begins_walk : (tells : Type 0) (a : Answers) (ops : List Text) (r : Bool) (items : List Found) (spots : List Spot)
-    → HasGiven tells a ops r items spots → BeginsWalk tells a ops r items
-begins_walk tells a ops r items spots h =
-    let rest = some_left a r spots in
-    let more = some_within r spots in
+pub begins_walk : (tells : Type 0) (a : Answers) (ops : List Text) (s : Scope) (items : List Found) (spots : List Spot)
+    → HasGiven tells a ops s items spots → BeginsWalk tells a ops s items
+begins_walk tells a ops s items spots h =
+    let rest = some_left (sights s a) s.recursive spots in
+    let more = some_within s spots in
     record {
       gives = λ t. (rest.0, h.gives t rest.0 rest.1);
       follows = (more.0, h.follows more.0 more.1);
     }
 
-pub is_walk : (tells : Type 0) (a : Answers) (ops : List Text) (r : Bool) (items : List Found) (spots : List Spot)
-    → HasGiven tells a ops r items spots → spots ≡ [] → IsWalk tells a ops r items
-is_walk tells a ops r items spots h e =
-    let F : List Found → Type 0 = λ all. FilesOf a ops r all in
-    let G : List Found → Type 0 = λ all. FollowOperands r ops all in
-    let L : List Spot → Type 0 = λ s. AreLeft a r s [] in
-    let M : List Spot → Type 0 = λ s. MayBeLeft r s [] in
+pub is_walk : (tells : Type 0) (a : Answers) (ops : List Text) (s : Scope) (items : List Found) (spots : List Spot)
+    → HasGiven tells a ops s items spots → spots ≡ [] → IsWalk tells a ops s items
+is_walk tells a ops s items spots h e =
+    let F : List Found → Type 0 = λ all. FilesOf (sights s a) ops s.recursive all in
+    let G : List Found → Type 0 = λ all. FollowOperands s ops all in
+    let L : List Spot → Type 0 = λ ss. AreLeft (sights s a) s.recursive ss [] in
+    let M : List Spot → Type 0 = λ ss. MayBeLeft s ss [] in
     record {
       gives = λ t. subst F (append-nil items) (h.gives t [] (subst L (sym e) refl));
       follows = subst G (append-nil items) (h.follows [] (subst M (sym e) refl));

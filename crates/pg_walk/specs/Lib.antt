@@ -1,4 +1,5 @@
 pub mod Answers
+pub mod Scopes
 pub mod Items
 pub mod Places
 pub mod Walks

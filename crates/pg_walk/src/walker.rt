@@ -8,6 +8,7 @@ ghost use Rattle.std.specs.String.{string_bytes};
 ghost use Rattle.pg_walk.specs.Answers.{Text};
 ghost use Rattle.pg_walk.specs.Items.{Found, found};
 ghost use Rattle.pg_walk.specs.Places.{child};
+ghost use Rattle.pg_walk.specs.Scopes.{Scope as Asked, scope_of, sights};
 ghost use Rattle.pg_walk.specs.Walks.{Ascending};
 ghost use Rattle.pg_walk.specs.Descent.{EntryGives, InsideGives, OperandGives};
 ghost use Rattle.pg_walk.specs.Within.{BelongTo, IsWithin};
@@ -15,6 +16,7 @@ ghost use Rattle.pg_walk.specs.Left.{Operand, Entry, HasGiven, MayGive, Unfolds,
 ghost use Rattle.pg_walk.specs.Left.{shown, spot_of, spots_in, spot_gives};
 
 use crate::item::{Cause, Item};
+use crate::scope::{Scope, look};
 use crate::tree::{FileKind, FileTree, LookFault};
 use std::alloc::{AllocError, Allocator, Global};
 
@@ -88,11 +90,12 @@ fn inside<A: Allocator + Copy, T: FileTree>(
     waiting: &mut Vec<Waiting<A>, A>,
 ) -> Result<Option<Item<A>>, AllocError>
     requires { depth ≤ 256 }
-    ensures gives { T.tells tree.now → IfOk result (λ item. (recursive : Bool) →
-        Unfolds (T.answers tree.now) recursive (InsideGives (T.answers tree.now) depth (string_bytes path))
+    ensures gives { (asked : Asked) → T.tells tree.now → IfOk result (λ item. (recursive : Bool) →
+        Unfolds (sights asked (T.answers tree.now)) recursive
+        (InsideGives (sights asked (T.answers tree.now)) depth (string_bytes path))
         (option_map found item) (spots_in waiting.old.items) (spots_in waiting.new.items)) }
-    ensures within { IfOk result (λ item. (recursive : Bool) →
-        UnfoldsWithin recursive (All (IsWithin (string_bytes path)))
+    ensures within { IfOk result (λ item. (asked : Asked) →
+        UnfoldsWithin asked (All (IsWithin (string_bytes path)))
         (option_map found item) (spots_in waiting.old.items) (spots_in waiting.new.items)) }
 {
     let listing = match tree.entries(alloc, path.as_str()) {
@@ -114,28 +117,31 @@ fn inside<A: Allocator + Copy, T: FileTree>(
 fn entry<A: Allocator + Copy, T: FileTree>(
     alloc: A,
     tree: &T,
+    scope: &Scope<A>,
     path: String<A>,
     depth: u32,
     waiting: &mut Vec<Waiting<A>, A>,
 ) -> Result<Option<Item<A>>, AllocError>
     ensures gives { T.tells tree.now → IfOk result (λ item. (recursive : Bool) →
-        Unfolds (T.answers tree.now) recursive (EntryGives (T.answers tree.now) depth (string_bytes path))
+        Unfolds (sights (scope_of scope.now) (T.answers tree.now)) recursive
+        (EntryGives (sights (scope_of scope.now) (T.answers tree.now)) depth (string_bytes path))
         (option_map found item) (spots_in waiting.old.items) (spots_in waiting.new.items)) }
-    ensures within { IfOk result (λ item. (recursive : Bool) →
-        UnfoldsWithin recursive (All (IsWithin (string_bytes path)))
+    ensures within { IfOk result (λ item. (asked : Asked) →
+        UnfoldsWithin asked (All (IsWithin (string_bytes path)))
         (option_map found item) (spots_in waiting.old.items) (spots_in waiting.new.items)) }
 {
-    match tree.kind(path.as_str(), false) {
-        Ok(FileKind::Regular) => Ok(Some(Item::File(path))),
-        Ok(FileKind::Directory) => {
+    match look(tree, scope, path.as_str(), false) {
+        Ok(Some(FileKind::Regular)) => Ok(Some(Item::File(path))),
+        Ok(Some(FileKind::Directory)) => {
             if depth > DEEPEST {
                 Ok(Some(Item::Fault(path, Cause::TooDeep)))
             } else {
                 inside(alloc, tree, path, depth, waiting)
             }
         }
-        Ok(FileKind::Link) => Ok(None),
-        Ok(FileKind::Other) => Ok(None),
+        Ok(Some(FileKind::Link)) => Ok(None),
+        Ok(Some(FileKind::Other)) => Ok(None),
+        Ok(None) => Ok(None),
         Err(LookFault::Failed) => Ok(Some(Item::Fault(path, Cause::CannotOpen))),
         Err(LookFault::OutOfMemory) => Err(AllocError),
     }
@@ -145,30 +151,33 @@ fn entry<A: Allocator + Copy, T: FileTree>(
 fn operand<A: Allocator + Copy, T: FileTree>(
     alloc: A,
     tree: &T,
+    scope: &Scope<A>,
     path: String<A>,
-    recursive: bool,
     waiting: &mut Vec<Waiting<A>, A>,
 ) -> Result<Option<Item<A>>, AllocError>
     ensures gives { T.tells tree.now → IfOk result (λ item.
-        Unfolds (T.answers tree.now) recursive (OperandGives (T.answers tree.now) recursive (string_bytes path))
+        Unfolds (sights (scope_of scope.now) (T.answers tree.now)) scope.now.recursive
+        (OperandGives (sights (scope_of scope.now) (T.answers tree.now)) scope.now.recursive (string_bytes path))
         (option_map found item) (spots_in waiting.old.items) (spots_in waiting.new.items)) }
-    ensures within { IfOk result (λ item. UnfoldsWithin recursive (BelongTo recursive (string_bytes path))
+    ensures within { IfOk result (λ item. UnfoldsWithin (scope_of scope.now)
+        (BelongTo (scope_of scope.now) (string_bytes path))
         (option_map found item) (spots_in waiting.old.items) (spots_in waiting.new.items)) }
 {
     if path.as_str() == "-" {
         return Ok(Some(Item::File(path)));
     }
-    match tree.kind(path.as_str(), true) {
-        Ok(FileKind::Regular) => Ok(Some(Item::File(path))),
-        Ok(FileKind::Other) => Ok(Some(Item::File(path))),
-        Ok(FileKind::Directory) => {
-            if recursive {
+    match look(tree, scope, path.as_str(), true) {
+        Ok(Some(FileKind::Regular)) => Ok(Some(Item::File(path))),
+        Ok(Some(FileKind::Other)) => Ok(Some(Item::File(path))),
+        Ok(Some(FileKind::Directory)) => {
+            if scope.recursive {
                 inside(alloc, tree, path, 0, waiting)
             } else {
                 Ok(Some(Item::Fault(path, Cause::IsDirectory)))
             }
         }
-        Ok(FileKind::Link) => Ok(Some(Item::Fault(path, Cause::CannotOpen))),
+        Ok(Some(FileKind::Link)) => Ok(Some(Item::Fault(path, Cause::CannotOpen))),
+        Ok(None) => Ok(None),
         Err(LookFault::Failed) => Ok(Some(Item::Fault(path, Cause::CannotOpen))),
         Err(LookFault::OutOfMemory) => Err(AllocError),
     }
@@ -178,19 +187,20 @@ fn operand<A: Allocator + Copy, T: FileTree>(
 fn visit<A: Allocator + Copy, T: FileTree>(
     alloc: A,
     tree: &T,
+    scope: &Scope<A>,
     next: Waiting<A>,
-    recursive: bool,
     waiting: &mut Vec<Waiting<A>, A>,
 ) -> Result<Option<Item<A>>, AllocError>
     ensures gives { T.tells tree.now → IfOk result (λ item.
-        Unfolds (T.answers tree.now) recursive (spot_gives (T.answers tree.now) recursive (spot_of next))
+        Unfolds (sights (scope_of scope.now) (T.answers tree.now)) scope.now.recursive
+        (spot_gives (sights (scope_of scope.now) (T.answers tree.now)) scope.now.recursive (spot_of next))
         (option_map found item) (spots_in waiting.old.items) (spots_in waiting.new.items)) }
-    ensures within { IfOk result (λ item. UnfoldsWithin recursive (MayGive recursive (spot_of next))
+    ensures within { IfOk result (λ item. UnfoldsWithin (scope_of scope.now) (MayGive (scope_of scope.now) (spot_of next))
         (option_map found item) (spots_in waiting.old.items) (spots_in waiting.new.items)) }
 {
     match next {
-        Waiting::Operand(path) => operand(alloc, tree, path, recursive, waiting),
-        Waiting::Entry(path, depth) => entry(alloc, tree, path, depth, waiting),
+        Waiting::Operand(path) => operand(alloc, tree, scope, path, waiting),
+        Waiting::Entry(path, depth) => entry(alloc, tree, scope, path, depth, waiting),
     }
 }
 
@@ -215,12 +225,12 @@ fn operands_waiting<A: Allocator + Copy, B: Allocator>(
 /// A walk over operands: it gives their files and faults, one after the other, in the operands' order.
 ///
 /// An operand `-` is standard input, a file. An operand that is a directory is a fault, or where
-/// `recursive` is true it is visited: its entries follow in ascending order of their names' bytes,
+/// the scope is recursive it is visited: its entries follow in ascending order of their names' bytes,
 /// each with all that is below it, and so on down to 256 levels. A fault stands where its name
 /// stands, that of a bad name before the directory's entries, and hides no other item.
 ///
 /// Links are followed at operands alone. Below them links give nothing, and nor do pipes, sockets
-/// and devices.
+/// and devices. What the scope leaves out gives nothing either, once the tree has told its kind.
 ///
 /// The walk holds the paths that wait: the operands that are left, and of each directory that it is
 /// inside those entries that are left. A directory is listed when its turn comes.
@@ -228,8 +238,8 @@ pub struct Walker<'t, T: FileTree, A: Allocator + Copy = Global> {
     alloc: A,
     /// The tree.
     pub tree: &'t T,
-    /// Whether directories are visited.
-    pub recursive: bool,
+    /// What is asked for.
+    pub scope: Scope<A>,
     /// What waits, the next one last.
     pub waiting: Vec<Waiting<A>, A>,
 }
@@ -239,7 +249,7 @@ impl<T: FileTree, A: Allocator + Copy> Drop for Walker<'_, T, A> {
         let Walker {
             alloc: _,
             tree: _,
-            recursive: _,
+            scope: _,
             waiting: _,
         } = self;
     }
@@ -255,17 +265,17 @@ impl<'t, T: FileTree, A: Allocator + Copy> Walker<'t, T, A> {
         alloc: A,
         tree: &'t T,
         operands: &[String<B>],
-        recursive: bool,
+        scope: Scope<A>,
     ) -> Result<Walker<'t, T, A>, AllocError>
-        ensures same { IfOk result (λ walker. (walker.tree.now ≡ tree.now) × (walker.recursive ≡ recursive)) }
+        ensures same { IfOk result (λ walker. (walker.tree.now ≡ tree.now) × (walker.scope ≡ scope)) }
         ensures fresh { IfOk result (λ walker. HasGiven (T.tells tree.now) (T.answers tree.now)
-            (map string_bytes operands.now) recursive [] (spots_in walker.waiting.items)) }
+            (map string_bytes operands.now) (scope_of scope) [] (spots_in walker.waiting.items)) }
     {
         let waiting = operands_waiting(alloc, operands)?;
         Ok(Walker {
             alloc,
             tree,
-            recursive,
+            scope,
             waiting,
         })
     }
@@ -273,13 +283,13 @@ impl<'t, T: FileTree, A: Allocator + Copy> Walker<'t, T, A> {
     /// A walk over no operands.
     pub fn over_nothing(alloc: A, tree: &'t T) -> Walker<'t, T, A>
         ensures same { result.tree.now ≡ tree.now }
-        ensures fresh { HasGiven (T.tells result.tree.now) (T.answers result.tree.now) [] result.recursive []
+        ensures fresh { HasGiven (T.tells result.tree.now) (T.answers result.tree.now) [] (scope_of result.scope) []
             (spots_in result.waiting.items) }
     {
         Walker {
             alloc,
             tree,
-            recursive: false,
+            scope: Scope::all(alloc, false),
             waiting: Vec::new(alloc),
         }
     }
@@ -291,12 +301,12 @@ impl<'t, T: FileTree, A: Allocator + Copy> Walker<'t, T, A> {
     /// `AllocError` where the tree was out of memory, or a request for memory was refused, or 2^64 - 1 paths in a
     /// row gave no item. The path whose turn it was is lost then, so the walk can't go on.
     pub fn next(&mut self) -> Result<Option<Item<A>>, AllocError>
-        ensures same { (self.new.tree.now ≡ self.old.tree.now) × (self.new.recursive ≡ self.old.recursive) }
+        ensures same { (self.new.tree.now ≡ self.old.tree.now) × (self.new.scope ≡ self.old.scope) }
         ensures gives { (operands : List Text) → (items : List Found) →
-            HasGiven (T.tells self.old.tree.now) (T.answers self.old.tree.now) operands self.old.recursive
+            HasGiven (T.tells self.old.tree.now) (T.answers self.old.tree.now) operands (scope_of self.old.scope)
             items (spots_in self.old.waiting.items) →
             IfOk result (λ item.
-            HasGiven (T.tells self.old.tree.now) (T.answers self.old.tree.now) operands self.old.recursive
+            HasGiven (T.tells self.old.tree.now) (T.answers self.old.tree.now) operands (scope_of self.old.scope)
             (items ++ shown (option_map found item)) (spots_in self.new.waiting.items)) }
         ensures end { IfOk result (λ item. item ≡ None → spots_in self.new.waiting.items ≡ []) }
     {
@@ -304,13 +314,7 @@ impl<'t, T: FileTree, A: Allocator + Copy> Walker<'t, T, A> {
             let Some(next) = self.waiting.pop() else {
                 return Ok(None);
             };
-            let item = visit(
-                self.alloc,
-                self.tree,
-                next,
-                self.recursive,
-                &mut self.waiting,
-            )?;
+            let item = visit(self.alloc, self.tree, &self.scope, next, &mut self.waiting)?;
             if let Some(item) = item {
                 return Ok(Some(item));
             }

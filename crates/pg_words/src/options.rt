@@ -86,6 +86,8 @@ impl Options {
         Format {
             names: self.names && !self.no_names,
             null: self.null,
+            tabs: false,
+            separators: true,
             numbers: self.numbers,
             mode: self.mode(),
             limit: self.limit.map(|lines| lines.max(1)),

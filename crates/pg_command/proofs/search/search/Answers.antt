@@ -1,6 +1,7 @@
 use Rattle.std.proofs.Common.{◌∙◌, map, ap, inr, refl, subst, sym}
 use Rattle.std.specs.String.{string_bytes}
 use Rattle.pg_syntax.specs.Slices.{bytes_of}
+use Rattle.pg_walk.specs.Scopes.{scope_of}
 use Rattle.pg_files.specs.Listed.{asked_for, files_past, sought}
 use Rattle.pg_run.specs.Outcome.{BreaksOff, IsSearchFor, Stream}
 use Rattle.pg_command.specs.Asked.{asked_of, text_with}
@@ -30,10 +31,10 @@ returns-in_err-run-clause-fault g c =
     let read = subst (λ paths. HasRead past between (bytes_of paths) contents) c.as_slice.ensures.value
     c.in_ok-lists.ensures.read.2 in
     let first = first_sought tree start.walk.walker.tree.now asked start.walk.asked.items
-    (map string_bytes start.walk.operands.items) start.walk.walker.recursive start.spares_output
+    (map string_bytes start.walk.operands.items) (scope_of start.walk.walker.scope) start.spares_output
     (g.S.Store.past start.store) between listed.fresh.0 listed.walk.0 listed.walk.1 listed.walk.2 listed.spares
     (ap g.S.Store.past listed.store) in
-    let at = sought files.walk.walker.tree.now (map string_bytes files.walk.operands.items) files.walk.walker.recursive
+    let at = sought files.walk.walker.tree.now (map string_bytes files.walk.operands.items) (scope_of files.walk.walker.scope)
     files.spares_output (asked_for files.walk.asked.items) past' in
     let out : Stream = record { taken = g.W.Sink.taken c.args.out.now; failures = g.W.Sink.failures c.args.out.now } in
     let out' : Stream = record { taken = g.W.Sink.taken c.run.new.out; failures = g.W.Sink.failures c.run.new.out } in
@@ -71,10 +72,10 @@ returns-clause-success g c =
     let read = subst (λ paths. HasRead past between (bytes_of paths) contents) c.as_slice.ensures.value
     c.in_ok-lists.ensures.read.2 in
     let first = first_sought tree start.walk.walker.tree.now asked start.walk.asked.items
-    (map string_bytes start.walk.operands.items) start.walk.walker.recursive start.spares_output
+    (map string_bytes start.walk.operands.items) (scope_of start.walk.walker.scope) start.spares_output
     (g.S.Store.past start.store) between listed.fresh.0 listed.walk.0 listed.walk.1 listed.walk.2 listed.spares
     (ap g.S.Store.past listed.store) in
-    let at = sought files.walk.walker.tree.now (map string_bytes files.walk.operands.items) files.walk.walker.recursive
+    let at = sought files.walk.walker.tree.now (map string_bytes files.walk.operands.items) (scope_of files.walk.walker.scope)
     files.spares_output (asked_for files.walk.asked.items) past' in
     let done = c.in_ok-run.ensures.ok in
     let is = c.in_ok-run.ensures.same_list ∙ first in

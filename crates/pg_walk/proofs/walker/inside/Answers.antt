@@ -2,6 +2,7 @@ use Rattle.std.proofs.Common.{◌≡◌, ◌+◌, ◌++◌, [], List, map, Some,
 use Rattle.std.specs.String.{string_bytes}
 use Rattle.pg_walk.specs.Answers.{content_of}
 use Rattle.pg_walk.specs.Items.{Fault}
+use Rattle.pg_walk.specs.Scopes.{sights}
 use Rattle.pg_walk.specs.Places.{child}
 use Rattle.pg_walk.specs.Descent.{InsideGives}
 use Rattle.std.specs.List.{All}
@@ -16,8 +17,8 @@ use Rattle.pg_walk.proofs.WithinLemmas.{only}
 use Rattle.pg_walk.proofs.walker.inside.Goals as goal
 
 pub returns-in-Err-Failed-clause-gives : goal.returns-in-Err-Failed-clause-gives
-returns-in-Err-Failed-clause-gives g c = λ tells r.
-    let a = g.T.FileTree.answers c.args.tree.now in
+returns-in-Err-Failed-clause-gives g c = λ asked tells r.
+    let a = sights asked (g.T.FileTree.answers c.args.tree.now) in
     let path = string_bytes c.args.path in
     let content = ap a.content (sym c.as_str.ensures.value)
     ∙ (rw c.in-Err-Failed.field-0-is at c.in-Err-Failed.ensures) tells in
@@ -25,8 +26,8 @@ returns-in-Err-Failed-clause-gives g c = λ tells r.
     (spots_in c.args.waiting.now.items) (inside_fails a c.args.depth path content [] _ refl)
 
 pub returns-then-nameless-clause-gives : goal.returns-then-nameless-clause-gives
-returns-then-nameless-clause-gives g c = λ tells r.
-    let a = g.T.FileTree.answers c.args.tree.now in
+returns-then-nameless-clause-gives g c = λ asked tells r.
+    let a = sights asked (g.T.FileTree.answers c.args.tree.now) in
     let path = string_bytes c.args.path in
     let old = spots_in c.args.waiting.now.items in
     let f = content_of c.in-Ok.listing in
@@ -43,8 +44,8 @@ returns-then-nameless-clause-gives g c = λ tells r.
     (some_bad a c.args.depth path f c.if-nameless.true [] _ refl))
 
 pub returns-else-nameless-clause-gives : goal.returns-else-nameless-clause-gives
-returns-else-nameless-clause-gives g c = λ tells r.
-    let a = g.T.FileTree.answers c.args.tree.now in
+returns-else-nameless-clause-gives g c = λ asked tells r.
+    let a = sights asked (g.T.FileTree.answers c.args.tree.now) in
     let path = string_bytes c.args.path in
     let old = spots_in c.args.waiting.now.items in
     let f = content_of c.in-Ok.listing in

@@ -1,4 +1,5 @@
 use Rattle.std.proofs.lemmas.Result.{IfOk-weaker}
+use Rattle.pg_walk.specs.Scopes.{scope_of}
 use Rattle.pg_walk.proofs.walker.visit.Goals as goal
 
 pub returns-in-Operand-clause-gives : goal.returns-in-Operand-clause-gives
@@ -6,11 +7,11 @@ returns-in-Operand-clause-gives g c = λ tells. rw c.in-Operand.is (c.operand.en
 
 pub returns-in-Entry-clause-gives : goal.returns-in-Entry-clause-gives
 returns-in-Entry-clause-gives g c = λ tells.
-    rw c.in-Entry.is (IfOk-weaker c.entry.result _ _ (λ item h. h c.args.recursive) (c.entry.ensures.gives tells))
+    rw c.in-Entry.is (IfOk-weaker c.entry.result _ _ (λ item h. h c.args.scope.now.recursive) (c.entry.ensures.gives tells))
 
 pub returns-in-Operand-clause-within : goal.returns-in-Operand-clause-within
 returns-in-Operand-clause-within g c = rw c.in-Operand.is c.operand.ensures.within
 
 pub returns-in-Entry-clause-within : goal.returns-in-Entry-clause-within
 returns-in-Entry-clause-within g c =
-    rw c.in-Entry.is (IfOk-weaker c.entry.result _ _ (λ item h. h c.args.recursive) c.entry.ensures.within)
+    rw c.in-Entry.is (IfOk-weaker c.entry.result _ _ (λ item h. h (scope_of c.args.scope.now)) c.entry.ensures.within)

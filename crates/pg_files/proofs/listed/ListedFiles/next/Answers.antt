@@ -2,6 +2,7 @@ use Rattle.std.proofs.Common.{◌∙◌, None, Some, map, ap, sym, take, ◌≡�
 use Rattle.std.specs.String.{string_bytes}
 use Rattle.std.proofs.lemmas.Bool.{false≢true}
 use Rattle.std.proofs.Math.Logic.{∥∥₁_map}
+use Rattle.pg_walk.specs.Scopes.{scope_of}
 use Rattle.pg_walk.specs.Items.{found}
 use Rattle.pg_walk.specs.Left.{spots_in}
 use Rattle.pg_files.specs.Listed.{asked_for}
@@ -17,14 +18,14 @@ invariant_of-self-in_default g c =
     let answers = g.T.FileTree.answers in
     let ops = map string_bytes old.walk.operands.items in
     let asked = old.walk.asked.items in
-    let given = goes_on tells answers ops old.walk.walker.tree.now new.tree.now old.walk.walker.recursive
-    new.recursive c.next.ensures.same.0 c.next.ensures.same.1
+    let given = goes_on tells answers ops old.walk.walker.tree.now new.tree.now (scope_of old.walk.walker.scope)
+    (scope_of new.scope) c.next.ensures.same.0 (ap scope_of c.next.ensures.same.1)
     asked asked c.in_ok-item.field-0 None (spots_in old.walk.walker.waiting.items) (spots_in new.waiting.items)
     c.in_default.is (none_more asked) (old.goes_on c.if-self.false)
     (c.in_ok-item.ensures.gives ops (map found asked)) in
     record {
-      begins = same_begins tells answers ops old.walk.walker.tree.now new.tree.now old.walk.walker.recursive
-          new.recursive c.next.ensures.same.0 c.next.ensures.same.1 (map found asked) old.begins;
+      begins = same_begins tells answers ops old.walk.walker.tree.now new.tree.now (scope_of old.walk.walker.scope)
+          (scope_of new.scope) c.next.ensures.same.0 (ap scope_of c.next.ensures.same.1) (map found asked) old.begins;
       goes_on = λ _. given;
       all_asked = λ _. ∥∥₁_map given (λ h. c.what_is_given.ensures.whole ops (map found asked) h
           (c.in_ok-item.ensures.end c.in_default.is));
@@ -41,8 +42,8 @@ returns-in_default-clause-all g c = λ _.
     let answers = g.T.FileTree.answers in
     let ops = map string_bytes old.walk.operands.items in
     let asked = old.walk.asked.items in
-    let given = goes_on tells answers ops old.walk.walker.tree.now new.tree.now old.walk.walker.recursive
-    new.recursive c.next.ensures.same.0 c.next.ensures.same.1
+    let given = goes_on tells answers ops old.walk.walker.tree.now new.tree.now (scope_of old.walk.walker.scope)
+    (scope_of new.scope) c.next.ensures.same.0 (ap scope_of c.next.ensures.same.1)
     asked asked c.in_ok-item.field-0 None (spots_in old.walk.walker.waiting.items) (spots_in new.waiting.items)
     c.in_default.is (none_more asked) (old.goes_on c.if-self.false)
     (c.in_ok-item.ensures.gives ops (map found asked)) in (
@@ -65,8 +66,8 @@ invariant_of-self-2 g c =
     let past' = g.S.Store.past c.reach.new.store in
     let more : asked_for c.push.new.self.items ≡ found item ∷ asked_for asked =
     ap asked_for c.push.ensures ∙ asked_more asked item in
-    let given = goes_on tells answers ops old.walk.walker.tree.now new.tree.now old.walk.walker.recursive
-    new.recursive c.next.ensures.same.0 c.next.ensures.same.1
+    let given = goes_on tells answers ops old.walk.walker.tree.now new.tree.now (scope_of old.walk.walker.scope)
+    (scope_of new.scope) c.next.ensures.same.0 (ap scope_of c.next.ensures.same.1)
     asked c.push.new.self.items c.in_ok-item.field-0 (Some item) (spots_in old.walk.walker.waiting.items)
     (spots_in new.waiting.items) c.in-Some.is (ap (map found) c.push.ensures ∙ one_more asked item)
     (old.goes_on c.if-self.false) (c.in_ok-item.ensures.gives ops (map found asked)) in

@@ -1,5 +1,6 @@
 use Rattle.std.proofs.Common.{map, refl}
 use Rattle.std.specs.String.{string_bytes}
+use Rattle.pg_walk.specs.Scopes.{scope_of}
 use Rattle.pg_files.specs.Listed.{asked_for}
 use Rattle.pg_files.proofs.ListedLemmas.{opened_by_read, read_behind, read_by, same_sought, spared_by}
 use Rattle.pg_files.proofs.listed.ListedFiles.read.Goals as goal
@@ -15,8 +16,8 @@ returns-clause-same_list g c =
     let past = g.S.Store.past c.args.self.now.store in
     let past' = g.S.Store.past c.read.new.self in
     same_sought g.T.FileTree.tells g.T.FileTree.answers (map string_bytes c.args.self.now.walk.operands.items)
-    c.args.self.now.walk.walker.tree.now c.args.self.now.walk.walker.tree.now c.args.self.now.walk.walker.recursive
-    c.args.self.now.walk.walker.recursive refl refl c.args.self.now.spares_output asked asked past past'
+    c.args.self.now.walk.walker.tree.now c.args.self.now.walk.walker.tree.now (scope_of c.args.self.now.walk.walker.scope)
+    (scope_of c.args.self.now.walk.walker.scope) refl refl c.args.self.now.spares_output asked asked past past'
     (read_behind c.read.new.into asked past past' c.read.result c.requires.reading c.read.ensures.given)
 
 pub read-requires : goal.read-requires

@@ -1,7 +1,9 @@
-use Rattle.std.proofs.Common.{Bool, Option, List, Some, None, sym, ap, ◌∙◌, subst, append-nil}
+use Rattle.std.proofs.Common.{Option, List, Some, None, sym, ap, ◌∙◌, subst, append-nil}
 use Rattle.std.specs.Option.{option_map}
 use Rattle.pg_walk.specs.Items.{Found, found}
 use Rattle.pg_walk.specs.declared.item.Item.{Item}
+use Rattle.pg_walk.specs.Scopes.{scope_of, sights}
+use Rattle.pg_walk.specs.declared.scope.Scope.{Scope}
 use Rattle.pg_walk.specs.Left.{Spot, HasGiven, MayGive, Unfolds, UnfoldsWithin, spot_of, spots_in, spot_gives}
 use Rattle.pg_walk.proofs.Lefts.{given_more, given_same, spots_more}
 use Rattle.pg_walk.proofs.walker.Walker.next.Goals as goal
@@ -10,30 +12,31 @@ pub returns-in_default-clause-gives : goal.returns-in_default-clause-gives
 returns-in_default-clause-gives g c = λ operands items h.
     let tree = c.args.self.now.tree.now in
     let a = g.T.FileTree.answers tree in
-    let r = c.args.self.now.recursive in
-    let S : List Spot → Type 0 = λ s. HasGiven (g.T.FileTree.tells tree) a operands r items s in
+    let r = c.args.self.now.scope in
+    let S : List Spot → Type 0 = λ s. HasGiven (g.T.FileTree.tells tree) a operands (scope_of r) items s in
     let I : List Found → Type 0 = λ all.
-    HasGiven (g.T.FileTree.tells tree) a operands r all (spots_in c.pop.new.self.items) in
+    HasGiven (g.T.FileTree.tells tree) a operands (scope_of r) all (spots_in c.pop.new.self.items) in
     subst I (sym (append-nil items))
     (subst S (ap spots_in (c.in_default.ensures.items ∙ append-nil _)) (c.loop.invariant.2 operands items h))
 
 pub returns-in-Some-item-clause-gives : goal.returns-in-Some-item-clause-gives
 returns-in-Some-item-clause-gives g c = λ operands items h.
     let a = g.T.FileTree.answers c.args.self.now.tree.now in
-    let r = c.args.self.now.recursive in
+    let r = c.args.self.now.scope in
     let tree = c.args.self.now.tree.now in
-    let U : g.row.T.Denot → Bool → Option (Item g.row.A.Denot) → Type 0 = λ t b o. g.T.FileTree.tells t →
-    Unfolds (g.T.FileTree.answers t) b (spot_gives (g.T.FileTree.answers t) b (spot_of c.in-Some.next))
+    let U : g.row.T.Denot → Scope g.row.A.Denot → Option (Item g.row.A.Denot) → Type 0 = λ t b o. g.T.FileTree.tells t →
+    Unfolds (sights (scope_of b) (g.T.FileTree.answers t)) b.recursive
+    (spot_gives (sights (scope_of b) (g.T.FileTree.answers t)) b.recursive (spot_of c.in-Some.next))
     (option_map found o) (spots_in c.pop.new.self.items) (spots_in c.visit.new.waiting.items) in
-    let UP : g.row.T.Denot → Type 0 = λ t. U t c.loop.self.recursive c.in_ok-item.item in
-    let UQ : Bool → Type 0 = λ b. U tree b c.in_ok-item.item in
+    let UP : g.row.T.Denot → Type 0 = λ t. U t c.loop.self.scope c.in_ok-item.item in
+    let UQ : Scope g.row.A.Denot → Type 0 = λ b. U tree b c.in_ok-item.item in
     let UR : Option (Item g.row.A.Denot) → Type 0 = λ o. U tree r o in
-    let W : Bool → Option (Item g.row.A.Denot) → Type 0 = λ b o.
-    UnfoldsWithin b (MayGive b (spot_of c.in-Some.next)) (option_map found o) (spots_in c.pop.new.self.items)
+    let W : Scope g.row.A.Denot → Option (Item g.row.A.Denot) → Type 0 = λ b o.
+    UnfoldsWithin (scope_of b) (MayGive (scope_of b) (spot_of c.in-Some.next)) (option_map found o) (spots_in c.pop.new.self.items)
     (spots_in c.visit.new.waiting.items) in
-    let WQ : Bool → Type 0 = λ b. W b c.in_ok-item.item in
+    let WQ : Scope g.row.A.Denot → Type 0 = λ b. W b c.in_ok-item.item in
     let WR : Option (Item g.row.A.Denot) → Type 0 = λ o. W r o in
-    given_more (g.T.FileTree.tells tree) a operands r items (Some (found c.in-Some-item.item)) (spot_of c.in-Some.next)
+    given_more (g.T.FileTree.tells tree) a operands (scope_of r) items (Some (found c.in-Some-item.item)) (spot_of c.in-Some.next)
     (spots_in c.loop.self.waiting.items) (spots_in c.pop.new.self.items) (spots_in c.visit.new.waiting.items)
     (c.loop.invariant.2 operands items h)
     (ap spots_in c.in-Some.ensures.items ∙ spots_more c.pop.new.self.items c.in-Some.next)
@@ -46,21 +49,22 @@ loop-preserved g c = (
   c.loop.invariant.1,
   λ operands items h.
       let a = g.T.FileTree.answers c.args.self.now.tree.now in
-      let r = c.args.self.now.recursive in
-      given_same (g.T.FileTree.tells c.args.self.now.tree.now) a operands r items (spots_in c.visit.new.waiting.items) (
+      let r = c.args.self.now.scope in
+      given_same (g.T.FileTree.tells c.args.self.now.tree.now) a operands (scope_of r) items (spots_in c.visit.new.waiting.items) (
       let tree = c.args.self.now.tree.now in
-      let U : g.row.T.Denot → Bool → Option (Item g.row.A.Denot) → Type 0 = λ t b o. g.T.FileTree.tells t →
-      Unfolds (g.T.FileTree.answers t) b (spot_gives (g.T.FileTree.answers t) b (spot_of c.in-Some.next))
+      let U : g.row.T.Denot → Scope g.row.A.Denot → Option (Item g.row.A.Denot) → Type 0 = λ t b o. g.T.FileTree.tells t →
+      Unfolds (sights (scope_of b) (g.T.FileTree.answers t)) b.recursive
+      (spot_gives (sights (scope_of b) (g.T.FileTree.answers t)) b.recursive (spot_of c.in-Some.next))
       (option_map found o) (spots_in c.pop.new.self.items) (spots_in c.visit.new.waiting.items) in
-      let UP : g.row.T.Denot → Type 0 = λ t. U t c.loop.self.recursive c.in_ok-item.item in
-      let UQ : Bool → Type 0 = λ b. U tree b c.in_ok-item.item in
+      let UP : g.row.T.Denot → Type 0 = λ t. U t c.loop.self.scope c.in_ok-item.item in
+      let UQ : Scope g.row.A.Denot → Type 0 = λ b. U tree b c.in_ok-item.item in
       let UR : Option (Item g.row.A.Denot) → Type 0 = λ o. U tree r o in
-      let W : Bool → Option (Item g.row.A.Denot) → Type 0 = λ b o.
-      UnfoldsWithin b (MayGive b (spot_of c.in-Some.next)) (option_map found o) (spots_in c.pop.new.self.items)
+      let W : Scope g.row.A.Denot → Option (Item g.row.A.Denot) → Type 0 = λ b o.
+      UnfoldsWithin (scope_of b) (MayGive (scope_of b) (spot_of c.in-Some.next)) (option_map found o) (spots_in c.pop.new.self.items)
       (spots_in c.visit.new.waiting.items) in
-      let WQ : Bool → Type 0 = λ b. W b c.in_ok-item.item in
+      let WQ : Scope g.row.A.Denot → Type 0 = λ b. W b c.in_ok-item.item in
       let WR : Option (Item g.row.A.Denot) → Type 0 = λ o. W r o in
-      given_more (g.T.FileTree.tells tree) a operands r items (None) (spot_of c.in-Some.next)
+      given_more (g.T.FileTree.tells tree) a operands (scope_of r) items (None) (spot_of c.in-Some.next)
       (spots_in c.loop.self.waiting.items) (spots_in c.pop.new.self.items) (spots_in c.visit.new.waiting.items)
       (c.loop.invariant.2 operands items h)
       (ap spots_in c.in-Some.ensures.items ∙ spots_more c.pop.new.self.items c.in-Some.next)

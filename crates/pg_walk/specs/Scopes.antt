@@ -1,0 +1,64 @@
+-- What a walk is asked for, and what it sees of a tree by that.
+use Rattle.std.specs.Prelude.{◌≡◌, ◌||◌, Bool, if◌then◌else◌, List, Option, Some, None, Result, Ok, Err}
+use Rattle.pg_glob.specs.Filters.{Rule, leaves_out}
+use Rattle.pg_glob.specs.Views.{rules}
+use Rattle.pg_walk.specs.Answers.{Text, Content, Answers}
+use Rattle.pg_walk.specs.declared.scope.Scope.{Scope as ScopeOfCode}
+use Rattle.pg_walk.specs.declared.tree.FileKind.{FileKind}
+use Rattle.pg_walk.specs.declared.tree.FileKind.TheVariants.{Regular, Directory, Link, Other}
+use Rattle.pg_walk.specs.declared.tree.LookFault.{LookFault}
+use Rattle.pg_walk.specs.declared.tree.LookFault.TheVariants.{Failed, OutOfMemory}
+
+-- Whether directories are visited, which files are left out, and which directories, with all that is in them.
+pub record Scope : Type 0 where
+  pub recursive : Bool
+  pub files : List Rule
+  pub directories : List Rule
+
+abbrev pub scope_of : {A : Type 0} → ScopeOfCode A → Scope
+scope_of scope = record {
+  recursive = scope.recursive;
+  files = rules scope.files;
+  directories = rules scope.directories;
+}
+
+-- what stands at a path is left out: a directory by the rules for directories, and anything else by those for files
+abbrev pub is_left_out : Scope → Bool → Text → FileKind → Bool
+is_left_out scope operand path Regular = leaves_out scope.files operand path
+is_left_out scope operand path Directory = leaves_out scope.directories operand path
+is_left_out scope operand path Link = leaves_out scope.files operand path
+is_left_out scope operand path Other = leaves_out scope.files operand path
+
+-- an operand may be left out
+abbrev pub may_leave_out : Scope → Text → Bool
+may_leave_out scope operand = leaves_out scope.files Bool.true operand || leaves_out scope.directories Bool.true operand
+
+-- what is seen at a path: what stands there, what is left out, or nothing that could be told
+pub data Sight : Type 0 where
+  Is : FileKind → Sight
+  IsLeftOut : Sight
+  IsUntold : Sight
+
+-- A tree as a walk sees it: at each path what is there, with links followed where the flag is true, and what the
+-- directory there holds.
+pub record Sights : Type 0 where
+  pub kind : Text → Bool → Sight
+  pub content : Text → Option Content
+
+abbrev pub sight : Scope → Bool → Text → Option FileKind → Sight
+sight scope operand path None = IsUntold
+sight scope operand path (Some kind) = if is_left_out scope operand path kind then IsLeftOut else Is kind
+
+-- what is seen of a tree that answers so; links are followed at operands alone
+abbrev pub sights : Scope → Answers → Sights
+sights scope a = record {
+  kind = λ path follow. sight scope follow path (a.kind path follow);
+  content = a.content;
+}
+
+-- a look gave what is seen, unless the tree was out of memory
+abbrev pub TellsSight : Sight → Result (Option FileKind) LookFault → Type 0
+TellsSight seen (Ok (Some kind)) = seen ≡ Is kind
+TellsSight seen (Ok None) = seen ≡ IsLeftOut
+TellsSight seen (Err Failed) = seen ≡ IsUntold
+TellsSight seen (Err OutOfMemory) = Unit {0}
