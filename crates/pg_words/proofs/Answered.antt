@@ -1,10 +1,12 @@
 -- A parse gives what was asked, or refuses it.
 use Rattle.std.proofs.Common.{◌≡◌, ◌∙◌, ap, refl, sym, subst, true, false, true≢false, Bool, List, [], ◌∷◌, Option}
-use Rattle.std.proofs.Common.{Some, None}
+use Rattle.std.proofs.Common.{Some, None, ap₂, length, ℕ, ◌+◌, Result, Ok}
 use Rattle.std.proofs.Common.{All, IsUtf8, map, arith, zero, suc, codes, ⊎_elim, String}
 use Rattle.std.proofs.Common.{Global}
 use Rattle.std.specs.Prelude.{unwrap_or}
+use Rattle.std.specs.Result.{result_err}
 use Rattle.std.specs.String.{string_bytes}
+use Rattle.std.proofs.lemmas.List.{length-map}
 use Rattle.std.proofs.lemmas.Str.{IsUtf8-string_bytes}
 use Rattle.clap.specs.Faults.{fault_of}
 use Rattle.clap.specs.Simple.{matches_of}
@@ -12,11 +14,18 @@ use Rattle.clap.specs.Walk.{all_of, one_of, rows_of}
 use Rattle.clap.specs.declared.parser.matches.Found.{Found as Matches}
 use Rattle.clap.proofs.WalkLemmas.{one_text-rows, raw_values-rows}
 use Rattle.pg_words.specs.App.{our_app}
-use Rattle.pg_words.specs.Asks.{asks_of}
-use Rattle.pg_words.specs.Found.{Flags, IsFound}
+use Rattle.pg_words.specs.Asked.{asked_of, pace_of}
+use Rattle.pg_words.specs.Asks.{AsksSearch, asked_in, asks_of, fault_in, files_in, options_in, pace_in, search_or}
+use Rattle.pg_words.specs.Asks.{texts_in}
+use Rattle.pg_words.specs.Found.{AreSources, Flags, IsFound}
 use Rattle.pg_words.specs.Gives.{IsFault, IsRefusal}
 use Rattle.pg_words.specs.Joined.{asked, complete}
-use Rattle.pg_words.specs.Line.{Text, Use, Uses, is_given, table}
+use Rattle.pg_words.specs.Line.{Text, Use, Uses, is_given, table, values_of}
+use Rattle.pg_words.specs.Usage.{usage_fault}
+use Rattle.pg_words.specs.declared.operands.Sources.{Sources}
+use Rattle.pg_words.specs.declared.options.Options.{Options}
+use Rattle.pg_words.specs.declared.request.Request.{Request}
+use Rattle.pg_words.specs.declared.usage.UsageFault.{UsageFault}
 use Rattle.pg_words.specs.declared.words.WordsFault.{WordsFault}
 use Rattle.pg_words.specs.declared.words.WordsFault.TheVariants as fault
 use Rattle.pg_words.proofs.Found.{IsRow, ascii_letters, end_rows, flag_named, letter_ids, name_ids, number_named}
@@ -87,3 +96,29 @@ pub flag_is : (o : Option Text) (b given : Bool) → (o ≡ None → b ≡ false
     → (o ≡ Some (codes "false") → b ≡ false) → Flags o given → b ≡ given
 flag_is o b true none on off h = on h
 flag_is o b false none on off h = ⊎_elim none off h
+
+-- ---- a search
+
+pub no_fault : (us : List Use) (options : Options) (sources : Sources) (checked : Result (Unit {0}) UsageFault)
+    → options ≡ options_in us → AreSources us sources → checked ≡ Ok tt
+    → result_err checked ≡ usage_fault options (length sources.texts.now + length sources.pattern_files.now)
+    (length sources.files.now)
+    → fault_in us ≡ None
+no_fault us options sources checked same are passed exact =
+    let texts : length sources.texts.now ≡ length (texts_in us) =
+    sym (length-map sources.texts.now (λ text. text.now)) ∙ ap length are.texts in
+    let patterns : length sources.pattern_files.now ≡ length (values_of (codes "file") us) =
+    sym (length-map sources.pattern_files.now (λ path. path.now)) ∙ ap length are.pattern_files in
+    let files : length sources.files.now ≡ length (files_in us) =
+    sym (length-map sources.files.now (λ path. path.now)) ∙ ap length are.files in
+    sym (ap (λ (o : Options). usage_fault o (length sources.texts.now + length sources.pattern_files.now)
+    (length sources.files.now)) same
+    ∙ (ap₂ (λ (n m : ℕ). usage_fault (options_in us) (n + m) (length sources.files.now)) texts patterns
+    ∙ ap (λ (n : ℕ). usage_fault (options_in us) (length (texts_in us) + length (values_of (codes "file") us)) n)
+    files))
+    ∙ (sym exact ∙ ap result_err passed)
+
+pub search_is : (us : List Use) (request : Request) → fault_in us ≡ None
+    → (asked_of request ≡ asked_in us) × (pace_of request ≡ pace_in us)
+    → search_or us (fault_in us) ≡ AsksSearch (asked_of request) (pace_of request)
+search_is us request none same = ap (search_or us) none ∙ sym (ap₂ AsksSearch same.0 same.1)

@@ -1,9 +1,6 @@
 -- The option that says last whether case is ignored.
 use Rattle.std.proofs.Common.{◌≡◌, ◌∙◌, ap, refl, sym, true, false, not, ℕ, Bool, List, [], ◌∷◌, ◌++◌, Option}
-use Rattle.std.proofs.Common.{Some, None, cond, find, codes, eqb-true, option_and_then, ◌||◌, ◌&&◌, ◌==◌, map}
-use Rattle.std.proofs.Common.{◌+◌, ◌<◌, ◌≤◌, add-one, drop, drop-cons, get_or, length, String, Global}
-use Rattle.std.specs.String.{string_bytes}
-use Rattle.std.proofs.lemmas.List.{drop_all}
+use Rattle.std.proofs.Common.{Some, None, cond, codes, eqb-true, option_and_then, ◌||◌, ◌&&◌, ◌==◌, map}
 use Rattle.std.specs.Prelude.{unwrap_or}
 use Rattle.std.specs.List.{after_first, list_all, list_any}
 use Rattle.std.specs.Option.{option_map_or}
@@ -13,14 +10,12 @@ use Rattle.clap.specs.Lexer.{has_byte, long_of, long_of_rest, name_and_value, sh
 use Rattle.clap.specs.Walk.{attached_value}
 use Rattle.clap.proofs.LexerLemmas.{name_and_value-without}
 use Rattle.clap.proofs.WalkLemmas.{both}
-use Rattle.pg_words.specs.Joined.{asked, case_letters, letter, letters, long, long_word, short_word, takes_value, word}
+use Rattle.pg_words.specs.Joined.{case_letters, letter, letters, long, long_word, short_word, takes_value, word}
 use Rattle.pg_words.specs.Line.{Text, Opt, Use, Given, Operand, Uses, by_letter, by_name, case_after, case_by, fits}
-use Rattle.pg_words.specs.Line.{has_value, is_mark, table, then_uses, valued}
+use Rattle.pg_words.specs.Line.{has_value, table, then_uses, valued}
 use Rattle.pg_words.proofs.Found.{find_holds}
 use Rattle.pg_words.proofs.Joins.{lacks}
-
-some_is : (us vs : List Use) → Some us ≡ Some vs → us ≡ vs
-some_is us vs e = ap (λ (o : Uses). unwrap_or o us) e
+use Rattle.pg_words.proofs.Passes.{IsPass, found_passes, some_is}
 
 case_both : (us vs : List Use) (before : Bool) → case_after (us ++ vs) before ≡ case_after vs (case_after us before)
 case_both [] vs before = refl
@@ -53,16 +48,6 @@ is_told o = by_its_letter o.letter o.name && (cond (has_value o) (is_silent o.na
 
 all_told : list_all is_told table ≡ true
 all_told = refl
-
-found_told : (q : Opt → Bool) (os : List Opt) (o : Opt) → list_all is_told os ≡ true → find q os ≡ Some o
-    → is_told o ≡ true
-found_told q [] o all e = cc
-found_told q (x ∷ os) o all e = go (q x) (both (is_told x) (list_all is_told os) all) e (found_told q os o)
-  where
-    go : (b : Bool) → (is_told x ≡ true) × (list_all is_told os ≡ true) → cond b (Some x) (find q os) ≡ Some o
-        → (list_all is_told os ≡ true → find q os ≡ Some o → is_told o ≡ true) → is_told o ≡ true
-    go true told e later = ap is_told (sym (ap (λ (p : Option Opt). unwrap_or p o) e)) ∙ told.0
-    go false told e later = later told.1 e
 
 silent_is : (name : Text) (b : Bool) → is_silent name ≡ true → case_by name b ≡ b
 silent_is name true e = (both (case_by name true) (same (case_by name false) false) e).0
@@ -147,7 +132,7 @@ module _ (x : ℕ) (rest : Text) (us : List Use) (before : Bool) where
   letter_tells None is later e = cc
   letter_tells (Some o) is later e =
       let here : Opt → Bool = λ p. option_map_or (λ letter. letter == x) p.letter false in
-      go (has_value o) refl (found_told here table o all_told is) (find_holds here table o is) e
+      go (has_value o) refl (found_passes is_told here table o all_told is) (find_holds here table o is) e
     where
       attached : (v : Option Text) → is_told o ≡ true → has_value o ≡ true → option_and_then (valued o) v ≡ Some us
           → case_after us before ≡ before
@@ -192,18 +177,19 @@ long_says (Some o) name None us before is other e = go (has_value o) e
     go : (b : Bool) → cond b None (Some (Given o [] ∷ [])) ≡ Some us → case_after us before ≡ before
     go true e = cc
     go false e = ap (λ (l : List Use). case_after l before) (sym (some_is (Given o [] ∷ []) us e))
-        ∙ (name_says o (found_told here table o all_told is) name before (find_holds here table o is) ∙ other refl)
+        ∙ (name_says o (found_passes is_told here table o all_told is) name before (find_holds here table o is)
+        ∙ other refl)
 long_says (Some o) name (Some v) us before is other e = go (has_value o) refl e
   where
     here : Opt → Bool
     here p = bytes_eq p.name name || list_any (λ other. bytes_eq other name) p.others
 
     go : (b : Bool) → has_value o ≡ b → cond b (valued o v) None ≡ Some us → case_after us before ≡ before
-    go true has e = valued_says o v us before (found_told here table o all_told is) has e
+    go true has e = valued_says o v us before (found_passes is_told here table o all_told is) has e
     go false has e = cc
 
 -- a word behind two hyphens
-long_has : (w : Text) (p : Text × Option Text) → long_of w ≡ Some p → (x : ℕ) × (t : Text) × (w ≡ 45 ∷ 45 ∷ x ∷ t)
+pub long_has : (w : Text) (p : Text × Option Text) → long_of w ≡ Some p → (x : ℕ) × (t : Text) × (w ≡ 45 ∷ 45 ∷ x ∷ t)
     × (p ≡ name_and_value (x ∷ t))
 long_has [] p e = cc
 long_has (d ∷ w) p e = go w (d == 45) refl e
@@ -301,61 +287,5 @@ operands_silent : (ws : List Text) (before : Bool) → case_after (map Operand w
 operands_silent [] before = refl
 operands_silent (w ∷ ws) before = operands_silent ws before
 
-module _ (w : Text) (ws : List Text) (ignored said : Bool) (vs : List Use) (is : asked table (w ∷ ws) ≡ Some vs)
-    (so_far : case_after vs ignored ≡ said) where
-  -- nothing behind `--`
-  pub case_stops : is_mark w ≡ true → ignored ≡ said
-  unfolding asked
-  case_stops mark =
-      let all : map Operand ws ≡ vs = some_is (map Operand ws) vs (rw mark at is) in
-      sym (operands_silent ws ignored) ∙ (ap (λ (l : List Use). case_after l ignored) all ∙ so_far)
-
-  -- behind one more word
-  pub case_next : (next : Bool) → is_mark w ≡ false
-      → ((us : List Use) → word table w ≡ Some us → next ≡ case_after us ignored)
-      → (us : List Use) × (asked table ws ≡ Some us) × (case_after us next ≡ said)
-  unfolding asked
-  case_next next mark says = go (word table w) refl (asked table ws) refl (rw mark at is)
-    where
-      go : (U : Uses) → word table w ≡ U → (V : Uses) → asked table ws ≡ V → then_uses U V ≡ Some vs
-          → (us : List Use) × (asked table ws ≡ Some us) × (case_after us next ≡ said)
-      go None here V later e = cc
-      go (Some us) here None later e = cc
-      go (Some us) here (Some rest) later e = (
-        rest,
-        later,
-        ap (case_after rest) (says us here) ∙ (sym (case_both us rest ignored)
-            ∙ (ap (λ (l : List Use). case_after l ignored) (some_is (us ++ rest) vs e) ∙ so_far)),
-      )
-
-pub case_ends : (ignored said : Bool) (vs : List Use) → asked table [] ≡ Some vs → case_after vs ignored ≡ said
-    → ignored ≡ said
-unfolding asked
-case_ends ignored said vs is so_far = ap (λ (l : List Use). case_after l ignored) (some_is [] vs is) ∙ so_far
-
-next_word : (words : List (String Global)) (i : ℕ) (d : String Global) (w : Text) → i < length words
-    → w ≡ string_bytes (get_or words i d)
-    → map string_bytes (drop i words) ≡ w ∷ map string_bytes (drop (i + 1) words)
-next_word words i d w within is = rw (add-one, drop-cons words i d within, is) refl
-
-module _ (words : List (String Global)) (i : ℕ) (d : String Global) (w : Text) (ignored said : Bool) (vs : List Use)
-    (within : i < length words) (is : w ≡ string_bytes (get_or words i d))
-    (left : asked table (map string_bytes (drop i words)) ≡ Some vs) (so_far : case_after vs ignored ≡ said) where
-  here : asked table (w ∷ map string_bytes (drop (i + 1) words)) ≡ Some vs
-  here = ap (asked table) (sym (next_word words i d w within is)) ∙ left
-
-  pub stops_there : is_mark w ≡ true → ignored ≡ said
-  stops_there mark = case_stops w (map string_bytes (drop (i + 1) words)) ignored said vs here so_far mark
-
-  pub one_more : (next : Bool) → is_mark w ≡ false
-      → ((us : List Use) → word table w ≡ Some us → next ≡ case_after us ignored)
-      → (us : List Use) × (asked table (map string_bytes (drop (i + 1) words)) ≡ Some us)
-      × (case_after us next ≡ said)
-  one_more next mark says =
-      case_next w (map string_bytes (drop (i + 1) words)) ignored said vs here so_far next mark says
-
-pub all_said : (words : List (String Global)) (i : ℕ) (ignored said : Bool) (vs : List Use) → length words ≤ i
-    → asked table (map string_bytes (drop i words)) ≡ Some vs → case_after vs ignored ≡ said → ignored ≡ said
-all_said words i ignored said vs past left so_far =
-    case_ends ignored said vs
-    (ap (λ (l : List (String Global)). asked table (map string_bytes l)) (sym (drop_all i words past)) ∙ left) so_far
+pub case_passes : IsPass Bool case_after
+case_passes = record { both = case_both; operands = operands_silent; nothing = λ before. refl }

@@ -1,11 +1,13 @@
 pub mod Answered
 pub mod Cases
 pub mod Cuts
+pub mod FilterWords
 pub mod Found
 pub mod Joins
 pub mod Level
 pub mod Numbers
 pub mod Ours
+pub mod Passes
 pub mod Rows
 pub mod Rules
 pub mod Spells

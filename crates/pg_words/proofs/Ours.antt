@@ -81,7 +81,16 @@ all_rows = (
                                                                         (refl, refl, refl, refl),
                                                                         (
                                                                           (refl, refl, refl, refl),
-                                                                          tt,
+                                                                          (
+                                                                            (refl, refl, refl, refl),
+                                                                            (
+                                                                              (refl, refl, refl, refl),
+                                                                              (
+                                                                                (refl, refl, refl, refl),
+                                                                                tt,
+                                                                              ),
+                                                                            ),
+                                                                          ),
                                                                         ),
                                                                       ),
                                                                     ),

@@ -3,11 +3,13 @@ use Rattle.std.specs.Prelude.{ℕ, Bool, List}
 use Rattle.pg_syntax.specs.Slices.{bytes_of}
 use Rattle.pg_syntax.specs.declared.pattern_list.Kind.{Kind}
 use Rattle.pg_rows.specs.declared.format.Format.{Format}
+use Rattle.pg_words.specs.Filters.{filters_of}
 use Rattle.pg_words.specs.declared.options.Naming.{Naming}
 use Rattle.pg_words.specs.declared.request.Request.{Request}
 
 -- the syntax of the patterns, the -e texts, the paths of the -f files, the options -i, -x, -w, -v, -z and -o, how rows
--- look and when they have names, the FILE operands, and the options -r and -s
+-- look and when they have names, the FILE operands, the option -r, the patterns of --include (true) and --exclude (false)
+-- in their order, those of --exclude-dir, and the option -s
 pub record Asked : Type 0 where
   pub kind : Kind
   pub texts : List (List ℕ)
@@ -22,6 +24,8 @@ pub record Asked : Type 0 where
   pub names : Naming
   pub files : List (List ℕ)
   pub recursive : Bool
+  pub filters : List (Bool × List ℕ)
+  pub excluded : List (List ℕ)
   pub silent : Bool
 
 -- by how many threads, in which blocks and rounds it is done, and when rows are sent on
@@ -48,6 +52,8 @@ asked_of request = record {
   names = request.names;
   files = bytes_of request.files.items;
   recursive = request.recursive;
+  filters = filters_of request.filters.items;
+  excluded = bytes_of request.excluded.items;
   silent = request.silent;
 }
 

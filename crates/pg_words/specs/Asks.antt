@@ -1,11 +1,12 @@
 -- What the words of a command line ask for.
-use Rattle.std.specs.Prelude.{ℕ, ◌+◌, ◌||◌, Bool, not, if◌then◌else◌, List, codes, length, take, drop, Option, Some, None}
-use Rattle.std.specs.Prelude.{option_map, unwrap_or}
+use Rattle.std.specs.Prelude.{ℕ, ◌+◌, ◌||◌, Bool, not, if◌then◌else◌, List, codes, length, take, drop, Option, Some}
+use Rattle.std.specs.Prelude.{None, option_map, unwrap_or}
 use Rattle.std.specs.List.{list_any}
 use Rattle.std.specs.Str.{bytes_eq}
 use Rattle.std.specs.Str.Parse.{digits_value, without_leading_sign}
 use Rattle.pg_words.specs.Asked.{Asked, Pace}
-use Rattle.pg_words.specs.Line.{Text, Use, Uses, ignores_case, is_given, last_value, operands_of, some_text, values_of}
+use Rattle.pg_words.specs.Line.{Text, Use, Uses, filters_in, ignores_case, is_given, last_value, operands_of, some_text}
+use Rattle.pg_words.specs.Line.{values_of}
 use Rattle.pg_words.specs.Operands.{searched}
 use Rattle.pg_words.specs.Spelled.{uses_in}
 use Rattle.pg_words.specs.Options.{format_of, kind_of, naming_of}
@@ -81,6 +82,8 @@ asked_in us = record {
   names = naming_of (options_in us);
   files = searched (files_in us);
   recursive = is_given (codes "recursive") us;
+  filters = filters_in us;
+  excluded = values_of (codes "exclude-dir") us;
   silent = is_given (codes "no-messages") us;
 }
 

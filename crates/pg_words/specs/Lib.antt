@@ -1,6 +1,7 @@
 pub mod App
 pub mod Asked
 pub mod Asks
+pub mod Filters
 pub mod Found
 pub mod Gives
 pub mod Joined

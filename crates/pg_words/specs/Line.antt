@@ -61,6 +61,9 @@ table = record (opt (codes "q") (codes "quiet") Nothing) { others = codes "silen
     ∷ opt (codes "B") (codes "before-context") (Number 0 65535)
     ∷ opt (codes "C") (codes "context") (Number 0 65535)
     ∷ opt (codes "r") (codes "recursive") Nothing
+    ∷ opt [] (codes "include") AnyText
+    ∷ opt [] (codes "exclude") AnyText
+    ∷ opt [] (codes "exclude-dir") AnyText
     ∷ opt (codes "s") (codes "no-messages") Nothing
     ∷ opt (codes "a") (codes "text") Nothing
     ∷ opt (codes "U") (codes "binary") Nothing
@@ -208,6 +211,18 @@ case_after (Operand v ∷ us) before = case_after us before
 -- case is ignored
 abbrev pub ignores_case : List Use → Bool
 ignores_case us = case_after us false
+
+-- --include keeps the files whose name this pattern matches, and --exclude leaves them out
+abbrev pub filter_by : Text → Text → List (Bool × Text)
+filter_by name v =
+    if bytes_eq name (codes "include") then (true, v) ∷ []
+    else (if bytes_eq name (codes "exclude") then (false, v) ∷ [] else [])
+
+-- the patterns of --include and --exclude, in their order
+abbrev pub filters_in : List Use → List (Bool × Text)
+filters_in [] = []
+filters_in (Given o v ∷ us) = filter_by o.name v ++ filters_in us
+filters_in (Operand v ∷ us) = filters_in us
 
 -- the last of the texts, or this one where there is none
 abbrev pub last_of : List Text → Option Text → Option Text

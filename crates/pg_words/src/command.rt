@@ -59,9 +59,9 @@ pub(crate) struct OptionRow(Names, &'static str, Behind);
 
 /// The options, and the operands: PATTERN, where neither -e nor -f is given, and each FILE. Of names that are equally
 /// close to a wrong one `clap` proposes the last. -G is read by nobody: it asks for what is taken without -E and -F,
-/// and has no effect beside them. Nor are -a and -U, for every file is text. --always-spread serves tests alone, so that
-/// neither --help nor the manual page names it. -P is known to be refused with what to do instead.
-static OPTIONS: [OptionRow; 38] = [
+/// and has no effect beside them. Nor are -a and -U, for every file is text. --always-spread serves tests alone, so
+/// that neither --help nor the manual page names it. -P is known to be refused with what to do instead.
+static OPTIONS: [OptionRow; 41] = [
     OptionRow(Names::Letter('q', &["silent"]), "quiet", Behind::Nothing),
     OptionRow(Names::Letter('E', &[]), "extended-regexp", Behind::Nothing),
     OptionRow(Names::Letter('F', &[]), "fixed-strings", Behind::Nothing),
@@ -112,6 +112,9 @@ static OPTIONS: [OptionRow; 38] = [
         Behind::Number(0, MAX_BEFORE),
     ),
     OptionRow(Names::Letter('r', &[]), "recursive", Behind::Nothing),
+    OptionRow(Names::Long, "include", Behind::Text("GLOB")),
+    OptionRow(Names::Long, "exclude", Behind::Text("GLOB")),
+    OptionRow(Names::Long, "exclude-dir", Behind::Text("GLOB")),
     OptionRow(Names::Letter('s', &[]), "no-messages", Behind::Nothing),
     OptionRow(Names::Letter('a', &[]), "text", Behind::Nothing),
     OptionRow(Names::Letter('U', &[]), "binary", Behind::Nothing),

@@ -43,6 +43,9 @@ Output:
 
 Files:
   -r, --recursive            search the files below each directory
+      --include=GLOB         search only files whose name matches GLOB
+      --exclude=GLOB         leave out files whose name matches GLOB
+      --exclude-dir=GLOB     leave out directories whose name matches GLOB
   -s, --no-messages          suppress messages about unreadable files
   -a, --text                 no effect: every file is text
   -U, --binary               no effect either, and so has

@@ -7,6 +7,7 @@
 
 mod case;
 mod command;
+mod filters;
 mod help;
 mod matches;
 mod operands;
@@ -19,7 +20,7 @@ mod words;
 
 pub use help::{HELP, VERSION};
 pub use options::{Naming, Options};
-pub use request::Request;
+pub use request::{FileFilter, Request};
 pub use split::Words;
 pub use usage::{UsageFault, check_usage};
 pub use words::{Task, WordsFault, read_words};

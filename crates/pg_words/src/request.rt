@@ -6,6 +6,15 @@ use crate::options::Naming;
 use pg_rows::Format;
 use pg_syntax::Kind;
 
+/// A pattern for names of files: of --include, or of --exclude.
+#[derive(Clone, Copy)]
+pub struct FileFilter<'a> {
+    /// Whether it is of --include: the files whose name it matches are kept. Else they are left out.
+    pub keeps: bool,
+    /// The pattern.
+    pub glob: &'a str,
+}
+
 /// What the words ask for.
 #[derive(Drop)]
 pub struct Request<'a> {
@@ -35,6 +44,10 @@ pub struct Request<'a> {
     pub files: Vec<&'a str>,
     /// -r: directories are visited.
     pub recursive: bool,
+    /// The patterns of --include and --exclude in their order: which files are searched.
+    pub filters: Vec<FileFilter<'a>>,
+    /// The patterns of --exclude-dir in their order: which directories aren't visited.
+    pub excluded: Vec<&'a str>,
     /// -s: nothing is told of files that can't be searched.
     pub silent: bool,
     /// --line-buffered: rows are sent on as each block, or round of blocks, was searched.

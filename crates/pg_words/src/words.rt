@@ -5,19 +5,21 @@ ghost use Rattle.clap.specs.Words.{found_of, kind_of};
 ghost use Rattle.pg_syntax.specs.Slices.{bytes_of};
 ghost use Rattle.pg_words.specs.Asked.{asked_of, pace_of};
 ghost use Rattle.pg_words.specs.Asks.{asked_in, asks_of, fault_in, files_in, options_in, pace_in, search_or, texts_in};
+ghost use Rattle.pg_words.specs.Filters.{filters_of};
 ghost use Rattle.pg_words.specs.Found.{AreSources, IsFound};
 ghost use Rattle.pg_words.specs.Gives.{Gives, IsRefusal};
 ghost use Rattle.pg_words.specs.Joined.{asked};
-ghost use Rattle.pg_words.specs.Line.{ignores_case, table, values_of, Use};
+ghost use Rattle.pg_words.specs.Line.{filters_in, ignores_case, table, values_of, Use};
 ghost use Rattle.pg_words.specs.Operands.{searched};
 ghost use Rattle.pg_words.specs.declared.words.WordsFault.TheVariants.{OutOfMemory, Usage};
 
 use crate::case::ignores_case;
 use crate::command::{MAX_BLOCK, MAX_ROUND, MAX_WORKERS, search_command};
+use crate::filters::filters_of;
 use crate::matches::{flag, number_within, options_of, values_of};
 use crate::operands::{Sources, place_operands, searched_files};
 use crate::options::Options;
-use crate::request::Request;
+use crate::request::{FileFilter, Request};
 use crate::split::Words;
 use crate::usage::{UsageFault, check_usage};
 use clap::error::ErrorKind;
@@ -81,9 +83,10 @@ impl<T: Drop> From<AllocFailed<T>> for WordsFault {
 ///
 /// `pargrep [options] [PATTERN] [FILE ...]`: PATTERN is the first operand where neither -e nor -f is
 /// given. Options may stand behind operands, until `--`. Of an option that is given twice the last
-/// one counts, and of -i and --no-ignore-case too; -e and -f collect. -C gives the lines before and after where
-/// -B or -A doesn't. -y is -i, and digits among letters are -C with that number. -G has no effect beside -E or -F,
-/// and -a, -U and --binary-files=text have none at all.
+/// one counts, and of -i and --no-ignore-case too; -e, -f and --exclude-dir collect, and --include and --exclude
+/// together, in one order. -C gives the lines before and after where -B or -A doesn't. -y is -i, and digits among
+/// letters are -C with that number. -G has no effect beside -E or -F, and -a, -U and --binary-files=text have none
+/// at all.
 ///
 /// The long names are GNU grep's, written out, and --workers, --block and --round. --help comes before
 /// --version, and both come before a fault that [`check_usage`] finds.
@@ -99,7 +102,10 @@ pub fn read_words<'a>(alloc: Global, words: &'a Words) -> Result<Task<'a>, Words
 {
     let command = search_command(alloc)?;
     match command.try_get_matches_from(words.as_slice()) {
-        Ok(found) => task_of(alloc, &found, ignores_case(words.as_slice())),
+        Ok(found) => {
+            let filters = filters_of(alloc, words.as_slice())?;
+            task_of(alloc, &found, ignores_case(words.as_slice()), filters)
+        }
         Err(error) => Err(refusal(alloc, &error)),
     }
 }
@@ -118,10 +124,16 @@ fn refusal(alloc: Global, error: &Error) -> WordsFault
     }
 }
 
-/// --help before --version, and both before a search, in which case is ignored or not.
-fn task_of<'a>(alloc: Global, found: &ArgMatches<'a>, fold: bool) -> Result<Task<'a>, WordsFault>
+/// --help before --version, and both before a search, in which case is ignored or not and these filters say which files
+/// are searched.
+fn task_of<'a>(
+    alloc: Global,
+    found: &ArgMatches<'a>,
+    fold: bool,
+    filters: Vec<FileFilter<'a>>,
+) -> Result<Task<'a>, WordsFault>
     ensures { (us : List Use) → IsFound us (found_of found.now) → fold ≡ ignores_case us
-        → Gives (asks_of (Some us)) result }
+        → filters_of filters.entry.items ≡ filters_in us → Gives (asks_of (Some us)) result }
 {
     if flag(found, "help") {
         return Ok(Task::Help);
@@ -129,7 +141,13 @@ fn task_of<'a>(alloc: Global, found: &ArgMatches<'a>, fold: bool) -> Result<Task
     if flag(found, "version") {
         return Ok(Task::Version);
     }
-    search_of(alloc, found, &options_of(found, fold), sources_of(found))
+    search_of(
+        alloc,
+        found,
+        &options_of(found, fold),
+        sources_of(found),
+        filters,
+    )
 }
 
 /// What the words name.
@@ -149,32 +167,46 @@ fn search_of<'a>(
     found: &ArgMatches<'a>,
     options: &Options,
     sources: Sources<'_, 'a>,
+    filters: Vec<FileFilter<'a>>,
 ) -> Result<Task<'a>, WordsFault>
     ensures { (us : List Use) → IsFound us (found_of found.now) → options.now ≡ options_in us
-        → AreSources us sources.entry → Gives (search_or us (fault_in us)) result }
+        → AreSources us sources.entry → filters_of filters.entry.items ≡ filters_in us
+        → Gives (search_or us (fault_in us)) result }
 {
     check_usage(options, sources.texts, sources.pattern_files, sources.files)?;
     let texts = Vec::from_slice(alloc, sources.texts)?;
     let pattern_files = Vec::from_slice(alloc, sources.pattern_files)?;
     let files = searched_files(alloc, sources.files)?;
-    let request = build_request(found, options, texts, pattern_files, files);
+    let excluded = Vec::from_slice(alloc, values_of(found, "exclude-dir"))?;
+    let request = build_request(
+        found,
+        options,
+        texts,
+        pattern_files,
+        files,
+        filters,
+        excluded,
+    );
     Ok(Task::Search(request))
 }
 
-/// The search with these options, texts and files of patterns, and files that are searched. `clap` has refused numbers
-/// out of range.
+/// The search with these options, texts and files of patterns, files that are searched, filters of files, and
+/// directories that aren't visited. `clap` has refused numbers out of range.
 fn build_request<'a>(
     found: &ArgMatches<'a>,
     options: &Options,
     texts: Vec<&'a str>,
     pattern_files: Vec<&'a str>,
     files: Vec<&'a str>,
+    filters: Vec<FileFilter<'a>>,
+    excluded: Vec<&'a str>,
 ) -> Request<'a>
     requires some_pattern { 0 < vec_len texts + vec_len pattern_files }
     requires some_file { 0 < vec_len files }
     ensures { (us : List Use) → IsFound us (found_of found.now) → options.now ≡ options_in us
         → bytes_of texts.entry.items ≡ texts_in us → bytes_of pattern_files.entry.items ≡ values_of (codes "file") us
-        → bytes_of files.entry.items ≡ searched (files_in us)
+        → bytes_of files.entry.items ≡ searched (files_in us) → filters_of filters.entry.items ≡ filters_in us
+        → bytes_of excluded.entry.items ≡ values_of (codes "exclude-dir") us
         → (asked_of result ≡ asked_in us) × (pace_of result ≡ pace_in us) }
 {
     Request {
@@ -191,6 +223,8 @@ fn build_request<'a>(
         names: options.naming(),
         files,
         recursive: options.recursive,
+        filters,
+        excluded,
         silent: flag(found, "no-messages"),
         line_buffered: flag(found, "line-buffered"),
         workers: number_within(found, "workers", DEFAULT_WORKERS, MAX_WORKERS),

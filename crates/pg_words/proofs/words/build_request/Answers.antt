@@ -2,7 +2,7 @@ use Rattle.std.proofs.Common.{refl}
 use Rattle.pg_words.proofs.words.build_request.Goals as goal
 
 pub returns : goal.returns
-returns c = λ us is options texts patterns files.
+returns c = λ us is options texts patterns files filters excluded.
     let o = options in (
       rw (
         c.kind.ensures,
@@ -12,6 +12,8 @@ returns c = λ us is options texts patterns files.
         texts,
         patterns,
         files,
+        filters,
+        excluded,
         c.flag.ensures us is refl,
         c.flag-2.ensures us is refl,
         c.flag-3.ensures us is refl,

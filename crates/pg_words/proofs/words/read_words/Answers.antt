@@ -12,8 +12,8 @@ use Rattle.pg_words.proofs.Answered.{gives, out_of_memory, refused_words, refuse
 use Rattle.pg_words.proofs.Rules.{ours_is_simple}
 use Rattle.pg_words.proofs.words.read_words.Goals as goal
 
-pub returns-in-Ok : goal.returns-in-Ok
-returns-in-Ok c =
+pub returns-in_ok-filters-in-Ok : goal.returns-in_ok-filters-in-Ok
+returns-in_ok-filters-in-Ok c =
     let parts = c.args.words.now.parts.items in
     let ws = map string_bytes parts in
     let is_app : app_of c.in_ok-command.command ≡ our_app = c.in_ok-command.ensures in
@@ -28,7 +28,10 @@ returns-in-Ok c =
     ∙ (ap (λ (a : App). matches_of a (map string_bytes c.as_slice.result.now)) is_app ∙ ap (matches_of our_app) same) in
     let got = gives ws (found_of c.in-Ok.found) (utf8_strings parts) c.args.words.now.complete none rows in
     subst (λ (U : Uses). Gives (asks_of U) c.task_of.result) (sym got.1)
-    (c.task_of.ensures got.0 got.2 (c.ignores_case.ensures got.0
+    (c.task_of.ensures got.0 got.2
+    (c.ignores_case.ensures got.0
+    (ap (λ (l : List (List ℕ)). asked table l) (ap (map string_bytes) c.as_slice-in-Ok-2.ensures) ∙ got.1))
+    (c.in_ok-filters-in-Ok.ensures got.0
     (ap (λ (l : List (List ℕ)). asked table l) (ap (map string_bytes) c.as_slice-in-Ok.ensures) ∙ got.1)))
 
 pub returns-in-Err : goal.returns-in-Err
