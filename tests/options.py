@@ -78,7 +78,7 @@ def options_of_bash():
 def options_of_zsh():
     found = {}
     for line in (COMPLETIONS / "_pargrep").read_text().splitlines():
-        named = re.match(r"  '(?:\([^)]*\)|\*)'\{([^}]*)\}|  '(?:\(- \*\))?(--[a-z-]+=?)\[", line)
+        named = re.match(r"  '(?:\([^)]*\)|\*)'\{([^}]*)\}|  '(?:\(- \*\)|\*)?(--[a-z-]+=?)\[", line)
         if named:
             words = (named[1] or named[2]).split(",")
             found |= {word.rstrip("+="): word[-1] in "+=" for word in words}

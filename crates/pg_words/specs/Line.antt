@@ -54,12 +54,14 @@ table = record (opt (codes "q") (codes "quiet") Nothing) { others = codes "silen
     ∷ opt (codes "L") (codes "files-without-match") Nothing
     ∷ opt (codes "Z") (codes "null") Nothing
     ∷ opt (codes "n") (codes "line-number") Nothing
+    ∷ opt (codes "T") (codes "initial-tab") Nothing
     ∷ opt (codes "H") (codes "with-filename") Nothing
     ∷ opt (codes "h") (codes "no-filename") Nothing
     ∷ opt (codes "m") (codes "max-count") (Number 1 4294967295)
     ∷ opt (codes "A") (codes "after-context") (Number 0 4294967295)
     ∷ opt (codes "B") (codes "before-context") (Number 0 65535)
     ∷ opt (codes "C") (codes "context") (Number 0 65535)
+    ∷ opt [] (codes "no-group-separator") Nothing
     ∷ opt (codes "r") (codes "recursive") Nothing
     ∷ opt [] (codes "include") AnyText
     ∷ opt [] (codes "exclude") AnyText

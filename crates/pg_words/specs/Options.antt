@@ -32,8 +32,8 @@ abbrev pub format_of : Options → Format
 format_of options = record {
   names = options.names && not options.no_names;
   null = options.null;
-  tabs = false;
-  separators = true;
+  tabs = options.tabs;
+  separators = not options.unparted;
   numbers = options.numbers;
   mode = mode_of options;
   limit = option_map (λ lines. max lines 1) options.limit;

@@ -61,7 +61,7 @@ pub(crate) struct OptionRow(Names, &'static str, Behind);
 /// close to a wrong one `clap` proposes the last. -G is read by nobody: it asks for what is taken without -E and -F,
 /// and has no effect beside them. Nor are -a and -U, for every file is text. --always-spread serves tests alone, so
 /// that neither --help nor the manual page names it. -P is known to be refused with what to do instead.
-static OPTIONS: [OptionRow; 41] = [
+static OPTIONS: [OptionRow; 43] = [
     OptionRow(Names::Letter('q', &["silent"]), "quiet", Behind::Nothing),
     OptionRow(Names::Letter('E', &[]), "extended-regexp", Behind::Nothing),
     OptionRow(Names::Letter('F', &[]), "fixed-strings", Behind::Nothing),
@@ -89,6 +89,7 @@ static OPTIONS: [OptionRow; 41] = [
     ),
     OptionRow(Names::Letter('Z', &[]), "null", Behind::Nothing),
     OptionRow(Names::Letter('n', &[]), "line-number", Behind::Nothing),
+    OptionRow(Names::Letter('T', &[]), "initial-tab", Behind::Nothing),
     OptionRow(Names::Letter('H', &[]), "with-filename", Behind::Nothing),
     OptionRow(Names::Letter('h', &[]), "no-filename", Behind::Nothing),
     OptionRow(
@@ -111,6 +112,7 @@ static OPTIONS: [OptionRow; 41] = [
         "context",
         Behind::Number(0, MAX_BEFORE),
     ),
+    OptionRow(Names::Long, "no-group-separator", Behind::Nothing),
     OptionRow(Names::Letter('r', &[]), "recursive", Behind::Nothing),
     OptionRow(Names::Long, "include", Behind::Text("GLOB")),
     OptionRow(Names::Long, "exclude", Behind::Text("GLOB")),

@@ -34,11 +34,13 @@ Output:
   -H, --with-filename        print the name of the file before each line
   -h, --no-filename          never print names of files before lines
   -Z, --null                 print a NUL after each name of a file
+  -T, --initial-tab          print a tab after the name and number
   -m, --max-count=N          stop after N selected lines of each file
   -A, --after-context=N      print N lines after each selected line
   -B, --before-context=N     print N lines before it, at most 65,535
   -C, --context=N            print N lines before and after, at most 65,535;
                              -5 is the same as -C 5
+      --no-group-separator   print no line of hyphens between groups of lines
       --line-buffered        print lines as soon as they are found
 
 Files:

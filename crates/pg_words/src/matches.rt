@@ -28,6 +28,8 @@ pub(crate) fn options_of(found: &ArgMatches<'_>, fold: bool) -> Options
         quiet: flag(found, "quiet"),
         numbers: flag(found, "line-number"),
         null: flag(found, "null"),
+        tabs: flag(found, "initial-tab"),
+        unparted: flag(found, "no-group-separator"),
         names: flag(found, "with-filename"),
         no_names: flag(found, "no-filename"),
         recursive: flag(found, "recursive"),

@@ -45,6 +45,10 @@ pub struct Options {
     pub numbers: bool,
     /// -Z: a NUL behind names.
     pub null: bool,
+    /// -T: a tab before the text of rows that have something before it.
+    pub tabs: bool,
+    /// --no-group-separator: nothing parts groups of lines that aren't adjacent.
+    pub unparted: bool,
     /// -H: the file's name before each row.
     pub names: bool,
     /// -h: no names before rows.
@@ -86,8 +90,8 @@ impl Options {
         Format {
             names: self.names && !self.no_names,
             null: self.null,
-            tabs: false,
-            separators: true,
+            tabs: self.tabs,
+            separators: !self.unparted,
             numbers: self.numbers,
             mode: self.mode(),
             limit: self.limit.map(|lines| lines.max(1)),

@@ -36,7 +36,8 @@ pub struct Request<'a> {
     pub zero: bool,
     /// -o: the matched parts of selected lines have rows, not the lines.
     pub pieces: bool,
-    /// How rows look: -c, -l, -q, -n, -m, -A, -B, -C, -H, -h and -Z. Without -H they have no names.
+    /// How rows look: -c, -l, -L, -q, -n, -m, -A, -B, -C, -H, -h, -T, -Z and --no-group-separator. Without -H they have
+    /// no names.
     pub format: Format,
     /// -H, -h, or neither: when rows have names.
     pub names: Naming,
