@@ -223,7 +223,7 @@ const COUNTS: &str = "any a:1 on a:1 counted => 3 0 2 2
 any a*b:1 on aab:1 counted => 13 0 10 10
 any a*b:1 on a:10000 counted => 12 0 0 0
 any aa:1 on xaa:1 counted => 7 0 3 3
-any aa:1 on xaa:1 counted with parts => 7 0 6 0";
+any aa:1 on xaa:1 counted with parts => 7 0 7 0";
 
 #[test]
 fn counts(rt: HostRuntime) {
