@@ -29,5 +29,6 @@ usage_text SeveralModes = codes "only one of -c, -l, -L and -q may be given"
 usage_text ExtendedAndFixed = codes "only one of -E and -F may be given"
 usage_text NamesAndNoNames = codes "only one of -H and -h may be given"
 usage_text ExcludedByPieces = codes "-o excludes -v, -c, -l, -L, -q, -A, -B and -C"
-usage_text NoPattern = codes "no pattern given"
+usage_text NoPattern =
+    codes "no pattern given\n\nUsage: pargrep [OPTION ...] PATTERN [FILE ...]\n\nFor more information, try '--help'."
 usage_text NoOperand = codes "-r needs an operand"

@@ -41,7 +41,10 @@ impl UsageFault {
             UsageFault::ExtendedAndFixed => "only one of -E and -F may be given",
             UsageFault::NamesAndNoNames => "only one of -H and -h may be given",
             UsageFault::ExcludedByPieces => "-o excludes -v, -c, -l, -L, -q, -A, -B and -C",
-            UsageFault::NoPattern => "no pattern given",
+            UsageFault::NoPattern => {
+                "no pattern given\n\nUsage: pargrep [OPTION ...] PATTERN [FILE ...]\n\n\
+                 For more information, try '--help'."
+            }
             UsageFault::NoOperand => "-r needs an operand",
         }
     }
