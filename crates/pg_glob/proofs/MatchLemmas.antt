@@ -1,6 +1,6 @@
 -- What pieces match, behind a `*` too (matching), and that this is what is computed (laws).
 use Rattle.std.proofs.Common.{ℕ, ◌≡◌, ◌≤◌, inl, inr, Bool, true, false, ◌&&◌, ◌||◌, List, [], ◌∷◌, ◌++◌, length}
-use Rattle.std.proofs.Common.{refl, ap, sym, ◌∙◌, arith}
+use Rattle.std.proofs.Common.{refl, ap, ◌∙◌, arith}
 use Rattle.std.proofs.lemmas.Bool.{or_cases}
 use Rattle.pg_bytes.specs.Sets.{Bytes}
 use Rattle.pg_glob.specs.Brackets.{Text}
@@ -18,11 +18,6 @@ and-right false b h = absurd (cc)
 and-left : (a b : Bool) → (a && b) ≡ true → a ≡ true
 and-left true b h = refl
 and-left false b h = h
-
-same-truth : (a b : Bool) → (a ≡ true → b ≡ true) → (b ≡ true → a ≡ true) → a ≡ b
-same-truth true b f g = sym (f refl)
-same-truth false true f g = g refl
-same-truth false false f g = refl
 
 -- a `*` may take nothing
 pub nothing-taken : (ps : List Piece) (t : Text) → matches ps t ≡ true → matches (AnyBytes ∷ ps) t ≡ true
@@ -87,16 +82,6 @@ star-reached ps t qs rest r = record {
   shorter = omega (arith, r.shorter);
   within = r.within;
 }
-
--- behind a `*`, pieces that come to another one match just what is matched from there
-pub from-star : (ps : List Piece) (t : Text) (qs : List Piece) (rest : Text) → GoesOn ps t qs rest →
-    matches (AnyBytes ∷ qs) rest ≡ matches (AnyBytes ∷ ps) t
-from-star ps t qs rest g = same-truth _ _ (λ h. nothing-taken ps t (g.same ∙ h)) g.covered
-
--- behind a `*`, pieces that don't match from here are tried behind the next byte
-pub from-next : (ps : List Piece) (x : ℕ) (t : Text) → matches ps (x ∷ t) ≡ false →
-    matches (AnyBytes ∷ ps) t ≡ matches (AnyBytes ∷ ps) (x ∷ t)
-from-next ps x t h = sym (ap (λ b. b || matches (AnyBytes ∷ ps) t) h)
 
 -- a `*` may take any bytes
 taken : (ps : List Piece) (here rest : Text) → matches ps rest ≡ true → matches (AnyBytes ∷ ps) (here ++ rest) ≡ true

@@ -36,7 +36,8 @@ fn is_enclosed(mark: u8, text: &[u8]) -> bool
     ensures value { result ≡ is_enclosed mark text.now }
     ensures within { IsTrue result → 5 ≤ length text.now }
 {
-    (byte_at(text, 0) == b'[' && byte_at(text, 1) == mark) && (byte_at(text, 3) == mark && byte_at(text, 4) == b']')
+    (byte_at(text, 0) == b'[' && byte_at(text, 1) == mark)
+        && (byte_at(text, 3) == mark && byte_at(text, 4) == b']')
 }
 
 /// The byte that a text begins with: behind a backslash, in `[.` and `.]`, or as it stands.

@@ -1,7 +1,6 @@
 //! Which files or directories are left out.
 ghost use Rattle.std.specs.Prelude.{◌≡◌, ◌++◌, ◌∷◌, [], OnOk, OnErr};
 ghost use Rattle.pg_glob.specs.Filters.{fits, last_name, leaves_out, matches_behind_slash};
-
 ghost use Rattle.pg_glob.specs.Views.{pieces, rules};
 
 use crate::glob::Glob;

@@ -30,7 +30,7 @@ impl<A: Allocator> Drop for Glob<A> {
 
 impl<A: Allocator> Glob<A> {
     /// Reads a glob. Every text is one: a `[` that no bracket goes on from stands for itself, and a backslash at the end
-    /// matches nothing.
+    /// matches nothing. The time is linear in the text's length where each bracket has its end, else at most quadratic.
     ///
     /// # Errors
     ///
@@ -42,7 +42,8 @@ impl<A: Allocator> Glob<A> {
         Ok(Glob { parts })
     }
 
-    /// Whether the glob matches all of a name.
+    /// Whether the glob matches all of a name. No memory is taken, and the time is at most the glob's length times the
+    /// name's, both plus one.
     pub fn matches(&self, name: &[u8]) -> bool
         ensures { result ≡ matches (pieces self.now) name.now }
     {

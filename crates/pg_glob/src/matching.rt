@@ -62,7 +62,7 @@ fn matches_behind_star(parts: &[Part], name: &[u8]) -> bool
     }
 }
 
-/// Whether they match all of a name. The time is at most the length of the parts times that of the name, both plus one.
+/// Whether parts match all of a name.
 pub(crate) fn parts_match(parts: &[Part], name: &[u8]) -> bool
     ensures { result ≡ matches (map piece_of parts.now) name.now }
 {

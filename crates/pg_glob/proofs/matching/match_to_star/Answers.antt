@@ -18,7 +18,7 @@ loop-first-preserved c =
     let front : map piece_of c.loop-first.parts.now ≡ OneOf (bytes c.in-OneOf.set) ∷ map piece_of others =
     ap (map piece_of) c.in-Some.ensures.cases.0 ∙ ap (λ first. piece_of first ∷ map piece_of others) c.in-OneOf.is in
     byte-reached _ _ _ _ c.in-Some-split_first.byte.now _ (sym c.contains.ensures ∙ c.if-not-contains.false)
-        (rw (front, c.in-Some-split_first.ensures.cases.0) at c.loop-first.invariant)
+    (rw (front, c.in-Some-split_first.ensures.cases.0) at c.loop-first.invariant)
 
 pub loop-first-init : goal.loop-first-init
 loop-first-init c = start-reached _ _
