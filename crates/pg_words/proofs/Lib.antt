@@ -1,10 +1,12 @@
 pub mod Answered
 pub mod Cases
 pub mod Cuts
+pub mod Examples
 pub mod FilterWords
 pub mod Found
 pub mod Joins
 pub mod Level
+pub mod LongNames
 pub mod Numbers
 pub mod Ours
 pub mod Passes

@@ -9,10 +9,10 @@ use Rattle.std.specs.Prelude.{slice_index}
 use Rattle.std.specs.Char.{is_ascii_digit}
 use Rattle.clap.specs.Lexer.{short_of}
 use Rattle.clap.proofs.WalkLemmas.{both}
-use Rattle.pg_words.specs.Joined.{Place, Free, Rest, ValueOf}
+use Rattle.pg_words.specs.Joined.{Place, Free, Rest, ValueOf, waits}
 use Rattle.pg_words.specs.Line.{Text, by_letter, is_mark, table}
-use Rattle.pg_words.specs.Spelled.{is_flag, letter_words, newer_letter, number_words, place_behind, rest_word}
-use Rattle.pg_words.specs.Spelled.{spelled_from, spelled_word}
+use Rattle.pg_words.specs.Spelled.{full_word, is_flag, letter_words, newer_letter, number_words, place_behind}
+use Rattle.pg_words.specs.Spelled.{rest_word, spelled_from, spelled_word}
 use Rattle.pg_words.proofs.Found.{ascii_letters}
 use Rattle.pg_words.proofs.Ours.{all_rows}
 use Rattle.pg_words.proofs.Walks.{lt_or_le}
@@ -35,11 +35,25 @@ module _ (before after rest : List Text) (w : Text) where
   unfolding spelled_from
   spell_mark mark is = rw (is, append_assoc, mark) refl
 
-  pub spell_free : (next : Place) → is_mark w ≡ false → next ≡ place_behind table w
-      → after ≡ before ++ spelled_word table w
+  pub spell_free : (next : Place) → is_mark w ≡ false
+      → (next ≡ place_behind table w) × (after ≡ before ++ spelled_word table (full_word table w))
       → after ++ spelled_from table next rest ≡ before ++ spelled_from table Free (w ∷ rest)
   unfolding spelled_from
-  spell_free next mark behind is = rw (is, append_assoc, mark, behind) refl
+  spell_free next mark adds = rw (adds.1, append_assoc, mark, adds.0) refl
+
+  pub spell_full : (full : Text) → full ≡ full_word table w → after ≡ before ++ spelled_word table full
+      → after ≡ before ++ spelled_word table (full_word table w)
+  spell_full full in_full is = is ∙ ap (λ (t : Text). before ++ spelled_word table t) in_full
+
+-- what follows a word, by the word in full
+pub value_behind : (w full : Text) → full ≡ full_word table w → waits table full ≡ true
+    → ValueOf w ≡ place_behind table w
+value_behind w full in_full waiting =
+    sym (ap (λ (b : Bool). cond b (ValueOf w) Free) (ap (waits table) (sym in_full) ∙ waiting))
+
+pub free_behind : (w full : Text) → full ≡ full_word table w → waits table full ≡ false → Free ≡ place_behind table w
+free_behind w full in_full waiting =
+    sym (ap (λ (b : Bool). cond b (ValueOf w) Free) (ap (waits table) (sym in_full) ∙ waiting))
 
 pub none_left : (next : Place) → spelled_from table next [] ≡ []
 unfolding spelled_from

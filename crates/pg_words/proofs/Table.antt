@@ -1,7 +1,8 @@
 -- The rows of the code's table, by letter and by name.
 use Rattle.std.proofs.Common.{◌≡◌, ◌∙◌, ap, refl, sym, true, false, ℕ, Bool, List, [], ◌∷◌, map, Option, Some, None}
 use Rattle.std.proofs.Common.{◌++◌, ◌||◌, not, ap₂, ◌+◌, ◌<◌, drop, drop-cons, add-one, get_or, length}
-use Rattle.std.proofs.Common.{append-nil, append_assoc}
+use Rattle.std.proofs.Common.{append-nil, append_assoc, is_some, option_map, true≢false, ◌&&◌, ◌≤◌}
+use Rattle.std.proofs.lemmas.List.{drop_all}
 use Rattle.clap.proofs.WalkLemmas.{both}
 use Rattle.clap.proofs.SimpleLemmas.{is_false}
 use Rattle.std.specs.List.{list_any}
@@ -11,11 +12,11 @@ use Rattle.clap.specs.Words.{App, AddsAliases, AddsArg, AddsInTurn, Rule, app_of
 use Rattle.clap.specs.declared.builder.arg.Arg.{Arg}
 use Rattle.clap.specs.declared.builder.command.Command.{Command}
 use Rattle.std.specs.List.{list_all}
-use Rattle.pg_words.specs.App.{app_of_rules, named_rule, rule_for, has_letter, has_name, has_value_behind, opts_of}
-use Rattle.pg_words.specs.App.{value_of}
+use Rattle.pg_words.specs.App.{app_of_rules, named_rule, rule_for, has_begun_name, has_letter, has_name}
+use Rattle.pg_words.specs.App.{has_value_behind, opts_of, value_of}
 use Rattle.pg_words.specs.Joined.{takes_value}
-use Rattle.pg_words.specs.Line.{Text, by_letter, by_name}
-use Rattle.pg_words.specs.Spelled.{is_flag}
+use Rattle.pg_words.specs.Line.{Text, Opt, by_letter, by_name}
+use Rattle.pg_words.specs.Spelled.{begins, is_flag, names_begun, only_one}
 use Rattle.pg_words.specs.declared.command.OptionRow.{OptionRow}
 use Rattle.pg_words.specs.declared.command.Behind.{Behind}
 use Rattle.pg_words.specs.declared.command.Behind.TheVariants as behind
@@ -38,11 +39,10 @@ same_value letter name others (behind.Text text) = refl
 same_value letter name others (behind.Number low high) = refl
 same_value letter name others behind.Itself = refl
 
-any_map : (name : Text) (others : List (Bor Text))
-    → list_any (λ other. bytes_eq other name) (map (λ other. other.now) others)
-    ≡ list_any (λ other. bytes_eq other.now name) others
-any_map name [] = refl
-any_map name (other ∷ others) = ap (λ (b : Bool). bytes_eq other.now name || b) (any_map name others)
+any_map : (p : Text → Bool) (others : List (Bor Text))
+    → list_any p (map (λ other. other.now) others) ≡ list_any (λ other. p other.now) others
+any_map p [] = refl
+any_map p (other ∷ others) = ap (λ (b : Bool). p other.now || b) (any_map p others)
 
 letter_found_by : (n : Names) (name : Bor Text) (b : Behind) (rows : List OptionRow) (x : ℕ)
     → has_letter (row n name b) x ≡ true
@@ -83,7 +83,8 @@ name_found_by : (n : Names) (own : Bor Text) (b : Behind) (rows : List OptionRow
     → has_name (row n own b) name ≡ true
     → has_value_behind b ≡ takes_value (by_name (opts_of (row n own b ∷ rows)) name)
 name_found_by (names.Letter letter others) own b rows name e =
-    rw (any_map name others.now, e) (same_value (Some letter) own.now (map (λ other. other.now) others.now) b)
+    rw (any_map (λ (other : Text). bytes_eq other name) others.now, e)
+    (same_value (Some letter) own.now (map (λ other. other.now) others.now) b)
 name_found_by names.Long own b rows name e = rw e (same_value None own.now [] b)
 name_found_by names.Place own b rows name e = cc
 
@@ -91,10 +92,15 @@ or_false : (b : Bool) → (b || false) ≡ b
 or_false true = refl
 or_false false = refl
 
+and_false : (b : Bool) → (b && false) ≡ false
+and_false true = refl
+and_false false = refl
+
 name_passed_by : (n : Names) (own : Bor Text) (b : Behind) (rows : List OptionRow) (name : Text)
     → has_name (row n own b) name ≡ false
     → by_name (opts_of (row n own b ∷ rows)) name ≡ by_name (opts_of rows) name
-name_passed_by (names.Letter letter others) own b rows name e = rw (any_map name others.now, e) refl
+name_passed_by (names.Letter letter others) own b rows name e =
+    rw (any_map (λ (other : Text). bytes_eq other name) others.now, e) refl
 name_passed_by names.Long own b rows name e = rw e refl
 name_passed_by names.Place own b rows name e = refl
 
@@ -105,6 +111,40 @@ name_found r rows name e = name_found_by r.0 r.1 r.2 rows name e
 pub name_passed : (r : OptionRow) (rows : List OptionRow) (name : Text) → has_name r name ≡ false
     → by_name (opts_of (r ∷ rows)) name ≡ by_name (opts_of rows) name
 name_passed r rows name e = name_passed_by r.0 r.1 r.2 rows name e
+
+name_some_by : (n : Names) (own : Bor Text) (b : Behind) (rows : List OptionRow) (name : Text)
+    → has_name (row n own b) name ≡ true → is_some (by_name (opts_of (row n own b ∷ rows)) name) ≡ true
+name_some_by (names.Letter letter others) own b rows name e =
+    rw (any_map (λ (other : Text). bytes_eq other name) others.now, e) refl
+name_some_by names.Long own b rows name e = rw e refl
+name_some_by names.Place own b rows name e = cc
+
+-- ---- names that are cut short
+
+begun_by : (n : Names) (own : Bor Text) (b : Behind) (rows : List OptionRow) (start : Text)
+    → has_begun_name (row n own b) start ≡ true
+    → names_begun (opts_of (row n own b ∷ rows)) start ≡ own.now ∷ names_begun (opts_of rows) start
+begun_by (names.Letter letter others) own b rows start e =
+    rw (any_map (λ (other : Text). begins other start) others.now, e) refl
+begun_by names.Long own b rows start e = rw (or_false (begins own.now start), e) refl
+begun_by names.Place own b rows start e = absurd (true≢false (sym e ∙ and_false _))
+
+not_begun_by : (n : Names) (own : Bor Text) (b : Behind) (rows : List OptionRow) (start : Text)
+    → has_begun_name (row n own b) start ≡ false
+    → names_begun (opts_of (row n own b ∷ rows)) start ≡ names_begun (opts_of rows) start
+not_begun_by (names.Letter letter others) own b rows start e =
+    rw (any_map (λ (other : Text). begins other start) others.now, e) refl
+not_begun_by names.Long own b rows start e = rw (or_false (begins own.now start), e) refl
+not_begun_by names.Place own b rows start e = refl
+
+-- the name that was found so far
+abbrev pub so_far : Option (Bor Text) → List Text
+so_far None = []
+so_far (Some name) = name.now ∷ []
+
+pub only_so_far : (only : Option (Bor Text)) → option_map (λ name. name.now) only ≡ only_one (so_far only)
+only_so_far None = refl
+only_so_far (Some name) = refl
 
 -- ---- the arguments of rows
 
@@ -154,6 +194,70 @@ pub name_here : (rows : List OptionRow) (i : ℕ) (d : OptionRow) (name : Text) 
 name_here rows i d name called valued within is called_so value before =
     value ∙ (name_found (get_or rows i d) (drop (i + 1) rows) name (sym is ∙ called_so)
     ∙ (ap (λ (l : List OptionRow). takes_value (by_name (opts_of l) name)) (sym (next_row rows i d within)) ∙ before))
+
+pub called_here : (rows : List OptionRow) (i : ℕ) (d : OptionRow) (name : Text) (called : Bool) → i < length rows
+    → called ≡ has_name (get_or rows i d) name → called ≡ true
+    → is_some (by_name (opts_of (drop i rows)) name) ≡ is_some (by_name (opts_of rows) name)
+    → true ≡ is_some (by_name (opts_of rows) name)
+called_here rows i d name called within is called_so before =
+    let r = get_or rows i d in
+    sym (name_some_by r.0 r.1 r.2 (drop (i + 1) rows) name (sym is ∙ called_so))
+    ∙ (ap (λ (l : List OptionRow). is_some (by_name (opts_of l) name)) (sym (next_row rows i d within)) ∙ before)
+
+pub called_next : (rows : List OptionRow) (i : ℕ) (d : OptionRow) (name : Text) (called : Bool) → i < length rows
+    → called ≡ has_name (get_or rows i d) name → called ≡ false
+    → is_some (by_name (opts_of (drop i rows)) name) ≡ is_some (by_name (opts_of rows) name)
+    → is_some (by_name (opts_of (drop (i + 1) rows)) name) ≡ is_some (by_name (opts_of rows) name)
+called_next rows i d name called within is no_name before =
+    ap (λ (o : Option Opt). is_some o)
+    (sym (name_passed (get_or rows i d) (drop (i + 1) rows) name (sym is ∙ no_name)))
+    ∙ (ap (λ (l : List OptionRow). is_some (by_name (opts_of l) name)) (sym (next_row rows i d within)) ∙ before)
+
+module _ (rows : List OptionRow) (i : ℕ) (d : OptionRow) (start : Text) (begun : Bool) (within : i < length rows)
+    (is : begun ≡ has_begun_name (get_or rows i d) start) where
+  abbrev pub left : List Text
+  left = names_begun (opts_of (drop (i + 1) rows)) start
+
+  abbrev pub all : List Text
+  all = names_begun (opts_of rows) start
+
+  one_more : begun ≡ true → names_begun (opts_of (drop i rows)) start ≡ (get_or rows i d).1.now ∷ left
+  one_more e =
+      let r = get_or rows i d in
+      ap (λ (l : List OptionRow). names_begun (opts_of l) start) (next_row rows i d within)
+      ∙ begun_by r.0 r.1 r.2 (drop (i + 1) rows) start (sym is ∙ e)
+
+  none_more : begun ≡ false → names_begun (opts_of (drop i rows)) start ≡ left
+  none_more e =
+      let r = get_or rows i d in
+      ap (λ (l : List OptionRow). names_begun (opts_of l) start) (next_row rows i d within)
+      ∙ not_begun_by r.0 r.1 r.2 (drop (i + 1) rows) start (sym is ∙ e)
+
+  -- a second name
+  pub begun_again : (only : Option (Bor Text)) → begun ≡ true → is_some only ≡ true
+      → so_far only ++ names_begun (opts_of (drop i rows)) start ≡ all → None ≡ only_one all
+  begun_again None e some before = cc
+  begun_again (Some name) e some before =
+      ap only_one (ap (λ (l : List Text). name.now ∷ l) (sym (one_more e)) ∙ before)
+
+  pub begun_next : (only : Option (Bor Text)) → begun ≡ true → is_some only ≡ false
+      → so_far only ++ names_begun (opts_of (drop i rows)) start ≡ all
+      → so_far (Some (get_or rows i d).1) ++ left ≡ all
+  begun_next None e none before = sym (one_more e) ∙ before
+  begun_next (Some name) e none before = cc
+
+  pub not_begun_next : (only : Option (Bor Text)) → begun ≡ false
+      → so_far only ++ names_begun (opts_of (drop i rows)) start ≡ all → so_far only ++ left ≡ all
+  not_begun_next only e before = ap (λ (l : List Text). so_far only ++ l) (sym (none_more e)) ∙ before
+
+pub all_rows_seen : (rows : List OptionRow) (i : ℕ) (start : Text) (only : Option (Bor Text)) → length rows ≤ i
+    → so_far only ++ names_begun (opts_of (drop i rows)) start ≡ names_begun (opts_of rows) start
+    → option_map (λ name. name.now) only ≡ only_one (names_begun (opts_of rows) start)
+all_rows_seen rows i start only past before =
+    only_so_far only
+    ∙ ap only_one (sym (append-nil (so_far only))
+    ∙ (ap (λ (l : List OptionRow). so_far only ++ names_begun (opts_of l) start) (sym (drop_all i rows past))
+    ∙ before))
 
 pub name_next : (rows : List OptionRow) (i : ℕ) (d : OptionRow) (name : Text) (called : Bool) → i < length rows
     → called ≡ has_name (get_or rows i d) name → called ≡ false

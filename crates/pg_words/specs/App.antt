@@ -1,5 +1,5 @@
 -- The command as `clap` knows it.
-use Rattle.std.specs.Prelude.{ℕ, ◌==◌, ◌||◌, Bool, true, false, List, [], ◌∷◌, ◌++◌, map, Some, None}
+use Rattle.std.specs.Prelude.{ℕ, ◌==◌, ◌&&◌, ◌||◌, Bool, not, true, false, List, [], ◌∷◌, ◌++◌, map, Some, None}
 use Rattle.std.specs.Prelude.{codes, pos}
 use Rattle.std.specs.List.{list_any}
 use Rattle.std.specs.Str.{bytes_eq}
@@ -10,6 +10,7 @@ use Rattle.clap.specs.declared.builder.action.ArgAction.{ArgAction}
 use Rattle.clap.specs.declared.builder.value_parser.ValueParser.{ValueParser}
 use Rattle.clap.specs.declared.builder.value_parser.ValueParser.TheVariants as vp
 use Rattle.pg_words.specs.Line.{Text, Value, Nothing, AnyText, Number, Opt, table}
+use Rattle.pg_words.specs.Spelled.{begins}
 use Rattle.pg_words.specs.declared.command.OptionRow.{OptionRow}
 use Rattle.pg_words.specs.declared.command.Behind.{Behind}
 use Rattle.pg_words.specs.declared.command.Behind.TheVariants as behind
@@ -113,6 +114,16 @@ has_name row name = elim row.0 [
   | names.Long ↦ bytes_eq row.1.now name
   | names.Place ↦ false
 ]
+
+-- a long name of the option begins so, and may be cut short
+abbrev pub has_begun_name : OptionRow → Text → Bool
+has_begun_name row start =
+    not (bytes_eq row.1.now (codes "always-spread"))
+    && elim row.0 [
+      | names.Letter letter others ↦ begins row.1.now start || list_any (λ other. begins other.now start) others.now
+      | names.Long ↦ begins row.1.now start
+      | names.Place ↦ false
+    ]
 
 abbrev pub value_of : Behind → Value
 value_of behind.Nothing = Nothing

@@ -8,8 +8,8 @@ use Rattle.pg_words.specs.declared.options.Naming.{Naming}
 use Rattle.pg_words.specs.declared.request.Request.{Request}
 
 -- the syntax of the patterns, the -e texts, the paths of the -f files, the options -i, -x, -w, -v, -z and -o, how rows
--- look and when they have names, the FILE operands, the option -r, the patterns of --include (true) and --exclude (false)
--- in their order, those of --exclude-dir, and the option -s
+-- look and when they have names, the FILE operands, the option -r, the patterns of --include (true) and --exclude
+-- (false) in their order, those of --exclude-dir, and the option -s
 pub record Asked : Type 0 where
   pub kind : Kind
   pub texts : List (List ℕ)

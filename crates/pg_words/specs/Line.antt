@@ -92,7 +92,7 @@ fits (Number low high) v = is_signed_in (pos low) (pos high) v
 abbrev pub by_letter : List Opt → ℕ → Option Opt
 by_letter os x = find (λ o. option_map_or (λ letter. letter == x) o.letter false) os
 
--- long names are written out
+-- by a long name in full
 abbrev pub by_name : List Opt → Text → Option Opt
 by_name os name = find (λ o. bytes_eq o.name name || list_any (λ other. bytes_eq other name) o.others) os
 

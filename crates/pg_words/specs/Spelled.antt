@@ -1,11 +1,55 @@
 -- Further ways to write options: `-y` is `-i`, and digits among the letters of a word are the number of -C. So
--- `-n12ye x` is `-n -C12 -i -e x`, where each letter has a word of its own.
-use Rattle.std.specs.Prelude.{ℕ, ◌==◌, Bool, false, not, if◌then◌else◌, List, [], ◌∷◌, ◌++◌, Option, Some, None}
-use Rattle.std.specs.Prelude.{codes, length, slice_index}
+-- `-n12ye x` is `-n -C12 -i -e x`, where each letter has a word of its own. As `getopt_long` has it, a long name may be
+-- cut short where that leaves one option: `--inc=x` is `--include=x`.
+use Rattle.std.specs.Prelude.{ℕ, ◌==◌, ◌&&◌, ◌||◌, Bool, false, not, if◌then◌else◌, List, [], ◌∷◌, ◌++◌, Option, Some}
+use Rattle.std.specs.Prelude.{None, codes, filter, is_some, length, map, slice_index, take, unwrap_or}
 use Rattle.std.specs.Char.{is_ascii_digit}
-use Rattle.clap.specs.Lexer.{short_of}
+use Rattle.std.specs.List.{list_any}
+use Rattle.std.specs.Str.{bytes_eq}
+use Rattle.clap.specs.Lexer.{long_of, short_of}
 use Rattle.pg_words.specs.Joined.{Place, Free, ValueOf, Rest, waits}
-use Rattle.pg_words.specs.Line.{Text, Opt, Uses, by_letter, has_value, is_mark, table, uses_from}
+use Rattle.pg_words.specs.Line.{Text, Opt, Uses, by_letter, by_name, has_value, is_mark, table, uses_from}
+
+-- ---- long names that are cut short
+
+-- the name begins so
+abbrev pub begins : Text → Text → Bool
+begins name start = bytes_eq start (take (length start) name)
+
+-- a long name of the option begins so; `--always-spread`, which serves tests alone, is never cut
+abbrev pub is_begun : Text → Opt → Bool
+is_begun start o =
+    not (bytes_eq o.name (codes "always-spread"))
+    && (begins o.name start || list_any (λ other. begins other start) o.others)
+
+-- the first names of the options that may be meant
+abbrev pub names_begun : List Opt → Text → List Text
+names_begun os start = map (λ o. o.name) (filter (is_begun start) os)
+
+-- the text that is alone in a list
+abbrev pub only_one : List Text → Option Text
+only_one [] = None
+only_one (t ∷ []) = Some t
+only_one (t ∷ u ∷ ts) = None
+
+-- the name in full: one that is a long name stays, as does one that begins those of no option or of several
+unfoldable pub full_name : List Opt → Text → Text
+full_name os name =
+    if is_some (by_name os name) then name else unwrap_or (only_one (names_begun os name)) name
+
+abbrev pub full_long : List Opt → Text → Option Text → Text
+full_long os name None = codes "--" ++ full_name os name
+full_long os name (Some v) = codes "--" ++ full_name os name ++ 61 ∷ v
+
+abbrev pub full_or_same : List Opt → Option (Text × Option Text) → Text → Text
+full_or_same os None w = w
+full_or_same os (Some p) w = full_long os p.0 p.1
+
+-- a word with its long name in full
+abbrev pub full_word : List Opt → Text → Text
+full_word os w = full_or_same os (long_of w) w
+
+-- ---- letters and digits
 
 -- the letter that this one is another name of: `-y` (121) is `-i` (105)
 abbrev pub newer_letter : ℕ → ℕ
@@ -44,7 +88,7 @@ spelled_word os w = short_words os (short_of w) w
 
 -- what follows this word: the value of its last option, if that waits for it
 abbrev pub place_behind : List Opt → Text → Place
-place_behind os w = if waits os w then ValueOf w else Free
+place_behind os w = if waits os (full_word os w) then ValueOf w else Free
 
 unfoldable pub spelled_from : List Opt → Place → List Text → List Text
 spelled_from os Free [] = []
@@ -52,7 +96,7 @@ spelled_from os (ValueOf o) [] = []
 spelled_from os Rest ws = ws
 spelled_from os (ValueOf o) (w ∷ ws) = w ∷ spelled_from os Free ws
 spelled_from os Free (w ∷ ws) =
-    if is_mark w then w ∷ ws else spelled_word os w ++ spelled_from os (place_behind os w) ws
+    if is_mark w then w ∷ ws else spelled_word os (full_word os w) ++ spelled_from os (place_behind os w) ws
 
 -- what the words of a command line come to
 abbrev pub uses_in : List Text → Uses

@@ -1,12 +1,12 @@
 //! The options as `clap` knows them.
-ghost use Rattle.std.specs.Prelude.{◌≡◌, IfOk, true, false, map, not, []};
-ghost use Rattle.std.specs.List.{list_all};
+ghost use Rattle.std.specs.Prelude.{◌≡◌, IfOk, true, false, is_some, map, not, option_map, []};
+ghost use Rattle.std.specs.List.{list_all, list_any};
 ghost use Rattle.clap.specs.Words.{app_of, rule_of};
-ghost use Rattle.pg_words.specs.App.{action_behind, bare_app, has_letter, has_name, has_value_behind, named_rule};
-ghost use Rattle.pg_words.specs.App.{opts_of, our_app, parser_behind, rule_for};
+ghost use Rattle.pg_words.specs.App.{action_behind, bare_app, has_begun_name, has_letter, has_name, has_value_behind};
+ghost use Rattle.pg_words.specs.App.{named_rule, opts_of, our_app, parser_behind, rule_for};
 ghost use Rattle.pg_words.specs.Joined.{takes_value};
 ghost use Rattle.pg_words.specs.Line.{by_letter, by_name, table};
-ghost use Rattle.pg_words.specs.Spelled.{is_flag};
+ghost use Rattle.pg_words.specs.Spelled.{begins, is_flag, names_begun, only_one};
 
 use clap::builder::ValueParser;
 use clap::{Arg, ArgAction, Command};
@@ -187,6 +187,20 @@ pub(crate) fn name_has_value(name: &str) -> bool
     row_of_name_has_value(&OPTIONS, name)
 }
 
+/// Whether this is a long name of an option.
+pub(crate) fn is_name(name: &str) -> bool
+    ensures { result ≡ is_some (by_name table name.now) }
+{
+    row_is_called(&OPTIONS, name)
+}
+
+/// The first long name of the option with a long name that begins so, if that is one option.
+pub(crate) fn name_begun(start: &str) -> Option<&'static str>
+    ensures { option_map (λ name. name.now) result ≡ only_one (names_begun table start.now) }
+{
+    row_begun(&OPTIONS, start)
+}
+
 /// The same of these rows.
 fn row_of_letter_has_value(rows: &[OptionRow], letter: u8) -> bool
     ensures { result ≡ takes_value (by_letter (opts_of rows.now) letter) }
@@ -223,6 +237,53 @@ fn row_of_name_has_value(rows: &[OptionRow], name: &str) -> bool
     false
 }
 
+/// The same of these rows.
+fn row_is_called(rows: &[OptionRow], name: &str) -> bool
+    ensures { result ≡ is_some (by_name (opts_of rows.now) name.now) }
+{
+    for row in rows {
+        if row.is_called(name) {
+            return true;
+        }
+    }
+    false
+}
+
+/// The same of these rows.
+fn row_begun(rows: &[OptionRow], start: &str) -> Option<&'static str>
+    ensures { option_map (λ name. name.now) result ≡ only_one (names_begun (opts_of rows.now) start.now) }
+{
+    let mut only = None;
+    for row in rows {
+        if row.begins(start) {
+            if only.is_some() {
+                return None;
+            }
+            only = Some(row.1);
+        }
+    }
+    only
+}
+
+/// Whether a name begins so.
+fn begins(name: &str, start: &str) -> bool
+    ensures { result ≡ begins name.now start.now }
+{
+    name.starts_with(start)
+}
+
+/// Whether one of these names begins so.
+fn some_begins(names: &[&str], start: &str) -> bool
+    ensures { result ≡ list_any (λ name. begins name.now start.now) names.now }
+{
+    for name in names {
+        if begins(name, start) {
+            return true;
+        }
+    }
+    false
+}
+
 impl OptionRow {
     /// Whether this is the option's letter.
     fn is_letter(&self, letter: u8) -> bool
@@ -241,6 +302,20 @@ impl OptionRow {
         match self.0 {
             Names::Letter(_, others) => self.1 == name || others.contains(&name),
             Names::Long => self.1 == name,
+            Names::Place => false,
+        }
+    }
+
+    /// Whether a long name of the option begins so. That of --always-spread may not be cut short.
+    fn begins(&self, start: &str) -> bool
+        ensures { result ≡ has_begun_name self.now start.now }
+    {
+        if self.1 == "always-spread" {
+            return false;
+        }
+        match self.0 {
+            Names::Letter(_, others) => begins(self.1, start) || some_begins(others, start),
+            Names::Long => begins(self.1, start),
             Names::Place => false,
         }
     }

@@ -9,6 +9,7 @@ mod case;
 mod command;
 mod filters;
 mod help;
+mod long_name;
 mod matches;
 mod operands;
 mod options;

@@ -1,4 +1,5 @@
-//! Words of a command line, spelled out: each letter in a word of its own, -y as -i, and a number as that of -C.
+//! Words of a command line, spelled out: each letter in a word of its own, -y as -i, a number as that of -C, and long
+//! names in full.
 ghost use Rattle.std.specs.Prelude.{◌≡◌, ◌++◌, ◌∷◌, ◌<◌, ◌≤◌, ◌||◌, length, slice_index, true, IfOk, OnOk};
 ghost use Rattle.std.specs.Prelude.{List, ℕ, map, option_map, []};
 ghost use Rattle.std.specs.Char.{is_ascii_digit};
@@ -7,10 +8,11 @@ ghost use Rattle.clap.specs.Lexer.{short_of};
 ghost use Rattle.pg_words.specs.Joined.{Free};
 ghost use Rattle.pg_words.specs.Line.{by_letter, table};
 ghost use Rattle.pg_words.specs.Places.{place_of};
-ghost use Rattle.pg_words.specs.Spelled.{is_flag, letter_words, newer_letter, number_words, place_behind, rest_word};
-ghost use Rattle.pg_words.specs.Spelled.{spelled_from, spelled_word};
+ghost use Rattle.pg_words.specs.Spelled.{full_word, is_flag, letter_words, newer_letter, number_words, place_behind};
+ghost use Rattle.pg_words.specs.Spelled.{rest_word, spelled_from, spelled_word};
 
 use crate::command::letter_is_flag;
+use crate::long_name::full_word;
 use crate::split::{Place, add_copy, byte_at, is_mark, waits};
 use std::alloc::{AllocError, Global};
 
@@ -51,21 +53,28 @@ fn add_spelled<'a>(
             add_copy(alloc, parts, word)?;
             Ok(Place::Operand)
         }
-        Place::Free => {
-            add_word_spelled(alloc, parts, word)?;
-            Ok(place_behind(word))
-        }
+        Place::Free => add_free(alloc, parts, word),
     }
 }
 
-/// What follows a word that is spelled out: the value of its last option, if that waits for it.
-fn place_behind(word: &str) -> Place<'_>
-    ensures { place_of result ≡ place_behind table word.now }
+/// Adds a word in a free place, spelled out, and says what follows it: the value of its last option, if that waits
+/// for it.
+fn add_free<'a>(
+    alloc: Global,
+    parts: &mut Vec<String>,
+    word: &'a str,
+) -> Result<Place<'a>, AllocError>
+    ensures { IfOk result (λ next. (place_of next ≡ place_behind table word.entry.now)
+        × (map string_bytes parts.new.items
+        ≡ map string_bytes parts.old.items ++ spelled_word table (full_word table word.entry.now))) }
 {
-    if waits(word) {
-        return Place::Value(word);
+    let full = full_word(alloc, word)?;
+    let part = full.as_str();
+    add_word_spelled(alloc, parts, part)?;
+    if waits(part) {
+        return Ok(Place::Value(word));
     }
-    Place::Free
+    Ok(Place::Free)
 }
 
 /// Adds a word, spelled out.
@@ -96,7 +105,7 @@ pub(crate) fn letters_of(word: &str) -> Option<&str>
 }
 
 /// What stands behind the hyphen at the head of a word.
-fn behind_first(word: &str) -> &str
+pub(crate) fn behind_first(word: &str) -> &str
     requires hyphen { slice_index word.now 0 ≡ 45 }
     requires letters { 2 ≤ length word.now }
     ensures { word.now ≡ 45 ∷ result.now }

@@ -15,9 +15,9 @@ use crate::command::{letter_has_value, name_has_value};
 use crate::spell::spell;
 use std::alloc::{AllocError, Global};
 
-/// The words of a command line without the program's name, each letter in a word of its own and each value of an option
-/// in the option's word, behind `=`: `-ve x` and `-vex` are the words `-v` and `-e=x`, `-v5` is `-v` and `-C=5`, and
-/// `--file x` is `--file=x`.
+/// The words of a command line without the program's name, each letter in a word of its own, long names in full, and
+/// each value of an option in the option's word, behind `=`: `-ve x` and `-vex` are the words `-v` and `-e=x`, `-v5` is
+/// `-v` and `-C=5`, and `--file x` and `--fil x` are `--file=x`.
 ///
 /// So `clap` takes no value for an option, and drops no `=` with which a value begins.
 #[derive(Drop)]

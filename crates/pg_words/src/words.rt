@@ -88,8 +88,8 @@ impl<T: Drop> From<AllocFailed<T>> for WordsFault {
 /// letters are -C with that number. -G has no effect beside -E or -F, and -a, -U and --binary-files=text have none
 /// at all.
 ///
-/// The long names are GNU grep's, written out, and --workers, --block and --round. --help comes before
-/// --version, and both come before a fault that [`check_usage`] finds.
+/// The long names are GNU grep's, and --workers, --block and --round. One may be cut short where the rest of it leaves
+/// no other option. --help comes before --version, and both come before a fault that [`check_usage`] finds.
 ///
 /// # Errors
 ///

@@ -1,5 +1,6 @@
 use Rattle.std.proofs.Common.{◌∙◌, sym, map}
 use Rattle.std.specs.String.{string_bytes}
+use Rattle.std.proofs.lemmas.Result.{IfOk-weaker}
 use Rattle.pg_words.specs.Places.{place_of}
 use Rattle.pg_words.proofs.Spells.{spell_free, spell_mark, spell_rest, spell_value}
 use Rattle.pg_words.proofs.spell.add_spelled.Goals as goal
@@ -22,9 +23,10 @@ returns-in_ok-add_copy-in-Free c = λ rest.
     (map string_bytes c.add_copy-in-Free.new.parts.items) rest c.args.word.now
     (sym c.is_mark.ensures ∙ c.if-is_mark.true) c.in_ok-add_copy-in-Free.ensures)
 
-pub returns-in_ok-add_word_spelled-in-Free-2 : goal.returns-in_ok-add_word_spelled-in-Free-2
-returns-in_ok-add_word_spelled-in-Free-2 c = λ rest.
-    rw c.in-Free-2.is (spell_free (map string_bytes c.args.parts.now.items)
-    (map string_bytes c.add_word_spelled.new.parts.items) rest c.args.word.now (place_of c.place_behind.result)
-    (sym c.is_mark.ensures ∙ c.if-is_mark.false) c.place_behind.ensures
-    c.in_ok-add_word_spelled-in-Free-2.ensures)
+pub returns-in-Free-2 : goal.returns-in-Free-2
+returns-in-Free-2 c =
+    IfOk-weaker c.add_free.result _ _
+    (λ next adds rest. rw c.in-Free-2.is (spell_free (map string_bytes c.args.parts.now.items)
+    (map string_bytes c.add_free.new.parts.items) rest c.args.word.now (place_of next)
+    (sym c.is_mark.ensures ∙ c.if-is_mark.false) adds))
+    c.add_free.ensures

@@ -1,0 +1,57 @@
+-- Worked examples of long names that are cut short.
+use Rattle.std.proofs.Common.{◌≡◌, refl, [], ◌∷◌, codes}
+use Rattle.pg_words.specs.Joined.{Free}
+use Rattle.pg_words.specs.Line.{table}
+use Rattle.pg_words.specs.Spelled.{full_name, full_word, spelled_from}
+
+-- one option begins so
+unique : full_word table (codes "--inc=*.c") ≡ codes "--include=*.c"
+unfolding full_name
+unique = refl
+
+no_messages : full_word table (codes "--no-m") ≡ codes "--no-messages"
+unfolding full_name
+no_messages = refl
+
+-- two long names of one option
+quiet : full_word table (codes "--s") ≡ codes "--quiet"
+unfolding full_name
+quiet = refl
+
+-- a long name, though that of another option begins so
+exact : full_word table (codes "--exclude=x") ≡ codes "--exclude=x"
+unfolding full_name
+exact = refl
+
+longer : full_word table (codes "--exclude-=x") ≡ codes "--exclude-dir=x"
+unfolding full_name
+longer = refl
+
+-- line-number, line-regexp and line-buffered
+several : full_word table (codes "--line") ≡ codes "--line"
+unfolding full_name
+several = refl
+
+unknown : full_word table (codes "--colo") ≡ codes "--colo"
+unfolding full_name
+unknown = refl
+
+-- an empty name begins all of them
+empty : full_word table (codes "--=x") ≡ codes "--=x"
+unfolding full_name
+empty = refl
+
+-- the option that serves tests is none of those that may be meant
+hidden : full_word table (codes "--a=3") ≡ codes "--after-context=3"
+unfolding full_name
+hidden = refl
+
+written_out : full_word table (codes "--always-sprea") ≡ codes "--always-sprea"
+unfolding full_name
+written_out = refl
+
+-- a cut name waits for its value, which stays as it is, as does what follows `--`
+words : spelled_from table Free (codes "--inc" ∷ codes "--no-m" ∷ codes "-yn" ∷ codes "--" ∷ codes "--inc" ∷ [])
+    ≡ codes "--include" ∷ codes "--no-m" ∷ codes "-i" ∷ codes "-n" ∷ codes "--" ∷ codes "--inc" ∷ []
+unfolding full_name spelled_from
+words = refl

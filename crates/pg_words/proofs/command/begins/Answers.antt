@@ -1,0 +1,5 @@
+use Rattle.std.proofs.lemmas.Str.Pattern.{starts_text}
+use Rattle.pg_words.proofs.command.begins.Goals as goal
+
+pub returns : goal.returns
+returns c = starts_text c.starts_with.result c.args.start.now c.args.name.now c.starts_with.ensures.cases
