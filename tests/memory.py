@@ -43,6 +43,8 @@ ALONE = """\
 -r -l x tree missing row
 -r -c x sparse
 -r -L x sparse missing empty
+-r --include=[af] --exclude-dir=c/ x tree row
+-r --exclude=*[!o]w --inc row -n -T -A 1 --no-group-sep x tree row
 -e x -e a -e e row words
 -i -F WATER words
 -i -n -E W[A-C]TER|FIRE words

@@ -140,7 +140,12 @@ pub(crate) fn walked<T: FileTree>(
     recursive: bool,
 ) -> Result<String, AllocError> {
     let operands = texts(alloc, operands)?;
-    let walker = Walker::new(alloc, tree, operands.as_slice(), Scope::all(alloc, recursive))?;
+    let walker = Walker::new(
+        alloc,
+        tree,
+        operands.as_slice(),
+        Scope::all(alloc, recursive),
+    )?;
     let items = all_of(walker, alloc)?;
     shown(alloc, items.as_slice())
 }
@@ -411,7 +416,10 @@ fn walk_refused<'h>(
     tree: &MemTree,
     operands: &[String],
 ) -> Result<Vec<Item<&'h Refusing>, &'h Refusing>, AllocError> {
-    all_of(Walker::new(heap, tree, operands, Scope::all(heap, true))?, heap)
+    all_of(
+        Walker::new(heap, tree, operands, Scope::all(heap, true))?,
+        heap,
+    )
 }
 
 /// Whether a walk gives what it should, or wants memory where a request is refused.

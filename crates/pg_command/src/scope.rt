@@ -12,7 +12,7 @@ use pg_words::{FileFilter, Request};
 use std::alloc::{AllocError, Global};
 
 /// The globs of a request, read, and whether directories are visited.
-pub(crate) fn scope_of(alloc: Global, request: &Request<'_>) -> Result<Scope, AllocError>
+pub(crate) fn read_scope(alloc: Global, request: &Request<'_>) -> Result<Scope, AllocError>
     ensures { IfOk result (λ scope. scope_of scope ≡ scope_for (asked_of request.now)) }
 {
     Ok(Scope {

@@ -10,7 +10,7 @@ use crate::fault::{Fault, report};
 use crate::names::{is_directory, operands_of};
 use crate::patterns::read_patterns;
 use crate::query::text_of;
-use crate::scope::scope_of;
+use crate::scope::read_scope;
 use pg_files::{Listed, Store};
 use pg_rows::{Format, Mode, Sink};
 use pg_run::{FreeGate, Setup, run};
@@ -117,7 +117,7 @@ fn list_files<'t, T: FileTree, S: Store + Drop>(
 {
     let directory = is_directory(tree, request.files.as_slice())?;
     let operands = operands_of(alloc, request.files.as_slice())?;
-    let scope = scope_of(alloc, request)?;
+    let scope = read_scope(alloc, request)?;
     let spares = spares_output(request.format.mode);
     files.list(alloc, tree, operands.as_slice(), scope, spares)?;
     Ok(setup_of(request, directory))
