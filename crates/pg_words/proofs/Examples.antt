@@ -1,8 +1,8 @@
--- Worked examples of long names that are cut short.
-use Rattle.std.proofs.Common.{◌≡◌, refl, [], ◌∷◌, codes}
+-- Worked examples of long names that are cut short, and of filters.
+use Rattle.std.proofs.Common.{◌≡◌, refl, true, false, [], ◌∷◌, codes, option_map, Some}
 use Rattle.pg_words.specs.Joined.{Free}
-use Rattle.pg_words.specs.Line.{table}
-use Rattle.pg_words.specs.Spelled.{full_name, full_word, spelled_from}
+use Rattle.pg_words.specs.Line.{filters_in, table, uses_from}
+use Rattle.pg_words.specs.Spelled.{full_name, full_word, spelled_from, uses_in}
 
 -- one option begins so
 unique : full_word table (codes "--inc=*.c") ≡ codes "--include=*.c"
@@ -55,3 +55,10 @@ words : spelled_from table Free (codes "--inc" ∷ codes "--no-m" ∷ codes "-yn
     ≡ codes "--include" ∷ codes "--no-m" ∷ codes "-i" ∷ codes "-n" ∷ codes "--" ∷ codes "--inc" ∷ []
 unfolding full_name spelled_from
 words = refl
+
+-- the filters of both options stand in one order, and what is no filter is left out
+filters : option_map filters_in (uses_in (codes "--include=*.c" ∷ codes "--exclude" ∷ codes "a*" ∷ codes "--exclude-dir=d"
+    ∷ codes "x" ∷ codes "--inc" ∷ codes "--" ∷ codes "--" ∷ codes "--include=y" ∷ []))
+    ≡ Some ((true, codes "*.c") ∷ (false, codes "a*") ∷ (true, codes "--") ∷ [])
+unfolding full_name spelled_from uses_from
+filters = refl
