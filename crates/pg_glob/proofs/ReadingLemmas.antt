@@ -20,8 +20,8 @@ next-piece : (x : ℕ) (rest : Text) (p : Piece) (k : ℕ) → (p, k) ≡ piece 
 next-piece x rest p k e = rw (slice-end, ← skip-pieces k rest, ← e)
 
 -- the pieces of some parts and of the text behind them, with one part more
-pub next-part : {X : Type 0} (f : X → Piece) (parts more : List X) (part : X) (k : ℕ) (left : Text) (x : ℕ) (rest : Text) →
-    more ≡ parts ++ part ∷ [] → left ≡ x ∷ rest → (f part, k) ≡ piece x rest →
+pub next-part : {X : Type 0} (f : X → Piece) (parts more : List X) (part : X) (k : ℕ) (left : Text) (x : ℕ)
+    (rest : Text) → more ≡ parts ++ part ∷ [] → left ≡ x ∷ rest → (f part, k) ≡ piece x rest →
     map f more ++ pieces_of (take (length rest - k) (drop k rest)) ≡ map f parts ++ pieces_of left
 next-part f parts more part k left x rest m e h =
     rw (m, map-append, append_assoc, e) (ap (λ ps. map f parts ++ ps) (next-piece x rest (f part) k h))

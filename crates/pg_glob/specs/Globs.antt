@@ -1,7 +1,7 @@
 -- Globs, and the texts that they match (XCU 2.13). A slash and a leading dot are bytes like any other here, other than
 -- where a shell looks for files.
-use Rattle.std.specs.Prelude.{ℕ, zero, suc, ◌≡◌, Bool, true, false, ◌&&◌, ◌||◌, ◌==◌, if◌then◌else◌, List, [], ◌∷◌, ◌++◌}
-use Rattle.std.specs.Prelude.{Option, Some, None}
+use Rattle.std.specs.Prelude.{ℕ, zero, suc, ◌≡◌, Bool, true, false, ◌&&◌, ◌||◌, ◌==◌, if◌then◌else◌, List, [], ◌∷◌}
+use Rattle.std.specs.Prelude.{◌++◌, Option, Some, None}
 use Rattle.pg_bytes.specs.Sets.{Bytes, all, empty, one}
 use Rattle.pg_glob.specs.Brackets.{Text, bracket}
 

@@ -46,7 +46,8 @@ impl<A: Allocator> Filter<A> {
     ///
     /// `AllocError` where a request for memory was refused. Nothing is added then.
     pub fn push(&mut self, keeps: bool, glob: Glob<A>) -> Result<(), AllocError>
-        ensures ok { OnOk result (rules self.new ≡ rules self.old ++ record { keeps = keeps; glob = pieces glob } ∷ []) }
+        ensures ok { OnOk result
+            (rules self.new ≡ rules self.old ++ record { keeps = keeps; glob = pieces glob } ∷ []) }
         ensures err { OnErr result (rules self.new ≡ rules self.old) }
     {
         self.entries.push(Entry { keeps, glob })?;

@@ -29,8 +29,9 @@ impl<A: Allocator> Drop for Glob<A> {
 }
 
 impl<A: Allocator> Glob<A> {
-    /// Reads a glob. Every text is one: a `[` that no bracket goes on from stands for itself, and a backslash at the end
-    /// matches nothing. The time is linear in the text's length where each bracket has its end, else at most quadratic.
+    /// Reads a glob. Every text is one: a `[` that no bracket goes on from stands for itself, and a backslash at the
+    /// end matches nothing. The time is linear in the text's length where each bracket has its end, else at most
+    /// quadratic.
     ///
     /// # Errors
     ///

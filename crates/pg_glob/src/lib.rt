@@ -1,4 +1,6 @@
 //! Globs: patterns of file names, and which files a list of them leaves out.
+//!
+//! To read a glob and to add one to a list takes memory; nothing else does, and nothing else fails.
 #![tactic(auto)]
 
 mod bracket;
