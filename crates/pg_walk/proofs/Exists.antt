@@ -16,7 +16,6 @@ use Rattle.pg_walk.specs.Places.{Names, child, is_standard_input}
 use Rattle.pg_walk.specs.Walks.{place_cmp, Ascending, ItemsOf, FilesOf}
 use Rattle.pg_walk.specs.Descent.{EntryGives, InsideGives, OperandGives, Adds}
 use Rattle.pg_walk.specs.Left.{Spot, Operand, Entry, spot_gives, AreLeft}
-use Rattle.pg_walk.specs.declared.tree.FileKind.{FileKind}
 use Rattle.pg_walk.specs.declared.tree.FileKind.TheVariants.{Regular, Directory, Link, Other}
 use Rattle.pg_walk.specs.declared.item.Cause.TheVariants.{CannotOpen, IsDirectory, CannotList, BadName, TooDeep}
 use Rattle.pg_walk.proofs.Lists.{contains_none, contains_more, contains_one, front_or_rest, all_none, all_from_contains}
