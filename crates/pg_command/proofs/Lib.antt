@@ -3,3 +3,4 @@ pub mod RefusalLemmas
 pub mod StatusLemmas
 pub mod ToldLemmas
 pub mod WorkLemmas
+mod GlobLemmas

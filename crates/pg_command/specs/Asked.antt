@@ -1,7 +1,6 @@
 -- What is searched for where a search is asked for, and when rows have names.
 pub use Rattle.pg_words.specs.Asked.{Asked, asked_of}
-use Rattle.std.specs.Prelude.{ℕ, ◌-◌, ◌==◌, Bool, true, false, ◌&&◌, ◌||◌, if◌then◌else◌, List, [], ◌∷◌, map, ◌++◌}
-use Rattle.std.specs.Prelude.{length, slice_index, take}
+use Rattle.std.specs.Prelude.{ℕ, ◌==◌, Bool, true, false, ◌&&◌, ◌||◌, if◌then◌else◌, List, [], ◌∷◌, map, ◌++◌}
 use Rattle.pg_glob.specs.Filters.{Rule}
 use Rattle.pg_glob.specs.Globs.{pieces_of}
 use Rattle.pg_walk.specs.Scopes.{Scope}
@@ -50,8 +49,9 @@ file_rule filter = record { keeps = filter.0; glob = pieces_of filter.1 }
 
 -- a glob without a slash (47) at its end
 abbrev pub without_slash : List ℕ → List ℕ
-without_slash glob =
-    if slice_index glob (length glob - 1) == 47 then take (length glob - 1) glob else glob
+without_slash [] = []
+without_slash (x ∷ []) = if x == 47 then [] else x ∷ []
+without_slash (x ∷ y ∷ glob) = x ∷ without_slash (y ∷ glob)
 
 -- the rule of --exclude-dir
 abbrev pub directory_rule : List ℕ → Rule

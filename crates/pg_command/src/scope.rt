@@ -50,5 +50,8 @@ fn directory_filter(alloc: Global, globs: &[&str]) -> Result<Filter, AllocError>
 fn without_slash(glob: &str) -> &str
     ensures { result.now ≡ without_slash glob.now }
 {
-    glob.strip_suffix('/').unwrap_or(glob)
+    match glob.strip_suffix('/') {
+        Some(front) => front,
+        None => glob,
+    }
 }
