@@ -49,7 +49,8 @@ impl<'t, T: FileTree> Walked<'t, T> {
             × (walk.operands.items ≡ operands.now)) }
         ensures fresh { IfOk result (λ walk. (walk.asked.items ≡ []) × (walk.newest ≡ None)) }
         ensures given { IfOk result (λ walk. HasGiven (T.tells walk.walker.tree.now) (T.answers walk.walker.tree.now)
-            (map string_bytes walk.operands.items) (scope_of walk.walker.scope) [] (spots_in walk.walker.waiting.items)) }
+            (map string_bytes walk.operands.items) (scope_of walk.walker.scope) []
+            (spots_in walk.walker.waiting.items)) }
     {
         let walker = Walker::new(alloc, tree, operands, scope)?;
         let mut named = History::new();

@@ -71,7 +71,8 @@ behind_same set set' (suc i) h = h i (omega arith)
 pub separator_same : (format : Format) (end : ℕ) (set set' : ℕ → Bool) (earlier : Bool) (i : ℕ)
     → ((k : ℕ) → k < i → set k ≡ set' k) → separator format end set earlier i ≡ separator format end set' earlier i
 separator_same format end set set' earlier i h =
-    ap (λ t. when (has_separators format && not t && (earlier || list_any set (range_with_len 0 i))) (45 ∷ 45 ∷ end ∷ []))
+    ap (λ t. when (has_separators format && not t && (earlier || list_any set (range_with_len 0 i)))
+    (45 ∷ 45 ∷ end ∷ []))
     (behind_same set set' i h)
     ∙ ap (λ t. when (has_separators format && not (is_behind set' i) && (earlier || t)) (45 ∷ 45 ∷ end ∷ []))
     (any_same set set' 0 i (λ k low high. h k (omega arith)))

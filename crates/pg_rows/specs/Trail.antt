@@ -61,7 +61,8 @@ trail_of q format ls = run q format no_lines ls
 
 -- two hyphens stand before the window and the kept line behind it, where they don't follow a shown line
 abbrev pub gap_row : Format → ℕ → Bool → Trail → List ℕ
-gap_row format end earlier t = when (has_separators format && (if t.some then t.skipped else earlier)) (45 ∷ 45 ∷ end ∷ [])
+gap_row format end earlier t = when (has_separators format && (if t.some then t.skipped else earlier))
+    (45 ∷ 45 ∷ end ∷ [])
 
 abbrev pub context_rows : Format → ℕ → List ℕ → ℕ → List (List ℕ) → List ℕ
 context_rows format end name number [] = []

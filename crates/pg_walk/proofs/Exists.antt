@@ -21,7 +21,8 @@ use Rattle.pg_walk.specs.declared.item.Cause.TheVariants.{CannotOpen, IsDirector
 use Rattle.pg_walk.proofs.Lists.{contains_none, contains_more, contains_one, front_or_rest, all_none, all_from_contains}
 use Rattle.pg_walk.proofs.Lists.{bytes_same}
 use Rattle.pg_walk.proofs.Steps.{entry_leaf, entry_deep, entry_inside, inside_fails, some_bad, some_good, some_more}
-use Rattle.pg_walk.proofs.Steps.{some_all, SomeGive, operand_standard, operand_kind, operand_none, operand_refused, operand_inside}
+use Rattle.pg_walk.proofs.Steps.{some_all, SomeGive, operand_standard, operand_kind, operand_none, operand_refused}
+use Rattle.pg_walk.proofs.Steps.{operand_inside}
 use Rattle.pg_walk.proofs.Steps.{first_none, first_more, first_all, FirstGive}
 
 -- one more name in its place among ascending ones; `more` are the later ones with it

@@ -116,7 +116,8 @@ pub given_none : (tells : Type 0) (a : Answers) (ops : List Text) (s : Scope) (s
     → spots ≡ map (λ path. Operand path) ops → HasGiven tells a ops s [] spots
 given_none tells a ops s spots e = record {
   gives = λ t rest left.
-      whole_left (sights s a) s.recursive ops rest (let L : List Spot → Type 0 = λ ss. AreLeft (sights s a) s.recursive ss rest in subst L e left);
+      whole_left (sights s a) s.recursive ops rest
+      (let L : List Spot → Type 0 = λ ss. AreLeft (sights s a) s.recursive ss rest in subst L e left);
   follows = λ rest left.
       whole_within s ops rest (let L : List Spot → Type 0 = λ ss. MayBeLeft s ss rest in subst L e left);
 }
@@ -124,7 +125,8 @@ given_none tells a ops s spots e = record {
 -- one step of it
 pub given_more : (tells : Type 0) (a : Answers) (ops : List Text) (s : Scope) (items : List Found) (o : Option Found)
     (spot : Spot) (old before after : List Spot) → HasGiven tells a ops s items old → old ≡ spot ∷ before
-    → (tells → Unfolds (sights s a) s.recursive (spot_gives (sights s a) s.recursive spot) o before after) → UnfoldsWithin s (MayGive s spot) o before after
+    → (tells → Unfolds (sights s a) s.recursive (spot_gives (sights s a) s.recursive spot) o before after)
+    → UnfoldsWithin s (MayGive s spot) o before after
     → HasGiven tells a ops s (items ++ shown o) after
 given_more tells a ops s items o spot old before after h e unfolds within = record {
   gives = λ t rest left.

@@ -31,9 +31,11 @@ pub fn what_is_given<T: FileTree, A: Allocator + Copy>(walker: &Walker<'_, T, A>
     ensures begins { (operands : List Text) → (items : List Found) →
         HasGiven (T.tells walker.now.tree.now) (T.answers walker.now.tree.now) operands (scope_of walker.now.scope)
         items (spots_in walker.now.waiting.items) →
-        BeginsWalk (T.tells walker.now.tree.now) (T.answers walker.now.tree.now) operands (scope_of walker.now.scope) items }
+        BeginsWalk (T.tells walker.now.tree.now) (T.answers walker.now.tree.now) operands
+        (scope_of walker.now.scope) items }
     ensures whole { (operands : List Text) → (items : List Found) →
         HasGiven (T.tells walker.now.tree.now) (T.answers walker.now.tree.now) operands (scope_of walker.now.scope)
         items (spots_in walker.now.waiting.items) → spots_in walker.now.waiting.items ≡ [] →
-        IsWalk (T.tells walker.now.tree.now) (T.answers walker.now.tree.now) operands (scope_of walker.now.scope) items }
+        IsWalk (T.tells walker.now.tree.now) (T.answers walker.now.tree.now) operands
+        (scope_of walker.now.scope) items }
 {}

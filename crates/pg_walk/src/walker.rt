@@ -195,7 +195,8 @@ fn visit<A: Allocator + Copy, T: FileTree>(
         Unfolds (sights (scope_of scope.now) (T.answers tree.now)) scope.now.recursive
         (spot_gives (sights (scope_of scope.now) (T.answers tree.now)) scope.now.recursive (spot_of next))
         (option_map found item) (spots_in waiting.old.items) (spots_in waiting.new.items)) }
-    ensures within { IfOk result (λ item. UnfoldsWithin (scope_of scope.now) (MayGive (scope_of scope.now) (spot_of next))
+    ensures within { IfOk result (λ item. UnfoldsWithin (scope_of scope.now)
+        (MayGive (scope_of scope.now) (spot_of next))
         (option_map found item) (spots_in waiting.old.items) (spots_in waiting.new.items)) }
 {
     match next {

@@ -57,7 +57,8 @@ unfolding full_name spelled_from
 words = refl
 
 -- the filters of both options stand in one order, and what is no filter is left out
-filters : option_map filters_in (uses_in (codes "--include=*.c" ∷ codes "--exclude" ∷ codes "a*" ∷ codes "--exclude-dir=d"
+filters : option_map filters_in (uses_in (codes "--include=*.c" ∷ codes "--exclude" ∷ codes "a*" ∷ codes
+    "--exclude-dir=d"
     ∷ codes "x" ∷ codes "--inc" ∷ codes "--" ∷ codes "--" ∷ codes "--include=y" ∷ []))
     ≡ Some ((true, codes "*.c") ∷ (false, codes "a*") ∷ (true, codes "--") ∷ [])
 unfolding full_name spelled_from uses_from

@@ -34,7 +34,8 @@ returns-in_err-run-clause-fault g c =
     (map string_bytes start.walk.operands.items) (scope_of start.walk.walker.scope) start.spares_output
     (g.S.Store.past start.store) between listed.fresh.0 listed.walk.0 listed.walk.1 listed.walk.2 listed.spares
     (ap g.S.Store.past listed.store) in
-    let at = sought files.walk.walker.tree.now (map string_bytes files.walk.operands.items) (scope_of files.walk.walker.scope)
+    let at = sought files.walk.walker.tree.now (map string_bytes files.walk.operands.items)
+    (scope_of files.walk.walker.scope)
     files.spares_output (asked_for files.walk.asked.items) past' in
     let out : Stream = record { taken = g.W.Sink.taken c.args.out.now; failures = g.W.Sink.failures c.args.out.now } in
     let out' : Stream = record { taken = g.W.Sink.taken c.run.new.out; failures = g.W.Sink.failures c.run.new.out } in
@@ -75,7 +76,8 @@ returns-clause-success g c =
     (map string_bytes start.walk.operands.items) (scope_of start.walk.walker.scope) start.spares_output
     (g.S.Store.past start.store) between listed.fresh.0 listed.walk.0 listed.walk.1 listed.walk.2 listed.spares
     (ap g.S.Store.past listed.store) in
-    let at = sought files.walk.walker.tree.now (map string_bytes files.walk.operands.items) (scope_of files.walk.walker.scope)
+    let at = sought files.walk.walker.tree.now (map string_bytes files.walk.operands.items)
+    (scope_of files.walk.walker.scope)
     files.spares_output (asked_for files.walk.asked.items) past' in
     let done = c.in_ok-run.ensures.ok in
     let is = c.in_ok-run.ensures.same_list ∙ first in

@@ -12,7 +12,8 @@ returns-in_err-write-clause-part g c =
     let a = c.args in
     let ls = lines a.end a.line.now in
     let rows = marked_one a.format.now a.end a.prefix.now a.mark a.number ls c.requires
-    ∙ ap (λ b. prefix_text a.format.now a.prefix.now a.number a.mark b ++ terminated a.end ls) (sym c.has_text.ensures) in
+    ∙ ap (λ b. prefix_text a.format.now a.prefix.now a.number a.mark b ++ terminated a.end ls) (sym c.has_text.ensures)
+    in
     let front = prefix_text a.format.now a.prefix.now a.number a.mark c.has_text.result in
     let P : List ℕ → Type 0 = λ xs. TakesPart xs (g.W.Sink.taken a.out.now) (g.W.Sink.taken c.write.new.out) in
     on_err (P (marked_rows a.format.now a.end a.prefix.now a.mark a.number ls)) c.from_residual.result
@@ -23,7 +24,8 @@ returns-clause-all g c =
     let a = c.args in
     let ls = lines a.end a.line.now in
     let rows = marked_one a.format.now a.end a.prefix.now a.mark a.number ls c.requires
-    ∙ ap (λ b. prefix_text a.format.now a.prefix.now a.number a.mark b ++ terminated a.end ls) (sym c.has_text.ensures) in
+    ∙ ap (λ b. prefix_text a.format.now a.prefix.now a.number a.mark b ++ terminated a.end ls) (sym c.has_text.ensures)
+    in
     let front = prefix_text a.format.now a.prefix.now a.number a.mark c.has_text.result in
     let start = g.W.Sink.taken a.out.now in
     let middle = g.W.Sink.taken c.write.new.out in
@@ -39,7 +41,8 @@ returns-clause-part g c =
     let a = c.args in
     let ls = lines a.end a.line.now in
     let rows = marked_one a.format.now a.end a.prefix.now a.mark a.number ls c.requires
-    ∙ ap (λ b. prefix_text a.format.now a.prefix.now a.number a.mark b ++ terminated a.end ls) (sym c.has_text.ensures) in
+    ∙ ap (λ b. prefix_text a.format.now a.prefix.now a.number a.mark b ++ terminated a.end ls) (sym c.has_text.ensures)
+    in
     let front = prefix_text a.format.now a.prefix.now a.number a.mark c.has_text.result in
     let start = g.W.Sink.taken a.out.now in
     let middle = g.W.Sink.taken c.write.new.out in

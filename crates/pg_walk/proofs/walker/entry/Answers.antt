@@ -19,7 +19,8 @@ returns-in-Ok-Some-Regular-clause-gives g c = λ tells r.
     let path = string_bytes c.args.path in
     let old = spots_in c.args.waiting.now.items in
     let kind = ap (λ p. a.kind p false) (sym c.as_str.ensures.value)
-    ∙ ((rw c.in-Ok-Some-Regular.field-0-is at c.in-Ok-Some-Regular.ensures.tells) tells ∙ ap Is c.in-Ok-Some-Regular.field-0-0-is) in
+    ∙ ((rw c.in-Ok-Some-Regular.field-0-is at c.in-Ok-Some-Regular.ensures.tells) tells
+    ∙ ap Is c.in-Ok-Some-Regular.field-0-0-is) in
     unfolds_leaf a r (EntryGives a c.args.depth path) (Some (File path)) old
     (entry_leaf a c.args.depth path (Is Regular) (Some (File path)) kind refl (λ k d. cc) [] _ refl)
 
@@ -29,7 +30,8 @@ returns-in-Ok-Some-Link-clause-gives g c = λ tells r.
     let path = string_bytes c.args.path in
     let old = spots_in c.args.waiting.now.items in
     let kind = ap (λ p. a.kind p false) (sym c.as_str.ensures.value)
-    ∙ ((rw c.in-Ok-Some-Link.field-0-is at c.in-Ok-Some-Link.ensures.tells) tells ∙ ap Is c.in-Ok-Some-Link.field-0-0-is) in
+    ∙ ((rw c.in-Ok-Some-Link.field-0-is at c.in-Ok-Some-Link.ensures.tells) tells
+    ∙ ap Is c.in-Ok-Some-Link.field-0-0-is) in
     unfolds_leaf a r (EntryGives a c.args.depth path) (None) old
     (entry_leaf a c.args.depth path (Is Link) (None) kind refl (λ k d. cc) [] _ refl)
 
@@ -39,7 +41,8 @@ returns-in-Ok-Some-Other-clause-gives g c = λ tells r.
     let path = string_bytes c.args.path in
     let old = spots_in c.args.waiting.now.items in
     let kind = ap (λ p. a.kind p false) (sym c.as_str.ensures.value)
-    ∙ ((rw c.in-Ok-Some-Other.field-0-is at c.in-Ok-Some-Other.ensures.tells) tells ∙ ap Is c.in-Ok-Some-Other.field-0-0-is) in
+    ∙ ((rw c.in-Ok-Some-Other.field-0-is at c.in-Ok-Some-Other.ensures.tells) tells
+    ∙ ap Is c.in-Ok-Some-Other.field-0-0-is) in
     unfolds_leaf a r (EntryGives a c.args.depth path) (None) old
     (entry_leaf a c.args.depth path (Is Other) (None) kind refl (λ k d. cc) [] _ refl)
 
@@ -69,7 +72,8 @@ returns-then-depth-gt-DEEPEST-clause-gives g c = λ tells r.
     let path = string_bytes c.args.path in
     let old = spots_in c.args.waiting.now.items in
     let kind = ap (λ p. a.kind p false) (sym c.as_str.ensures.value)
-    ∙ ((rw c.in-Ok-Some-Directory.field-0-is at c.in-Ok-Some-Directory.ensures.tells) tells ∙ ap Is c.in-Ok-Some-Directory.field-0-0-is) in
+    ∙ ((rw c.in-Ok-Some-Directory.field-0-is at c.in-Ok-Some-Directory.ensures.tells) tells
+    ∙ ap Is c.in-Ok-Some-Directory.field-0-0-is) in
     unfolds_leaf a r (EntryGives a c.args.depth path) (Some (Fault path TooDeep)) old
     (entry_deep a c.args.depth path kind c.if-depth-gt-DEEPEST.true [] _ refl)
 
@@ -80,7 +84,8 @@ returns-else-depth-gt-DEEPEST-clause-gives g c = λ tells.
     let old = spots_in c.args.waiting.now.items in
     let new = spots_in c.inside.new.waiting.items in
     let kind = ap (λ p. a.kind p false) (sym c.as_str.ensures.value)
-    ∙ ((rw c.in-Ok-Some-Directory.field-0-is at c.in-Ok-Some-Directory.ensures.tells) tells ∙ ap Is c.in-Ok-Some-Directory.field-0-0-is) in
+    ∙ ((rw c.in-Ok-Some-Directory.field-0-is at c.in-Ok-Some-Directory.ensures.tells) tells
+    ∙ ap Is c.in-Ok-Some-Directory.field-0-0-is) in
     IfOk-weaker c.inside.result _ _
     (λ item h r. unfolds_as a r (InsideGives a c.args.depth path) (EntryGives a c.args.depth path)
     (option_map found item) old new

@@ -7,7 +7,8 @@ returns-in-Operand-clause-gives g c = λ tells. rw c.in-Operand.is (c.operand.en
 
 pub returns-in-Entry-clause-gives : goal.returns-in-Entry-clause-gives
 returns-in-Entry-clause-gives g c = λ tells.
-    rw c.in-Entry.is (IfOk-weaker c.entry.result _ _ (λ item h. h c.args.scope.now.recursive) (c.entry.ensures.gives tells))
+    rw c.in-Entry.is (IfOk-weaker c.entry.result _ _ (λ item h. h c.args.scope.now.recursive)
+    (c.entry.ensures.gives tells))
 
 pub returns-in-Operand-clause-within : goal.returns-in-Operand-clause-within
 returns-in-Operand-clause-within g c = rw c.in-Operand.is c.operand.ensures.within

@@ -20,9 +20,11 @@ invariant_of-self-2 g c =
     let given = c.in_ok-walk.ensures.given in
     let none = c.in_ok-walk.ensures.fresh.0 in
     record {
-      begins = merely (none_asked (λ os items. BeginsWalk tells a os (scope_of w.scope) items) ops ops walk.asked.items refl
+      begins = merely (none_asked (λ os items. BeginsWalk tells a os (scope_of w.scope) items) ops ops walk.asked.items
+          refl
           none (c.what_is_given.ensures.begins ops [] given));
-      goes_on = λ _. merely (none_asked (λ os items. HasGiven tells a os (scope_of w.scope) items (spots_in w.waiting.items))
+      goes_on = λ _. merely (none_asked (λ os items. HasGiven tells a os (scope_of w.scope) items
+          (spots_in w.waiting.items))
           ops ops walk.asked.items refl none given);
       all_asked = λ e. absurd (false≢true e);
       is_newest = ap (λ o. shown (option_map found o)) c.in_ok-walk.ensures.fresh.1 ∙ none_newest walk.asked.items none;

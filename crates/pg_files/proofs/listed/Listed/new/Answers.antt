@@ -15,9 +15,11 @@ invariant_of-result g c =
     let past = g.S.Store.past c.args.store in
     let given = c.over_nothing-walker.ensures.fresh in
     record {
-      begins = merely (none_asked (λ ops items. BeginsWalk tells a ops (scope_of w.scope) items) [] _ c.new-2.result.items
+      begins = merely (none_asked (λ ops items. BeginsWalk tells a ops (scope_of w.scope) items) [] _
+          c.new-2.result.items
           (ap (map string_bytes) c.new.ensures) c.new-2.ensures (c.what_is_given.ensures.begins [] [] given));
-      goes_on = λ _. merely (none_asked (λ ops items. HasGiven tells a ops (scope_of w.scope) items (spots_in w.waiting.items))
+      goes_on = λ _. merely (none_asked (λ ops items. HasGiven tells a ops (scope_of w.scope) items
+          (spots_in w.waiting.items))
           [] _ c.new-2.result.items (ap (map string_bytes) c.new.ensures) c.new-2.ensures given);
       all_asked = λ e. absurd (false≢true e);
       is_newest = none_newest c.new-2.result.items c.new-2.ensures;

@@ -16,7 +16,8 @@ returns-clause-same_list g c =
     let past = g.S.Store.past c.args.self.now.store in
     let past' = g.S.Store.past c.read.new.self in
     same_sought g.T.FileTree.tells g.T.FileTree.answers (map string_bytes c.args.self.now.walk.operands.items)
-    c.args.self.now.walk.walker.tree.now c.args.self.now.walk.walker.tree.now (scope_of c.args.self.now.walk.walker.scope)
+    c.args.self.now.walk.walker.tree.now c.args.self.now.walk.walker.tree.now
+    (scope_of c.args.self.now.walk.walker.scope)
     (scope_of c.args.self.now.walk.walker.scope) refl refl c.args.self.now.spares_output asked asked past past'
     (read_behind c.read.new.into asked past past' c.read.result c.requires.reading c.read.ensures.given)
 

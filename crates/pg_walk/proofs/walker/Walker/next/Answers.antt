@@ -32,11 +32,13 @@ returns-in-Some-item-clause-gives g c = λ operands items h.
     let UQ : Scope g.row.A.Denot → Type 0 = λ b. U tree b c.in_ok-item.item in
     let UR : Option (Item g.row.A.Denot) → Type 0 = λ o. U tree r o in
     let W : Scope g.row.A.Denot → Option (Item g.row.A.Denot) → Type 0 = λ b o.
-    UnfoldsWithin (scope_of b) (MayGive (scope_of b) (spot_of c.in-Some.next)) (option_map found o) (spots_in c.pop.new.self.items)
+    UnfoldsWithin (scope_of b) (MayGive (scope_of b) (spot_of c.in-Some.next)) (option_map found o)
+    (spots_in c.pop.new.self.items)
     (spots_in c.visit.new.waiting.items) in
     let WQ : Scope g.row.A.Denot → Type 0 = λ b. W b c.in_ok-item.item in
     let WR : Option (Item g.row.A.Denot) → Type 0 = λ o. W r o in
-    given_more (g.T.FileTree.tells tree) a operands (scope_of r) items (Some (found c.in-Some-item.item)) (spot_of c.in-Some.next)
+    given_more (g.T.FileTree.tells tree) a operands (scope_of r) items (Some (found c.in-Some-item.item))
+    (spot_of c.in-Some.next)
     (spots_in c.loop.self.waiting.items) (spots_in c.pop.new.self.items) (spots_in c.visit.new.waiting.items)
     (c.loop.invariant.2 operands items h)
     (ap spots_in c.in-Some.ensures.items ∙ spots_more c.pop.new.self.items c.in-Some.next)
@@ -50,9 +52,11 @@ loop-preserved g c = (
   λ operands items h.
       let a = g.T.FileTree.answers c.args.self.now.tree.now in
       let r = c.args.self.now.scope in
-      given_same (g.T.FileTree.tells c.args.self.now.tree.now) a operands (scope_of r) items (spots_in c.visit.new.waiting.items) (
+      given_same (g.T.FileTree.tells c.args.self.now.tree.now) a operands (scope_of r) items
+      (spots_in c.visit.new.waiting.items) (
       let tree = c.args.self.now.tree.now in
-      let U : g.row.T.Denot → Scope g.row.A.Denot → Option (Item g.row.A.Denot) → Type 0 = λ t b o. g.T.FileTree.tells t →
+      let U : g.row.T.Denot → Scope g.row.A.Denot → Option (Item g.row.A.Denot) → Type 0 = λ t b o.
+      g.T.FileTree.tells t →
       Unfolds (sights (scope_of b) (g.T.FileTree.answers t)) b.recursive
       (spot_gives (sights (scope_of b) (g.T.FileTree.answers t)) b.recursive (spot_of c.in-Some.next))
       (option_map found o) (spots_in c.pop.new.self.items) (spots_in c.visit.new.waiting.items) in
@@ -60,7 +64,8 @@ loop-preserved g c = (
       let UQ : Scope g.row.A.Denot → Type 0 = λ b. U tree b c.in_ok-item.item in
       let UR : Option (Item g.row.A.Denot) → Type 0 = λ o. U tree r o in
       let W : Scope g.row.A.Denot → Option (Item g.row.A.Denot) → Type 0 = λ b o.
-      UnfoldsWithin (scope_of b) (MayGive (scope_of b) (spot_of c.in-Some.next)) (option_map found o) (spots_in c.pop.new.self.items)
+      UnfoldsWithin (scope_of b) (MayGive (scope_of b) (spot_of c.in-Some.next)) (option_map found o)
+      (spots_in c.pop.new.self.items)
       (spots_in c.visit.new.waiting.items) in
       let WQ : Scope g.row.A.Denot → Type 0 = λ b. W b c.in_ok-item.item in
       let WR : Option (Item g.row.A.Denot) → Type 0 = λ o. W r o in
