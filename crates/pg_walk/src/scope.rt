@@ -6,11 +6,11 @@ use crate::tree::{FileKind, FileTree, LookFault};
 use pg_glob::Filter;
 use std::alloc::{Allocator, Global};
 
-/// Which part of what operands lead to a walk is asked for.
+/// What a walk is asked for: whether it goes into directories, and which files and directories it leaves out.
 pub struct Scope<A: Allocator = Global> {
     /// Whether directories are visited.
     pub recursive: bool,
-    /// Which files are left out: anything that is no directory.
+    /// Which files are left out, links, pipes and devices among them.
     pub files: Filter<A>,
     /// Which directories are left out, with all that is in them.
     pub directories: Filter<A>,
@@ -27,7 +27,7 @@ impl<A: Allocator> Drop for Scope<A> {
 }
 
 impl<A: Allocator> Scope<A> {
-    /// All of it, with or without what is in directories.
+    /// Nothing is left out, and directories are visited or not.
     pub fn all(alloc: A, recursive: bool) -> Scope<A>
     where
         A: Copy,
