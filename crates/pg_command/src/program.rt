@@ -43,10 +43,10 @@ pub fn command<
     requires { files.old.walk.asked.items ≡ [] }
     ensures commands { Commands (T.tells tree.now) (T.answers tree.now) (map string_bytes words.now)
         (S.past files.old.store) (S.past files.new.store)
-        (record { taken = W.taken out.old; failures = W.failures out.old })
-        (record { taken = W.taken out.new; failures = W.failures out.new })
-        (record { taken = E.taken err.old; failures = E.failures err.old })
-        (record { taken = E.taken err.new; failures = E.failures err.new }) result }
+        (W.stream out.old)
+        (W.stream out.new)
+        (E.stream err.old)
+        (E.stream err.new) result }
     ensures small { IfOk result (λ status. status ≤ 2) }
 {
     let Ok(joined) = Words::new(alloc, words) else {
@@ -64,8 +64,8 @@ pub fn command<
 fn refuse<E: Sink>(alloc: Global, fault: WordsFault, err: &mut E) -> Result<u8, Told>
     ensures fault { IsErr result }
     ensures told { TellsOfWords fault
-        (record { taken = E.taken err.old; failures = E.failures err.old })
-        (record { taken = E.taken err.new; failures = E.failures err.new }) }
+        (E.stream err.old)
+        (E.stream err.new) }
 {
     match fault {
         WordsFault::Refused(text) => {
@@ -84,10 +84,10 @@ fn refuse<E: Sink>(alloc: Global, fault: WordsFault, err: &mut E) -> Result<u8, 
 /// Writes a text that was asked for.
 fn show<W: Sink, E: Sink>(alloc: Global, text: &str, out: &mut W, err: &mut E) -> Result<u8, Told>
     ensures { IsShown text.now
-        (record { taken = W.taken out.old; failures = W.failures out.old })
-        (record { taken = W.taken out.new; failures = W.failures out.new })
-        (record { taken = E.taken err.old; failures = E.failures err.old })
-        (record { taken = E.taken err.new; failures = E.failures err.new }) result }
+        (W.stream out.old)
+        (W.stream out.new)
+        (E.stream err.old)
+        (E.stream err.new) result }
 {
     if write_all(out, text.as_bytes()).is_err() {
         report(alloc, Fault::WriteFailed, err);
@@ -114,11 +114,11 @@ pub fn run<'t, R: Threads + Wait + Clock + Sync, T: FileTree, S: Store + Drop, W
         (S.past files.old.store) (S.past files.new.store)
         (record { taken = out.old.taken; failures = out.old.failures })
         (record { taken = out.new.taken; failures = out.new.failures })
-        (record { taken = E.taken err.old; failures = E.failures err.old })
-        (record { taken = E.taken err.new; failures = E.failures err.new }) result) }
+        (E.stream err.old)
+        (E.stream err.new) result) }
     ensures told { IfErr words.entry (λ fault. (result ≡ 2) × Tells fault
-        (record { taken = E.taken err.old; failures = E.failures err.old })
-        (record { taken = E.taken err.new; failures = E.failures err.new })) }
+        (E.stream err.old)
+        (E.stream err.new)) }
     ensures unused { OnErr words.entry ((files.new ≡ files.old) × (out.new ≡ out.old)) }
     ensures small { result ≤ 2 }
 {
@@ -144,8 +144,8 @@ fn run_words<'t, R: Threads + Wait + Clock + Sync, T: FileTree, S: Store + Drop,
         (S.past files.old.store) (S.past files.new.store)
         (record { taken = out.old.taken; failures = out.old.failures })
         (record { taken = out.new.taken; failures = out.new.failures })
-        (record { taken = E.taken err.old; failures = E.failures err.old })
-        (record { taken = E.taken err.new; failures = E.failures err.new }) result }
+        (E.stream err.old)
+        (E.stream err.new) result }
     ensures small { result ≤ 2 }
 {
     let answer = command(rt, alloc, words, tree, files, out, err);

@@ -13,7 +13,7 @@ use Rattle.pg_lines.specs.Blocks.{BlockData}
 use Rattle.pg_lines.specs.Searched.{Searched}
 use Rattle.pg_rows.specs.Output.{HasRoom, output, status}
 use Rattle.pg_rows.specs.Enough.{is_enough}
-use Rattle.pg_rows.specs.Sink.{IsBeginning}
+use Rattle.pg_rows.specs.Sink.{Stream, IsBeginning}
 use Rattle.pg_seq.specs.declared.answers.Arrival.TheVariants.{Taken}
 use Rattle.pg_seq.specs.declared.answers.SinkFault.{SinkFault}
 use Rattle.pg_seq.specs.declared.answers.SinkFault.TheVariants.{WriteFailed, Failed}
@@ -27,7 +27,6 @@ use Rattle.pg_seq.proofs.BeginLemmas.{begins_trans, shape_of}
 use Rattle.pg_seq.proofs.CursorLemmas.{plan_begins}
 use Rattle.pg_seq.proofs.FrontLemmas.{front_all}
 use Rattle.pg_seq.proofs.KeyLemmas.{next_not_taken}
-use Rattle.pg_run.specs.Outcome.{Stream}
 use Rattle.pg_run.specs.Holding.{Aim, Holds, May, Broke, IsWritten, past_of, format_of, output_of}
 use Rattle.pg_run.specs.Holding.{waiting}
 use Rattle.pg_run.specs.declared.engine.Engine.{Engine}

@@ -178,8 +178,8 @@ impl<A: Allocator + Copy> Engine<A> {
     ghost use Rattle.pg_lines.specs.Cutter.{Stands as CutterStands, IsDrained, unfed};
     ghost use Rattle.pg_rows.specs.Enough.{is_enough};
     ghost use Rattle.pg_seq.specs.Plan.{Step, Opens, Announces, Ends, Misses, entries_of, is_open};
-    ghost use Rattle.pg_run.specs.Outcome.{Stream};
-    ghost use Rattle.pg_run.specs.Holding.{Aim, Holds, IsReady, IsWritten, Broke, format_of, stream};
+    ghost use Rattle.pg_rows.specs.Sink.{Stream};
+    ghost use Rattle.pg_run.specs.Holding.{Aim, Holds, IsReady, IsWritten, Broke, format_of};
 
     /// An engine that has no file yet.
     pub(crate) fn new(alloc: A, query: Query<A>, setup: Setup) -> Result<Engine<A>, AllocError>
@@ -255,12 +255,12 @@ impl<A: Allocator + Copy> Engine<A> {
         ensures kept { (self.new.spread ≡ self.old.spread) × (self.new.setup ≡ self.old.setup) }
         ensures none { self.new.round.items ≡ [] }
         ensures ok { (aim : Aim) → (steps : List Step) →
-            Holds self.old aim steps (stream (W.taken out.old) (W.failures out.old)) →
-            OnOk result (Holds self.new aim steps (stream (W.taken out.new) (W.failures out.new))
-            × IsWritten aim steps (stream (W.taken out.new) (W.failures out.new))) }
+            Holds self.old aim steps (W.stream out.old) →
+            OnOk result (Holds self.new aim steps (W.stream out.new)
+            × IsWritten aim steps (W.stream out.new)) }
         ensures err { (aim : Aim) → (steps : List Step) →
-            Holds self.old aim steps (stream (W.taken out.old) (W.failures out.old)) →
-            IfErr result (Broke aim steps (stream (W.taken out.new) (W.failures out.new))) }
+            Holds self.old aim steps (W.stream out.old) →
+            IfErr result (Broke aim steps (W.stream out.new)) }
     {
         self.sequencer.drain(out)?;
         self.written = self.files;
@@ -270,11 +270,11 @@ impl<A: Allocator + Copy> Engine<A> {
     /// Has the writer send on the rows that it holds back, where that is due.
     pub(crate) fn send_on<W: Sink>(&self, is_due: bool, out: &mut W) -> Result<(), RunFault>
         ensures ok { (aim : Aim) → (steps : List Step) →
-            Holds self.now aim steps (stream (W.taken out.old) (W.failures out.old)) →
-            OnOk result (Holds self.now aim steps (stream (W.taken out.new) (W.failures out.new))) }
+            Holds self.now aim steps (W.stream out.old) →
+            OnOk result (Holds self.now aim steps (W.stream out.new)) }
         ensures err { (aim : Aim) → (steps : List Step) →
-            Holds self.now aim steps (stream (W.taken out.old) (W.failures out.old)) →
-            IfErr result (Broke aim steps (stream (W.taken out.new) (W.failures out.new))) }
+            Holds self.now aim steps (W.stream out.old) →
+            IfErr result (Broke aim steps (W.stream out.new)) }
     {
         if !is_due {
             return Ok(());
@@ -296,17 +296,17 @@ impl<A: Allocator + Copy> Engine<A> {
     ) -> Result<(), RunFault>
         requires room { self.old.spread ≡ true → length self.old.round.items < self.old.setup.round }
         requires ready { (aim : Aim) × (steps : List Step)
-            × IsReady self.old aim steps (stream (W.taken out.old) (W.failures out.old)) (Announces block) }
+            × IsReady self.old aim steps (W.stream out.old) (Announces block) }
         ensures ok { (aim : Aim) → (steps : List Step) →
-            IsReady self.old aim steps (stream (W.taken out.old) (W.failures out.old)) (Announces block) →
-            OnOk result (Holds self.new aim (Announces block ∷ steps) (stream (W.taken out.new) (W.failures out.new))) }
+            IsReady self.old aim steps (W.stream out.old) (Announces block) →
+            OnOk result (Holds self.new aim (Announces block ∷ steps) (W.stream out.new)) }
         ensures written { (aim : Aim) → (steps : List Step) →
-            IsReady self.old aim steps (stream (W.taken out.old) (W.failures out.old)) (Announces block) →
+            IsReady self.old aim steps (W.stream out.old) (Announces block) →
             self.old.spread ≡ false →
-            OnOk result (IsWritten aim (Announces block ∷ steps) (stream (W.taken out.new) (W.failures out.new))) }
+            OnOk result (IsWritten aim (Announces block ∷ steps) (W.stream out.new)) }
         ensures err { (aim : Aim) → (steps : List Step) →
-            IsReady self.old aim steps (stream (W.taken out.old) (W.failures out.old)) (Announces block) →
-            IfErr result (Broke aim (Announces block ∷ steps) (stream (W.taken out.new) (W.failures out.new))) }
+            IsReady self.old aim steps (W.stream out.old) (Announces block) →
+            IfErr result (Broke aim (Announces block ∷ steps) (W.stream out.new)) }
     {
         if self.spread {
             self.add(block)?;
@@ -444,8 +444,7 @@ impl<A: Allocator + Copy + Send + Sync> Engine<A> {
     ghost use Rattle.pg_lines.specs.Cutter.{Stands as CutterStands, IsDrained, unfed};
     ghost use Rattle.pg_rows.specs.Enough.{is_enough};
     ghost use Rattle.pg_seq.specs.Plan.{Step, Opens, Announces, Ends, Misses, entries_of, is_open};
-    ghost use Rattle.pg_run.specs.Outcome.{Stream};
-    ghost use Rattle.pg_run.specs.Holding.{Aim, Holds, IsReady, IsWritten, IsWrittenFirst, Broke, format_of, stream};
+    ghost use Rattle.pg_run.specs.Holding.{Aim, Holds, IsReady, IsWritten, IsWrittenFirst, Broke, format_of};
 
     /// Searches the blocks that wait, by several threads where that pays, and writes all that may be written. Meanwhile
     /// the reader reads on.
@@ -465,18 +464,18 @@ impl<A: Allocator + Copy + Send + Sync> Engine<A> {
     ) -> Result<(), RunFault>
         requires ready { D.ready reader.old from.old }
         requires holds { (aim : Aim) × (steps : List Step)
-            × Holds self.old aim steps (stream (W.taken out.old) (W.failures out.old)) }
+            × Holds self.old aim steps (W.stream out.old) }
         ensures ready { D.ready reader.new from.new }
         ensures read { (r : D) → (f : X) → D.reaches r f reader.old from.old → D.reaches r f reader.new from.new }
         ensures kept { (self.new.spread ≡ self.old.spread) × (self.new.setup ≡ self.old.setup) }
         ensures none { OnOk result (self.new.round.items ≡ []) }
         ensures ok { (aim : Aim) → (steps : List Step) →
-            Holds self.old aim steps (stream (W.taken out.old) (W.failures out.old)) →
-            OnOk result (Holds self.new aim steps (stream (W.taken out.new) (W.failures out.new))
-            × IsWritten aim steps (stream (W.taken out.new) (W.failures out.new))) }
+            Holds self.old aim steps (W.stream out.old) →
+            OnOk result (Holds self.new aim steps (W.stream out.new)
+            × IsWritten aim steps (W.stream out.new)) }
         ensures err { (aim : Aim) → (steps : List Step) →
-            Holds self.old aim steps (stream (W.taken out.old) (W.failures out.old)) →
-            IfErr result (Broke aim steps (stream (W.taken out.new) (W.failures out.new))) }
+            Holds self.old aim steps (W.stream out.old) →
+            IfErr result (Broke aim steps (W.stream out.new)) }
     {
         self.reserve = None;
         let bytes = self.waiting();
@@ -517,16 +516,16 @@ impl<A: Allocator + Copy + Send + Sync> Engine<A> {
         out: &mut W,
     ) -> Result<(), RunFault>
         requires holds { (aim : Aim) × (steps : List Step)
-            × Holds self.old aim steps (stream (W.taken out.old) (W.failures out.old)) }
+            × Holds self.old aim steps (W.stream out.old) }
         ensures kept { (self.new.spread ≡ self.old.spread) × (self.new.setup ≡ self.old.setup) }
         ensures none { OnOk result (self.new.round.items ≡ []) }
         ensures ok { (aim : Aim) → (steps : List Step) →
-            Holds self.old aim steps (stream (W.taken out.old) (W.failures out.old)) →
-            OnOk result (Holds self.new aim steps (stream (W.taken out.new) (W.failures out.new))
-            × IsWritten aim steps (stream (W.taken out.new) (W.failures out.new))) }
+            Holds self.old aim steps (W.stream out.old) →
+            OnOk result (Holds self.new aim steps (W.stream out.new)
+            × IsWritten aim steps (W.stream out.new)) }
         ensures err { (aim : Aim) → (steps : List Step) →
-            Holds self.old aim steps (stream (W.taken out.old) (W.failures out.old)) →
-            IfErr result (Broke aim steps (stream (W.taken out.new) (W.failures out.new))) }
+            Holds self.old aim steps (W.stream out.old) →
+            IfErr result (Broke aim steps (W.stream out.new)) }
     {
         if self.round.is_empty() {
             return self.drain(out);
@@ -542,14 +541,14 @@ impl<A: Allocator + Copy + Send + Sync> Engine<A> {
         out: &mut W,
     ) -> Result<(), RunFault>
         requires holds { (aim : Aim) × (steps : List Step)
-            × Holds self.old aim steps (stream (W.taken out.old) (W.failures out.old)) }
+            × Holds self.old aim steps (W.stream out.old) }
         ensures room { OnOk result (self.new.spread ≡ true → length self.new.round.items < self.new.setup.round) }
         ensures ok { (aim : Aim) → (steps : List Step) →
-            Holds self.old aim steps (stream (W.taken out.old) (W.failures out.old)) →
-            OnOk result (Holds self.new aim steps (stream (W.taken out.new) (W.failures out.new))) }
+            Holds self.old aim steps (W.stream out.old) →
+            OnOk result (Holds self.new aim steps (W.stream out.new)) }
         ensures err { (aim : Aim) → (steps : List Step) →
-            Holds self.old aim steps (stream (W.taken out.old) (W.failures out.old)) →
-            IfErr result (Broke aim steps (stream (W.taken out.new) (W.failures out.new))) }
+            Holds self.old aim steps (W.stream out.old) →
+            IfErr result (Broke aim steps (W.stream out.new)) }
     {
         if !self.is_full() {
             return Ok(());
@@ -565,13 +564,13 @@ impl<A: Allocator + Copy + Send + Sync> Engine<A> {
         out: &mut W,
     ) -> Result<(), RunFault>
         requires holds { (aim : Aim) × (steps : List Step)
-            × Holds self.old aim steps (stream (W.taken out.old) (W.failures out.old)) }
+            × Holds self.old aim steps (W.stream out.old) }
         ensures ok { (aim : Aim) → (steps : List Step) →
-            Holds self.old aim steps (stream (W.taken out.old) (W.failures out.old)) →
-            OnOk result (Holds self.new aim steps (stream (W.taken out.new) (W.failures out.new))) }
+            Holds self.old aim steps (W.stream out.old) →
+            OnOk result (Holds self.new aim steps (W.stream out.new)) }
         ensures err { (aim : Aim) → (steps : List Step) →
-            Holds self.old aim steps (stream (W.taken out.old) (W.failures out.old)) →
-            IfErr result (Broke aim steps (stream (W.taken out.new) (W.failures out.new))) }
+            Holds self.old aim steps (W.stream out.old) →
+            IfErr result (Broke aim steps (W.stream out.new)) }
     {
         if !self.has_waiting() {
             return Ok(());
@@ -588,13 +587,13 @@ impl<A: Allocator + Copy + Send + Sync> Engine<A> {
         out: &mut W,
     ) -> Result<(), RunFault>
         requires holds { (aim : Aim) × (steps : List Step)
-            × Holds self.old aim steps (stream (W.taken out.old) (W.failures out.old)) }
+            × Holds self.old aim steps (W.stream out.old) }
         ensures ok { (aim : Aim) → (steps : List Step) →
-            Holds self.old aim steps (stream (W.taken out.old) (W.failures out.old)) →
-            OnOk result (Holds self.new aim steps (stream (W.taken out.new) (W.failures out.new))) }
+            Holds self.old aim steps (W.stream out.old) →
+            OnOk result (Holds self.new aim steps (W.stream out.new)) }
         ensures err { (aim : Aim) → (steps : List Step) →
-            Holds self.old aim steps (stream (W.taken out.old) (W.failures out.old)) →
-            IfErr result (Broke aim steps (stream (W.taken out.new) (W.failures out.new))) }
+            Holds self.old aim steps (W.stream out.old) →
+            IfErr result (Broke aim steps (W.stream out.new)) }
     {
         if self.has_waiting() && !self.has_many_empty() {
             return Ok(());
@@ -612,10 +611,10 @@ impl<A: Allocator + Copy + Send + Sync> Engine<A> {
         out: &mut W,
     ) -> RunFault
         requires holds { (aim : Aim) × (steps : List Step)
-            × Holds self.old aim steps (stream (W.taken out.old) (W.failures out.old)) }
+            × Holds self.old aim steps (W.stream out.old) }
         ensures { (aim : Aim) → (steps : List Step) →
-            Holds self.old aim steps (stream (W.taken out.old) (W.failures out.old)) →
-            IsWrittenFirst aim steps (stream (W.taken out.new) (W.failures out.new)) fault result }
+            Holds self.old aim steps (W.stream out.old) →
+            IsWrittenFirst aim steps (W.stream out.new) fault result }
     {
         match self.flush(rt, gate, out) {
             Ok(()) => fault,
@@ -631,19 +630,19 @@ impl<A: Allocator + Copy + Send + Sync> Engine<A> {
         out: &mut W,
     ) -> Result<u8, RunFault>
         requires holds { (aim : Aim) × (steps : List Step)
-            × Holds self.old aim steps (stream (W.taken out.old) (W.failures out.old)) × (is_open steps ≡ false) }
+            × Holds self.old aim steps (W.stream out.old) × (is_open steps ≡ false) }
         ensures written { (aim : Aim) → (steps : List Step) →
-            Holds self.old aim steps (stream (W.taken out.old) (W.failures out.old)) →
-            OnOk result (IsWritten aim steps (stream (W.taken out.new) (W.failures out.new))) }
+            Holds self.old aim steps (W.stream out.old) →
+            OnOk result (IsWritten aim steps (W.stream out.new)) }
         ensures status { (aim : Aim) → (steps : List Step) →
-            Holds self.old aim steps (stream (W.taken out.old) (W.failures out.old)) →
+            Holds self.old aim steps (W.stream out.old) →
             IfOk result (λ answer. answer ≡ status aim.query (format_of aim) (entries_of steps)) }
         ensures calm { (aim : Aim) → (steps : List Step) →
-            Holds self.old aim steps (stream (W.taken out.old) (W.failures out.old)) →
-            OnOk result (W.failures out.new ≡ aim.out.failures) }
+            Holds self.old aim steps (W.stream out.old) →
+            OnOk result ((W.stream out.new).failures ≡ aim.out.failures) }
         ensures err { (aim : Aim) → (steps : List Step) →
-            Holds self.old aim steps (stream (W.taken out.old) (W.failures out.old)) →
-            IfErr result (Broke aim steps (stream (W.taken out.new) (W.failures out.new))) }
+            Holds self.old aim steps (W.stream out.old) →
+            IfErr result (Broke aim steps (W.stream out.new)) }
     {
         self.flush(rt, gate, out)?;
         Ok(self.sequencer.status().unwrap())

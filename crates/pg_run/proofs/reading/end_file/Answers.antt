@@ -1,7 +1,6 @@
 use Rattle.std.proofs.Common.{◌∷◌, refl}
 use Rattle.std.proofs.lemmas.Result.{IfOk-from_err}
 use Rattle.pg_seq.specs.Plan.{Ends}
-use Rattle.pg_run.specs.Holding.{stream}
 use Rattle.pg_run.specs.Reading.{Breaks}
 use Rattle.pg_run.proofs.HoldLemmas.{err_by, ok_of_err}
 use Rattle.pg_run.proofs.ReadingLemmas.{file_ended, ended_breaks}
@@ -29,7 +28,7 @@ returns-in_err-flush_ended-clause-ok g c = λ aim given k.
 
 pub returns-in_err-flush_ended-clause-err : goal.returns-in_err-flush_ended-clause-err
 returns-in_err-flush_ended-clause-err g c = λ aim given k.
-    let out' = stream (g.W.Sink.taken c.flush_ended.new.out) (g.W.Sink.failures c.flush_ended.new.out) in
+    let out' = g.W.Sink.stream c.flush_ended.new.out in
     let fault = c.in_err-flush_ended.field-0.0 in
     let ended = c.end.ensures aim k.steps _ (k.holds, (k.running, tt)) in
     err_by c.from_residual.result (Breaks aim given out') fault c.from_residual.ensures.1
@@ -45,7 +44,7 @@ returns-in_err-send_on-clause-ok g c = λ aim given k.
 
 pub returns-in_err-send_on-clause-err : goal.returns-in_err-send_on-clause-err
 returns-in_err-send_on-clause-err g c = λ aim given k.
-    let out' = stream (g.W.Sink.taken c.send_on.new.out) (g.W.Sink.failures c.send_on.new.out) in
+    let out' = g.W.Sink.stream c.send_on.new.out in
     let fault = c.in_err-send_on.field-0.0 in
     let ended = c.end.ensures aim k.steps _ (k.holds, (k.running, tt)) in
     err_by c.from_residual-in_err-send_on.result (Breaks aim given out') fault

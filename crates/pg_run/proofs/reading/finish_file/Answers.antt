@@ -1,5 +1,4 @@
 use Rattle.std.proofs.lemmas.Result.{IfOk-from_err}
-use Rattle.pg_run.specs.Holding.{stream}
 use Rattle.pg_run.specs.Reading.{Breaks}
 use Rattle.pg_run.proofs.HoldLemmas.{err_by, ok_of_err}
 use Rattle.pg_run.proofs.reading.finish_file.Goals as goal
@@ -22,7 +21,7 @@ returns-in_err-search_last-clause-ok g c = λ aim given h.
 
 pub returns-in_err-search_last-clause-err : goal.returns-in_err-search_last-clause-err
 returns-in_err-search_last-clause-err g c = λ aim given h.
-    let out' = stream (g.W.Sink.taken c.search_last.new.out) (g.W.Sink.failures c.search_last.new.out) in
+    let out' = g.W.Sink.stream c.search_last.new.out in
     err_by c.from_residual.result (Breaks aim given out') c.in_err-search_last.field-0.0 c.from_residual.ensures.1
     (c.in_err-search_last.ensures.err aim given h)
 

@@ -4,7 +4,6 @@ use Rattle.pg_walk.specs.declared.item.Cause.TheVariants.{ReadFailed}
 use Rattle.pg_rows.specs.Output.{is_failed, when}
 use Rattle.pg_files.specs.Given.{newest_name}
 use Rattle.pg_run.specs.Told.{faults_of, fault_line}
-use Rattle.pg_run.specs.Holding.{stream}
 use Rattle.pg_run.specs.Reading.{Breaks, ending_after}
 use Rattle.pg_run.proofs.HoldLemmas.{err_by, ok_of_err}
 use Rattle.pg_run.proofs.ReadingLemmas.{may_leave, ok_by, told_more, refused_last}
@@ -83,7 +82,7 @@ returns-in_err-read_once-clause-ok g c = λ aim start.
 
 pub returns-in_err-read_once-clause-err : goal.returns-in_err-read_once-clause-err
 returns-in_err-read_once-clause-err g c = λ aim start.
-    let out' = stream (g.W.Sink.taken c.read_once.new.out) (g.W.Sink.failures c.read_once.new.out) in
+    let out' = g.W.Sink.stream c.read_once.new.out in
     err_by c.from_residual-in_err-read_once.result (Breaks aim (g.F.Files.past c.read_once.new.files).given out')
     c.in_err-read_once.field-0.0 c.from_residual-in_err-read_once.ensures.1
     (c.in_err-read_once.ensures.err aim (c.in_ok-settle.ensures.ok aim _ (c.loop.invariant.reads aim start)))
@@ -225,7 +224,7 @@ returns-in-Refused-clause-ok g c = λ aim start. tt
 pub returns-in-Refused-clause-err : goal.returns-in-Refused-clause-err
 returns-in-Refused-clause-err g c = λ aim start.
     let h = c.in_ok-read_once.ensures.ok aim (c.in_ok-settle.ensures.ok aim _ (c.loop.invariant.reads aim start)) in
-    let out' = stream (g.W.Sink.taken c.break_off.new.out) (g.W.Sink.failures c.break_off.new.out) in
+    let out' = g.W.Sink.stream c.break_off.new.out in
     refused_last h out' c.in-Refused.fault c.from-fault.result c.break_off.result c.in-Refused.is c.from-fault.ensures
     (c.break_off.ensures aim h.steps h.holds)
 
@@ -254,6 +253,6 @@ returns-in_err-settle-clause-ok g c = λ aim start. ok_of_err c.from_residual.re
 
 pub returns-in_err-settle-clause-err : goal.returns-in_err-settle-clause-err
 returns-in_err-settle-clause-err g c = λ aim start.
-    let out' = stream (g.W.Sink.taken c.settle.new.out) (g.W.Sink.failures c.settle.new.out) in
+    let out' = g.W.Sink.stream c.settle.new.out in
     err_by c.from_residual.result (Breaks aim _ out') c.in_err-settle.field-0.0 c.from_residual.ensures.1
     (c.in_err-settle.ensures.err aim _ (c.loop.invariant.reads aim start))

@@ -1,5 +1,4 @@
 use Rattle.std.proofs.Common.{◌∙◌}
-use Rattle.pg_run.specs.Holding.{stream}
 use Rattle.pg_run.specs.Reading.{Breaks}
 use Rattle.pg_run.proofs.HoldLemmas.{err_by, ok_of_err}
 use Rattle.pg_run.proofs.ReadingLemmas.{read_on}
@@ -9,7 +8,7 @@ pub read-requires-clause-cut : goal.read-requires-clause-cut
 read-requires-clause-cut g c =
     let r = c.requires.in_file in
     let given = (g.F.Files.past c.args.files.now).given in
-    let out = stream (g.W.Sink.taken c.args.out.now) (g.W.Sink.failures c.args.out.now) in
+    let out = g.W.Sink.stream c.args.out.now in
     let h = c.recycle.ensures.in_file r.0 given out r.1 in
     (r.0, h.steps, h.cuts)
 
@@ -17,14 +16,14 @@ pub search_ready-requires-clause-in_file : goal.search_ready-requires-clause-in_
 search_ready-requires-clause-in_file g c κs within =
     let r = c.requires.in_file in
     let given = (g.F.Files.past c.args.files.now).given in
-    let out = stream (g.W.Sink.taken c.args.out.now) (g.W.Sink.failures c.args.out.now) in
+    let out = g.W.Sink.stream c.args.out.now in
     (r.0, read_on (c.recycle.ensures.in_file r.0 given out r.1) c.read.ensures)
 
 pub returns-in_err-search_ready-clause-err : goal.returns-in_err-search_ready-clause-err
 returns-in_err-search_ready-clause-err g c = λ aim start.
-    let out' = stream (g.W.Sink.taken c.search_ready.new.out) (g.W.Sink.failures c.search_ready.new.out) in
+    let out' = g.W.Sink.stream c.search_ready.new.out in
     let given = (g.F.Files.past c.args.files.now).given in
-    let out = stream (g.W.Sink.taken c.args.out.now) (g.W.Sink.failures c.args.out.now) in
+    let out = g.W.Sink.stream c.args.out.now in
     let h = c.recycle.ensures.in_file aim given out start in
     err_by c.from_residual.result
     (Breaks aim (g.F.Files.past c.search_ready.new.files).given out') c.in_err-search_ready.field-0.0
@@ -34,7 +33,7 @@ returns-in_err-search_ready-clause-err g c = λ aim start.
 pub returns-clause-ok : goal.returns-clause-ok
 returns-clause-ok g c = λ aim start.
     let given = (g.F.Files.past c.args.files.now).given in
-    let out = stream (g.W.Sink.taken c.args.out.now) (g.W.Sink.failures c.args.out.now) in
+    let out = g.W.Sink.stream c.args.out.now in
     let h = c.recycle.ensures.in_file aim given out start in
     c.in_ok-search_ready.ensures.ok aim (read_on h c.read.ensures)
 

@@ -1,5 +1,4 @@
 use Rattle.pg_rows.proofs.SinkLemmas.{on_ok}
-use Rattle.pg_run.specs.Holding.{stream}
 use Rattle.pg_run.specs.Reading.{Breaks}
 use Rattle.pg_run.proofs.HoldLemmas.{err_by, ok_of_err, if_err_too}
 use Rattle.pg_run.proofs.BlockLemmas.{gives_early}
@@ -16,7 +15,7 @@ returns-in_err-make_room-clause-ok g c = λ aim given h. ok_of_err c.from_residu
 
 pub returns-in_err-make_room-clause-err : goal.returns-in_err-make_room-clause-err
 returns-in_err-make_room-clause-err g c = λ aim given h.
-    let out' = stream (g.W.Sink.taken c.make_room.new.out) (g.W.Sink.failures c.make_room.new.out) in
+    let out' = g.W.Sink.stream c.make_room.new.out in
     let fault = c.in_err-make_room.field-0.0 in
     err_by c.from_residual.result (Breaks aim given out') fault c.from_residual.ensures.1
     (rest_breaks h c.args.reader.now given out' fault h.cuts (c.in_err-make_room.ensures.err aim h.steps h.holds))

@@ -1,5 +1,4 @@
 use Rattle.std.proofs.Common.{◌∙◌}
-use Rattle.pg_run.specs.Holding.{stream}
 use Rattle.pg_run.specs.Reading.{Breaks}
 use Rattle.pg_run.proofs.HoldLemmas.{err_by, ok_of_err}
 use Rattle.pg_run.proofs.BlockLemmas.{gives_next}
@@ -13,7 +12,7 @@ make_room-requires-clause-in_file g c κs within =
 
 pub returns-in_err-make_room-clause-err : goal.returns-in_err-make_room-clause-err
 returns-in_err-make_room-clause-err g c = λ aim start.
-    let out' = stream (g.W.Sink.taken c.make_room.new.out) (g.W.Sink.failures c.make_room.new.out) in
+    let out' = g.W.Sink.stream c.make_room.new.out in
     err_by c.from_residual.result (Breaks aim (g.F.Files.past c.make_room.new.files).given out')
     c.in_err-make_room.field-0.0 c.from_residual.ensures.1
     (c.in_err-make_room.ensures.err aim (c.loop.invariant.reads aim start))
@@ -30,7 +29,7 @@ pub returns-in_err-search-clause-err : goal.returns-in_err-search-clause-err
 returns-in_err-search-clause-err g c = λ aim start.
     let h = c.in_ok-make_room.ensures.ok aim (c.loop.invariant.reads aim start) in
     let n = gives_next h.cuts.fed c.in-Some-take.block (c.in-Some-take.ensures.next h.cuts.fed h.cuts.cut) in
-    let out' = stream (g.W.Sink.taken c.search.new.out) (g.W.Sink.failures c.search.new.out) in
+    let out' = g.W.Sink.stream c.search.new.out in
     let fault = c.in_err-search.field-0.0 in
     err_by c.from_residual-in_err-search.result (Breaks aim (g.F.Files.past c.make_room.new.files).given out') fault
     c.from_residual-in_err-search.ensures.1
@@ -153,7 +152,7 @@ returns-in_err-send_on-clause-err g c = λ aim start.
     let h = c.in_ok-make_room.ensures.ok aim (c.loop.invariant.reads aim start) in
     let block = c.in-Some-take.block in
     let n = gives_next h.cuts.fed block (c.in-Some-take.ensures.next h.cuts.fed h.cuts.cut) in
-    let out' = stream (g.W.Sink.taken c.send_on.new.out) (g.W.Sink.failures c.send_on.new.out) in
+    let out' = g.W.Sink.stream c.send_on.new.out in
     let fault = c.in_err-send_on.field-0.0 in
     err_by c.from_residual-in_err-send_on.result (Breaks aim (g.F.Files.past c.make_room.new.files).given out') fault
     c.from_residual-in_err-send_on.ensures.1

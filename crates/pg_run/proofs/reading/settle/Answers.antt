@@ -1,4 +1,3 @@
-use Rattle.pg_run.specs.Holding.{stream}
 use Rattle.pg_run.specs.Reading.{Breaks}
 use Rattle.pg_run.proofs.HoldLemmas.{err_by, ok_of_err}
 use Rattle.pg_run.proofs.ReadingLemmas.{flushed, rest_breaks}
@@ -20,7 +19,7 @@ returns-in_err-search_lines-clause-ok g c =
 
 pub returns-in_err-search_lines-clause-err : goal.returns-in_err-search_lines-clause-err
 returns-in_err-search_lines-clause-err g c = λ aim given h.
-    let out' = stream (g.W.Sink.taken c.search_lines.new.out) (g.W.Sink.failures c.search_lines.new.out) in
+    let out' = g.W.Sink.stream c.search_lines.new.out in
     err_by c.from_residual.result (Breaks aim given out') c.in_err-search_lines.field-0.0 c.from_residual.ensures.1
     (c.in_err-search_lines.ensures.err aim given h)
 
@@ -40,7 +39,7 @@ returns-in_err-flush_waiting-clause-ok g c =
 
 pub returns-in_err-flush_waiting-clause-err : goal.returns-in_err-flush_waiting-clause-err
 returns-in_err-flush_waiting-clause-err g c = λ aim given h.
-    let out' = stream (g.W.Sink.taken c.flush_waiting.new.out) (g.W.Sink.failures c.flush_waiting.new.out) in
+    let out' = g.W.Sink.stream c.flush_waiting.new.out in
     let k = c.in_ok-search_lines.ensures.ok aim given h in
     let fault = c.in_err-flush_waiting.field-0.0 in
     err_by c.from_residual-in_err-flush_waiting.result (Breaks aim given out') fault
@@ -57,7 +56,7 @@ returns-in_err-send_on-clause-ok g c =
 
 pub returns-in_err-send_on-clause-err : goal.returns-in_err-send_on-clause-err
 returns-in_err-send_on-clause-err g c = λ aim given h.
-    let out' = stream (g.W.Sink.taken c.send_on.new.out) (g.W.Sink.failures c.send_on.new.out) in
+    let out' = g.W.Sink.stream c.send_on.new.out in
     let k = c.in_ok-search_lines.ensures.ok aim given h in
     let holds = c.in_ok-flush_waiting.ensures.ok aim k.steps k.holds in
     let fault = c.in_err-send_on.field-0.0 in

@@ -1,7 +1,6 @@
 use Rattle.std.proofs.Common.{◌∙◌, Bool, List, inl, inr, sym, subst}
 use Rattle.pg_files.specs.Given.{Given, entries_given}
 use Rattle.pg_run.specs.Outcome.{EndsAtSelected}
-use Rattle.pg_run.specs.Holding.{stream}
 use Rattle.pg_run.specs.Reading.{Goes, StopsBehind}
 use Rattle.pg_run.proofs.HoldLemmas.{err_by, ok_of_err}
 use Rattle.pg_run.proofs.RunLemmas.{between_enough, between_more, ends_at, read_rightly}
@@ -27,8 +26,8 @@ take_next-requires-clause-rests g c κs within =
 
 pub returns-in_err-take_next-clause-err : goal.returns-in_err-take_next-clause-err
 returns-in_err-take_next-clause-err g c = λ aim start.
-    let out' = stream (g.W.Sink.taken c.take_next.new.out) (g.W.Sink.failures c.take_next.new.out) in
-    let told' = stream (g.E.Sink.taken c.take_next.new.faults) (g.E.Sink.failures c.take_next.new.faults) in
+    let out' = g.W.Sink.stream c.take_next.new.out in
+    let told' = g.E.Sink.stream c.take_next.new.faults in
     let r = c.loop.invariant.rests aim start in
     let b = r.0.0 in
     let few = sym (c.enough.ensures aim b.steps _ b.holds) ∙ c.if-enough.false in

@@ -1,7 +1,6 @@
 use Rattle.std.proofs.Common.{◌∷◌, ap, refl, subst, sym}
 use Rattle.pg_files.specs.Given.{NoFile}
 use Rattle.pg_run.specs.Told.{fault_line}
-use Rattle.pg_run.specs.Holding.{stream}
 use Rattle.pg_run.specs.Reading.{Stops}
 use Rattle.pg_run.specs.declared.fault.RunFault.TheVariants.{OutOfMemory}
 use Rattle.pg_run.proofs.HoldLemmas.{err_by, ok_of_err}
@@ -14,8 +13,8 @@ returns-in_err-send_on-clause-ok g c = λ aim given rests. ok_of_err c.from_resi
 
 pub returns-in_err-send_on-clause-err : goal.returns-in_err-send_on-clause-err
 returns-in_err-send_on-clause-err g c = λ aim given rests.
-    let told = stream (g.E.Sink.taken c.args.faults.now) (g.E.Sink.failures c.args.faults.now) in
-    let out' = stream (g.W.Sink.taken c.send_on.new.out) (g.W.Sink.failures c.send_on.new.out) in
+    let told = g.E.Sink.stream c.args.faults.now in
+    let out' = g.W.Sink.stream c.send_on.new.out in
     let more = NoFile c.args.name.now c.args.cause ∷ given in
     let fault = c.in_err-send_on.field-0.0 in
     let broke = c.in_err-send_on.ensures.err aim rests.0.steps rests.0.holds in
@@ -25,9 +24,9 @@ returns-in_err-send_on-clause-err g c = λ aim given rests.
 
 pub returns-in_err-tell_fault-clause-err : goal.returns-in_err-tell_fault-clause-err
 returns-in_err-tell_fault-clause-err g c = λ aim given rests.
-    let told = stream (g.E.Sink.taken c.args.faults.now) (g.E.Sink.failures c.args.faults.now) in
-    let told' = stream (g.E.Sink.taken c.tell_fault.new.faults) (g.E.Sink.failures c.tell_fault.new.faults) in
-    let out' = stream (g.W.Sink.taken c.send_on.new.out) (g.W.Sink.failures c.send_on.new.out) in
+    let told = g.E.Sink.stream c.args.faults.now in
+    let told' = g.E.Sink.stream c.tell_fault.new.faults in
+    let out' = g.W.Sink.stream c.send_on.new.out in
     let more = NoFile c.args.name.now c.args.cause ∷ given in
     let err = c.in_err-tell_fault.ensures in
     let b = rows_sent rests.0 _ out' (c.in_ok-send_on.ensures.ok aim rests.0.steps rests.0.holds) in
@@ -36,7 +35,7 @@ returns-in_err-tell_fault-clause-err g c = λ aim given rests.
     (subst (Stops aim more out' told') (sym err.fault)
     (stops_telling aim given more out' told told' c.args.engine.now.setup.silent
     (fault_line c.args.name.now c.args.cause) (ap (λ s. s.silent) b.holds.set)
-    (unmissed_safe b c.args.name.now c.args.cause out'.taken (taken_part b)) rests.1 refl err.part err.failure))
+    (unmissed_safe b c.args.name.now c.args.cause out'.taken (taken_part b)) rests.1 refl err.writes.err))
 
 pub miss-requires : goal.miss-requires
 miss-requires g c =
@@ -46,9 +45,9 @@ miss-requires g c =
 
 pub returns-in_err-miss-clause-err : goal.returns-in_err-miss-clause-err
 returns-in_err-miss-clause-err g c = λ aim given rests.
-    let told = stream (g.E.Sink.taken c.args.faults.now) (g.E.Sink.failures c.args.faults.now) in
-    let told' = stream (g.E.Sink.taken c.tell_fault.new.faults) (g.E.Sink.failures c.tell_fault.new.faults) in
-    let out' = stream (g.W.Sink.taken c.send_on.new.out) (g.W.Sink.failures c.send_on.new.out) in
+    let told = g.E.Sink.stream c.args.faults.now in
+    let told' = g.E.Sink.stream c.tell_fault.new.faults in
+    let out' = g.W.Sink.stream c.send_on.new.out in
     let more = NoFile c.args.name.now c.args.cause ∷ given in
     let ok = c.in_ok-tell_fault.ensures in
     let b = rows_sent rests.0 _ out' (c.in_ok-send_on.ensures.ok aim rests.0.steps rests.0.holds) in
@@ -57,20 +56,20 @@ returns-in_err-miss-clause-err g c = λ aim given rests.
     (stops_memory aim more out' told' (unmissed_safe b c.args.name.now c.args.cause out'.taken (taken_part b))
     b.holds.calm
     (told_by aim given more told told' c.args.engine.now.setup.silent (fault_line c.args.name.now c.args.cause)
-    (ap (λ s. s.silent) b.holds.set) rests.1 refl ok.ok ok.calm))
+    (ap (λ s. s.silent) b.holds.set) rests.1 refl ok.writes.ok))
 
 pub returns-clause-ok : goal.returns-clause-ok
 returns-clause-ok g c = λ aim given rests.
-    let told = stream (g.E.Sink.taken c.args.faults.now) (g.E.Sink.failures c.args.faults.now) in
-    let told' = stream (g.E.Sink.taken c.tell_fault.new.faults) (g.E.Sink.failures c.tell_fault.new.faults) in
-    let out' = stream (g.W.Sink.taken c.send_on.new.out) (g.W.Sink.failures c.send_on.new.out) in
+    let told = g.E.Sink.stream c.args.faults.now in
+    let told' = g.E.Sink.stream c.tell_fault.new.faults in
+    let out' = g.W.Sink.stream c.send_on.new.out in
     let more = NoFile c.args.name.now c.args.cause ∷ given in
     let ok = c.in_ok-tell_fault.ensures in
     let b = rows_sent rests.0 _ out' (c.in_ok-send_on.ensures.ok aim rests.0.steps rests.0.holds) in (
       name_missed b _ c.args.name.now c.args.cause
           (c.in_ok-miss.ensures aim b.steps out' (b.holds, (b.closed, tt))),
       told_by aim given more told told' c.args.engine.now.setup.silent (fault_line c.args.name.now c.args.cause)
-          (ap (λ s. s.silent) b.holds.set) rests.1 refl ok.ok ok.calm,
+          (ap (λ s. s.silent) b.holds.set) rests.1 refl ok.writes.ok,
     )
 
 pub returns-in_err-tell_fault-clause-ok : goal.returns-in_err-tell_fault-clause-ok

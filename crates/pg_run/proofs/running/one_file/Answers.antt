@@ -3,7 +3,6 @@ use Rattle.pg_walk.specs.declared.item.Cause.TheVariants.{ReadFailed}
 use Rattle.pg_rows.specs.Output.{Left}
 use Rattle.pg_files.specs.Given.{Given, File}
 use Rattle.pg_run.specs.Told.{fault_line, faults_of}
-use Rattle.pg_run.specs.Holding.{stream}
 use Rattle.pg_run.specs.Reading.{Stops}
 use Rattle.pg_run.specs.declared.fault.RunFault.TheVariants.{OutOfMemory}
 use Rattle.pg_run.proofs.HoldLemmas.{err_by, ok_of_err}
@@ -13,8 +12,8 @@ use Rattle.pg_run.proofs.running.one_file.Goals as goal
 
 pub returns-then-engine-ge-MOST_FILES-clause-err : goal.returns-then-engine-ge-MOST_FILES-clause-err
 returns-then-engine-ge-MOST_FILES-clause-err g c = λ aim given name is rests.
-    let out' = stream (g.W.Sink.taken c.break_off.new.out) (g.W.Sink.failures c.break_off.new.out) in
-    let told = stream (g.E.Sink.taken c.args.faults.now) (g.E.Sink.failures c.args.faults.now) in
+    let out' = g.W.Sink.stream c.break_off.new.out in
+    let told = g.E.Sink.stream c.args.faults.now in
     let more = File name [] Left ∷ given in
     let P : List Given → Type 0 = λ gs. Stops aim gs out' told c.break_off.result in
     subst P (sym is) (stops_reading aim given more out' told c.break_off.result
@@ -29,12 +28,12 @@ break_off-requires-clause-holds g c κs within =
 pub open_file-requires-clause-between : goal.open_file-requires-clause-between
 open_file-requires-clause-between g c =
     let r = c.requires.rests in
-    (r.0, r.1, stream (g.W.Sink.taken c.args.out.now) (g.W.Sink.failures c.args.out.now), r.4.0)
+    (r.0, r.1, g.W.Sink.stream c.args.out.now, r.4.0)
 
 pub returns-in_err-open_file-clause-err : goal.returns-in_err-open_file-clause-err
 returns-in_err-open_file-clause-err g c = λ aim given name is rests.
-    let out = stream (g.W.Sink.taken c.args.out.now) (g.W.Sink.failures c.args.out.now) in
-    let told = stream (g.E.Sink.taken c.args.faults.now) (g.E.Sink.failures c.args.faults.now) in
+    let out = g.W.Sink.stream c.args.out.now in
+    let told = g.E.Sink.stream c.args.faults.now in
     let P : List Given → Type 0 = λ gs. Stops aim gs out told OutOfMemory in
     let more = File name [] Left ∷ given in
     err_by c.from_residual.result (Stops aim (g.F.Files.past c.args.files.now).given out told) OutOfMemory
@@ -46,7 +45,7 @@ returns-in_err-open_file-clause-err g c = λ aim given name is rests.
 pub read_file-requires-clause-in_file : goal.read_file-requires-clause-in_file
 read_file-requires-clause-in_file g c κs within =
     let r = c.requires.rests in
-    let out = stream (g.W.Sink.taken c.args.out.now) (g.W.Sink.failures c.args.out.now) in (
+    let out = g.W.Sink.stream c.args.out.now in (
       r.0,
       file_started (g.F.Files.past c.args.files.now).given r.2 c.name.result.now r.3 c.name.ensures
           (c.in_ok-open_file.ensures.ok r.0 r.1 out r.4.0),
@@ -54,13 +53,13 @@ read_file-requires-clause-in_file g c κs within =
 
 pub returns-in_err-failed-clause-err : goal.returns-in_err-failed-clause-err
 returns-in_err-failed-clause-err g c = λ aim given name is rests.
-    let out = stream (g.W.Sink.taken c.args.out.now) (g.W.Sink.failures c.args.out.now) in
+    let out = g.W.Sink.stream c.args.out.now in
     let start = file_started (g.F.Files.past c.args.files.now).given name c.name.result.now is c.name.ensures
     (c.in_ok-open_file.ensures.ok aim given out rests.0) in
-    let told = stream (g.E.Sink.taken c.args.faults.now) (g.E.Sink.failures c.args.faults.now) in
+    let told = g.E.Sink.stream c.args.faults.now in
     let before = (g.F.Files.past c.args.files.now).given in
     let given' = (g.F.Files.past c.read_file.new.files).given in
-    let out' = stream (g.W.Sink.taken c.read_file.new.out) (g.W.Sink.failures c.read_file.new.out) in
+    let out' = g.W.Sink.stream c.read_file.new.out in
     let fault = c.in_err-failed.field-0.0 in
     err_by c.from_residual-in_err-failed.result (Stops aim given' out' told) fault
     c.from_residual-in_err-failed.ensures.1
@@ -69,14 +68,14 @@ returns-in_err-failed-clause-err g c = λ aim given name is rests.
 
 pub returns-in_err-tell_fault-clause-err : goal.returns-in_err-tell_fault-clause-err
 returns-in_err-tell_fault-clause-err g c = λ aim given name is rests.
-    let out = stream (g.W.Sink.taken c.args.out.now) (g.W.Sink.failures c.args.out.now) in
+    let out = g.W.Sink.stream c.args.out.now in
     let start = file_started (g.F.Files.past c.args.files.now).given name c.name.result.now is c.name.ensures
     (c.in_ok-open_file.ensures.ok aim given out rests.0) in
-    let told = stream (g.E.Sink.taken c.args.faults.now) (g.E.Sink.failures c.args.faults.now) in
+    let told = g.E.Sink.stream c.args.faults.now in
     let before = (g.F.Files.past c.args.files.now).given in
     let given' = (g.F.Files.past c.read_file.new.files).given in
-    let out' = stream (g.W.Sink.taken c.read_file.new.out) (g.W.Sink.failures c.read_file.new.out) in
-    let told' = stream (g.E.Sink.taken c.tell_fault.new.faults) (g.E.Sink.failures c.tell_fault.new.faults) in
+    let out' = g.W.Sink.stream c.read_file.new.out in
+    let told' = g.E.Sink.stream c.tell_fault.new.faults in
     let after = c.in_ok-failed.ensures.ok aim start in
     let line = fault_line c.name-then-failed.result.now ReadFailed in
     let more : faults_of given' ≡ faults_of given ++ line =
@@ -88,17 +87,17 @@ returns-in_err-tell_fault-clause-err g c = λ aim given name is rests.
     c.from_residual-in_err-tell_fault.ensures.1
     (subst (Stops aim given' out' told') (sym err.fault)
     (stops_telling aim given given' out' told told' c.read_file.new.engine.setup.silent line set (between_safe after)
-    rests.1 more err.part err.failure))
+    rests.1 more err.writes.err))
 
 pub returns-in_ok-tell_fault-clause-ok : goal.returns-in_ok-tell_fault-clause-ok
 returns-in_ok-tell_fault-clause-ok g c = λ aim given name is rests.
-    let out = stream (g.W.Sink.taken c.args.out.now) (g.W.Sink.failures c.args.out.now) in
+    let out = g.W.Sink.stream c.args.out.now in
     let start = file_started (g.F.Files.past c.args.files.now).given name c.name.result.now is c.name.ensures
     (c.in_ok-open_file.ensures.ok aim given out rests.0) in
-    let told = stream (g.E.Sink.taken c.args.faults.now) (g.E.Sink.failures c.args.faults.now) in
+    let told = g.E.Sink.stream c.args.faults.now in
     let before = (g.F.Files.past c.args.files.now).given in
     let given' = (g.F.Files.past c.read_file.new.files).given in
-    let told' = stream (g.E.Sink.taken c.tell_fault.new.faults) (g.E.Sink.failures c.tell_fault.new.faults) in
+    let told' = g.E.Sink.stream c.tell_fault.new.faults in
     let after = c.in_ok-failed.ensures.ok aim start in
     let line = fault_line c.name-then-failed.result.now ReadFailed in
     let more : faults_of given' ≡ faults_of given ++ line =
@@ -107,15 +106,15 @@ returns-in_ok-tell_fault-clause-ok g c = λ aim given name is rests.
     let set = ap (λ s. s.silent) after.holds.set in
     let ok = c.in_ok-tell_fault.ensures in (
       after,
-      told_by aim given given' told told' c.read_file.new.engine.setup.silent line set rests.1 more ok.ok ok.calm,
+      told_by aim given given' told told' c.read_file.new.engine.setup.silent line set rests.1 more ok.writes.ok,
     )
 
 pub returns-else-failed-clause-ok : goal.returns-else-failed-clause-ok
 returns-else-failed-clause-ok g c = λ aim given name is rests.
-    let out = stream (g.W.Sink.taken c.args.out.now) (g.W.Sink.failures c.args.out.now) in
+    let out = g.W.Sink.stream c.args.out.now in
     let start = file_started (g.F.Files.past c.args.files.now).given name c.name.result.now is c.name.ensures
     (c.in_ok-open_file.ensures.ok aim given out rests.0) in
-    let told = stream (g.E.Sink.taken c.args.faults.now) (g.E.Sink.failures c.args.faults.now) in
+    let told = g.E.Sink.stream c.args.faults.now in
     let before = (g.F.Files.past c.args.files.now).given in
     let given' = (g.F.Files.past c.read_file.new.files).given in (
       c.in_ok-failed.ensures.ok aim start,

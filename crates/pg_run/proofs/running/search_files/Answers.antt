@@ -1,5 +1,4 @@
 use Rattle.std.proofs.lemmas.Result.{IfOk-from_err}
-use Rattle.pg_run.specs.Holding.{stream}
 use Rattle.pg_run.specs.Reading.{StopsBehind}
 use Rattle.pg_run.proofs.HoldLemmas.{err_by}
 use Rattle.pg_run.proofs.RunLemmas.{done_breaks, done_finishes}
@@ -20,8 +19,8 @@ returns-in_err-all_files-clause-ok g c = λ aim start.
 
 pub returns-in_err-all_files-clause-err : goal.returns-in_err-all_files-clause-err
 returns-in_err-all_files-clause-err g c = λ aim start.
-    let out' = stream (g.W.Sink.taken c.all_files.new.out) (g.W.Sink.failures c.all_files.new.out) in
-    let told' = stream (g.E.Sink.taken c.all_files.new.faults) (g.E.Sink.failures c.all_files.new.faults) in
+    let out' = g.W.Sink.stream c.all_files.new.out in
+    let told' = g.E.Sink.stream c.all_files.new.faults in
     err_by c.from_residual.result (StopsBehind aim (g.F.Files.past c.all_files.new.files).given out' told')
     c.in_err-all_files.field-0.0 c.from_residual.ensures.1 (c.in_err-all_files.ensures.err aim start)
 
@@ -40,8 +39,8 @@ returns-in_err-status-clause-ok g c = λ aim start.
 
 pub returns-in_err-status-clause-err : goal.returns-in_err-status-clause-err
 returns-in_err-status-clause-err g c = λ aim start.
-    let out' = stream (g.W.Sink.taken c.finish.new.out) (g.W.Sink.failures c.finish.new.out) in
-    let told' = stream (g.E.Sink.taken c.all_files.new.faults) (g.E.Sink.failures c.all_files.new.faults) in
+    let out' = g.W.Sink.stream c.finish.new.out in
+    let told' = g.E.Sink.stream c.all_files.new.faults in
     let d = c.in_ok-all_files.ensures.ok aim start in
     let given = (g.F.Files.past c.all_files.new.files).given in
     let fault = c.in_err-status.field-0.0 in
@@ -54,7 +53,7 @@ returns-clause-same_list g c = c.in_ok-all_files.ensures.same_list
 
 pub returns-clause-ok : goal.returns-clause-ok
 returns-clause-ok g c = λ aim start.
-    let out' = stream (g.W.Sink.taken c.finish.new.out) (g.W.Sink.failures c.finish.new.out) in
+    let out' = g.W.Sink.stream c.finish.new.out in
     let d = c.in_ok-all_files.ensures.ok aim start in
     let b = d.rests.0 in
     let ok = c.in_ok-status.ensures in

@@ -1,7 +1,6 @@
 use Rattle.std.proofs.Common.{◌≡◌, ◌∙◌, List, ◌∷◌, ap, drop, inl, inr, subst, sym}
 use Rattle.pg_files.specs.Given.{Given, NoFile, FilesPast, newest_name}
 use Rattle.pg_files.specs.Asking.{NextGives}
-use Rattle.pg_run.specs.Holding.{stream}
 use Rattle.pg_run.specs.Reading.{Rests, Stops}
 use Rattle.pg_files.specs.declared.files.Step.{Step}
 use Rattle.pg_run.specs.declared.fault.RunFault.TheVariants.{OutOfMemory}
@@ -12,8 +11,8 @@ use Rattle.pg_run.proofs.running.take_next.Goals as goal
 
 pub returns-in_err-next-clause-err : goal.returns-in_err-next-clause-err
 returns-in_err-next-clause-err g c = λ aim rests.
-    let out = stream (g.W.Sink.taken c.args.out.now) (g.W.Sink.failures c.args.out.now) in
-    let told = stream (g.E.Sink.taken c.args.faults.now) (g.E.Sink.failures c.args.faults.now) in
+    let out = g.W.Sink.stream c.args.out.now in
+    let told = g.E.Sink.stream c.args.faults.now in
     let given = (g.F.Files.past c.args.files.now).given in
     let P : FilesPast → Type 0 = λ p. Stops aim p.given out told OutOfMemory in
     err_by c.from_residual.result (Stops aim (g.F.Files.past c.next.new.self).given out told) OutOfMemory
@@ -23,8 +22,8 @@ returns-in_err-next-clause-err g c = λ aim rests.
 
 pub returns-in_ok-miss-in-Miss-clause-ok : goal.returns-in_ok-miss-in-Miss-clause-ok
 returns-in_ok-miss-in-Miss-clause-ok g c = λ aim rests.
-    let out = stream (g.W.Sink.taken c.miss.new.out) (g.W.Sink.failures c.miss.new.out) in
-    let told' = stream (g.E.Sink.taken c.miss.new.faults) (g.E.Sink.failures c.miss.new.faults) in
+    let out = g.W.Sink.stream c.miss.new.out in
+    let told' = g.E.Sink.stream c.miss.new.faults in
     let given = (g.F.Files.past c.args.files.now).given in
     let S : Step → Type 0 = λ s. NextGives s (g.F.Files.past c.args.files.now) (g.F.Files.past c.next.new.self) in
     let e = subst S c.in-Miss.is c.in_ok-next.ensures.ok in
@@ -43,8 +42,8 @@ one_file-requires-clause-rests g c κs within =
 
 pub returns-in_err-one_file-in-File-clause-err : goal.returns-in_err-one_file-in-File-clause-err
 returns-in_err-one_file-in-File-clause-err g c = λ aim rests.
-    let out' = stream (g.W.Sink.taken c.one_file.new.out) (g.W.Sink.failures c.one_file.new.out) in
-    let told' = stream (g.E.Sink.taken c.one_file.new.faults) (g.E.Sink.failures c.one_file.new.faults) in
+    let out' = g.W.Sink.stream c.one_file.new.out in
+    let told' = g.E.Sink.stream c.one_file.new.faults in
     let S : Step → Type 0 = λ s. NextGives s (g.F.Files.past c.args.files.now) (g.F.Files.past c.next.new.self) in
     let e = subst S c.in-File.is c.in_ok-next.ensures.ok in
     err_by c.from_residual-in_err-one_file-in-File.result
@@ -121,8 +120,8 @@ returns-in-Done-clause-goes g c =
 pub returns-in-Done-clause-ok : goal.returns-in-Done-clause-ok
 returns-in-Done-clause-ok g c = λ aim rests.
     let S : Step → Type 0 = λ s. NextGives s (g.F.Files.past c.args.files.now) (g.F.Files.past c.next.new.self) in
-    let out = stream (g.W.Sink.taken c.args.out.now) (g.W.Sink.failures c.args.out.now) in
-    let told = stream (g.E.Sink.taken c.args.faults.now) (g.E.Sink.failures c.args.faults.now) in
+    let out = g.W.Sink.stream c.args.out.now in
+    let told = g.E.Sink.stream c.args.faults.now in
     let P : FilesPast → Type 0 = λ p. Rests c.args.engine.now aim p.given out told in
     subst P (sym (subst S c.in-Done.is c.in_ok-next.ensures.ok)) rests
 
@@ -141,8 +140,8 @@ returns-in_ok-one_file-in-File-clause-goes g c =
 
 pub returns-in_err-miss-in-Miss-clause-err : goal.returns-in_err-miss-in-Miss-clause-err
 returns-in_err-miss-in-Miss-clause-err g c = λ aim rests.
-    let out = stream (g.W.Sink.taken c.miss.new.out) (g.W.Sink.failures c.miss.new.out) in
-    let told' = stream (g.E.Sink.taken c.miss.new.faults) (g.E.Sink.failures c.miss.new.faults) in
+    let out = g.W.Sink.stream c.miss.new.out in
+    let told' = g.E.Sink.stream c.miss.new.faults in
     let given = (g.F.Files.past c.args.files.now).given in
     let S : Step → Type 0 = λ s. NextGives s (g.F.Files.past c.args.files.now) (g.F.Files.past c.next.new.self) in
     let e = subst S c.in-Miss.is c.in_ok-next.ensures.ok in

@@ -2,7 +2,7 @@ use Rattle.std.proofs.Common.{◌≡◌, ◌∙◌, ap, map, subst, Option, ℕ}
 use Rattle.std.specs.Arc.{arc_value}
 use Rattle.std.specs.Option.{MatchOption}
 use Rattle.pg_seq.specs.History.{IsComplete, status_of}
-use Rattle.pg_run.specs.Holding.{Broke, past_of, format_of, stream}
+use Rattle.pg_run.specs.Holding.{Broke, past_of, format_of}
 use Rattle.pg_run.proofs.HoldLemmas.{complete_is, err_by, ok_of_err, status_is, some_status}
 use Rattle.std.proofs.lemmas.Result.{IfOk-from_err}
 use Rattle.pg_run.proofs.engine.Engine.finish.Goals as goal
@@ -39,7 +39,7 @@ returns-in_err-flush-clause-calm g c = λ aim steps h. ok_of_err c.from_residual
 pub returns-in_err-flush-clause-err : goal.returns-in_err-flush-clause-err
 returns-in_err-flush-clause-err g c =
     λ aim steps h.
-    let out' = stream (g.W.Sink.taken c.flush.new.out) (g.W.Sink.failures c.flush.new.out) in
+    let out' = g.W.Sink.stream c.flush.new.out in
     err_by c.from_residual.result (Broke aim steps out') c.in_err-flush.field-0.0 c.from_residual.ensures.1
     (c.in_err-flush.ensures.err aim steps h)
 

@@ -1,20 +1,20 @@
 use Rattle.std.proofs.Common.{◌∙◌, ◌∷◌, sym}
 use Rattle.std.proofs.lemmas.Bool.{false≢true}
 use Rattle.pg_seq.specs.Plan.{Announces}
-use Rattle.pg_run.specs.Holding.{Broke, stream}
+use Rattle.pg_run.specs.Holding.{Broke}
 use Rattle.pg_run.specs.declared.fault.RunFault.TheVariants.{OutOfMemory}
 use Rattle.pg_run.proofs.HoldLemmas.{broke_step, err_by, ok_of_err}
 use Rattle.pg_run.proofs.engine.Engine.search.Goals as goal
 
 pub returns-in_err-add-clause-err : goal.returns-in_err-add-clause-err
 returns-in_err-add-clause-err g c = λ aim steps ready.
-    let out = stream (g.W.Sink.taken c.args.out.now) (g.W.Sink.failures c.args.out.now) in
+    let out = g.W.Sink.stream c.args.out.now in
     err_by c.from_residual.result (Broke aim (Announces c.args.block ∷ steps) out) OutOfMemory c.from_residual.ensures.1
     (broke_step ready.0 (Announces c.args.block) ready.1)
 
 pub returns-in_err-kept-clause-err : goal.returns-in_err-kept-clause-err
 returns-in_err-kept-clause-err g c = λ aim steps ready.
-    let out = stream (g.W.Sink.taken c.args.out.now) (g.W.Sink.failures c.args.out.now) in
+    let out = g.W.Sink.stream c.args.out.now in
     err_by c.from_residual-in_err-kept.result
     (Broke aim (Announces c.args.block ∷ steps) out) OutOfMemory c.from_residual-in_err-kept.ensures.1
     (broke_step ready.0 (Announces c.args.block) ready.1)
@@ -22,7 +22,7 @@ returns-in_err-kept-clause-err g c = λ aim steps ready.
 pub returns-clause-written : goal.returns-clause-written
 returns-clause-written g c = λ aim steps ready at_once.
     (c.in_ok-drain.ensures.ok aim (Announces c.args.block ∷ steps) (c.in_ok-kept.ensures.ok aim steps
-    (stream (g.W.Sink.taken c.args.out.now) (g.W.Sink.failures c.args.out.now)) ready)).1
+    (g.W.Sink.stream c.args.out.now) ready)).1
 
 pub returns-in_err-add-clause-ok : goal.returns-in_err-add-clause-ok
 returns-in_err-add-clause-ok g c =
@@ -66,7 +66,7 @@ add-requires-clause-room g c = c.requires.room c.if-self.true
 pub add-requires-clause-ready : goal.add-requires-clause-ready
 add-requires-clause-ready g c =
     let r = c.requires.ready in
-    (r.0, r.1, stream (g.W.Sink.taken c.args.out.now) (g.W.Sink.failures c.args.out.now), r.2)
+    (r.0, r.1, g.W.Sink.stream c.args.out.now, r.2)
 
 pub take-requires-clause-at_once : goal.take-requires-clause-at_once
 take-requires-clause-at_once g c = c.if-self.false
@@ -74,14 +74,14 @@ take-requires-clause-at_once g c = c.if-self.false
 pub take-requires-clause-ready : goal.take-requires-clause-ready
 take-requires-clause-ready g c =
     let r = c.requires.ready in
-    (r.0, r.1, stream (g.W.Sink.taken c.args.out.now) (g.W.Sink.failures c.args.out.now), r.2)
+    (r.0, r.1, g.W.Sink.stream c.args.out.now, r.2)
 
 pub drain-requires : goal.drain-requires
 drain-requires g c = record { none = c.in_ok-kept.ensures.none }
 
 pub returns-then-self-clause-ok : goal.returns-then-self-clause-ok
 returns-then-self-clause-ok g c = λ aim steps ready.
-    c.in_ok-add.ensures aim steps (stream (g.W.Sink.taken c.args.out.now) (g.W.Sink.failures c.args.out.now)) ready
+    c.in_ok-add.ensures aim steps (g.W.Sink.stream c.args.out.now) ready
 
 pub returns-then-self-clause-written : goal.returns-then-self-clause-written
 returns-then-self-clause-written g c = λ aim steps ready at_once. absurd (false≢true (sym at_once ∙ c.if-self.true))
@@ -91,8 +91,8 @@ returns-then-self-clause-err g c = λ aim steps ready. tt
 
 pub returns-in_err-drain-clause-err : goal.returns-in_err-drain-clause-err
 returns-in_err-drain-clause-err g c = λ aim steps ready.
-    let out = stream (g.W.Sink.taken c.args.out.now) (g.W.Sink.failures c.args.out.now) in
-    let out' = stream (g.W.Sink.taken c.drain.new.out) (g.W.Sink.failures c.drain.new.out) in
+    let out = g.W.Sink.stream c.args.out.now in
+    let out' = g.W.Sink.stream c.drain.new.out in
     let next = Announces c.args.block ∷ steps in
     err_by c.from_residual-in_err-drain.result (Broke aim next out') c.in_err-drain.field-0.0
     c.from_residual-in_err-drain.ensures.1
@@ -101,7 +101,7 @@ returns-in_err-drain-clause-err g c = λ aim steps ready.
 pub returns-clause-ok : goal.returns-clause-ok
 returns-clause-ok g c = λ aim steps ready.
     let h = (c.in_ok-drain.ensures.ok aim (Announces c.args.block ∷ steps) (c.in_ok-kept.ensures.ok aim steps
-    (stream (g.W.Sink.taken c.args.out.now) (g.W.Sink.failures c.args.out.now)) ready)).0 in
+    (g.W.Sink.stream c.args.out.now) ready)).0 in
     record {
       same = h.same;
       set = h.set;

@@ -6,7 +6,7 @@ use Rattle.pg_match.specs.Machines.{Room, Fits}
 use Rattle.pg_lines.specs.Blocks.{BlockData}
 use Rattle.pg_seq.specs.Standing.{Stands}
 use Rattle.pg_run.specs.Faults.{fault_of_round}
-use Rattle.pg_run.specs.Holding.{Broke, past_of, format_of, stream}
+use Rattle.pg_run.specs.Holding.{Broke, past_of, format_of}
 use Rattle.pg_round.specs.Results.{HasShortLines}
 use Rattle.pg_round.specs.Receipts.{HasRound}
 use Rattle.pg_run.specs.declared.fault.RunFault.TheVariants.{OutOfMemory}
@@ -23,12 +23,12 @@ search_round-requires-clause-short g c κs within =
 
 pub returns-in_err-equip-clause-err : goal.returns-in_err-equip-clause-err
 returns-in_err-equip-clause-err g c = λ aim steps h.
-    let out = stream (g.W.Sink.taken c.args.out.now) (g.W.Sink.failures c.args.out.now) in
+    let out = g.W.Sink.stream c.args.out.now in
     err_by c.from_residual.result (Broke aim steps out) OutOfMemory c.from_residual.ensures.1 (broke_now h)
 
 pub returns-in_err-search_round-clause-err : goal.returns-in_err-search_round-clause-err
 returns-in_err-search_round-clause-err g c = λ aim steps h.
-    let out' = stream (g.W.Sink.taken c.search_round.new.out) (g.W.Sink.failures c.search_round.new.out) in
+    let out' = g.W.Sink.stream c.search_round.new.out in
     let past = past_of aim.query (format_of aim) h.events h.written in
     let fault = c.in_err-search_round.field-0.0 in
     err_by c.from_residual-in_err-search_round.result (Broke aim steps out') (fault_of_round fault)
@@ -39,12 +39,12 @@ returns-in_err-search_round-clause-err g c = λ aim steps h.
 pub returns-clause-ok : goal.returns-clause-ok
 returns-clause-ok g c = λ aim steps h.
     let out' =
-    stream (g.W.Sink.taken c.search_round.new.out) (g.W.Sink.failures c.search_round.new.out) in
+    g.W.Sink.stream c.search_round.new.out in
     let past = past_of aim.query (format_of aim) h.events h.written in
     let text = (arc_value c.args.self.now.query).text in
     let R : List (Arc BlockData g.row.A.Denot) → Type 0 =
     λ xs. HasRound (Stands c.search_round.new.collector) past text xs
-    (g.W.Sink.taken c.args.out.now) (g.W.Sink.taken c.search_round.new.out) in
+    (g.W.Sink.stream c.args.out.now).taken (g.W.Sink.stream c.search_round.new.out).taken in
     round_done h _ out' h.same h.set h.count (ap (λ xs. map arc_value xs) c.clear.ensures.items) text h.same
     (subst R c.deref-2.ensures.value (c.in_ok-search_round.ensures.ok past h.stands refl (safe_now h)))
     c.in_ok-search_round.ensures.calm

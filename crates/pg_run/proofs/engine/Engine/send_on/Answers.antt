@@ -1,4 +1,3 @@
-use Rattle.pg_run.specs.Holding.{stream}
 use Rattle.pg_run.proofs.HoldLemmas.{sent, unsent}
 use Rattle.pg_run.proofs.engine.Engine.send_on.Goals as goal
 
@@ -10,7 +9,7 @@ returns-then-not-is_due-clause-err g c = λ aim steps h. tt
 
 pub returns-in-Ok-clause-ok : goal.returns-in-Ok-clause-ok
 returns-in-Ok-clause-ok g c = λ aim steps h.
-    sent h (stream (g.W.Sink.taken c.flush.new.self) (g.W.Sink.failures c.flush.new.self)) c.in-Ok.ensures.taken
+    sent h (g.W.Sink.stream c.flush.new.self) c.in-Ok.ensures.taken
     c.in-Ok.ensures.outcome
 
 pub returns-in-Ok-clause-err : goal.returns-in-Ok-clause-err
@@ -21,5 +20,5 @@ returns-in-Err-clause-ok g c = λ aim steps h. tt
 
 pub returns-in-Err-clause-err : goal.returns-in-Err-clause-err
 returns-in-Err-clause-err g c = λ aim steps h.
-    unsent h (stream (g.W.Sink.taken c.flush.new.self) (g.W.Sink.failures c.flush.new.self)) c.in-Err.ensures.taken
+    unsent h (g.W.Sink.stream c.flush.new.self) c.in-Err.ensures.taken
     c.in-Err.ensures.outcome
