@@ -3,7 +3,7 @@ use Rattle.std.proofs.Common.{◌≡◌, ℕ, ◌<◌, Bool, true, false, ◌&&�
 use Rattle.std.proofs.Common.{List, [], ◌∷◌, ◌++◌, length, refl, sym, ap, ◌∙◌, subst, arith, append_assoc}
 use Rattle.std.specs.List.{Contains, list_all}
 use Rattle.std.specs.Option.{IsSome, MatchOption}
-use Rattle.std.specs.Result.{IsErr, IsErrAnd, IsErrOf, IfErr, OnErr, OnOk}
+use Rattle.std.specs.Result.{IsErr, IsErrAnd, IsErrOf, IfErr, OnErr, OnOk, MatchResult}
 use Rattle.std.specs.Arc.{arc_value}
 use Rattle.std.proofs.lemmas.Bool.{eq-eqb, false≢true}
 use Rattle.std.proofs.lemmas.List.{append-nil, get_or_at, length_push}
@@ -333,6 +333,12 @@ pub err_by : {T E : Type 0} (r : Result T E) (P : E → Type 0) (e : E) → IsEr
 err_by (Ok x) P e h p = tt
 err_by (Err x) P e h p = subst P (sym h) p
 
+-- what stands at an error, where nothing is said of Ok but by another's fault
+pub fails_by : {T E : Type 0} (r : Result T E) (P : T → Type 0) (Q : E → Type 0) (e : E) → IsErrAnd r (λ x. x ≡ e)
+    → Q e → MatchResult r P Q
+fails_by (Ok x) P Q e h q = absurd (h)
+fails_by (Err x) P Q e h q = subst Q (sym h) q
+
 -- nothing is said of the Ok of an error
 pub ok_of_err : {T E : Type 0} (r : Result T E) (P : Type 0) → IsErr r → OnOk r P
 ok_of_err (Ok x) P h = absurd (false≢true h)
@@ -341,7 +347,3 @@ ok_of_err (Err e) P h = tt
 pub on_err_of : {T E : Type 0} (r : Result T E) (P : Type 0) → P → OnErr r P
 on_err_of (Ok x) P h = tt
 on_err_of (Err e) P h = h
-
-pub if_err_too : {T E : Type 0} (r : Result T E) (P Q : E → Type 0) → ((e : E) → P e → Q e) → IfErr r P → IfErr r Q
-if_err_too (Ok x) P Q f h = tt
-if_err_too (Err e) P Q f h = f e h

@@ -1,6 +1,6 @@
 //! Searches blocks, one after another or in rounds.
 ghost use Rattle.std.specs.Prelude.{◌≡◌, ◌+◌, ◌-◌, ◌<◌, ◌≤◌, ◌∷◌, ◌^◌, List, [], All, true, false, length};
-ghost use Rattle.std.specs.Prelude.{IfOk, OnOk, IfErr};
+ghost use Rattle.std.specs.Prelude.{IfOk, MatchResult, OnOk};
 ghost use Rattle.std.specs.Arc.{arc_value};
 ghost use Rattle.pg_match.specs.Machines.{Fits};
 ghost use Rattle.pg_lines.specs.Search.{HasItsTrees, terminator};
@@ -254,13 +254,11 @@ impl<A: Allocator + Copy> Engine<A> {
         requires none { self.old.round.items ≡ [] }
         ensures kept { (self.new.spread ≡ self.old.spread) × (self.new.setup ≡ self.old.setup) }
         ensures none { self.new.round.items ≡ [] }
-        ensures ok { (aim : Aim) → (steps : List Step) →
+        ensures outcome { (aim : Aim) → (steps : List Step) →
             Holds self.old aim steps (W.stream out.old) →
-            OnOk result (Holds self.new aim steps (W.stream out.new)
-            × IsWritten aim steps (W.stream out.new)) }
-        ensures err { (aim : Aim) → (steps : List Step) →
-            Holds self.old aim steps (W.stream out.old) →
-            IfErr result (Broke aim steps (W.stream out.new)) }
+            MatchResult result
+            (λ _. Holds self.new aim steps (W.stream out.new) × IsWritten aim steps (W.stream out.new))
+            (Broke aim steps (W.stream out.new)) }
     {
         self.sequencer.drain(out)?;
         self.written = self.files;
@@ -269,12 +267,10 @@ impl<A: Allocator + Copy> Engine<A> {
 
     /// Has the writer send on the rows that it holds back, where that is due.
     pub(crate) fn send_on<W: Sink>(&self, is_due: bool, out: &mut W) -> Result<(), RunFault>
-        ensures ok { (aim : Aim) → (steps : List Step) →
+        ensures outcome { (aim : Aim) → (steps : List Step) →
             Holds self.now aim steps (W.stream out.old) →
-            OnOk result (Holds self.now aim steps (W.stream out.new)) }
-        ensures err { (aim : Aim) → (steps : List Step) →
-            Holds self.now aim steps (W.stream out.old) →
-            IfErr result (Broke aim steps (W.stream out.new)) }
+            MatchResult result (λ _. Holds self.now aim steps (W.stream out.new))
+            (Broke aim steps (W.stream out.new)) }
     {
         if !is_due {
             return Ok(());
@@ -297,16 +293,14 @@ impl<A: Allocator + Copy> Engine<A> {
         requires room { self.old.spread ≡ true → length self.old.round.items < self.old.setup.round }
         requires ready { (aim : Aim) × (steps : List Step)
             × IsReady self.old aim steps (W.stream out.old) (Announces block) }
-        ensures ok { (aim : Aim) → (steps : List Step) →
+        ensures outcome { (aim : Aim) → (steps : List Step) →
             IsReady self.old aim steps (W.stream out.old) (Announces block) →
-            OnOk result (Holds self.new aim (Announces block ∷ steps) (W.stream out.new)) }
+            MatchResult result (λ _. Holds self.new aim (Announces block ∷ steps) (W.stream out.new))
+            (Broke aim (Announces block ∷ steps) (W.stream out.new)) }
         ensures written { (aim : Aim) → (steps : List Step) →
             IsReady self.old aim steps (W.stream out.old) (Announces block) →
             self.old.spread ≡ false →
             OnOk result (IsWritten aim (Announces block ∷ steps) (W.stream out.new)) }
-        ensures err { (aim : Aim) → (steps : List Step) →
-            IsReady self.old aim steps (W.stream out.old) (Announces block) →
-            IfErr result (Broke aim (Announces block ∷ steps) (W.stream out.new)) }
     {
         if self.spread {
             self.add(block)?;
@@ -469,13 +463,11 @@ impl<A: Allocator + Copy + Send + Sync> Engine<A> {
         ensures read { (r : D) → (f : X) → D.reaches r f reader.old from.old → D.reaches r f reader.new from.new }
         ensures kept { (self.new.spread ≡ self.old.spread) × (self.new.setup ≡ self.old.setup) }
         ensures none { OnOk result (self.new.round.items ≡ []) }
-        ensures ok { (aim : Aim) → (steps : List Step) →
+        ensures outcome { (aim : Aim) → (steps : List Step) →
             Holds self.old aim steps (W.stream out.old) →
-            OnOk result (Holds self.new aim steps (W.stream out.new)
-            × IsWritten aim steps (W.stream out.new)) }
-        ensures err { (aim : Aim) → (steps : List Step) →
-            Holds self.old aim steps (W.stream out.old) →
-            IfErr result (Broke aim steps (W.stream out.new)) }
+            MatchResult result
+            (λ _. Holds self.new aim steps (W.stream out.new) × IsWritten aim steps (W.stream out.new))
+            (Broke aim steps (W.stream out.new)) }
     {
         self.reserve = None;
         let bytes = self.waiting();
@@ -519,13 +511,11 @@ impl<A: Allocator + Copy + Send + Sync> Engine<A> {
             × Holds self.old aim steps (W.stream out.old) }
         ensures kept { (self.new.spread ≡ self.old.spread) × (self.new.setup ≡ self.old.setup) }
         ensures none { OnOk result (self.new.round.items ≡ []) }
-        ensures ok { (aim : Aim) → (steps : List Step) →
+        ensures outcome { (aim : Aim) → (steps : List Step) →
             Holds self.old aim steps (W.stream out.old) →
-            OnOk result (Holds self.new aim steps (W.stream out.new)
-            × IsWritten aim steps (W.stream out.new)) }
-        ensures err { (aim : Aim) → (steps : List Step) →
-            Holds self.old aim steps (W.stream out.old) →
-            IfErr result (Broke aim steps (W.stream out.new)) }
+            MatchResult result
+            (λ _. Holds self.new aim steps (W.stream out.new) × IsWritten aim steps (W.stream out.new))
+            (Broke aim steps (W.stream out.new)) }
     {
         if self.round.is_empty() {
             return self.drain(out);
@@ -543,12 +533,10 @@ impl<A: Allocator + Copy + Send + Sync> Engine<A> {
         requires holds { (aim : Aim) × (steps : List Step)
             × Holds self.old aim steps (W.stream out.old) }
         ensures room { OnOk result (self.new.spread ≡ true → length self.new.round.items < self.new.setup.round) }
-        ensures ok { (aim : Aim) → (steps : List Step) →
+        ensures outcome { (aim : Aim) → (steps : List Step) →
             Holds self.old aim steps (W.stream out.old) →
-            OnOk result (Holds self.new aim steps (W.stream out.new)) }
-        ensures err { (aim : Aim) → (steps : List Step) →
-            Holds self.old aim steps (W.stream out.old) →
-            IfErr result (Broke aim steps (W.stream out.new)) }
+            MatchResult result (λ _. Holds self.new aim steps (W.stream out.new))
+            (Broke aim steps (W.stream out.new)) }
     {
         if !self.is_full() {
             return Ok(());
@@ -565,12 +553,10 @@ impl<A: Allocator + Copy + Send + Sync> Engine<A> {
     ) -> Result<(), RunFault>
         requires holds { (aim : Aim) × (steps : List Step)
             × Holds self.old aim steps (W.stream out.old) }
-        ensures ok { (aim : Aim) → (steps : List Step) →
+        ensures outcome { (aim : Aim) → (steps : List Step) →
             Holds self.old aim steps (W.stream out.old) →
-            OnOk result (Holds self.new aim steps (W.stream out.new)) }
-        ensures err { (aim : Aim) → (steps : List Step) →
-            Holds self.old aim steps (W.stream out.old) →
-            IfErr result (Broke aim steps (W.stream out.new)) }
+            MatchResult result (λ _. Holds self.new aim steps (W.stream out.new))
+            (Broke aim steps (W.stream out.new)) }
     {
         if !self.has_waiting() {
             return Ok(());
@@ -588,12 +574,10 @@ impl<A: Allocator + Copy + Send + Sync> Engine<A> {
     ) -> Result<(), RunFault>
         requires holds { (aim : Aim) × (steps : List Step)
             × Holds self.old aim steps (W.stream out.old) }
-        ensures ok { (aim : Aim) → (steps : List Step) →
+        ensures outcome { (aim : Aim) → (steps : List Step) →
             Holds self.old aim steps (W.stream out.old) →
-            OnOk result (Holds self.new aim steps (W.stream out.new)) }
-        ensures err { (aim : Aim) → (steps : List Step) →
-            Holds self.old aim steps (W.stream out.old) →
-            IfErr result (Broke aim steps (W.stream out.new)) }
+            MatchResult result (λ _. Holds self.new aim steps (W.stream out.new))
+            (Broke aim steps (W.stream out.new)) }
     {
         if self.has_waiting() && !self.has_many_empty() {
             return Ok(());
@@ -631,18 +615,12 @@ impl<A: Allocator + Copy + Send + Sync> Engine<A> {
     ) -> Result<u8, RunFault>
         requires holds { (aim : Aim) × (steps : List Step)
             × Holds self.old aim steps (W.stream out.old) × (is_open steps ≡ false) }
-        ensures written { (aim : Aim) → (steps : List Step) →
+        ensures outcome { (aim : Aim) → (steps : List Step) →
             Holds self.old aim steps (W.stream out.old) →
-            OnOk result (IsWritten aim steps (W.stream out.new)) }
-        ensures status { (aim : Aim) → (steps : List Step) →
-            Holds self.old aim steps (W.stream out.old) →
-            IfOk result (λ answer. answer ≡ status aim.query (format_of aim) (entries_of steps)) }
-        ensures calm { (aim : Aim) → (steps : List Step) →
-            Holds self.old aim steps (W.stream out.old) →
-            OnOk result ((W.stream out.new).failures ≡ aim.out.failures) }
-        ensures err { (aim : Aim) → (steps : List Step) →
-            Holds self.old aim steps (W.stream out.old) →
-            IfErr result (Broke aim steps (W.stream out.new)) }
+            MatchResult result (λ answer. IsWritten aim steps (W.stream out.new)
+            × (answer ≡ status aim.query (format_of aim) (entries_of steps))
+            × ((W.stream out.new).failures ≡ aim.out.failures))
+            (Broke aim steps (W.stream out.new)) }
     {
         self.flush(rt, gate, out)?;
         Ok(self.sequencer.status().unwrap())

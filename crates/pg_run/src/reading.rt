@@ -1,5 +1,5 @@
 //! Reads one file, as far as that is needed.
-ghost use Rattle.std.specs.Prelude.{◌≡◌, ◌<◌, ◌++◌, List, true, false, length, drop, IfOk, OnOk, IfErr};
+ghost use Rattle.std.specs.Prelude.{◌≡◌, ◌<◌, ◌++◌, List, true, false, length, drop, IfOk, MatchResult, OnOk};
 ghost use Rattle.pg_lines.specs.Cutter.{IsDrained};
 ghost use Rattle.pg_rows.specs.Output.{when};
 ghost use Rattle.pg_walk.specs.declared.item.Cause.TheVariants.{ReadFailed};
@@ -43,13 +43,10 @@ fn make_room<
     ensures before { drop 1 (F.past files.new).given ≡ drop 1 (F.past files.old).given }
     ensures same_list { F.list files.new ≡ F.list files.old }
     ensures room { OnOk result (engine.new.spread ≡ true → length engine.new.round.items < engine.new.setup.round) }
-    ensures ok { (aim : Aim) → InFile reader.old engine.old aim (F.past files.old).given
-        (W.stream out.old) →
-        OnOk result (InFile reader.new engine.new aim (F.past files.new).given
-        (W.stream out.new)) }
-    ensures err { (aim : Aim) → InFile reader.old engine.old aim (F.past files.old).given
-        (W.stream out.old) →
-        IfErr result (Breaks aim (F.past files.new).given (W.stream out.new)) }
+    ensures outcome { (aim : Aim) →
+        InFile reader.old engine.old aim (F.past files.old).given (W.stream out.old) →
+        MatchResult result (λ _. InFile reader.new engine.new aim (F.past files.new).given
+        (W.stream out.new)) (Breaks aim (F.past files.new).given (W.stream out.new)) }
 {
     if !engine.is_full() {
         return Ok(());
@@ -85,13 +82,10 @@ fn search_ready<
     ensures same_list { F.list files.new ≡ F.list files.old }
     ensures drained { OnOk result (IsDrained reader.new.cutter) }
     ensures room { OnOk result (engine.new.spread ≡ true → length engine.new.round.items < engine.new.setup.round) }
-    ensures ok { (aim : Aim) → InFile reader.old engine.old aim (F.past files.old).given
-        (W.stream out.old) →
-        OnOk result (InFile reader.new engine.new aim (F.past files.new).given
-        (W.stream out.new)) }
-    ensures err { (aim : Aim) → InFile reader.old engine.old aim (F.past files.old).given
-        (W.stream out.old) →
-        IfErr result (Breaks aim (F.past files.new).given (W.stream out.new)) }
+    ensures outcome { (aim : Aim) →
+        InFile reader.old engine.old aim (F.past files.old).given (W.stream out.old) →
+        MatchResult result (λ _. InFile reader.new engine.new aim (F.past files.new).given
+        (W.stream out.new)) (Breaks aim (F.past files.new).given (W.stream out.new)) }
 {
     for _ in rt.forever() {
         make_room(rt, gate, reader, engine, files, out)?;
@@ -122,12 +116,10 @@ fn search_lines<
         × InFile reader.old engine.old aim given (W.stream out.old) }
     ensures came { reader.new.came ≡ reader.old.came }
     ensures drained { IsDrained reader.new.cutter }
-    ensures ok { (aim : Aim) → (given : List Given) →
+    ensures outcome { (aim : Aim) → (given : List Given) →
         InFile reader.old engine.old aim given (W.stream out.old) →
-        OnOk result (InFile reader.new engine.new aim given (W.stream out.new)) }
-    ensures err { (aim : Aim) → (given : List Given) →
-        InFile reader.old engine.old aim given (W.stream out.old) →
-        IfErr result (Breaks aim given (W.stream out.new)) }
+        MatchResult result (λ _. InFile reader.new engine.new aim given (W.stream out.new))
+        (Breaks aim given (W.stream out.new)) }
 {
     engine.make_room(rt, gate, out)?;
     match reader.take_lines() {
@@ -156,12 +148,10 @@ fn settle<
     requires in_file { (aim : Aim) × (given : List Given)
         × InFile reader.old engine.old aim given (W.stream out.old) }
     ensures came { reader.new.came ≡ reader.old.came }
-    ensures ok { (aim : Aim) → (given : List Given) →
+    ensures outcome { (aim : Aim) → (given : List Given) →
         InFile reader.old engine.old aim given (W.stream out.old) →
-        OnOk result (InFile reader.new engine.new aim given (W.stream out.new)) }
-    ensures err { (aim : Aim) → (given : List Given) →
-        InFile reader.old engine.old aim given (W.stream out.old) →
-        IfErr result (Breaks aim given (W.stream out.new)) }
+        MatchResult result (λ _. InFile reader.new engine.new aim given (W.stream out.new))
+        (Breaks aim given (W.stream out.new)) }
 {
     if engine.enough() || !files.may_wait() {
         return Ok(());
@@ -206,13 +196,10 @@ fn read_once<
     ensures same_list { F.list files.new ≡ F.list files.old }
     ensures drained { OnOk result (IsDrained reader.new.cutter) }
     ensures room { OnOk result (engine.new.spread ≡ true → length engine.new.round.items < engine.new.setup.round) }
-    ensures ok { (aim : Aim) → InFile reader.old engine.old aim (F.past files.old).given
-        (W.stream out.old) →
-        OnOk result (InFile reader.new engine.new aim (F.past files.new).given
-        (W.stream out.new)) }
-    ensures err { (aim : Aim) → InFile reader.old engine.old aim (F.past files.old).given
-        (W.stream out.old) →
-        IfErr result (Breaks aim (F.past files.new).given (W.stream out.new)) }
+    ensures outcome { (aim : Aim) →
+        InFile reader.old engine.old aim (F.past files.old).given (W.stream out.old) →
+        MatchResult result (λ _. InFile reader.new engine.new aim (F.past files.new).given
+        (W.stream out.new)) (Breaks aim (F.past files.new).given (W.stream out.new)) }
 {
     recycle(reader, engine);
     reader.read(files);
@@ -233,12 +220,10 @@ fn search_last<R: Clock, A: Allocator + Copy + Send + Sync, W: Sink, G: Gate>(
     requires room { engine.old.spread ≡ true → length engine.old.round.items < engine.old.setup.round }
     requires in_file { (aim : Aim) × (given : List Given) × IsDrained reader.old.cutter
         × InFile reader.old engine.old aim given (W.stream out.old) }
-    ensures ok { (aim : Aim) → (given : List Given) →
+    ensures outcome { (aim : Aim) → (given : List Given) →
         InFile reader.old engine.old aim given (W.stream out.old) →
-        OnOk result (MayEnd engine.new aim failed given (W.stream out.new)) }
-    ensures err { (aim : Aim) → (given : List Given) →
-        InFile reader.old engine.old aim given (W.stream out.old) →
-        IfErr result (Breaks aim given (W.stream out.new)) }
+        MatchResult result (λ _. MayEnd engine.new aim failed given (W.stream out.new))
+        (Breaks aim given (W.stream out.new)) }
 {
     match reader.finish() {
         Some(block) => engine.search(rt, gate, block, out),
@@ -257,12 +242,10 @@ fn end_file<
     requires may_end { (aim : Aim) × (given : List Given)
         × MayEnd engine.old aim failed given (W.stream out.old) }
     ensures failed { IfOk result (λ answer. answer ≡ failed) }
-    ensures ok { (aim : Aim) → (given : List Given) →
+    ensures outcome { (aim : Aim) → (given : List Given) →
         MayEnd engine.old aim failed given (W.stream out.old) →
-        OnOk result (Between engine.new aim given (W.stream out.new)) }
-    ensures err { (aim : Aim) → (given : List Given) →
-        MayEnd engine.old aim failed given (W.stream out.old) →
-        IfErr result (Breaks aim given (W.stream out.new)) }
+        MatchResult result (λ _. Between engine.new aim given (W.stream out.new))
+        (Breaks aim given (W.stream out.new)) }
 {
     engine.end(failed);
     engine.flush_ended(rt, gate, out)?;
@@ -290,12 +273,10 @@ fn finish_file<
     requires in_file { (aim : Aim) × (given : List Given) × IsDrained reader.old.cutter
         × InFile reader.old engine.old aim given (W.stream out.old) }
     ensures failed { IfOk result (λ answer. answer ≡ failed) }
-    ensures ok { (aim : Aim) → (given : List Given) →
+    ensures outcome { (aim : Aim) → (given : List Given) →
         InFile reader.old engine.old aim given (W.stream out.old) →
-        OnOk result (Between engine.new aim given (W.stream out.new)) }
-    ensures err { (aim : Aim) → (given : List Given) →
-        InFile reader.old engine.old aim given (W.stream out.old) →
-        IfErr result (Breaks aim given (W.stream out.new)) }
+        MatchResult result (λ _. Between engine.new aim given (W.stream out.new))
+        (Breaks aim given (W.stream out.new)) }
 {
     search_last(rt, gate, reader, engine, failed, out)?;
     end_file(rt, gate, engine, failed, out)
@@ -326,12 +307,10 @@ pub(crate) fn read_file<
     ensures same_list { F.list files.new ≡ F.list files.old }
     ensures told { IfOk result (λ failed. faults_of (F.past files.new).given ≡ faults_of (F.past files.old).given
         ++ when failed (fault_line (newest_name (F.past files.new).given) ReadFailed)) }
-    ensures ok { (aim : Aim) → InFile reader.old engine.old aim (F.past files.old).given
-        (W.stream out.old) →
-        OnOk result (Between engine.new aim (F.past files.new).given (W.stream out.new)) }
-    ensures err { (aim : Aim) → InFile reader.old engine.old aim (F.past files.old).given
-        (W.stream out.old) →
-        IfErr result (Breaks aim (F.past files.new).given (W.stream out.new)) }
+    ensures outcome { (aim : Aim) →
+        InFile reader.old engine.old aim (F.past files.old).given (W.stream out.old) →
+        MatchResult result (λ _. Between engine.new aim (F.past files.new).given (W.stream out.new))
+        (Breaks aim (F.past files.new).given (W.stream out.new)) }
 {
     for _ in rt.forever() {
         settle(rt, gate, reader, engine, files, out)?;

@@ -1,6 +1,6 @@
 //! The run over all files.
 ghost use Rattle.std.specs.Prelude.{◌≡◌, ◌-◌, ◌^◌, ◌<◌, ◌∷◌, ◌++◌, ℕ, List, [], not, true, false, drop};
-ghost use Rattle.std.specs.Prelude.{IfOk, OnOk, IfErr, OnErr};
+ghost use Rattle.std.specs.Prelude.{IfOk, MatchResult, OnOk, IfErr, OnErr};
 ghost use Rattle.std.specs.List.{flat_map};
 ghost use Rattle.pg_lines.specs.Search.{Search, Pattern, AreTreesOf, HasItsTrees};
 ghost use Rattle.pg_lines.specs.Cutter.{IsDrained};
@@ -100,18 +100,12 @@ fn miss<A: Allocator + Copy + Send + Sync, W: Sink, E: Sink>(
     faults: &mut E,
 ) -> Result<(), RunFault>
     requires { (aim : Aim) × (given : List Given)
-        × Rests engine.old aim given (W.stream out.old)
-        (E.stream faults.old) }
-    ensures ok { (aim : Aim) → (given : List Given) →
-        Rests engine.old aim given (W.stream out.old)
-        (E.stream faults.old) →
-        OnOk result (Rests engine.new aim (NoFile name.now cause ∷ given)
-        (W.stream out.new) (E.stream faults.new)) }
-    ensures err { (aim : Aim) → (given : List Given) →
-        Rests engine.old aim given (W.stream out.old)
-        (E.stream faults.old) →
-        IfErr result (Stops aim (NoFile name.now cause ∷ given) (W.stream out.new)
-        (E.stream faults.new)) }
+        × Rests engine.old aim given (W.stream out.old) (E.stream faults.old) }
+    ensures outcome { (aim : Aim) → (given : List Given) →
+        Rests engine.old aim given (W.stream out.old) (E.stream faults.old) →
+        MatchResult result (λ _. Rests engine.new aim (NoFile name.now cause ∷ given) (W.stream out.new)
+        (E.stream faults.new))
+        (Stops aim (NoFile name.now cause ∷ given) (W.stream out.new) (E.stream faults.new)) }
 {
     engine.send_on(!engine.setup.silent, out)?;
     tell_fault(engine.alloc, engine.setup.silent, name, cause, faults)?;
@@ -156,23 +150,16 @@ fn one_file<
 ) -> Result<(), RunFault>
     requires rests { (aim : Aim) × (given : List Given) × (name : List ℕ)
         × ((F.past files.old).given ≡ File name [] Left ∷ given)
-        × Rests engine.old aim given (W.stream out.old)
-        (E.stream faults.old) }
+        × Rests engine.old aim given (W.stream out.old) (E.stream faults.old) }
     ensures done { (F.past files.new).done ≡ (F.past files.old).done }
     ensures before { drop 1 (F.past files.new).given ≡ drop 1 (F.past files.old).given }
     ensures same_list { F.list files.new ≡ F.list files.old }
-    ensures ok { (aim : Aim) → (given : List Given) → (name : List ℕ) →
+    ensures outcome { (aim : Aim) → (given : List Given) → (name : List ℕ) →
         (F.past files.old).given ≡ File name [] Left ∷ given →
-        Rests engine.old aim given (W.stream out.old)
-        (E.stream faults.old) →
-        OnOk result (Rests engine.new aim (F.past files.new).given (W.stream out.new)
-        (E.stream faults.new)) }
-    ensures err { (aim : Aim) → (given : List Given) → (name : List ℕ) →
-        (F.past files.old).given ≡ File name [] Left ∷ given →
-        Rests engine.old aim given (W.stream out.old)
-        (E.stream faults.old) →
-        IfErr result (Stops aim (F.past files.new).given (W.stream out.new)
-        (E.stream faults.new)) }
+        Rests engine.old aim given (W.stream out.old) (E.stream faults.old) →
+        MatchResult result (λ _. Rests engine.new aim (F.past files.new).given (W.stream out.new)
+        (E.stream faults.new))
+        (Stops aim (F.past files.new).given (W.stream out.new) (E.stream faults.new)) }
 {
     if engine.files >= MOST_FILES {
         return Err(engine.break_off(rt, gate, RunFault::TooManyFiles, out));
@@ -217,14 +204,11 @@ fn take_next<
         → AllGiven (F.finds (F.list files.new)) (F.past files.new).given) }
     ensures went { OnErr result (Went (F.past files.old).given (F.past files.new).given) }
     ensures same_list { F.list files.new ≡ F.list files.old }
-    ensures ok { (aim : Aim) → Rests engine.old aim (F.past files.old).given
-        (W.stream out.old) (E.stream faults.old) →
-        OnOk result (Rests engine.new aim (F.past files.new).given (W.stream out.new)
-        (E.stream faults.new)) }
-    ensures err { (aim : Aim) → Rests engine.old aim (F.past files.old).given
-        (W.stream out.old) (E.stream faults.old) →
-        IfErr result (Stops aim (F.past files.new).given (W.stream out.new)
-        (E.stream faults.new)) }
+    ensures outcome { (aim : Aim) →
+        Rests engine.old aim (F.past files.old).given (W.stream out.old) (E.stream faults.old) →
+        MatchResult result (λ _. Rests engine.new aim (F.past files.new).given (W.stream out.new)
+        (E.stream faults.new))
+        (Stops aim (F.past files.new).given (W.stream out.new) (E.stream faults.new)) }
 {
     match files.next()? {
         Step::Done => Ok(false),
@@ -257,17 +241,12 @@ fn all_files<
     faults: &mut E,
 ) -> Result<(), RunFault>
     requires new { F.past files.old ≡ nothing_given }
-    requires rests { (aim : Aim) × Rests engine.old aim [] (W.stream out.old)
-        (E.stream faults.old) }
+    requires rests { (aim : Aim) × Rests engine.old aim [] (W.stream out.old) (E.stream faults.old) }
     ensures same_list { F.list files.new ≡ F.list files.old }
-    ensures ok { (aim : Aim) → Rests engine.old aim [] (W.stream out.old)
-        (E.stream faults.old) →
-        OnOk result (IsDone engine.new aim (F.finds (F.list files.new)) (F.past files.new)
-        (W.stream out.new) (E.stream faults.new)) }
-    ensures err { (aim : Aim) → Rests engine.old aim [] (W.stream out.old)
-        (E.stream faults.old) →
-        IfErr result (StopsBehind aim (F.past files.new).given (W.stream out.new)
-        (E.stream faults.new)) }
+    ensures outcome { (aim : Aim) → Rests engine.old aim [] (W.stream out.old) (E.stream faults.old) →
+        MatchResult result (λ _. IsDone engine.new aim (F.finds (F.list files.new)) (F.past files.new)
+        (W.stream out.new) (E.stream faults.new))
+        (StopsBehind aim (F.past files.new).given (W.stream out.new) (E.stream faults.new)) }
 {
     for _ in rt.forever() {
         if engine.enough() {
@@ -297,18 +276,12 @@ fn search_files<
     faults: &mut E,
 ) -> Result<u8, RunFault>
     requires new { F.past files.old ≡ nothing_given }
-    requires rests { (aim : Aim) × Rests engine.old aim [] (W.stream out.old)
-        (E.stream faults.old) }
+    requires rests { (aim : Aim) × Rests engine.old aim [] (W.stream out.old) (E.stream faults.old) }
     ensures same_list { F.list files.new ≡ F.list files.old }
-    ensures ok { (aim : Aim) → Rests engine.old aim [] (W.stream out.old)
-        (E.stream faults.old) →
-        IfOk result (Finishes aim.query aim.setup (F.finds (F.list files.new)) (F.past files.new)
-        aim.out (W.stream out.new)
-        aim.told (E.stream faults.new)) }
-    ensures err { (aim : Aim) → Rests engine.old aim [] (W.stream out.old)
-        (E.stream faults.old) →
-        IfErr result (StopsBehind aim (F.past files.new).given (W.stream out.new)
-        (E.stream faults.new)) }
+    ensures outcome { (aim : Aim) → Rests engine.old aim [] (W.stream out.old) (E.stream faults.old) →
+        MatchResult result (Finishes aim.query aim.setup (F.finds (F.list files.new)) (F.past files.new)
+        aim.out (W.stream out.new) aim.told (E.stream faults.new))
+        (StopsBehind aim (F.past files.new).given (W.stream out.new) (E.stream faults.new)) }
 {
     let mut reader = FileReader::new(engine.alloc, engine.setup.block);
     all_files(rt, gate, engine, files, &mut reader, out, faults)?;
@@ -355,16 +328,10 @@ pub fn run<
 ) -> Result<u8, RunFault>
     requires { F.past files.old ≡ nothing_given }
     ensures ok { IfOk result (λ status. (q : Search) × IsSearchFor text q
-        × Finishes q setup (F.finds (F.list files.new)) (F.past files.new)
-        (W.stream out.old)
-        (W.stream out.new)
-        (E.stream faults.old)
-        (E.stream faults.new) status) }
-    ensures err { IfErr result (BreaksOff text setup (F.past files.new)
-        (W.stream out.old)
-        (W.stream out.new)
-        (E.stream faults.old)
-        (E.stream faults.new)) }
+        × Finishes q setup (F.finds (F.list files.new)) (F.past files.new) (W.stream out.old)
+        (W.stream out.new) (E.stream faults.old) (E.stream faults.new) status) }
+    ensures err { IfErr result (BreaksOff text setup (F.past files.new) (W.stream out.old)
+        (W.stream out.new) (E.stream faults.old) (E.stream faults.new)) }
     ensures same_list { F.list files.new ≡ F.list files.old }
 {
     let mut engine = begin(alloc, text, setup)?;

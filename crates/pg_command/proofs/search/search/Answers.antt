@@ -41,8 +41,7 @@ returns-in_err-run-clause-fault g c =
     let out : Stream = g.W.Sink.stream c.args.out.now in
     let out' : Stream = g.W.Sink.stream c.run.new.out in
     let err : Stream = g.E.Sink.stream c.args.err.now in
-    let err' : Stream =
-    g.E.Sink.stream c.run.new.faults in
+    let err' : Stream = g.E.Sink.stream c.run.new.faults in
     let P : Fault → Type 0 = λ fault.
     Fails (tells tree) (answers tree) asked past past' out out' err err' fault in
     if_err P _ c.from_residual-in_err-run.result c.from_residual-in_err-run.ensures.1

@@ -1,5 +1,5 @@
 use Rattle.std.proofs.Common.{refl}
-use Rattle.std.proofs.lemmas.Result.{IfOk-from_err}
+use Rattle.std.proofs.lemmas.Result.{IfOk-from_err, MatchResult-weaker}
 use Rattle.pg_run.specs.Outcome.{BreaksOff}
 use Rattle.pg_run.proofs.HoldLemmas.{err_by}
 use Rattle.pg_run.proofs.RunLemmas.{aim_for, between_new, told_new, breaks_first, breaks_for, finishes_for}
@@ -43,8 +43,9 @@ returns-clause-ok g c =
     finishes_for c.search_files.result c.args.text c.args.setup
     (g.F.Files.finds (g.F.Files.list c.search_files.new.files)) (g.F.Files.past c.search_files.new.files)
     out out' told told' own
-    (c.search_files.ensures.ok aim
+    (MatchResult-weaker c.search_files.result (c.search_files.ensures.outcome aim
     (between_new c.in_ok-engine.engine aim (c.in_ok-engine.ensures.holds aim own.1 refl refl), told_new aim))
+    (λ _ f. f) (λ _ _. tt))
 
 pub returns-clause-err : goal.returns-clause-err
 returns-clause-err g c =
@@ -56,8 +57,9 @@ returns-clause-err g c =
     out out' told told' c.in_ok-engine.ensures.trees
     (λ trees spelled.
     let aim = aim_for c.args.text trees c.args.setup out told in
-    c.search_files.ensures.err aim
+    MatchResult-weaker c.search_files.result (c.search_files.ensures.outcome aim
     (between_new c.in_ok-engine.engine aim (c.in_ok-engine.ensures.holds aim spelled refl refl), told_new aim))
+    (λ _ _. tt) (λ _ s. s))
 
 pub returns-clause-same_list : goal.returns-clause-same_list
 returns-clause-same_list g c = c.search_files.ensures.same_list
