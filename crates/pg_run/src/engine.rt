@@ -267,7 +267,7 @@ impl<A: Allocator + Copy> Engine<A> {
 
     /// Has the writer send on the rows that it holds back, where that is due.
     pub(crate) fn send_on<W: Sink>(&self, is_due: bool, out: &mut W) -> Result<(), RunFault>
-        ensures outcome { (aim : Aim) → (steps : List Step) →
+        ensures { (aim : Aim) → (steps : List Step) →
             Holds self.now aim steps (W.stream out.old) →
             MatchResult result (λ _. Holds self.now aim steps (W.stream out.new))
             (Broke aim steps (W.stream out.new)) }
@@ -553,7 +553,7 @@ impl<A: Allocator + Copy + Send + Sync> Engine<A> {
     ) -> Result<(), RunFault>
         requires holds { (aim : Aim) × (steps : List Step)
             × Holds self.old aim steps (W.stream out.old) }
-        ensures outcome { (aim : Aim) → (steps : List Step) →
+        ensures { (aim : Aim) → (steps : List Step) →
             Holds self.old aim steps (W.stream out.old) →
             MatchResult result (λ _. Holds self.new aim steps (W.stream out.new))
             (Broke aim steps (W.stream out.new)) }
@@ -574,7 +574,7 @@ impl<A: Allocator + Copy + Send + Sync> Engine<A> {
     ) -> Result<(), RunFault>
         requires holds { (aim : Aim) × (steps : List Step)
             × Holds self.old aim steps (W.stream out.old) }
-        ensures outcome { (aim : Aim) → (steps : List Step) →
+        ensures { (aim : Aim) → (steps : List Step) →
             Holds self.old aim steps (W.stream out.old) →
             MatchResult result (λ _. Holds self.new aim steps (W.stream out.new))
             (Broke aim steps (W.stream out.new)) }
@@ -615,7 +615,7 @@ impl<A: Allocator + Copy + Send + Sync> Engine<A> {
     ) -> Result<u8, RunFault>
         requires holds { (aim : Aim) × (steps : List Step)
             × Holds self.old aim steps (W.stream out.old) × (is_open steps ≡ false) }
-        ensures outcome { (aim : Aim) → (steps : List Step) →
+        ensures { (aim : Aim) → (steps : List Step) →
             Holds self.old aim steps (W.stream out.old) →
             MatchResult result (λ answer. IsWritten aim steps (W.stream out.new)
             × (answer ≡ status aim.query (format_of aim) (entries_of steps))

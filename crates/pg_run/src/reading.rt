@@ -220,7 +220,7 @@ fn search_last<R: Clock, A: Allocator + Copy + Send + Sync, W: Sink, G: Gate>(
     requires room { engine.old.spread ≡ true → length engine.old.round.items < engine.old.setup.round }
     requires in_file { (aim : Aim) × (given : List Given) × IsDrained reader.old.cutter
         × InFile reader.old engine.old aim given (W.stream out.old) }
-    ensures outcome { (aim : Aim) → (given : List Given) →
+    ensures { (aim : Aim) → (given : List Given) →
         InFile reader.old engine.old aim given (W.stream out.old) →
         MatchResult result (λ _. MayEnd engine.new aim failed given (W.stream out.new))
         (Breaks aim given (W.stream out.new)) }

@@ -101,7 +101,7 @@ fn miss<A: Allocator + Copy + Send + Sync, W: Sink, E: Sink>(
 ) -> Result<(), RunFault>
     requires { (aim : Aim) × (given : List Given)
         × Rests engine.old aim given (W.stream out.old) (E.stream faults.old) }
-    ensures outcome { (aim : Aim) → (given : List Given) →
+    ensures { (aim : Aim) → (given : List Given) →
         Rests engine.old aim given (W.stream out.old) (E.stream faults.old) →
         MatchResult result (λ _. Rests engine.new aim (NoFile name.now cause ∷ given) (W.stream out.new)
         (E.stream faults.new))

@@ -28,7 +28,7 @@ returns-in_err-flush_ended-clause-outcome g c = λ aim given k.
     let fault = c.in_err-flush_ended.field-0.0 in
     let ended = c.end.ensures aim k.steps _ (k.holds, (k.running, tt)) in
     fails_by c.from_residual.result _ (Breaks aim given out') fault c.from_residual.ensures.1
-    (ended_breaks c.args.failed k out' fault (c.in_err-flush_ended.ensures.outcome aim _ ended))
+    (ended_breaks c.args.failed k out' fault (c.in_err-flush_ended.ensures aim _ ended))
 
 pub returns-in_err-send_on-clause-failed : goal.returns-in_err-send_on-clause-failed
 returns-in_err-send_on-clause-failed g c =
@@ -42,7 +42,7 @@ returns-in_err-send_on-clause-outcome g c = λ aim given k.
     fails_by c.from_residual-in_err-send_on.result _ (Breaks aim given out') fault
     c.from_residual-in_err-send_on.ensures.1
     (ended_breaks c.args.failed k out' fault
-    (c.in_err-send_on.ensures.outcome aim _ (c.in_ok-flush_ended.ensures.outcome aim _ ended)))
+    (c.in_err-send_on.ensures aim _ (c.in_ok-flush_ended.ensures aim _ ended)))
 
 pub returns-clause-failed : goal.returns-clause-failed
 returns-clause-failed g c = refl
@@ -51,4 +51,4 @@ pub returns-clause-outcome : goal.returns-clause-outcome
 returns-clause-outcome g c = λ aim given k.
     let ended = c.end.ensures aim k.steps _ (k.holds, (k.running, tt)) in
     file_ended c.args.failed k c.flush_ended.new.self _
-    (c.in_ok-send_on.ensures.outcome aim _ (c.in_ok-flush_ended.ensures.outcome aim _ ended))
+    (c.in_ok-send_on.ensures aim _ (c.in_ok-flush_ended.ensures aim _ ended))

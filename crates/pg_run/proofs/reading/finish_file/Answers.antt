@@ -19,16 +19,16 @@ pub returns-in_err-search_last-clause-outcome : goal.returns-in_err-search_last-
 returns-in_err-search_last-clause-outcome g c = λ aim given h.
     let out' = g.W.Sink.stream c.search_last.new.out in
     fails_by c.from_residual.result _ (Breaks aim given out') c.in_err-search_last.field-0.0 c.from_residual.ensures.1
-    (c.in_err-search_last.ensures.outcome aim given h)
+    (c.in_err-search_last.ensures aim given h)
 
 pub end_file-requires-clause-may_end : goal.end_file-requires-clause-may_end
 end_file-requires-clause-may_end g c κs within =
     let r = c.requires.in_file in
-    (r.0, r.1, c.in_ok-search_last.ensures.outcome r.0 r.1 r.3)
+    (r.0, r.1, c.in_ok-search_last.ensures r.0 r.1 r.3)
 
 pub returns-clause-failed : goal.returns-clause-failed
 returns-clause-failed g c = c.end_file.ensures.failed
 
 pub returns-clause-outcome : goal.returns-clause-outcome
 returns-clause-outcome g c = λ aim given h.
-    c.end_file.ensures.outcome aim given (c.in_ok-search_last.ensures.outcome aim given h)
+    c.end_file.ensures.outcome aim given (c.in_ok-search_last.ensures aim given h)

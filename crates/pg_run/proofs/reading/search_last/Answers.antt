@@ -13,16 +13,16 @@ search-requires-clause-ready g c =
       ),
     )
 
-pub returns-in-Some-clause-outcome : goal.returns-in-Some-clause-outcome
-returns-in-Some-clause-outcome g c = λ aim given h.
+pub returns-in-Some : goal.returns-in-Some
+returns-in-Some g c = λ aim given h.
     let all = c.in-Some.ensures h.cuts.fed h.cuts.cut in
     MatchResult-weaker c.search.result
     (c.search.ensures.outcome aim h.steps (h.holds, last_may h.cuts c.in-Some.block all))
     (λ _ k. last_searched h _ c.in-Some.block _ c.args.failed c.requires.ended all k)
     (λ fault k. last_breaks h c.in-Some.block _ fault c.args.failed c.requires.ended all k)
 
-pub returns-in-None-clause-outcome : goal.returns-in-None-clause-outcome
-returns-in-None-clause-outcome g c = λ aim given h.
+pub returns-in-None : goal.returns-in-None
+returns-in-None g c = λ aim given h.
     none_last h c.args.failed c.requires.ended (c.in-None.ensures h.cuts.fed h.cuts.cut)
 
 pub finish-requires : goal.finish-requires

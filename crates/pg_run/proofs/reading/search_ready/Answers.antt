@@ -59,7 +59,7 @@ loop-preserved g c =
           let k = c.in_ok-search.ensures.outcome aim h.steps (h.holds, next_may h.cuts c.in-Some-take.block n) in
           record {
             steps = _;
-            holds = c.in_ok-send_on.ensures.outcome aim _ k;
+            holds = c.in_ok-send_on.ensures aim _ k;
             cuts = next_taken h.cuts _ c.in-Some-take.block h.cuts.fed.early e.came n (e.stands h.cuts.fed h.cuts.cut);
           };
     }
@@ -141,5 +141,5 @@ returns-in_err-send_on-clause-outcome g c = λ aim start.
     fails_by c.from_residual-in_err-send_on.result _ (Breaks aim (g.F.Files.past c.make_room.new.files).given out')
     fault c.from_residual-in_err-send_on.ensures.1
     (next_breaks h block out' fault n
-    (c.in_err-send_on.ensures.outcome aim _
+    (c.in_err-send_on.ensures aim _
     (c.in_ok-search.ensures.outcome aim h.steps (h.holds, next_may h.cuts block n))))

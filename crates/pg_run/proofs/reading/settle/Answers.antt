@@ -34,7 +34,7 @@ returns-in_err-flush_waiting-clause-outcome g c = λ aim given h.
     let fault = c.in_err-flush_waiting.field-0.0 in
     fails_by c.from_residual-in_err-flush_waiting.result _ (Breaks aim given out') fault
     c.from_residual-in_err-flush_waiting.ensures.1
-    (rest_breaks k _ given out' fault k.cuts (c.in_err-flush_waiting.ensures.outcome aim k.steps k.holds))
+    (rest_breaks k _ given out' fault k.cuts (c.in_err-flush_waiting.ensures aim k.steps k.holds))
 
 pub returns-in_err-send_on-clause-came : goal.returns-in_err-send_on-clause-came
 returns-in_err-send_on-clause-came g c = c.in_ok-search_lines.ensures.came
@@ -43,11 +43,11 @@ pub returns-in_err-send_on-clause-outcome : goal.returns-in_err-send_on-clause-o
 returns-in_err-send_on-clause-outcome g c = λ aim given h.
     let out' = g.W.Sink.stream c.send_on.new.out in
     let k = c.in_ok-search_lines.ensures.outcome aim given h in
-    let holds = c.in_ok-flush_waiting.ensures.outcome aim k.steps k.holds in
+    let holds = c.in_ok-flush_waiting.ensures aim k.steps k.holds in
     let fault = c.in_err-send_on.field-0.0 in
     fails_by c.from_residual-in_err-send_on.result _ (Breaks aim given out') fault
     c.from_residual-in_err-send_on.ensures.1
-    (rest_breaks k _ given out' fault k.cuts (c.in_err-send_on.ensures.outcome aim k.steps holds))
+    (rest_breaks k _ given out' fault k.cuts (c.in_err-send_on.ensures aim k.steps holds))
 
 pub returns-clause-came : goal.returns-clause-came
 returns-clause-came g c = c.in_ok-search_lines.ensures.came
@@ -56,4 +56,4 @@ pub returns-clause-outcome : goal.returns-clause-outcome
 returns-clause-outcome g c = λ aim given h.
     let k = c.in_ok-search_lines.ensures.outcome aim given h in
     flushed k _ _
-    (c.in_ok-send_on.ensures.outcome aim k.steps (c.in_ok-flush_waiting.ensures.outcome aim k.steps k.holds))
+    (c.in_ok-send_on.ensures aim k.steps (c.in_ok-flush_waiting.ensures aim k.steps k.holds))

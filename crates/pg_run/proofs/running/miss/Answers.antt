@@ -8,25 +8,25 @@ use Rattle.pg_run.proofs.RunLemmas.{told_by, stops_telling, stops_reading, stops
 use Rattle.pg_run.proofs.RunLemmas.{taken_part, unmissed_safe, unsent_breaks, name_missed}
 use Rattle.pg_run.proofs.running.miss.Goals as goal
 
-pub returns-in_err-send_on-clause-outcome : goal.returns-in_err-send_on-clause-outcome
-returns-in_err-send_on-clause-outcome g c = λ aim given rests.
+pub returns-in_err-send_on : goal.returns-in_err-send_on
+returns-in_err-send_on g c = λ aim given rests.
     let told = g.E.Sink.stream c.args.faults.now in
     let out' = g.W.Sink.stream c.send_on.new.out in
     let more = NoFile c.args.name.now c.args.cause ∷ given in
     let fault = c.in_err-send_on.field-0.0 in
-    let broke = c.in_err-send_on.ensures.outcome aim rests.0.steps rests.0.holds in
+    let broke = c.in_err-send_on.ensures aim rests.0.steps rests.0.holds in
     fails_by c.from_residual.result _ (Stops aim more out' told) fault c.from_residual.ensures.1
     (stops_reading aim given more out' told fault (unsent_breaks rests.0 c.args.name.now c.args.cause out' fault broke)
     rests.1 refl)
 
-pub returns-in_err-tell_fault-clause-outcome : goal.returns-in_err-tell_fault-clause-outcome
-returns-in_err-tell_fault-clause-outcome g c = λ aim given rests.
+pub returns-in_err-tell_fault : goal.returns-in_err-tell_fault
+returns-in_err-tell_fault g c = λ aim given rests.
     let told = g.E.Sink.stream c.args.faults.now in
     let told' = g.E.Sink.stream c.tell_fault.new.faults in
     let out' = g.W.Sink.stream c.send_on.new.out in
     let more = NoFile c.args.name.now c.args.cause ∷ given in
     let err = c.in_err-tell_fault.ensures in
-    let b = rows_sent rests.0 _ out' (c.in_ok-send_on.ensures.outcome aim rests.0.steps rests.0.holds) in
+    let b = rows_sent rests.0 _ out' (c.in_ok-send_on.ensures aim rests.0.steps rests.0.holds) in
     fails_by c.from_residual-in_err-tell_fault.result _ (Stops aim more out' told') c.in_err-tell_fault.field-0.0
     c.from_residual-in_err-tell_fault.ensures.1
     (subst (Stops aim more out' told') (sym err.fault)
@@ -38,16 +38,16 @@ pub miss-requires : goal.miss-requires
 miss-requires g c =
     let aim = c.requires.0 in
     let b = c.requires.2.0 in
-    (aim, b.steps, _, (c.in_ok-send_on.ensures.outcome aim b.steps b.holds, (b.closed, tt)))
+    (aim, b.steps, _, (c.in_ok-send_on.ensures aim b.steps b.holds, (b.closed, tt)))
 
-pub returns-in_err-miss-clause-outcome : goal.returns-in_err-miss-clause-outcome
-returns-in_err-miss-clause-outcome g c = λ aim given rests.
+pub returns-in_err-miss : goal.returns-in_err-miss
+returns-in_err-miss g c = λ aim given rests.
     let told = g.E.Sink.stream c.args.faults.now in
     let told' = g.E.Sink.stream c.tell_fault.new.faults in
     let out' = g.W.Sink.stream c.send_on.new.out in
     let more = NoFile c.args.name.now c.args.cause ∷ given in
     let ok = c.in_ok-tell_fault.ensures in
-    let b = rows_sent rests.0 _ out' (c.in_ok-send_on.ensures.outcome aim rests.0.steps rests.0.holds) in
+    let b = rows_sent rests.0 _ out' (c.in_ok-send_on.ensures aim rests.0.steps rests.0.holds) in
     fails_by c.from_residual-in_err-miss.result _ (Stops aim more out' told') OutOfMemory
     c.from_residual-in_err-miss.ensures.1
     (stops_memory aim more out' told' (unmissed_safe b c.args.name.now c.args.cause out'.taken (taken_part b))
@@ -55,14 +55,14 @@ returns-in_err-miss-clause-outcome g c = λ aim given rests.
     (told_by aim given more told told' c.args.engine.now.setup.silent (fault_line c.args.name.now c.args.cause)
     (ap (λ s. s.silent) b.holds.set) rests.1 refl ok.writes.ok))
 
-pub returns-clause-outcome : goal.returns-clause-outcome
-returns-clause-outcome g c = λ aim given rests.
+pub returns : goal.returns
+returns g c = λ aim given rests.
     let told = g.E.Sink.stream c.args.faults.now in
     let told' = g.E.Sink.stream c.tell_fault.new.faults in
     let out' = g.W.Sink.stream c.send_on.new.out in
     let more = NoFile c.args.name.now c.args.cause ∷ given in
     let ok = c.in_ok-tell_fault.ensures in
-    let b = rows_sent rests.0 _ out' (c.in_ok-send_on.ensures.outcome aim rests.0.steps rests.0.holds) in (
+    let b = rows_sent rests.0 _ out' (c.in_ok-send_on.ensures aim rests.0.steps rests.0.holds) in (
       name_missed b _ c.args.name.now c.args.cause
           (c.in_ok-miss.ensures aim b.steps out' (b.holds, (b.closed, tt))),
       told_by aim given more told told' c.args.engine.now.setup.silent (fault_line c.args.name.now c.args.cause)

@@ -37,7 +37,7 @@ returns-in_err-status-clause-outcome g c = λ aim start.
     let fault = c.in_err-status.field-0.0 in
     fails_by c.from_residual-in_err-status.result _ (StopsBehind aim given out' told') fault
     c.from_residual-in_err-status.ensures.1
-    (done_breaks d out' fault (c.in_err-status.ensures.outcome aim d.rests.0.steps d.rests.0.holds))
+    (done_breaks d out' fault (c.in_err-status.ensures aim d.rests.0.steps d.rests.0.holds))
 
 pub returns-clause-same_list : goal.returns-clause-same_list
 returns-clause-same_list g c = c.in_ok-all_files.ensures.same_list
@@ -47,5 +47,5 @@ returns-clause-outcome g c = λ aim start.
     let out' = g.W.Sink.stream c.finish.new.out in
     let d = c.in_ok-all_files.ensures.outcome aim start in
     let b = d.rests.0 in
-    let ok = c.in_ok-status.ensures.outcome aim b.steps b.holds in
+    let ok = c.in_ok-status.ensures aim b.steps b.holds in
     done_finishes d out' c.in_ok-status.status ok.0 ok.1 ok.2

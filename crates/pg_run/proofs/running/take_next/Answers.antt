@@ -31,7 +31,7 @@ returns-in_ok-miss-in-Miss-clause-outcome g c = λ aim rests.
     let named : c.name.result.now ≡ e.0 = c.name.ensures ∙ ap newest_name is in
     let P : List Given → Type 0 = λ gs. Rests c.miss.new.engine aim gs out told' in
     subst P (sym (is ∙ ap (λ n. NoFile n c.in-Miss.cause ∷ given) (sym named)))
-    (c.in_ok-miss-in-Miss.ensures.outcome aim given rests)
+    (c.in_ok-miss-in-Miss.ensures aim given rests)
 
 pub one_file-requires-clause-rests : goal.one_file-requires-clause-rests
 one_file-requires-clause-rests g c κs within =
@@ -131,7 +131,7 @@ returns-in_err-miss-in-Miss-clause-outcome g c = λ aim rests.
     fails_by c.from_residual-in_err-miss-in-Miss.result _ (Stops aim (g.F.Files.past c.next.new.self).given out told')
     fault c.from_residual-in_err-miss-in-Miss.ensures.1
     (subst P (sym (is ∙ ap (λ n. NoFile n c.in-Miss.cause ∷ given) (sym named)))
-    (c.in_err-miss-in-Miss.ensures.outcome aim given rests))
+    (c.in_err-miss-in-Miss.ensures aim given rests))
 
 pub next-requires : goal.next-requires
 next-requires g c = c.requires.done

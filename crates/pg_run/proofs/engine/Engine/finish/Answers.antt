@@ -14,8 +14,8 @@ unwrap-requires g c =
     let past = past_of aim.query (format_of aim) k.events k.written in
     some_status past c.status.result (complete_is k none c.requires.holds.3) (c.status.ensures past k.stands)
 
-pub returns-clause-outcome : goal.returns-clause-outcome
-returns-clause-outcome g c = λ aim steps h.
+pub returns : goal.returns
+returns g c = λ aim steps h.
     let both = c.in_ok-flush.ensures.outcome aim steps h in
     let k = both.0 in
     let none = ap (λ xs. map arc_value xs) c.in_ok-flush.ensures.none in
@@ -27,8 +27,8 @@ returns-clause-outcome g c = λ aim steps h.
       k.calm,
     )
 
-pub returns-in_err-flush-clause-outcome : goal.returns-in_err-flush-clause-outcome
-returns-in_err-flush-clause-outcome g c =
+pub returns-in_err-flush : goal.returns-in_err-flush
+returns-in_err-flush g c =
     λ aim steps h.
     let out' = g.W.Sink.stream c.flush.new.out in
     fails_by c.from_residual.result _ (Broke aim steps out') c.in_err-flush.field-0.0 c.from_residual.ensures.1
