@@ -29,6 +29,9 @@ const RARE: usize = 2;
 /// So many bytes are held in reserve while blocks wait for their round.
 const RESERVE: usize = 524_288;
 
+/// What a thread may take of the address space: its stack, and the first part of a heap of its own.
+const THREAD_ROOM: usize = 75_497_472;
+
 /// So many files more than blocks may wait for their rows to be written.
 const MOST_EMPTY: usize = 1_024;
 
@@ -87,7 +90,7 @@ impl<A: Allocator + Copy> Drop for Engine<A> {
 }
 
 /// Whether nothing that was read is ever enough.
-fn is_endless(format: Format) -> bool
+pub(crate) fn is_endless(format: Format) -> bool
     ensures { result ≡ is_endless format }
 {
     format.limit.is_none() && !format.mode.settles_at_first()
@@ -164,6 +167,12 @@ fn equip<A: Allocator + Copy>(
         }
     }
     Ok(())
+}
+
+/// Whether so many threads may take what a thread takes. The memory isn't touched, and given back at once.
+fn has_room_for<A: Allocator>(alloc: A, threads: u32) -> bool {
+    let room = (threads as usize).saturating_mul(THREAD_ROOM);
+    Vec::<u8, A>::with_capacity(alloc, room).is_ok()
 }
 
 /// The memory of a block, where nothing else holds it.
@@ -357,11 +366,13 @@ impl<A: Allocator + Copy> Engine<A> {
         bytes
     }
 
-    /// How many threads are to search so many bytes, beside the calling one.
+    /// How many threads are to search so many bytes, beside the calling one. There are none where the address space has
+    /// no room for all of them: what they took of it would be lacking to the calling one.
     fn workers(&self, bytes: usize) -> u32
         ensures { result ≤ 64 }
     {
-        if self.setup.always_spread || bytes >= LEAST_SPREAD {
+        let pays = self.setup.always_spread || bytes >= LEAST_SPREAD;
+        if pays && has_room_for(self.alloc, self.setup.workers) {
             self.setup.workers
         } else {
             0

@@ -10,7 +10,7 @@ ghost use Rattle.pg_run.specs.Holding.{Aim};
 ghost use Rattle.pg_run.specs.Reading.{InFile, MayEnd, Between, Breaks, ending_of, ending_after};
 ghost use Rattle.pg_run.specs.declared.reader.Came.TheVariants.{More};
 
-use crate::engine::Engine;
+use crate::engine::{Engine, is_endless};
 use crate::fault::RunFault;
 use crate::reader::{Came, FileReader};
 use pg_files::Files;
@@ -128,8 +128,18 @@ fn search_lines<
     }
 }
 
-/// Searches all that came, where the next read of the open file may wait and enough wasn't read, and has the rows sent
-/// on.
+/// Whether what came of the open file is to be searched before the next read, though it fills no block: where that read
+/// may wait, or may find a small file's end alone, and lines that came may be enough.
+fn is_due<A: Allocator + Copy, F: Files>(
+    reader: &FileReader<A>,
+    engine: &Engine<A>,
+    files: &F,
+) -> bool {
+    files.may_wait() || reader.has_read_once() && !is_endless(engine.setup.format)
+}
+
+/// Searches all that came, where that is due and enough wasn't read. Where the next read of the open file may wait, the
+/// rows are sent on.
 fn settle<
     R: Threads + Wait + Clock + Sync,
     A: Allocator + Copy + Send + Sync,
@@ -153,12 +163,12 @@ fn settle<
         MatchResult result (λ _. InFile reader.new engine.new aim given (W.stream out.new))
         (Breaks aim given (W.stream out.new)) }
 {
-    if engine.enough() || !files.may_wait() {
+    if engine.enough() || !is_due(reader, engine, files) {
         return Ok(());
     }
     search_lines(rt, gate, reader, engine, out)?;
     engine.flush_waiting(rt, gate, out)?;
-    engine.send_on(true, out)?;
+    engine.send_on(files.may_wait(), out)?;
     Ok(())
 }
 
