@@ -7,7 +7,8 @@ use Rattle.pg_rows.specs.Modes.{is_quiet}
 use Rattle.pg_rows.specs.Output.{Entry, status, has_selected, is_bad}
 use Rattle.pg_walk.specs.Items.{Found}
 use Rattle.pg_files.specs.Given.{FilesPast, entries_given}
-use Rattle.pg_run.specs.Outcome.{Finishes, Stream}
+use Rattle.pg_rows.specs.Sink.{Stream}
+use Rattle.pg_run.specs.Outcome.{Finishes}
 use Rattle.pg_run.specs.declared.setup.Setup.{Setup}
 
 chosen : (a b c : Bool) → (if a then 0 else (if b then 2 else (if c then 0 else 1))) ≤ 2

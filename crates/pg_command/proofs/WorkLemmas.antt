@@ -8,7 +8,8 @@ use Rattle.pg_walk.specs.declared.item.Item.{Item}
 use Rattle.pg_lines.specs.Search.{Search}
 use Rattle.pg_files.specs.Given.{FilesPast, Given}
 use Rattle.pg_files.specs.Listed.{asked_for, file_paths, AreOpened, AreSpared, Sought, sought}
-use Rattle.pg_run.specs.Outcome.{Finishes, Stream}
+use Rattle.pg_rows.specs.Sink.{Stream}
+use Rattle.pg_run.specs.Outcome.{Finishes}
 use Rattle.pg_run.specs.declared.setup.Setup.{Setup}
 use Rattle.pg_command.specs.Answers.{IsSetup, MayBeAll, Work}
 use Rattle.pg_command.specs.Asked.{Asked, scope_for, spares_output}

@@ -10,7 +10,8 @@ use Rattle.pg_walk.specs.declared.tree.FileKind.{FileKind}
 use Rattle.pg_walk.specs.declared.tree.FileKind.TheVariants.{Regular, Directory, Link, Other}
 use Rattle.pg_files.specs.Given.{Given}
 use Rattle.pg_files.specs.Listed.{file_paths, files_past, AreOpened, AreSpared}
-use Rattle.pg_run.specs.Outcome.{Stream, IsSearchFor, Finishes, BreaksOff}
+use Rattle.pg_rows.specs.Sink.{Stream}
+use Rattle.pg_run.specs.Outcome.{IsSearchFor, Finishes, BreaksOff}
 use Rattle.pg_run.specs.declared.fault.RunFault.{RunFault}
 use Rattle.pg_run.specs.declared.setup.Setup.{Setup}
 use Rattle.pg_command.specs.Asked.{Asked, has_names, scope_for, spares_output, text_of_query}

@@ -2,10 +2,9 @@
 use Rattle.std.specs.Prelude.{◌≡◌, ℕ, ◌<◌, ◌⊎◌, List, ◌++◌, codes, Result, Ok, Err, MatchResult}
 use Rattle.std.specs.Result.{IsErr}
 use Rattle.std.specs.String.{string_bytes}
-use Rattle.pg_rows.specs.Sink.{TakesPart}
+use Rattle.pg_rows.specs.Sink.{Stream, WritesAll, WritesPart}
 use Rattle.pg_walk.specs.Answers.{Answers as Tree}
 use Rattle.pg_files.specs.Given.{Given}
-use Rattle.pg_run.specs.Outcome.{Stream}
 use Rattle.pg_words.specs.declared.help.TheConstants.{HELP, VERSION}
 use Rattle.pg_words.specs.Asks.{Asks, AsksHelp, AsksSearch, AsksVersion, HasFault, IsRefused, asks}
 use Rattle.pg_words.specs.declared.words.WordsFault.{WordsFault}
@@ -27,9 +26,8 @@ pub record Refuses {T : Type 0} (text : List ℕ) (past past' : List Given) (out
 -- a text was written, and the status is 0; or a beginning of it, and the failure was told
 abbrev pub IsShown : {T : Type 0} → List ℕ → (out out' err err' : Stream) → Result ℕ T → Type 0
 IsShown text out out' err err' (Ok status) =
-    (status ≡ 0) × (out'.taken ≡ out.taken ++ text) × (out'.failures ≡ out.failures) × (err' ≡ err)
-IsShown text out out' err err' (Err _) =
-    TakesPart text out.taken out'.taken × (out.failures < out'.failures) × Tells WriteFailed err err'
+    (status ≡ 0) × WritesAll text out out' × (err' ≡ err)
+IsShown text out out' err err' (Err _) = WritesPart text out out' × Tells WriteFailed err err'
 
 -- a text about the program was asked for; nothing was opened
 pub record Shows {T : Type 0} (text : List ℕ) (past past' : List Given) (out out' err err' : Stream)

@@ -1,10 +1,9 @@
 -- What the program tells on standard error.
-use Rattle.std.specs.Prelude.{◌≡◌, ◌<◌, ◌⊎◌, ℕ, List, ◌++◌, codes}
+use Rattle.std.specs.Prelude.{◌⊎◌, ℕ, List, ◌++◌, codes}
 use Rattle.std.specs.Fmt.{decimal}
 use Rattle.pg_syntax.specs.FaultTexts.{kind_text}
 use Rattle.pg_syntax.specs.declared.fault.ListFault.{ListFault}
-use Rattle.pg_rows.specs.Sink.{TakesPart}
-use Rattle.pg_run.specs.Outcome.{Stream}
+use Rattle.pg_rows.specs.Sink.{Stream, WritesAll, WritesPart}
 use Rattle.pg_run.specs.Told.{fault_line as file_line}
 use Rattle.pg_words.specs.Usage.{usage_text}
 use Rattle.pg_command.specs.declared.fault.Fault.{Fault}
@@ -41,9 +40,7 @@ IsPlain fault = Unit {0}
 
 -- the text was written; or a beginning of it, and standard error failed
 abbrev pub TellsText : List ℕ → Stream → Stream → Type 0
-TellsText text err err' =
-    ((err'.taken ≡ err.taken ++ text) × (err'.failures ≡ err.failures))
-    ⊎ (TakesPart text err.taken err'.taken × (err.failures < err'.failures))
+TellsText text err err' = WritesAll text err err' ⊎ WritesPart text err err'
 
 -- and so the fault's line
 abbrev pub Tells : Fault → Stream → Stream → Type 0

@@ -104,9 +104,7 @@ impl<'a> Fault<'a> {
 /// program ends with.
 pub fn report<W: Sink>(alloc: Global, fault: Fault<'_>, err: &mut W) -> u8
     ensures status { result ≡ 2 }
-    ensures told { Tells fault.entry
-        (record { taken = W.taken err.old; failures = W.failures err.old })
-        (record { taken = W.taken err.new; failures = W.failures err.new }) }
+    ensures told { Tells fault.entry (W.stream err.old) (W.stream err.new) }
 {
     match fault {
         Fault::Pattern(fault) => tell_pattern(alloc, fault, err),
@@ -118,27 +116,21 @@ pub fn report<W: Sink>(alloc: Global, fault: Fault<'_>, err: &mut W) -> u8
 
 /// Writes a line that says what is wrong.
 fn tell_text<W: Sink>(alloc: Global, text: &str, err: &mut W)
-    ensures { TellsText (plain_line text.now)
-        (record { taken = W.taken err.old; failures = W.failures err.old })
-        (record { taken = W.taken err.new; failures = W.failures err.new }) }
+    ensures { TellsText (plain_line text.now) (W.stream err.old) (W.stream err.new) }
 {
     tell_parts(alloc, &[b"pargrep: ", text.as_bytes(), b"\n"], err);
 }
 
 /// Writes a line that is given in parts.
-fn tell_parts<W: Sink>(alloc: Global, parts: &[&[u8]], err: &mut W)
-    ensures { TellsText (flat_map (λ part. part.now) parts.now)
-        (record { taken = W.taken err.old; failures = W.failures err.old })
-        (record { taken = W.taken err.new; failures = W.failures err.new }) }
+pub(crate) fn tell_parts<W: Sink>(alloc: Global, parts: &[&[u8]], err: &mut W)
+    ensures { TellsText (flat_map (λ part. part.now) parts.now) (W.stream err.old) (W.stream err.new) }
 {
     let _ = tell(alloc, parts, err);
 }
 
 /// Writes the line of a file's fault.
 fn tell_file<W: Sink>(alloc: Global, name: &str, cause: Cause, err: &mut W)
-    ensures { TellsText (file_line name.now cause)
-        (record { taken = W.taken err.old; failures = W.failures err.old })
-        (record { taken = W.taken err.new; failures = W.failures err.new }) }
+    ensures { TellsText (file_line name.now cause) (W.stream err.old) (W.stream err.new) }
 {
     tell_parts(alloc, &file_parts(name, cause.text()), err);
 }
@@ -153,9 +145,7 @@ fn file_parts<'a>(name: &'a str, text: &'a str) -> [&'a [u8]; 5]
 
 /// Writes the line of a pattern's fault, with the number of the pattern and the offset of the fault.
 fn tell_pattern<W: Sink>(alloc: Global, fault: ListFault, err: &mut W)
-    ensures { TellsText (pattern_line fault)
-        (record { taken = W.taken err.old; failures = W.failures err.old })
-        (record { taken = W.taken err.new; failures = W.failures err.new }) }
+    ensures { TellsText (pattern_line fault) (W.stream err.old) (W.stream err.new) }
 {
     let (mut number, mut offset) = (Buffer::new(), Buffer::new());
     let parts = pattern_parts(

@@ -4,11 +4,10 @@ ghost use Rattle.std.specs.String.{string_bytes};
 ghost use Rattle.pg_command.specs.Command.{Commands, IsShown, Runs, TellsOfWords};
 ghost use Rattle.pg_command.specs.Told.{Tells};
 
-use crate::fault::{FAULT_STATUS, Fault, report};
+use crate::fault::{FAULT_STATUS, Fault, report, tell_parts};
 use crate::search::{Told, answer};
 use pg_files::{Listed, Store};
 use pg_rows::{Out, Sink, write_all};
-use pg_run::tell;
 use pg_walk::FileTree;
 use pg_words::{HELP, Task, VERSION, Words, WordsFault, read_words};
 use std::alloc::Global;
@@ -42,11 +41,8 @@ pub fn command<
 ) -> Result<u8, Told>
     requires { files.old.walk.asked.items ≡ [] }
     ensures commands { Commands (T.tells tree.now) (T.answers tree.now) (map string_bytes words.now)
-        (S.past files.old.store) (S.past files.new.store)
-        (record { taken = W.taken out.old; failures = W.failures out.old })
-        (record { taken = W.taken out.new; failures = W.failures out.new })
-        (record { taken = E.taken err.old; failures = E.failures err.old })
-        (record { taken = E.taken err.new; failures = E.failures err.new }) result }
+        (S.past files.old.store) (S.past files.new.store) (W.stream out.old) (W.stream out.new)
+        (E.stream err.old) (E.stream err.new) result }
     ensures small { IfOk result (λ status. status ≤ 2) }
 {
     let Ok(joined) = Words::new(alloc, words) else {
@@ -63,13 +59,11 @@ pub fn command<
 /// Tells why the words aren't taken.
 fn refuse<E: Sink>(alloc: Global, fault: WordsFault, err: &mut E) -> Result<u8, Told>
     ensures fault { IsErr result }
-    ensures told { TellsOfWords fault
-        (record { taken = E.taken err.old; failures = E.failures err.old })
-        (record { taken = E.taken err.new; failures = E.failures err.new }) }
+    ensures told { TellsOfWords fault (E.stream err.old) (E.stream err.new) }
 {
     match fault {
         WordsFault::Refused(text) => {
-            let _ = tell(alloc, &[b"pargrep: ", text.as_bytes()], err);
+            tell_parts(alloc, &[b"pargrep: ", text.as_bytes()], err);
         }
         WordsFault::Usage(fault) => {
             report(alloc, Fault::Usage(fault), err);
@@ -83,11 +77,8 @@ fn refuse<E: Sink>(alloc: Global, fault: WordsFault, err: &mut E) -> Result<u8, 
 
 /// Writes a text that was asked for.
 fn show<W: Sink, E: Sink>(alloc: Global, text: &str, out: &mut W, err: &mut E) -> Result<u8, Told>
-    ensures { IsShown text.now
-        (record { taken = W.taken out.old; failures = W.failures out.old })
-        (record { taken = W.taken out.new; failures = W.failures out.new })
-        (record { taken = E.taken err.old; failures = E.failures err.old })
-        (record { taken = E.taken err.new; failures = E.failures err.new }) result }
+    ensures { IsShown text.now (W.stream out.old) (W.stream out.new) (E.stream err.old)
+        (E.stream err.new) result }
 {
     if write_all(out, text.as_bytes()).is_err() {
         report(alloc, Fault::WriteFailed, err);
@@ -113,12 +104,10 @@ pub fn run<'t, R: Threads + Wait + Clock + Sync, T: FileTree, S: Store + Drop, W
         (map string_bytes texts.items)
         (S.past files.old.store) (S.past files.new.store)
         (record { taken = out.old.taken; failures = out.old.failures })
-        (record { taken = out.new.taken; failures = out.new.failures })
-        (record { taken = E.taken err.old; failures = E.failures err.old })
-        (record { taken = E.taken err.new; failures = E.failures err.new }) result) }
-    ensures told { IfErr words.entry (λ fault. (result ≡ 2) × Tells fault
-        (record { taken = E.taken err.old; failures = E.failures err.old })
-        (record { taken = E.taken err.new; failures = E.failures err.new })) }
+        (record { taken = out.new.taken; failures = out.new.failures }) (E.stream err.old)
+        (E.stream err.new) result) }
+    ensures told { IfErr words.entry (λ fault. (result ≡ 2) × Tells fault (E.stream err.old)
+        (E.stream err.new)) }
     ensures unused { OnErr words.entry ((files.new ≡ files.old) × (out.new ≡ out.old)) }
     ensures small { result ≤ 2 }
 {
@@ -143,9 +132,8 @@ fn run_words<'t, R: Threads + Wait + Clock + Sync, T: FileTree, S: Store + Drop,
     ensures runs { Runs (T.tells tree.now) (T.answers tree.now) (map string_bytes words.now)
         (S.past files.old.store) (S.past files.new.store)
         (record { taken = out.old.taken; failures = out.old.failures })
-        (record { taken = out.new.taken; failures = out.new.failures })
-        (record { taken = E.taken err.old; failures = E.failures err.old })
-        (record { taken = E.taken err.new; failures = E.failures err.new }) result }
+        (record { taken = out.new.taken; failures = out.new.failures }) (E.stream err.old)
+        (E.stream err.new) result }
     ensures small { result ≤ 2 }
 {
     let answer = command(rt, alloc, words, tree, files, out, err);

@@ -52,11 +52,8 @@ pub fn answer<'t, R: Threads + Wait + Clock + Sync, T: FileTree, S: Store + Drop
 ) -> Result<u8, Told>
     requires { files.old.walk.asked.items ≡ [] }
     ensures answers { Answers (T.tells tree.now) (T.answers tree.now) (asked_of request.now)
-        (S.past files.old.store) (S.past files.new.store)
-        (record { taken = W.taken out.old; failures = W.failures out.old })
-        (record { taken = W.taken out.new; failures = W.failures out.new })
-        (record { taken = E.taken err.old; failures = E.failures err.old })
-        (record { taken = E.taken err.new; failures = E.failures err.new }) result }
+        (S.past files.old.store) (S.past files.new.store) (W.stream out.old) (W.stream out.new)
+        (E.stream err.old) (E.stream err.new) result }
     ensures small { IfOk result (λ status. status ≤ 2) }
 {
     match search(rt, alloc, request, tree, files, out, err) {
@@ -81,18 +78,12 @@ fn search<'a, 't, R: Threads + Wait + Clock + Sync, T: FileTree, S: Store + Drop
 ) -> Result<u8, Fault<'a>>
     requires { files.old.walk.asked.items ≡ [] }
     ensures success { IfOk result (Succeeds (T.tells tree.now) (T.answers tree.now) (asked_of request.now)
-        (S.past files.old.store) (S.past files.new.store)
-        (record { taken = W.taken out.old; failures = W.failures out.old })
-        (record { taken = W.taken out.new; failures = W.failures out.new })
-        (record { taken = E.taken err.old; failures = E.failures err.old })
-        (record { taken = E.taken err.new; failures = E.failures err.new })) }
+        (S.past files.old.store) (S.past files.new.store) (W.stream out.old) (W.stream out.new)
+        (E.stream err.old) (E.stream err.new)) }
     ensures small { IfOk result (λ status. status ≤ 2) }
     ensures fault { IfErr result (Fails (T.tells tree.now) (T.answers tree.now) (asked_of request.now)
-        (S.past files.old.store) (S.past files.new.store)
-        (record { taken = W.taken out.old; failures = W.failures out.old })
-        (record { taken = W.taken out.new; failures = W.failures out.new })
-        (record { taken = E.taken err.old; failures = E.failures err.old })
-        (record { taken = E.taken err.new; failures = E.failures err.new })) }
+        (S.past files.old.store) (S.past files.new.store) (W.stream out.old) (W.stream out.new)
+        (E.stream err.old) (E.stream err.new)) }
 {
     let lists = read_patterns(alloc, request.pattern_files.as_slice(), &mut files.store)?;
     let text = text_of(alloc, request, lists)?;

@@ -35,12 +35,12 @@ pub trait Collector<F> {
     /// what was due was written. `Failed` where an earlier call answered `WriteFailed`; nothing is written.
     fn drain<W: Sink>(&mut self, out: &mut W) -> Result<(), SinkFault>
         ensures drained { (past : Past) → stands self.old past → (text : List ℕ)
-            × (W.taken out.new ≡ W.taken out.old ++ text)
+            × ((W.stream out.new).taken ≡ (W.stream out.old).taken ++ text)
             × Drained result past text × stands self.new (drained past text result) }
         ensures safe { (past : Past) → stands self.old past → IsSafe past (handed past) }
-        ensures cause { IsErrOf result WriteFailed → W.failures out.old < W.failures out.new }
-        ensures no_failure { OnOk result (W.failures out.new ≡ W.failures out.old) }
-        ensures never_falls { W.failures out.old ≤ W.failures out.new };
+        ensures cause { IsErrOf result WriteFailed → (W.stream out.old).failures < (W.stream out.new).failures }
+        ensures no_failure { OnOk result ((W.stream out.new).failures ≡ (W.stream out.old).failures) }
+        ensures never_falls { (W.stream out.old).failures ≤ (W.stream out.new).failures };
 }
 
 impl<A: Allocator> Collector<BlockResult<A>> for Sequencer<A> {
@@ -62,12 +62,12 @@ impl<A: Allocator> Collector<BlockResult<A>> for Sequencer<A> {
 
     fn drain<W: Sink>(&mut self, out: &mut W) -> Result<(), SinkFault>
         ensures drained { (past : Past) → Stands self.old past → (text : List ℕ)
-            × (W.taken out.new ≡ W.taken out.old ++ text)
+            × ((W.stream out.new).taken ≡ (W.stream out.old).taken ++ text)
             × Drained result past text × Stands self.new (drained past text result) }
         ensures safe { (past : Past) → Stands self.old past → IsSafe past (handed past) }
-        ensures cause { IsErrOf result WriteFailed → W.failures out.old < W.failures out.new }
-        ensures no_failure { OnOk result (W.failures out.new ≡ W.failures out.old) }
-        ensures never_falls { W.failures out.old ≤ W.failures out.new }
+        ensures cause { IsErrOf result WriteFailed → (W.stream out.old).failures < (W.stream out.new).failures }
+        ensures no_failure { OnOk result ((W.stream out.new).failures ≡ (W.stream out.old).failures) }
+        ensures never_falls { (W.stream out.old).failures ≤ (W.stream out.new).failures }
     {
         self.drain(out)
     }

@@ -90,10 +90,12 @@ fn receive<A: Allocator, S: Collector<BlockResult<A>>, W: Sink>(
 ) -> Result<(), SinkFault>
     requires sees { (found : Searched) → S.searched found ≡ found }
     ensures ok { (past : Past) → S.stands collector.old past → past.failed ≡ false →
-        OnOk result (HasReceived (S.stands collector.new) past (found ∷ []) (W.taken out.old) (W.taken out.new)) }
+        OnOk result (HasReceived (S.stands collector.new) past (found ∷ []) (W.stream out.old).taken
+        (W.stream out.new).taken) }
     ensures err { (past : Past) → S.stands collector.old past → past.failed ≡ false → OnErr result
-        (HasBroken past (W.taken out.old) (W.taken out.new) (W.failures out.old) (W.failures out.new)) }
-    ensures calm { OnOk result (W.failures out.new ≡ W.failures out.old) }
+        (HasBroken past (W.stream out.old).taken (W.stream out.new).taken (W.stream out.old).failures
+        (W.stream out.new).failures) }
+    ensures calm { OnOk result ((W.stream out.new).failures ≡ (W.stream out.old).failures) }
 {
     let _ = collector.arrive(found);
     collector.drain(out)
@@ -123,11 +125,13 @@ pub(crate) fn take_all<
     requires reader { D.ready reader.old from.old }
     ensures same { (take.new.tray ≡ tray.now) × (take.new.workers ≡ take.old.workers) }
     ensures ok { (past : Past) → S.stands collector.old past → past.failed ≡ false → IsSafe past past.written →
-        OnOk result (HasReceived (S.stands collector.new) past take.new.taken (W.taken out.old) (W.taken out.new)) }
+        OnOk result (HasReceived (S.stands collector.new) past take.new.taken (W.stream out.old).taken
+        (W.stream out.new).taken) }
     ensures err { (past : Past) → S.stands collector.old past → past.failed ≡ false → IsSafe past past.written →
         OnErr result
-        (HasBroken past (W.taken out.old) (W.taken out.new) (W.failures out.old) (W.failures out.new)) }
-    ensures calm { OnOk result (W.failures out.new ≡ W.failures out.old) }
+        (HasBroken past (W.stream out.old).taken (W.stream out.new).taken (W.stream out.old).failures
+        (W.stream out.new).failures) }
+    ensures calm { OnOk result ((W.stream out.new).failures ≡ (W.stream out.old).failures) }
     ensures ready { D.ready reader.new from.new }
     ensures read { (r : D) → (f : F) → D.reaches r f reader.old from.old → D.reaches r f reader.new from.new }
 {
@@ -160,11 +164,12 @@ pub(crate) fn deliver<R: Wait, A: Allocator, S: Collector<BlockResult<A>>, W: Si
     requires sees { (found : Searched) → S.searched found ≡ found }
     ensures ok { (past : Past) → S.stands collector.old past → past.failed ≡ false → IsSafe past past.written →
         OnOk result (HasDelivered (S.stands collector.new) past delivered.lists delivered.out
-        (W.taken out.old) (W.taken out.new)) }
+        (W.stream out.old).taken (W.stream out.new).taken) }
     ensures err { (past : Past) → S.stands collector.old past → past.failed ≡ false → IsSafe past past.written →
         OnErr result
-        (HasBroken past (W.taken out.old) (W.taken out.new) (W.failures out.old) (W.failures out.new)) }
-    ensures calm { OnOk result (W.failures out.new ≡ W.failures out.old) }
+        (HasBroken past (W.stream out.old).taken (W.stream out.new).taken (W.stream out.old).failures
+        (W.stream out.new).failures) }
+    ensures calm { OnOk result ((W.stream out.new).failures ≡ (W.stream out.old).failures) }
 {
     for _ in rt.forever() {
         match delivered.next(rt) {

@@ -98,13 +98,14 @@ fn search_beside<
     ensures back { IfOk result (λ back. AreBack (task_of round.entry) workers.items back.items) }
     ensures same { (take.new.tray ≡ round.entry.tray.now) × (take.new.workers ≡ take.old.workers) }
     ensures ok { (past : Past) → S.stands collector.old past → past.failed ≡ false → IsSafe past past.written →
-        OnOk result (HasReceived (S.stands collector.new) past take.new.taken (W.taken out.old) (W.taken out.new)) }
+        OnOk result (HasReceived (S.stands collector.new) past take.new.taken (W.stream out.old).taken
+        (W.stream out.new).taken) }
     ensures err { (past : Past) → S.stands collector.old past → past.failed ≡ false → IsSafe past past.written →
-        OnErr result (HasFailed past (W.taken out.old) (W.taken out.new)) }
+        OnErr result (HasFailed past (W.stream out.old).taken (W.stream out.new).taken) }
     ensures cause { (past : Past) → S.stands collector.old past → past.failed ≡ false → IsSafe past past.written →
-        IsErrOf result SinkFails → W.failures out.old < W.failures out.new }
-    ensures calm { OnOk result (W.failures out.new ≡ W.failures out.old) }
-    ensures memory { IsErrOf result OutOfMemory → W.failures out.new ≡ W.failures out.old }
+        IsErrOf result SinkFails → (W.stream out.old).failures < (W.stream out.new).failures }
+    ensures calm { OnOk result ((W.stream out.new).failures ≡ (W.stream out.old).failures) }
+    ensures memory { IsErrOf result OutOfMemory → (W.stream out.new).failures ≡ (W.stream out.old).failures }
     ensures ready { D.ready reader.new from.new }
     ensures read { (r : D) → (f : F) → D.reaches r f reader.old from.old → D.reaches r f reader.new from.new }
 {
@@ -150,13 +151,14 @@ fn search_all<
     ensures spent { IfOk result (λ back. Any (λ w. w.seat.spent ≡ true) back.items) }
     ensures same { (take.new.tray ≡ round.entry.tray.now) × (take.new.workers ≡ take.old.workers) }
     ensures ok { (past : Past) → S.stands collector.old past → past.failed ≡ false → IsSafe past past.written →
-        OnOk result (HasReceived (S.stands collector.new) past take.new.taken (W.taken out.old) (W.taken out.new)) }
+        OnOk result (HasReceived (S.stands collector.new) past take.new.taken (W.stream out.old).taken
+        (W.stream out.new).taken) }
     ensures err { (past : Past) → S.stands collector.old past → past.failed ≡ false → IsSafe past past.written →
-        OnErr result (HasFailed past (W.taken out.old) (W.taken out.new)) }
+        OnErr result (HasFailed past (W.stream out.old).taken (W.stream out.new).taken) }
     ensures cause { (past : Past) → S.stands collector.old past → past.failed ≡ false → IsSafe past past.written →
-        IsErrOf result SinkFails → W.failures out.old < W.failures out.new }
-    ensures calm { OnOk result (W.failures out.new ≡ W.failures out.old) }
-    ensures memory { IsErrOf result OutOfMemory → W.failures out.new ≡ W.failures out.old }
+        IsErrOf result SinkFails → (W.stream out.old).failures < (W.stream out.new).failures }
+    ensures calm { OnOk result ((W.stream out.new).failures ≡ (W.stream out.old).failures) }
+    ensures memory { IsErrOf result OutOfMemory → (W.stream out.new).failures ≡ (W.stream out.old).failures }
     ensures ready { D.ready reader.new from.new }
     ensures read { (r : D) → (f : F) → D.reaches r f reader.old from.old → D.reaches r f reader.new from.new }
 {
@@ -216,13 +218,13 @@ pub fn search_round<
     requires reader { D.ready reader.old from.old }
     ensures ok { (past : Past) → S.stands collector.old past → past.failed ≡ false → IsSafe past past.written →
         OnOk result (HasRound (S.stands collector.new) past (arc_value query.now).text blocks.now
-        (W.taken out.old) (W.taken out.new)) }
+        (W.stream out.old).taken (W.stream out.new).taken) }
     ensures err { (past : Past) → S.stands collector.old past → past.failed ≡ false → IsSafe past past.written →
-        OnErr result (HasFailed past (W.taken out.old) (W.taken out.new)) }
+        OnErr result (HasFailed past (W.stream out.old).taken (W.stream out.new).taken) }
     ensures cause { (past : Past) → S.stands collector.old past → past.failed ≡ false → IsSafe past past.written →
-        IsErrOf result SinkFails → W.failures out.old < W.failures out.new }
-    ensures calm { OnOk result (W.failures out.new ≡ W.failures out.old) }
-    ensures memory { IsErrOf result OutOfMemory → W.failures out.new ≡ W.failures out.old }
+        IsErrOf result SinkFails → (W.stream out.old).failures < (W.stream out.new).failures }
+    ensures calm { OnOk result ((W.stream out.new).failures ≡ (W.stream out.old).failures) }
+    ensures memory { IsErrOf result OutOfMemory → (W.stream out.new).failures ≡ (W.stream out.old).failures }
     ensures ready { D.ready reader.new from.new }
     ensures read { (r : D) → (f : F) → D.reaches r f reader.old from.old → D.reaches r f reader.new from.new }
     ensures scratches { OnOk result ((vec_len scratches.new ≡ vec_len scratches.old)

@@ -107,8 +107,8 @@ pub(crate) fn stream<
     ensures back { AreBack (task_of round.now) workers.items result.0.items }
     ensures same { (take.new.tray ≡ tray.now) × (take.new.workers ≡ take.old.workers) }
     ensures took { TookIn result.1 (S.stands collector.old) (S.stands collector.new) take.new.taken
-        (W.taken out.old) (W.taken out.new) (W.failures out.old) (W.failures out.new) }
-    ensures calm { OnOk result.1 (W.failures out.new ≡ W.failures out.old) }
+        (W.stream out.old).taken (W.stream out.new).taken (W.stream out.old).failures (W.stream out.new).failures }
+    ensures calm { OnOk result.1 ((W.stream out.new).failures ≡ (W.stream out.old).failures) }
     ensures ready { D.ready reader.new from.new }
     ensures read { HasGoneOn D.reaches reader.old from.old reader.new from.new }
 {
@@ -121,9 +121,9 @@ pub(crate) fn stream<
         ensures same { (take.exit.now.tray ≡ tray.entry.now)
             × (take.exit.now.workers ≡ take.entry.now.workers) }
         ensures took { TookIn result (S.stands collector.entry.now) (S.stands collector.exit.now)
-            take.exit.now.taken (W.taken out.entry.now) (W.taken out.exit.now)
-            (W.failures out.entry.now) (W.failures out.exit.now) }
-        ensures calm { OnOk result (W.failures out.exit.now ≡ W.failures out.entry.now) }
+            take.exit.now.taken (W.stream out.entry.now).taken (W.stream out.exit.now).taken
+            (W.stream out.entry.now).failures (W.stream out.exit.now).failures }
+        ensures calm { OnOk result ((W.stream out.exit.now).failures ≡ (W.stream out.entry.now).failures) }
         ensures ready { D.ready reader.exit.now from.exit.now }
         ensures read { HasGoneOn D.reaches reader.entry.now from.entry.now reader.exit.now from.exit.now }
     { take_all(rt, tray, take, collector, out, reader, from, &signs) };

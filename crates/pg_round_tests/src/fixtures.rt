@@ -112,12 +112,12 @@ impl<A: Allocator> Collector<BlockResult<A>> for Counts {
 
     fn drain<W: Sink>(&mut self, _out: &mut W) -> Result<(), SinkFault>
         ensures drained { (past : Past) → ⊥ → (text : List ℕ)
-            × (W.taken _out.new ≡ W.taken _out.old ++ text)
+            × ((W.stream _out.new).taken ≡ (W.stream _out.old).taken ++ text)
             × Drained result past text × ⊥ }
         ensures safe { (past : Past) → ⊥ → IsSafe past (handed past) }
-        ensures cause { IsErrOf result WriteFailed → W.failures _out.old < W.failures _out.new }
-        ensures no_failure { OnOk result (W.failures _out.new ≡ W.failures _out.old) }
-        ensures never_falls { W.failures _out.old ≤ W.failures _out.new }
+        ensures cause { IsErrOf result WriteFailed → (W.stream _out.old).failures < (W.stream _out.new).failures }
+        ensures no_failure { OnOk result ((W.stream _out.new).failures ≡ (W.stream _out.old).failures) }
+        ensures never_falls { (W.stream _out.old).failures ≤ (W.stream _out.new).failures }
     {
         Ok(())
     }

@@ -193,13 +193,10 @@ pub(crate) struct Watched<'n> {
 impl<'n> Sink for Watched<'n> {
     ghost use Rattle.pg_rows.specs.Sink.{Writes, Flushes};
 
-    ghost taken = { λ s. s.inner.taken };
-
-    ghost failures = { λ s. s.inner.failures };
+    ghost stream = { λ s. s.inner.stream };
 
     fn write(&mut self, text: &[u8]) -> Result<usize, WriteError>
-        ensures { Writes text.now self.old.inner.taken self.new.inner.taken
-            self.old.inner.failures self.new.inner.failures result }
+        ensures { Writes text.now self.old.inner.stream self.new.inner.stream result }
     {
         let count = self.inner.write(text)?;
         self.taken.fetch_add(count as u64, Ordering::SeqCst);
@@ -207,8 +204,7 @@ impl<'n> Sink for Watched<'n> {
     }
 
     fn flush(&mut self) -> Result<(), WriteError>
-        ensures { Flushes self.old.inner.taken self.new.inner.taken
-            self.old.inner.failures self.new.inner.failures result }
+        ensures { Flushes self.old.inner.stream self.new.inner.stream result }
     {
         self.inner.flush()
     }

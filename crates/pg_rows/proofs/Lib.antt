@@ -10,7 +10,7 @@ pub mod ProgressLemmas
 pub mod BlockLemmas
 pub mod SinkLemmas
 pub mod HistorySteps
-pub mod LeftLemmas
+pub mod WriteLemmas
 pub mod PlaceLemmas
 pub mod TextLemmas
 pub mod RowLemmas

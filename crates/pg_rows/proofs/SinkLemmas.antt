@@ -1,5 +1,5 @@
 -- Texts that are written in parts.
-use Rattle.std.proofs.Common.{◌≡◌, ℕ, ◌+◌, ◌-◌, ◌<◌, ◌≤◌, arith, List, ◌++◌, length, get_or, take, drop}
+use Rattle.std.proofs.Common.{◌≡◌, ℕ, ◌+◌, ◌-◌, ◌<◌, List, ◌++◌, length, get_or, take, drop}
 use Rattle.std.proofs.Common.{Result, Ok, Err, ap, sym, ◌∙◌, append_assoc}
 use Rattle.std.proofs.lemmas.List.{take-append-drop, take_rest, drop_more}
 use Rattle.std.proofs.lemmas.List.Concat.{flat_map-append}
@@ -26,14 +26,6 @@ pub on_err_too : {T E : Type 0} (r : Result T E) (P Q : Type 0) → (P → Q) �
 on_err_too (Ok x) P Q f h = tt
 on_err_too (Err e) P Q f h = f h
 
--- a count of failures that rises, or doesn't fall, behind calls that changed nothing of it
-
-pub rises : (before middle after : ℕ) → middle ≡ before → middle < after → before < after
-rises before middle after e h = omega arith
-
-pub stays_above : (before middle after : ℕ) → middle ≡ before → middle ≤ after → before ≤ after
-stays_above before middle after e h = omega arith
-
 -- the first bytes of a text are a part of it
 pub takes_part : (text before after : List ℕ) (n : ℕ) → after ≡ before ++ take n text → TakesPart text before after
 takes_part text before after n e = (take n text, (drop n text, take-append-drop n text), e)
@@ -51,22 +43,3 @@ pub takes_longer : (text whole before after : List ℕ) → TakesPart text befor
     → TakesPart whole before after
 takes_longer text whole before after t b =
     (t.0, (t.1.0 ++ b.0, sym (append_assoc t.0 t.1.0 b.0) ∙ (ap (λ xs. xs ++ b.0) t.1.1 ∙ b.1)), t.2)
-
--- behind what the first ones give, a part of what the next one gives
-pub takes_of_map : {X : Type 0} (f : X → List ℕ) (xs : List X) (k : ℕ) (d : X) (before middle after : List ℕ)
-    → k < length xs → middle ≡ before ++ flat_map f (take k xs)
-    → TakesPart (f (get_or xs k d)) middle after → TakesPart (flat_map f xs) before after
-takes_of_map f xs k d before middle after below m t =
-    let front = flat_map f (take k xs) in
-    let later = flat_map f (drop (k + 1) xs) in
-    let whole : flat_map f xs ≡ front ++ (f (get_or xs k d) ++ later) =
-    ap (flat_map f) (sym (take-append-drop k xs))
-    ∙ (flat_map-append f (take k xs) (drop k xs) ∙ ap (λ ys. front ++ flat_map f ys) (drop_more xs k d below)) in (
-      front ++ t.0,
-      (
-        t.1.0 ++ later,
-        append_assoc front t.0 (t.1.0 ++ later)
-            ∙ (ap (λ ys. front ++ ys) (sym (append_assoc t.0 t.1.0 later) ∙ ap (λ ys. ys ++ later) t.1.1) ∙ sym whole),
-      ),
-      t.2 ∙ (ap (λ ys. ys ++ t.0) m ∙ append_assoc before front t.0),
-    )

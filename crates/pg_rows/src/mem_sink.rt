@@ -34,8 +34,7 @@ impl<A: Allocator> Model for MemSink<A> {
     ghost Value = { MemSinkData };
 
     ghost view = { λ s. record {
-      taken = s.bytes.items;
-      failures = length s.failed.items;
+      stream = record { taken = s.bytes.items; failures = length s.failed.items };
       limit = s.limit;
       write_limit = s.write_limit;
     } };
@@ -51,8 +50,7 @@ impl<A: Allocator> MemSink<A> {
     /// `AllocError` where the memory for `limit` bytes is refused.
     pub fn new(alloc: A, limit: usize) -> Result<MemSink<A>, AllocError>
         ensures { IfOk result (λ sink. sink ≡ record {
-          taken = [];
-          failures = 0;
+          stream = record { taken = []; failures = 0 };
           limit = limit;
           write_limit = limit;
         }) }
@@ -76,16 +74,14 @@ impl<A: Allocator> MemSink<A> {
 
     /// The bytes that it took.
     pub fn bytes(&self) -> &[u8]
-        ensures { result.now ≡ self.now.taken }
+        ensures { result.now ≡ self.now.stream.taken }
     {
         self.bytes.as_slice()
     }
 }
 
 impl<A: Allocator> Sink for MemSink<A> {
-    ghost taken = { λ s. s.taken };
-
-    ghost failures = { λ s. s.failures };
+    ghost stream = { λ s. s.stream };
 
     /// Takes as many bytes as the limits allow, and no memory.
     ///
@@ -93,11 +89,10 @@ impl<A: Allocator> Sink for MemSink<A> {
     ///
     /// `WriteError` where it took all the bytes of its limit and the text isn't empty.
     fn write(&mut self, text: &[u8]) -> Result<usize, WriteError>
-        ensures writes { Writes text.now self.old.taken self.new.taken
-            self.old.failures self.new.failures result }
+        ensures writes { Writes text.now self.old.stream self.new.stream result }
         ensures count { IfOk result (λ count. count ≡ min (length text.now)
-            (min self.old.write_limit (self.old.limit - length self.old.taken))) }
-        ensures full { IsErr result ↔ ((text.now ≢ []) × (self.old.limit ≤ length self.old.taken)) }
+            (min self.old.write_limit (self.old.limit - length self.old.stream.taken))) }
+        ensures full { IsErr result ↔ ((text.now ≢ []) × (self.old.limit ≤ length self.old.stream.taken)) }
         ensures limit { self.new.limit ≡ self.old.limit }
         ensures write_limit { self.new.write_limit ≡ self.old.write_limit }
     {
@@ -118,7 +113,7 @@ impl<A: Allocator> Sink for MemSink<A> {
     }
     /// It holds nothing back, so there is nothing to send on.
     fn flush(&mut self) -> Result<(), WriteError>
-        ensures flushes { Flushes self.old.taken self.new.taken self.old.failures self.new.failures result }
+        ensures flushes { Flushes self.old.stream self.new.stream result }
         ensures same { self.new ≡ self.old }
     {
         Ok(())

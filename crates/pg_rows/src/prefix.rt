@@ -4,7 +4,7 @@ ghost use Rattle.std.specs.Prelude.{length, vec_len, vec_capacity};
 ghost use Rattle.std.specs.Fmt.{decimal};
 ghost use Rattle.pg_rows.specs.Output.{when, name_mark, tab_before};
 ghost use Rattle.pg_rows.specs.Stretch.{prefix_text};
-ghost use Rattle.pg_rows.specs.Sink.{TakesPart};
+ghost use Rattle.pg_rows.specs.Sink.{WritesText};
 
 use crate::format::Format;
 use crate::sink::{Sink, WriteError, write_all};
@@ -68,13 +68,8 @@ impl<A: Allocator> Prefix<A> {
         has_text: bool,
     ) -> Result<(), WriteError>
         ensures same { self.new ≡ self.old }
-        ensures all { OnOk result (W.taken out.new
-            ≡ W.taken out.old ++ prefix_text format.now self.old number mark has_text) }
-        ensures part { OnErr result
-            (TakesPart (prefix_text format.now self.old number mark has_text) (W.taken out.old) (W.taken out.new)) }
-        ensures failure { OnErr result (W.failures out.old < W.failures out.new) }
-        ensures no_failure { OnOk result (W.failures out.new ≡ W.failures out.old) }
-        ensures never_falls { W.failures out.old ≤ W.failures out.new }
+        ensures writes { WritesText (prefix_text format.now self.old number mark has_text)
+            (W.stream out.old) (W.stream out.new) result }
     {
         if !format.names && !format.numbers {
             return Ok(());

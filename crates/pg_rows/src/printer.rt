@@ -9,7 +9,7 @@ ghost use Rattle.pg_rows.specs.Pieces.{cut_at};
 ghost use Rattle.pg_rows.specs.Remembered.{HasLines};
 ghost use Rattle.pg_rows.specs.Output.{name_mark, when};
 ghost use Rattle.pg_lines.specs.Lines.{lines, AreWhole};
-ghost use Rattle.pg_rows.specs.Sink.{TakesPart};
+ghost use Rattle.pg_rows.specs.Sink.{WritesText, WritesPart};
 
 use crate::format::{Format, Mode};
 use crate::places::{end_of_first, start_of_last};
@@ -184,13 +184,8 @@ impl<A: Allocator> Printer<A> {
     ///
     /// `WriteError` where a write failed. A beginning of the row was taken then.
     pub fn end<W: Sink>(&self, out: &mut W) -> Result<(), WriteError>
-        ensures all { (q : Search) (format : Format) (c : Cursor) → Remembers self.now q format c →
-            OnOk result (W.taken out.new ≡ W.taken out.old ++ end_rows format c) }
-        ensures part { (q : Search) (format : Format) (c : Cursor) → Remembers self.now q format c →
-            OnErr result (TakesPart (end_rows format c) (W.taken out.old) (W.taken out.new)) }
-        ensures failure { OnErr result (W.failures out.old < W.failures out.new) }
-        ensures no_failure { OnOk result (W.failures out.new ≡ W.failures out.old) }
-        ensures never_falls { W.failures out.old ≤ W.failures out.new }
+        ensures { (text : List ℕ) × WritesText text (W.stream out.old) (W.stream out.new) result
+            × ((q : Search) (format : Format) (c : Cursor) → Remembers self.now q format c → text ≡ end_rows format c) }
     {
         match self.format.mode {
             Mode::Count => write_count(out, &self.format, &self.prefix, self.progress.kept),
@@ -201,14 +196,9 @@ impl<A: Allocator> Printer<A> {
 
     /// Writes the file's name as a row, where the mode lists the file.
     fn write_listed_name<W: Sink>(&self, out: &mut W) -> Result<(), WriteError>
-        ensures all { OnOk result (W.taken out.new ≡ W.taken out.old
-            ++ when (is_named self.now.format.mode (nat_lt 0 self.now.progress.kept))
-            (self.now.prefix ++ name_mark self.now.format 10 ∷ [])) }
-        ensures part { OnErr result (TakesPart (when (is_named self.now.format.mode (nat_lt 0 self.now.progress.kept))
-            (self.now.prefix ++ name_mark self.now.format 10 ∷ [])) (W.taken out.old) (W.taken out.new)) }
-        ensures failure { OnErr result (W.failures out.old < W.failures out.new) }
-        ensures no_failure { OnOk result (W.failures out.new ≡ W.failures out.old) }
-        ensures never_falls { W.failures out.old ≤ W.failures out.new }
+        ensures { WritesText (when (is_named self.now.format.mode (nat_lt 0 self.now.progress.kept))
+            (self.now.prefix ++ name_mark self.now.format 10 ∷ []))
+            (W.stream out.old) (W.stream out.new) result }
     {
         if self.format.mode.is_named(self.progress.kept > 0) {
             write_name(out, &self.format, &self.prefix)
@@ -258,20 +248,13 @@ impl<A: Allocator> Printer<A> {
             × (q.text.pieces ≡ true) × HasFound q bytes.now runs.now parts.now total }
         requires small { self.old.progress.number + total < 2 ^ 63 }
         ensures same { self.new ≡ self.old }
-        ensures all { (q : Search) (format : Format) (c : Cursor) → Remembers self.old q format c →
+        ensures writes { (q : Search) (format : Format) (c : Cursor) → Remembers self.old q format c →
             q.text.pieces ≡ true → HasFound q bytes.now runs.now parts.now total →
-            OnOk result (W.taken out.new ≡ W.taken out.old
-            ++ run_pieces q format c.name c.trail (lines (terminator q) bytes.now)) }
+            WritesText (run_pieces q format c.name c.trail (lines (terminator q) bytes.now))
+            (W.stream out.old) (W.stream out.new) result }
         ensures follows { (q : Search) (format : Format) (c : Cursor) → Remembers self.old q format c →
             q.text.pieces ≡ true → HasFound q bytes.now runs.now parts.now total →
             IfOk result (λ printed. Follows self.old q format (behind_block q format c bytes.now) bytes.now printed) }
-        ensures part { (q : Search) (format : Format) (c : Cursor) → Remembers self.old q format c →
-            q.text.pieces ≡ true → HasFound q bytes.now runs.now parts.now total →
-            OnErr result (TakesPart (run_pieces q format c.name c.trail (lines (terminator q) bytes.now))
-            (W.taken out.old) (W.taken out.new)) }
-        ensures failure { OnErr result (W.failures out.old < W.failures out.new) }
-        ensures no_failure { OnOk result (W.failures out.new ≡ W.failures out.old) }
-        ensures never_falls { W.failures out.old ≤ W.failures out.new }
     {
         let cut = self.cut(runs, total);
         let before = self.progress.number;
@@ -302,18 +285,12 @@ impl<A: Allocator> Printer<A> {
             × HasFound q bytes.now runs.now parts.now total }
         requires small { self.old.progress.number + total < 2 ^ 63 }
         ensures same { self.new ≡ self.old }
-        ensures all { (q : Search) (format : Format) (c : Cursor) → Remembers self.old q format c →
+        ensures writes { (q : Search) (format : Format) (c : Cursor) → Remembers self.old q format c →
             HasFound q bytes.now runs.now parts.now total →
-            OnOk result (W.taken out.new ≡ W.taken out.old ++ shown_rows q format c bytes.now) }
+            WritesText (shown_rows q format c bytes.now) (W.stream out.old) (W.stream out.new) result }
         ensures follows { (q : Search) (format : Format) (c : Cursor) → Remembers self.old q format c →
             HasFound q bytes.now runs.now parts.now total →
             IfOk result (λ printed. Follows self.old q format (behind_block q format c bytes.now) bytes.now printed) }
-        ensures part { (q : Search) (format : Format) (c : Cursor) → Remembers self.old q format c →
-            HasFound q bytes.now runs.now parts.now total →
-            OnErr result (TakesPart (shown_rows q format c bytes.now) (W.taken out.old) (W.taken out.new)) }
-        ensures failure { OnErr result (W.failures out.old < W.failures out.new) }
-        ensures no_failure { OnOk result (W.failures out.new ≡ W.failures out.old) }
-        ensures never_falls { W.failures out.old ≤ W.failures out.new }
     {
         if !self.format.mode.shows_rows() {
             return Ok(self.passed(bytes.len(), runs, total));
@@ -339,18 +316,12 @@ impl<A: Allocator> Printer<A> {
         requires { (q : Search) × (format : Format) × (c : Cursor) × Remembers self.old q format c × HasItsTrees q
             × (found.now.query ≡ q.text) × (c.trail.number + length (lines_of found.now) < 2 ^ 63) }
         ensures same { self.new ≡ self.old }
-        ensures all { (q : Search) (format : Format) (c : Cursor) → Remembers self.old q format c → HasItsTrees q →
-            found.now.query ≡ q.text →
-            OnOk result (W.taken out.new ≡ W.taken out.old ++ shown_rows q format c found.now.block.bytes) }
+        ensures writes { (q : Search) (format : Format) (c : Cursor) → Remembers self.old q format c → HasItsTrees q →
+            found.now.query ≡ q.text → WritesText (shown_rows q format c found.now.block.bytes)
+            (W.stream out.old) (W.stream out.new) result }
         ensures follows { (q : Search) (format : Format) (c : Cursor) → Remembers self.old q format c → HasItsTrees q →
             found.now.query ≡ q.text → IfOk result (λ printed. Follows self.old q format
             (behind_block q format c found.now.block.bytes) found.now.block.bytes printed) }
-        ensures part { (q : Search) (format : Format) (c : Cursor) → Remembers self.old q format c → HasItsTrees q →
-            found.now.query ≡ q.text → OnErr result
-            (TakesPart (shown_rows q format c found.now.block.bytes) (W.taken out.old) (W.taken out.new)) }
-        ensures failure { OnErr result (W.failures out.old < W.failures out.new) }
-        ensures no_failure { OnOk result (W.failures out.new ≡ W.failures out.old) }
-        ensures never_falls { W.failures out.old ≤ W.failures out.new }
     {
         let block: &Block<A> = found.block();
         let total = found.lines();
@@ -379,13 +350,8 @@ impl<A: Allocator> Printer<A> {
 
     /// Writes the two hyphens that may stand before the next kept line and its context.
     fn print_gap<W: Sink>(&self, out: &mut W, progress: Progress) -> Result<(), WriteError>
-        ensures all { OnOk result (W.taken out.new ≡ W.taken out.old
-            ++ gap_of self.now.format self.now.end self.now.earlier progress) }
-        ensures part { OnErr result (TakesPart (gap_of self.now.format self.now.end self.now.earlier progress)
-            (W.taken out.old) (W.taken out.new)) }
-        ensures failure { OnErr result (W.failures out.old < W.failures out.new) }
-        ensures no_failure { OnOk result (W.failures out.new ≡ W.failures out.old) }
-        ensures never_falls { W.failures out.old ≤ W.failures out.new }
+        ensures { WritesText (gap_of self.now.format self.now.end self.now.earlier progress)
+            (W.stream out.old) (W.stream out.new) result }
     {
         if self.has_gap(progress) {
             write_gap(out, self.end)
@@ -413,17 +379,12 @@ impl<A: Allocator> Printer<A> {
         requires count { count ≡ length (lines self.old.end text.now) }
         requires small { progress.number + count < 2 ^ 63 }
         ensures same { self.new ≡ self.old }
-        ensures all { OnOk result (W.taken out.new ≡ W.taken out.old
-            ++ rows_of_passed self.old.format self.old.end self.old.prefix progress (lines self.old.end text.now)) }
+        ensures writes { WritesText
+            (rows_of_passed self.old.format self.old.end self.old.prefix progress (lines self.old.end text.now))
+            (W.stream out.old) (W.stream out.new) result }
         ensures within { IfOk result (λ stop. stop ≤ length text.now) }
         ensures rest { IfOk result (λ stop. lines self.old.end (drop stop text.now)
             ≡ drop progress.countdown (lines self.old.end text.now)) }
-        ensures part { OnErr result (TakesPart
-            (rows_of_passed self.old.format self.old.end self.old.prefix progress (lines self.old.end text.now))
-            (W.taken out.old) (W.taken out.new)) }
-        ensures failure { OnErr result (W.failures out.old < W.failures out.new) }
-        ensures no_failure { OnOk result (W.failures out.new ≡ W.failures out.old) }
-        ensures never_falls { W.failures out.old ≤ W.failures out.new }
     {
         let stop = self.end_of_passed(progress, text, count);
         write_lines(
@@ -468,15 +429,9 @@ impl<A: Allocator> Printer<A> {
         requires enough { leading self.old.format progress ≤ length (held self.old.end self.old.window) + count }
         requires small { progress.number < 2 ^ 63 }
         ensures same { self.new ≡ self.old }
-        ensures all { OnOk result (W.taken out.new ≡ W.taken out.old
-            ++ rows_of_leading self.old.format self.old.end self.old.prefix
-            (held self.old.end self.old.window ++ lines self.old.end near.now) progress) }
-        ensures part { OnErr result (TakesPart (rows_of_leading self.old.format self.old.end self.old.prefix
+        ensures writes { WritesText (rows_of_leading self.old.format self.old.end self.old.prefix
             (held self.old.end self.old.window ++ lines self.old.end near.now) progress)
-            (W.taken out.old) (W.taken out.new)) }
-        ensures failure { OnErr result (W.failures out.old < W.failures out.new) }
-        ensures no_failure { OnOk result (W.failures out.new ≡ W.failures out.old) }
-        ensures never_falls { W.failures out.old ≤ W.failures out.new }
+            (W.stream out.old) (W.stream out.new) result }
     {
         let leading = self.leading(progress);
         if leading == 0 {
@@ -519,16 +474,9 @@ impl<A: Allocator> Printer<A> {
         requires enough { leading self.old.format progress ≤ length (held self.old.end self.old.window) + count }
         requires small { progress.number + length (lines self.old.end text.now) < 2 ^ 63 }
         ensures same { self.new ≡ self.old }
-        ensures all { OnOk result (W.taken out.new ≡ W.taken out.old
-            ++ rows_of_kept self.old.format self.old.end self.old.prefix self.old.earlier
-            (held self.old.end self.old.window ++ lines self.old.end near.now) progress (lines self.old.end text.now)) }
-        ensures part { OnErr result (TakesPart
-            (rows_of_kept self.old.format self.old.end self.old.prefix self.old.earlier
+        ensures writes { WritesText (rows_of_kept self.old.format self.old.end self.old.prefix self.old.earlier
             (held self.old.end self.old.window ++ lines self.old.end near.now) progress (lines self.old.end text.now))
-            (W.taken out.old) (W.taken out.new)) }
-        ensures failure { OnErr result (W.failures out.old < W.failures out.new) }
-        ensures no_failure { OnOk result (W.failures out.new ≡ W.failures out.old) }
-        ensures never_falls { W.failures out.old ≤ W.failures out.new }
+            (W.stream out.old) (W.stream out.new) result }
     {
         self.print_gap(out, progress)?;
         self.print_leading(out, progress, near, count)?;
@@ -561,18 +509,10 @@ impl<A: Allocator> Printer<A> {
         requires enough { leading self.old.format progress ≤ length (held self.old.end self.old.window) }
         requires small { passed.number + length (lines self.old.end text.now) < 2 ^ 63 }
         ensures same { self.new ≡ self.old }
-        ensures all { OnOk result (W.taken out.new ≡ W.taken out.old
-            ++ rows_of_run self.old.format self.old.end self.old.prefix self.old.earlier
-            (held self.old.end self.old.window) progress passed
-            (lines self.old.end gap.now) (lines self.old.end text.now)) }
-        ensures part { OnErr result (TakesPart
-            (rows_of_run self.old.format self.old.end self.old.prefix self.old.earlier
+        ensures writes { WritesText (rows_of_run self.old.format self.old.end self.old.prefix self.old.earlier
             (held self.old.end self.old.window) progress passed
             (lines self.old.end gap.now) (lines self.old.end text.now))
-            (W.taken out.old) (W.taken out.new)) }
-        ensures failure { OnErr result (W.failures out.old < W.failures out.new) }
-        ensures no_failure { OnOk result (W.failures out.new ≡ W.failures out.old) }
-        ensures never_falls { W.failures out.old ≤ W.failures out.new }
+            (W.stream out.old) (W.stream out.new) result }
     {
         let stop = self.print_passed(out, progress, gap, count)?;
         let hidden = (count as u64).saturating_sub(progress.countdown) as usize;
@@ -633,20 +573,11 @@ impl<A: Allocator> Printer<A> {
         requires small { next.passed.number
             + length (lines self.old.end (slice_range bytes.now run.span.start next.place.at)) < 2 ^ 63 }
         ensures same { self.new ≡ self.old }
-        ensures all { OnOk result (W.taken out.new ≡ W.taken out.old
-            ++ rows_of_run self.old.format self.old.end self.old.prefix self.old.earlier
-            (held self.old.end self.old.window) place.progress next.passed
-            (lines self.old.end (slice_range bytes.now place.at run.span.start))
-            (lines self.old.end (slice_range bytes.now run.span.start next.place.at))) }
-        ensures part { OnErr result (TakesPart
-            (rows_of_run self.old.format self.old.end self.old.prefix self.old.earlier
+        ensures writes { WritesText (rows_of_run self.old.format self.old.end self.old.prefix self.old.earlier
             (held self.old.end self.old.window) place.progress next.passed
             (lines self.old.end (slice_range bytes.now place.at run.span.start))
             (lines self.old.end (slice_range bytes.now run.span.start next.place.at)))
-            (W.taken out.old) (W.taken out.new)) }
-        ensures failure { OnErr result (W.failures out.old < W.failures out.new) }
-        ensures no_failure { OnOk result (W.failures out.new ≡ W.failures out.old) }
-        ensures never_falls { W.failures out.old ≤ W.failures out.new }
+            (W.stream out.old) (W.stream out.new) result }
     {
         let gap = &bytes[place.at..run.span.start];
         let text = &bytes[run.span.start..next.place.at];
@@ -673,19 +604,16 @@ impl<A: Allocator> Printer<A> {
             × (shows_lines q format ≡ true) × HasLines q bytes.now runs.now total }
         requires small { self.old.progress.number + total < 2 ^ 63 }
         ensures same { self.new ≡ self.old }
-        ensures all { (q : Search) (format : Format) (c : Cursor) → Remembers self.old q format c →
+        ensures comes { (q : Search) (format : Format) (c : Cursor) → Remembers self.old q format c →
             shows_lines q format ≡ true → HasLines q bytes.now runs.now total →
             IfOk result (λ place. ComesLast q format c (held (terminator q) self.old.window) bytes.now
-            (W.taken out.old) (W.taken out.new) self.old.progress place) }
+            (W.stream out.old).taken (W.stream out.new).taken self.old.progress place) }
         ensures number { IfOk result (λ place. place.progress.number ≡ self.old.progress.number + place.seen) }
-        ensures part { (q : Search) (format : Format) (c : Cursor) → Remembers self.old q format c →
+        ensures stops { (q : Search) (format : Format) (c : Cursor) → Remembers self.old q format c →
             shows_lines q format ≡ true → HasLines q bytes.now runs.now total →
-            OnErr result (TakesPart
-            (run_rows q format c.name c.earlier c.trail (lines (terminator q) bytes.now))
-            (W.taken out.old) (W.taken out.new)) }
-        ensures failure { OnErr result (W.failures out.old < W.failures out.new) }
-        ensures no_failure { OnOk result (W.failures out.new ≡ W.failures out.old) }
-        ensures never_falls { W.failures out.old ≤ W.failures out.new }
+            OnErr result (WritesPart (run_rows q format c.name c.earlier c.trail (lines (terminator q) bytes.now))
+            (W.stream out.old) (W.stream out.new)) }
+        ensures no_failure { OnOk result ((W.stream out.new).failures ≡ (W.stream out.old).failures) }
     {
         let mut place = Place {
             progress: self.progress,
@@ -716,21 +644,13 @@ impl<A: Allocator> Printer<A> {
             × (shows_lines q format ≡ true) × HasLines q bytes.now runs.now total }
         requires small { self.old.progress.number + total < 2 ^ 63 }
         ensures same { self.new ≡ self.old }
-        ensures all { (q : Search) (format : Format) (c : Cursor) → Remembers self.old q format c →
+        ensures writes { (q : Search) (format : Format) (c : Cursor) → Remembers self.old q format c →
             shows_lines q format ≡ true → HasLines q bytes.now runs.now total →
-            OnOk result (W.taken out.new ≡ W.taken out.old
-            ++ run_rows q format c.name c.earlier c.trail (lines (terminator q) bytes.now)) }
+            WritesText (run_rows q format c.name c.earlier c.trail (lines (terminator q) bytes.now))
+            (W.stream out.old) (W.stream out.new) result }
         ensures follows { (q : Search) (format : Format) (c : Cursor) → Remembers self.old q format c →
             shows_lines q format ≡ true → HasLines q bytes.now runs.now total →
             IfOk result (λ printed. Follows self.old q format (behind_block q format c bytes.now) bytes.now printed) }
-        ensures part { (q : Search) (format : Format) (c : Cursor) → Remembers self.old q format c →
-            shows_lines q format ≡ true → HasLines q bytes.now runs.now total →
-            OnErr result (TakesPart
-            (run_rows q format c.name c.earlier c.trail (lines (terminator q) bytes.now))
-            (W.taken out.old) (W.taken out.new)) }
-        ensures failure { OnErr result (W.failures out.old < W.failures out.new) }
-        ensures no_failure { OnOk result (W.failures out.new ≡ W.failures out.old) }
-        ensures never_falls { W.failures out.old ≤ W.failures out.new }
     {
         let place = self.print_runs(out, bytes, runs, total)?;
         let left = total - place.seen;

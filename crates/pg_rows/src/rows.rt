@@ -5,7 +5,7 @@ ghost use Rattle.std.specs.Fmt.{decimal};
 ghost use Rattle.pg_lines.specs.Lines.{lines, terminated};
 ghost use Rattle.pg_rows.specs.Output.{when, name_mark, row};
 ghost use Rattle.pg_rows.specs.Stretch.{has_text, marked_rows, part_row, part_rows, IsPartOf, no_part};
-ghost use Rattle.pg_rows.specs.Sink.{TakesPart};
+ghost use Rattle.pg_rows.specs.Sink.{WritesText};
 
 use crate::format::Format;
 use crate::places::end_of_line;
@@ -28,11 +28,8 @@ fn is_incomplete(end: u8, text: &[u8]) -> bool
 ///
 /// `WriteError` where a write failed. A beginning of the lines was taken then.
 pub(crate) fn write_bare_lines<W: Sink>(out: &mut W, end: u8, text: &[u8]) -> Result<(), WriteError>
-    ensures all { OnOk result (W.taken out.new ≡ W.taken out.old ++ terminated end (lines end text.now)) }
-    ensures part { OnErr result (TakesPart (terminated end (lines end text.now)) (W.taken out.old) (W.taken out.new)) }
-    ensures failure { OnErr result (W.failures out.old < W.failures out.new) }
-    ensures no_failure { OnOk result (W.failures out.new ≡ W.failures out.old) }
-    ensures never_falls { W.failures out.old ≤ W.failures out.new }
+    ensures { WritesText (terminated end (lines end text.now))
+        (W.stream out.old) (W.stream out.new) result }
 {
     write_all(out, text)?;
     if is_incomplete(end, text) {
@@ -44,11 +41,7 @@ pub(crate) fn write_bare_lines<W: Sink>(out: &mut W, end: u8, text: &[u8]) -> Re
 
 /// Writes a text and another behind it.
 fn write_both<W: Sink>(out: &mut W, first: &[u8], second: &[u8]) -> Result<(), WriteError>
-    ensures all { OnOk result (W.taken out.new ≡ W.taken out.old ++ (first.now ++ second.now)) }
-    ensures part { OnErr result (TakesPart (first.now ++ second.now) (W.taken out.old) (W.taken out.new)) }
-    ensures failure { OnErr result (W.failures out.old < W.failures out.new) }
-    ensures no_failure { OnOk result (W.failures out.new ≡ W.failures out.old) }
-    ensures never_falls { W.failures out.old ≤ W.failures out.new }
+    ensures { WritesText (first.now ++ second.now) (W.stream out.old) (W.stream out.new) result }
 {
     write_all(out, first)?;
     write_all(out, second)
@@ -76,13 +69,8 @@ fn write_line<W: Sink, A: Allocator>(
 ) -> Result<(), WriteError>
     requires { length (lines end line.now) ≡ 1 }
     ensures same { prefix.new ≡ prefix.old }
-    ensures all { OnOk result (W.taken out.new ≡ W.taken out.old
-        ++ marked_rows format.now end prefix.old mark number (lines end line.now)) }
-    ensures part { OnErr result (TakesPart (marked_rows format.now end prefix.old mark number (lines end line.now))
-        (W.taken out.old) (W.taken out.new)) }
-    ensures failure { OnErr result (W.failures out.old < W.failures out.new) }
-    ensures no_failure { OnOk result (W.failures out.new ≡ W.failures out.old) }
-    ensures never_falls { W.failures out.old ≤ W.failures out.new }
+    ensures writes { WritesText (marked_rows format.now end prefix.old mark number (lines end line.now))
+        (W.stream out.old) (W.stream out.new) result }
 {
     prefix.write(out, format, number, mark, has_text(end, line))?;
     write_bare_lines(out, end, line)
@@ -100,13 +88,8 @@ fn write_line_by_line<W: Sink, A: Allocator>(
 ) -> Result<(), WriteError>
     requires { number + length (lines end text.now) < 2 ^ 64 }
     ensures same { prefix.new ≡ prefix.old }
-    ensures all { OnOk result (W.taken out.new ≡ W.taken out.old
-        ++ marked_rows format.now end prefix.old mark number (lines end text.now)) }
-    ensures part { OnErr result (TakesPart (marked_rows format.now end prefix.old mark number (lines end text.now))
-        (W.taken out.old) (W.taken out.new)) }
-    ensures failure { OnErr result (W.failures out.old < W.failures out.new) }
-    ensures no_failure { OnOk result (W.failures out.new ≡ W.failures out.old) }
-    ensures never_falls { W.failures out.old ≤ W.failures out.new }
+    ensures writes { WritesText (marked_rows format.now end prefix.old mark number (lines end text.now))
+        (W.stream out.old) (W.stream out.new) result }
 {
     let mut at = number;
     let mut start = 0;
@@ -136,13 +119,8 @@ pub(crate) fn write_lines<W: Sink, A: Allocator>(
 ) -> Result<(), WriteError>
     requires { number + length (lines end text.now) < 2 ^ 64 }
     ensures same { prefix.new ≡ prefix.old }
-    ensures all { OnOk result (W.taken out.new ≡ W.taken out.old
-        ++ marked_rows format.now end prefix.old mark number (lines end text.now)) }
-    ensures part { OnErr result (TakesPart (marked_rows format.now end prefix.old mark number (lines end text.now))
-        (W.taken out.old) (W.taken out.new)) }
-    ensures failure { OnErr result (W.failures out.old < W.failures out.new) }
-    ensures no_failure { OnOk result (W.failures out.new ≡ W.failures out.old) }
-    ensures never_falls { W.failures out.old ≤ W.failures out.new }
+    ensures writes { WritesText (marked_rows format.now end prefix.old mark number (lines end text.now))
+        (W.stream out.old) (W.stream out.new) result }
 {
     if format.has_prefix() {
         write_line_by_line(out, format, end, prefix, mark, number, text)
@@ -162,13 +140,8 @@ fn write_row<W: Sink, A: Allocator>(
     text: &[u8],
 ) -> Result<(), WriteError>
     ensures same { prefix.new ≡ prefix.old }
-    ensures all { OnOk result (W.taken out.new ≡ W.taken out.old
-        ++ row format.now end prefix.old number mark text.now) }
-    ensures part { OnErr result (TakesPart (row format.now end prefix.old number mark text.now)
-        (W.taken out.old) (W.taken out.new)) }
-    ensures failure { OnErr result (W.failures out.old < W.failures out.new) }
-    ensures no_failure { OnOk result (W.failures out.new ≡ W.failures out.old) }
-    ensures never_falls { W.failures out.old ≤ W.failures out.new }
+    ensures writes { WritesText (row format.now end prefix.old number mark text.now)
+        (W.stream out.old) (W.stream out.new) result }
 {
     prefix.write(out, format, number, mark, !text.is_empty())?;
     write_both(out, text, &[end])
@@ -188,14 +161,9 @@ fn write_part<W: Sink, A: Allocator>(
     requires within { IsPartOf bytes.now part }
     requires small { before + cut < 2 ^ 64 }
     ensures same { prefix.new ≡ prefix.old }
-    ensures all { OnOk result (W.taken out.new ≡ W.taken out.old
-        ++ when (nat_lt part.line cut) (part_row format.now end prefix.old before bytes.now part)) }
-    ensures part { OnErr result
-        (TakesPart (when (nat_lt part.line cut) (part_row format.now end prefix.old before bytes.now part))
-        (W.taken out.old) (W.taken out.new)) }
-    ensures failure { OnErr result (W.failures out.old < W.failures out.new) }
-    ensures no_failure { OnOk result (W.failures out.new ≡ W.failures out.old) }
-    ensures never_falls { W.failures out.old ≤ W.failures out.new }
+    ensures writes { WritesText
+        (when (nat_lt part.line cut) (part_row format.now end prefix.old before bytes.now part))
+        (W.stream out.old) (W.stream out.new) result }
 {
     if part.line >= cut {
         return Ok(());
@@ -223,13 +191,8 @@ pub(crate) fn write_parts<W: Sink, A: Allocator>(
     requires within { EachIndex parts.now (λ k. IsPartOf bytes.now (get_or parts.now k no_part)) }
     requires small { before + cut < 2 ^ 64 }
     ensures same { prefix.new ≡ prefix.old }
-    ensures all { OnOk result (W.taken out.new ≡ W.taken out.old
-        ++ part_rows format.now end prefix.old before cut bytes.now parts.now) }
-    ensures part { OnErr result (TakesPart (part_rows format.now end prefix.old before cut bytes.now parts.now)
-        (W.taken out.old) (W.taken out.new)) }
-    ensures failure { OnErr result (W.failures out.old < W.failures out.new) }
-    ensures no_failure { OnOk result (W.failures out.new ≡ W.failures out.old) }
-    ensures never_falls { W.failures out.old ≤ W.failures out.new }
+    ensures writes { WritesText (part_rows format.now end prefix.old before cut bytes.now parts.now)
+        (W.stream out.old) (W.stream out.new) result }
 {
     for part in parts {
         write_part(out, format, end, prefix, before, cut, bytes, *part)?;
@@ -248,14 +211,9 @@ pub(crate) fn write_count<W: Sink, A: Allocator>(
     prefix: &Prefix<A>,
     count: u64,
 ) -> Result<(), WriteError>
-    ensures all { OnOk result (W.taken out.new ≡ W.taken out.old
-        ++ (when format.now.names (prefix.now ++ name_mark format.now 58 ∷ []) ++ decimal count ++ 10 ∷ [])) }
-    ensures part { OnErr result
-        (TakesPart (when format.now.names (prefix.now ++ name_mark format.now 58 ∷ []) ++ decimal count ++ 10 ∷ [])
-        (W.taken out.old) (W.taken out.new)) }
-    ensures failure { OnErr result (W.failures out.old < W.failures out.new) }
-    ensures no_failure { OnOk result (W.failures out.new ≡ W.failures out.old) }
-    ensures never_falls { W.failures out.old ≤ W.failures out.new }
+    ensures { WritesText
+        (when format.now.names (prefix.now ++ name_mark format.now 58 ∷ []) ++ decimal count ++ 10 ∷ [])
+        (W.stream out.old) (W.stream out.new) result }
 {
     let mut digits = Buffer::new();
     let text = digits.format(count).as_bytes();
@@ -276,12 +234,8 @@ pub(crate) fn write_name<W: Sink, A: Allocator>(
     format: &Format,
     prefix: &Prefix<A>,
 ) -> Result<(), WriteError>
-    ensures all { OnOk result (W.taken out.new ≡ W.taken out.old ++ (prefix.now ++ name_mark format.now 10 ∷ [])) }
-    ensures part { OnErr result
-        (TakesPart (prefix.now ++ name_mark format.now 10 ∷ []) (W.taken out.old) (W.taken out.new)) }
-    ensures failure { OnErr result (W.failures out.old < W.failures out.new) }
-    ensures no_failure { OnOk result (W.failures out.new ≡ W.failures out.old) }
-    ensures never_falls { W.failures out.old ≤ W.failures out.new }
+    ensures { WritesText (prefix.now ++ name_mark format.now 10 ∷ [])
+        (W.stream out.old) (W.stream out.new) result }
 {
     write_both(out, prefix.name(), &[format.name_mark(b'\n')])
 }
@@ -292,11 +246,7 @@ pub(crate) fn write_name<W: Sink, A: Allocator>(
 ///
 /// `WriteError` where a write failed. A beginning of the row was taken then.
 pub(crate) fn write_gap<W: Sink>(out: &mut W, end: u8) -> Result<(), WriteError>
-    ensures all { OnOk result (W.taken out.new ≡ W.taken out.old ++ 45 ∷ 45 ∷ end ∷ []) }
-    ensures part { OnErr result (TakesPart (45 ∷ 45 ∷ end ∷ []) (W.taken out.old) (W.taken out.new)) }
-    ensures failure { OnErr result (W.failures out.old < W.failures out.new) }
-    ensures no_failure { OnOk result (W.failures out.new ≡ W.failures out.old) }
-    ensures never_falls { W.failures out.old ≤ W.failures out.new }
+    ensures { WritesText (45 ∷ 45 ∷ end ∷ []) (W.stream out.old) (W.stream out.new) result }
 {
     write_all(out, &[b'-', b'-', end])
 }

@@ -3,7 +3,7 @@ ghost use Rattle.std.specs.Prelude.{◌≡◌, ℕ, ◌+◌, ◌<◌, ◌≤◌,
 ghost use Rattle.std.specs.Prelude.{drop, IfOk, OnOk, OnErr, if◌then◌else◌};
 ghost use Rattle.std.specs.Arc.{arc_value};
 ghost use Rattle.circular_buffer.specs.Buffer.{keep_last};
-ghost use Rattle.pg_rows.specs.Sink.{TakesPart};
+ghost use Rattle.pg_rows.specs.Sink.{WritesText};
 ghost use Rattle.pg_rows.specs.Stretch.{marked_rows};
 ghost use Rattle.pg_rows.specs.Window.{lines_from, tail_lines, held, IsTail, IsWindow, GivesUp, HasRoomFor};
 
@@ -59,14 +59,9 @@ impl<A: Allocator> Tail<A> {
         requires tail { IsTail end self.now }
         requires small { number + length (drop skip (tail_lines end self.now)) < 2 ^ 64 }
         ensures same { prefix.new ≡ prefix.old }
-        ensures all { OnOk result (W.taken out.new ≡ W.taken out.old
-            ++ marked_rows format.now end prefix.old 45 number (drop skip (tail_lines end self.now))) }
-        ensures part { OnErr result
-            (TakesPart (marked_rows format.now end prefix.old 45 number (drop skip (tail_lines end self.now)))
-            (W.taken out.old) (W.taken out.new)) }
-        ensures failure { OnErr result (W.failures out.old < W.failures out.new) }
-        ensures no_failure { OnOk result (W.failures out.new ≡ W.failures out.old) }
-        ensures never_falls { W.failures out.old ≤ W.failures out.new }
+        ensures writes { WritesText
+            (marked_rows format.now end prefix.old 45 number (drop skip (tail_lines end self.now)))
+            (W.stream out.old) (W.stream out.new) result }
     {
         if skip >= self.lines {
             return Ok(());
@@ -210,14 +205,9 @@ impl<A: Allocator> Window<A> {
         requires within { count ≤ length (held end self.now) }
         requires small { number + count < 2 ^ 64 }
         ensures same { prefix.new ≡ prefix.old }
-        ensures all { OnOk result (W.taken out.new ≡ W.taken out.old
-            ++ marked_rows format.now end prefix.old 45 number (keep_last count (held end self.now))) }
-        ensures part { OnErr result
-            (TakesPart (marked_rows format.now end prefix.old 45 number (keep_last count (held end self.now)))
-            (W.taken out.old) (W.taken out.new)) }
-        ensures failure { OnErr result (W.failures out.old < W.failures out.new) }
-        ensures no_failure { OnOk result (W.failures out.new ≡ W.failures out.old) }
-        ensures never_falls { W.failures out.old ≤ W.failures out.new }
+        ensures writes { WritesText
+            (marked_rows format.now end prefix.old 45 number (keep_last count (held end self.now)))
+            (W.stream out.old) (W.stream out.new) result }
     {
         let mut skip = self.lines - count;
         let mut at = number;

@@ -26,8 +26,7 @@ impl<W: Write> Model for Out<W> {
     ghost Value = { OutData };
 
     ghost view = { λ s. record {
-      taken = s.taken.items;
-      failures = length s.failed.items;
+      stream = record { taken = s.taken.items; failures = length s.failed.items };
       contents = W.contents s.writer;
     } };
 }
@@ -35,7 +34,7 @@ impl<W: Write> Model for Out<W> {
 impl<W: Write> Out<W> {
     /// A sink that took nothing yet.
     pub fn new(writer: W) -> Out<W>
-        ensures { result ≡ record { taken = []; failures = 0; contents = W.contents writer } }
+        ensures { result ≡ record { stream = record { taken = []; failures = 0 }; contents = W.contents writer } }
     {
         Out {
             writer,
@@ -46,9 +45,7 @@ impl<W: Write> Out<W> {
 }
 
 impl<W: Write> Sink for Out<W> {
-    ghost taken = { λ s. s.taken };
-
-    ghost failures = { λ s. s.failures };
+    ghost stream = { λ s. s.stream };
 
     /// Gives the text to the writer in one write.
     ///
@@ -56,8 +53,7 @@ impl<W: Write> Sink for Out<W> {
     ///
     /// `WriteError` where the writer fails, also where the write was interrupted.
     fn write(&mut self, text: &[u8]) -> Result<usize, WriteError>
-        ensures writes { Writes text.now self.old.taken self.new.taken
-            self.old.failures self.new.failures result }
+        ensures writes { Writes text.now self.old.stream self.new.stream result }
         // Where the writer tells its bytes, they grow by those that were taken.
         ensures contents { WriteAppends self.old.contents self.new.contents result text.now }
     {
@@ -81,7 +77,7 @@ impl<W: Write> Sink for Out<W> {
     ///
     /// `WriteError` where the writer fails. What the writer still holds back then is the writer's affair.
     fn flush(&mut self) -> Result<(), WriteError>
-        ensures flushes { Flushes self.old.taken self.new.taken self.old.failures self.new.failures result }
+        ensures flushes { Flushes self.old.stream self.new.stream result }
         // The bytes that the writer tells stay.
         ensures contents { Keeps self.old.contents self.new.contents }
     {

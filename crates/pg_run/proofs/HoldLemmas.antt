@@ -3,7 +3,7 @@ use Rattle.std.proofs.Common.{◌≡◌, ℕ, ◌<◌, Bool, true, false, ◌&&�
 use Rattle.std.proofs.Common.{List, [], ◌∷◌, ◌++◌, length, refl, sym, ap, ◌∙◌, subst, arith, append_assoc}
 use Rattle.std.specs.List.{Contains, list_all}
 use Rattle.std.specs.Option.{IsSome, MatchOption}
-use Rattle.std.specs.Result.{IsErr, IsErrAnd, IsErrOf, IfErr, OnErr, OnOk}
+use Rattle.std.specs.Result.{IsErr, IsErrAnd, IsErrOf, IfErr, OnErr, OnOk, MatchResult}
 use Rattle.std.specs.Arc.{arc_value}
 use Rattle.std.proofs.lemmas.Bool.{eq-eqb, false≢true}
 use Rattle.std.proofs.lemmas.List.{append-nil, get_or_at, length_push}
@@ -13,7 +13,7 @@ use Rattle.pg_lines.specs.Blocks.{BlockData}
 use Rattle.pg_lines.specs.Searched.{Searched}
 use Rattle.pg_rows.specs.Output.{HasRoom, output, status}
 use Rattle.pg_rows.specs.Enough.{is_enough}
-use Rattle.pg_rows.specs.Sink.{IsBeginning}
+use Rattle.pg_rows.specs.Sink.{Stream, IsBeginning}
 use Rattle.pg_seq.specs.declared.answers.Arrival.TheVariants.{Taken}
 use Rattle.pg_seq.specs.declared.answers.SinkFault.{SinkFault}
 use Rattle.pg_seq.specs.declared.answers.SinkFault.TheVariants.{WriteFailed, Failed}
@@ -27,7 +27,6 @@ use Rattle.pg_seq.proofs.BeginLemmas.{begins_trans, shape_of}
 use Rattle.pg_seq.proofs.CursorLemmas.{plan_begins}
 use Rattle.pg_seq.proofs.FrontLemmas.{front_all}
 use Rattle.pg_seq.proofs.KeyLemmas.{next_not_taken}
-use Rattle.pg_run.specs.Outcome.{Stream}
 use Rattle.pg_run.specs.Holding.{Aim, Holds, May, Broke, IsWritten, past_of, format_of, output_of}
 use Rattle.pg_run.specs.Holding.{waiting}
 use Rattle.pg_run.specs.declared.engine.Engine.{Engine}
@@ -334,6 +333,12 @@ pub err_by : {T E : Type 0} (r : Result T E) (P : E → Type 0) (e : E) → IsEr
 err_by (Ok x) P e h p = tt
 err_by (Err x) P e h p = subst P (sym h) p
 
+-- what stands at an error, where nothing is said of Ok but by another's fault
+pub fails_by : {T E : Type 0} (r : Result T E) (P : T → Type 0) (Q : E → Type 0) (e : E) → IsErrAnd r (λ x. x ≡ e)
+    → Q e → MatchResult r P Q
+fails_by (Ok x) P Q e h q = absurd (h)
+fails_by (Err x) P Q e h q = subst Q (sym h) q
+
 -- nothing is said of the Ok of an error
 pub ok_of_err : {T E : Type 0} (r : Result T E) (P : Type 0) → IsErr r → OnOk r P
 ok_of_err (Ok x) P h = absurd (false≢true h)
@@ -342,7 +347,3 @@ ok_of_err (Err e) P h = tt
 pub on_err_of : {T E : Type 0} (r : Result T E) (P : Type 0) → P → OnErr r P
 on_err_of (Ok x) P h = tt
 on_err_of (Err e) P h = h
-
-pub if_err_too : {T E : Type 0} (r : Result T E) (P Q : E → Type 0) → ((e : E) → P e → Q e) → IfErr r P → IfErr r Q
-if_err_too (Ok x) P Q f h = tt
-if_err_too (Err e) P Q f h = f e h

@@ -18,7 +18,7 @@ use Rattle.pg_lines.proofs.EarlyLemmas.{AllEnd, all_are_cutting}
 use Rattle.pg_walk.specs.declared.item.Cause.TheVariants.{ReadFailed}
 use Rattle.pg_rows.specs.Output.{Entry, Read, Ending, Running, Ended, Failed, Left, HasRoom, output, is_failed, when}
 use Rattle.pg_rows.specs.Enough.{is_enough}
-use Rattle.pg_rows.specs.Sink.{IsBeginning, TakesPart}
+use Rattle.pg_rows.specs.Sink.{Stream, IsBeginning, TakesPart}
 use Rattle.pg_rows.proofs.SinkLemmas.{takes_longer}
 use Rattle.pg_seq.specs.Plan.{Step, Announces, Ends, entries_of}
 use Rattle.pg_seq.proofs.CursorLemmas.{joined_push}
@@ -29,7 +29,7 @@ use Rattle.pg_run.specs.Lengths.{IsTooLong}
 use Rattle.pg_run.specs.Told.{faults_of, fault_line}
 use Rattle.pg_files.specs.Asking.{read_given}
 use Rattle.pg_run.specs.Faults.{fault_of_cut}
-use Rattle.pg_run.specs.Outcome.{Stream, GoesOn, GotWholeLines, IsOfAFile, NoneFailed}
+use Rattle.pg_run.specs.Outcome.{GoesOn, GotWholeLines, IsOfAFile, NoneFailed}
 use Rattle.pg_run.specs.Cover.{is_left, IsReading}
 use Rattle.pg_run.specs.Holding.{Aim, Holds, May, Broke, SearchCause, IsWritten, IsWrittenFirst, format_of, output_of}
 use Rattle.pg_run.specs.Reading.{InFile, HasCut, IsLost, CutCause, MayEnd, Between, Breaks, IsSafe, ReadCause}

@@ -21,12 +21,12 @@ use Rattle.pg_seq.specs.Plan.{Step, Opens, Announces, Ends, Misses, IsShaped, Is
 use Rattle.pg_seq.specs.History.{Past, Event, Arrived, plan, plan_of, answer_after, arrival, is_taken, taken_of}
 use Rattle.pg_seq.specs.History.{taken_after}
 use Rattle.pg_seq.proofs.ArrivalLaws.{first_is_taken}
-use Rattle.pg_rows.specs.Sink.{IsBeginning}
+use Rattle.pg_rows.specs.Sink.{Stream, IsBeginning}
 use Rattle.pg_seq.specs.Plan.{opened}
 use Rattle.pg_seq.specs.Standing.{Stands}
 use Rattle.pg_seq.proofs.BeginLemmas.{shape_of}
 use Rattle.pg_seq.proofs.StandLemmas.{all_push}
-use Rattle.pg_run.specs.Outcome.{Stream, NoneFailed}
+use Rattle.pg_run.specs.Outcome.{NoneFailed}
 use Rattle.pg_run.specs.Holding.{Aim, Holds, IsWritten, Broke, SearchCause, past_of, format_of, output_of, waiting}
 use Rattle.pg_round.specs.Results.{HasResult, HasAll, HasShortLines}
 use Rattle.pg_round.specs.Receipts.{arrivals, IsSafe, HasRound, HasFailed}

@@ -18,12 +18,13 @@ use Rattle.pg_rows.specs.Output.{Entry, Missed, Read, Running, Ended, Failed, Le
 use Rattle.pg_rows.specs.Output.{has_selected}
 use Rattle.pg_rows.specs.Output.{file_rows, line_rows, piece_rows, is_nothing}
 use Rattle.pg_rows.specs.Enough.{is_enough, file_suffices}
-use Rattle.pg_rows.specs.Sink.{TakesPart}
+use Rattle.pg_rows.specs.Sink.{Stream, TakesPart, WritesAll, WritesPart}
+use Rattle.pg_rows.proofs.WriteLemmas.{wrote_none}
 use Rattle.pg_seq.specs.Plan.{Step, Opens, Announces, Ends, Misses, IsShaped, is_open, entries_of, with_end}
 use Rattle.pg_seq.proofs.BeginLemmas.{begins_trans}
 use Rattle.pg_files.specs.Given.{Given, NoFile, File, FilesPast, entries_given, newest_name, nothing_given}
 use Rattle.pg_run.specs.Told.{faults_of, fault_of, fault_line, told_of}
-use Rattle.pg_run.specs.Outcome.{Stream, IsSearchFor, EndsAtSelected, Finishes, BreaksOff, HasCause, GotWholeLines}
+use Rattle.pg_run.specs.Outcome.{IsSearchFor, EndsAtSelected, Finishes, BreaksOff, HasCause, GotWholeLines}
 use Rattle.pg_run.specs.Outcome.{IsOfAFile}
 use Rattle.pg_run.specs.Holding.{Aim, Holds, Broke, IsWritten, IsWrittenFirst, format_of, output_of}
 use Rattle.pg_run.specs.Cover.{IsReading}
@@ -54,17 +55,17 @@ more_told false given given' line e = e
 -- a text that was told behind what was told of what was given before
 pub told_by : (aim : Aim) (given given' : List Given) (told told' : Stream) (silent : Bool) (line : List ℕ)
     → silent ≡ aim.setup.silent → IsTold aim given told → faults_of given' ≡ faults_of given ++ line
-    → told'.taken ≡ told.taken ++ when (not silent) line → told'.failures ≡ told.failures → IsTold aim given' told'
-told_by aim given given' told told' silent line set t e took calm =
+    → WritesAll (when (not silent) line) told told' → IsTold aim given' told'
+told_by aim given given' told told' silent line set t e w =
     let front = told_of aim.setup.silent given in
     let P : Bool → Type 0 = λ s. told'.taken ≡ told.taken ++ when (not s) line in
     record {
       all =
-          subst P set took
+          subst P set w.taken
           ∙ (ap (λ xs. xs ++ when (not aim.setup.silent) line) t.all
           ∙ (append_assoc aim.told.taken front (when (not aim.setup.silent) line)
           ∙ ap (λ xs. aim.told.taken ++ xs) (sym (more_told aim.setup.silent given given' line e))));
-      calm = calm ∙ t.calm;
+      calm = w.no_failure ∙ t.calm;
     }
 
 none_when : (b : Bool) → when b [] ≡ []
@@ -77,7 +78,7 @@ pub told_same : (aim : Aim) (given given' : List Given) (told : Stream) → IsTo
 told_same aim given given' told t e =
     let silent = aim.setup.silent in
     told_by aim given given' told told silent [] refl t e
-    (sym (append-nil told.taken) ∙ ap (λ xs. told.taken ++ xs) (sym (none_when (not silent)))) refl
+    (subst (λ xs. WritesAll xs told told) (sym (none_when (not silent))) (wrote_none told))
 
 pub told_all : (aim : Aim) (given : List Given) (told : Stream) → IsTold aim given told
     → TakesPart (told_of aim.setup.silent given) aim.told.taken told.taken
@@ -172,13 +173,13 @@ stops_reading aim given given' out told fault b t before =
 -- a line couldn't be told
 pub stops_telling : (aim : Aim) (given given' : List Given) (out told told' : Stream) (silent : Bool) (line : List ℕ)
     → silent ≡ aim.setup.silent → IsSafe aim given' out.taken → IsTold aim given told
-    → faults_of given' ≡ faults_of given ++ line → TakesPart (when (not silent) line) told.taken told'.taken
-    → told.failures < told'.failures → Stops aim given' out told' Sink
-stops_telling aim given given' out told told' silent line set safe t e part rose = record {
-  cause = inr (omega (arith, rose, t.calm));
+    → faults_of given' ≡ faults_of given ++ line → WritesPart (when (not silent) line) told told'
+    → Stops aim given' out told' Sink
+stops_telling aim given given' out told told' silent line set safe t e w = record {
+  cause = inr (omega (arith, w.failure, t.calm));
   written = safe;
   lines = λ of. absurd of;
-  faults = part_told aim given given' told told' silent line set t e part;
+  faults = part_told aim given given' told told' silent line set t e w.part;
   calm = (tt, tt);
 }
 

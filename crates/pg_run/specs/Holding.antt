@@ -6,11 +6,11 @@ use Rattle.pg_lines.specs.Search.{Search, terminator}
 use Rattle.pg_lines.specs.Blocks.{BlockData}
 use Rattle.pg_rows.specs.declared.format.Format.{Format}
 use Rattle.pg_rows.specs.Output.{output}
-use Rattle.pg_rows.specs.Sink.{IsBeginning, TakesPart}
+use Rattle.pg_rows.specs.Sink.{Stream, IsBeginning, TakesPart}
 use Rattle.pg_seq.specs.Plan.{Step, MayFollow, opened, announced, entries_of}
 use Rattle.pg_seq.specs.History.{Past, Event, plan_of, taken_of, is_taken}
 use Rattle.pg_seq.specs.Standing.{Stands}
-use Rattle.pg_run.specs.Outcome.{Stream, NoneFailed}
+use Rattle.pg_run.specs.Outcome.{NoneFailed}
 use Rattle.pg_run.specs.declared.engine.Engine.{Engine}
 use Rattle.pg_run.specs.declared.setup.Setup.{Setup}
 use Rattle.pg_run.specs.declared.fault.RunFault.{RunFault}
@@ -24,9 +24,6 @@ waiting engine = map arc_value engine.round.items
 abbrev pub past_of : Search → Format → List Event → List ℕ → Past
 past_of q format events written =
     record { query = q; format = format; events = events; written = written; failed = false }
-
-abbrev pub stream : List ℕ → ℕ → Stream
-stream taken failures = record { taken = taken; failures = failures }
 
 -- what a run is for, and what its writers had taken before
 pub record Aim : Type 0 where

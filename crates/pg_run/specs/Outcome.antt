@@ -10,7 +10,7 @@ use Rattle.pg_rows.specs.declared.format.Format.{Format}
 use Rattle.pg_rows.specs.Modes.{is_quiet}
 use Rattle.pg_rows.specs.Output.{Entry, Missed, Read, Ending, Running, Ended, Failed, Left, is_running}
 use Rattle.pg_rows.specs.Output.{has_selected, output, status}
-use Rattle.pg_rows.specs.Sink.{TakesPart}
+use Rattle.pg_rows.specs.Sink.{Stream, TakesPart}
 use Rattle.pg_seq.specs.Settled.{AreLeftRightly}
 use Rattle.pg_walk.specs.Items.{Found}
 use Rattle.pg_files.specs.Given.{AllGiven, FilesPast, nothing_given, entries_given, files_given}
@@ -19,11 +19,6 @@ use Rattle.pg_run.specs.Told.{told_of}
 use Rattle.pg_run.specs.declared.setup.Setup.{Setup}
 use Rattle.pg_run.specs.declared.fault.RunFault.{RunFault}
 use Rattle.pg_run.specs.declared.fault.RunFault.TheVariants.{Query, OutOfMemory, Sink, TooManyFiles, TooLong}
-
--- what a writer took, and how often it failed
-pub record Stream : Type 0 where
-  pub taken : List ℕ
-  pub failures : ℕ
 
 -- the search for a text, whose patterns spell its trees
 abbrev pub IsSearchFor : SearchText → Search → Type 0

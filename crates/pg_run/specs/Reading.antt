@@ -8,12 +8,12 @@ use Rattle.pg_lines.specs.declared.cutter.CutFault.{CutFault}
 use Rattle.pg_lines.specs.declared.cutter.CutFault.TheVariants.{OutOfMemory as NoMemory, LineTooLong, FileTooLong}
 use Rattle.pg_rows.specs.Modes.{is_quiet}
 use Rattle.pg_rows.specs.Output.{Entry, Ending, Ended, Failed, Left, output}
-use Rattle.pg_rows.specs.Sink.{TakesPart}
+use Rattle.pg_rows.specs.Sink.{Stream, TakesPart}
 use Rattle.pg_seq.specs.Plan.{Step, Ends, is_open, opened, last_blocks, entries_of}
 use Rattle.pg_files.specs.Given.{Given, FilesPast, entries_given, files_given}
 use Rattle.pg_run.specs.Lengths.{IsTooLong}
 use Rattle.pg_run.specs.Told.{told_of}
-use Rattle.pg_run.specs.Outcome.{Stream, GoesOn, EndsAtSelected, AsksToTheEnd, GotWholeLines, IsOfAFile, NoneFailed}
+use Rattle.pg_run.specs.Outcome.{GoesOn, EndsAtSelected, AsksToTheEnd, GotWholeLines, IsOfAFile, NoneFailed}
 use Rattle.pg_seq.specs.Settled.{AreLeftRightly}
 use Rattle.pg_walk.specs.Items.{Found}
 use Rattle.pg_run.specs.Cover.{Covers, IsReading}

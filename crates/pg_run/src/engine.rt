@@ -1,6 +1,6 @@
 //! Searches blocks, one after another or in rounds.
 ghost use Rattle.std.specs.Prelude.{◌≡◌, ◌+◌, ◌-◌, ◌<◌, ◌≤◌, ◌∷◌, ◌^◌, List, [], All, true, false, length};
-ghost use Rattle.std.specs.Prelude.{IfOk, OnOk, IfErr};
+ghost use Rattle.std.specs.Prelude.{IfOk, MatchResult, OnOk};
 ghost use Rattle.std.specs.Arc.{arc_value};
 ghost use Rattle.pg_match.specs.Machines.{Fits};
 ghost use Rattle.pg_lines.specs.Search.{HasItsTrees, terminator};
@@ -28,6 +28,9 @@ const RARE: usize = 2;
 
 /// So many bytes are held in reserve while blocks wait for their round.
 const RESERVE: usize = 524_288;
+
+/// What a thread may take of the address space: its stack, and the first part of a heap of its own.
+const THREAD_ROOM: usize = 75_497_472;
 
 /// So many files more than blocks may wait for their rows to be written.
 const MOST_EMPTY: usize = 1_024;
@@ -87,7 +90,7 @@ impl<A: Allocator + Copy> Drop for Engine<A> {
 }
 
 /// Whether nothing that was read is ever enough.
-fn is_endless(format: Format) -> bool
+pub(crate) fn is_endless(format: Format) -> bool
     ensures { result ≡ is_endless format }
 {
     format.limit.is_none() && !format.mode.settles_at_first()
@@ -166,6 +169,12 @@ fn equip<A: Allocator + Copy>(
     Ok(())
 }
 
+/// Whether so many threads may take what a thread takes. The memory isn't touched, and given back at once.
+fn has_room_for<A: Allocator>(alloc: A, threads: u32) -> bool {
+    let room = (threads as usize).saturating_mul(THREAD_ROOM);
+    Vec::<u8, A>::with_capacity(alloc, room).is_ok()
+}
+
 /// The memory of a block, where nothing else holds it.
 fn memory_of<A: Allocator>(block: Arc<Block<A>, A>) -> Option<Vec<u8, A>> {
     match Arc::into_inner(block) {
@@ -178,8 +187,8 @@ impl<A: Allocator + Copy> Engine<A> {
     ghost use Rattle.pg_lines.specs.Cutter.{Stands as CutterStands, IsDrained, unfed};
     ghost use Rattle.pg_rows.specs.Enough.{is_enough};
     ghost use Rattle.pg_seq.specs.Plan.{Step, Opens, Announces, Ends, Misses, entries_of, is_open};
-    ghost use Rattle.pg_run.specs.Outcome.{Stream};
-    ghost use Rattle.pg_run.specs.Holding.{Aim, Holds, IsReady, IsWritten, Broke, format_of, stream};
+    ghost use Rattle.pg_rows.specs.Sink.{Stream};
+    ghost use Rattle.pg_run.specs.Holding.{Aim, Holds, IsReady, IsWritten, Broke, format_of};
 
     /// An engine that has no file yet.
     pub(crate) fn new(alloc: A, query: Query<A>, setup: Setup) -> Result<Engine<A>, AllocError>
@@ -254,13 +263,11 @@ impl<A: Allocator + Copy> Engine<A> {
         requires none { self.old.round.items ≡ [] }
         ensures kept { (self.new.spread ≡ self.old.spread) × (self.new.setup ≡ self.old.setup) }
         ensures none { self.new.round.items ≡ [] }
-        ensures ok { (aim : Aim) → (steps : List Step) →
-            Holds self.old aim steps (stream (W.taken out.old) (W.failures out.old)) →
-            OnOk result (Holds self.new aim steps (stream (W.taken out.new) (W.failures out.new))
-            × IsWritten aim steps (stream (W.taken out.new) (W.failures out.new))) }
-        ensures err { (aim : Aim) → (steps : List Step) →
-            Holds self.old aim steps (stream (W.taken out.old) (W.failures out.old)) →
-            IfErr result (Broke aim steps (stream (W.taken out.new) (W.failures out.new))) }
+        ensures outcome { (aim : Aim) → (steps : List Step) →
+            Holds self.old aim steps (W.stream out.old) →
+            MatchResult result
+            (λ _. Holds self.new aim steps (W.stream out.new) × IsWritten aim steps (W.stream out.new))
+            (Broke aim steps (W.stream out.new)) }
     {
         self.sequencer.drain(out)?;
         self.written = self.files;
@@ -269,12 +276,10 @@ impl<A: Allocator + Copy> Engine<A> {
 
     /// Has the writer send on the rows that it holds back, where that is due.
     pub(crate) fn send_on<W: Sink>(&self, is_due: bool, out: &mut W) -> Result<(), RunFault>
-        ensures ok { (aim : Aim) → (steps : List Step) →
-            Holds self.now aim steps (stream (W.taken out.old) (W.failures out.old)) →
-            OnOk result (Holds self.now aim steps (stream (W.taken out.new) (W.failures out.new))) }
-        ensures err { (aim : Aim) → (steps : List Step) →
-            Holds self.now aim steps (stream (W.taken out.old) (W.failures out.old)) →
-            IfErr result (Broke aim steps (stream (W.taken out.new) (W.failures out.new))) }
+        ensures { (aim : Aim) → (steps : List Step) →
+            Holds self.now aim steps (W.stream out.old) →
+            MatchResult result (λ _. Holds self.now aim steps (W.stream out.new))
+            (Broke aim steps (W.stream out.new)) }
     {
         if !is_due {
             return Ok(());
@@ -296,17 +301,15 @@ impl<A: Allocator + Copy> Engine<A> {
     ) -> Result<(), RunFault>
         requires room { self.old.spread ≡ true → length self.old.round.items < self.old.setup.round }
         requires ready { (aim : Aim) × (steps : List Step)
-            × IsReady self.old aim steps (stream (W.taken out.old) (W.failures out.old)) (Announces block) }
-        ensures ok { (aim : Aim) → (steps : List Step) →
-            IsReady self.old aim steps (stream (W.taken out.old) (W.failures out.old)) (Announces block) →
-            OnOk result (Holds self.new aim (Announces block ∷ steps) (stream (W.taken out.new) (W.failures out.new))) }
+            × IsReady self.old aim steps (W.stream out.old) (Announces block) }
+        ensures outcome { (aim : Aim) → (steps : List Step) →
+            IsReady self.old aim steps (W.stream out.old) (Announces block) →
+            MatchResult result (λ _. Holds self.new aim (Announces block ∷ steps) (W.stream out.new))
+            (Broke aim (Announces block ∷ steps) (W.stream out.new)) }
         ensures written { (aim : Aim) → (steps : List Step) →
-            IsReady self.old aim steps (stream (W.taken out.old) (W.failures out.old)) (Announces block) →
+            IsReady self.old aim steps (W.stream out.old) (Announces block) →
             self.old.spread ≡ false →
-            OnOk result (IsWritten aim (Announces block ∷ steps) (stream (W.taken out.new) (W.failures out.new))) }
-        ensures err { (aim : Aim) → (steps : List Step) →
-            IsReady self.old aim steps (stream (W.taken out.old) (W.failures out.old)) (Announces block) →
-            IfErr result (Broke aim (Announces block ∷ steps) (stream (W.taken out.new) (W.failures out.new))) }
+            OnOk result (IsWritten aim (Announces block ∷ steps) (W.stream out.new)) }
     {
         if self.spread {
             self.add(block)?;
@@ -363,11 +366,13 @@ impl<A: Allocator + Copy> Engine<A> {
         bytes
     }
 
-    /// How many threads are to search so many bytes, beside the calling one.
+    /// How many threads are to search so many bytes, beside the calling one. There are none where the address space has
+    /// no room for all of them: what they took of it would be lacking to the calling one.
     fn workers(&self, bytes: usize) -> u32
         ensures { result ≤ 64 }
     {
-        if self.setup.always_spread || bytes >= LEAST_SPREAD {
+        let pays = self.setup.always_spread || bytes >= LEAST_SPREAD;
+        if pays && has_room_for(self.alloc, self.setup.workers) {
             self.setup.workers
         } else {
             0
@@ -444,8 +449,7 @@ impl<A: Allocator + Copy + Send + Sync> Engine<A> {
     ghost use Rattle.pg_lines.specs.Cutter.{Stands as CutterStands, IsDrained, unfed};
     ghost use Rattle.pg_rows.specs.Enough.{is_enough};
     ghost use Rattle.pg_seq.specs.Plan.{Step, Opens, Announces, Ends, Misses, entries_of, is_open};
-    ghost use Rattle.pg_run.specs.Outcome.{Stream};
-    ghost use Rattle.pg_run.specs.Holding.{Aim, Holds, IsReady, IsWritten, IsWrittenFirst, Broke, format_of, stream};
+    ghost use Rattle.pg_run.specs.Holding.{Aim, Holds, IsReady, IsWritten, IsWrittenFirst, Broke, format_of};
 
     /// Searches the blocks that wait, by several threads where that pays, and writes all that may be written. Meanwhile
     /// the reader reads on.
@@ -465,18 +469,16 @@ impl<A: Allocator + Copy + Send + Sync> Engine<A> {
     ) -> Result<(), RunFault>
         requires ready { D.ready reader.old from.old }
         requires holds { (aim : Aim) × (steps : List Step)
-            × Holds self.old aim steps (stream (W.taken out.old) (W.failures out.old)) }
+            × Holds self.old aim steps (W.stream out.old) }
         ensures ready { D.ready reader.new from.new }
         ensures read { (r : D) → (f : X) → D.reaches r f reader.old from.old → D.reaches r f reader.new from.new }
         ensures kept { (self.new.spread ≡ self.old.spread) × (self.new.setup ≡ self.old.setup) }
         ensures none { OnOk result (self.new.round.items ≡ []) }
-        ensures ok { (aim : Aim) → (steps : List Step) →
-            Holds self.old aim steps (stream (W.taken out.old) (W.failures out.old)) →
-            OnOk result (Holds self.new aim steps (stream (W.taken out.new) (W.failures out.new))
-            × IsWritten aim steps (stream (W.taken out.new) (W.failures out.new))) }
-        ensures err { (aim : Aim) → (steps : List Step) →
-            Holds self.old aim steps (stream (W.taken out.old) (W.failures out.old)) →
-            IfErr result (Broke aim steps (stream (W.taken out.new) (W.failures out.new))) }
+        ensures outcome { (aim : Aim) → (steps : List Step) →
+            Holds self.old aim steps (W.stream out.old) →
+            MatchResult result
+            (λ _. Holds self.new aim steps (W.stream out.new) × IsWritten aim steps (W.stream out.new))
+            (Broke aim steps (W.stream out.new)) }
     {
         self.reserve = None;
         let bytes = self.waiting();
@@ -517,16 +519,14 @@ impl<A: Allocator + Copy + Send + Sync> Engine<A> {
         out: &mut W,
     ) -> Result<(), RunFault>
         requires holds { (aim : Aim) × (steps : List Step)
-            × Holds self.old aim steps (stream (W.taken out.old) (W.failures out.old)) }
+            × Holds self.old aim steps (W.stream out.old) }
         ensures kept { (self.new.spread ≡ self.old.spread) × (self.new.setup ≡ self.old.setup) }
         ensures none { OnOk result (self.new.round.items ≡ []) }
-        ensures ok { (aim : Aim) → (steps : List Step) →
-            Holds self.old aim steps (stream (W.taken out.old) (W.failures out.old)) →
-            OnOk result (Holds self.new aim steps (stream (W.taken out.new) (W.failures out.new))
-            × IsWritten aim steps (stream (W.taken out.new) (W.failures out.new))) }
-        ensures err { (aim : Aim) → (steps : List Step) →
-            Holds self.old aim steps (stream (W.taken out.old) (W.failures out.old)) →
-            IfErr result (Broke aim steps (stream (W.taken out.new) (W.failures out.new))) }
+        ensures outcome { (aim : Aim) → (steps : List Step) →
+            Holds self.old aim steps (W.stream out.old) →
+            MatchResult result
+            (λ _. Holds self.new aim steps (W.stream out.new) × IsWritten aim steps (W.stream out.new))
+            (Broke aim steps (W.stream out.new)) }
     {
         if self.round.is_empty() {
             return self.drain(out);
@@ -542,14 +542,12 @@ impl<A: Allocator + Copy + Send + Sync> Engine<A> {
         out: &mut W,
     ) -> Result<(), RunFault>
         requires holds { (aim : Aim) × (steps : List Step)
-            × Holds self.old aim steps (stream (W.taken out.old) (W.failures out.old)) }
+            × Holds self.old aim steps (W.stream out.old) }
         ensures room { OnOk result (self.new.spread ≡ true → length self.new.round.items < self.new.setup.round) }
-        ensures ok { (aim : Aim) → (steps : List Step) →
-            Holds self.old aim steps (stream (W.taken out.old) (W.failures out.old)) →
-            OnOk result (Holds self.new aim steps (stream (W.taken out.new) (W.failures out.new))) }
-        ensures err { (aim : Aim) → (steps : List Step) →
-            Holds self.old aim steps (stream (W.taken out.old) (W.failures out.old)) →
-            IfErr result (Broke aim steps (stream (W.taken out.new) (W.failures out.new))) }
+        ensures outcome { (aim : Aim) → (steps : List Step) →
+            Holds self.old aim steps (W.stream out.old) →
+            MatchResult result (λ _. Holds self.new aim steps (W.stream out.new))
+            (Broke aim steps (W.stream out.new)) }
     {
         if !self.is_full() {
             return Ok(());
@@ -565,13 +563,11 @@ impl<A: Allocator + Copy + Send + Sync> Engine<A> {
         out: &mut W,
     ) -> Result<(), RunFault>
         requires holds { (aim : Aim) × (steps : List Step)
-            × Holds self.old aim steps (stream (W.taken out.old) (W.failures out.old)) }
-        ensures ok { (aim : Aim) → (steps : List Step) →
-            Holds self.old aim steps (stream (W.taken out.old) (W.failures out.old)) →
-            OnOk result (Holds self.new aim steps (stream (W.taken out.new) (W.failures out.new))) }
-        ensures err { (aim : Aim) → (steps : List Step) →
-            Holds self.old aim steps (stream (W.taken out.old) (W.failures out.old)) →
-            IfErr result (Broke aim steps (stream (W.taken out.new) (W.failures out.new))) }
+            × Holds self.old aim steps (W.stream out.old) }
+        ensures { (aim : Aim) → (steps : List Step) →
+            Holds self.old aim steps (W.stream out.old) →
+            MatchResult result (λ _. Holds self.new aim steps (W.stream out.new))
+            (Broke aim steps (W.stream out.new)) }
     {
         if !self.has_waiting() {
             return Ok(());
@@ -588,13 +584,11 @@ impl<A: Allocator + Copy + Send + Sync> Engine<A> {
         out: &mut W,
     ) -> Result<(), RunFault>
         requires holds { (aim : Aim) × (steps : List Step)
-            × Holds self.old aim steps (stream (W.taken out.old) (W.failures out.old)) }
-        ensures ok { (aim : Aim) → (steps : List Step) →
-            Holds self.old aim steps (stream (W.taken out.old) (W.failures out.old)) →
-            OnOk result (Holds self.new aim steps (stream (W.taken out.new) (W.failures out.new))) }
-        ensures err { (aim : Aim) → (steps : List Step) →
-            Holds self.old aim steps (stream (W.taken out.old) (W.failures out.old)) →
-            IfErr result (Broke aim steps (stream (W.taken out.new) (W.failures out.new))) }
+            × Holds self.old aim steps (W.stream out.old) }
+        ensures { (aim : Aim) → (steps : List Step) →
+            Holds self.old aim steps (W.stream out.old) →
+            MatchResult result (λ _. Holds self.new aim steps (W.stream out.new))
+            (Broke aim steps (W.stream out.new)) }
     {
         if self.has_waiting() && !self.has_many_empty() {
             return Ok(());
@@ -612,10 +606,10 @@ impl<A: Allocator + Copy + Send + Sync> Engine<A> {
         out: &mut W,
     ) -> RunFault
         requires holds { (aim : Aim) × (steps : List Step)
-            × Holds self.old aim steps (stream (W.taken out.old) (W.failures out.old)) }
+            × Holds self.old aim steps (W.stream out.old) }
         ensures { (aim : Aim) → (steps : List Step) →
-            Holds self.old aim steps (stream (W.taken out.old) (W.failures out.old)) →
-            IsWrittenFirst aim steps (stream (W.taken out.new) (W.failures out.new)) fault result }
+            Holds self.old aim steps (W.stream out.old) →
+            IsWrittenFirst aim steps (W.stream out.new) fault result }
     {
         match self.flush(rt, gate, out) {
             Ok(()) => fault,
@@ -631,19 +625,13 @@ impl<A: Allocator + Copy + Send + Sync> Engine<A> {
         out: &mut W,
     ) -> Result<u8, RunFault>
         requires holds { (aim : Aim) × (steps : List Step)
-            × Holds self.old aim steps (stream (W.taken out.old) (W.failures out.old)) × (is_open steps ≡ false) }
-        ensures written { (aim : Aim) → (steps : List Step) →
-            Holds self.old aim steps (stream (W.taken out.old) (W.failures out.old)) →
-            OnOk result (IsWritten aim steps (stream (W.taken out.new) (W.failures out.new))) }
-        ensures status { (aim : Aim) → (steps : List Step) →
-            Holds self.old aim steps (stream (W.taken out.old) (W.failures out.old)) →
-            IfOk result (λ answer. answer ≡ status aim.query (format_of aim) (entries_of steps)) }
-        ensures calm { (aim : Aim) → (steps : List Step) →
-            Holds self.old aim steps (stream (W.taken out.old) (W.failures out.old)) →
-            OnOk result (W.failures out.new ≡ aim.out.failures) }
-        ensures err { (aim : Aim) → (steps : List Step) →
-            Holds self.old aim steps (stream (W.taken out.old) (W.failures out.old)) →
-            IfErr result (Broke aim steps (stream (W.taken out.new) (W.failures out.new))) }
+            × Holds self.old aim steps (W.stream out.old) × (is_open steps ≡ false) }
+        ensures { (aim : Aim) → (steps : List Step) →
+            Holds self.old aim steps (W.stream out.old) →
+            MatchResult result (λ answer. IsWritten aim steps (W.stream out.new)
+            × (answer ≡ status aim.query (format_of aim) (entries_of steps))
+            × ((W.stream out.new).failures ≡ aim.out.failures))
+            (Broke aim steps (W.stream out.new)) }
     {
         self.flush(rt, gate, out)?;
         Ok(self.sequencer.status().unwrap())

@@ -115,6 +115,11 @@ impl<A: Allocator + Copy> FileReader<A> {
         self.copied_reads = COPIED_READS;
     }
 
+    /// Whether the open file was read once alone: a small one has come whole then.
+    pub(crate) fn has_read_once(&self) -> bool {
+        self.copied_reads.saturating_add(1) == COPIED_READS
+    }
+
     /// Sees that the cutter has room for what is read next.
     fn make_room(&mut self) -> Result<(), AllocError>
         ensures came { self.new.came ≡ self.old.came }

@@ -1,16 +1,16 @@
 //! Reads one file, as far as that is needed.
-ghost use Rattle.std.specs.Prelude.{◌≡◌, ◌<◌, ◌++◌, List, true, false, length, drop, IfOk, OnOk, IfErr};
+ghost use Rattle.std.specs.Prelude.{◌≡◌, ◌<◌, ◌++◌, List, true, false, length, drop, IfOk, MatchResult, OnOk};
 ghost use Rattle.pg_lines.specs.Cutter.{IsDrained};
 ghost use Rattle.pg_rows.specs.Output.{when};
 ghost use Rattle.pg_walk.specs.declared.item.Cause.TheVariants.{ReadFailed};
 ghost use Rattle.pg_files.specs.Given.{Given, newest_name};
-ghost use Rattle.pg_run.specs.Outcome.{Stream};
+ghost use Rattle.pg_rows.specs.Sink.{Stream};
 ghost use Rattle.pg_run.specs.Told.{faults_of, fault_line};
-ghost use Rattle.pg_run.specs.Holding.{Aim, stream};
+ghost use Rattle.pg_run.specs.Holding.{Aim};
 ghost use Rattle.pg_run.specs.Reading.{InFile, MayEnd, Between, Breaks, ending_of, ending_after};
 ghost use Rattle.pg_run.specs.declared.reader.Came.TheVariants.{More};
 
-use crate::engine::Engine;
+use crate::engine::{Engine, is_endless};
 use crate::fault::RunFault;
 use crate::reader::{Came, FileReader};
 use pg_files::Files;
@@ -38,18 +38,15 @@ fn make_room<
     out: &mut W,
 ) -> Result<(), RunFault>
     requires in_file { (aim : Aim) × InFile reader.old engine.old aim (F.past files.old).given
-        (stream (W.taken out.old) (W.failures out.old)) }
+        (W.stream out.old) }
     ensures done { (F.past files.new).done ≡ (F.past files.old).done }
     ensures before { drop 1 (F.past files.new).given ≡ drop 1 (F.past files.old).given }
     ensures same_list { F.list files.new ≡ F.list files.old }
     ensures room { OnOk result (engine.new.spread ≡ true → length engine.new.round.items < engine.new.setup.round) }
-    ensures ok { (aim : Aim) → InFile reader.old engine.old aim (F.past files.old).given
-        (stream (W.taken out.old) (W.failures out.old)) →
-        OnOk result (InFile reader.new engine.new aim (F.past files.new).given
-        (stream (W.taken out.new) (W.failures out.new))) }
-    ensures err { (aim : Aim) → InFile reader.old engine.old aim (F.past files.old).given
-        (stream (W.taken out.old) (W.failures out.old)) →
-        IfErr result (Breaks aim (F.past files.new).given (stream (W.taken out.new) (W.failures out.new))) }
+    ensures outcome { (aim : Aim) →
+        InFile reader.old engine.old aim (F.past files.old).given (W.stream out.old) →
+        MatchResult result (λ _. InFile reader.new engine.new aim (F.past files.new).given
+        (W.stream out.new)) (Breaks aim (F.past files.new).given (W.stream out.new)) }
 {
     if !engine.is_full() {
         return Ok(());
@@ -79,19 +76,16 @@ fn search_ready<
     out: &mut W,
 ) -> Result<(), RunFault>
     requires in_file { (aim : Aim) × InFile reader.old engine.old aim (F.past files.old).given
-        (stream (W.taken out.old) (W.failures out.old)) }
+        (W.stream out.old) }
     ensures done { (F.past files.new).done ≡ (F.past files.old).done }
     ensures before { drop 1 (F.past files.new).given ≡ drop 1 (F.past files.old).given }
     ensures same_list { F.list files.new ≡ F.list files.old }
     ensures drained { OnOk result (IsDrained reader.new.cutter) }
     ensures room { OnOk result (engine.new.spread ≡ true → length engine.new.round.items < engine.new.setup.round) }
-    ensures ok { (aim : Aim) → InFile reader.old engine.old aim (F.past files.old).given
-        (stream (W.taken out.old) (W.failures out.old)) →
-        OnOk result (InFile reader.new engine.new aim (F.past files.new).given
-        (stream (W.taken out.new) (W.failures out.new))) }
-    ensures err { (aim : Aim) → InFile reader.old engine.old aim (F.past files.old).given
-        (stream (W.taken out.old) (W.failures out.old)) →
-        IfErr result (Breaks aim (F.past files.new).given (stream (W.taken out.new) (W.failures out.new))) }
+    ensures outcome { (aim : Aim) →
+        InFile reader.old engine.old aim (F.past files.old).given (W.stream out.old) →
+        MatchResult result (λ _. InFile reader.new engine.new aim (F.past files.new).given
+        (W.stream out.new)) (Breaks aim (F.past files.new).given (W.stream out.new)) }
 {
     for _ in rt.forever() {
         make_room(rt, gate, reader, engine, files, out)?;
@@ -119,15 +113,13 @@ fn search_lines<
 ) -> Result<(), RunFault>
     requires drained { IsDrained reader.old.cutter }
     requires in_file { (aim : Aim) × (given : List Given)
-        × InFile reader.old engine.old aim given (stream (W.taken out.old) (W.failures out.old)) }
+        × InFile reader.old engine.old aim given (W.stream out.old) }
     ensures came { reader.new.came ≡ reader.old.came }
     ensures drained { IsDrained reader.new.cutter }
-    ensures ok { (aim : Aim) → (given : List Given) →
-        InFile reader.old engine.old aim given (stream (W.taken out.old) (W.failures out.old)) →
-        OnOk result (InFile reader.new engine.new aim given (stream (W.taken out.new) (W.failures out.new))) }
-    ensures err { (aim : Aim) → (given : List Given) →
-        InFile reader.old engine.old aim given (stream (W.taken out.old) (W.failures out.old)) →
-        IfErr result (Breaks aim given (stream (W.taken out.new) (W.failures out.new))) }
+    ensures outcome { (aim : Aim) → (given : List Given) →
+        InFile reader.old engine.old aim given (W.stream out.old) →
+        MatchResult result (λ _. InFile reader.new engine.new aim given (W.stream out.new))
+        (Breaks aim given (W.stream out.new)) }
 {
     engine.make_room(rt, gate, out)?;
     match reader.take_lines() {
@@ -136,8 +128,18 @@ fn search_lines<
     }
 }
 
-/// Searches all that came, where the next read of the open file may wait and enough wasn't read, and has the rows sent
-/// on.
+/// Whether what came of the open file is to be searched before the next read, though it fills no block: where that read
+/// may wait, or may find a small file's end alone, and lines that came may be enough.
+fn is_due<A: Allocator + Copy, F: Files>(
+    reader: &FileReader<A>,
+    engine: &Engine<A>,
+    files: &F,
+) -> bool {
+    files.may_wait() || reader.has_read_once() && !is_endless(engine.setup.format)
+}
+
+/// Searches all that came, where that is due and enough wasn't read. Where the next read of the open file may wait, the
+/// rows are sent on.
 fn settle<
     R: Threads + Wait + Clock + Sync,
     A: Allocator + Copy + Send + Sync,
@@ -154,21 +156,19 @@ fn settle<
 ) -> Result<(), RunFault>
     requires drained { IsDrained reader.old.cutter }
     requires in_file { (aim : Aim) × (given : List Given)
-        × InFile reader.old engine.old aim given (stream (W.taken out.old) (W.failures out.old)) }
+        × InFile reader.old engine.old aim given (W.stream out.old) }
     ensures came { reader.new.came ≡ reader.old.came }
-    ensures ok { (aim : Aim) → (given : List Given) →
-        InFile reader.old engine.old aim given (stream (W.taken out.old) (W.failures out.old)) →
-        OnOk result (InFile reader.new engine.new aim given (stream (W.taken out.new) (W.failures out.new))) }
-    ensures err { (aim : Aim) → (given : List Given) →
-        InFile reader.old engine.old aim given (stream (W.taken out.old) (W.failures out.old)) →
-        IfErr result (Breaks aim given (stream (W.taken out.new) (W.failures out.new))) }
+    ensures outcome { (aim : Aim) → (given : List Given) →
+        InFile reader.old engine.old aim given (W.stream out.old) →
+        MatchResult result (λ _. InFile reader.new engine.new aim given (W.stream out.new))
+        (Breaks aim given (W.stream out.new)) }
 {
-    if engine.enough() || !files.may_wait() {
+    if engine.enough() || !is_due(reader, engine, files) {
         return Ok(());
     }
     search_lines(rt, gate, reader, engine, out)?;
     engine.flush_waiting(rt, gate, out)?;
-    engine.send_on(true, out)?;
+    engine.send_on(files.may_wait(), out)?;
     Ok(())
 }
 
@@ -200,19 +200,16 @@ fn read_once<
 ) -> Result<(), RunFault>
     requires more { reader.old.came ≡ More }
     requires in_file { (aim : Aim) × InFile reader.old engine.old aim (F.past files.old).given
-        (stream (W.taken out.old) (W.failures out.old)) }
+        (W.stream out.old) }
     ensures done { (F.past files.new).done ≡ (F.past files.old).done }
     ensures before { drop 1 (F.past files.new).given ≡ drop 1 (F.past files.old).given }
     ensures same_list { F.list files.new ≡ F.list files.old }
     ensures drained { OnOk result (IsDrained reader.new.cutter) }
     ensures room { OnOk result (engine.new.spread ≡ true → length engine.new.round.items < engine.new.setup.round) }
-    ensures ok { (aim : Aim) → InFile reader.old engine.old aim (F.past files.old).given
-        (stream (W.taken out.old) (W.failures out.old)) →
-        OnOk result (InFile reader.new engine.new aim (F.past files.new).given
-        (stream (W.taken out.new) (W.failures out.new))) }
-    ensures err { (aim : Aim) → InFile reader.old engine.old aim (F.past files.old).given
-        (stream (W.taken out.old) (W.failures out.old)) →
-        IfErr result (Breaks aim (F.past files.new).given (stream (W.taken out.new) (W.failures out.new))) }
+    ensures outcome { (aim : Aim) →
+        InFile reader.old engine.old aim (F.past files.old).given (W.stream out.old) →
+        MatchResult result (λ _. InFile reader.new engine.new aim (F.past files.new).given
+        (W.stream out.new)) (Breaks aim (F.past files.new).given (W.stream out.new)) }
 {
     recycle(reader, engine);
     reader.read(files);
@@ -232,13 +229,11 @@ fn search_last<R: Clock, A: Allocator + Copy + Send + Sync, W: Sink, G: Gate>(
     requires ended { ending_after reader.old.came ≡ ending_of failed }
     requires room { engine.old.spread ≡ true → length engine.old.round.items < engine.old.setup.round }
     requires in_file { (aim : Aim) × (given : List Given) × IsDrained reader.old.cutter
-        × InFile reader.old engine.old aim given (stream (W.taken out.old) (W.failures out.old)) }
-    ensures ok { (aim : Aim) → (given : List Given) →
-        InFile reader.old engine.old aim given (stream (W.taken out.old) (W.failures out.old)) →
-        OnOk result (MayEnd engine.new aim failed given (stream (W.taken out.new) (W.failures out.new))) }
-    ensures err { (aim : Aim) → (given : List Given) →
-        InFile reader.old engine.old aim given (stream (W.taken out.old) (W.failures out.old)) →
-        IfErr result (Breaks aim given (stream (W.taken out.new) (W.failures out.new))) }
+        × InFile reader.old engine.old aim given (W.stream out.old) }
+    ensures { (aim : Aim) → (given : List Given) →
+        InFile reader.old engine.old aim given (W.stream out.old) →
+        MatchResult result (λ _. MayEnd engine.new aim failed given (W.stream out.new))
+        (Breaks aim given (W.stream out.new)) }
 {
     match reader.finish() {
         Some(block) => engine.search(rt, gate, block, out),
@@ -255,14 +250,12 @@ fn end_file<
     G: Gate + Sync,
 >(rt: &R, gate: &G, engine: &mut Engine<A>, failed: bool, out: &mut W) -> Result<bool, RunFault>
     requires may_end { (aim : Aim) × (given : List Given)
-        × MayEnd engine.old aim failed given (stream (W.taken out.old) (W.failures out.old)) }
+        × MayEnd engine.old aim failed given (W.stream out.old) }
     ensures failed { IfOk result (λ answer. answer ≡ failed) }
-    ensures ok { (aim : Aim) → (given : List Given) →
-        MayEnd engine.old aim failed given (stream (W.taken out.old) (W.failures out.old)) →
-        OnOk result (Between engine.new aim given (stream (W.taken out.new) (W.failures out.new))) }
-    ensures err { (aim : Aim) → (given : List Given) →
-        MayEnd engine.old aim failed given (stream (W.taken out.old) (W.failures out.old)) →
-        IfErr result (Breaks aim given (stream (W.taken out.new) (W.failures out.new))) }
+    ensures outcome { (aim : Aim) → (given : List Given) →
+        MayEnd engine.old aim failed given (W.stream out.old) →
+        MatchResult result (λ _. Between engine.new aim given (W.stream out.new))
+        (Breaks aim given (W.stream out.new)) }
 {
     engine.end(failed);
     engine.flush_ended(rt, gate, out)?;
@@ -288,14 +281,12 @@ fn finish_file<
     requires ended { ending_after reader.old.came ≡ ending_of failed }
     requires room { engine.old.spread ≡ true → length engine.old.round.items < engine.old.setup.round }
     requires in_file { (aim : Aim) × (given : List Given) × IsDrained reader.old.cutter
-        × InFile reader.old engine.old aim given (stream (W.taken out.old) (W.failures out.old)) }
+        × InFile reader.old engine.old aim given (W.stream out.old) }
     ensures failed { IfOk result (λ answer. answer ≡ failed) }
-    ensures ok { (aim : Aim) → (given : List Given) →
-        InFile reader.old engine.old aim given (stream (W.taken out.old) (W.failures out.old)) →
-        OnOk result (Between engine.new aim given (stream (W.taken out.new) (W.failures out.new))) }
-    ensures err { (aim : Aim) → (given : List Given) →
-        InFile reader.old engine.old aim given (stream (W.taken out.old) (W.failures out.old)) →
-        IfErr result (Breaks aim given (stream (W.taken out.new) (W.failures out.new))) }
+    ensures outcome { (aim : Aim) → (given : List Given) →
+        InFile reader.old engine.old aim given (W.stream out.old) →
+        MatchResult result (λ _. Between engine.new aim given (W.stream out.new))
+        (Breaks aim given (W.stream out.new)) }
 {
     search_last(rt, gate, reader, engine, failed, out)?;
     end_file(rt, gate, engine, failed, out)
@@ -320,18 +311,16 @@ pub(crate) fn read_file<
     requires more { reader.old.came ≡ More }
     requires drained { IsDrained reader.old.cutter }
     requires in_file { (aim : Aim) × InFile reader.old engine.old aim (F.past files.old).given
-        (stream (W.taken out.old) (W.failures out.old)) }
+        (W.stream out.old) }
     ensures done { (F.past files.new).done ≡ (F.past files.old).done }
     ensures before { drop 1 (F.past files.new).given ≡ drop 1 (F.past files.old).given }
     ensures same_list { F.list files.new ≡ F.list files.old }
     ensures told { IfOk result (λ failed. faults_of (F.past files.new).given ≡ faults_of (F.past files.old).given
         ++ when failed (fault_line (newest_name (F.past files.new).given) ReadFailed)) }
-    ensures ok { (aim : Aim) → InFile reader.old engine.old aim (F.past files.old).given
-        (stream (W.taken out.old) (W.failures out.old)) →
-        OnOk result (Between engine.new aim (F.past files.new).given (stream (W.taken out.new) (W.failures out.new))) }
-    ensures err { (aim : Aim) → InFile reader.old engine.old aim (F.past files.old).given
-        (stream (W.taken out.old) (W.failures out.old)) →
-        IfErr result (Breaks aim (F.past files.new).given (stream (W.taken out.new) (W.failures out.new))) }
+    ensures outcome { (aim : Aim) →
+        InFile reader.old engine.old aim (F.past files.old).given (W.stream out.old) →
+        MatchResult result (λ _. Between engine.new aim (F.past files.new).given (W.stream out.new))
+        (Breaks aim (F.past files.new).given (W.stream out.new)) }
 {
     for _ in rt.forever() {
         settle(rt, gate, reader, engine, files, out)?;

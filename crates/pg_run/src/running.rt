@@ -1,15 +1,15 @@
 //! The run over all files.
 ghost use Rattle.std.specs.Prelude.{◌≡◌, ◌-◌, ◌^◌, ◌<◌, ◌∷◌, ◌++◌, ℕ, List, [], not, true, false, drop};
-ghost use Rattle.std.specs.Prelude.{IfOk, OnOk, IfErr, OnErr};
+ghost use Rattle.std.specs.Prelude.{IfOk, MatchResult, OnOk, IfErr, OnErr};
 ghost use Rattle.std.specs.List.{flat_map};
 ghost use Rattle.pg_lines.specs.Search.{Search, Pattern, AreTreesOf, HasItsTrees};
 ghost use Rattle.pg_lines.specs.Cutter.{IsDrained};
 ghost use Rattle.pg_rows.specs.Output.{Left, when};
-ghost use Rattle.pg_rows.specs.Sink.{TakesPart};
+ghost use Rattle.pg_rows.specs.Sink.{Stream, WritesText};
 ghost use Rattle.pg_files.specs.Given.{AllGiven, Given, NoFile, File, nothing_given};
 ghost use Rattle.pg_run.specs.Told.{fault_line};
-ghost use Rattle.pg_run.specs.Outcome.{Stream, IsSearchFor, Finishes, BreaksOff, HasCause};
-ghost use Rattle.pg_run.specs.Holding.{Aim, Holds, stream};
+ghost use Rattle.pg_run.specs.Outcome.{IsSearchFor, Finishes, BreaksOff, HasCause};
+ghost use Rattle.pg_run.specs.Holding.{Aim, Holds};
 ghost use Rattle.pg_run.specs.Reading.{InFile, Between, Rests, Stops, StopsBehind, Goes, Went, IsDone};
 ghost use Rattle.pg_run.specs.declared.reader.Came.TheVariants.{More};
 ghost use Rattle.pg_run.specs.declared.fault.RunFault.TheVariants.{Sink as SinkFailed};
@@ -71,13 +71,9 @@ fn tell_fault<A: Allocator + Copy, E: Sink>(
     cause: Cause,
     faults: &mut E,
 ) -> Result<(), RunFault>
-    ensures ok { OnOk result (E.taken faults.new
-        ≡ E.taken faults.old ++ when (not silent) (fault_line name.now cause)) }
-    ensures calm { OnOk result (E.failures faults.new ≡ E.failures faults.old) }
+    ensures writes { WritesText (when (not silent) (fault_line name.now cause))
+        (E.stream faults.old) (E.stream faults.new) result }
     ensures fault { IfErr result (λ fault. fault ≡ SinkFailed) }
-    ensures part { OnErr result (TakesPart (when (not silent) (fault_line name.now cause))
-        (E.taken faults.old) (E.taken faults.new)) }
-    ensures failure { OnErr result (E.failures faults.old < E.failures faults.new) }
 {
     if silent {
         return Ok(());
@@ -104,18 +100,12 @@ fn miss<A: Allocator + Copy + Send + Sync, W: Sink, E: Sink>(
     faults: &mut E,
 ) -> Result<(), RunFault>
     requires { (aim : Aim) × (given : List Given)
-        × Rests engine.old aim given (stream (W.taken out.old) (W.failures out.old))
-        (stream (E.taken faults.old) (E.failures faults.old)) }
-    ensures ok { (aim : Aim) → (given : List Given) →
-        Rests engine.old aim given (stream (W.taken out.old) (W.failures out.old))
-        (stream (E.taken faults.old) (E.failures faults.old)) →
-        OnOk result (Rests engine.new aim (NoFile name.now cause ∷ given)
-        (stream (W.taken out.new) (W.failures out.new)) (stream (E.taken faults.new) (E.failures faults.new))) }
-    ensures err { (aim : Aim) → (given : List Given) →
-        Rests engine.old aim given (stream (W.taken out.old) (W.failures out.old))
-        (stream (E.taken faults.old) (E.failures faults.old)) →
-        IfErr result (Stops aim (NoFile name.now cause ∷ given) (stream (W.taken out.new) (W.failures out.new))
-        (stream (E.taken faults.new) (E.failures faults.new))) }
+        × Rests engine.old aim given (W.stream out.old) (E.stream faults.old) }
+    ensures { (aim : Aim) → (given : List Given) →
+        Rests engine.old aim given (W.stream out.old) (E.stream faults.old) →
+        MatchResult result (λ _. Rests engine.new aim (NoFile name.now cause ∷ given) (W.stream out.new)
+        (E.stream faults.new))
+        (Stops aim (NoFile name.now cause ∷ given) (W.stream out.new) (E.stream faults.new)) }
 {
     engine.send_on(!engine.setup.silent, out)?;
     tell_fault(engine.alloc, engine.setup.silent, name, cause, faults)?;
@@ -160,23 +150,16 @@ fn one_file<
 ) -> Result<(), RunFault>
     requires rests { (aim : Aim) × (given : List Given) × (name : List ℕ)
         × ((F.past files.old).given ≡ File name [] Left ∷ given)
-        × Rests engine.old aim given (stream (W.taken out.old) (W.failures out.old))
-        (stream (E.taken faults.old) (E.failures faults.old)) }
+        × Rests engine.old aim given (W.stream out.old) (E.stream faults.old) }
     ensures done { (F.past files.new).done ≡ (F.past files.old).done }
     ensures before { drop 1 (F.past files.new).given ≡ drop 1 (F.past files.old).given }
     ensures same_list { F.list files.new ≡ F.list files.old }
-    ensures ok { (aim : Aim) → (given : List Given) → (name : List ℕ) →
+    ensures outcome { (aim : Aim) → (given : List Given) → (name : List ℕ) →
         (F.past files.old).given ≡ File name [] Left ∷ given →
-        Rests engine.old aim given (stream (W.taken out.old) (W.failures out.old))
-        (stream (E.taken faults.old) (E.failures faults.old)) →
-        OnOk result (Rests engine.new aim (F.past files.new).given (stream (W.taken out.new) (W.failures out.new))
-        (stream (E.taken faults.new) (E.failures faults.new))) }
-    ensures err { (aim : Aim) → (given : List Given) → (name : List ℕ) →
-        (F.past files.old).given ≡ File name [] Left ∷ given →
-        Rests engine.old aim given (stream (W.taken out.old) (W.failures out.old))
-        (stream (E.taken faults.old) (E.failures faults.old)) →
-        IfErr result (Stops aim (F.past files.new).given (stream (W.taken out.new) (W.failures out.new))
-        (stream (E.taken faults.new) (E.failures faults.new))) }
+        Rests engine.old aim given (W.stream out.old) (E.stream faults.old) →
+        MatchResult result (λ _. Rests engine.new aim (F.past files.new).given (W.stream out.new)
+        (E.stream faults.new))
+        (Stops aim (F.past files.new).given (W.stream out.new) (E.stream faults.new)) }
 {
     if engine.files >= MOST_FILES {
         return Err(engine.break_off(rt, gate, RunFault::TooManyFiles, out));
@@ -215,20 +198,17 @@ fn take_next<
 ) -> Result<bool, RunFault>
     requires done { (F.past files.old).done ≡ false }
     requires rests { (aim : Aim) × Rests engine.old aim (F.past files.old).given
-        (stream (W.taken out.old) (W.failures out.old)) (stream (E.taken faults.old) (E.failures faults.old)) }
+        (W.stream out.old) (E.stream faults.old) }
     ensures goes { IfOk result (λ more. Goes more (F.past files.old) (F.past files.new)) }
     ensures all { IfOk result (λ more. more ≡ false
         → AllGiven (F.finds (F.list files.new)) (F.past files.new).given) }
     ensures went { OnErr result (Went (F.past files.old).given (F.past files.new).given) }
     ensures same_list { F.list files.new ≡ F.list files.old }
-    ensures ok { (aim : Aim) → Rests engine.old aim (F.past files.old).given
-        (stream (W.taken out.old) (W.failures out.old)) (stream (E.taken faults.old) (E.failures faults.old)) →
-        OnOk result (Rests engine.new aim (F.past files.new).given (stream (W.taken out.new) (W.failures out.new))
-        (stream (E.taken faults.new) (E.failures faults.new))) }
-    ensures err { (aim : Aim) → Rests engine.old aim (F.past files.old).given
-        (stream (W.taken out.old) (W.failures out.old)) (stream (E.taken faults.old) (E.failures faults.old)) →
-        IfErr result (Stops aim (F.past files.new).given (stream (W.taken out.new) (W.failures out.new))
-        (stream (E.taken faults.new) (E.failures faults.new))) }
+    ensures outcome { (aim : Aim) →
+        Rests engine.old aim (F.past files.old).given (W.stream out.old) (E.stream faults.old) →
+        MatchResult result (λ _. Rests engine.new aim (F.past files.new).given (W.stream out.new)
+        (E.stream faults.new))
+        (Stops aim (F.past files.new).given (W.stream out.new) (E.stream faults.new)) }
 {
     match files.next()? {
         Step::Done => Ok(false),
@@ -261,17 +241,12 @@ fn all_files<
     faults: &mut E,
 ) -> Result<(), RunFault>
     requires new { F.past files.old ≡ nothing_given }
-    requires rests { (aim : Aim) × Rests engine.old aim [] (stream (W.taken out.old) (W.failures out.old))
-        (stream (E.taken faults.old) (E.failures faults.old)) }
+    requires rests { (aim : Aim) × Rests engine.old aim [] (W.stream out.old) (E.stream faults.old) }
     ensures same_list { F.list files.new ≡ F.list files.old }
-    ensures ok { (aim : Aim) → Rests engine.old aim [] (stream (W.taken out.old) (W.failures out.old))
-        (stream (E.taken faults.old) (E.failures faults.old)) →
-        OnOk result (IsDone engine.new aim (F.finds (F.list files.new)) (F.past files.new)
-        (stream (W.taken out.new) (W.failures out.new)) (stream (E.taken faults.new) (E.failures faults.new))) }
-    ensures err { (aim : Aim) → Rests engine.old aim [] (stream (W.taken out.old) (W.failures out.old))
-        (stream (E.taken faults.old) (E.failures faults.old)) →
-        IfErr result (StopsBehind aim (F.past files.new).given (stream (W.taken out.new) (W.failures out.new))
-        (stream (E.taken faults.new) (E.failures faults.new))) }
+    ensures outcome { (aim : Aim) → Rests engine.old aim [] (W.stream out.old) (E.stream faults.old) →
+        MatchResult result (λ _. IsDone engine.new aim (F.finds (F.list files.new)) (F.past files.new)
+        (W.stream out.new) (E.stream faults.new))
+        (StopsBehind aim (F.past files.new).given (W.stream out.new) (E.stream faults.new)) }
 {
     for _ in rt.forever() {
         if engine.enough() {
@@ -301,18 +276,12 @@ fn search_files<
     faults: &mut E,
 ) -> Result<u8, RunFault>
     requires new { F.past files.old ≡ nothing_given }
-    requires rests { (aim : Aim) × Rests engine.old aim [] (stream (W.taken out.old) (W.failures out.old))
-        (stream (E.taken faults.old) (E.failures faults.old)) }
+    requires rests { (aim : Aim) × Rests engine.old aim [] (W.stream out.old) (E.stream faults.old) }
     ensures same_list { F.list files.new ≡ F.list files.old }
-    ensures ok { (aim : Aim) → Rests engine.old aim [] (stream (W.taken out.old) (W.failures out.old))
-        (stream (E.taken faults.old) (E.failures faults.old)) →
-        IfOk result (Finishes aim.query aim.setup (F.finds (F.list files.new)) (F.past files.new)
-        aim.out (stream (W.taken out.new) (W.failures out.new))
-        aim.told (stream (E.taken faults.new) (E.failures faults.new))) }
-    ensures err { (aim : Aim) → Rests engine.old aim [] (stream (W.taken out.old) (W.failures out.old))
-        (stream (E.taken faults.old) (E.failures faults.old)) →
-        IfErr result (StopsBehind aim (F.past files.new).given (stream (W.taken out.new) (W.failures out.new))
-        (stream (E.taken faults.new) (E.failures faults.new))) }
+    ensures outcome { (aim : Aim) → Rests engine.old aim [] (W.stream out.old) (E.stream faults.old) →
+        MatchResult result (Finishes aim.query aim.setup (F.finds (F.list files.new)) (F.past files.new)
+        aim.out (W.stream out.new) aim.told (E.stream faults.new))
+        (StopsBehind aim (F.past files.new).given (W.stream out.new) (E.stream faults.new)) }
 {
     let mut reader = FileReader::new(engine.alloc, engine.setup.block);
     all_files(rt, gate, engine, files, &mut reader, out, faults)?;
@@ -359,16 +328,10 @@ pub fn run<
 ) -> Result<u8, RunFault>
     requires { F.past files.old ≡ nothing_given }
     ensures ok { IfOk result (λ status. (q : Search) × IsSearchFor text q
-        × Finishes q setup (F.finds (F.list files.new)) (F.past files.new)
-        (record { taken = W.taken out.old; failures = W.failures out.old })
-        (record { taken = W.taken out.new; failures = W.failures out.new })
-        (record { taken = E.taken faults.old; failures = E.failures faults.old })
-        (record { taken = E.taken faults.new; failures = E.failures faults.new }) status) }
-    ensures err { IfErr result (BreaksOff text setup (F.past files.new)
-        (record { taken = W.taken out.old; failures = W.failures out.old })
-        (record { taken = W.taken out.new; failures = W.failures out.new })
-        (record { taken = E.taken faults.old; failures = E.failures faults.old })
-        (record { taken = E.taken faults.new; failures = E.failures faults.new })) }
+        × Finishes q setup (F.finds (F.list files.new)) (F.past files.new) (W.stream out.old)
+        (W.stream out.new) (E.stream faults.old) (E.stream faults.new) status) }
+    ensures err { IfErr result (BreaksOff text setup (F.past files.new) (W.stream out.old)
+        (W.stream out.new) (E.stream faults.old) (E.stream faults.new)) }
     ensures same_list { F.list files.new ≡ F.list files.old }
 {
     let mut engine = begin(alloc, text, setup)?;

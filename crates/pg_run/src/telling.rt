@@ -1,7 +1,7 @@
 //! What is told on standard error.
-ghost use Rattle.std.specs.Prelude.{◌≡◌, ◌<◌, ◌++◌, OnErr, OnOk, IfOk};
+ghost use Rattle.std.specs.Prelude.{◌≡◌, IfOk};
 ghost use Rattle.std.specs.List.{flat_map};
-ghost use Rattle.pg_rows.specs.Sink.{TakesPart};
+ghost use Rattle.pg_rows.specs.Sink.{WritesText};
 
 use pg_rows::{Sink, WriteError, write_all};
 use std::alloc::{AllocError, Allocator};
@@ -12,11 +12,7 @@ use std::alloc::{AllocError, Allocator};
 ///
 /// `WriteError` where a write failed. A beginning of the text was taken then.
 pub fn tell<A: Allocator, W: Sink>(alloc: A, parts: &[&[u8]], err: &mut W) -> Result<(), WriteError>
-    ensures told { OnOk result (W.taken err.new ≡ W.taken err.old ++ flat_map (λ part. part.now) parts.now) }
-    ensures no_failure { OnOk result (W.failures err.new ≡ W.failures err.old) }
-    ensures part { OnErr result (TakesPart (flat_map (λ part. part.now) parts.now)
-        (W.taken err.old) (W.taken err.new)) }
-    ensures failure { OnErr result (W.failures err.old < W.failures err.new) }
+    ensures { WritesText (flat_map (λ part. part.now) parts.now) (W.stream err.old) (W.stream err.new) result }
 {
     match join(alloc, parts) {
         Ok(text) => write_all(err, text.as_slice()),
@@ -37,11 +33,7 @@ fn join<A: Allocator>(alloc: A, parts: &[&[u8]]) -> Result<Vec<u8, A>, AllocErro
 
 /// Writes one part after the other.
 fn write_each<W: Sink>(parts: &[&[u8]], err: &mut W) -> Result<(), WriteError>
-    ensures told { OnOk result (W.taken err.new ≡ W.taken err.old ++ flat_map (λ part. part.now) parts.now) }
-    ensures no_failure { OnOk result (W.failures err.new ≡ W.failures err.old) }
-    ensures part { OnErr result (TakesPart (flat_map (λ part. part.now) parts.now)
-        (W.taken err.old) (W.taken err.new)) }
-    ensures failure { OnErr result (W.failures err.old < W.failures err.new) }
+    ensures { WritesText (flat_map (λ part. part.now) parts.now) (W.stream err.old) (W.stream err.new) result }
 {
     for part in parts {
         write_all(err, part)?;

@@ -1,5 +1,6 @@
 -- How a sequencer stands after what happened to it.
-use Rattle.std.specs.Prelude.{◌≡◌, ℕ, ◌+◌, ◌*◌, ◌==◌, Bool, true, false, not, ◌&&◌, ◌||◌, if◌then◌else◌, Result, Ok}
+use Rattle.std.specs.Prelude.{◌≡◌, ℕ, ◌+◌, ◌*◌, ◌<◌, ◌==◌, Bool, true, false, not, ◌&&◌, ◌||◌, if◌then◌else◌}
+use Rattle.std.specs.Prelude.{Result, Ok}
 use Rattle.std.specs.Prelude.{Err}
 use Rattle.std.specs.Prelude.{List, [], ◌∷◌, ◌++◌, map, length}
 use Rattle.std.specs.List.{AllByRecursion, list_any}
@@ -7,7 +8,7 @@ use Rattle.std.specs.Arc.{arc_value}
 use Rattle.pg_lines.specs.Search.{terminator, HasItsTrees}
 use Rattle.pg_rows.specs.Output.{HasRoom, is_bad, output}
 use Rattle.pg_rows.specs.Remembered.{Remembers}
-use Rattle.pg_rows.specs.Sink.{IsBeginning}
+use Rattle.pg_rows.specs.Sink.{Stream, WritesAll, IsBeginning}
 use Rattle.pg_seq.specs.Plan.{Step, Opens, Announces, Ends, Misses, announced, IsPlan, MayFollow, is_open, entries_of}
 use Rattle.pg_seq.specs.History.{Past, plan, taken_of, is_taken, handed}
 use Rattle.pg_seq.specs.Cursor.{cursor_of}
@@ -101,20 +102,21 @@ abbrev pub left : {A : Type 0} → Assembler A → ℕ
 left s = 2 * length s.waiting.items + (if s.printing then 1 else 0) + length s.buffer.slots.items
 
 -- the rows of the next step were written
-pub record Advances {A : Type 0} (new : Assembler A) (past : Past) (before after : List ℕ) : Type 0 where
+pub record Advances {A : Type 0} (new : Assembler A) (past : Past) (before after : Stream) : Type 0 where
   pub rows : List ℕ
-  pub got : after ≡ before ++ rows
+  pub got : WritesAll rows before after
   pub stands : Stands new (wrote past rows)
 
--- a beginning of the rows of the next step was written
-pub record Breaks {A : Type 0} (new : Assembler A) (past : Past) (before after : List ℕ) : Type 0 where
+-- a beginning of the rows of the next step was written, and a write failed
+pub record Breaks {A : Type 0} (new : Assembler A) (past : Past) (before after : Stream) : Type 0 where
   pub rows : List ℕ
-  pub got : after ≡ before ++ rows
+  pub got : after.taken ≡ before.taken ++ rows
+  pub failure : before.failures < after.failures
   pub part : IsBeginning (past.written ++ rows) (handed past)
   pub stands : Stands new past
 
 -- no step may be handed out, and nothing changed
-pub record Rests {A : Type 0} (new : Assembler A) (past : Past) (before after : List ℕ) : Type 0 where
+pub record Rests {A : Type 0} (new : Assembler A) (past : Past) (before after : Stream) : Type 0 where
   pub all : IsWritten past
   pub same : after ≡ before
   pub stands : Stands new past

@@ -1,6 +1,6 @@
 //! How results are put in order, and what is known of it.
 ghost use Rattle.std.specs.Prelude.{◌≡◌, ℕ, ◌<◌, ◌≤◌, ◌++◌, ◌↔◌, List, false, IsTrue, IfOk, OnOk, OnErr, IsErrOf};
-ghost use Rattle.std.specs.Prelude.{MatchOption, MatchBool, IfSome, true};
+ghost use Rattle.std.specs.Prelude.{MatchOption, MatchBool, MatchResult, IfSome, true};
 ghost use Rattle.std.specs.Prelude.{◌&&◌, if◌then◌else◌};
 ghost use Rattle.std.specs.Arc.{arc_value};
 ghost use Rattle.pg_rows.specs.Modes.{is_quiet};
@@ -200,11 +200,11 @@ impl<A: Allocator> Assembler<A> {
     pub(crate) fn drain<W: Sink>(&mut self, out: &mut W) -> Result<(), SinkFault>
         requires { (past : Past) × Stands self.old past }
         ensures drained { (past : Past) → Stands self.old past → (text : List ℕ)
-            × (W.taken out.new ≡ W.taken out.old ++ text)
+            × ((W.stream out.new).taken ≡ (W.stream out.old).taken ++ text)
             × Drained result past text × Stands self.new (drained past text result) }
-        ensures cause { IsErrOf result WriteFailed → W.failures out.old < W.failures out.new }
-        ensures no_failure { OnOk result (W.failures out.new ≡ W.failures out.old) }
-        ensures never_falls { W.failures out.old ≤ W.failures out.new }
+        ensures cause { IsErrOf result WriteFailed → (W.stream out.old).failures < (W.stream out.new).failures }
+        ensures no_failure { OnOk result ((W.stream out.new).failures ≡ (W.stream out.old).failures) }
+        ensures never_falls { (W.stream out.old).failures ≤ (W.stream out.new).failures }
     {
         if self.failed {
             return Err(SinkFault::Failed);
@@ -224,16 +224,12 @@ impl<A: Allocator> Assembler<A> {
     /// Does the next step of the plan that may be done. `false` says that there is none.
     fn advance<W: Sink>(&mut self, out: &mut W) -> Result<bool, WriteError>
         requires { (past : Past) × Stands self.old past }
-        ensures ok { (past : Past) → Stands self.old past → self.old.failed ≡ false → IfOk result (λ more.
-            MatchBool more (Advances self.new past (W.taken out.old) (W.taken out.new))
-            (Rests self.new past (W.taken out.old) (W.taken out.new))) }
-        ensures part { (past : Past) → Stands self.old past → self.old.failed ≡ false →
-            OnErr result (Breaks self.new past (W.taken out.old) (W.taken out.new)) }
+        ensures goes { (past : Past) → Stands self.old past → self.old.failed ≡ false → MatchResult result (λ more.
+            MatchBool more (Advances self.new past (W.stream out.old) (W.stream out.new))
+            (Rests self.new past (W.stream out.old) (W.stream out.new)))
+            (λ _. Breaks self.new past (W.stream out.old) (W.stream out.new)) }
         ensures fewer { IfOk result (λ more. more ≡ true → left self.new < left self.old) }
         ensures same { self.new.failed ≡ self.old.failed }
-        ensures failure { OnErr result (W.failures out.old < W.failures out.new) }
-        ensures no_failure { OnOk result (W.failures out.new ≡ W.failures out.old) }
-        ensures never_falls { W.failures out.old ≤ W.failures out.new }
     {
         if !self.printing {
             return Ok(self.open_next());
@@ -277,16 +273,12 @@ impl<A: Allocator> Assembler<A> {
     fn print_next<W: Sink>(&mut self, out: &mut W) -> Result<bool, WriteError>
         requires stands { (past : Past) × Stands self.old past }
         requires inside { (self.old.printing ≡ true) × (is_at_end self.old ≡ false) }
-        ensures ok { (past : Past) → Stands self.old past → self.old.failed ≡ false → IfOk result (λ more.
-            MatchBool more (Advances self.new past (W.taken out.old) (W.taken out.new))
-            (Rests self.new past (W.taken out.old) (W.taken out.new))) }
-        ensures part { (past : Past) → Stands self.old past → self.old.failed ≡ false →
-            OnErr result (Breaks self.new past (W.taken out.old) (W.taken out.new)) }
+        ensures goes { (past : Past) → Stands self.old past → self.old.failed ≡ false → MatchResult result (λ more.
+            MatchBool more (Advances self.new past (W.stream out.old) (W.stream out.new))
+            (Rests self.new past (W.stream out.old) (W.stream out.new)))
+            (λ _. Breaks self.new past (W.stream out.old) (W.stream out.new)) }
         ensures fewer { IfOk result (λ more. more ≡ true → left self.new < left self.old) }
         ensures same { self.new.failed ≡ self.old.failed }
-        ensures failure { OnErr result (W.failures out.old < W.failures out.new) }
-        ensures no_failure { OnOk result (W.failures out.new ≡ W.failures out.old) }
-        ensures never_falls { W.failures out.old ≤ W.failures out.new }
     {
         let Some(found) = self.buffer.result_at(0) else {
             return Ok(false);

@@ -149,11 +149,11 @@ impl<A: Allocator> Sequencer<A> {
     /// `WriteFailed`; nothing is written.
     pub fn drain<W: Sink>(&mut self, out: &mut W) -> Result<(), SinkFault>
         ensures drained { (past : Past) → Stands self.old past → (text : List ℕ)
-            × (W.taken out.new ≡ W.taken out.old ++ text)
+            × ((W.stream out.new).taken ≡ (W.stream out.old).taken ++ text)
             × Drained result past text × Stands self.new (drained past text result) }
-        ensures cause { IsErrOf result WriteFailed → W.failures out.old < W.failures out.new }
-        ensures no_failure { OnOk result (W.failures out.new ≡ W.failures out.old) }
-        ensures never_falls { W.failures out.old ≤ W.failures out.new }
+        ensures cause { IsErrOf result WriteFailed → (W.stream out.old).failures < (W.stream out.new).failures }
+        ensures no_failure { OnOk result ((W.stream out.new).failures ≡ (W.stream out.old).failures) }
+        ensures never_falls { (W.stream out.old).failures ≤ (W.stream out.new).failures }
     {
         self.assembler.drain(out)
     }

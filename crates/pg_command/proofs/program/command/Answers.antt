@@ -27,10 +27,8 @@ returns-in-Ok-Search-clause-commands g c =
     subst
     (λ (a : Asks). Does (g.T.FileTree.tells c.args.tree.now) (g.T.FileTree.answers c.args.tree.now) a
     (g.S.Store.past c.args.files.now.store) (g.S.Store.past c.answer.new.files.store)
-    (record { taken = g.W.Sink.taken c.args.out.now; failures = g.W.Sink.failures c.args.out.now })
-    (record { taken = g.W.Sink.taken c.answer.new.out; failures = g.W.Sink.failures c.answer.new.out })
-    (record { taken = g.E.Sink.taken c.args.err.now; failures = g.E.Sink.failures c.args.err.now })
-    (record { taken = g.E.Sink.taken c.answer.new.err; failures = g.E.Sink.failures c.answer.new.err })
+    (g.W.Sink.stream c.args.out.now) (g.W.Sink.stream c.answer.new.out) (g.E.Sink.stream c.args.err.now)
+    (g.E.Sink.stream c.answer.new.err)
     c.answer.result)
     (sym asked_for) c.answer.ensures.answers
     )
@@ -45,12 +43,7 @@ returns-clause-commands g c =
     let asked_for : IsFault (asks (map string_bytes c.args.words.now)) fault =
     subst (λ (a : Asks). IsFault a fault) (ap asks_of c.in-Ok.ensures) given in
     refusal_told (g.T.FileTree.tells c.args.tree.now) (g.T.FileTree.answers c.args.tree.now)
-    (g.S.Store.past c.args.files.now.store)
-    (record { taken = g.W.Sink.taken c.args.out.now; failures = g.W.Sink.failures c.args.out.now })
-    (record { taken = g.E.Sink.taken c.args.err.now; failures = g.E.Sink.failures c.args.err.now })
-    (record {
-      taken = g.E.Sink.taken c.refuse-in-Err.new.err;
-      failures = g.E.Sink.failures c.refuse-in-Err.new.err;
-    })
+    (g.S.Store.past c.args.files.now.store) (g.W.Sink.stream c.args.out.now) (g.E.Sink.stream c.args.err.now)
+    (g.E.Sink.stream c.refuse-in-Err.new.err)
     c.refuse-in-Err.result fault (asks (map string_bytes c.args.words.now)) asked_for
     c.refuse-in-Err.ensures.told c.refuse-in-Err.ensures.fault

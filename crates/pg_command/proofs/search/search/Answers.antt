@@ -3,7 +3,8 @@ use Rattle.std.specs.String.{string_bytes}
 use Rattle.pg_syntax.specs.Slices.{bytes_of}
 use Rattle.pg_walk.specs.Scopes.{scope_of}
 use Rattle.pg_files.specs.Listed.{asked_for, files_past, sought}
-use Rattle.pg_run.specs.Outcome.{BreaksOff, IsSearchFor, Stream}
+use Rattle.pg_rows.specs.Sink.{Stream}
+use Rattle.pg_run.specs.Outcome.{BreaksOff, IsSearchFor}
 use Rattle.pg_command.specs.Asked.{asked_of, text_with}
 use Rattle.pg_command.specs.Answers.{Fails}
 use Rattle.pg_command.specs.Reading.{HasRead}
@@ -37,11 +38,10 @@ returns-in_err-run-clause-fault g c =
     let at = sought files.walk.walker.tree.now (map string_bytes files.walk.operands.items)
     (scope_of files.walk.walker.scope)
     files.spares_output (asked_for files.walk.asked.items) past' in
-    let out : Stream = record { taken = g.W.Sink.taken c.args.out.now; failures = g.W.Sink.failures c.args.out.now } in
-    let out' : Stream = record { taken = g.W.Sink.taken c.run.new.out; failures = g.W.Sink.failures c.run.new.out } in
-    let err : Stream = record { taken = g.E.Sink.taken c.args.err.now; failures = g.E.Sink.failures c.args.err.now } in
-    let err' : Stream =
-    record { taken = g.E.Sink.taken c.run.new.faults; failures = g.E.Sink.failures c.run.new.faults } in
+    let out : Stream = g.W.Sink.stream c.args.out.now in
+    let out' : Stream = g.W.Sink.stream c.run.new.out in
+    let err : Stream = g.E.Sink.stream c.args.err.now in
+    let err' : Stream = g.E.Sink.stream c.run.new.faults in
     let P : Fault → Type 0 = λ fault.
     Fails (tells tree) (answers tree) asked past past' out out' err err' fault in
     if_err P _ c.from_residual-in_err-run.result c.from_residual-in_err-run.ensures.1

@@ -13,9 +13,9 @@ loop-init g c = (
   tt,
   tt,
   (λ i. c.args.delivered.lists),
-  (λ i. g.W.Sink.failures c.args.out.now),
+  (λ i. (g.W.Sink.stream c.args.out.now).failures),
   λ past st n s. handing_none (g.S.Collector.stands c.args.collector.now) past c.args.delivered.out
-      (g.W.Sink.taken c.args.out.now) st s,
+      (g.W.Sink.stream c.args.out.now).taken st s,
 )
 
 pub loop-preserved : goal.loop-preserved
@@ -30,8 +30,8 @@ loop-preserved g c =
       λ past st n s.
           handing_more (g.S.Collector.stands c.loop.collector)
           (g.S.Collector.stands c.receive.new.collector) past c.args.delivered.out c.loop.delivered.out
-          c.next-in-loop.new.self.out c.in-Some-next.found (g.W.Sink.taken c.args.out.now)
-          (g.W.Sink.taken c.loop.out) (g.W.Sink.taken c.receive.new.out)
+          c.next-in-loop.new.self.out c.in-Some-next.found (g.W.Sink.stream c.args.out.now).taken
+          (g.W.Sink.stream c.loop.out).taken (g.W.Sink.stream c.receive.new.out).taken
           (i.4 past st n s) (ap (λ (v : DeliveredView Searched). v.out) gave) (λ p h m e. got.ok p h m) n,
     )
 
@@ -39,33 +39,34 @@ pub returns-in_err-receive-in-Some-next-clause-err :
     goal.returns-in_err-receive-in-Some-next-clause-err
 returns-in_err-receive-in-Some-next-clause-err g c = λ past st n s.
     let i = c.loop.invariant in
-    let b = g.W.Sink.taken c.args.out.now in let a = g.W.Sink.taken c.receive.new.out in
+    let b = (g.W.Sink.stream c.args.out.now).taken in let a = (g.W.Sink.stream c.receive.new.out).taken in
     let h = i.4 past st n s in
-    on_err (HasBroken past b a (g.W.Sink.failures c.args.out.now) (g.W.Sink.failures c.receive.new.out))
+    on_err (HasBroken past b a (g.W.Sink.stream c.args.out.now).failures (g.W.Sink.stream c.receive.new.out).failures)
     c.from_residual.result
-    (broken_more (g.S.Collector.stands c.loop.collector) past h.0 b (g.W.Sink.taken c.loop.out) a
-    (g.W.Sink.failures c.args.out.now) (g.W.Sink.failures c.loop.out) (g.W.Sink.failures c.receive.new.out)
+    (broken_more (g.S.Collector.stands c.loop.collector) past h.0 b (g.W.Sink.stream c.loop.out).taken a
+    (g.W.Sink.stream c.args.out.now).failures (g.W.Sink.stream c.loop.out).failures
+    (g.W.Sink.stream c.receive.new.out).failures
     h.2 i.3 (λ p k m e. c.in_err-receive-in-Some-next.ensures.err p k m) n)
 
 pub returns-in-None-next-clause-ok : goal.returns-in-None-next-clause-ok
 returns-in-None-next-clause-ok g c = λ past st n s.
     let i = c.loop.invariant in
-    let m = g.W.Sink.taken c.loop.out in let a = g.W.Sink.taken c.drain.new.out in
+    let m = (g.W.Sink.stream c.loop.out).taken in let a = (g.W.Sink.stream c.drain.new.out).taken in
     let merge : IsMerge c.args.delivered.lists c.loop.delivered.out =
     subst (λ (ls : List (List Searched)). IsMerge ls c.loop.delivered.out) i.2 c.in-None-next.ensures.none.1 in
     delivered_done (g.S.Collector.stands c.loop.collector)
     (g.S.Collector.stands c.drain.new.self) past c.args.delivered.lists c.args.delivered.out c.loop.delivered.out
-    c.drain.result (g.W.Sink.taken c.args.out.now) m a
+    c.drain.result (g.W.Sink.stream c.args.out.now).taken m a
     (i.4 past st n s) merge (λ p h no e. drain_ok (g.S.Collector.stands c.drain.new.self) p c.drain.result m a
     (c.drain.ensures.safe p h) (c.drain.ensures.drained p h)) n
 
 pub returns-in-None-next-clause-err : goal.returns-in-None-next-clause-err
 returns-in-None-next-clause-err g c = λ past st n s.
     let i = c.loop.invariant in
-    let b = g.W.Sink.taken c.args.out.now in let m = g.W.Sink.taken c.loop.out in let a =
-    g.W.Sink.taken c.drain.new.out in
-    let f = g.W.Sink.failures c.args.out.now in let f' = g.W.Sink.failures c.loop.out in let f'' =
-    g.W.Sink.failures c.drain.new.out in
+    let b = (g.W.Sink.stream c.args.out.now).taken in let m = (g.W.Sink.stream c.loop.out).taken in let a =
+    (g.W.Sink.stream c.drain.new.out).taken in
+    let f = (g.W.Sink.stream c.args.out.now).failures in let f' = (g.W.Sink.stream c.loop.out).failures in let f'' =
+    (g.W.Sink.stream c.drain.new.out).failures in
     let h = i.4 past st n s in
     broken_done (g.S.Collector.stands c.loop.collector) past h.0 c.drain.result b m a f f' f'' h.2 i.3
     (λ p k no e. drain_err (g.S.Collector.stands c.drain.new.self) p c.drain.result m a f' f'' no

@@ -8,7 +8,8 @@ abbrev pub invariant-loop : goal.invariant-loop
 invariant-loop g l =
     (goal.iterator-loop g).can_next l.iterator' × (goal.iterator-loop g).is_finite l.iterator'
     × (l.delivered.lists ≡ l.fn.delivered.lists)
-    × (g.W.Sink.failures l.out ≡ g.W.Sink.failures l.initial.out)
+    × ((g.W.Sink.stream l.out).failures ≡ (g.W.Sink.stream l.initial.out).failures)
     × ((past : Past) → g.S.Collector.stands l.initial.collector past → past.failed ≡ false → IsSafe past past.written →
-    Handing (g.S.Collector.stands l.collector) past l.fn.delivered.out l.delivered.out (g.W.Sink.taken l.initial.out)
-    (g.W.Sink.taken l.out))
+    Handing (g.S.Collector.stands l.collector) past l.fn.delivered.out l.delivered.out
+    (g.W.Sink.stream l.initial.out).taken
+    (g.W.Sink.stream l.out).taken)

@@ -9,7 +9,7 @@ use Rattle.pg_round.proofs.receiving.receive.Goals as goal
 pub returns-clause-ok : goal.returns-clause-ok
 returns-clause-ok g c = λ past st n.
     let stands = g.S.Collector.stands c.drain.new.self in
-    let b = g.W.Sink.taken c.args.out.now in let a = g.W.Sink.taken c.drain.new.out in
+    let b = (g.W.Sink.stream c.args.out.now).taken in let a = (g.W.Sink.stream c.drain.new.out).taken in
     let p = arrived past c.args.found in
     let h = subst (λ (r : Searched). g.S.Collector.stands c.arrive.new.self (arrived past r))
     (c.requires.sees c.args.found) (c.arrive.ensures.stands past st) in
@@ -23,8 +23,8 @@ returns-clause-err g c = λ past st n.
     let p = arrived past c.args.found in
     let h = subst (λ (r : Searched). g.S.Collector.stands c.arrive.new.self (arrived past r))
     (c.requires.sees c.args.found) (c.arrive.ensures.stands past st) in
-    drain_err stands p c.drain.result (g.W.Sink.taken c.args.out.now) (g.W.Sink.taken c.drain.new.out)
-    (g.W.Sink.failures c.args.out.now) (g.W.Sink.failures c.drain.new.out) n
+    drain_err stands p c.drain.result (g.W.Sink.stream c.args.out.now).taken (g.W.Sink.stream c.drain.new.out).taken
+    (g.W.Sink.stream c.args.out.now).failures (g.W.Sink.stream c.drain.new.out).failures n
     (c.drain.ensures.safe p h) c.drain.ensures.cause (c.drain.ensures.drained p h)
 
 pub returns-clause-calm : goal.returns-clause-calm

@@ -13,8 +13,8 @@ loop-init g c = record {
   failures = refl;
   got = λ past st n s.
       subst (λ (l : List Searched). HasReceived (g.S.Collector.stands c.args.collector.now) past l
-      (g.W.Sink.taken c.args.out.now) (g.W.Sink.taken c.args.out.now)) (sym c.requires.take.1)
-      (received_none (g.S.Collector.stands c.args.collector.now) past (g.W.Sink.taken c.args.out.now) st s);
+      (g.W.Sink.stream c.args.out.now).taken (g.W.Sink.stream c.args.out.now).taken) (sym c.requires.take.1)
+      (received_none (g.S.Collector.stands c.args.collector.now) past (g.W.Sink.stream c.args.out.now).taken st s);
   ready = c.requires.reader;
   read = λ r f h. h;
 }
@@ -31,10 +31,11 @@ loop-preserved-in-Some-take g c =
       failures = got.calm ∙ i.failures;
       got = λ past st n s.
           subst (λ (l : List Searched). HasReceived (g.S.Collector.stands c.receive.new.collector) past l
-          (g.W.Sink.taken c.args.out.now) (g.W.Sink.taken c.receive.new.out)) (sym took.some)
+          (g.W.Sink.stream c.args.out.now).taken (g.W.Sink.stream c.receive.new.out).taken) (sym took.some)
           (received_more (g.S.Collector.stands c.loop.collector)
           (g.S.Collector.stands c.receive.new.collector) past c.loop.take.taken (c.in-Some-take.found ∷ [])
-          (g.W.Sink.taken c.args.out.now) (g.W.Sink.taken c.loop.out) (g.W.Sink.taken c.receive.new.out)
+          (g.W.Sink.stream c.args.out.now).taken (g.W.Sink.stream c.loop.out).taken
+          (g.W.Sink.stream c.receive.new.out).taken
           (i.got past st n s) (λ p h m e. got.ok p h m) n);
       ready = i.ready;
       read = i.read;
@@ -50,7 +51,8 @@ loop-preserved g c =
       workers = took.tray.1 ∙ i.workers;
       failures = i.failures;
       got = λ past st n s. subst (λ (l : List Searched). HasReceived (g.S.Collector.stands c.loop.collector) past l
-          (g.W.Sink.taken c.args.out.now) (g.W.Sink.taken c.loop.out)) (sym took.none) (i.got past st n s);
+          (g.W.Sink.stream c.args.out.now).taken (g.W.Sink.stream c.loop.out).taken) (sym took.none)
+          (i.got past st n s);
       ready = c.read_on-looks.ensures.ready;
       read = λ r f h. c.read_on-looks.ensures.read r f (i.read r f h);
     }
@@ -62,7 +64,8 @@ returns-then-is_over g c =
     record {
       same = (took.tray.0, took.tray.1 ∙ i.workers);
       ok = λ past st n s. subst (λ (l : List Searched). HasReceived (g.S.Collector.stands c.loop.collector) past l
-          (g.W.Sink.taken c.args.out.now) (g.W.Sink.taken c.loop.out)) (sym took.none) (i.got past st n s);
+          (g.W.Sink.stream c.args.out.now).taken (g.W.Sink.stream c.loop.out).taken) (sym took.none)
+          (i.got past st n s);
       err = λ past st n s. tt;
       calm = i.failures;
       ready = i.ready;
@@ -74,13 +77,15 @@ returns-in_err-receive-in-Some-take g c =
     let p = err_from_is_err_and c.from_residual.result c.from_residual.ensures.1 in
     let i = c.loop.invariant in
     let took = c.in-Some-take.ensures in
-    let b = g.W.Sink.taken c.args.out.now in let a = g.W.Sink.taken c.receive.new.out in
+    let b = (g.W.Sink.stream c.args.out.now).taken in let a = (g.W.Sink.stream c.receive.new.out).taken in
     rw p.1 (record {
       same = (took.tray.0, took.tray.1 ∙ i.workers);
       ok = λ past st n s. tt;
       err = λ past st n s.
-          broken_more (g.S.Collector.stands c.loop.collector) past c.loop.take.taken b (g.W.Sink.taken c.loop.out) a
-          (g.W.Sink.failures c.args.out.now) (g.W.Sink.failures c.loop.out) (g.W.Sink.failures c.receive.new.out)
+          broken_more (g.S.Collector.stands c.loop.collector) past c.loop.take.taken b
+          (g.W.Sink.stream c.loop.out).taken a
+          (g.W.Sink.stream c.args.out.now).failures (g.W.Sink.stream c.loop.out).failures
+          (g.W.Sink.stream c.receive.new.out).failures
           (i.got past st n s) i.failures (λ p h m e. c.in_err-receive-in-Some-take.ensures.err p h m) n;
       calm = tt;
       ready = i.ready;

@@ -36,7 +36,8 @@ returns-in_err-search_rest g c =
       same = e.same;
       ok = λ past st n s. tt;
       err = λ past st n s. failed_after (g.S.Collector.stands c.search_beside.new.collector) past
-          c.search_beside.new.take.taken (g.W.Sink.taken c.args.out.now) (g.W.Sink.taken c.search_beside.new.out)
+          c.search_beside.new.take.taken (g.W.Sink.stream c.args.out.now).taken
+          (g.W.Sink.stream c.search_beside.new.out).taken
           (e.ok past st n s);
       cause = λ past st n s is. no_sink_fault is;
       calm = tt;

@@ -11,7 +11,7 @@ use Rattle.pg_round.proofs.searching.search_beside.Goals as goal
 pub returns-then-len-lt2 : goal.returns-then-len-lt2
 unfolding AreBack
 returns-then-len-lt2 g c =
-    let w = g.W.Sink.taken c.args.out.now in let stands = g.S.Collector.stands c.args.collector.now in
+    let w = (g.W.Sink.stream c.args.out.now).taken in let stands = g.S.Collector.stands c.args.collector.now in
     let t = task_of c.args.round in
     record {
       back = (refl, All-weaker (HasFinished t) (HasWorked t) (λ w h. h.0) c.args.workers.items c.requires.finished);
@@ -33,8 +33,8 @@ returns-in_err-taken g c =
     let e = c.stream-back.ensures in
     let stands = g.S.Collector.stands c.args.collector.now in
     let last = g.S.Collector.stands c.stream-back.new.collector in
-    let b = g.W.Sink.taken c.args.out.now in let a = g.W.Sink.taken c.stream-back.new.out in
-    let f = g.W.Sink.failures c.args.out.now in let f' = g.W.Sink.failures c.stream-back.new.out in
+    let b = (g.W.Sink.stream c.args.out.now).taken in let a = (g.W.Sink.stream c.stream-back.new.out).taken in
+    let f = (g.W.Sink.stream c.args.out.now).failures in let f' = (g.W.Sink.stream c.stream-back.new.out).failures in
     rw (p.1, p.2) (record {
       back = tt;
       same = e.same;
@@ -57,10 +57,11 @@ returns-clause-same g c = c.stream-back.ensures.same
 
 pub returns-clause-ok : goal.returns-clause-ok
 returns-clause-ok g c = λ past st n s.
-    let b = g.W.Sink.taken c.args.out.now in let a = g.W.Sink.taken c.stream-back.new.out in
+    let b = (g.W.Sink.stream c.args.out.now).taken in let a = (g.W.Sink.stream c.stream-back.new.out).taken in
     took_ok c.stream-back.result.1 c.in_ok-taken.field-0 (g.S.Collector.stands c.args.collector.now)
     (g.S.Collector.stands c.stream-back.new.collector) c.stream-back.new.take.taken b a
-    (g.W.Sink.failures c.args.out.now) (g.W.Sink.failures c.stream-back.new.out) c.stream-back.ensures.took
+    (g.W.Sink.stream c.args.out.now).failures (g.W.Sink.stream c.stream-back.new.out).failures
+    c.stream-back.ensures.took
     c.in_ok-taken.was past st n s
 
 pub returns-clause-err : goal.returns-clause-err

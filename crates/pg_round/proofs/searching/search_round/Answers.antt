@@ -48,7 +48,7 @@ returns-in_err-board g c =
     let p = err_from_is_err_and c.from_residual.result c.from_residual.ensures.1 in
     rw (p.1, p.2) (record {
       ok = λ past st n s. tt;
-      err = λ past st n s. failed_none past (g.W.Sink.taken c.args.out.now) s;
+      err = λ past st n s. failed_none past (g.W.Sink.stream c.args.out.now).taken s;
       cause = λ past st n s is. no_sink_fault is;
       calm = tt;
       memory = λ is. refl;
@@ -79,7 +79,8 @@ returns-in_err-delivered g c =
     rw (p.1, p.2) (record {
       ok = λ past st n s. tt;
       err = λ past st n s. failed_after (g.S.Collector.stands c.search_all.new.collector) past
-          c.search_all.new.take.taken (g.W.Sink.taken c.args.out.now) (g.W.Sink.taken c.search_all.new.out)
+          c.search_all.new.take.taken (g.W.Sink.stream c.args.out.now).taken
+          (g.W.Sink.stream c.search_all.new.out).taken
           (e.ok past st n s);
       cause = λ past st n s is. no_sink_fault is;
       calm = tt;
@@ -92,13 +93,13 @@ returns-in_err-delivered g c =
 pub returns-in_err-deliver : goal.returns-in_err-deliver
 returns-in_err-deliver g c =
     let p = err_from_is_err_and c.from_residual-in_err-deliver.result c.from_residual-in_err-deliver.ensures.1 in
-    let b = g.W.Sink.taken c.args.out.now in let m = g.W.Sink.taken c.search_all.new.out in let a =
-    g.W.Sink.taken c.deliver.new.out in
+    let b = (g.W.Sink.stream c.args.out.now).taken in let m = (g.W.Sink.stream c.search_all.new.out).taken in let a =
+    (g.W.Sink.stream c.deliver.new.out).taken in
     let e = c.in_ok-workers.ensures in
     let mid = g.S.Collector.stands c.search_all.new.collector in let taken = c.search_all.new.take.taken in
-    let f = g.W.Sink.failures c.args.out.now in
-    let f' = g.W.Sink.failures c.search_all.new.out in
-    let f'' = g.W.Sink.failures c.deliver.new.out in
+    let f = (g.W.Sink.stream c.args.out.now).failures in
+    let f' = (g.W.Sink.stream c.search_all.new.out).failures in
+    let f'' = (g.W.Sink.stream c.deliver.new.out).failures in
     rw (p.1, p.2) (record {
       ok = λ past st n s. tt;
       err = λ past st n s. (broken_more mid past taken b m a f f' f'' (e.ok past st n s) e.calm
@@ -114,8 +115,8 @@ returns-in_err-deliver g c =
 
 pub returns : goal.returns
 returns g c =
-    let b = g.W.Sink.taken c.args.out.now in let m = g.W.Sink.taken c.search_all.new.out in let a =
-    g.W.Sink.taken c.deliver.new.out in
+    let b = (g.W.Sink.stream c.args.out.now).taken in let m = (g.W.Sink.stream c.search_all.new.out).taken in let a =
+    (g.W.Sink.stream c.deliver.new.out).taken in
     let mid = g.S.Collector.stands c.search_all.new.collector in let last =
     g.S.Collector.stands c.deliver.new.collector in
     let left = c.in_ok-delivered.delivered in

@@ -1,23 +1,13 @@
-use Rattle.std.proofs.Common.{◌≡◌, ◌++◌, List, ℕ, OnOk, OnErr, subst}
-use Rattle.pg_lines.specs.Lines.{lines}
-use Rattle.pg_rows.specs.Sink.{TakesPart}
+use Rattle.pg_lines.specs.Lines.{lines, terminated}
+use Rattle.pg_rows.specs.Stretch.{marked_rows}
 use Rattle.pg_rows.proofs.RowLemmas.{marked_plain}
+use Rattle.pg_rows.proofs.WriteLemmas.{writes_as}
 use Rattle.pg_rows.proofs.rows.write_lines.Goals as goal
 
-pub returns-else-has_prefix-clause-all : goal.returns-else-has_prefix-clause-all
-returns-else-has_prefix-clause-all g c =
+pub returns-else-has_prefix-clause-writes : goal.returns-else-has_prefix-clause-writes
+returns-else-has_prefix-clause-writes g c =
     let a = c.args in
-    let rows = marked_plain a.format.now a.end a.prefix.now a.mark a.number (lines a.end a.text.now) c.has_prefix.result
-    c.has_prefix.ensures c.if-has_prefix.false in
-    let P : List ℕ → Type 0 = λ xs. OnOk c.write_bare_lines.result
-    (g.W.Sink.taken c.write_bare_lines.new.out ≡ g.W.Sink.taken a.out.now ++ xs) in
-    subst P rows c.write_bare_lines.ensures.all
-
-pub returns-else-has_prefix-clause-part : goal.returns-else-has_prefix-clause-part
-returns-else-has_prefix-clause-part g c =
-    let a = c.args in
-    let rows = marked_plain a.format.now a.end a.prefix.now a.mark a.number (lines a.end a.text.now) c.has_prefix.result
-    c.has_prefix.ensures c.if-has_prefix.false in
-    let P : List ℕ → Type 0 = λ xs. OnErr c.write_bare_lines.result
-    (TakesPart xs (g.W.Sink.taken a.out.now) (g.W.Sink.taken c.write_bare_lines.new.out)) in
-    subst P rows c.write_bare_lines.ensures.part
+    let ls = lines a.end a.text.now in
+    writes_as (terminated a.end ls) (marked_rows a.format.now a.end a.prefix.now a.mark a.number ls) _ _ _
+    (marked_plain a.format.now a.end a.prefix.now a.mark a.number ls c.has_prefix.result c.has_prefix.ensures
+    c.if-has_prefix.false) c.write_bare_lines.ensures

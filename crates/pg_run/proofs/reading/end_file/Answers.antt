@@ -1,9 +1,8 @@
 use Rattle.std.proofs.Common.{◌∷◌, refl}
 use Rattle.std.proofs.lemmas.Result.{IfOk-from_err}
 use Rattle.pg_seq.specs.Plan.{Ends}
-use Rattle.pg_run.specs.Holding.{stream}
 use Rattle.pg_run.specs.Reading.{Breaks}
-use Rattle.pg_run.proofs.HoldLemmas.{err_by, ok_of_err}
+use Rattle.pg_run.proofs.HoldLemmas.{fails_by}
 use Rattle.pg_run.proofs.ReadingLemmas.{file_ended, ended_breaks}
 use Rattle.pg_run.proofs.reading.end_file.Goals as goal
 
@@ -23,44 +22,33 @@ flush_ended-requires-clause-holds g c κs within =
 pub returns-in_err-flush_ended-clause-failed : goal.returns-in_err-flush_ended-clause-failed
 returns-in_err-flush_ended-clause-failed g c = IfOk-from_err c.from_residual.result _ c.from_residual.ensures.0
 
-pub returns-in_err-flush_ended-clause-ok : goal.returns-in_err-flush_ended-clause-ok
-returns-in_err-flush_ended-clause-ok g c = λ aim given k.
-    ok_of_err c.from_residual.result _ c.from_residual.ensures.0
-
-pub returns-in_err-flush_ended-clause-err : goal.returns-in_err-flush_ended-clause-err
-returns-in_err-flush_ended-clause-err g c = λ aim given k.
-    let out' = stream (g.W.Sink.taken c.flush_ended.new.out) (g.W.Sink.failures c.flush_ended.new.out) in
+pub returns-in_err-flush_ended-clause-outcome : goal.returns-in_err-flush_ended-clause-outcome
+returns-in_err-flush_ended-clause-outcome g c = λ aim given k.
+    let out' = g.W.Sink.stream c.flush_ended.new.out in
     let fault = c.in_err-flush_ended.field-0.0 in
     let ended = c.end.ensures aim k.steps _ (k.holds, (k.running, tt)) in
-    err_by c.from_residual.result (Breaks aim given out') fault c.from_residual.ensures.1
-    (ended_breaks c.args.failed k out' fault (c.in_err-flush_ended.ensures.err aim _ ended))
+    fails_by c.from_residual.result _ (Breaks aim given out') fault c.from_residual.ensures.1
+    (ended_breaks c.args.failed k out' fault (c.in_err-flush_ended.ensures aim _ ended))
 
 pub returns-in_err-send_on-clause-failed : goal.returns-in_err-send_on-clause-failed
 returns-in_err-send_on-clause-failed g c =
     IfOk-from_err c.from_residual-in_err-send_on.result _ c.from_residual-in_err-send_on.ensures.0
 
-pub returns-in_err-send_on-clause-ok : goal.returns-in_err-send_on-clause-ok
-returns-in_err-send_on-clause-ok g c = λ aim given k.
-    ok_of_err c.from_residual-in_err-send_on.result _ c.from_residual-in_err-send_on.ensures.0
-
-pub returns-in_err-send_on-clause-err : goal.returns-in_err-send_on-clause-err
-returns-in_err-send_on-clause-err g c = λ aim given k.
-    let out' = stream (g.W.Sink.taken c.send_on.new.out) (g.W.Sink.failures c.send_on.new.out) in
+pub returns-in_err-send_on-clause-outcome : goal.returns-in_err-send_on-clause-outcome
+returns-in_err-send_on-clause-outcome g c = λ aim given k.
+    let out' = g.W.Sink.stream c.send_on.new.out in
     let fault = c.in_err-send_on.field-0.0 in
     let ended = c.end.ensures aim k.steps _ (k.holds, (k.running, tt)) in
-    err_by c.from_residual-in_err-send_on.result (Breaks aim given out') fault
+    fails_by c.from_residual-in_err-send_on.result _ (Breaks aim given out') fault
     c.from_residual-in_err-send_on.ensures.1
     (ended_breaks c.args.failed k out' fault
-    (c.in_err-send_on.ensures.err aim _ (c.in_ok-flush_ended.ensures.ok aim _ ended)))
+    (c.in_err-send_on.ensures aim _ (c.in_ok-flush_ended.ensures aim _ ended)))
 
 pub returns-clause-failed : goal.returns-clause-failed
 returns-clause-failed g c = refl
 
-pub returns-clause-ok : goal.returns-clause-ok
-returns-clause-ok g c = λ aim given k.
+pub returns-clause-outcome : goal.returns-clause-outcome
+returns-clause-outcome g c = λ aim given k.
     let ended = c.end.ensures aim k.steps _ (k.holds, (k.running, tt)) in
     file_ended c.args.failed k c.flush_ended.new.self _
-    (c.in_ok-send_on.ensures.ok aim _ (c.in_ok-flush_ended.ensures.ok aim _ ended))
-
-pub returns-clause-err : goal.returns-clause-err
-returns-clause-err g c = λ aim given k. tt
+    (c.in_ok-send_on.ensures aim _ (c.in_ok-flush_ended.ensures aim _ ended))

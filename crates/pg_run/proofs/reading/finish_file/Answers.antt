@@ -1,7 +1,6 @@
 use Rattle.std.proofs.lemmas.Result.{IfOk-from_err}
-use Rattle.pg_run.specs.Holding.{stream}
 use Rattle.pg_run.specs.Reading.{Breaks}
-use Rattle.pg_run.proofs.HoldLemmas.{err_by, ok_of_err}
+use Rattle.pg_run.proofs.HoldLemmas.{fails_by}
 use Rattle.pg_run.proofs.reading.finish_file.Goals as goal
 
 pub search_last-requires-clause-ended : goal.search_last-requires-clause-ended
@@ -16,28 +15,20 @@ search_last-requires-clause-in_file g c κs within = c.requires.in_file
 pub returns-in_err-search_last-clause-failed : goal.returns-in_err-search_last-clause-failed
 returns-in_err-search_last-clause-failed g c = IfOk-from_err c.from_residual.result _ c.from_residual.ensures.0
 
-pub returns-in_err-search_last-clause-ok : goal.returns-in_err-search_last-clause-ok
-returns-in_err-search_last-clause-ok g c = λ aim given h.
-    ok_of_err c.from_residual.result _ c.from_residual.ensures.0
-
-pub returns-in_err-search_last-clause-err : goal.returns-in_err-search_last-clause-err
-returns-in_err-search_last-clause-err g c = λ aim given h.
-    let out' = stream (g.W.Sink.taken c.search_last.new.out) (g.W.Sink.failures c.search_last.new.out) in
-    err_by c.from_residual.result (Breaks aim given out') c.in_err-search_last.field-0.0 c.from_residual.ensures.1
-    (c.in_err-search_last.ensures.err aim given h)
+pub returns-in_err-search_last-clause-outcome : goal.returns-in_err-search_last-clause-outcome
+returns-in_err-search_last-clause-outcome g c = λ aim given h.
+    let out' = g.W.Sink.stream c.search_last.new.out in
+    fails_by c.from_residual.result _ (Breaks aim given out') c.in_err-search_last.field-0.0 c.from_residual.ensures.1
+    (c.in_err-search_last.ensures aim given h)
 
 pub end_file-requires-clause-may_end : goal.end_file-requires-clause-may_end
 end_file-requires-clause-may_end g c κs within =
     let r = c.requires.in_file in
-    (r.0, r.1, c.in_ok-search_last.ensures.ok r.0 r.1 r.3)
+    (r.0, r.1, c.in_ok-search_last.ensures r.0 r.1 r.3)
 
 pub returns-clause-failed : goal.returns-clause-failed
 returns-clause-failed g c = c.end_file.ensures.failed
 
-pub returns-clause-ok : goal.returns-clause-ok
-returns-clause-ok g c = λ aim given h.
-    c.end_file.ensures.ok aim given (c.in_ok-search_last.ensures.ok aim given h)
-
-pub returns-clause-err : goal.returns-clause-err
-returns-clause-err g c = λ aim given h.
-    c.end_file.ensures.err aim given (c.in_ok-search_last.ensures.ok aim given h)
+pub returns-clause-outcome : goal.returns-clause-outcome
+returns-clause-outcome g c = λ aim given h.
+    c.end_file.ensures.outcome aim given (c.in_ok-search_last.ensures aim given h)

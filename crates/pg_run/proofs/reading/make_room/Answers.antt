@@ -1,6 +1,6 @@
+use Rattle.std.proofs.lemmas.Result.{MatchResult-weaker}
 use Rattle.std.proofs.Common.{ap, length, arith, refl}
 use Rattle.pg_rows.proofs.SinkLemmas.{on_ok}
-use Rattle.pg_run.proofs.HoldLemmas.{if_err_too}
 use Rattle.pg_run.proofs.ReadingLemmas.{recut, nothing_read, rest_breaks}
 use Rattle.pg_run.proofs.reading.make_room.Goals as goal
 
@@ -24,19 +24,12 @@ returns-clause-room g c =
     (λ e spread. omega (arith, ap length e, c.search_round.new.self.setup.round_in_range.0))
     c.search_round.ensures.none
 
-pub returns-clause-ok : goal.returns-clause-ok
-returns-clause-ok g c = λ aim h.
+pub returns-clause-outcome : goal.returns-clause-outcome
+returns-clause-outcome g c = λ aim h.
     let on = c.search_round.ensures.read _ _ nothing_read in
-    on_ok c.search_round.result _ _
-    (λ k. record { steps = h.steps; holds = k.0; cuts = on.cuts aim h.steps (recut h.cuts _ refl refl) })
-    (c.search_round.ensures.ok aim h.steps h.holds)
-
-pub returns-clause-err : goal.returns-clause-err
-returns-clause-err g c = λ aim h.
-    let on = c.search_round.ensures.read _ _ nothing_read in
-    if_err_too c.search_round.result _ _
-    (λ fault k. rest_breaks h _ _ _ fault (on.cuts aim h.steps (recut h.cuts _ refl refl)) k)
-    (c.search_round.ensures.err aim h.steps h.holds)
+    let cuts = on.cuts aim h.steps (recut h.cuts _ refl refl) in
+    MatchResult-weaker c.search_round.result (c.search_round.ensures.outcome aim h.steps h.holds)
+    (λ _ k. record { steps = h.steps; holds = k.0; cuts = cuts }) (λ fault k. rest_breaks h _ _ _ fault cuts k)
 
 pub returns-then-not-is_full-clause-done : goal.returns-then-not-is_full-clause-done
 returns-then-not-is_full-clause-done g c = refl
@@ -47,5 +40,5 @@ returns-then-not-is_full-clause-before g c = refl
 pub returns-then-not-is_full-clause-same_list : goal.returns-then-not-is_full-clause-same_list
 returns-then-not-is_full-clause-same_list g c = refl
 
-pub returns-then-not-is_full-clause-ok : goal.returns-then-not-is_full-clause-ok
-returns-then-not-is_full-clause-ok g c = λ aim h. h
+pub returns-then-not-is_full-clause-outcome : goal.returns-then-not-is_full-clause-outcome
+returns-then-not-is_full-clause-outcome g c = λ aim h. h

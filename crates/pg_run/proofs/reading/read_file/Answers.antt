@@ -4,9 +4,8 @@ use Rattle.pg_walk.specs.declared.item.Cause.TheVariants.{ReadFailed}
 use Rattle.pg_rows.specs.Output.{is_failed, when}
 use Rattle.pg_files.specs.Given.{newest_name}
 use Rattle.pg_run.specs.Told.{faults_of, fault_line}
-use Rattle.pg_run.specs.Holding.{stream}
 use Rattle.pg_run.specs.Reading.{Breaks, ending_after}
-use Rattle.pg_run.proofs.HoldLemmas.{err_by, ok_of_err}
+use Rattle.pg_run.proofs.HoldLemmas.{fails_by}
 use Rattle.pg_run.proofs.ReadingLemmas.{may_leave, ok_by, told_more, refused_last}
 use Rattle.pg_run.proofs.reading.read_file.Goals as goal
 
@@ -22,7 +21,7 @@ returns-then-enough-clause-same_list g c = c.loop.invariant.same_list
 pub end_file-requires-clause-may_end : goal.end_file-requires-clause-may_end
 end_file-requires-clause-may_end g c κs within =
     let r = c.requires.in_file in
-    let h = c.in_ok-settle.ensures.ok r.0 _ (c.loop.invariant.reads r.0 r.1) in (
+    let h = c.in_ok-settle.ensures.outcome r.0 _ (c.loop.invariant.reads r.0 r.1) in (
       r.0,
       (g.F.Files.past c.loop.files).given,
       may_leave h (c.in_ok-settle.ensures.came ∙ c.loop.invariant.more)
@@ -32,7 +31,7 @@ end_file-requires-clause-may_end g c κs within =
 pub returns-then-enough-clause-told : goal.returns-then-enough-clause-told
 returns-then-enough-clause-told g c =
     let r = c.requires.in_file in
-    let h = c.in_ok-settle.ensures.ok r.0 _ (c.loop.invariant.reads r.0 r.1) in
+    let h = c.in_ok-settle.ensures.outcome r.0 _ (c.loop.invariant.reads r.0 r.1) in
     let given = (g.F.Files.past c.args.files.now).given in
     let given' = (g.F.Files.past c.loop.files).given in
     let P : Bool → Type 0 =
@@ -42,17 +41,10 @@ returns-then-enough-clause-told g c =
     (ap (λ x. is_failed (ending_after x)) (c.in_ok-settle.ensures.came ∙ c.loop.invariant.more))
     c.loop.invariant.before)
 
-pub returns-then-enough-clause-ok : goal.returns-then-enough-clause-ok
-returns-then-enough-clause-ok g c = λ aim start.
-    let h = c.in_ok-settle.ensures.ok aim _ (c.loop.invariant.reads aim start) in
-    c.end_file.ensures.ok aim _
-    (may_leave h (c.in_ok-settle.ensures.came ∙ c.loop.invariant.more)
-    (sym (c.enough.ensures aim h.steps _ h.holds) ∙ c.if-enough.true))
-
-pub returns-then-enough-clause-err : goal.returns-then-enough-clause-err
-returns-then-enough-clause-err g c = λ aim start.
-    let h = c.in_ok-settle.ensures.ok aim _ (c.loop.invariant.reads aim start) in
-    c.end_file.ensures.err aim _
+pub returns-then-enough-clause-outcome : goal.returns-then-enough-clause-outcome
+returns-then-enough-clause-outcome g c = λ aim start.
+    let h = c.in_ok-settle.ensures.outcome aim _ (c.loop.invariant.reads aim start) in
+    c.end_file.ensures.outcome aim _
     (may_leave h (c.in_ok-settle.ensures.came ∙ c.loop.invariant.more)
     (sym (c.enough.ensures aim h.steps _ h.holds) ∙ c.if-enough.true))
 
@@ -62,7 +54,7 @@ read_once-requires-clause-more g c κs within = c.in_ok-settle.ensures.came ∙ 
 pub read_once-requires-clause-in_file : goal.read_once-requires-clause-in_file
 read_once-requires-clause-in_file g c κs within =
     let r = c.requires.in_file in
-    (r.0, c.in_ok-settle.ensures.ok r.0 _ (c.loop.invariant.reads r.0 r.1))
+    (r.0, c.in_ok-settle.ensures.outcome r.0 _ (c.loop.invariant.reads r.0 r.1))
 
 pub returns-in_err-read_once-clause-done : goal.returns-in_err-read_once-clause-done
 returns-in_err-read_once-clause-done g c = c.in_err-read_once.ensures.done ∙ c.loop.invariant.done
@@ -77,16 +69,12 @@ pub returns-in_err-read_once-clause-told : goal.returns-in_err-read_once-clause-
 returns-in_err-read_once-clause-told g c =
     IfOk-from_err c.from_residual-in_err-read_once.result _ c.from_residual-in_err-read_once.ensures.0
 
-pub returns-in_err-read_once-clause-ok : goal.returns-in_err-read_once-clause-ok
-returns-in_err-read_once-clause-ok g c = λ aim start.
-    ok_of_err c.from_residual-in_err-read_once.result _ c.from_residual-in_err-read_once.ensures.0
-
-pub returns-in_err-read_once-clause-err : goal.returns-in_err-read_once-clause-err
-returns-in_err-read_once-clause-err g c = λ aim start.
-    let out' = stream (g.W.Sink.taken c.read_once.new.out) (g.W.Sink.failures c.read_once.new.out) in
-    err_by c.from_residual-in_err-read_once.result (Breaks aim (g.F.Files.past c.read_once.new.files).given out')
+pub returns-in_err-read_once-clause-outcome : goal.returns-in_err-read_once-clause-outcome
+returns-in_err-read_once-clause-outcome g c = λ aim start.
+    let out' = g.W.Sink.stream c.read_once.new.out in
+    fails_by c.from_residual-in_err-read_once.result _ (Breaks aim (g.F.Files.past c.read_once.new.files).given out')
     c.in_err-read_once.field-0.0 c.from_residual-in_err-read_once.ensures.1
-    (c.in_err-read_once.ensures.err aim (c.in_ok-settle.ensures.ok aim _ (c.loop.invariant.reads aim start)))
+    (c.in_err-read_once.ensures.outcome aim (c.in_ok-settle.ensures.outcome aim _ (c.loop.invariant.reads aim start)))
 
 pub loop-preserved : goal.loop-preserved
 loop-preserved g c =
@@ -100,7 +88,7 @@ loop-preserved g c =
       done = ok.done ∙ i.done;
       before = ok.before ∙ i.before;
       same_list = ok.same_list ∙ i.same_list;
-      reads = λ aim start. ok.ok aim (c.in_ok-settle.ensures.ok aim _ (c.loop.invariant.reads aim start));
+      reads = λ aim start. ok.outcome aim (c.in_ok-settle.ensures.outcome aim _ (c.loop.invariant.reads aim start));
     }
 
 pub finish_file-requires-clause-in_file : goal.finish_file-requires-clause-in_file
@@ -110,8 +98,8 @@ finish_file-requires-clause-in_file g c κs within =
       r.0,
       (g.F.Files.past c.read_once.new.files).given,
       ok.drained,
-      ok.ok r.0
-          (c.in_ok-settle.ensures.ok r.0 _ (c.loop.invariant.reads r.0 r.1)),
+      ok.outcome r.0
+          (c.in_ok-settle.ensures.outcome r.0 _ (c.loop.invariant.reads r.0 r.1)),
     )
 
 pub finish_file-requires-clause-room : goal.finish_file-requires-clause-room
@@ -138,19 +126,14 @@ returns-in-End-clause-told g c =
     let P : Bool → Type 0 =
     λ failed. faults_of given' ≡ faults_of given ++ when failed (fault_line (newest_name given') ReadFailed) in
     ok_by c.finish_file.result P false c.finish_file.ensures.failed
-    (told_more r.1.cuts (ok.ok r.0
-    (c.in_ok-settle.ensures.ok r.0 _ (c.loop.invariant.reads r.0 r.1))).cuts false c.requires.more
+    (told_more r.1.cuts (ok.outcome r.0
+    (c.in_ok-settle.ensures.outcome r.0 _ (c.loop.invariant.reads r.0 r.1))).cuts false c.requires.more
     (ap (λ x. is_failed (ending_after x)) c.in-End.is) (ok.before ∙ c.loop.invariant.before))
 
-pub returns-in-End-clause-ok : goal.returns-in-End-clause-ok
-returns-in-End-clause-ok g c = λ aim start.
-    c.finish_file.ensures.ok aim (g.F.Files.past c.read_once.new.files).given
-    (c.in_ok-read_once.ensures.ok aim (c.in_ok-settle.ensures.ok aim _ (c.loop.invariant.reads aim start)))
-
-pub returns-in-End-clause-err : goal.returns-in-End-clause-err
-returns-in-End-clause-err g c = λ aim start.
-    c.finish_file.ensures.err aim (g.F.Files.past c.read_once.new.files).given
-    (c.in_ok-read_once.ensures.ok aim (c.in_ok-settle.ensures.ok aim _ (c.loop.invariant.reads aim start)))
+pub returns-in-End-clause-outcome : goal.returns-in-End-clause-outcome
+returns-in-End-clause-outcome g c = λ aim start.
+    c.finish_file.ensures.outcome aim (g.F.Files.past c.read_once.new.files).given
+    (c.in_ok-read_once.ensures.outcome aim (c.in_ok-settle.ensures.outcome aim _ (c.loop.invariant.reads aim start)))
 
 pub finish_file-requires-in-Failure-clause-in_file : goal.finish_file-requires-in-Failure-clause-in_file
 finish_file-requires-in-Failure-clause-in_file g c κs within =
@@ -159,8 +142,8 @@ finish_file-requires-in-Failure-clause-in_file g c κs within =
       r.0,
       (g.F.Files.past c.read_once.new.files).given,
       ok.drained,
-      ok.ok r.0
-          (c.in_ok-settle.ensures.ok r.0 _ (c.loop.invariant.reads r.0 r.1)),
+      ok.outcome r.0
+          (c.in_ok-settle.ensures.outcome r.0 _ (c.loop.invariant.reads r.0 r.1)),
     )
 
 pub finish_file-requires-in-Failure-clause-room : goal.finish_file-requires-in-Failure-clause-room
@@ -187,24 +170,20 @@ returns-in-Failure-clause-told g c =
     let P : Bool → Type 0 =
     λ failed. faults_of given' ≡ faults_of given ++ when failed (fault_line (newest_name given') ReadFailed) in
     ok_by c.finish_file-in-Failure.result P true c.finish_file-in-Failure.ensures.failed
-    (told_more r.1.cuts (ok.ok r.0
-    (c.in_ok-settle.ensures.ok r.0 _ (c.loop.invariant.reads r.0 r.1))).cuts true c.requires.more
+    (told_more r.1.cuts (ok.outcome r.0
+    (c.in_ok-settle.ensures.outcome r.0 _ (c.loop.invariant.reads r.0 r.1))).cuts true c.requires.more
     (ap (λ x. is_failed (ending_after x)) c.in-Failure.is) (ok.before ∙ c.loop.invariant.before))
 
-pub returns-in-Failure-clause-ok : goal.returns-in-Failure-clause-ok
-returns-in-Failure-clause-ok g c = λ aim start.
-    c.finish_file-in-Failure.ensures.ok aim (g.F.Files.past c.read_once.new.files).given
-    (c.in_ok-read_once.ensures.ok aim (c.in_ok-settle.ensures.ok aim _ (c.loop.invariant.reads aim start)))
-
-pub returns-in-Failure-clause-err : goal.returns-in-Failure-clause-err
-returns-in-Failure-clause-err g c = λ aim start.
-    c.finish_file-in-Failure.ensures.err aim (g.F.Files.past c.read_once.new.files).given
-    (c.in_ok-read_once.ensures.ok aim (c.in_ok-settle.ensures.ok aim _ (c.loop.invariant.reads aim start)))
+pub returns-in-Failure-clause-outcome : goal.returns-in-Failure-clause-outcome
+returns-in-Failure-clause-outcome g c = λ aim start.
+    c.finish_file-in-Failure.ensures.outcome aim (g.F.Files.past c.read_once.new.files).given
+    (c.in_ok-read_once.ensures.outcome aim (c.in_ok-settle.ensures.outcome aim _ (c.loop.invariant.reads aim start)))
 
 pub break_off-requires-clause-holds : goal.break_off-requires-clause-holds
 break_off-requires-clause-holds g c κs within =
     let r = c.requires.in_file in
-    let h = c.in_ok-read_once.ensures.ok r.0 (c.in_ok-settle.ensures.ok r.0 _ (c.loop.invariant.reads r.0 r.1)) in
+    let h = c.in_ok-read_once.ensures.outcome r.0
+    (c.in_ok-settle.ensures.outcome r.0 _ (c.loop.invariant.reads r.0 r.1)) in
     (r.0, h.steps, h.holds)
 
 pub returns-in-Refused-clause-done : goal.returns-in-Refused-clause-done
@@ -219,13 +198,11 @@ returns-in-Refused-clause-same_list g c = c.in_ok-read_once.ensures.same_list �
 pub returns-in-Refused-clause-told : goal.returns-in-Refused-clause-told
 returns-in-Refused-clause-told g c = tt
 
-pub returns-in-Refused-clause-ok : goal.returns-in-Refused-clause-ok
-returns-in-Refused-clause-ok g c = λ aim start. tt
-
-pub returns-in-Refused-clause-err : goal.returns-in-Refused-clause-err
-returns-in-Refused-clause-err g c = λ aim start.
-    let h = c.in_ok-read_once.ensures.ok aim (c.in_ok-settle.ensures.ok aim _ (c.loop.invariant.reads aim start)) in
-    let out' = stream (g.W.Sink.taken c.break_off.new.out) (g.W.Sink.failures c.break_off.new.out) in
+pub returns-in-Refused-clause-outcome : goal.returns-in-Refused-clause-outcome
+returns-in-Refused-clause-outcome g c = λ aim start.
+    let h = c.in_ok-read_once.ensures.outcome aim
+    (c.in_ok-settle.ensures.outcome aim _ (c.loop.invariant.reads aim start)) in
+    let out' = g.W.Sink.stream c.break_off.new.out in
     refused_last h out' c.in-Refused.fault c.from-fault.result c.break_off.result c.in-Refused.is c.from-fault.ensures
     (c.break_off.ensures aim h.steps h.holds)
 
@@ -249,11 +226,8 @@ returns-in_err-settle-clause-same_list g c = c.loop.invariant.same_list
 pub returns-in_err-settle-clause-told : goal.returns-in_err-settle-clause-told
 returns-in_err-settle-clause-told g c = IfOk-from_err c.from_residual.result _ c.from_residual.ensures.0
 
-pub returns-in_err-settle-clause-ok : goal.returns-in_err-settle-clause-ok
-returns-in_err-settle-clause-ok g c = λ aim start. ok_of_err c.from_residual.result _ c.from_residual.ensures.0
-
-pub returns-in_err-settle-clause-err : goal.returns-in_err-settle-clause-err
-returns-in_err-settle-clause-err g c = λ aim start.
-    let out' = stream (g.W.Sink.taken c.settle.new.out) (g.W.Sink.failures c.settle.new.out) in
-    err_by c.from_residual.result (Breaks aim _ out') c.in_err-settle.field-0.0 c.from_residual.ensures.1
-    (c.in_err-settle.ensures.err aim _ (c.loop.invariant.reads aim start))
+pub returns-in_err-settle-clause-outcome : goal.returns-in_err-settle-clause-outcome
+returns-in_err-settle-clause-outcome g c = λ aim start.
+    let out' = g.W.Sink.stream c.settle.new.out in
+    fails_by c.from_residual.result _ (Breaks aim _ out') c.in_err-settle.field-0.0 c.from_residual.ensures.1
+    (c.in_err-settle.ensures.outcome aim _ (c.loop.invariant.reads aim start))

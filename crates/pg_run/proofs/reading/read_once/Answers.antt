@@ -1,7 +1,6 @@
 use Rattle.std.proofs.Common.{◌∙◌}
-use Rattle.pg_run.specs.Holding.{stream}
 use Rattle.pg_run.specs.Reading.{Breaks}
-use Rattle.pg_run.proofs.HoldLemmas.{err_by, ok_of_err}
+use Rattle.pg_run.proofs.HoldLemmas.{ok_of_err, fails_by}
 use Rattle.pg_run.proofs.ReadingLemmas.{read_on}
 use Rattle.pg_run.proofs.reading.read_once.Goals as goal
 
@@ -9,7 +8,7 @@ pub read-requires-clause-cut : goal.read-requires-clause-cut
 read-requires-clause-cut g c =
     let r = c.requires.in_file in
     let given = (g.F.Files.past c.args.files.now).given in
-    let out = stream (g.W.Sink.taken c.args.out.now) (g.W.Sink.failures c.args.out.now) in
+    let out = g.W.Sink.stream c.args.out.now in
     let h = c.recycle.ensures.in_file r.0 given out r.1 in
     (r.0, h.steps, h.cuts)
 
@@ -17,26 +16,26 @@ pub search_ready-requires-clause-in_file : goal.search_ready-requires-clause-in_
 search_ready-requires-clause-in_file g c κs within =
     let r = c.requires.in_file in
     let given = (g.F.Files.past c.args.files.now).given in
-    let out = stream (g.W.Sink.taken c.args.out.now) (g.W.Sink.failures c.args.out.now) in
+    let out = g.W.Sink.stream c.args.out.now in
     (r.0, read_on (c.recycle.ensures.in_file r.0 given out r.1) c.read.ensures)
 
-pub returns-in_err-search_ready-clause-err : goal.returns-in_err-search_ready-clause-err
-returns-in_err-search_ready-clause-err g c = λ aim start.
-    let out' = stream (g.W.Sink.taken c.search_ready.new.out) (g.W.Sink.failures c.search_ready.new.out) in
+pub returns-in_err-search_ready-clause-outcome : goal.returns-in_err-search_ready-clause-outcome
+returns-in_err-search_ready-clause-outcome g c = λ aim start.
+    let out' = g.W.Sink.stream c.search_ready.new.out in
     let given = (g.F.Files.past c.args.files.now).given in
-    let out = stream (g.W.Sink.taken c.args.out.now) (g.W.Sink.failures c.args.out.now) in
+    let out = g.W.Sink.stream c.args.out.now in
     let h = c.recycle.ensures.in_file aim given out start in
-    err_by c.from_residual.result
+    fails_by c.from_residual.result _
     (Breaks aim (g.F.Files.past c.search_ready.new.files).given out') c.in_err-search_ready.field-0.0
     c.from_residual.ensures.1
-    (c.in_err-search_ready.ensures.err aim (read_on h c.read.ensures))
+    (c.in_err-search_ready.ensures.outcome aim (read_on h c.read.ensures))
 
-pub returns-clause-ok : goal.returns-clause-ok
-returns-clause-ok g c = λ aim start.
+pub returns-clause-outcome : goal.returns-clause-outcome
+returns-clause-outcome g c = λ aim start.
     let given = (g.F.Files.past c.args.files.now).given in
-    let out = stream (g.W.Sink.taken c.args.out.now) (g.W.Sink.failures c.args.out.now) in
+    let out = g.W.Sink.stream c.args.out.now in
     let h = c.recycle.ensures.in_file aim given out start in
-    c.in_ok-search_ready.ensures.ok aim (read_on h c.read.ensures)
+    c.in_ok-search_ready.ensures.outcome aim (read_on h c.read.ensures)
 
 pub read-requires-clause-more : goal.read-requires-clause-more
 read-requires-clause-more g c = c.recycle.ensures.came ∙ c.requires.more
@@ -59,11 +58,6 @@ pub returns-in_err-search_ready-clause-room : goal.returns-in_err-search_ready-c
 returns-in_err-search_ready-clause-room g c =
     ok_of_err c.from_residual.result _ c.from_residual.ensures.0
 
-pub returns-in_err-search_ready-clause-ok : goal.returns-in_err-search_ready-clause-ok
-returns-in_err-search_ready-clause-ok g c =
-    λ aim start.
-    ok_of_err c.from_residual.result _ c.from_residual.ensures.0
-
 pub returns-clause-done : goal.returns-clause-done
 returns-clause-done g c = c.in_ok-search_ready.ensures.done ∙ c.read.ensures.done
 
@@ -78,6 +72,3 @@ returns-clause-drained g c = c.in_ok-search_ready.ensures.drained
 
 pub returns-clause-room : goal.returns-clause-room
 returns-clause-room g c = c.in_ok-search_ready.ensures.room
-
-pub returns-clause-err : goal.returns-clause-err
-returns-clause-err g c = λ aim start. tt

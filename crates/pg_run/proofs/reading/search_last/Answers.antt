@@ -1,5 +1,4 @@
-use Rattle.pg_rows.proofs.SinkLemmas.{on_ok}
-use Rattle.pg_run.proofs.HoldLemmas.{if_err_too}
+use Rattle.std.proofs.lemmas.Result.{MatchResult-weaker}
 use Rattle.pg_run.proofs.ReadingLemmas.{last_may, last_breaks, last_searched, none_last}
 use Rattle.pg_run.proofs.reading.search_last.Goals as goal
 
@@ -14,21 +13,16 @@ search-requires-clause-ready g c =
       ),
     )
 
-pub returns-in-Some-clause-ok : goal.returns-in-Some-clause-ok
-returns-in-Some-clause-ok g c = λ aim given h.
+pub returns-in-Some : goal.returns-in-Some
+returns-in-Some g c = λ aim given h.
     let all = c.in-Some.ensures h.cuts.fed h.cuts.cut in
-    on_ok c.search.result _ _ (λ k. last_searched h _ c.in-Some.block _ c.args.failed c.requires.ended all k)
-    (c.search.ensures.ok aim h.steps (h.holds, last_may h.cuts c.in-Some.block all))
-
-pub returns-in-Some-clause-err : goal.returns-in-Some-clause-err
-returns-in-Some-clause-err g c = λ aim given h.
-    let all = c.in-Some.ensures h.cuts.fed h.cuts.cut in
-    if_err_too c.search.result _ _
+    MatchResult-weaker c.search.result
+    (c.search.ensures.outcome aim h.steps (h.holds, last_may h.cuts c.in-Some.block all))
+    (λ _ k. last_searched h _ c.in-Some.block _ c.args.failed c.requires.ended all k)
     (λ fault k. last_breaks h c.in-Some.block _ fault c.args.failed c.requires.ended all k)
-    (c.search.ensures.err aim h.steps (h.holds, last_may h.cuts c.in-Some.block all))
 
-pub returns-in-None-clause-ok : goal.returns-in-None-clause-ok
-returns-in-None-clause-ok g c = λ aim given h.
+pub returns-in-None : goal.returns-in-None
+returns-in-None g c = λ aim given h.
     none_last h c.args.failed c.requires.ended (c.in-None.ensures h.cuts.fed h.cuts.cut)
 
 pub finish-requires : goal.finish-requires

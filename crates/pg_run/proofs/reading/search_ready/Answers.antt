@@ -1,7 +1,6 @@
 use Rattle.std.proofs.Common.{◌∙◌}
-use Rattle.pg_run.specs.Holding.{stream}
 use Rattle.pg_run.specs.Reading.{Breaks}
-use Rattle.pg_run.proofs.HoldLemmas.{err_by, ok_of_err}
+use Rattle.pg_run.proofs.HoldLemmas.{ok_of_err, fails_by}
 use Rattle.pg_run.proofs.BlockLemmas.{gives_next}
 use Rattle.pg_run.proofs.ReadingLemmas.{next_may, next_breaks, next_taken, none_taken}
 use Rattle.pg_run.proofs.reading.search_ready.Goals as goal
@@ -11,35 +10,35 @@ make_room-requires-clause-in_file g c κs within =
     let r = c.requires.in_file in
     (r.0, c.loop.invariant.reads r.0 r.1)
 
-pub returns-in_err-make_room-clause-err : goal.returns-in_err-make_room-clause-err
-returns-in_err-make_room-clause-err g c = λ aim start.
-    let out' = stream (g.W.Sink.taken c.make_room.new.out) (g.W.Sink.failures c.make_room.new.out) in
-    err_by c.from_residual.result (Breaks aim (g.F.Files.past c.make_room.new.files).given out')
+pub returns-in_err-make_room-clause-outcome : goal.returns-in_err-make_room-clause-outcome
+returns-in_err-make_room-clause-outcome g c = λ aim start.
+    let out' = g.W.Sink.stream c.make_room.new.out in
+    fails_by c.from_residual.result _ (Breaks aim (g.F.Files.past c.make_room.new.files).given out')
     c.in_err-make_room.field-0.0 c.from_residual.ensures.1
-    (c.in_err-make_room.ensures.err aim (c.loop.invariant.reads aim start))
+    (c.in_err-make_room.ensures.outcome aim (c.loop.invariant.reads aim start))
 
 pub search-requires-clause-ready : goal.search-requires-clause-ready
 search-requires-clause-ready g c =
     let r = c.requires.in_file in
-    let h = c.in_ok-make_room.ensures.ok r.0 (c.loop.invariant.reads r.0 r.1) in
+    let h = c.in_ok-make_room.ensures.outcome r.0 (c.loop.invariant.reads r.0 r.1) in
     let block = c.in-Some-take.block in
     let n = gives_next h.cuts.fed block (c.in-Some-take.ensures.next h.cuts.fed h.cuts.cut) in
     (r.0, h.steps, (h.holds, next_may h.cuts block n))
 
-pub returns-in_err-search-clause-err : goal.returns-in_err-search-clause-err
-returns-in_err-search-clause-err g c = λ aim start.
-    let h = c.in_ok-make_room.ensures.ok aim (c.loop.invariant.reads aim start) in
+pub returns-in_err-search-clause-outcome : goal.returns-in_err-search-clause-outcome
+returns-in_err-search-clause-outcome g c = λ aim start.
+    let h = c.in_ok-make_room.ensures.outcome aim (c.loop.invariant.reads aim start) in
     let n = gives_next h.cuts.fed c.in-Some-take.block (c.in-Some-take.ensures.next h.cuts.fed h.cuts.cut) in
-    let out' = stream (g.W.Sink.taken c.search.new.out) (g.W.Sink.failures c.search.new.out) in
+    let out' = g.W.Sink.stream c.search.new.out in
     let fault = c.in_err-search.field-0.0 in
-    err_by c.from_residual-in_err-search.result (Breaks aim (g.F.Files.past c.make_room.new.files).given out') fault
+    fails_by c.from_residual-in_err-search.result _ (Breaks aim (g.F.Files.past c.make_room.new.files).given out') fault
     c.from_residual-in_err-search.ensures.1
     (next_breaks h c.in-Some-take.block out' fault n
-    (c.in_err-search.ensures.err aim h.steps (h.holds, next_may h.cuts c.in-Some-take.block n)))
+    (c.in_err-search.ensures.outcome aim h.steps (h.holds, next_may h.cuts c.in-Some-take.block n)))
 
-pub returns-in_default-clause-ok : goal.returns-in_default-clause-ok
-returns-in_default-clause-ok g c = λ aim start.
-    let h = c.in_ok-make_room.ensures.ok aim (c.loop.invariant.reads aim start) in
+pub returns-in_default-clause-outcome : goal.returns-in_default-clause-outcome
+returns-in_default-clause-outcome g c = λ aim start.
+    let h = c.in_ok-make_room.ensures.outcome aim (c.loop.invariant.reads aim start) in
     let e = c.in_default.ensures in
     record { steps = h.steps; holds = h.holds; cuts = none_taken h.cuts _ e.came (e.stands h.cuts.fed h.cuts.cut) }
 
@@ -54,13 +53,13 @@ loop-preserved g c =
       before = ok.before ∙ i.before;
       same_list = ok.same_list ∙ i.same_list;
       reads = λ aim start.
-          let h = ok.ok aim (i.reads aim start) in
+          let h = ok.outcome aim (i.reads aim start) in
           let e = c.in-Some-take.ensures in
           let n = gives_next h.cuts.fed c.in-Some-take.block (e.next h.cuts.fed h.cuts.cut) in
-          let k = c.in_ok-search.ensures.ok aim h.steps (h.holds, next_may h.cuts c.in-Some-take.block n) in
+          let k = c.in_ok-search.ensures.outcome aim h.steps (h.holds, next_may h.cuts c.in-Some-take.block n) in
           record {
             steps = _;
-            holds = c.in_ok-send_on.ensures.ok aim _ k;
+            holds = c.in_ok-send_on.ensures aim _ k;
             cuts = next_taken h.cuts _ c.in-Some-take.block h.cuts.fed.early e.came n (e.stands h.cuts.fed h.cuts.cut);
           };
     }
@@ -79,9 +78,6 @@ returns-in_err-make_room-clause-drained g c = ok_of_err c.from_residual.result _
 
 pub returns-in_err-make_room-clause-room : goal.returns-in_err-make_room-clause-room
 returns-in_err-make_room-clause-room g c = ok_of_err c.from_residual.result _ c.from_residual.ensures.0
-
-pub returns-in_err-make_room-clause-ok : goal.returns-in_err-make_room-clause-ok
-returns-in_err-make_room-clause-ok g c = λ aim start. ok_of_err c.from_residual.result _ c.from_residual.ensures.0
 
 pub search-requires-clause-room : goal.search-requires-clause-room
 search-requires-clause-room g c = c.in_ok-make_room.ensures.room
@@ -103,11 +99,6 @@ pub returns-in_err-search-clause-room : goal.returns-in_err-search-clause-room
 returns-in_err-search-clause-room g c =
     ok_of_err c.from_residual-in_err-search.result _ c.from_residual-in_err-search.ensures.0
 
-pub returns-in_err-search-clause-ok : goal.returns-in_err-search-clause-ok
-returns-in_err-search-clause-ok g c =
-    λ aim start.
-    ok_of_err c.from_residual-in_err-search.result _ c.from_residual-in_err-search.ensures.0
-
 pub returns-in_default-clause-done : goal.returns-in_default-clause-done
 returns-in_default-clause-done g c = c.in_ok-make_room.ensures.done ∙ c.loop.invariant.done
 
@@ -122,9 +113,6 @@ returns-in_default-clause-drained g c = c.in_default.ensures.none
 
 pub returns-in_default-clause-room : goal.returns-in_default-clause-room
 returns-in_default-clause-room g c = c.in_ok-make_room.ensures.room
-
-pub returns-in_default-clause-err : goal.returns-in_default-clause-err
-returns-in_default-clause-err g c = λ aim start. tt
 
 pub returns-in_err-send_on-clause-done : goal.returns-in_err-send_on-clause-done
 returns-in_err-send_on-clause-done g c = c.in_ok-make_room.ensures.done ∙ c.loop.invariant.done
@@ -143,19 +131,15 @@ pub returns-in_err-send_on-clause-room : goal.returns-in_err-send_on-clause-room
 returns-in_err-send_on-clause-room g c =
     ok_of_err c.from_residual-in_err-send_on.result _ c.from_residual-in_err-send_on.ensures.0
 
-pub returns-in_err-send_on-clause-ok : goal.returns-in_err-send_on-clause-ok
-returns-in_err-send_on-clause-ok g c =
-    λ aim start.
-    ok_of_err c.from_residual-in_err-send_on.result _ c.from_residual-in_err-send_on.ensures.0
-
-pub returns-in_err-send_on-clause-err : goal.returns-in_err-send_on-clause-err
-returns-in_err-send_on-clause-err g c = λ aim start.
-    let h = c.in_ok-make_room.ensures.ok aim (c.loop.invariant.reads aim start) in
+pub returns-in_err-send_on-clause-outcome : goal.returns-in_err-send_on-clause-outcome
+returns-in_err-send_on-clause-outcome g c = λ aim start.
+    let h = c.in_ok-make_room.ensures.outcome aim (c.loop.invariant.reads aim start) in
     let block = c.in-Some-take.block in
     let n = gives_next h.cuts.fed block (c.in-Some-take.ensures.next h.cuts.fed h.cuts.cut) in
-    let out' = stream (g.W.Sink.taken c.send_on.new.out) (g.W.Sink.failures c.send_on.new.out) in
+    let out' = g.W.Sink.stream c.send_on.new.out in
     let fault = c.in_err-send_on.field-0.0 in
-    err_by c.from_residual-in_err-send_on.result (Breaks aim (g.F.Files.past c.make_room.new.files).given out') fault
-    c.from_residual-in_err-send_on.ensures.1
+    fails_by c.from_residual-in_err-send_on.result _ (Breaks aim (g.F.Files.past c.make_room.new.files).given out')
+    fault c.from_residual-in_err-send_on.ensures.1
     (next_breaks h block out' fault n
-    (c.in_err-send_on.ensures.err aim _ (c.in_ok-search.ensures.ok aim h.steps (h.holds, next_may h.cuts block n))))
+    (c.in_err-send_on.ensures aim _
+    (c.in_ok-search.ensures.outcome aim h.steps (h.holds, next_may h.cuts block n))))

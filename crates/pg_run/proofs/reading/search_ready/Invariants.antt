@@ -1,12 +1,12 @@
 use Rattle.std.proofs.Common.{◌≡◌, drop}
-use Rattle.pg_run.specs.Holding.{Aim, stream}
+use Rattle.pg_run.specs.Holding.{Aim}
 use Rattle.pg_run.specs.Reading.{InFile}
 use Rattle.pg_run.proofs.reading.search_ready.Given as goal
 
 abbrev pub invariant-loop : goal.invariant-loop
 invariant-loop g l =
-    let now = stream (g.W.Sink.taken l.out) (g.W.Sink.failures l.out) in
-    let start = stream (g.W.Sink.taken l.initial.out) (g.W.Sink.failures l.initial.out) in
+    let now = g.W.Sink.stream l.out in
+    let start = g.W.Sink.stream l.initial.out in
     let past = g.F.Files.past l.files in
     let past' = g.F.Files.past l.initial.files in
     record {

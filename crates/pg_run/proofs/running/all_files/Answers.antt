@@ -1,17 +1,16 @@
 use Rattle.std.proofs.Common.{◌∙◌, Bool, List, inl, inr, sym, subst}
 use Rattle.pg_files.specs.Given.{Given, entries_given}
 use Rattle.pg_run.specs.Outcome.{EndsAtSelected}
-use Rattle.pg_run.specs.Holding.{stream}
 use Rattle.pg_run.specs.Reading.{Goes, StopsBehind}
-use Rattle.pg_run.proofs.HoldLemmas.{err_by, ok_of_err}
+use Rattle.pg_run.proofs.HoldLemmas.{fails_by}
 use Rattle.pg_run.proofs.RunLemmas.{between_enough, between_more, ends_at, read_rightly}
 use Rattle.pg_run.proofs.running.all_files.Goals as goal
 
 pub returns-then-enough-clause-same_list : goal.returns-then-enough-clause-same_list
 returns-then-enough-clause-same_list g c = c.loop.invariant.same_list
 
-pub returns-then-enough-clause-ok : goal.returns-then-enough-clause-ok
-returns-then-enough-clause-ok g c = λ aim start.
+pub returns-then-enough-clause-outcome : goal.returns-then-enough-clause-outcome
+returns-then-enough-clause-outcome g c = λ aim start.
     let r = c.loop.invariant.rests aim start in
     let b = r.0.0 in
     record {
@@ -25,28 +24,28 @@ take_next-requires-clause-rests g c κs within =
     let r = c.requires.rests in
     (r.0, (c.loop.invariant.rests r.0 r.1).0)
 
-pub returns-in_err-take_next-clause-err : goal.returns-in_err-take_next-clause-err
-returns-in_err-take_next-clause-err g c = λ aim start.
-    let out' = stream (g.W.Sink.taken c.take_next.new.out) (g.W.Sink.failures c.take_next.new.out) in
-    let told' = stream (g.E.Sink.taken c.take_next.new.faults) (g.E.Sink.failures c.take_next.new.faults) in
+pub returns-in_err-take_next-clause-outcome : goal.returns-in_err-take_next-clause-outcome
+returns-in_err-take_next-clause-outcome g c = λ aim start.
+    let out' = g.W.Sink.stream c.take_next.new.out in
+    let told' = g.E.Sink.stream c.take_next.new.faults in
     let r = c.loop.invariant.rests aim start in
     let b = r.0.0 in
     let few = sym (c.enough.ensures aim b.steps _ b.holds) ∙ c.if-enough.false in
-    err_by c.from_residual.result (StopsBehind aim (g.F.Files.past c.take_next.new.files).given out' told')
+    fails_by c.from_residual.result _ (StopsBehind aim (g.F.Files.past c.take_next.new.files).given out' told')
     c.in_err-take_next.field-0.0 c.from_residual.ensures.1 (
-      c.in_err-take_next.ensures.err aim r.0,
+      c.in_err-take_next.ensures.outcome aim r.0,
       read_rightly b r.1 (between_more b few)
           (g.F.Files.past c.take_next.new.files).given c.in_err-take_next.ensures.went,
     )
 
-pub returns-then-not-branch-clause-ok : goal.returns-then-not-branch-clause-ok
-returns-then-not-branch-clause-ok g c = λ aim start.
+pub returns-then-not-branch-clause-outcome : goal.returns-then-not-branch-clause-outcome
+returns-then-not-branch-clause-outcome g c = λ aim start.
     let r = c.loop.invariant.rests aim start in
     let G : Bool → Type 0 = λ more. Goes more (g.F.Files.past c.loop.files) (g.F.Files.past c.take_next.new.files) in
     let goes = subst G c.if-not-branch.true c.in_ok-take_next.ensures.goes in
     let Q : List Given → Type 0 = λ gs. EndsAtSelected aim.query (entries_given gs) in
     record {
-      rests = c.in_ok-take_next.ensures.ok aim r.0;
+      rests = c.in_ok-take_next.ensures.outcome aim r.0;
       asked = inl (goes.1, c.in_ok-take_next.ensures.all c.if-not-branch.true);
       quiet = λ m. subst Q (sym goes.0) (r.1 m);
     }
@@ -68,11 +67,8 @@ loop-preserved g c =
           let r = i.rests aim start in
           let b = r.0.0 in
           let few = sym (c.enough.ensures aim b.steps _ b.holds) ∙ c.if-enough.false in
-          (ok.ok aim r.0, λ quiet. ends_at aim given' given goes.0 (between_more b few quiet));
+          (ok.outcome aim r.0, λ quiet. ends_at aim given' given goes.0 (between_more b few quiet));
     }
-
-pub returns-then-enough-clause-err : goal.returns-then-enough-clause-err
-returns-then-enough-clause-err g c = λ aim start. tt
 
 pub take_next-requires-clause-done : goal.take_next-requires-clause-done
 take_next-requires-clause-done g c κs within = c.loop.invariant.done
@@ -80,11 +76,5 @@ take_next-requires-clause-done g c κs within = c.loop.invariant.done
 pub returns-in_err-take_next-clause-same_list : goal.returns-in_err-take_next-clause-same_list
 returns-in_err-take_next-clause-same_list g c = c.in_err-take_next.ensures.same_list ∙ c.loop.invariant.same_list
 
-pub returns-in_err-take_next-clause-ok : goal.returns-in_err-take_next-clause-ok
-returns-in_err-take_next-clause-ok g c = λ aim start. ok_of_err c.from_residual.result _ c.from_residual.ensures.0
-
 pub returns-then-not-branch-clause-same_list : goal.returns-then-not-branch-clause-same_list
 returns-then-not-branch-clause-same_list g c = c.in_ok-take_next.ensures.same_list ∙ c.loop.invariant.same_list
-
-pub returns-then-not-branch-clause-err : goal.returns-then-not-branch-clause-err
-returns-then-not-branch-clause-err g c = λ aim start. tt

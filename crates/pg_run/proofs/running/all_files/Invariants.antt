@@ -2,16 +2,16 @@ use Rattle.std.proofs.Common.{◌≡◌, true, false, []}
 use Rattle.pg_rows.specs.Modes.{is_quiet}
 use Rattle.pg_files.specs.Given.{entries_given}
 use Rattle.pg_run.specs.Outcome.{EndsAtSelected}
-use Rattle.pg_run.specs.Holding.{Aim, stream, format_of}
+use Rattle.pg_run.specs.Holding.{Aim, format_of}
 use Rattle.pg_run.specs.Reading.{Rests}
 use Rattle.pg_run.proofs.running.all_files.Given as goal
 
 abbrev pub invariant-loop : goal.invariant-loop
 invariant-loop g l =
-    let out = stream (g.W.Sink.taken l.out) (g.W.Sink.failures l.out) in
-    let told = stream (g.E.Sink.taken l.faults) (g.E.Sink.failures l.faults) in
-    let out' = stream (g.W.Sink.taken l.initial.out) (g.W.Sink.failures l.initial.out) in
-    let told' = stream (g.E.Sink.taken l.initial.faults) (g.E.Sink.failures l.initial.faults) in
+    let out = g.W.Sink.stream l.out in
+    let told = g.E.Sink.stream l.faults in
+    let out' = g.W.Sink.stream l.initial.out in
+    let told' = g.E.Sink.stream l.initial.faults in
     let past = g.F.Files.past l.files in
     record {
       can_next : (goal.iterator-loop g).can_next l.iterator';

@@ -1,87 +1,70 @@
 use Rattle.std.proofs.Common.{◌∷◌, ap, refl, subst, sym}
 use Rattle.pg_files.specs.Given.{NoFile}
 use Rattle.pg_run.specs.Told.{fault_line}
-use Rattle.pg_run.specs.Holding.{stream}
 use Rattle.pg_run.specs.Reading.{Stops}
 use Rattle.pg_run.specs.declared.fault.RunFault.TheVariants.{OutOfMemory}
-use Rattle.pg_run.proofs.HoldLemmas.{err_by, ok_of_err}
+use Rattle.pg_run.proofs.HoldLemmas.{fails_by}
 use Rattle.pg_run.proofs.RunLemmas.{told_by, stops_telling, stops_reading, stops_memory, rows_sent}
 use Rattle.pg_run.proofs.RunLemmas.{taken_part, unmissed_safe, unsent_breaks, name_missed}
 use Rattle.pg_run.proofs.running.miss.Goals as goal
 
-pub returns-in_err-send_on-clause-ok : goal.returns-in_err-send_on-clause-ok
-returns-in_err-send_on-clause-ok g c = λ aim given rests. ok_of_err c.from_residual.result _ c.from_residual.ensures.0
-
-pub returns-in_err-send_on-clause-err : goal.returns-in_err-send_on-clause-err
-returns-in_err-send_on-clause-err g c = λ aim given rests.
-    let told = stream (g.E.Sink.taken c.args.faults.now) (g.E.Sink.failures c.args.faults.now) in
-    let out' = stream (g.W.Sink.taken c.send_on.new.out) (g.W.Sink.failures c.send_on.new.out) in
+pub returns-in_err-send_on : goal.returns-in_err-send_on
+returns-in_err-send_on g c = λ aim given rests.
+    let told = g.E.Sink.stream c.args.faults.now in
+    let out' = g.W.Sink.stream c.send_on.new.out in
     let more = NoFile c.args.name.now c.args.cause ∷ given in
     let fault = c.in_err-send_on.field-0.0 in
-    let broke = c.in_err-send_on.ensures.err aim rests.0.steps rests.0.holds in
-    err_by c.from_residual.result (Stops aim more out' told) fault c.from_residual.ensures.1
+    let broke = c.in_err-send_on.ensures aim rests.0.steps rests.0.holds in
+    fails_by c.from_residual.result _ (Stops aim more out' told) fault c.from_residual.ensures.1
     (stops_reading aim given more out' told fault (unsent_breaks rests.0 c.args.name.now c.args.cause out' fault broke)
     rests.1 refl)
 
-pub returns-in_err-tell_fault-clause-err : goal.returns-in_err-tell_fault-clause-err
-returns-in_err-tell_fault-clause-err g c = λ aim given rests.
-    let told = stream (g.E.Sink.taken c.args.faults.now) (g.E.Sink.failures c.args.faults.now) in
-    let told' = stream (g.E.Sink.taken c.tell_fault.new.faults) (g.E.Sink.failures c.tell_fault.new.faults) in
-    let out' = stream (g.W.Sink.taken c.send_on.new.out) (g.W.Sink.failures c.send_on.new.out) in
+pub returns-in_err-tell_fault : goal.returns-in_err-tell_fault
+returns-in_err-tell_fault g c = λ aim given rests.
+    let told = g.E.Sink.stream c.args.faults.now in
+    let told' = g.E.Sink.stream c.tell_fault.new.faults in
+    let out' = g.W.Sink.stream c.send_on.new.out in
     let more = NoFile c.args.name.now c.args.cause ∷ given in
     let err = c.in_err-tell_fault.ensures in
-    let b = rows_sent rests.0 _ out' (c.in_ok-send_on.ensures.ok aim rests.0.steps rests.0.holds) in
-    err_by c.from_residual-in_err-tell_fault.result (Stops aim more out' told') c.in_err-tell_fault.field-0.0
+    let b = rows_sent rests.0 _ out' (c.in_ok-send_on.ensures aim rests.0.steps rests.0.holds) in
+    fails_by c.from_residual-in_err-tell_fault.result _ (Stops aim more out' told') c.in_err-tell_fault.field-0.0
     c.from_residual-in_err-tell_fault.ensures.1
     (subst (Stops aim more out' told') (sym err.fault)
     (stops_telling aim given more out' told told' c.args.engine.now.setup.silent
     (fault_line c.args.name.now c.args.cause) (ap (λ s. s.silent) b.holds.set)
-    (unmissed_safe b c.args.name.now c.args.cause out'.taken (taken_part b)) rests.1 refl err.part err.failure))
+    (unmissed_safe b c.args.name.now c.args.cause out'.taken (taken_part b)) rests.1 refl err.writes.err))
 
 pub miss-requires : goal.miss-requires
 miss-requires g c =
     let aim = c.requires.0 in
     let b = c.requires.2.0 in
-    (aim, b.steps, _, (c.in_ok-send_on.ensures.ok aim b.steps b.holds, (b.closed, tt)))
+    (aim, b.steps, _, (c.in_ok-send_on.ensures aim b.steps b.holds, (b.closed, tt)))
 
-pub returns-in_err-miss-clause-err : goal.returns-in_err-miss-clause-err
-returns-in_err-miss-clause-err g c = λ aim given rests.
-    let told = stream (g.E.Sink.taken c.args.faults.now) (g.E.Sink.failures c.args.faults.now) in
-    let told' = stream (g.E.Sink.taken c.tell_fault.new.faults) (g.E.Sink.failures c.tell_fault.new.faults) in
-    let out' = stream (g.W.Sink.taken c.send_on.new.out) (g.W.Sink.failures c.send_on.new.out) in
+pub returns-in_err-miss : goal.returns-in_err-miss
+returns-in_err-miss g c = λ aim given rests.
+    let told = g.E.Sink.stream c.args.faults.now in
+    let told' = g.E.Sink.stream c.tell_fault.new.faults in
+    let out' = g.W.Sink.stream c.send_on.new.out in
     let more = NoFile c.args.name.now c.args.cause ∷ given in
     let ok = c.in_ok-tell_fault.ensures in
-    let b = rows_sent rests.0 _ out' (c.in_ok-send_on.ensures.ok aim rests.0.steps rests.0.holds) in
-    err_by c.from_residual-in_err-miss.result (Stops aim more out' told') OutOfMemory
+    let b = rows_sent rests.0 _ out' (c.in_ok-send_on.ensures aim rests.0.steps rests.0.holds) in
+    fails_by c.from_residual-in_err-miss.result _ (Stops aim more out' told') OutOfMemory
     c.from_residual-in_err-miss.ensures.1
     (stops_memory aim more out' told' (unmissed_safe b c.args.name.now c.args.cause out'.taken (taken_part b))
     b.holds.calm
     (told_by aim given more told told' c.args.engine.now.setup.silent (fault_line c.args.name.now c.args.cause)
-    (ap (λ s. s.silent) b.holds.set) rests.1 refl ok.ok ok.calm))
+    (ap (λ s. s.silent) b.holds.set) rests.1 refl ok.writes.ok))
 
-pub returns-clause-ok : goal.returns-clause-ok
-returns-clause-ok g c = λ aim given rests.
-    let told = stream (g.E.Sink.taken c.args.faults.now) (g.E.Sink.failures c.args.faults.now) in
-    let told' = stream (g.E.Sink.taken c.tell_fault.new.faults) (g.E.Sink.failures c.tell_fault.new.faults) in
-    let out' = stream (g.W.Sink.taken c.send_on.new.out) (g.W.Sink.failures c.send_on.new.out) in
+pub returns : goal.returns
+returns g c = λ aim given rests.
+    let told = g.E.Sink.stream c.args.faults.now in
+    let told' = g.E.Sink.stream c.tell_fault.new.faults in
+    let out' = g.W.Sink.stream c.send_on.new.out in
     let more = NoFile c.args.name.now c.args.cause ∷ given in
     let ok = c.in_ok-tell_fault.ensures in
-    let b = rows_sent rests.0 _ out' (c.in_ok-send_on.ensures.ok aim rests.0.steps rests.0.holds) in (
+    let b = rows_sent rests.0 _ out' (c.in_ok-send_on.ensures aim rests.0.steps rests.0.holds) in (
       name_missed b _ c.args.name.now c.args.cause
           (c.in_ok-miss.ensures aim b.steps out' (b.holds, (b.closed, tt))),
       told_by aim given more told told' c.args.engine.now.setup.silent (fault_line c.args.name.now c.args.cause)
-          (ap (λ s. s.silent) b.holds.set) rests.1 refl ok.ok ok.calm,
+          (ap (λ s. s.silent) b.holds.set) rests.1 refl ok.writes.ok,
     )
-
-pub returns-in_err-tell_fault-clause-ok : goal.returns-in_err-tell_fault-clause-ok
-returns-in_err-tell_fault-clause-ok g c =
-    λ aim given rests.
-    ok_of_err c.from_residual-in_err-tell_fault.result _ c.from_residual-in_err-tell_fault.ensures.0
-
-pub returns-in_err-miss-clause-ok : goal.returns-in_err-miss-clause-ok
-returns-in_err-miss-clause-ok g c =
-    λ aim given rests.
-    ok_of_err c.from_residual-in_err-miss.result _ c.from_residual-in_err-miss.ensures.0
-
-pub returns-clause-err : goal.returns-clause-err
-returns-clause-err g c = λ aim given rests. tt

@@ -3,18 +3,17 @@ use Rattle.pg_walk.specs.declared.item.Cause.TheVariants.{ReadFailed}
 use Rattle.pg_rows.specs.Output.{Left}
 use Rattle.pg_files.specs.Given.{Given, File}
 use Rattle.pg_run.specs.Told.{fault_line, faults_of}
-use Rattle.pg_run.specs.Holding.{stream}
 use Rattle.pg_run.specs.Reading.{Stops}
 use Rattle.pg_run.specs.declared.fault.RunFault.TheVariants.{OutOfMemory}
-use Rattle.pg_run.proofs.HoldLemmas.{err_by, ok_of_err}
+use Rattle.pg_run.proofs.HoldLemmas.{fails_by}
 use Rattle.pg_run.proofs.RunLemmas.{told_by, told_same, told_failed, told_unfailed, stops_telling, stops_memory}
 use Rattle.pg_run.proofs.RunLemmas.{stops_reading, unnumbered, unopened_safe, taken_part, between_safe, file_started}
 use Rattle.pg_run.proofs.running.one_file.Goals as goal
 
-pub returns-then-engine-ge-MOST_FILES-clause-err : goal.returns-then-engine-ge-MOST_FILES-clause-err
-returns-then-engine-ge-MOST_FILES-clause-err g c = λ aim given name is rests.
-    let out' = stream (g.W.Sink.taken c.break_off.new.out) (g.W.Sink.failures c.break_off.new.out) in
-    let told = stream (g.E.Sink.taken c.args.faults.now) (g.E.Sink.failures c.args.faults.now) in
+pub returns-then-engine-ge-MOST_FILES-clause-outcome : goal.returns-then-engine-ge-MOST_FILES-clause-outcome
+returns-then-engine-ge-MOST_FILES-clause-outcome g c = λ aim given name is rests.
+    let out' = g.W.Sink.stream c.break_off.new.out in
+    let told = g.E.Sink.stream c.args.faults.now in
     let more = File name [] Left ∷ given in
     let P : List Given → Type 0 = λ gs. Stops aim gs out' told c.break_off.result in
     subst P (sym is) (stops_reading aim given more out' told c.break_off.result
@@ -29,15 +28,15 @@ break_off-requires-clause-holds g c κs within =
 pub open_file-requires-clause-between : goal.open_file-requires-clause-between
 open_file-requires-clause-between g c =
     let r = c.requires.rests in
-    (r.0, r.1, stream (g.W.Sink.taken c.args.out.now) (g.W.Sink.failures c.args.out.now), r.4.0)
+    (r.0, r.1, g.W.Sink.stream c.args.out.now, r.4.0)
 
-pub returns-in_err-open_file-clause-err : goal.returns-in_err-open_file-clause-err
-returns-in_err-open_file-clause-err g c = λ aim given name is rests.
-    let out = stream (g.W.Sink.taken c.args.out.now) (g.W.Sink.failures c.args.out.now) in
-    let told = stream (g.E.Sink.taken c.args.faults.now) (g.E.Sink.failures c.args.faults.now) in
+pub returns-in_err-open_file-clause-outcome : goal.returns-in_err-open_file-clause-outcome
+returns-in_err-open_file-clause-outcome g c = λ aim given name is rests.
+    let out = g.W.Sink.stream c.args.out.now in
+    let told = g.E.Sink.stream c.args.faults.now in
     let P : List Given → Type 0 = λ gs. Stops aim gs out told OutOfMemory in
     let more = File name [] Left ∷ given in
-    err_by c.from_residual.result (Stops aim (g.F.Files.past c.args.files.now).given out told) OutOfMemory
+    fails_by c.from_residual.result _ (Stops aim (g.F.Files.past c.args.files.now).given out told) OutOfMemory
     c.from_residual.ensures.1
     (subst P (sym is)
     (stops_memory aim more out told (unopened_safe rests.0 name out.taken (taken_part rests.0)) rests.0.holds.calm
@@ -46,60 +45,60 @@ returns-in_err-open_file-clause-err g c = λ aim given name is rests.
 pub read_file-requires-clause-in_file : goal.read_file-requires-clause-in_file
 read_file-requires-clause-in_file g c κs within =
     let r = c.requires.rests in
-    let out = stream (g.W.Sink.taken c.args.out.now) (g.W.Sink.failures c.args.out.now) in (
+    let out = g.W.Sink.stream c.args.out.now in (
       r.0,
       file_started (g.F.Files.past c.args.files.now).given r.2 c.name.result.now r.3 c.name.ensures
           (c.in_ok-open_file.ensures.ok r.0 r.1 out r.4.0),
     )
 
-pub returns-in_err-failed-clause-err : goal.returns-in_err-failed-clause-err
-returns-in_err-failed-clause-err g c = λ aim given name is rests.
-    let out = stream (g.W.Sink.taken c.args.out.now) (g.W.Sink.failures c.args.out.now) in
+pub returns-in_err-failed-clause-outcome : goal.returns-in_err-failed-clause-outcome
+returns-in_err-failed-clause-outcome g c = λ aim given name is rests.
+    let out = g.W.Sink.stream c.args.out.now in
     let start = file_started (g.F.Files.past c.args.files.now).given name c.name.result.now is c.name.ensures
     (c.in_ok-open_file.ensures.ok aim given out rests.0) in
-    let told = stream (g.E.Sink.taken c.args.faults.now) (g.E.Sink.failures c.args.faults.now) in
+    let told = g.E.Sink.stream c.args.faults.now in
     let before = (g.F.Files.past c.args.files.now).given in
     let given' = (g.F.Files.past c.read_file.new.files).given in
-    let out' = stream (g.W.Sink.taken c.read_file.new.out) (g.W.Sink.failures c.read_file.new.out) in
+    let out' = g.W.Sink.stream c.read_file.new.out in
     let fault = c.in_err-failed.field-0.0 in
-    err_by c.from_residual-in_err-failed.result (Stops aim given' out' told) fault
+    fails_by c.from_residual-in_err-failed.result _ (Stops aim given' out' told) fault
     c.from_residual-in_err-failed.ensures.1
-    (stops_reading aim given given' out' told fault (c.in_err-failed.ensures.err aim start) rests.1
+    (stops_reading aim given given' out' told fault (c.in_err-failed.ensures.outcome aim start) rests.1
     (c.in_err-failed.ensures.before ∙ ap (λ gs. drop 1 gs) is))
 
-pub returns-in_err-tell_fault-clause-err : goal.returns-in_err-tell_fault-clause-err
-returns-in_err-tell_fault-clause-err g c = λ aim given name is rests.
-    let out = stream (g.W.Sink.taken c.args.out.now) (g.W.Sink.failures c.args.out.now) in
+pub returns-in_err-tell_fault-clause-outcome : goal.returns-in_err-tell_fault-clause-outcome
+returns-in_err-tell_fault-clause-outcome g c = λ aim given name is rests.
+    let out = g.W.Sink.stream c.args.out.now in
     let start = file_started (g.F.Files.past c.args.files.now).given name c.name.result.now is c.name.ensures
     (c.in_ok-open_file.ensures.ok aim given out rests.0) in
-    let told = stream (g.E.Sink.taken c.args.faults.now) (g.E.Sink.failures c.args.faults.now) in
+    let told = g.E.Sink.stream c.args.faults.now in
     let before = (g.F.Files.past c.args.files.now).given in
     let given' = (g.F.Files.past c.read_file.new.files).given in
-    let out' = stream (g.W.Sink.taken c.read_file.new.out) (g.W.Sink.failures c.read_file.new.out) in
-    let told' = stream (g.E.Sink.taken c.tell_fault.new.faults) (g.E.Sink.failures c.tell_fault.new.faults) in
-    let after = c.in_ok-failed.ensures.ok aim start in
+    let out' = g.W.Sink.stream c.read_file.new.out in
+    let told' = g.E.Sink.stream c.tell_fault.new.faults in
+    let after = c.in_ok-failed.ensures.outcome aim start in
     let line = fault_line c.name-then-failed.result.now ReadFailed in
     let more : faults_of given' ≡ faults_of given ++ line =
     told_failed given before given' name c.name-then-failed.result.now c.in_ok-failed.failed is
     c.in_ok-failed.ensures.told c.if-failed.true c.name-then-failed.ensures in
     let set = ap (λ s. s.silent) after.holds.set in
     let err = c.in_err-tell_fault.ensures in
-    err_by c.from_residual-in_err-tell_fault.result (Stops aim given' out' told') c.in_err-tell_fault.field-0.0
+    fails_by c.from_residual-in_err-tell_fault.result _ (Stops aim given' out' told') c.in_err-tell_fault.field-0.0
     c.from_residual-in_err-tell_fault.ensures.1
     (subst (Stops aim given' out' told') (sym err.fault)
     (stops_telling aim given given' out' told told' c.read_file.new.engine.setup.silent line set (between_safe after)
-    rests.1 more err.part err.failure))
+    rests.1 more err.writes.err))
 
-pub returns-in_ok-tell_fault-clause-ok : goal.returns-in_ok-tell_fault-clause-ok
-returns-in_ok-tell_fault-clause-ok g c = λ aim given name is rests.
-    let out = stream (g.W.Sink.taken c.args.out.now) (g.W.Sink.failures c.args.out.now) in
+pub returns-in_ok-tell_fault-clause-outcome : goal.returns-in_ok-tell_fault-clause-outcome
+returns-in_ok-tell_fault-clause-outcome g c = λ aim given name is rests.
+    let out = g.W.Sink.stream c.args.out.now in
     let start = file_started (g.F.Files.past c.args.files.now).given name c.name.result.now is c.name.ensures
     (c.in_ok-open_file.ensures.ok aim given out rests.0) in
-    let told = stream (g.E.Sink.taken c.args.faults.now) (g.E.Sink.failures c.args.faults.now) in
+    let told = g.E.Sink.stream c.args.faults.now in
     let before = (g.F.Files.past c.args.files.now).given in
     let given' = (g.F.Files.past c.read_file.new.files).given in
-    let told' = stream (g.E.Sink.taken c.tell_fault.new.faults) (g.E.Sink.failures c.tell_fault.new.faults) in
-    let after = c.in_ok-failed.ensures.ok aim start in
+    let told' = g.E.Sink.stream c.tell_fault.new.faults in
+    let after = c.in_ok-failed.ensures.outcome aim start in
     let line = fault_line c.name-then-failed.result.now ReadFailed in
     let more : faults_of given' ≡ faults_of given ++ line =
     told_failed given before given' name c.name-then-failed.result.now c.in_ok-failed.failed is
@@ -107,18 +106,18 @@ returns-in_ok-tell_fault-clause-ok g c = λ aim given name is rests.
     let set = ap (λ s. s.silent) after.holds.set in
     let ok = c.in_ok-tell_fault.ensures in (
       after,
-      told_by aim given given' told told' c.read_file.new.engine.setup.silent line set rests.1 more ok.ok ok.calm,
+      told_by aim given given' told told' c.read_file.new.engine.setup.silent line set rests.1 more ok.writes.ok,
     )
 
-pub returns-else-failed-clause-ok : goal.returns-else-failed-clause-ok
-returns-else-failed-clause-ok g c = λ aim given name is rests.
-    let out = stream (g.W.Sink.taken c.args.out.now) (g.W.Sink.failures c.args.out.now) in
+pub returns-else-failed-clause-outcome : goal.returns-else-failed-clause-outcome
+returns-else-failed-clause-outcome g c = λ aim given name is rests.
+    let out = g.W.Sink.stream c.args.out.now in
     let start = file_started (g.F.Files.past c.args.files.now).given name c.name.result.now is c.name.ensures
     (c.in_ok-open_file.ensures.ok aim given out rests.0) in
-    let told = stream (g.E.Sink.taken c.args.faults.now) (g.E.Sink.failures c.args.faults.now) in
+    let told = g.E.Sink.stream c.args.faults.now in
     let before = (g.F.Files.past c.args.files.now).given in
     let given' = (g.F.Files.past c.read_file.new.files).given in (
-      c.in_ok-failed.ensures.ok aim start,
+      c.in_ok-failed.ensures.outcome aim start,
       told_same aim given given' told rests.1
           (told_unfailed given before given' name c.in_ok-failed.failed is c.in_ok-failed.ensures.told
           c.if-failed.false),
@@ -133,9 +132,6 @@ returns-then-engine-ge-MOST_FILES-clause-before g c = refl
 pub returns-then-engine-ge-MOST_FILES-clause-same_list : goal.returns-then-engine-ge-MOST_FILES-clause-same_list
 returns-then-engine-ge-MOST_FILES-clause-same_list g c = refl
 
-pub returns-then-engine-ge-MOST_FILES-clause-ok : goal.returns-then-engine-ge-MOST_FILES-clause-ok
-returns-then-engine-ge-MOST_FILES-clause-ok g c = λ aim given name is rests. tt
-
 pub returns-in_err-open_file-clause-done : goal.returns-in_err-open_file-clause-done
 returns-in_err-open_file-clause-done g c = refl
 
@@ -144,10 +140,6 @@ returns-in_err-open_file-clause-before g c = refl
 
 pub returns-in_err-open_file-clause-same_list : goal.returns-in_err-open_file-clause-same_list
 returns-in_err-open_file-clause-same_list g c = refl
-
-pub returns-in_err-open_file-clause-ok : goal.returns-in_err-open_file-clause-ok
-returns-in_err-open_file-clause-ok g c =
-    λ aim given name is rests. ok_of_err c.from_residual.result _ c.from_residual.ensures.0
 
 pub read_file-requires-clause-more : goal.read_file-requires-clause-more
 read_file-requires-clause-more g c κs within = c.in_ok-open_file.ensures.more
@@ -161,11 +153,6 @@ returns-in_err-failed-clause-before g c = c.in_err-failed.ensures.before
 pub returns-in_err-failed-clause-same_list : goal.returns-in_err-failed-clause-same_list
 returns-in_err-failed-clause-same_list g c = c.in_err-failed.ensures.same_list
 
-pub returns-in_err-failed-clause-ok : goal.returns-in_err-failed-clause-ok
-returns-in_err-failed-clause-ok g c =
-    λ aim given name is rests.
-    ok_of_err c.from_residual-in_err-failed.result _ c.from_residual-in_err-failed.ensures.0
-
 pub returns-in_err-tell_fault-clause-done : goal.returns-in_err-tell_fault-clause-done
 returns-in_err-tell_fault-clause-done g c = c.in_ok-failed.ensures.done
 
@@ -174,11 +161,6 @@ returns-in_err-tell_fault-clause-before g c = c.in_ok-failed.ensures.before
 
 pub returns-in_err-tell_fault-clause-same_list : goal.returns-in_err-tell_fault-clause-same_list
 returns-in_err-tell_fault-clause-same_list g c = c.in_ok-failed.ensures.same_list
-
-pub returns-in_err-tell_fault-clause-ok : goal.returns-in_err-tell_fault-clause-ok
-returns-in_err-tell_fault-clause-ok g c =
-    λ aim given name is rests.
-    ok_of_err c.from_residual-in_err-tell_fault.result _ c.from_residual-in_err-tell_fault.ensures.0
 
 pub returns-in_ok-tell_fault-clause-done : goal.returns-in_ok-tell_fault-clause-done
 returns-in_ok-tell_fault-clause-done g c = c.in_ok-failed.ensures.done
@@ -189,9 +171,6 @@ returns-in_ok-tell_fault-clause-before g c = c.in_ok-failed.ensures.before
 pub returns-in_ok-tell_fault-clause-same_list : goal.returns-in_ok-tell_fault-clause-same_list
 returns-in_ok-tell_fault-clause-same_list g c = c.in_ok-failed.ensures.same_list
 
-pub returns-in_ok-tell_fault-clause-err : goal.returns-in_ok-tell_fault-clause-err
-returns-in_ok-tell_fault-clause-err g c = λ aim given name is rests. tt
-
 pub returns-else-failed-clause-done : goal.returns-else-failed-clause-done
 returns-else-failed-clause-done g c = c.in_ok-failed.ensures.done
 
@@ -200,9 +179,6 @@ returns-else-failed-clause-before g c = c.in_ok-failed.ensures.before
 
 pub returns-else-failed-clause-same_list : goal.returns-else-failed-clause-same_list
 returns-else-failed-clause-same_list g c = c.in_ok-failed.ensures.same_list
-
-pub returns-else-failed-clause-err : goal.returns-else-failed-clause-err
-returns-else-failed-clause-err g c = λ aim given name is rests. tt
 
 pub read_file-requires-clause-drained : goal.read_file-requires-clause-drained
 read_file-requires-clause-drained g c κs within = c.in_ok-open_file.ensures.drained

@@ -1,7 +1,5 @@
-use Rattle.std.proofs.lemmas.Result.{IfOk-from_err}
-use Rattle.pg_run.specs.Holding.{stream}
 use Rattle.pg_run.specs.Reading.{StopsBehind}
-use Rattle.pg_run.proofs.HoldLemmas.{err_by}
+use Rattle.pg_run.proofs.HoldLemmas.{fails_by}
 use Rattle.pg_run.proofs.RunLemmas.{done_breaks, done_finishes}
 use Rattle.pg_run.proofs.running.search_files.Goals as goal
 
@@ -14,52 +12,40 @@ all_files-requires-clause-rests g c κs within = c.requires.rests
 pub returns-in_err-all_files-clause-same_list : goal.returns-in_err-all_files-clause-same_list
 returns-in_err-all_files-clause-same_list g c = c.in_err-all_files.ensures.same_list
 
-pub returns-in_err-all_files-clause-ok : goal.returns-in_err-all_files-clause-ok
-returns-in_err-all_files-clause-ok g c = λ aim start.
-    IfOk-from_err c.from_residual.result _ c.from_residual.ensures.0
-
-pub returns-in_err-all_files-clause-err : goal.returns-in_err-all_files-clause-err
-returns-in_err-all_files-clause-err g c = λ aim start.
-    let out' = stream (g.W.Sink.taken c.all_files.new.out) (g.W.Sink.failures c.all_files.new.out) in
-    let told' = stream (g.E.Sink.taken c.all_files.new.faults) (g.E.Sink.failures c.all_files.new.faults) in
-    err_by c.from_residual.result (StopsBehind aim (g.F.Files.past c.all_files.new.files).given out' told')
-    c.in_err-all_files.field-0.0 c.from_residual.ensures.1 (c.in_err-all_files.ensures.err aim start)
+pub returns-in_err-all_files-clause-outcome : goal.returns-in_err-all_files-clause-outcome
+returns-in_err-all_files-clause-outcome g c = λ aim start.
+    let out' = g.W.Sink.stream c.all_files.new.out in
+    let told' = g.E.Sink.stream c.all_files.new.faults in
+    fails_by c.from_residual.result _ (StopsBehind aim (g.F.Files.past c.all_files.new.files).given out' told')
+    c.in_err-all_files.field-0.0 c.from_residual.ensures.1 (c.in_err-all_files.ensures.outcome aim start)
 
 pub finish-requires-clause-holds : goal.finish-requires-clause-holds
 finish-requires-clause-holds g c κs within =
     let r = c.requires.rests in
-    let b = (c.in_ok-all_files.ensures.ok r.0 r.1).rests.0 in
+    let b = (c.in_ok-all_files.ensures.outcome r.0 r.1).rests.0 in
     (r.0, b.steps, b.holds, b.closed)
 
 pub returns-in_err-status-clause-same_list : goal.returns-in_err-status-clause-same_list
 returns-in_err-status-clause-same_list g c = c.in_ok-all_files.ensures.same_list
 
-pub returns-in_err-status-clause-ok : goal.returns-in_err-status-clause-ok
-returns-in_err-status-clause-ok g c = λ aim start.
-    IfOk-from_err c.from_residual-in_err-status.result _ c.from_residual-in_err-status.ensures.0
-
-pub returns-in_err-status-clause-err : goal.returns-in_err-status-clause-err
-returns-in_err-status-clause-err g c = λ aim start.
-    let out' = stream (g.W.Sink.taken c.finish.new.out) (g.W.Sink.failures c.finish.new.out) in
-    let told' = stream (g.E.Sink.taken c.all_files.new.faults) (g.E.Sink.failures c.all_files.new.faults) in
-    let d = c.in_ok-all_files.ensures.ok aim start in
+pub returns-in_err-status-clause-outcome : goal.returns-in_err-status-clause-outcome
+returns-in_err-status-clause-outcome g c = λ aim start.
+    let out' = g.W.Sink.stream c.finish.new.out in
+    let told' = g.E.Sink.stream c.all_files.new.faults in
+    let d = c.in_ok-all_files.ensures.outcome aim start in
     let given = (g.F.Files.past c.all_files.new.files).given in
     let fault = c.in_err-status.field-0.0 in
-    err_by c.from_residual-in_err-status.result (StopsBehind aim given out' told') fault
+    fails_by c.from_residual-in_err-status.result _ (StopsBehind aim given out' told') fault
     c.from_residual-in_err-status.ensures.1
-    (done_breaks d out' fault (c.in_err-status.ensures.err aim d.rests.0.steps d.rests.0.holds))
+    (done_breaks d out' fault (c.in_err-status.ensures aim d.rests.0.steps d.rests.0.holds))
 
 pub returns-clause-same_list : goal.returns-clause-same_list
 returns-clause-same_list g c = c.in_ok-all_files.ensures.same_list
 
-pub returns-clause-ok : goal.returns-clause-ok
-returns-clause-ok g c = λ aim start.
-    let out' = stream (g.W.Sink.taken c.finish.new.out) (g.W.Sink.failures c.finish.new.out) in
-    let d = c.in_ok-all_files.ensures.ok aim start in
+pub returns-clause-outcome : goal.returns-clause-outcome
+returns-clause-outcome g c = λ aim start.
+    let out' = g.W.Sink.stream c.finish.new.out in
+    let d = c.in_ok-all_files.ensures.outcome aim start in
     let b = d.rests.0 in
-    let ok = c.in_ok-status.ensures in
-    done_finishes d out' c.in_ok-status.status (ok.written aim b.steps b.holds) (ok.status aim b.steps b.holds)
-    (ok.calm aim b.steps b.holds)
-
-pub returns-clause-err : goal.returns-clause-err
-returns-clause-err g c = λ aim start. tt
+    let ok = c.in_ok-status.ensures aim b.steps b.holds in
+    done_finishes d out' c.in_ok-status.status ok.0 ok.1 ok.2

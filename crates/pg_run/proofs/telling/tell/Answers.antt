@@ -1,19 +1,12 @@
+use Rattle.std.proofs.Common.{◌∙◌}
+use Rattle.std.specs.List.{flat_map}
+use Rattle.pg_rows.proofs.WriteLemmas.{writes_as}
 use Rattle.pg_run.proofs.telling.tell.Goals as goal
 
-pub returns-in-Ok-clause-no_failure : goal.returns-in-Ok-clause-no_failure
-returns-in-Ok-clause-no_failure g c = c.write_all.ensures.no_failure
+pub returns-in-Ok : goal.returns-in-Ok
+returns-in-Ok g c =
+    writes_as c.as_slice.result.now (flat_map (λ part. part.now) c.args.parts.now) _ _ _
+    (c.as_slice.ensures.value ∙ c.in-Ok.ensures) c.write_all.ensures.writes
 
-pub returns-in-Ok-clause-failure : goal.returns-in-Ok-clause-failure
-returns-in-Ok-clause-failure g c = c.write_all.ensures.failure
-
-pub returns-in-Err-clause-told : goal.returns-in-Err-clause-told
-returns-in-Err-clause-told g c = c.write_each.ensures.told
-
-pub returns-in-Err-clause-no_failure : goal.returns-in-Err-clause-no_failure
-returns-in-Err-clause-no_failure g c = c.write_each.ensures.no_failure
-
-pub returns-in-Err-clause-part : goal.returns-in-Err-clause-part
-returns-in-Err-clause-part g c = c.write_each.ensures.part
-
-pub returns-in-Err-clause-failure : goal.returns-in-Err-clause-failure
-returns-in-Err-clause-failure g c = c.write_each.ensures.failure
+pub returns-in-Err : goal.returns-in-Err
+returns-in-Err g c = c.write_each.ensures

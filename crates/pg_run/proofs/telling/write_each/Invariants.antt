@@ -1,9 +1,10 @@
-use Rattle.std.proofs.Common.{◌≡◌, ◌++◌, take}
+use Rattle.std.proofs.Common.{drop}
 use Rattle.std.specs.List.{flat_map}
+use Rattle.pg_rows.proofs.WriteLemmas.{WritesAllBut}
 use Rattle.pg_run.proofs.telling.write_each.Given as goal
 
+-- the parts from the index on are left to write
 abbrev pub invariant-loop-part : goal.invariant-loop-part
-invariant-loop-part g l = record {
-  told : g.W.Sink.taken l.err ≡ g.W.Sink.taken l.fn.err ++ flat_map (λ part. part.now) (take l.part-index l.parts);
-  no_failure : g.W.Sink.failures l.err ≡ g.W.Sink.failures l.fn.err;
-}
+invariant-loop-part g l =
+    WritesAllBut (flat_map (λ part. part.now) l.parts) (flat_map (λ part. part.now) (drop l.part-index l.parts))
+    (g.W.Sink.stream l.fn.err) (g.W.Sink.stream l.err)

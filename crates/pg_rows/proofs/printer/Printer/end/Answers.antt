@@ -1,6 +1,5 @@
 use Rattle.std.proofs.Common.{◌≡◌, ℕ, List, [], ◌∷◌, ◌++◌, sym, ap, ◌∙◌, subst}
 use Rattle.std.specs.Fmt.{decimal}
-use Rattle.std.specs.Result.{OnOk, OnErr}
 use Rattle.pg_rows.specs.declared.format.Format.{Format}
 use Rattle.pg_rows.specs.declared.format.Mode.{Mode}
 use Rattle.pg_rows.specs.declared.format.Mode.TheVariants.{Count}
@@ -8,7 +7,6 @@ use Rattle.pg_rows.specs.Cursor.{Cursor, counted, named}
 use Rattle.pg_rows.specs.Modes.{rows_in}
 use Rattle.pg_rows.specs.Output.{name_mark, when}
 use Rattle.pg_rows.specs.Remembered.{end_rows}
-use Rattle.pg_rows.specs.Sink.{TakesPart}
 use Rattle.pg_rows.proofs.printer.Printer.end.Goals as goal
 
 abbrev count_text : Format → List ℕ → ℕ → List ℕ
@@ -22,19 +20,11 @@ count_is mine format c name kept mode same name_is kept_is =
     ∙ (ap (count_text format c.name) kept_is
     ∙ sym (ap (λ (m : Mode). rows_in m [] (counted format c) (named format c)) (sym (ap (λ f. f.mode) same) ∙ mode))))
 
-pub returns-in-Count-clause-all : goal.returns-in-Count-clause-all
-returns-in-Count-clause-all g c q format cur r =
-    let s = c.args.self.now in
-    let before = g.W.Sink.taken c.args.out.now in
-    let P : List ℕ → Type 0 = λ xs. OnOk c.write_count.result (g.W.Sink.taken c.write_count.new.out ≡ before ++ xs) in
-    subst P (count_is s.format format cur s.prefix s.progress.kept c.in-Count.is r.format_is r.name_is r.told.kept)
-    c.write_count.ensures.all
-
-pub returns-in-Count-clause-part : goal.returns-in-Count-clause-part
-returns-in-Count-clause-part g c q format cur r =
-    let s = c.args.self.now in
-    let before = g.W.Sink.taken c.args.out.now in
-    let P : List ℕ → Type 0 =
-    λ xs. OnErr c.write_count.result (TakesPart xs before (g.W.Sink.taken c.write_count.new.out)) in
-    subst P (count_is s.format format cur s.prefix s.progress.kept c.in-Count.is r.format_is r.name_is r.told.kept)
-    c.write_count.ensures.part
+pub returns-in-Count : goal.returns-in-Count
+returns-in-Count g c =
+    let s = c.args.self.now in (
+      count_text s.format s.prefix s.progress.kept,
+      c.write_count.ensures,
+      λ q format cur r.
+          count_is s.format format cur s.prefix s.progress.kept c.in-Count.is r.format_is r.name_is r.told.kept,
+    )

@@ -1,14 +1,13 @@
-use Rattle.std.proofs.Common.{◌++◌, cond, not, List, ℕ, [], refl, ap, ◌∙◌, subst}
+use Rattle.std.proofs.Common.{cond, not, [], refl, ap, ◌∙◌}
 use Rattle.std.proofs.lemmas.Bool.{and_right}
 use Rattle.pg_lines.specs.Search.{terminator}
 use Rattle.pg_lines.specs.Lines.{lines}
 use Rattle.pg_lines.specs.BlockParts.{parts_of_lines}
-use Rattle.pg_rows.specs.Sink.{TakesPart}
 use Rattle.pg_rows.specs.Trail.{run_pieces}
 use Rattle.pg_rows.specs.Modes.{shows_rows}
-use Rattle.pg_rows.proofs.SinkLemmas.{on_err}
 use Rattle.pg_rows.proofs.PieceLemmas.{parts_fit}
 use Rattle.pg_rows.proofs.PrinterSteps.{pieces_same}
+use Rattle.pg_rows.proofs.WriteLemmas.{writes_part, writes_as}
 use Rattle.pg_rows.proofs.printer.Printer.print_parts.Goals as goal
 
 pub write_parts-requires-clause-within : goal.write_parts-requires-clause-within
@@ -18,23 +17,21 @@ write_parts-requires-clause-within g c =
     parts_fit w.0 c.args.bytes.now c.args.parts.now
     (w.5.found_parts ∙ ap (λ b. cond b (parts_of_lines w.0 0 0 ls) []) w.4)
 
-pub returns-in_err-write_parts-clause-part : goal.returns-in_err-write_parts-clause-part
-returns-in_err-write_parts-clause-part g c q format cur r pieces found =
+pub returns-in_err-write_parts-clause-writes : goal.returns-in_err-write_parts-clause-writes
+returns-in_err-write_parts-clause-writes g c q format cur r pieces found =
     let a = c.args in
-    let start = g.W.Sink.taken a.out.now in
-    let after = g.W.Sink.taken c.write_parts.new.out in
     let same = pieces_same a.self.now q format cur a.bytes.now a.runs.now a.parts.now a.total c.cut-cut.result r pieces
     found (c.cut-cut.ensures.value q a.bytes.now found.found_lines) in
-    let P : List ℕ → Type 0 = λ t. TakesPart t start after in
-    on_err (P (run_pieces q format cur.name cur.trail (lines (terminator q) a.bytes.now))) c.from_residual.result
-    (subst P same c.in_err-write_parts.ensures.part)
+    writes_as _ (run_pieces q format cur.name cur.trail (lines (terminator q) a.bytes.now)) _ _ _ same
+    (writes_part _ _ _ c.from_residual.result c.from_residual.ensures.0 c.in_err-write_parts.ensures.writes.err)
 
-pub returns-clause-all : goal.returns-clause-all
-returns-clause-all g c q format cur r pieces found =
+pub returns-clause-writes : goal.returns-clause-writes
+returns-clause-writes g c q format cur r pieces found =
     let a = c.args in
     let same = pieces_same a.self.now q format cur a.bytes.now a.runs.now a.parts.now a.total c.cut-cut.result r pieces
     found (c.cut-cut.ensures.value q a.bytes.now found.found_lines) in
-    c.in_ok-write_parts.ensures.all ∙ ap (λ t. g.W.Sink.taken a.out.now ++ t) same
+    writes_as _ (run_pieces q format cur.name cur.trail (lines (terminator q) a.bytes.now)) _ _ _ same
+    (record { ok = c.in_ok-write_parts.ensures.writes.ok; err = tt })
 
 pub returns-clause-follows : goal.returns-clause-follows
 returns-clause-follows g c q format cur r pieces found =

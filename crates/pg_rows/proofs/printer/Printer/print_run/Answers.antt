@@ -1,15 +1,13 @@
 use Rattle.std.proofs.Common.{◌≡◌, ℕ, zero, suc, ◌+◌, ◌-◌, ◌<◌, ◌≤◌, ◌^◌, ◌++◌, List, [], ◌∷◌}
 use Rattle.std.proofs.Common.{length, take, drop, min, arith}
-use Rattle.std.proofs.Common.{sym, ap, ◌∙◌, subst, append_assoc, length-drop, refl, inl, inr}
+use Rattle.std.proofs.Common.{sym, ap, ◌∙◌, subst, length-drop, refl, inl, inr}
 use Rattle.std.proofs.lemmas.List.{take_rest}
 use Rattle.pg_lines.specs.Lines.{lines, AreWhole}
 use Rattle.pg_rows.specs.declared.printer.Printer.{Printer}
 use Rattle.pg_rows.specs.Output.{context}
-use Rattle.pg_rows.specs.Sink.{TakesPart}
 use Rattle.pg_rows.specs.Window.{held, IsWindow}
 use Rattle.pg_rows.specs.Printing.{leading, rows_of_passed, rows_of_kept}
-use Rattle.pg_rows.proofs.SinkLemmas.{on_err, on_ok, on_err_too}
-use Rattle.pg_rows.proofs.LeftLemmas.{takes_first, takes_second}
+use Rattle.pg_rows.proofs.WriteLemmas.{part_of_first, writes_part, writes_then, writes_as}
 use Rattle.pg_rows.proofs.printer.Printer.print_run.Goals as goal
 
 -- what is left of whole lines behind a place are whole lines
@@ -24,8 +22,8 @@ whole_drop end zero bytes w = w
 whole_drop end (suc k) [] w = inl refl
 whole_drop end (suc k) (b ∷ bytes) w = whole_drop end k bytes (whole_tail end b bytes w)
 
-pub returns-in_err-stop-clause-part : goal.returns-in_err-stop-clause-part
-returns-in_err-stop-clause-part g c =
+pub returns-in_err-stop-clause-writes : goal.returns-in_err-stop-clause-writes
+returns-in_err-stop-clause-writes g c =
     let a = c.args in
     let s = a.self.now in
     let gap = lines s.end a.gap.now in
@@ -33,11 +31,11 @@ returns-in_err-stop-clause-part g c =
     let all = held s.end s.window ++ drop a.progress.countdown gap in
     let first = rows_of_passed s.format s.end s.prefix a.progress gap in
     let second = rows_of_kept s.format s.end s.prefix s.earlier all a.passed text in
-    on_err (TakesPart (first ++ second) (g.W.Sink.taken a.out.now) (g.W.Sink.taken c.print_passed.new.out))
-    c.from_residual.result (takes_first first second _ _ c.in_err-stop.ensures.part)
+    writes_part (first ++ second) _ _ c.from_residual.result c.from_residual.ensures.0
+    (part_of_first first second _ _ c.in_err-stop.ensures.writes.err)
 
-pub returns-clause-part : goal.returns-clause-part
-returns-clause-part g c =
+pub returns-clause-writes : goal.returns-clause-writes
+returns-clause-writes g c =
     let a = c.args in
     let s = a.self.now in
     let t = c.print_passed.new.self in
@@ -55,13 +53,8 @@ returns-clause-part g c =
     ap (λ p. rows_of_kept p.format p.end p.prefix p.earlier (held p.end p.window ++ lines p.end near) a.passed
     (lines p.end a.text.now)) c.in_ok-stop.ensures.same
     ∙ ap (λ xs. rows_of_kept s.format s.end s.prefix s.earlier (held s.end s.window ++ xs) a.passed text) rest in
-    let start = g.W.Sink.taken a.out.now in
-    let middle = g.W.Sink.taken c.print_passed.new.out in
-    let after = g.W.Sink.taken c.print_kept.new.out in
-    let Q : List ℕ → Type 0 = λ xs. TakesPart xs middle after in
-    on_err_too c.print_kept.result (Q written) (TakesPart (first ++ second) start after)
-    (λ e. takes_second first second start middle after c.in_ok-stop.ensures.all (subst Q as_second e))
-    c.print_kept.ensures.part
+    writes_then first second _ _ _ _ c.in_ok-stop.ensures.writes.ok
+    (writes_as written second _ _ _ as_second c.print_kept.ensures.writes)
 
 pub print_kept-requires-clause-window : goal.print_kept-requires-clause-window
 print_kept-requires-clause-window g c =
@@ -114,30 +107,3 @@ print_kept-requires-clause-small g c =
     let Q : Printer g.row.A.Denot → Type 0 =
     λ p. c.args.passed.number + length (lines p.end c.args.text.now) < 2 ^ 63 in
     subst Q (sym c.in_ok-stop.ensures.same) c.requires.small
-
-pub returns-clause-all : goal.returns-clause-all
-returns-clause-all g c =
-    let a = c.args in
-    let s = a.self.now in
-    let t = c.print_passed.new.self in
-    let stop = c.in_ok-stop.stop in
-    let gap = lines s.end a.gap.now in
-    let text = lines s.end a.text.now in
-    let first = rows_of_passed s.format s.end s.prefix a.progress gap in
-    let all = held s.end s.window ++ drop a.progress.countdown gap in
-    let second = rows_of_kept s.format s.end s.prefix s.earlier all a.passed text in
-    let near = take (length a.gap.now - stop) (drop stop a.gap.now) in
-    let written = rows_of_kept t.format t.end t.prefix t.earlier (held t.end t.window ++ lines t.end near) a.passed
-    (lines t.end a.text.now) in
-    let rest = ap (lines s.end) (take_rest a.gap.now stop) ∙ c.in_ok-stop.ensures.rest in
-    let as_second : written ≡ second =
-    ap (λ p. rows_of_kept p.format p.end p.prefix p.earlier (held p.end p.window ++ lines p.end near) a.passed
-    (lines p.end a.text.now)) c.in_ok-stop.ensures.same
-    ∙ ap (λ xs. rows_of_kept s.format s.end s.prefix s.earlier (held s.end s.window ++ xs) a.passed text) rest in
-    let start = g.W.Sink.taken a.out.now in
-    let middle = g.W.Sink.taken c.print_passed.new.out in
-    let after = g.W.Sink.taken c.print_kept.new.out in
-    on_ok c.print_kept.result (after ≡ middle ++ written) (after ≡ start ++ (first ++ second))
-    (λ e. e ∙ (ap (λ xs. middle ++ xs) as_second ∙ (ap (λ xs. xs ++ second) c.in_ok-stop.ensures.all
-    ∙ append_assoc start first second)))
-    c.print_kept.ensures.all

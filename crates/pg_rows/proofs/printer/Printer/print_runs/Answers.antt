@@ -5,7 +5,7 @@ use Rattle.std.proofs.lemmas.List.{drop_all, length-take-le}
 use Rattle.pg_lines.specs.Search.{terminator}
 use Rattle.pg_lines.specs.Lines.{lines}
 use Rattle.pg_rows.specs.declared.printer.Printer.{Printer}
-use Rattle.pg_rows.specs.Sink.{TakesPart}
+use Rattle.pg_rows.specs.Sink.{WritesPart}
 use Rattle.pg_rows.specs.Trail.{run_rows}
 use Rattle.pg_rows.specs.Window.{held}
 use Rattle.pg_rows.specs.Remembered.{Remembers, ComesLast}
@@ -16,6 +16,9 @@ use Rattle.pg_rows.proofs.PrinterSteps.{before_all, can_step, IsStep, step_rows,
 use Rattle.pg_rows.proofs.PrinterSteps.{stops, ends_some}
 use Rattle.pg_rows.proofs.printer.Printer.print_runs.Goals as goal
 
+rises : (before middle after : ℕ) → middle ≡ before → middle < after → before < after
+rises before middle after e h = omega arith
+
 pub loop-run-init : goal.loop-run-init
 loop-run-init g c = record {
   same = refl;
@@ -24,7 +27,7 @@ loop-run-init g c = record {
   fresh = λ e. refl;
   kept = λ some. absurd (omega (arith, some));
   comes = λ q format cur r shows has.
-      before_all c.args.self.now q format cur c.args.bytes.now (g.W.Sink.taken c.args.out.now) c.args.runs.now
+      before_all c.args.self.now q format cur c.args.bytes.now (g.W.Sink.stream c.args.out.now).taken c.args.runs.now
       c.args.total
       r shows has;
 }
@@ -36,7 +39,8 @@ step-next-requires-clause-next g c =
     let here = get_or c.args.runs.now l.run-index no_run in
     let P : Printer g.row.A.Denot → Type 0 = λ s. Remembers s w.0 w.1 w.2 in
     let r = subst P (sym l.invariant.same) w.3 in
-    let can = can_step l.self w.0 w.1 w.2 c.args.bytes.now (g.W.Sink.taken c.args.out.now) (g.W.Sink.taken l.out)
+    let can = can_step l.self w.0 w.1 w.2 c.args.bytes.now (g.W.Sink.stream c.args.out.now).taken
+    (g.W.Sink.stream l.out).taken
     l.place
     c.args.runs.now l.run-index c.args.total c.keeps-count.result r w.5 (l.invariant.comes w.0 w.1 w.2 r w.4 w.5)
     c.loop-run-test.true c.keeps-count.ensures c.if-count-eq0.false in
@@ -49,7 +53,8 @@ step-next-requires-clause-room g c =
     let here = get_or c.args.runs.now l.run-index no_run in
     let P : Printer g.row.A.Denot → Type 0 = λ s. Remembers s w.0 w.1 w.2 in
     let r = subst P (sym l.invariant.same) w.3 in
-    let can = can_step l.self w.0 w.1 w.2 c.args.bytes.now (g.W.Sink.taken c.args.out.now) (g.W.Sink.taken l.out)
+    let can = can_step l.self w.0 w.1 w.2 c.args.bytes.now (g.W.Sink.stream c.args.out.now).taken
+    (g.W.Sink.stream l.out).taken
     l.place
     c.args.runs.now l.run-index c.args.total c.keeps-count.result r w.5 (l.invariant.comes w.0 w.1 w.2 r w.4 w.5)
     c.loop-run-test.true c.keeps-count.ensures c.if-count-eq0.false in
@@ -65,7 +70,8 @@ step-next-requires-clause-small g c =
     let here = get_or c.args.runs.now l.run-index no_run in
     let P : Printer g.row.A.Denot → Type 0 = λ s. Remembers s w.0 w.1 w.2 in
     let r = subst P (sym l.invariant.same) w.3 in
-    let can = can_step l.self w.0 w.1 w.2 c.args.bytes.now (g.W.Sink.taken c.args.out.now) (g.W.Sink.taken l.out)
+    let can = can_step l.self w.0 w.1 w.2 c.args.bytes.now (g.W.Sink.stream c.args.out.now).taken
+    (g.W.Sink.stream l.out).taken
     l.place
     c.args.runs.now l.run-index c.args.total c.keeps-count.result r w.5 (l.invariant.comes w.0 w.1 w.2 r w.4 w.5)
     c.loop-run-test.true c.keeps-count.ensures c.if-count-eq0.false in
@@ -83,7 +89,8 @@ print_step-requires-clause-next g c =
     let here = get_or c.args.runs.now l.run-index no_run in
     let P : Printer g.row.A.Denot → Type 0 = λ s. Remembers s w.0 w.1 w.2 in
     let r = subst P (sym l.invariant.same) w.3 in
-    let can = can_step l.self w.0 w.1 w.2 c.args.bytes.now (g.W.Sink.taken c.args.out.now) (g.W.Sink.taken l.out)
+    let can = can_step l.self w.0 w.1 w.2 c.args.bytes.now (g.W.Sink.stream c.args.out.now).taken
+    (g.W.Sink.stream l.out).taken
     l.place
     c.args.runs.now l.run-index c.args.total c.keeps-count.result r w.5 (l.invariant.comes w.0 w.1 w.2 r w.4 w.5)
     c.loop-run-test.true c.keeps-count.ensures c.if-count-eq0.false in
@@ -96,7 +103,8 @@ print_step-requires-clause-small g c =
     let here = get_or c.args.runs.now l.run-index no_run in
     let P : Printer g.row.A.Denot → Type 0 = λ s. Remembers s w.0 w.1 w.2 in
     let r = subst P (sym l.invariant.same) w.3 in
-    let can = can_step l.self w.0 w.1 w.2 c.args.bytes.now (g.W.Sink.taken c.args.out.now) (g.W.Sink.taken l.out)
+    let can = can_step l.self w.0 w.1 w.2 c.args.bytes.now (g.W.Sink.stream c.args.out.now).taken
+    (g.W.Sink.stream l.out).taken
     l.place
     c.args.runs.now l.run-index c.args.total c.keeps-count.result r w.5 (l.invariant.comes w.0 w.1 w.2 r w.4 w.5)
     c.loop-run-test.true c.keeps-count.ensures c.if-count-eq0.false in
@@ -111,44 +119,44 @@ print_step-requires-clause-small g c =
     (omega (arith, can.next.count)) in
     omega arith
 
-pub returns-then-count-eq0-clause-all : goal.returns-then-count-eq0-clause-all
-returns-then-count-eq0-clause-all g c q format cur r shows has =
+pub returns-then-count-eq0-clause-comes : goal.returns-then-count-eq0-clause-comes
+returns-then-count-eq0-clause-comes g c q format cur r shows has =
     let l = c.loop-run in
     let a = c.args in
-    let start = g.W.Sink.taken a.out.now in
+    let start = (g.W.Sink.stream a.out.now).taken in
     let P : Printer g.row.A.Denot → Type 0 = λ s. Remembers s q format cur in
     let r' = subst P (sym l.invariant.same) r in
     let h = l.invariant.comes q format cur r' shows has in
     let Q : Printer g.row.A.Denot → Type 0 = λ s. ComesLast q format cur (held (terminator q) s.window) a.bytes.now
     start
-    (g.W.Sink.taken l.out) s.progress l.place in
-    let full = stops l.self q format cur a.bytes.now start (g.W.Sink.taken l.out) l.place a.runs.now l.run-index
+    (g.W.Sink.stream l.out).taken s.progress l.place in
+    let full = stops l.self q format cur a.bytes.now start (g.W.Sink.stream l.out).taken l.place a.runs.now l.run-index
     c.keeps-count.result r' h c.loop-run-test.true c.keeps-count.ensures c.if-count-eq0.true in
-    subst Q l.invariant.same (comes_last l.self q format cur a.bytes.now start (g.W.Sink.taken l.out) l.place
+    subst Q l.invariant.same (comes_last l.self q format cur a.bytes.now start (g.W.Sink.stream l.out).taken l.place
     (drop l.run-index a.runs.now) h (inr full)
     (λ e. l.invariant.fresh e ∙ ap (λ s. s.progress) (sym l.invariant.same)) l.invariant.kept)
 
-pub returns-clause-all : goal.returns-clause-all
-returns-clause-all g c q format cur r shows has =
+pub returns-clause-comes : goal.returns-clause-comes
+returns-clause-comes g c q format cur r shows has =
     let l = c.loop-run in
     let a = c.args in
-    let start = g.W.Sink.taken a.out.now in
+    let start = (g.W.Sink.stream a.out.now).taken in
     let P : Printer g.row.A.Denot → Type 0 = λ s. Remembers s q format cur in
     let r' = subst P (sym l.invariant.same) r in
     let h = l.invariant.comes q format cur r' shows has in
     let Q : Printer g.row.A.Denot → Type 0 = λ s. ComesLast q format cur (held (terminator q) s.window) a.bytes.now
     start
-    (g.W.Sink.taken l.out) s.progress l.place in
+    (g.W.Sink.stream l.out).taken s.progress l.place in
     let none : drop l.run-index a.runs.now ≡ [] = drop_all l.run-index a.runs.now c.loop-run-test.false in
-    subst Q l.invariant.same (comes_last l.self q format cur a.bytes.now start (g.W.Sink.taken l.out) l.place
+    subst Q l.invariant.same (comes_last l.self q format cur a.bytes.now start (g.W.Sink.stream l.out).taken l.place
     (drop l.run-index a.runs.now) h (inl none)
     (λ e. l.invariant.fresh e ∙ ap (λ s. s.progress) (sym l.invariant.same)) l.invariant.kept)
 
-pub returns-in_err-print_step-clause-part : goal.returns-in_err-print_step-clause-part
-returns-in_err-print_step-clause-part g c q format cur r shows has =
+pub returns-in_err-print_step-clause-stops : goal.returns-in_err-print_step-clause-stops
+returns-in_err-print_step-clause-stops g c q format cur r shows has =
     let l = c.loop-run in
     let a = c.args in
-    let start = g.W.Sink.taken a.out.now in
+    let start = (g.W.Sink.stream a.out.now).taken in
     let P : Printer g.row.A.Denot → Type 0 = λ s. Remembers s q format cur in
     let r' = subst P (sym l.invariant.same) r in
     let h = l.invariant.comes q format cur r' shows has in
@@ -160,18 +168,22 @@ returns-in_err-print_step-clause-part g c q format cur r shows has =
       ends = c.step-next.ensures.ends;
       seen = c.step-next.ensures.seen;
     } in
-    let k = stepped l.self q format cur a.bytes.now start (g.W.Sink.taken l.out) l.place next.place next.passed
+    let k = stepped l.self q format cur a.bytes.now start (g.W.Sink.stream l.out).taken l.place next.place next.passed
     a.runs.now
     l.run-index c.keeps-count.result r' h c.loop-run-test.true c.keeps-count.ensures c.if-count-eq0.false step in
     let more = step_rows l.self.format l.self.end l.self.prefix l.self.earlier l.self.window a.bytes.now l.place.at
     here.span.start next.place.at l.place.progress next.passed in
-    let after = g.W.Sink.taken c.print_step.new.out in
+    let after = (g.W.Sink.stream c.print_step.new.out).taken in
     let hidden = held (terminator q) l.self.window in
-    on_err (TakesPart (run_rows q format cur.name cur.earlier cur.trail (lines (terminator q) a.bytes.now)) start after)
-    c.from_residual.result
-    (failed_before q format cur hidden hidden a.bytes.now start (g.W.Sink.taken l.out) more after l.place.progress
-    next.place.progress l.place.at l.place.seen next.place.at next.place.seen h.here k.here
-    c.in_err-print_step.ensures.part)
+    let failed = c.in_err-print_step.ensures.writes.err in
+    on_err (WritesPart (run_rows q format cur.name cur.earlier cur.trail (lines (terminator q) a.bytes.now))
+    (g.W.Sink.stream a.out.now) (g.W.Sink.stream c.print_step.new.out)) c.from_residual.result
+    (record {
+      part = failed_before q format cur hidden hidden a.bytes.now start (g.W.Sink.stream l.out).taken more after
+          l.place.progress next.place.progress l.place.at l.place.seen next.place.at next.place.seen h.here k.here
+          failed.part;
+      failure = rises _ _ _ l.invariant.no_failure failed.failure;
+    })
 
 pub loop-run-preserved : goal.loop-run-preserved
 loop-run-preserved g c =
@@ -180,7 +192,8 @@ loop-run-preserved g c =
     let here = get_or c.args.runs.now l.run-index no_run in
     let P : Printer g.row.A.Denot → Type 0 = λ s. Remembers s w.0 w.1 w.2 in
     let r = subst P (sym l.invariant.same) w.3 in
-    let can = can_step l.self w.0 w.1 w.2 c.args.bytes.now (g.W.Sink.taken c.args.out.now) (g.W.Sink.taken l.out)
+    let can = can_step l.self w.0 w.1 w.2 c.args.bytes.now (g.W.Sink.stream c.args.out.now).taken
+    (g.W.Sink.stream l.out).taken
     l.place
     c.args.runs.now l.run-index c.args.total c.keeps-count.result r w.5 (l.invariant.comes w.0 w.1 w.2 r w.4 w.5)
     c.loop-run-test.true c.keeps-count.ensures c.if-count-eq0.false in
@@ -197,13 +210,13 @@ loop-run-preserved g c =
     c.step-next.ensures.ends can.next.count can.few some in
     record {
       same = c.in_ok-print_step.ensures.same ∙ l.invariant.same;
-      no_failure = c.in_ok-print_step.ensures.no_failure ∙ l.invariant.no_failure;
+      no_failure = c.in_ok-print_step.ensures.writes.ok.no_failure ∙ l.invariant.no_failure;
       number = omega arith;
       fresh = λ none. absurd (omega (arith, none, place_some));
       kept = λ more. c.step-next.ensures.kept.behind;
       comes = λ q format cur r0 shows has.
           let a = c.args in
-          let start = g.W.Sink.taken a.out.now in
+          let start = (g.W.Sink.stream a.out.now).taken in
           let R : Printer g.row.A.Denot → Type 0 = λ s. Remembers s q format cur in
           let r' = subst R c.in_ok-print_step.ensures.same r0 in
           let h = l.invariant.comes q format cur r' shows has in
@@ -214,7 +227,8 @@ loop-run-preserved g c =
             ends = c.step-next.ensures.ends;
             seen = c.step-next.ensures.seen;
           } in
-          let k = stepped l.self q format cur a.bytes.now start (g.W.Sink.taken l.out) l.place next.place next.passed
+          let k = stepped l.self q format cur a.bytes.now start (g.W.Sink.stream l.out).taken l.place next.place
+          next.passed
           a.runs.now
           l.run-index c.keeps-count.result r' h c.loop-run-test.true c.keeps-count.ensures c.if-count-eq0.false step in
           let more = step_rows l.self.format l.self.end l.self.prefix l.self.earlier l.self.window a.bytes.now
@@ -223,7 +237,7 @@ loop-run-preserved g c =
           let S : List ℕ → Type 0 = λ t. IsBefore q format cur (held (terminator q) l.self.window) a.bytes.now start t
           next.place.progress next.place.at next.place.seen (drop (l.run-index + 1) a.runs.now) in
           let T : Printer g.row.A.Denot → Type 0 = λ s. IsBefore q format cur (held (terminator q) s.window) a.bytes.now
-          start (g.W.Sink.taken c.print_step.new.out) next.place.progress next.place.at next.place.seen
+          start (g.W.Sink.stream c.print_step.new.out).taken next.place.progress next.place.at next.place.seen
           (drop (l.run-index + 1) a.runs.now) in
-          subst T (sym c.in_ok-print_step.ensures.same) (subst S (sym c.in_ok-print_step.ensures.all) k);
+          subst T (sym c.in_ok-print_step.ensures.same) (subst S (sym c.in_ok-print_step.ensures.writes.ok.taken) k);
     }

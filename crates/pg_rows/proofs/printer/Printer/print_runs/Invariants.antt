@@ -10,12 +10,13 @@ use Rattle.pg_rows.proofs.printer.Printer.print_runs.Given as goal
 abbrev pub invariant-loop-run : goal.invariant-loop-run
 invariant-loop-run g l = record {
   same : l.self ≡ l.fn.self;
-  no_failure : g.W.Sink.failures l.out ≡ g.W.Sink.failures l.fn.out;
+  no_failure : (g.W.Sink.stream l.out).failures ≡ (g.W.Sink.stream l.fn.out).failures;
   number : l.place.progress.number ≡ l.fn.self.progress.number + l.place.seen;
   fresh : l.place.at ≡ 0 → l.place.progress ≡ l.fn.self.progress;
   kept : 0 < l.place.at → l.place.progress.behind ≡ 0;
   comes : (q : Search) (format : Format) (c : Cursor) → Remembers l.self q format c → shows_lines q format ≡ true
       → HasLines q l.bytes l.runs l.total →
-      IsBefore q format c (held (terminator q) l.self.window) l.bytes (g.W.Sink.taken l.fn.out) (g.W.Sink.taken l.out)
+      IsBefore q format c (held (terminator q) l.self.window) l.bytes (g.W.Sink.stream l.fn.out).taken
+      (g.W.Sink.stream l.out).taken
       l.place.progress l.place.at l.place.seen (drop l.run-index l.runs);
 }

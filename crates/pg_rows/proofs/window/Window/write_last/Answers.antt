@@ -5,12 +5,11 @@ use Rattle.std.proofs.lemmas.List.{append-nil}
 use Rattle.std.specs.List.{AllByRecursion}
 use Rattle.circular_buffer.specs.Buffer.{keep_last}
 use Rattle.pg_rows.specs.declared.window.Tail.{Tail}
-use Rattle.pg_rows.specs.Sink.{TakesPart}
+use Rattle.pg_rows.specs.Sink.{WritesAll, WritesPart}
 use Rattle.pg_rows.specs.Stretch.{marked_rows}
 use Rattle.pg_rows.specs.Window.{lines_in, tail_lines, held, IsTail}
-use Rattle.pg_rows.proofs.SinkLemmas.{on_err, ok_of_err, rises, stays_above}
-use Rattle.pg_rows.proofs.LeftLemmas.{TakesBut, left_whole, left_less, left_part}
 use Rattle.pg_rows.proofs.WindowLemmas.{shown_tails, shown_count}
+use Rattle.pg_rows.proofs.WriteLemmas.{WritesAllBut, writes_part, left_whole, left_less, left_none, left_part}
 use Rattle.pg_rows.proofs.window.Window.write_last.Goals as goal
 
 pub loop-tail-init : goal.loop-tail-init
@@ -23,11 +22,11 @@ loop-tail-init g c =
     let same : length all - a.count ≡ skip = ap (λ n. n - a.count) (sym c.requires.window.counted) in
     let left : length (drop skip all) ≡ a.count =
     omega (arith, length-drop skip all, c.requires.window.counted, c.requires.within) in
-    let start = g.W.Sink.taken a.out.now in
+    let start = g.W.Sink.stream a.out.now in
     let rows = marked_rows a.format.now a.end a.prefix.now 45 a.number in
     let whole = rows (keep_last a.count all) in
     let to = ap (λ n. rows (drop n all)) same ∙ ap (λ ts. rows (drop skip (lines_in a.end ts))) (sym items) in
-    let P : List ℕ → Type 0 = λ rest. TakesBut whole rest start start in
+    let P : List ℕ → Type 0 = λ rest. WritesAllBut whole rest start start in
     let Q : List (Tail g.row.A.Denot) → Type 0 = λ ts. AllByRecursion (IsTail a.end) ts in
     let R : List (Tail g.row.A.Denot) → Type 0 = λ ts. a.number + length (drop skip (lines_in a.end ts)) < 2 ^ 64 in
     record {
@@ -37,11 +36,10 @@ loop-tail-init g c =
       small = subst R (sym items) (omega (arith, left, c.requires.small));
       prefix = refl;
       left = subst P to (left_whole whole start);
-      no_failure = refl;
     }
 
-pub returns-in_err-write_from-clause-part : goal.returns-in_err-write_from-clause-part
-returns-in_err-write_from-clause-part g c =
+pub returns-in_err-write_from-clause-writes : goal.returns-in_err-write_from-clause-writes
+returns-in_err-write_from-clause-writes g c =
     let a = c.args in
     let l = c.loop-tail in
     let t = c.in-Some.tail.now in
@@ -49,19 +47,19 @@ returns-in_err-write_from-clause-part g c =
     let rows = λ (name : List ℕ) (n : ℕ) (ls : List (List ℕ)). marked_rows a.format.now a.end name 45 n ls in
     let Q : List (Tail g.row.A.Denot) → Type 0 = λ xs. AllByRecursion (IsTail a.end) xs in
     let each = subst Q c.in-Some.ensures.steps l.invariant.each in
-    let start = g.W.Sink.taken a.out.now in
-    let middle = g.W.Sink.taken l.out in
-    let after = g.W.Sink.taken c.write_from.new.out in
+    let start = g.W.Sink.stream a.out.now in
+    let middle = g.W.Sink.stream l.out in
+    let after = g.W.Sink.stream c.write_from.new.out in
     let first = drop l.skip (tail_lines a.end t) in
     let later = drop (l.skip - t.lines) (lines_in a.end ts) in
     let whole = rows a.prefix.now a.number (keep_last a.count (held a.end a.self.now)) in
     let parted = ap (λ xs. rows a.prefix.now l.at (drop l.skip (lines_in a.end xs))) c.in-Some.ensures.steps
     ∙ shown_tails a.format.now a.end a.prefix.now l.at l.skip t ts each.0 in
-    let P : List ℕ → Type 0 = λ name. TakesPart (rows name l.at first) middle after in
-    on_err (TakesPart whole start after) c.from_residual.result
+    let P : List ℕ → Type 0 = λ name. WritesPart (rows name l.at first) middle after in
+    writes_part whole start after c.from_residual.result c.from_residual.ensures.0
     (left_part whole (rows a.prefix.now l.at (drop l.skip (lines_in a.end l.tail-iterator)))
     (rows a.prefix.now (l.at + (t.lines - l.skip)) later) (rows a.prefix.now l.at first) start middle after parted
-    (subst P l.invariant.prefix c.in_err-write_from.ensures.part) l.invariant.left)
+    (subst P l.invariant.prefix c.in_err-write_from.ensures.writes.err) l.invariant.left)
 
 pub loop-tail-preserved : goal.loop-tail-preserved
 loop-tail-preserved g c =
@@ -72,21 +70,21 @@ loop-tail-preserved g c =
     let rows = λ (name : List ℕ) (n : ℕ) (ls : List (List ℕ)). marked_rows a.format.now a.end name 45 n ls in
     let Q : List (Tail g.row.A.Denot) → Type 0 = λ xs. AllByRecursion (IsTail a.end) xs in
     let each = subst Q c.in-Some.ensures.steps l.invariant.each in
-    let start = g.W.Sink.taken a.out.now in
-    let middle = g.W.Sink.taken l.out in
-    let after = g.W.Sink.taken c.write_from.new.out in
+    let start = g.W.Sink.stream a.out.now in
+    let middle = g.W.Sink.stream l.out in
+    let after = g.W.Sink.stream c.write_from.new.out in
     let first = drop l.skip (tail_lines a.end t) in
     let later = drop (l.skip - t.lines) (lines_in a.end ts) in
     let whole = rows a.prefix.now a.number (keep_last a.count (held a.end a.self.now)) in
     let parted = ap (λ xs. rows a.prefix.now l.at (drop l.skip (lines_in a.end xs))) c.in-Some.ensures.steps
     ∙ shown_tails a.format.now a.end a.prefix.now l.at l.skip t ts each.0 in
-    let P : List ℕ → Type 0 = λ name. after ≡ middle ++ rows name l.at first in
+    let P : List ℕ → Type 0 = λ name. WritesAll (rows name l.at first) middle after in
     let shown = sym c.saturating_sub.ensures in
     let skipped = sym c.saturating_sub-skip.ensures in
     let counted = ap (λ xs. length (drop l.skip (lines_in a.end xs))) c.in-Some.ensures.steps
     ∙ shown_count a.end l.skip t ts each.0 in
-    let R : ℕ → Type 0 = λ n. TakesBut whole (rows a.prefix.now (l.at + n) later) start after in
-    let S : ℕ → Type 0 = λ n. TakesBut whole
+    let R : ℕ → Type 0 = λ n. WritesAllBut whole (rows a.prefix.now (l.at + n) later) start after in
+    let S : ℕ → Type 0 = λ n. WritesAllBut whole
     (rows a.prefix.now (l.at + c.saturating_sub.result) (drop n (lines_in a.end ts))) start after in
     let T : ℕ → Type 0 = λ n. l.at + n + length later < 2 ^ 64 in
     let U : ℕ → Type 0 = λ n. l.at + c.saturating_sub.result + length (drop n (lines_in a.end ts)) < 2 ^ 64 in
@@ -99,8 +97,7 @@ loop-tail-preserved g c =
       left = subst S skipped (subst R shown (left_less whole
           (rows a.prefix.now l.at (drop l.skip (lines_in a.end l.tail-iterator)))
           (rows a.prefix.now (l.at + (t.lines - l.skip)) later) (rows a.prefix.now l.at first) start middle after parted
-          (subst P l.invariant.prefix c.in_ok-write_from.ensures.all) l.invariant.left));
-      no_failure = c.in_ok-write_from.ensures.no_failure ∙ l.invariant.no_failure;
+          (subst P l.invariant.prefix c.in_ok-write_from.ensures.writes.ok) l.invariant.left));
     }
 
 shown_fits : (at skip lines shown later all : ℕ) → all ≡ (lines - skip) + later → shown ≡ lines - skip
@@ -131,25 +128,6 @@ write_from-requires-clause-small g c =
 pub returns-in_err-write_from-clause-same : goal.returns-in_err-write_from-clause-same
 returns-in_err-write_from-clause-same g c = c.in_err-write_from.ensures.same ∙ c.loop-tail.invariant.prefix
 
-pub returns-in_err-write_from-clause-all : goal.returns-in_err-write_from-clause-all
-returns-in_err-write_from-clause-all g c = ok_of_err c.from_residual.result _ c.from_residual.ensures.0
-
-pub returns-in_err-write_from-clause-failure : goal.returns-in_err-write_from-clause-failure
-returns-in_err-write_from-clause-failure g c =
-    let start = g.W.Sink.failures c.args.out.now in
-    let after = g.W.Sink.failures c.write_from.new.out in
-    on_err (start < after) c.from_residual.result
-    (rises start (g.W.Sink.failures c.loop-tail.out) after c.loop-tail.invariant.no_failure
-    c.in_err-write_from.ensures.failure)
-
-pub returns-in_err-write_from-clause-no_failure : goal.returns-in_err-write_from-clause-no_failure
-returns-in_err-write_from-clause-no_failure g c = ok_of_err c.from_residual.result _ c.from_residual.ensures.0
-
-pub returns-in_err-write_from-clause-never_falls : goal.returns-in_err-write_from-clause-never_falls
-returns-in_err-write_from-clause-never_falls g c =
-    stays_above (g.W.Sink.failures c.args.out.now) (g.W.Sink.failures c.loop-tail.out)
-    (g.W.Sink.failures c.write_from.new.out) c.loop-tail.invariant.no_failure c.in_err-write_from.ensures.never_falls
-
 pub overflow_add-at : goal.overflow_add-at
 overflow_add-at g c =
     let a = c.args in
@@ -168,18 +146,16 @@ drop_none : (k : ℕ) → drop {A = List ℕ} k [] ≡ []
 drop_none zero = refl
 drop_none (suc k) = refl
 
-none_left : (whole rest before after : List ℕ) → rest ≡ [] → TakesBut whole rest before after
-    → after ≡ before ++ whole
-none_left whole rest before after e h =
-    h.taken ∙ ap (λ xs. before ++ xs) (sym (append-nil h.part) ∙ (ap (λ xs. h.part ++ xs) (sym e) ∙ h.joins))
-
-pub returns-clause-all : goal.returns-clause-all
-returns-clause-all g c =
+pub returns-clause-writes : goal.returns-clause-writes
+returns-clause-writes g c =
     let a = c.args in
     let l = c.loop-tail in
     let whole = marked_rows a.format.now a.end a.prefix.now 45 a.number (keep_last a.count (held a.end a.self.now)) in
     let rows = λ (ls : List (List ℕ)). marked_rows a.format.now a.end a.prefix.now 45 l.at ls in
     let none = ap (λ ts. rows (drop l.skip (lines_in a.end ts))) c.in-None.ensures.steps.0
     ∙ ap rows (drop_none l.skip) in
-    none_left whole (rows (drop l.skip (lines_in a.end l.tail-iterator))) (g.W.Sink.taken a.out.now)
-    (g.W.Sink.taken l.out) none l.invariant.left
+    record {
+      ok = left_none whole (rows (drop l.skip (lines_in a.end l.tail-iterator))) (g.W.Sink.stream a.out.now)
+          (g.W.Sink.stream l.out) none l.invariant.left;
+      err = tt;
+    }

@@ -3,7 +3,7 @@ use Rattle.std.specs.List.{AllByRecursion}
 use Rattle.circular_buffer.specs.Buffer.{keep_last}
 use Rattle.pg_rows.specs.Stretch.{marked_rows}
 use Rattle.pg_rows.specs.Window.{lines_in, held, IsTail}
-use Rattle.pg_rows.proofs.LeftLemmas.{TakesBut}
+use Rattle.pg_rows.proofs.WriteLemmas.{WritesAllBut}
 use Rattle.pg_rows.proofs.window.Window.write_last.Given as goal
 
 -- the rows of the tails to come are left to write, but for the lines that are still to be skipped
@@ -14,8 +14,7 @@ invariant-loop-tail g l = record {
   each : AllByRecursion (IsTail l.end) l.tail-iterator;
   small : l.at + length (drop l.skip (lines_in l.end l.tail-iterator)) < 2 ^ 64;
   prefix : l.prefix ≡ l.fn.prefix;
-  left : TakesBut (marked_rows l.format l.end l.fn.prefix 45 l.number (keep_last l.count (held l.end l.self)))
+  left : WritesAllBut (marked_rows l.format l.end l.fn.prefix 45 l.number (keep_last l.count (held l.end l.self)))
       (marked_rows l.format l.end l.fn.prefix 45 l.at (drop l.skip (lines_in l.end l.tail-iterator)))
-      (g.W.Sink.taken l.fn.out) (g.W.Sink.taken l.out);
-  no_failure : g.W.Sink.failures l.out ≡ g.W.Sink.failures l.fn.out;
+      (g.W.Sink.stream l.fn.out) (g.W.Sink.stream l.out);
 }

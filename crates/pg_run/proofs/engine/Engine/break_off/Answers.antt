@@ -6,8 +6,8 @@ flush-requires-clause-holds g c κs within = c.requires.holds
 
 pub returns-in-Ok : goal.returns-in-Ok
 returns-in-Ok g c = λ aim steps h.
-    let ok = c.in-Ok.ensures.ok aim steps h in
+    let ok = c.in-Ok.ensures.outcome aim steps h in
     inl (refl, ok.1, ok.0.calm)
 
 pub returns-in-Err : goal.returns-in-Err
-returns-in-Err g c = λ aim steps h. inr (c.in-Err.ensures.err aim steps h)
+returns-in-Err g c = λ aim steps h. inr (c.in-Err.ensures.outcome aim steps h)

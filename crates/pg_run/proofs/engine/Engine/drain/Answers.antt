@@ -1,30 +1,24 @@
 use Rattle.std.proofs.Common.{ap, map, refl}
 use Rattle.std.specs.Arc.{arc_value}
-use Rattle.pg_run.specs.Holding.{Broke, stream, past_of, format_of}
+use Rattle.pg_run.specs.Holding.{Broke, past_of, format_of}
 use Rattle.pg_run.specs.declared.fault.RunFault.TheVariants.{Sink}
-use Rattle.pg_run.proofs.HoldLemmas.{holds_drained, broke_drained, err_by, ok_of_err}
+use Rattle.pg_run.proofs.HoldLemmas.{holds_drained, broke_drained, fails_by}
 use Rattle.pg_run.proofs.engine.Engine.drain.Goals as goal
 
-pub returns-clause-ok : goal.returns-clause-ok
-returns-clause-ok g c = λ aim steps h.
+pub returns-clause-outcome : goal.returns-clause-outcome
+returns-clause-outcome g c = λ aim steps h.
     let d = c.in_ok-drain.ensures.drained (past_of aim.query (format_of aim) h.events h.written) h.stands in
-    let out' = stream (g.W.Sink.taken c.drain.new.out) (g.W.Sink.failures c.drain.new.out) in
+    let out' = g.W.Sink.stream c.drain.new.out in
     let none = ap (λ xs. map arc_value xs) c.requires.none in
     holds_drained h none _ d.0 out' h.same h.set h.count none d.1 c.in_ok-drain.ensures.no_failure d.2 d.3
 
-pub returns-in_err-drain-clause-err : goal.returns-in_err-drain-clause-err
-returns-in_err-drain-clause-err g c = λ aim steps h.
+pub returns-in_err-drain-clause-outcome : goal.returns-in_err-drain-clause-outcome
+returns-in_err-drain-clause-outcome g c = λ aim steps h.
     let d = c.in_err-drain.ensures.drained (past_of aim.query (format_of aim) h.events h.written) h.stands in
-    let out' = stream (g.W.Sink.taken c.drain.new.out) (g.W.Sink.failures c.drain.new.out) in
-    err_by c.from_residual.result (Broke aim steps out') Sink c.from_residual.ensures.1
+    let out' = g.W.Sink.stream c.drain.new.out in
+    fails_by c.from_residual.result _ (Broke aim steps out') Sink c.from_residual.ensures.1
     (broke_drained h (ap (λ xs. map arc_value xs) c.requires.none) d.0 out' c.in_err-drain.field-0.0 d.1 d.2
     c.in_err-drain.ensures.cause)
-
-pub returns-in_err-drain-clause-ok : goal.returns-in_err-drain-clause-ok
-returns-in_err-drain-clause-ok g c = λ aim steps h. ok_of_err c.from_residual.result _ c.from_residual.ensures.0
-
-pub returns-clause-err : goal.returns-clause-err
-returns-clause-err g c = λ aim steps h. tt
 
 pub invariant_of-self : goal.invariant_of-self
 invariant_of-self g c = let s = c.args.self.now in record {

@@ -1,14 +1,12 @@
-use Rattle.pg_rows.proofs.SinkLemmas.{on_ok}
+use Rattle.std.proofs.lemmas.Result.{MatchResult-weaker}
 use Rattle.pg_run.proofs.engine.Engine.flush_waiting.Goals as goal
 
 pub flush-requires-clause-holds : goal.flush-requires-clause-holds
 flush-requires-clause-holds g c κs within = c.requires.holds
 
-pub returns-clause-ok : goal.returns-clause-ok
-returns-clause-ok g c = λ aim steps h. on_ok c.flush.result _ _ (λ k. k.0) (c.flush.ensures.ok aim steps h)
+pub returns : goal.returns
+returns g c = λ aim steps h.
+    MatchResult-weaker c.flush.result (c.flush.ensures.outcome aim steps h) (λ _ k. k.0) (λ _ k. k)
 
-pub returns-clause-err : goal.returns-clause-err
-returns-clause-err g c = c.flush.ensures.err
-
-pub returns-then-not-has_waiting-clause-ok : goal.returns-then-not-has_waiting-clause-ok
-returns-then-not-has_waiting-clause-ok g c = λ aim steps h. h
+pub returns-then-not-has_waiting : goal.returns-then-not-has_waiting
+returns-then-not-has_waiting g c = λ aim steps h. h

@@ -1,3 +1,4 @@
+use Rattle.std.proofs.lemmas.Result.{MatchResult-weaker}
 use Rattle.std.proofs.Common.{ap, length, arith}
 use Rattle.pg_rows.proofs.SinkLemmas.{on_ok}
 use Rattle.pg_run.proofs.engine.Engine.make_room.Goals as goal
@@ -10,11 +11,9 @@ returns-clause-room g c =
     on_ok c.flush.result _ _ (λ e spread. omega (arith, ap length e, c.flush.new.self.setup.round_in_range.0))
     c.flush.ensures.none
 
-pub returns-clause-ok : goal.returns-clause-ok
-returns-clause-ok g c = λ aim steps h. on_ok c.flush.result _ _ (λ k. k.0) (c.flush.ensures.ok aim steps h)
+pub returns-clause-outcome : goal.returns-clause-outcome
+returns-clause-outcome g c = λ aim steps h.
+    MatchResult-weaker c.flush.result (c.flush.ensures.outcome aim steps h) (λ _ k. k.0) (λ _ k. k)
 
-pub returns-clause-err : goal.returns-clause-err
-returns-clause-err g c = c.flush.ensures.err
-
-pub returns-then-not-is_full-clause-ok : goal.returns-then-not-is_full-clause-ok
-returns-then-not-is_full-clause-ok g c = λ aim steps h. h
+pub returns-then-not-is_full-clause-outcome : goal.returns-then-not-is_full-clause-outcome
+returns-then-not-is_full-clause-outcome g c = λ aim steps h. h

@@ -1,61 +1,43 @@
 use Rattle.std.proofs.Common.{◌∙◌, ◌∷◌, sym}
 use Rattle.std.proofs.lemmas.Bool.{false≢true}
 use Rattle.pg_seq.specs.Plan.{Announces}
-use Rattle.pg_run.specs.Holding.{Broke, stream}
+use Rattle.pg_run.specs.Holding.{Broke}
 use Rattle.pg_run.specs.declared.fault.RunFault.TheVariants.{OutOfMemory}
-use Rattle.pg_run.proofs.HoldLemmas.{broke_step, err_by, ok_of_err}
+use Rattle.pg_run.proofs.HoldLemmas.{broke_step, ok_of_err, fails_by}
 use Rattle.pg_run.proofs.engine.Engine.search.Goals as goal
 
-pub returns-in_err-add-clause-err : goal.returns-in_err-add-clause-err
-returns-in_err-add-clause-err g c = λ aim steps ready.
-    let out = stream (g.W.Sink.taken c.args.out.now) (g.W.Sink.failures c.args.out.now) in
-    err_by c.from_residual.result (Broke aim (Announces c.args.block ∷ steps) out) OutOfMemory c.from_residual.ensures.1
-    (broke_step ready.0 (Announces c.args.block) ready.1)
+pub returns-in_err-add-clause-outcome : goal.returns-in_err-add-clause-outcome
+returns-in_err-add-clause-outcome g c = λ aim steps ready.
+    let out = g.W.Sink.stream c.args.out.now in
+    fails_by c.from_residual.result _ (Broke aim (Announces c.args.block ∷ steps) out) OutOfMemory
+    c.from_residual.ensures.1 (broke_step ready.0 (Announces c.args.block) ready.1)
 
-pub returns-in_err-kept-clause-err : goal.returns-in_err-kept-clause-err
-returns-in_err-kept-clause-err g c = λ aim steps ready.
-    let out = stream (g.W.Sink.taken c.args.out.now) (g.W.Sink.failures c.args.out.now) in
-    err_by c.from_residual-in_err-kept.result
+pub returns-in_err-kept-clause-outcome : goal.returns-in_err-kept-clause-outcome
+returns-in_err-kept-clause-outcome g c = λ aim steps ready.
+    let out = g.W.Sink.stream c.args.out.now in
+    fails_by c.from_residual-in_err-kept.result _
     (Broke aim (Announces c.args.block ∷ steps) out) OutOfMemory c.from_residual-in_err-kept.ensures.1
     (broke_step ready.0 (Announces c.args.block) ready.1)
 
 pub returns-clause-written : goal.returns-clause-written
 returns-clause-written g c = λ aim steps ready at_once.
-    (c.in_ok-drain.ensures.ok aim (Announces c.args.block ∷ steps) (c.in_ok-kept.ensures.ok aim steps
-    (stream (g.W.Sink.taken c.args.out.now) (g.W.Sink.failures c.args.out.now)) ready)).1
-
-pub returns-in_err-add-clause-ok : goal.returns-in_err-add-clause-ok
-returns-in_err-add-clause-ok g c =
-    λ aim steps ready.
-    ok_of_err c.from_residual.result _ c.from_residual.ensures.0
+    (c.in_ok-drain.ensures.outcome aim (Announces c.args.block ∷ steps) (c.in_ok-kept.ensures.ok aim steps
+    (g.W.Sink.stream c.args.out.now) ready)).1
 
 pub returns-in_err-add-clause-written : goal.returns-in_err-add-clause-written
 returns-in_err-add-clause-written g c =
     λ aim steps ready at_once.
     ok_of_err c.from_residual.result _ c.from_residual.ensures.0
 
-pub returns-in_err-kept-clause-ok : goal.returns-in_err-kept-clause-ok
-returns-in_err-kept-clause-ok g c =
-    λ aim steps ready.
-    ok_of_err c.from_residual-in_err-kept.result _ c.from_residual-in_err-kept.ensures.0
-
 pub returns-in_err-kept-clause-written : goal.returns-in_err-kept-clause-written
 returns-in_err-kept-clause-written g c =
     λ aim steps ready at_once.
     ok_of_err c.from_residual-in_err-kept.result _ c.from_residual-in_err-kept.ensures.0
 
-pub returns-in_err-drain-clause-ok : goal.returns-in_err-drain-clause-ok
-returns-in_err-drain-clause-ok g c =
-    λ aim steps ready.
-    ok_of_err c.from_residual-in_err-drain.result _ c.from_residual-in_err-drain.ensures.0
-
 pub returns-in_err-drain-clause-written : goal.returns-in_err-drain-clause-written
 returns-in_err-drain-clause-written g c =
     λ aim steps ready at_once.
     ok_of_err c.from_residual-in_err-drain.result _ c.from_residual-in_err-drain.ensures.0
-
-pub returns-clause-err : goal.returns-clause-err
-returns-clause-err g c = λ aim steps ready. tt
 
 pub add-requires-clause-spread : goal.add-requires-clause-spread
 add-requires-clause-spread g c = c.if-self.true
@@ -66,7 +48,7 @@ add-requires-clause-room g c = c.requires.room c.if-self.true
 pub add-requires-clause-ready : goal.add-requires-clause-ready
 add-requires-clause-ready g c =
     let r = c.requires.ready in
-    (r.0, r.1, stream (g.W.Sink.taken c.args.out.now) (g.W.Sink.failures c.args.out.now), r.2)
+    (r.0, r.1, g.W.Sink.stream c.args.out.now, r.2)
 
 pub take-requires-clause-at_once : goal.take-requires-clause-at_once
 take-requires-clause-at_once g c = c.if-self.false
@@ -74,34 +56,31 @@ take-requires-clause-at_once g c = c.if-self.false
 pub take-requires-clause-ready : goal.take-requires-clause-ready
 take-requires-clause-ready g c =
     let r = c.requires.ready in
-    (r.0, r.1, stream (g.W.Sink.taken c.args.out.now) (g.W.Sink.failures c.args.out.now), r.2)
+    (r.0, r.1, g.W.Sink.stream c.args.out.now, r.2)
 
 pub drain-requires : goal.drain-requires
 drain-requires g c = record { none = c.in_ok-kept.ensures.none }
 
-pub returns-then-self-clause-ok : goal.returns-then-self-clause-ok
-returns-then-self-clause-ok g c = λ aim steps ready.
-    c.in_ok-add.ensures aim steps (stream (g.W.Sink.taken c.args.out.now) (g.W.Sink.failures c.args.out.now)) ready
+pub returns-then-self-clause-outcome : goal.returns-then-self-clause-outcome
+returns-then-self-clause-outcome g c = λ aim steps ready.
+    c.in_ok-add.ensures aim steps (g.W.Sink.stream c.args.out.now) ready
 
 pub returns-then-self-clause-written : goal.returns-then-self-clause-written
 returns-then-self-clause-written g c = λ aim steps ready at_once. absurd (false≢true (sym at_once ∙ c.if-self.true))
 
-pub returns-then-self-clause-err : goal.returns-then-self-clause-err
-returns-then-self-clause-err g c = λ aim steps ready. tt
-
-pub returns-in_err-drain-clause-err : goal.returns-in_err-drain-clause-err
-returns-in_err-drain-clause-err g c = λ aim steps ready.
-    let out = stream (g.W.Sink.taken c.args.out.now) (g.W.Sink.failures c.args.out.now) in
-    let out' = stream (g.W.Sink.taken c.drain.new.out) (g.W.Sink.failures c.drain.new.out) in
+pub returns-in_err-drain-clause-outcome : goal.returns-in_err-drain-clause-outcome
+returns-in_err-drain-clause-outcome g c = λ aim steps ready.
+    let out = g.W.Sink.stream c.args.out.now in
+    let out' = g.W.Sink.stream c.drain.new.out in
     let next = Announces c.args.block ∷ steps in
-    err_by c.from_residual-in_err-drain.result (Broke aim next out') c.in_err-drain.field-0.0
+    fails_by c.from_residual-in_err-drain.result _ (Broke aim next out') c.in_err-drain.field-0.0
     c.from_residual-in_err-drain.ensures.1
-    (c.in_err-drain.ensures.err aim next (c.in_ok-kept.ensures.ok aim steps out ready))
+    (c.in_err-drain.ensures.outcome aim next (c.in_ok-kept.ensures.ok aim steps out ready))
 
-pub returns-clause-ok : goal.returns-clause-ok
-returns-clause-ok g c = λ aim steps ready.
-    let h = (c.in_ok-drain.ensures.ok aim (Announces c.args.block ∷ steps) (c.in_ok-kept.ensures.ok aim steps
-    (stream (g.W.Sink.taken c.args.out.now) (g.W.Sink.failures c.args.out.now)) ready)).0 in
+pub returns-clause-outcome : goal.returns-clause-outcome
+returns-clause-outcome g c = λ aim steps ready.
+    let h = (c.in_ok-drain.ensures.outcome aim (Announces c.args.block ∷ steps) (c.in_ok-kept.ensures.ok aim steps
+    (g.W.Sink.stream c.args.out.now) ready)).0 in
     record {
       same = h.same;
       set = h.set;

@@ -6,11 +6,11 @@ use Rattle.pg_match.specs.Machines.{Room, Fits}
 use Rattle.pg_lines.specs.Blocks.{BlockData}
 use Rattle.pg_seq.specs.Standing.{Stands}
 use Rattle.pg_run.specs.Faults.{fault_of_round}
-use Rattle.pg_run.specs.Holding.{Broke, past_of, format_of, stream}
+use Rattle.pg_run.specs.Holding.{Broke, past_of, format_of}
 use Rattle.pg_round.specs.Results.{HasShortLines}
 use Rattle.pg_round.specs.Receipts.{HasRound}
 use Rattle.pg_run.specs.declared.fault.RunFault.TheVariants.{OutOfMemory}
-use Rattle.pg_run.proofs.HoldLemmas.{broke_now, err_by, ok_of_err}
+use Rattle.pg_run.proofs.HoldLemmas.{broke_now, ok_of_err, fails_by}
 use Rattle.pg_run.proofs.RoundLemmas.{short_round, safe_now, round_done, round_failed}
 use Rattle.pg_run.proofs.engine.Engine.search_round.Goals as goal
 
@@ -21,30 +21,30 @@ search_round-requires-clause-short g c κs within =
     let S : List (Arc BlockData g.row.A.Denot) → Type 0 = λ xs. All (HasShortLines text) xs in
     subst S (sym c.deref-2.ensures.value) (short_round h text h.same)
 
-pub returns-in_err-equip-clause-err : goal.returns-in_err-equip-clause-err
-returns-in_err-equip-clause-err g c = λ aim steps h.
-    let out = stream (g.W.Sink.taken c.args.out.now) (g.W.Sink.failures c.args.out.now) in
-    err_by c.from_residual.result (Broke aim steps out) OutOfMemory c.from_residual.ensures.1 (broke_now h)
+pub returns-in_err-equip-clause-outcome : goal.returns-in_err-equip-clause-outcome
+returns-in_err-equip-clause-outcome g c = λ aim steps h.
+    let out = g.W.Sink.stream c.args.out.now in
+    fails_by c.from_residual.result _ (Broke aim steps out) OutOfMemory c.from_residual.ensures.1 (broke_now h)
 
-pub returns-in_err-search_round-clause-err : goal.returns-in_err-search_round-clause-err
-returns-in_err-search_round-clause-err g c = λ aim steps h.
-    let out' = stream (g.W.Sink.taken c.search_round.new.out) (g.W.Sink.failures c.search_round.new.out) in
+pub returns-in_err-search_round-clause-outcome : goal.returns-in_err-search_round-clause-outcome
+returns-in_err-search_round-clause-outcome g c = λ aim steps h.
+    let out' = g.W.Sink.stream c.search_round.new.out in
     let past = past_of aim.query (format_of aim) h.events h.written in
     let fault = c.in_err-search_round.field-0.0 in
-    err_by c.from_residual-in_err-search_round.result (Broke aim steps out') (fault_of_round fault)
+    fails_by c.from_residual-in_err-search_round.result _ (Broke aim steps out') (fault_of_round fault)
     c.from_residual-in_err-search_round.ensures.1
     (round_failed h out' fault (c.in_err-search_round.ensures.err past h.stands refl (safe_now h))
     (c.in_err-search_round.ensures.cause past h.stands refl (safe_now h)) c.in_err-search_round.ensures.memory)
 
-pub returns-clause-ok : goal.returns-clause-ok
-returns-clause-ok g c = λ aim steps h.
+pub returns-clause-outcome : goal.returns-clause-outcome
+returns-clause-outcome g c = λ aim steps h.
     let out' =
-    stream (g.W.Sink.taken c.search_round.new.out) (g.W.Sink.failures c.search_round.new.out) in
+    g.W.Sink.stream c.search_round.new.out in
     let past = past_of aim.query (format_of aim) h.events h.written in
     let text = (arc_value c.args.self.now.query).text in
     let R : List (Arc BlockData g.row.A.Denot) → Type 0 =
     λ xs. HasRound (Stands c.search_round.new.collector) past text xs
-    (g.W.Sink.taken c.args.out.now) (g.W.Sink.taken c.search_round.new.out) in
+    (g.W.Sink.stream c.args.out.now).taken (g.W.Sink.stream c.search_round.new.out).taken in
     round_done h _ out' h.same h.set h.count (ap (λ xs. map arc_value xs) c.clear.ensures.items) text h.same
     (subst R c.deref-2.ensures.value (c.in_ok-search_round.ensures.ok past h.stands refl (safe_now h)))
     c.in_ok-search_round.ensures.calm
@@ -145,9 +145,6 @@ returns-in_err-equip-clause-kept g c = (refl, refl)
 pub returns-in_err-equip-clause-none : goal.returns-in_err-equip-clause-none
 returns-in_err-equip-clause-none g c = ok_of_err c.from_residual.result _ c.from_residual.ensures.0
 
-pub returns-in_err-equip-clause-ok : goal.returns-in_err-equip-clause-ok
-returns-in_err-equip-clause-ok g c = λ aim steps h. ok_of_err c.from_residual.result _ c.from_residual.ensures.0
-
 pub returns-in_err-search_round-clause-ready : goal.returns-in_err-search_round-clause-ready
 returns-in_err-search_round-clause-ready g c = c.in_err-search_round.ensures.ready
 
@@ -161,10 +158,6 @@ pub returns-in_err-search_round-clause-none : goal.returns-in_err-search_round-c
 returns-in_err-search_round-clause-none g c =
     ok_of_err c.from_residual-in_err-search_round.result _ c.from_residual-in_err-search_round.ensures.0
 
-pub returns-in_err-search_round-clause-ok : goal.returns-in_err-search_round-clause-ok
-returns-in_err-search_round-clause-ok g c = λ aim steps h.
-    ok_of_err c.from_residual-in_err-search_round.result _ c.from_residual-in_err-search_round.ensures.0
-
 pub returns-clause-ready : goal.returns-clause-ready
 returns-clause-ready g c = c.in_ok-search_round.ensures.ready
 
@@ -176,6 +169,3 @@ returns-clause-kept g c = (refl, refl)
 
 pub returns-clause-none : goal.returns-clause-none
 returns-clause-none g c = c.clear.ensures.items
-
-pub returns-clause-err : goal.returns-clause-err
-returns-clause-err g c = λ aim steps h. tt

@@ -1,8 +1,10 @@
 use Rattle.std.proofs.Common.{◌∙◌, Bool, true, false, [], sym, subst, refl, List, ℕ}
 use Rattle.std.specs.Bool.{MatchBool}
 use Rattle.std.proofs.lemmas.List.{append-nil}
+use Rattle.std.proofs.lemmas.Result.{MatchResult-from_err}
 use Rattle.pg_rows.specs.Remembered.{end_rows}
-use Rattle.pg_rows.proofs.SinkLemmas.{on_err}
+use Rattle.pg_rows.specs.Sink.{Stream, WritesAll, WritesPart}
+use Rattle.pg_rows.proofs.WriteLemmas.{wrote_none}
 use Rattle.pg_seq.specs.History.{Past}
 use Rattle.pg_seq.specs.declared.assembler.Assembler.{Assembler}
 use Rattle.pg_seq.specs.Standing.{Stands, Advances, Rests, IsWritten}
@@ -10,39 +12,44 @@ use Rattle.pg_seq.proofs.DrainSteps.{here, ended_next, end_part}
 use Rattle.pg_seq.proofs.assembler.Assembler.advance.Goals as goal
 
 -- a file was opened in the printer, which writes nothing
-opened : {A : Type 0} (new : Assembler A) (past : Past) (text : List ℕ) (more : Bool)
+opened : {A : Type 0} (new : Assembler A) (past : Past) (out : Stream) (more : Bool)
     → MatchBool more (Stands new past) (IsWritten past × Stands new past)
-    → MatchBool more (Advances new past text text) (Rests new past text text)
-opened new past text true h = record {
+    → MatchBool more (Advances new past out out) (Rests new past out out)
+opened new past out true h = record {
   rows = [];
-  got = sym (append-nil text);
+  got = wrote_none out;
   stands =
       let P : List ℕ → Type 0 = λ w. Stands new (record past { written = w }) in
       subst P (sym (append-nil past.written)) h;
 }
-opened new past text false h = record { all = h.0; same = refl; stands = h.1 }
+opened new past out false h = record { all = h.0; same = refl; stands = h.1 }
 
-pub returns-then-not-self-clause-ok : goal.returns-then-not-self-clause-ok
-returns-then-not-self-clause-ok g c = λ past h f.
+pub returns-then-not-self-clause-goes : goal.returns-then-not-self-clause-goes
+returns-then-not-self-clause-goes g c = λ past h f.
     opened _ past _ c.open_next.result (c.open_next.ensures.opened past h f)
 
-pub returns-in_err-end-clause-part : goal.returns-in_err-end-clause-part
-returns-in_err-end-clause-part g c = λ past h f.
+pub returns-in_err-end-clause-goes : goal.returns-in_err-end-clause-goes
+returns-in_err-end-clause-goes g c = λ past h f.
     let s = c.args.self.now in
-    let t = c.in_err-end.ensures.part past.query past.format (here s past h) h.writes.cursor in
-    on_err _ c.from_residual.result (record {
-      rows = t.0;
-      got = t.2;
-      part = end_part s past h c.if-not-self.false (sym c.is_at_end.ensures ∙ c.if-is_at_end.true) f _ _ t;
+    let e = c.in_err-end.ensures in
+    let P : List ℕ → Type 0 = λ t. WritesPart t (g.W.Sink.stream c.args.out.now) (g.W.Sink.stream c.end.new.out) in
+    let w = subst P (e.2 past.query past.format (here s past h) h.writes.cursor) e.1.err in
+    MatchResult-from_err c.from_residual.result _ _ c.from_residual.ensures.0 (λ _. record {
+      rows = w.part.0;
+      got = w.part.2;
+      failure = w.failure;
+      part = end_part s past h c.if-not-self.false (sym c.is_at_end.ensures ∙ c.if-is_at_end.true) f _ _ w.part;
       stands = h;
     })
 
-pub returns-then-is_at_end-clause-ok : goal.returns-then-is_at_end-clause-ok
-returns-then-is_at_end-clause-ok g c = λ past h f.
+pub returns-then-is_at_end-clause-goes : goal.returns-then-is_at_end-clause-goes
+returns-then-is_at_end-clause-goes g c = λ past h f.
     let s = c.args.self.now in
+    let e = c.in_ok-end.ensures in
+    let P : List ℕ → Type 0 = λ t. WritesAll t (g.W.Sink.stream c.args.out.now) (g.W.Sink.stream c.end.new.out) in
     record {
       rows = end_rows past.format (here s past h);
-      got = c.in_ok-end.ensures.all past.query past.format (here s past h) h.writes.cursor;
+      got = subst P (e.2 past.query past.format (here s past h) h.writes.cursor) e.1.ok;
       stands = ended_next s past h _ c.if-not-self.false
           (sym c.is_at_end.ensures ∙ c.if-is_at_end.true) f
           (record { query = refl; format = refl; running = refl; bad = refl }) refl refl refl

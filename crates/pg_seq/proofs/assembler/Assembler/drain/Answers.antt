@@ -1,8 +1,9 @@
-use Rattle.std.proofs.Common.{◌≡◌, ◌∙◌, ◌++◌, ◌||◌, Bool, true, false, ℕ, List, [], ap, sym, subst, refl, arith}
+use Rattle.std.proofs.Common.{◌≡◌, ◌∙◌, ◌++◌, ◌||◌, ◌<◌, Bool, true, false, ℕ, List, [], ap, sym, subst, refl, arith}
 use Rattle.std.proofs.Common.{append_assoc}
 use Rattle.std.specs.Bool.{MatchBool}
 use Rattle.std.proofs.lemmas.Bool.{false≢true}
 use Rattle.std.proofs.lemmas.List.{append-nil}
+use Rattle.pg_rows.proofs.WriteLemmas.{wrote_none, wrote_more}
 use Rattle.pg_seq.specs.History.{Past}
 use Rattle.pg_seq.specs.declared.assembler.Assembler.{Assembler}
 use Rattle.pg_seq.specs.Standing.{Stands, wrote}
@@ -37,9 +38,8 @@ pub loop-self-init : goal.loop-self-init
 loop-self-init g c = record {
   drains = λ past h.
       let P : List ℕ → Type 0 = λ w. Stands c.args.self.now (record past { written = w }) in
-      ([], sym (append-nil (g.W.Sink.taken c.args.out.now)), subst P (sym (append-nil past.written)) h);
+      ([], wrote_none (g.W.Sink.stream c.args.out.now), subst P (sym (append-nil past.written)) h);
   unfailed = c.if-self.false;
-  no_failure = refl;
 }
 
 pub advance-requires : goal.advance-requires
@@ -57,13 +57,12 @@ loop-self-preserved g c =
       drains = λ past h.
           let d = i.drains past h in
           let a = is_true c.in-Ok-true.field-0 _ _ c.in-Ok-true.field-0-test
-          (c.in-Ok-true.ensures.ok (wrote past d.0) d.2 i.unfailed) in (
+          (c.in-Ok-true.ensures.goes (wrote past d.0) d.2 i.unfailed) in (
             d.0 ++ a.rows,
-            a.got ∙ (ap (λ w. w ++ a.rows) d.1 ∙ append_assoc (g.W.Sink.taken c.args.out.now) d.0 a.rows),
+            wrote_more d.0 a.rows _ _ _ d.1 a.got,
             more_written _ past d.0 a.rows past.failed a.stands,
           );
       unfailed = c.in-Ok-true.ensures.same ∙ i.unfailed;
-      no_failure = c.in-Ok-true.ensures.no_failure ∙ i.no_failure;
     }
 
 pub returns-in-Ok-false-clause-drained : goal.returns-in-Ok-false-clause-drained
@@ -71,29 +70,40 @@ returns-in-Ok-false-clause-drained g c = λ past h.
     let i = c.loop-self.invariant in
     let d = i.drains past h in
     let r = is_false c.in-Ok-false.field-0 _ _ c.in-Ok-false.field-0-test
-    (c.in-Ok-false.ensures.ok (wrote past d.0) d.2 i.unfailed) in
+    (c.in-Ok-false.ensures.goes (wrote past d.0) d.2 i.unfailed) in
     let P : Bool → Type 0 =
     λ f. Stands c.advance.new.self (record past { written = past.written ++ d.0; failed = f }) in (
       d.0,
-      r.same ∙ d.1,
+      ap (λ s. s.taken) r.same ∙ d.1.taken,
       (h.failed ∙ c.if-self.false, r.all),
       subst P (sym (or_false past.failed)) r.stands,
     )
 
+-- no write failed, by the past that there is
 pub returns-in-Ok-false-clause-no_failure : goal.returns-in-Ok-false-clause-no_failure
-returns-in-Ok-false-clause-no_failure g c = c.in-Ok-false.ensures.no_failure ∙ c.loop-self.invariant.no_failure
+returns-in-Ok-false-clause-no_failure g c =
+    let i = c.loop-self.invariant in
+    let d = i.drains c.requires.0 c.requires.1 in
+    let r = is_false c.in-Ok-false.field-0 _ _ c.in-Ok-false.field-0-test
+    (c.in-Ok-false.ensures.goes (wrote c.requires.0 d.0) d.2 i.unfailed) in
+    ap (λ s. s.failures) r.same ∙ d.1.no_failure
 
 pub returns-in-Ok-false-clause-never_falls : goal.returns-in-Ok-false-clause-never_falls
-returns-in-Ok-false-clause-never_falls g c = omega
-    (arith, c.loop-self.invariant.no_failure, c.in-Ok-false.ensures.never_falls)
+returns-in-Ok-false-clause-never_falls g c =
+    let i = c.loop-self.invariant in
+    let d = i.drains c.requires.0 c.requires.1 in
+    let r = is_false c.in-Ok-false.field-0 _ _ c.in-Ok-false.field-0-test
+    (c.in-Ok-false.ensures.goes (wrote c.requires.0 d.0) d.2 i.unfailed) in
+    let same = ap (λ s. s.failures) r.same ∙ d.1.no_failure in
+    omega (arith, same)
 
 pub returns-in-Err-clause-drained : goal.returns-in-Err-clause-drained
 returns-in-Err-clause-drained g c = λ past h.
     let i = c.loop-self.invariant in
     let d = i.drains past h in
-    let b = c.in-Err.ensures.part (wrote past d.0) d.2 i.unfailed in (
+    let b = c.in-Err.ensures.goes (wrote past d.0) d.2 i.unfailed in (
       d.0 ++ b.rows,
-      b.got ∙ (ap (λ w. w ++ b.rows) d.1 ∙ append_assoc (g.W.Sink.taken c.args.out.now) d.0 b.rows),
+      b.got ∙ (ap (λ w. w ++ b.rows) d.1.taken ∙ append_assoc (g.W.Sink.stream c.args.out.now).taken d.0 b.rows),
       (
         h.failed ∙ c.if-self.false,
         (
@@ -109,8 +119,20 @@ returns-in-Err-clause-drained g c = λ past h.
           (record { starts = refl; slots = refl; handed = refl; selected = refl }) refl (or_true past.failed)),
     )
 
+rises : (before middle after : ℕ) → middle ≡ before → middle < after → before < after
+rises before middle after e h = omega arith
+
 pub returns-in-Err-clause-cause : goal.returns-in-Err-clause-cause
-returns-in-Err-clause-cause g c = λ e. omega (arith, c.loop-self.invariant.no_failure, c.in-Err.ensures.failure)
+returns-in-Err-clause-cause g c = λ e.
+    let i = c.loop-self.invariant in
+    let d = i.drains c.requires.0 c.requires.1 in
+    let b = c.in-Err.ensures.goes (wrote c.requires.0 d.0) d.2 i.unfailed in
+    rises _ _ _ d.1.no_failure b.failure
 
 pub returns-in-Err-clause-never_falls : goal.returns-in-Err-clause-never_falls
-returns-in-Err-clause-never_falls g c = omega (arith, c.loop-self.invariant.no_failure, c.in-Err.ensures.never_falls)
+returns-in-Err-clause-never_falls g c =
+    let i = c.loop-self.invariant in
+    let d = i.drains c.requires.0 c.requires.1 in
+    let b = c.in-Err.ensures.goes (wrote c.requires.0 d.0) d.2 i.unfailed in
+    let rise = rises _ _ _ d.1.no_failure b.failure in
+    omega (arith, rise)

@@ -1,4 +1,5 @@
-use Rattle.std.proofs.Common.{◌≡◌, ◌++◌, ℕ, List, false}
+use Rattle.std.proofs.Common.{◌≡◌, ℕ, List, false}
+use Rattle.pg_rows.specs.Sink.{WritesAll}
 use Rattle.pg_seq.specs.History.{Past}
 use Rattle.pg_seq.specs.Standing.{Stands, wrote, left}
 use Rattle.pg_seq.proofs.assembler.Assembler.drain.Given as goal
@@ -6,9 +7,8 @@ use Rattle.pg_seq.proofs.assembler.Assembler.drain.Given as goal
 abbrev pub invariant-loop-self : goal.invariant-loop-self
 invariant-loop-self g l = record {
   drains : (past : Past) → Stands l.fn.self past → (text : List ℕ)
-      × (g.W.Sink.taken l.out ≡ g.W.Sink.taken l.fn.out ++ text) × Stands l.self (wrote past text);
+      × WritesAll text (g.W.Sink.stream l.fn.out) (g.W.Sink.stream l.out) × Stands l.self (wrote past text);
   unfailed : l.self.failed ≡ false;
-  no_failure : g.W.Sink.failures l.out ≡ g.W.Sink.failures l.fn.out;
 }
 
 abbrev pub decreases-loop-self : goal.decreases-loop-self

@@ -1,15 +1,15 @@
 use Rattle.std.proofs.Common.{◌≡◌, ◌∙◌, List, ◌∷◌, ap, sym, subst, refl}
+use Rattle.std.proofs.lemmas.Result.{MatchResult-from_err}
 use Rattle.pg_lines.specs.Blocks.{BlockData}
 use Rattle.pg_rows.specs.declared.printer.Printer.{Printer}
 use Rattle.pg_rows.specs.Remembered.{Remembers, Follows, behind_block, shown_rows}
-use Rattle.pg_rows.proofs.SinkLemmas.{on_err}
 use Rattle.pg_seq.specs.Slots.{slot_block}
 use Rattle.pg_seq.proofs.StandLemmas.{same_stands}
 use Rattle.pg_seq.proofs.DrainSteps.{here, none_ready, result_is, lines_fit, printed_next, block_part}
 use Rattle.pg_seq.proofs.assembler.Assembler.print_next.Goals as goal
 
-pub returns-in_default-clause-ok : goal.returns-in_default-clause-ok
-returns-in_default-clause-ok g c = λ past h f. record {
+pub returns-in_default-clause-goes : goal.returns-in_default-clause-goes
+returns-in_default-clause-goes g c = λ past h f. record {
   all = none_ready c.args.self.now past h c.requires.inside.0 c.requires.inside.1 f c.in_default.ensures;
   same = refl;
   stands = h;
@@ -30,17 +30,18 @@ print-requires g c =
       lines_fit s past h p.slot p.later c.in-Some.found.now c.requires.inside.0 c.requires.inside.1 p.slots p.result,
     )
 
-pub returns-in_err-printed-clause-part : goal.returns-in_err-printed-clause-part
-returns-in_err-printed-clause-part g c = λ past h f.
+pub returns-in_err-printed-clause-goes : goal.returns-in_err-printed-clause-goes
+returns-in_err-printed-clause-goes g c = λ past h f.
     let s = c.args.self.now in
     let found = c.in-Some.found.now in
     let p = c.in-Some.ensures in
-    let t = c.in_err-printed.ensures.part past.query past.format (here s past h) h.writes.cursor h.trees
-    (result_is s past h p.slot p.later found p.slots p.result).0 in
-    on_err _ c.from_residual.result (record {
-      rows = t.0;
-      got = t.2;
-      part = block_part s past h found p c.requires.inside.0 c.requires.inside.1 f _ _ t;
+    let w = (c.in_err-printed.ensures.writes past.query past.format (here s past h) h.writes.cursor h.trees
+    (result_is s past h p.slot p.later found p.slots p.result).0).err in
+    MatchResult-from_err c.from_residual.result _ _ c.from_residual.ensures.0 (λ _. record {
+      rows = w.part.0;
+      got = w.part.2;
+      failure = w.failure;
+      part = block_part s past h found p c.requires.inside.0 c.requires.inside.1 f _ _ w.part;
       stands = same_stands s _ past h (record { query = refl; format = refl; running = refl; bad = refl })
           (record { handed = refl; printing = refl; printer = c.print.ensures.same }) refl
           (record { starts = refl; slots = refl; handed = refl; selected = refl }) refl;
@@ -75,8 +76,8 @@ pass-requires g c =
     heads : {X : Type 0} {x y : X} {xs ys : List X} → x ∷ xs ≡ y ∷ ys → x ≡ y
     heads e = cc
 
-pub returns-in-Some-pop_first-clause-ok : goal.returns-in-Some-pop_first-clause-ok
-returns-in-Some-pop_first-clause-ok g c = λ past h f.
+pub returns-in-Some-pop_first-clause-goes : goal.returns-in-Some-pop_first-clause-goes
+returns-in-Some-pop_first-clause-goes g c = λ past h f.
     let s = c.args.self.now in
     let found = c.in-Some.found.now in
     let p = c.in-Some.ensures in
@@ -93,7 +94,7 @@ returns-in-Some-pop_first-clause-ok g c = λ past h f.
     let R : Printer _ → Type 0 = λ x. Remembers x past.query past.format (here s past h) in
     record {
       rows = shown_rows past.query past.format (here s past h) found.block.bytes;
-      got = c.in_ok-printed.ensures.all past.query past.format (here s past h) h.writes.cursor h.trees r.0;
+      got = (c.in_ok-printed.ensures.writes past.query past.format (here s past h) h.writes.cursor h.trees r.0).ok;
       stands = printed_next s past h _ slot found c.requires.inside.0 c.requires.inside.1 f
           (ap (λ x. x.result) (sym first) ∙ p.result) o
           (record { query = refl; format = refl; running = refl; bad = refl }) refl refl refl
@@ -105,21 +106,3 @@ returns-in-Some-pop_first-clause-ok g c = λ past h f.
   where
     heads : {X : Type 0} {x y : X} {xs ys : List X} → x ∷ xs ≡ y ∷ ys → x ≡ y
     heads e = cc
-
-pub returns-in_err-printed-clause-failure : goal.returns-in_err-printed-clause-failure
-returns-in_err-printed-clause-failure g c = on_err _ c.from_residual.result c.in_err-printed.ensures.failure
-
-pub returns-in_err-printed-clause-never_falls : goal.returns-in_err-printed-clause-never_falls
-returns-in_err-printed-clause-never_falls g c = c.in_err-printed.ensures.never_falls
-
-pub returns-in-Some-pop_first-clause-no_failure : goal.returns-in-Some-pop_first-clause-no_failure
-returns-in-Some-pop_first-clause-no_failure g c = c.in_ok-printed.ensures.no_failure
-
-pub returns-in-Some-pop_first-clause-never_falls : goal.returns-in-Some-pop_first-clause-never_falls
-returns-in-Some-pop_first-clause-never_falls g c = c.in_ok-printed.ensures.never_falls
-
-pub returns-in_default-pop_first-clause-no_failure : goal.returns-in_default-pop_first-clause-no_failure
-returns-in_default-pop_first-clause-no_failure g c = c.in_ok-printed.ensures.no_failure
-
-pub returns-in_default-pop_first-clause-never_falls : goal.returns-in_default-pop_first-clause-never_falls
-returns-in_default-pop_first-clause-never_falls g c = c.in_ok-printed.ensures.never_falls
