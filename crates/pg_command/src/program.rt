@@ -103,9 +103,7 @@ pub fn run<'t, R: Threads + Wait + Clock + Sync, T: FileTree, S: Store + Drop, W
     ensures runs { IfOk words.entry (λ texts. Runs (T.tells tree.now) (T.answers tree.now)
         (map string_bytes texts.items)
         (S.past files.old.store) (S.past files.new.store)
-        (record { taken = out.old.taken; failures = out.old.failures })
-        (record { taken = out.new.taken; failures = out.new.failures }) (E.stream err.old)
-        (E.stream err.new) result) }
+        out.old.stream out.new.stream (E.stream err.old) (E.stream err.new) result) }
     ensures told { IfErr words.entry (λ fault. (result ≡ 2) × Tells fault (E.stream err.old)
         (E.stream err.new)) }
     ensures unused { OnErr words.entry ((files.new ≡ files.old) × (out.new ≡ out.old)) }
@@ -131,9 +129,7 @@ fn run_words<'t, R: Threads + Wait + Clock + Sync, T: FileTree, S: Store + Drop,
     requires { files.old.walk.asked.items ≡ [] }
     ensures runs { Runs (T.tells tree.now) (T.answers tree.now) (map string_bytes words.now)
         (S.past files.old.store) (S.past files.new.store)
-        (record { taken = out.old.taken; failures = out.old.failures })
-        (record { taken = out.new.taken; failures = out.new.failures }) (E.stream err.old)
-        (E.stream err.new) result }
+        out.old.stream out.new.stream (E.stream err.old) (E.stream err.new) result }
     ensures small { result ≤ 2 }
 {
     let answer = command(rt, alloc, words, tree, files, out, err);

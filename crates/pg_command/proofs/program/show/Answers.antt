@@ -8,7 +8,7 @@ returns-then-is_err g c =
     let P : List ℕ → Type 0 =
     λ text. WritesPart text (g.W.Sink.stream c.args.out.now) (g.W.Sink.stream c.write_all.new.out) in (
       subst P c.as_bytes.ensures.value (part_at_err c.write_all.result _ _ _
-          (sym c.is_err.ensures ∙ c.if-is_err.true) c.write_all.ensures.writes),
+          (sym c.is_err.ensures.value ∙ c.if-is_err.true) c.write_all.ensures.writes),
       c.report.ensures.told,
     )
 
@@ -18,6 +18,6 @@ returns g c =
     λ text. WritesAll text (g.W.Sink.stream c.args.out.now) (g.W.Sink.stream c.write_all.new.out) in (
       refl,
       subst P c.as_bytes.ensures.value (all_at_ok c.write_all.result _ _ _
-          (sym c.is_err.ensures ∙ c.if-is_err.false) c.write_all.ensures.writes),
+          (sym c.is_err.ensures.value ∙ c.if-is_err.false) c.write_all.ensures.writes),
       refl,
     )
