@@ -60,7 +60,7 @@ fn show_block(rt: &impl Abort, block: &Block, out: &mut String) {
     let file = block.file;
     let number = block.number;
     write!(out, " {file}.{number}:").expect(rt, "memory");
-    show_bytes(block.bytes.as_slice(), out).expect(rt, "memory");
+    show_bytes(rt, block.bytes.as_slice(), out);
 }
 
 /// Takes a piece of at most 4,096 bytes by way of the cutter's room.

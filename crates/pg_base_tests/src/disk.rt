@@ -42,7 +42,7 @@ fn a_small_stack_holds_all_levels(rt: HostRuntime) {
     let thread = thread::Builder::new()
         .stack_size(SMALL_STACK)
         .spawn(&rt, move || {
-            walked(alloc, &DiskTree::new(rt), operand.as_str(), true)
+            walked(alloc, alloc, &DiskTree::new(rt), &[operand], true)
         });
     let got = thread
         .expect(&rt, "a thread")
@@ -186,8 +186,12 @@ fn stand_in(rt: &impl Abort, names: &'static str, faults: &str) -> StandIn {
 }
 
 /// Walks over an operand in a stand-in's tree, and shows the items.
-fn walked_over<R: Files + Drop>(alloc: Global, rt: R, operand: &str) -> Result<String, AllocError> {
-    walked(alloc, &DiskTree::new(rt), operand, true)
+fn walked_over<R: Files + Drop>(
+    alloc: Global,
+    rt: R,
+    operand: String,
+) -> Result<String, AllocError> {
+    walked(alloc, alloc, &DiskTree::new(rt), &[operand], true)
 }
 
 /// A walk over a directory gives what a row wants.
@@ -195,6 +199,7 @@ fn assert_names(rt: &impl Abort, alloc: Global, row: &'static str) {
     let (asked, want) = halves(rt, row);
     let (names, rest) = cut(rt, asked, " ");
     let (faults, operand) = rest.rsplit_once(' ').expect(rt, "an operand");
+    let operand = String::from_str(alloc, operand).expect(rt, "memory");
     let got = walked_over(alloc, stand_in(rt, names, faults), operand);
     assert_walked(rt, got, want, row);
 }

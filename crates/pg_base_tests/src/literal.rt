@@ -1,9 +1,10 @@
 //! Literals of expressions.
 use crate::machine::bounds_of;
-use crate::rows::{Question, assert_rows, bytes_of, show_bytes};
+use crate::rows::{Question, assert_rows, bytes_of, show_bytes, show_text};
 use pg_literal::Literal;
+use pg_match::Bounds;
 use pg_syntax::{Tree, parse_ere};
-use std::alloc::{AllocError, Global};
+use std::alloc::Global;
 use std::process::Abort;
 
 /// Bounds, with `fold-` before them where case is folded, extended expressions, which `;` parts, and their literals,
@@ -155,55 +156,55 @@ fn tree_of(rt: &impl Abort, alloc: Global, pattern: &str, fold: bool) -> Tree {
 }
 
 /// The trees of expressions.
-fn trees_of(
-    rt: &impl Abort,
-    alloc: Global,
-    text: &str,
-    fold: bool,
-) -> Result<Vec<Tree>, AllocError> {
+fn trees_of(rt: &impl Abort, alloc: Global, text: &str, fold: bool) -> Vec<Tree> {
     let mut trees = Vec::new(alloc);
     for pattern in text.split(';') {
-        trees.push(tree_of(rt, alloc, pattern, fold))?;
+        let tree = tree_of(rt, alloc, pattern, fold);
+        trees.push(tree).expect(rt, "memory");
     }
-    Ok(trees)
+    trees
 }
 
 /// The literals of expressions.
 pub(crate) fn literal_of(rt: &impl Abort, alloc: Global, kind: &str, text: &str) -> String {
-    let (fold, bounds) = match kind.strip_prefix("fold-") {
-        Some(bounds) => (true, bounds),
-        None => (false, kind),
-    };
-    let trees = trees_of(rt, alloc, text, fold).expect(rt, "memory");
-    let bounds = bounds_of(rt, bounds);
+    match kind.strip_prefix("fold-") {
+        Some(bounds) => shown_literals(rt, alloc, bounds_of(rt, bounds), text, true),
+        None => shown_literals(rt, alloc, bounds_of(rt, kind), text, false),
+    }
+}
+
+/// The literals of expressions under bounds, where case may be folded.
+fn shown_literals(
+    rt: &impl Abort,
+    alloc: Global,
+    bounds: Bounds,
+    text: &str,
+    fold: bool,
+) -> String {
+    let trees = trees_of(rt, alloc, text, fold);
     let literals = Literal::of(alloc, &trees, bounds, fold).expect(rt, "memory");
-    shown_of(alloc, &literals).expect(rt, "memory")
+    let mut out = String::new(alloc);
+    show_all(rt, &literals, &mut out);
+    out
 }
 
-fn shown_of(alloc: Global, literals: &[Literal]) -> Result<String, AllocError> {
-    let mut shown = String::new(alloc);
-    show_all(literals, &mut shown)?;
-    Ok(shown)
-}
-
-fn show_all(literals: &[Literal], out: &mut String) -> Result<(), AllocError> {
+fn show_all(rt: &impl Abort, literals: &[Literal], out: &mut String) {
     if literals.is_empty() {
-        return out.push_str("none");
+        show_text(rt, "none", out);
     }
     for literal in literals {
-        if !out.is_empty() {
-            out.push(';')?;
-        }
-        show(literal, out)?;
+        show(rt, literal, out);
     }
-    Ok(())
 }
 
-fn show(literal: &Literal, out: &mut String) -> Result<(), AllocError> {
-    if literal.is_enough {
-        out.push_str("only:")?;
+fn show(rt: &impl Abort, literal: &Literal, out: &mut String) {
+    if !out.is_empty() {
+        show_text(rt, ";", out);
     }
-    show_bytes(&literal.text, out)
+    if literal.is_enough {
+        show_text(rt, "only:", out);
+    }
+    show_bytes(rt, &literal.text, out);
 }
 
 #[test]

@@ -177,20 +177,38 @@ fn parted(rt: &impl Abort, alloc: Global, search: Search, lines: &str) -> String
 /// Shows what a search of a line visits, as a row asks.
 pub(crate) fn searched(rt: &impl Abort, alloc: Global, word: &str, asked: &str) -> String {
     let (text, rest) = cut(rt, asked, " on ");
-    let mut search = machine_of(rt, alloc, word, &repeated(rt, alloc, text));
+    let search = machine_of(rt, alloc, word, &repeated(rt, alloc, text));
+    as_asked(rt, alloc, search, rest)
+}
+
+/// Shows what a search of a line visits, as the rest of a row asks. The scratch is the machine's.
+fn as_asked(rt: &impl Abort, alloc: Global, search: Search, rest: &str) -> String
+    requires { Fits search.scratch search.machine }
+{
     if let Some(lines) = rest.strip_suffix(" parted") {
-        return parted(rt, alloc, search, lines);
+        parted(rt, alloc, search, lines)
+    } else if let Some(line) = rest.strip_suffix(" counted with parts") {
+        counted_in(rt, alloc, for_parts(rt, alloc, search), line)
+    } else if let Some(line) = rest.strip_suffix(" counted") {
+        counted_in(rt, alloc, search, line)
+    } else {
+        within(rt, alloc, search, rest)
     }
-    if let Some(line) = rest.strip_suffix(" counted with parts") {
-        let line = line_of(rt, alloc, line);
-        let mut search = for_parts(rt, alloc, search);
-        return counted(alloc, &mut search, &line).expect(rt, "memory");
-    }
-    if let Some(line) = rest.strip_suffix(" counted") {
-        let line = line_of(rt, alloc, line);
-        return counted(alloc, &mut search, &line).expect(rt, "memory");
-    }
-    let (line, most) = cut(rt, rest, " within ");
+}
+
+/// Shows how many states searches of a line visit. The scratch is the machine's.
+fn counted_in(rt: &impl Abort, alloc: Global, mut search: Search, line: &str) -> String
+    requires { Fits search.scratch search.machine }
+{
+    let line = line_of(rt, alloc, line);
+    counted(alloc, &mut search, &line).expect(rt, "memory")
+}
+
+/// Shows what is found in a line, and whether no more states are visited than so many. The scratch is the machine's.
+fn within(rt: &impl Abort, alloc: Global, mut search: Search, asked: &str) -> String
+    requires { Fits search.scratch search.machine }
+{
+    let (line, most) = cut(rt, asked, " within ");
     let most: u128 = most.parse().expect(rt, "a number");
     let line = line_of(rt, alloc, line);
     shown_visits(alloc, &mut search, &line, most).expect(rt, "memory")

@@ -6,25 +6,23 @@ use std::alloc::{AllocError, Allocator, Global};
 use std::cell::Cell;
 use std::process::Abort;
 
+/// A directory.
+fn directory(rt: &impl Abort, alloc: Global, names: &[&str]) -> Node {
+    Node::directory(alloc, names).expect(rt, "memory")
+}
+
 /// A directory that has a name which can't be told.
-fn nameless(alloc: Global, names: &[&str]) -> Result<Node, AllocError> {
-    let directory = Node::directory(alloc, names)?;
-    Ok(Node {
-        listing: directory.listing.map(|listing| Listing {
-            nameless: true,
-            ..listing
-        }),
-        ..directory
-    })
+fn nameless(mut directory: Node) -> Node {
+    if let Some(listing) = &mut directory.listing {
+        listing.nameless = true;
+    }
+    directory
 }
 
 /// A link to a directory.
-fn link(alloc: Global, names: &[&str]) -> Result<Node, AllocError> {
-    let directory = Node::directory(alloc, names)?;
-    Ok(Node {
-        kind: Some(FileKind::Link),
-        ..directory
-    })
+fn link(mut directory: Node) -> Node {
+    directory.kind = Some(FileKind::Link);
+    directory
 }
 
 fn dead_link() -> Node {
@@ -36,49 +34,47 @@ fn dead_link() -> Node {
 }
 
 /// What stands at a path, by a word of the trees below, and the names that are listed there.
-fn node_of(rt: &impl Abort, alloc: Global, kind: &str, names: &[&str]) -> Result<Node, AllocError> {
+fn node_of(rt: &impl Abort, alloc: Global, kind: &str, names: &[&str]) -> Node {
     match kind {
-        "file" => Ok(Node::new(FileKind::Regular)),
-        "device" => Ok(Node::new(FileKind::Other)),
-        "directory" => Node::directory(alloc, names),
-        "nameless" => nameless(alloc, names),
-        "unlisted" => Ok(Node::new(FileKind::Directory)),
-        "link-to-directory" => link(alloc, names),
-        "link-to-itself" => Ok(Node::new(FileKind::Link)),
-        "link-to-nothing" => Ok(dead_link()),
+        "file" => Node::new(FileKind::Regular),
+        "device" => Node::new(FileKind::Other),
+        "directory" => directory(rt, alloc, names),
+        "nameless" => nameless(directory(rt, alloc, names)),
+        "unlisted" => Node::new(FileKind::Directory),
+        "link-to-directory" => link(directory(rt, alloc, names)),
+        "link-to-itself" => Node::new(FileKind::Link),
+        "link-to-nothing" => dead_link(),
         _ => panic!(rt; "what stands at a path"),
     }
 }
 
 /// Adds a node by a line: a path, a word for what stands there, and the names that are listed there.
-fn add_node(
-    rt: &impl Abort,
-    alloc: Global,
-    tree: &mut MemTree,
-    line: &str,
-) -> Result<(), AllocError> {
+fn add_node(rt: &impl Abort, alloc: Global, tree: &mut MemTree, line: &str) {
     let mut words = line.split(' ');
     let path = words.next().expect(rt, "a path");
     let kind = words.next().expect(rt, "what stands there");
-    let names: Vec<&str> = words.collect(alloc)?;
-    tree.add(path, node_of(rt, alloc, kind, names.as_slice())?)
+    let names: Vec<&str> = words.collect(alloc).expect(rt, "memory");
+    let node = node_of(rt, alloc, kind, names.as_slice());
+    tree.add(path, node).expect(rt, "memory");
 }
 
 /// The tree of a text's lines.
-fn tree_of(rt: &impl Abort, alloc: Global, text: &str) -> Result<MemTree, AllocError> {
+fn tree_of(rt: &impl Abort, alloc: Global, text: &str) -> MemTree {
     let mut tree = MemTree::new(alloc);
     for line in text.lines() {
-        add_node(rt, alloc, &mut tree, line)?;
+        add_node(rt, alloc, &mut tree, line);
     }
-    Ok(tree)
+    tree
 }
 
-fn texts(alloc: Global, line: &str) -> Result<Vec<String>, AllocError> {
+/// The words of a line.
+fn texts(rt: &impl Abort, alloc: Global, line: &str) -> Vec<String> {
     let mut texts = Vec::new(alloc);
     for word in line.split_whitespace() {
-        texts.push(String::from_str(alloc, word)?)?;
+        let text = String::from_str(alloc, word).expect(rt, "memory");
+        texts.push(text).expect(rt, "memory");
     }
-    Ok(texts)
+    texts
 }
 
 /// Shows a blank and the path of a file, or the path of a fault and its cause.
@@ -95,15 +91,6 @@ fn show_item<A: Allocator>(item: &Item<A>, out: &mut String) -> Result<(), Alloc
     }
 }
 
-/// Shows the items behind one another.
-fn shown<A: Allocator>(alloc: Global, items: &[Item<A>]) -> Result<String, AllocError> {
-    let mut out = String::new(alloc);
-    for item in items {
-        show_item(item, &mut out)?;
-    }
-    Ok(out)
-}
-
 /// Compares what is shown of a walk, or that it wants memory, with what a row wants.
 pub(crate) fn assert_walked(
     rt: &impl Abort,
@@ -117,37 +104,32 @@ pub(crate) fn assert_walked(
     }
 }
 
-/// All items of a walk, which are at most 1,000.
-fn all_of<T: FileTree, A: Allocator + Copy>(
+/// Shows the items of a walk, which are at most 1,000.
+fn show_walk<T: FileTree, A: Allocator + Copy>(
     mut walker: Walker<'_, T, A>,
-    alloc: A,
-) -> Result<Vec<Item<A>, A>, AllocError> {
-    let mut items = Vec::new(alloc);
+    out: &mut String,
+) -> Result<(), AllocError> {
     for _ in 0..1000u32 {
-        let Some(item) = walker.next()? else {
-            break;
-        };
-        items.push(item)?;
+        match walker.next()? {
+            Some(item) => show_item(&item, out)?,
+            None => break,
+        }
     }
-    Ok(items)
+    Ok(())
 }
 
-/// Walks over operands, and shows the items.
-pub(crate) fn walked<T: FileTree>(
+/// Walks over operands with the memory of `heap`, and shows the items.
+pub(crate) fn walked<T: FileTree, A: Allocator + Copy>(
     alloc: Global,
+    heap: A,
     tree: &T,
-    operands: &str,
+    operands: &[String],
     recursive: bool,
 ) -> Result<String, AllocError> {
-    let operands = texts(alloc, operands)?;
-    let walker = Walker::new(
-        alloc,
-        tree,
-        operands.as_slice(),
-        Scope::all(alloc, recursive),
-    )?;
-    let items = all_of(walker, alloc)?;
-    shown(alloc, items.as_slice())
+    let mut out = String::new(alloc);
+    let walker = Walker::new(heap, tree, operands, Scope::all(heap, recursive))?;
+    show_walk(walker, &mut out)?;
+    Ok(out)
 }
 
 /// A tree of which one answer fails: the one that comes behind `passes` others.
@@ -322,7 +304,7 @@ fn walk_failing(
     tree: &MemTree,
     passes: u32,
     fault: LookFault,
-    operands: &str,
+    operands: &[String],
 ) -> Result<String, AllocError> {
     let failing = Failing {
         tree,
@@ -330,7 +312,7 @@ fn walk_failing(
         fault,
         asked: Cell::new(0),
     };
-    walked(alloc, &failing, operands, true)
+    walked(alloc, alloc, &failing, operands, true)
 }
 
 /// The fault of an answer, by the word for it.
@@ -350,13 +332,14 @@ fn walk_as_asked(
     asked: &str,
 ) -> Result<String, AllocError> {
     let (how, operands) = cut(rt, asked, " ");
+    let operands = texts(rt, alloc, operands);
     match how {
-        "walk" => walked(alloc, tree, operands, true),
-        "look" => walked(alloc, tree, operands, false),
-        _ => {
+        "walk" => walked(alloc, alloc, tree, &operands, true),
+        "look" => walked(alloc, alloc, tree, &operands, false),
+        how => {
             let (word, passes) = cut(rt, how, "-");
             let passes = passes.parse().expect(rt, "a number of answers");
-            walk_failing(alloc, tree, passes, fault_of(rt, word), operands)
+            walk_failing(alloc, tree, passes, fault_of(rt, word), &operands)
         }
     }
 }
@@ -375,7 +358,7 @@ fn walk_on(rt: &impl Abort, alloc: Global, tree: &mut MemTree, line: &str) {
     } else if line.is_empty() {
         *tree = MemTree::new(alloc);
     } else {
-        add_node(rt, alloc, tree, line).expect(rt, "memory");
+        add_node(rt, alloc, tree, line);
     }
 }
 
@@ -397,38 +380,12 @@ d/b unlisted";
 const ALLOWED: &str =
     "d/a:BadName d/a/x d/b:CannotList d/a:BadName d/a/x d/b:CannotList - gone:CannotOpen";
 
-/// Whether these are the items.
-fn are_allowed<A: Allocator>(alloc: Global, items: &[Item<A>]) -> bool {
-    match shown(alloc, items) {
-        Ok(shown) => shown.trim_start() == ALLOWED,
-        Err(AllocError) => false,
-    }
-}
-
-/// The tree that is walked while requests are refused, and the operands.
-fn some_walk(rt: &impl Abort, alloc: Global) -> Result<(MemTree, Vec<String>), AllocError> {
-    Ok((tree_of(rt, alloc, REFUSED)?, texts(alloc, "d d - gone")?))
-}
-
-/// Walks where requests may be refused.
-fn walk_refused<'h>(
-    heap: &'h Refusing,
-    tree: &MemTree,
-    operands: &[String],
-) -> Result<Vec<Item<&'h Refusing>, &'h Refusing>, AllocError> {
-    all_of(
-        Walker::new(heap, tree, operands, Scope::all(heap, true))?,
-        heap,
-    )
-}
-
 /// Whether a walk gives what it should, or wants memory where a request is refused.
 pub(crate) fn is_walked(rt: &impl Abort, alloc: Global, heap: &Refusing) -> bool {
-    let Ok((tree, operands)) = some_walk(rt, alloc) else {
-        return false;
-    };
-    match walk_refused(heap, &tree, operands.as_slice()) {
-        Ok(items) => !heap.has_refused() && are_allowed(alloc, items.as_slice()),
+    let tree = tree_of(rt, alloc, REFUSED);
+    let operands = texts(rt, alloc, "d d - gone");
+    match walked(alloc, heap, &tree, &operands, true) {
+        Ok(shown) => !heap.has_refused() && shown.trim_start() == ALLOWED,
         Err(AllocError) => heap.has_refused(),
     }
 }

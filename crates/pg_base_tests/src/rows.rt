@@ -3,7 +3,7 @@
 use crate::cutter::Way;
 use crate::{cutter, lines, literal, machine, strings, syntax};
 use percent_encoding::{CONTROLS, percent_decode, percent_encode};
-use std::alloc::{AllocError, Global};
+use std::alloc::Global;
 use std::process::Abort;
 
 /// The bytes of a field, in which `%` and two hexadecimal digits stand for one byte (RFC 3986, 2.1).
@@ -16,8 +16,15 @@ pub(crate) fn bytes_of(rt: &impl Abort, alloc: Global, field: &str) -> Vec<u8> {
 }
 
 /// Shows bytes as a field, in which controls and bytes above 127 are escaped.
-pub(crate) fn show_bytes(bytes: &[u8], out: &mut String) -> Result<(), AllocError> {
-    percent_encode(bytes, CONTROLS).append_to(out)
+pub(crate) fn show_bytes(rt: &impl Abort, bytes: &[u8], out: &mut String) {
+    percent_encode(bytes, CONTROLS)
+        .append_to(out)
+        .expect(rt, "memory");
+}
+
+/// Shows a text as it is.
+pub(crate) fn show_text(rt: &impl Abort, text: &str, out: &mut String) {
+    out.push_str(text).expect(rt, "memory");
 }
 
 /// Appends a field so often as the number behind its colon says.

@@ -2,7 +2,7 @@
 ghost use Rattle.std.specs.Prelude.{◌≡◌, ◌≤◌, length, IfOk};
 ghost use Rattle.std.specs.List.{All};
 
-use crate::rows::{Question, assert_rows, bytes_of, cut};
+use crate::rows::{Question, assert_rows, bytes_of, cut, show_text};
 use pg_strings::{Budget, Outcome, StringSet};
 use refusing::Refusing;
 use std::alloc::{AllocError, Allocator, Global};
@@ -51,14 +51,13 @@ fn set_of<A: Allocator + Copy>(alloc: A, text: &str) -> Result<StringSet<A>, All
     StringSet::new(alloc, strings)
 }
 
-fn show_place(out: &mut String, place: Option<usize>) -> Result<(), AllocError> {
-    if !out.is_empty() {
-        out.push(' ')?;
-    }
-    match place {
-        Some(place) => write!(out, "{place}"),
-        None => out.push('-'),
-    }
+/// Shows a blank and a place, or that there is none.
+fn show_place(rt: &impl Abort, out: &mut String, place: Option<usize>) {
+    let shown = match place {
+        Some(place) => write!(out, " {place}"),
+        None => out.push_str(" -"),
+    };
+    shown.expect(rt, "memory");
 }
 
 fn first_place(set: &StringSet, text: &[u8], from: usize) -> Option<usize>
@@ -71,45 +70,39 @@ fn first_place(set: &StringSet, text: &[u8], from: usize) -> Option<usize>
 }
 
 /// Shows for each place of a text where the first string stands, or else how long the longest is that stands there.
-fn show_all(
-    set: &StringSet,
-    asks_first: bool,
-    text: &[u8],
-    out: &mut String,
-) -> Result<(), AllocError> {
+fn show_all(rt: &impl Abort, set: &StringSet, asks_first: bool, text: &[u8], out: &mut String) {
     for place in 0..=text.len() {
         let found = if asks_first {
             first_place(set, text, place)
         } else {
             set.longest_at(text, place)
         };
-        show_place(out, found)?;
+        show_place(rt, out, found);
     }
-    Ok(())
 }
 
-fn answer(
-    rt: &impl Abort,
-    alloc: Global,
-    set: &StringSet,
-    kind: &str,
-    text: &[u8],
-) -> Result<String, AllocError> {
-    let mut out = String::new(alloc);
+/// Shows what is asked of a text by a word.
+fn show_answer(rt: &impl Abort, set: &StringSet, kind: &str, text: &[u8], out: &mut String) {
     match kind {
-        "line" => out.push_str(if set.contains(text) { "yes" } else { "no" })?,
-        "first" => show_all(set, true, text, &mut out)?,
-        "longest" => show_all(set, false, text, &mut out)?,
+        "line" => show_line(rt, set.contains(text), out),
+        "first" => show_all(rt, set, true, text, out),
+        "longest" => show_all(rt, set, false, text, out),
         _ => panic!(rt; "what is asked of strings"),
     }
-    Ok(out)
+}
+
+/// Shows whether a text is one of the strings.
+fn show_line(rt: &impl Abort, is_there: bool, out: &mut String) {
+    show_text(rt, if is_there { "yes" } else { "no" }, out);
 }
 
 /// The answer to a row.
 pub(crate) fn places_of(rt: &impl Abort, alloc: Global, kind: &str, asked: &str) -> String {
     let (strings, text) = cut(rt, asked, " ");
     let set = set_of(alloc, strings).expect(rt, "memory");
-    answer(rt, alloc, &set, kind, &bytes_of(rt, alloc, text)).expect(rt, "memory")
+    let mut out = String::new(alloc);
+    show_answer(rt, &set, kind, &bytes_of(rt, alloc, text), &mut out);
+    out
 }
 
 /// Whether a search with a budget of nothing gives up where the first string is to be compared.

@@ -1,12 +1,12 @@
 //! Runs over files without lines: how many wait for their rows.
-ghost use Rattle.std.specs.Prelude.{IfOk, ◌≡◌, [], false};
+ghost use Rattle.std.specs.Prelude.{◌≡◌, [], false};
 
-use crate::runs::{Watched, run_over, setup, tree_of};
+use crate::runs::{Watched, operand, run_over, setup, tree_of};
 use pg_files::{Ending, Listed, MemStore, OpenFault, ReadFault, Store};
 use pg_rows::{MemSink, Mode};
 use pg_run::{FreeGate, Setup};
 use pg_walk::{FileKind, MemTree, Node, Scope};
-use std::alloc::{AllocError, Global};
+use std::alloc::Global;
 use std::process::Abort;
 use std::sync::Wait;
 use std::sync::atomic::{AtomicU64, Ordering};
@@ -18,12 +18,22 @@ const EMPTY: u64 = 2_000;
 
 /// Files in memory that tell others the most files that were open before one was opened and had no row yet. A row has
 /// two bytes.
-#[derive(Drop)]
 struct Awaited<'n> {
     inner: MemStore,
     opened: u64,
     taken: &'n AtomicU64,
     most: &'n AtomicU64,
+}
+
+impl Drop for Awaited<'_> {
+    fn drop(self) {
+        let Awaited {
+            inner: _,
+            opened: _,
+            taken: _,
+            most: _,
+        } = self;
+    }
 }
 
 impl<'n> Store for Awaited<'n> {
@@ -47,44 +57,74 @@ impl<'n> Store for Awaited<'n> {
 }
 
 /// A tree of the files `f` and `x`.
-fn both(alloc: Global) -> Result<MemTree, AllocError> {
-    let mut tree = tree_of(alloc)?;
-    tree.add("x", Node::new(FileKind::Regular))?;
-    Ok(tree)
+fn both(rt: &impl Abort, alloc: Global) -> MemTree {
+    let mut tree = tree_of(rt, alloc);
+    let node = Node::new(FileKind::Regular);
+    tree.add("x", node).expect(rt, "memory");
+    tree
 }
 
 /// The path `x`, and then the path `f` time and again.
-fn paths(alloc: Global) -> Result<Vec<String>, AllocError> {
+fn paths(rt: &impl Abort, alloc: Global) -> Vec<String> {
     let mut paths = Vec::new(alloc);
-    paths.push(String::from_str(alloc, "x")?)?;
+    let first = String::from_str(alloc, "x").expect(rt, "memory");
+    paths.push(first).expect(rt, "memory");
     for _ in 0..EMPTY {
-        paths.push(String::from_str(alloc, "f")?)?;
+        paths.push(operand(rt, alloc)).expect(rt, "memory");
     }
-    Ok(paths)
+    paths
 }
 
-/// The files at these paths, of which `x` alone has a line.
-fn files_of<'n, 't>(
+/// The bytes of both files, of which `x` alone has a line.
+fn store_of<'n>(
+    rt: &impl Abort,
     alloc: Global,
-    tree: &'t MemTree,
     taken: &'n AtomicU64,
     most: &'n AtomicU64,
-) -> Result<Listed<'t, MemTree, Awaited<'n>>, AllocError>
-    ensures { IfOk result (λ files. (files.walk.asked.items ≡ []) × (files.done ≡ false)) }
-{
-    let paths = paths(alloc)?;
+) -> Awaited<'n> {
     let mut inner = MemStore::new(alloc);
-    inner.add("x", b"x\n", Ending::Ends)?;
-    inner.add("f", b"", Ending::Ends)?;
-    let store = Awaited {
+    inner.add("x", b"x\n", Ending::Ends).expect(rt, "memory");
+    inner.add("f", b"", Ending::Ends).expect(rt, "memory");
+    Awaited {
         inner,
         opened: 0,
         taken,
         most,
-    };
+    }
+}
+
+/// The files at these paths.
+fn files_of<'n, 't>(
+    rt: &impl Abort,
+    alloc: Global,
+    tree: &'t MemTree,
+    taken: &'n AtomicU64,
+    most: &'n AtomicU64,
+) -> Listed<'t, MemTree, Awaited<'n>>
+    ensures { (result.walk.asked.items ≡ []) × (result.done ≡ false) }
+{
+    let paths = paths(rt, alloc);
+    let store = store_of(rt, alloc, taken, most);
     let mut files = Listed::new(alloc, tree, store);
-    files.list(alloc, tree, &paths, Scope::all(alloc, false), false)?;
-    Ok(files)
+    let scope = Scope::all(alloc, false);
+    let listed = files.list(alloc, tree, &paths, scope, false);
+    listed.expect(rt, "memory");
+    files
+}
+
+/// Rounds of two blocks by at most two threads, whose lines are counted.
+fn counting(workers: u8) -> Setup {
+    let mut setup = setup(u32::from(workers.min(2)), 2);
+    setup.format.mode = Mode::Count;
+    setup
+}
+
+/// A sink that takes a row for each file.
+fn room_for_all<'n>(rt: &impl Abort, alloc: Global, taken: &'n AtomicU64) -> Watched<'n> {
+    Watched {
+        inner: MemSink::new(alloc, 5_000).expect(rt, "memory"),
+        taken,
+    }
 }
 
 /// The most files that waited for their rows, where a run by so many threads counts lines in rounds of two blocks.
@@ -95,17 +135,19 @@ fn most_waiting<R: Abort + Threads + Wait + Clock + Sync>(
 ) -> u64 {
     let taken = AtomicU64::new(0);
     let most = AtomicU64::new(0);
-    let tree = both(alloc).expect(rt, "memory");
-    let mut files = files_of(alloc, &tree, &taken, &most).expect(rt, "memory");
-    let mut out = Watched {
-        inner: MemSink::new(alloc, 5_000).expect(rt, "memory"),
-        taken: &taken,
-    };
-    let mut setup = setup(u32::from(workers.min(2)), 2);
-    setup.format.mode = Mode::Count;
-    let found = run_over(rt, alloc, setup, &mut files, &mut out, &FreeGate);
-    assert!(rt; found.status == Ok(0));
-    assert_eq!(rt; taken.load(Ordering::SeqCst), 2 * EMPTY + 2);
+    let tree = both(rt, alloc);
+    let mut files = files_of(rt, alloc, &tree, &taken, &most);
+    let mut out = room_for_all(rt, alloc, &taken);
+    let found = run_over(
+        rt,
+        alloc,
+        counting(workers),
+        &mut files,
+        &mut out,
+        &FreeGate,
+    );
+    let are_written = taken.load(Ordering::SeqCst) == 2 * EMPTY + 2;
+    assert!(rt; found.status == Ok(0) && are_written, "a row for each file");
     most.load(Ordering::SeqCst)
 }
 

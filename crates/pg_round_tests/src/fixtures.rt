@@ -124,10 +124,18 @@ impl<A: Allocator> Collector<BlockResult<A>> for Counts {
 }
 
 /// Counts the calls around each search.
-#[derive(Drop)]
 pub(crate) struct Counting {
     before: [AtomicU64; 8],
     after: [AtomicU64; 8],
+}
+
+impl Drop for Counting {
+    fn drop(self) {
+        let Counting {
+            before: _,
+            after: _,
+        } = self;
+    }
 }
 
 /// So many zeros.
@@ -178,13 +186,24 @@ impl Gate for Counting {
 pub(crate) const PATIENCE: u32 = 10_000_000;
 
 /// Who searches a block waits until so many do, or gives up. It counts those who met all others, and those who gave up.
-#[derive(Drop)]
 pub(crate) struct Meeting {
     wanted: u64,
     begun: AtomicU64,
     ended: AtomicU64,
     met: AtomicU64,
     given_up: AtomicU64,
+}
+
+impl Drop for Meeting {
+    fn drop(self) {
+        let Meeting {
+            wanted: _,
+            begun: _,
+            ended: _,
+            met: _,
+            given_up: _,
+        } = self;
+    }
 }
 
 impl Meeting {
@@ -236,12 +255,22 @@ impl Gate for Meeting {
 }
 
 /// Who searches the first block waits until so many steps were made, or gives up.
-#[derive(Drop)]
 pub(crate) struct Holding {
     wanted: u64,
     begun: AtomicBool,
     made: AtomicU64,
     pub(crate) given_up: AtomicU64,
+}
+
+impl Drop for Holding {
+    fn drop(self) {
+        let Holding {
+            wanted: _,
+            begun: _,
+            made: _,
+            given_up: _,
+        } = self;
+    }
 }
 
 impl Holding {

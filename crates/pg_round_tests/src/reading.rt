@@ -1,12 +1,13 @@
 //! Runs that read a file on while threads search what was read of it.
-ghost use Rattle.std.specs.Prelude.{IfOk, ◌≡◌, [], false};
+ghost use Rattle.std.specs.Prelude.{◌≡◌, [], false};
 
 use crate::fixtures::PATIENCE;
-use crate::runs::{operands_of, run_over, setup, sink, tree_of};
+use crate::runs::{Outcome, operand, run_over, setup, sink, tree_of};
 use pg_files::{Ending, Listed, MemStore, OpenFault, ReadFault, Store};
-use pg_run::{Gate, RunFault};
+use pg_rows::MemSink;
+use pg_run::{Gate, RunFault, Setup};
 use pg_walk::{MemTree, Scope};
-use std::alloc::{AllocError, Global};
+use std::alloc::Global;
 use std::process::Abort;
 use std::sync::Wait;
 use std::sync::atomic::{AtomicU64, Ordering};
@@ -15,11 +16,20 @@ use std::thread::Threads;
 use std::time::Clock;
 
 /// Files in memory that tell others how often they were read.
-#[derive(Drop)]
 struct Counted<'n> {
     inner: MemStore,
     may_wait: bool,
     reads: &'n AtomicU64,
+}
+
+impl Drop for Counted<'_> {
+    fn drop(self) {
+        let Counted {
+            inner: _,
+            may_wait: _,
+            reads: _,
+        } = self;
+    }
 }
 
 impl<'n> Store for Counted<'n> {
@@ -39,38 +49,54 @@ impl<'n> Store for Counted<'n> {
     }
 }
 
-/// A file of these bytes, of which a read gives six.
+/// The file of a case, of which a read gives six bytes.
 fn file_of<'n, 't>(
+    rt: &impl Abort,
     alloc: Global,
     tree: &'t MemTree,
-    bytes: &[u8],
-    ending: Ending,
-    may_wait: bool,
+    case: &Case,
     reads: &'n AtomicU64,
-) -> Result<Listed<'t, MemTree, Counted<'n>>, AllocError>
-    ensures { IfOk result (λ files. (files.walk.asked.items ≡ []) × (files.done ≡ false)) }
+) -> Listed<'t, MemTree, Counted<'n>>
+    ensures { (result.walk.asked.items ≡ []) × (result.done ≡ false) }
 {
-    let operands = operands_of(alloc)?;
-    let mut inner = MemStore::new(alloc);
-    inner.add("f", bytes, ending)?;
-    inner.set_read_limit(6);
-    let store = Counted {
-        inner,
-        may_wait,
-        reads,
-    };
+    let operands = [operand(rt, alloc)];
+    let store = store_of(rt, alloc, case, reads);
     let mut files = Listed::new(alloc, tree, store);
-    files.list(alloc, tree, &operands, Scope::all(alloc, true), true)?;
-    Ok(files)
+    let scope = Scope::all(alloc, true);
+    let listed = files.list(alloc, tree, &operands, scope, true);
+    listed.expect(rt, "memory");
+    files
+}
+
+/// The bytes of that file.
+fn store_of<'n>(rt: &impl Abort, alloc: Global, case: &Case, reads: &'n AtomicU64) -> Counted<'n> {
+    let mut inner = MemStore::new(alloc);
+    inner.add("f", case.file, case.ending).expect(rt, "memory");
+    inner.set_read_limit(6);
+    Counted {
+        inner,
+        may_wait: case.may_wait,
+        reads,
+    }
 }
 
 /// Who searches waits until a file was read so often, or gives up. It counts those who gave up.
-#[derive(Drop)]
 struct AfterReading<'n> {
     reads: &'n AtomicU64,
     least: u64,
     patience: u32,
     given_up: AtomicU64,
+}
+
+impl Drop for AfterReading<'_> {
+    fn drop(self) {
+        let AfterReading {
+            reads: _,
+            least: _,
+            patience: _,
+            given_up: _,
+        } = self;
+    }
 }
 
 impl<'n> Gate for AfterReading<'n> {
@@ -171,18 +197,24 @@ fn reads_on<R: Abort + Threads + Wait + Clock + Sync>(rt: &R, alloc: Global, cas
         patience: case.patience,
         given_up: AtomicU64::new(0),
     };
-    let tree = tree_of(alloc).expect(rt, "memory");
-    let files = file_of(alloc, &tree, case.file, case.ending, case.may_wait, &reads);
-    let mut files = files.expect(rt, "memory");
+    let tree = tree_of(rt, alloc);
+    let mut files = file_of(rt, alloc, &tree, case, &reads);
     let mut out = sink(rt, alloc);
+    let found = run_over(rt, alloc, setup_of(case), &mut files, &mut out, &gate);
+    is_of(case, &found, &out) && gate.given_up.load(Ordering::SeqCst) == case.given_up
+}
+
+/// Rounds of two lines, each a block of the case's size, with lines of at most four bytes.
+fn setup_of(case: &Case) -> Setup {
     let mut setup = setup(2, 2);
     setup.line = 4;
     setup.block = u32::from(case.block.max(1));
-    let found = run_over(rt, alloc, setup, &mut files, &mut out, &gate);
-    found.status == case.status
-        && out.bytes() == case.output
-        && found.told.bytes() == case.told
-        && gate.given_up.load(Ordering::SeqCst) == case.given_up
+    setup
+}
+
+/// Whether a run answers, writes and tells what is expected.
+fn is_of(case: &Case, found: &Outcome, out: &MemSink) -> bool {
+    found.status == case.status && out.bytes() == case.output && found.told.bytes() == case.told
 }
 
 #[test]

@@ -16,11 +16,20 @@ use std::thread::Threads;
 use std::time::Clock;
 
 /// What a round searches, and by which scratches.
-#[derive(Drop)]
 struct Round<A: Allocator> {
     query: Arc<Query<A>, A>,
     blocks: Vec<Arc<Block<A>, A>, A>,
     scratches: Vec<Scratch<A>, A>,
+}
+
+impl<A: Allocator> Drop for Round<A> {
+    fn drop(self) {
+        let Round {
+            query: _,
+            blocks: _,
+            scratches: _,
+        } = self;
+    }
 }
 
 /// A round of so many blocks, by so many scratches.
@@ -141,7 +150,7 @@ fn all_workers_search_at_once(rt: HostRuntime) {
 }
 
 /// What four blocks and a reader came to, where the reader had 100 steps to make.
-#[derive(Drop)]
+#[derive(Clone, Copy)]
 struct Beside {
     /// Each block was searched once.
     is_once: bool,

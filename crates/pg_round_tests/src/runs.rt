@@ -1,5 +1,5 @@
 //! Runs whose rounds are searched by threads: who searches when.
-ghost use Rattle.std.specs.Prelude.{◌≡◌, ◌≤◌, [], false, IfOk};
+ghost use Rattle.std.specs.Prelude.{◌≡◌, ◌≤◌, [], false};
 ghost use Rattle.pg_files.specs.Given.{nothing_given};
 
 use crate::fixtures::{Counting, Meeting, PATIENCE, text};
@@ -7,7 +7,7 @@ use pg_files::{Ending, Files, Listed, MemFiles, MemStore};
 use pg_rows::{Format, MemSink, Mode, Sink, WriteError};
 use pg_run::{FreeGate, Gate, RunFault, Setup, run};
 use pg_walk::{FileKind, MemTree, Node, Scope};
-use std::alloc::{AllocError, Allocator, Global};
+use std::alloc::Global;
 use std::process::Abort;
 use std::sync::Wait;
 use std::sync::atomic::{AtomicU64, Ordering};
@@ -42,29 +42,30 @@ pub(crate) fn setup(workers: u32, round: u32) -> Setup
 }
 
 /// A tree of one file `f`.
-pub(crate) fn tree_of(alloc: Global) -> Result<MemTree, AllocError> {
+pub(crate) fn tree_of(rt: &impl Abort, alloc: Global) -> MemTree {
     let mut tree = MemTree::new(alloc);
-    tree.add("f", Node::new(FileKind::Regular))?;
-    Ok(tree)
+    let node = Node::new(FileKind::Regular);
+    tree.add("f", node).expect(rt, "memory");
+    tree
 }
 
 /// Its path.
-pub(crate) fn operands_of(alloc: Global) -> Result<Vec<String>, AllocError> {
-    let mut operands = Vec::new(alloc);
-    operands.push(String::from_str(alloc, "f")?)?;
-    Ok(operands)
+pub(crate) fn operand(rt: &impl Abort, alloc: Global) -> String {
+    String::from_str(alloc, "f").expect(rt, "memory")
 }
 
 /// A file of these bytes, given in one read.
-fn file_of<'t>(alloc: Global, tree: &'t MemTree, bytes: &[u8]) -> Result<MemFiles<'t>, AllocError>
-    ensures { IfOk result (λ files. (files.walk.asked.items ≡ []) × (files.done ≡ false)) }
+fn file_of<'t>(rt: &impl Abort, alloc: Global, tree: &'t MemTree, bytes: &[u8]) -> MemFiles<'t>
+    ensures { (result.walk.asked.items ≡ []) × (result.done ≡ false) }
 {
-    let operands = operands_of(alloc)?;
+    let operands = [operand(rt, alloc)];
     let mut store = MemStore::new(alloc);
-    store.add("f", bytes, Ending::Ends)?;
+    store.add("f", bytes, Ending::Ends).expect(rt, "memory");
     let mut files = Listed::new(alloc, tree, store);
-    files.list(alloc, tree, &operands, Scope::all(alloc, true), true)?;
-    Ok(files)
+    let scope = Scope::all(alloc, true);
+    let listed = files.list(alloc, tree, &operands, scope, true);
+    listed.expect(rt, "memory");
+    files
 }
 
 /// A sink that takes at most 100 bytes.
@@ -73,10 +74,15 @@ pub(crate) fn sink(rt: &impl Abort, alloc: Global) -> MemSink {
 }
 
 /// What a run answered and told.
-#[derive(Drop)]
 pub(crate) struct Outcome {
     pub(crate) status: Result<u8, RunFault>,
     pub(crate) told: MemSink,
+}
+
+impl Drop for Outcome {
+    fn drop(self) {
+        let Outcome { status: _, told: _ } = self;
+    }
 }
 
 /// What a run for the letter x does beside what it writes.
@@ -105,8 +111,8 @@ fn writes<R: Abort + Threads + Wait + Clock + Sync, G: Gate + Sync>(
     output: &[u8],
     gate: &G,
 ) -> bool {
-    let tree = tree_of(alloc).expect(rt, "memory");
-    let mut files = file_of(alloc, &tree, file).expect(rt, "memory");
+    let tree = tree_of(rt, alloc);
+    let mut files = file_of(rt, alloc, &tree, file);
     let mut out = sink(rt, alloc);
     let found = run_over(rt, alloc, setup, &mut files, &mut out, gate);
     found.status == Ok(0) && out.bytes() == output && found.told.bytes().is_empty()
@@ -184,10 +190,15 @@ fn numbers_of_blocks_begin_anew_in_each_round(rt: HostRuntime) {
 }
 
 /// A sink over memory that tells others how many bytes it took.
-#[derive(Drop)]
 pub(crate) struct Watched<'n> {
     pub(crate) inner: MemSink,
     pub(crate) taken: &'n AtomicU64,
+}
+
+impl Drop for Watched<'_> {
+    fn drop(self) {
+        let Watched { inner: _, taken: _ } = self;
+    }
 }
 
 impl<'n> Sink for Watched<'n> {
@@ -211,10 +222,18 @@ impl<'n> Sink for Watched<'n> {
 }
 
 /// Who searches the second block of a round waits until three bytes were written, or gives up.
-#[derive(Drop)]
 struct AfterWriting<'n> {
     taken: &'n AtomicU64,
     given_up: AtomicU64,
+}
+
+impl Drop for AfterWriting<'_> {
+    fn drop(self) {
+        let AfterWriting {
+            taken: _,
+            given_up: _,
+        } = self;
+    }
 }
 
 impl<'n> Gate for AfterWriting<'n> {
@@ -240,8 +259,8 @@ fn writes_watched<R: Abort + Threads + Wait + Clock + Sync>(
     alloc: Global,
     gate: &AfterWriting<'_>,
 ) -> bool {
-    let tree = tree_of(alloc).expect(rt, "memory");
-    let mut files = file_of(alloc, &tree, b"x1\nx2\n").expect(rt, "memory");
+    let tree = tree_of(rt, alloc);
+    let mut files = file_of(rt, alloc, &tree, b"x1\nx2\n");
     let mut out = Watched {
         inner: sink(rt, alloc),
         taken: gate.taken,

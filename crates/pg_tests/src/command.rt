@@ -7,7 +7,7 @@ use pg_files::{Ending, Listed, MemStore};
 use pg_rows::MemSink;
 use pg_walk::{FileKind, MemTree, Node};
 use pg_words::{Task, Words, read_words};
-use std::alloc::{AllocError, Global};
+use std::alloc::Global;
 use std::process::Abort;
 use std::sync::Wait;
 use std::thread::Threads;
@@ -81,11 +81,20 @@ fn case_of(rt: &impl Abort, letters: &str) -> Case {
 }
 
 /// What a command line wrote and answered.
-#[derive(Drop)]
 struct Outcome {
     answer: Result<u8, Told>,
     out: MemSink,
     err: MemSink,
+}
+
+impl Drop for Outcome {
+    fn drop(self) {
+        let Outcome {
+            answer: _,
+            out: _,
+            err: _,
+        } = self;
+    }
 }
 
 impl Outcome {
@@ -99,23 +108,24 @@ impl Outcome {
 }
 
 /// The words of a text, which blanks set apart.
-pub(crate) fn words_of(alloc: Global, text: &str) -> Result<Vec<String>, AllocError> {
+pub(crate) fn words_of(rt: &impl Abort, alloc: Global, text: &str) -> Vec<String> {
     let mut words = Vec::new(alloc);
     for word in text.split(' ') {
-        words.push(String::from_str(alloc, word)?)?;
+        let word = String::from_str(alloc, word).expect(rt, "memory");
+        words.push(word).expect(rt, "memory");
     }
-    Ok(words)
+    words
 }
 
 /// Standard input and a file, of which a read gives at most so many bytes.
-fn store_of(alloc: Global, ending: Ending, read_limit: usize) -> Result<MemStore, AllocError>
+fn store_of(rt: &impl Abort, alloc: Global, ending: Ending, read_limit: usize) -> MemStore
     requires { 1 ≤ read_limit }
 {
     let mut store = MemStore::new(alloc);
-    store.add("-", INPUT, ending)?;
-    store.add("broken", INPUT, ending)?;
+    store.add("-", INPUT, ending).expect(rt, "memory");
+    store.add("broken", INPUT, ending).expect(rt, "memory");
     store.set_read_limit(read_limit);
-    Ok(store)
+    store
 }
 
 /// What a command line does.
@@ -125,11 +135,11 @@ fn run(
     text: &str,
     case: Case,
 ) -> Outcome {
-    let words = words_of(alloc, text).expect(rt, "memory");
+    let words = words_of(rt, alloc, text);
     let mut tree = MemTree::new(alloc);
     tree.add("broken", Node::new(FileKind::Regular))
         .expect(rt, "memory");
-    let store = store_of(alloc, case.ending, case.read.max(1)).expect(rt, "memory");
+    let store = store_of(rt, alloc, case.ending, case.read.max(1));
     let mut files = Listed::new(alloc, &tree, store);
     let mut out = MemSink::new(alloc, case.out).expect(rt, "memory");
     out.set_write_limit(case.write);
@@ -199,10 +209,10 @@ fn block_asked(alloc: Global, words: &Words) -> Option<u32> {
 }
 
 /// The same for the words of a text.
-fn block_of(alloc: Global, text: &str) -> Result<Option<u32>, AllocError> {
-    let words = words_of(alloc, text)?;
-    let cut = Words::new(alloc, words.as_slice())?;
-    Ok(block_asked(alloc, &cut))
+fn block_of(rt: &impl Abort, alloc: Global, text: &str) -> Option<u32> {
+    let words = words_of(rt, alloc, text);
+    let cut = Words::new(alloc, words.as_slice()).expect(rt, "memory");
+    block_asked(alloc, &cut)
 }
 
 #[test]
@@ -210,7 +220,7 @@ fn the_last_block_size_counts(rt: HostRuntime) {
     for line in BLOCK_SIZES.lines() {
         let (size, text) = cut(&rt, line, " ");
         let size = size.parse().expect(&rt, "a number");
-        let block = block_of(rt.alloc(), text).expect(&rt, "memory");
+        let block = block_of(&rt, rt.alloc(), text);
         assert!(rt; block == Some(size), "{line}");
     }
 }

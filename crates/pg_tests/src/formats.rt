@@ -1,5 +1,5 @@
 //! Every format, over results in any order, against what GNU grep writes.
-ghost use Rattle.std.specs.Prelude.{◌≡◌, ◌+◌, ◌<◌, ◌≤◌, false, true, IfOk, OnOk};
+ghost use Rattle.std.specs.Prelude.{◌≡◌, ◌+◌, ◌<◌, ◌≤◌, false, true};
 ghost use Rattle.std.specs.Arc.{arc_value};
 ghost use Rattle.pg_rows.specs.Output.{is_below, HasRoom};
 ghost use Rattle.pg_tests.specs.Reading.{IsBetween, IsReading};
@@ -11,7 +11,7 @@ use crate::planning::{
 };
 use pg_lines::{Block, BlockResult, Cutter, Kind, Query};
 use pg_seq::{Arrival, Format, MemSink, Mode, Sequencer};
-use std::alloc::{AllocError, Global};
+use std::alloc::Global;
 use std::process::Abort;
 use std::sync::Arc;
 
@@ -21,11 +21,12 @@ pub(crate) fn cut<'a>(rt: &impl Abort, text: &'a str, mark: &str) -> (&'a str, &
 }
 
 /// A field with newlines in place of its slashes.
-pub(crate) fn with_newlines(alloc: Global, field: &str) -> Result<String, AllocError> {
+pub(crate) fn with_newlines(rt: &impl Abort, alloc: Global, field: &str) -> String {
     field
         .chars()
         .map(|c| if c == '/' { '\n' } else { c })
         .collect(alloc)
+        .expect(rt, "memory")
 }
 
 /// The number of a digit, or of none by `-`.
@@ -103,19 +104,18 @@ fn kind_and_option(rt: &impl Abort, letters: &str) -> (Kind, u8) {
 }
 
 /// The query of letters and a text behind a colon: its kind, `o` for matched parts, `v` for lines that aren't matched.
-fn asked_query(rt: &impl Abort, alloc: Global, field: &str) -> Result<Arc<Query>, AllocError>
-    ensures { IfOk result (λ query. (arc_value query).text.zero ≡ false) }
+fn asked_query(rt: &impl Abort, alloc: Global, field: &str) -> Arc<Query>
+    ensures { (arc_value result).text.zero ≡ false }
 {
     let (letters, pattern) = cut(rt, field, ":");
     let (kind, option) = kind_and_option(rt, letters);
-    let mut text = text_of(alloc, kind, pattern.as_bytes())?;
+    let mut text = text_of(alloc, kind, pattern.as_bytes()).expect(rt, "memory");
     text.pieces = option == b'o';
     text.invert = !text.pieces && is_given(rt, option, b'v');
-    compile(alloc, text)
+    compile(alloc, text).expect(rt, "a query")
 }
 
 /// A row of the table.
-#[derive(Drop)]
 struct Case {
     format: Format,
     query: Arc<Query>,
@@ -127,6 +127,20 @@ struct Case {
     files: String,
     output: String,
     status: u8,
+}
+
+impl Drop for Case {
+    fn drop(self) {
+        let Case {
+            format: _,
+            query: _,
+            size: _,
+            seed: _,
+            files: _,
+            output: _,
+            status: _,
+        } = self;
+    }
 }
 
 /// A number below 256.
@@ -146,33 +160,27 @@ fn case_of(rt: &impl Abort, alloc: Global, row: &str) -> Case
     let (status, output) = cut(rt, answer, ":");
     Case {
         format: format_of(rt, letters),
-        query: asked_query(rt, alloc, asked).expect(rt, "a query"),
+        query: asked_query(rt, alloc, asked),
         size: number(rt, size),
         seed: number(rt, seed),
-        files: with_newlines(alloc, files).expect(rt, "memory"),
-        output: with_newlines(alloc, output).expect(rt, "memory"),
+        files: with_newlines(rt, alloc, files),
+        output: with_newlines(rt, alloc, output),
         status: number(rt, status),
     }
 }
 
 /// The blocks of a file. All but the last one have at least `size` bytes, and each has at least one.
-fn cut_file(
-    rt: &impl Abort,
-    alloc: Global,
-    file: u32,
-    text: &str,
-    size: u8,
-) -> Result<Vec<Block>, AllocError> {
+fn cut_file(rt: &impl Abort, alloc: Global, file: u32, text: &str, size: u8) -> Vec<Block> {
     let mut cutter = Cutter::new(alloc, file, u32::from(size.max(1)), 100, b'\n');
     cutter.feed(text.as_bytes()).expect(rt, "short lines");
     let mut blocks = Vec::new(alloc);
     while let Some(block) = cutter.take() {
-        blocks.push(block)?;
+        blocks.push(block).expect(rt, "memory");
     }
     if let Some(block) = cutter.finish() {
-        blocks.push(block)?;
+        blocks.push(block).expect(rt, "memory");
     }
-    Ok(blocks)
+    blocks
 }
 
 /// Plans a file with these blocks.
@@ -183,21 +191,19 @@ fn plan_file(
     file: u32,
     name: u8,
     blocks: &[Block],
-) -> Result<(), AllocError>
+)
     requires between { IsBetween sequencer.old file }
     requires few { file ≤ 100 }
-    ensures { OnOk result (IsBetween sequencer.new (file + 1)) }
+    ensures { IsBetween sequencer.new (file + 1) }
 {
-    open_file(sequencer, file, &[name])?;
+    open_file(sequencer, file, &[name]).expect(rt, "memory");
     let mut number = 0;
     for block in blocks {
-        assert!(rt; number < 100);
-        assert!(rt; is_block(&block.bytes));
-        announce_block(alloc, sequencer, file, number, &block.bytes)?;
+        assert!(rt; number < 100 && is_block(&block.bytes));
+        announce_block(alloc, sequencer, file, number, &block.bytes).expect(rt, "memory");
         number += 1;
     }
     end_file(sequencer, file);
-    Ok(())
 }
 
 /// Plans the next file, of at most 101, cut into blocks of at least `size` bytes, which are appended to those that were
@@ -212,22 +218,22 @@ fn plan_text(
     name: u8,
     text: &str,
     size: u8,
-) -> Result<u32, AllocError>
+) -> u32
     requires between { IsBetween sequencer.old file }
     requires few { file ≤ 100 }
-    ensures { IfOk result (λ files. IsBetween sequencer.new files) }
+    ensures { IsBetween sequencer.new result }
 {
     if text == "!" {
-        miss_name(sequencer, file, &[name])?;
-        return Ok(file);
+        miss_name(sequencer, file, &[name]).expect(rt, "memory");
+        return file;
     }
-    let mut blocks = cut_file(rt, alloc, file, text, size)?;
-    plan_file(rt, alloc, sequencer, file, name, &blocks)?;
-    planned.append(&mut blocks)?;
-    Ok(file + 1)
+    let mut blocks = cut_file(rt, alloc, file, text, size);
+    plan_file(rt, alloc, sequencer, file, name, &blocks);
+    planned.append(&mut blocks).expect(rt, "memory");
+    file + 1
 }
 
-/// Plans files, each behind a `|`, as `plan_text` does, in a sequencer that has none. They are `a`, `b` and so on.
+/// Plans files, which `|` parts, as `plan_text` does, in a sequencer that has none. They are `a`, `b` and so on.
 fn plan_files(
     rt: &impl Abort,
     alloc: Global,
@@ -235,17 +241,16 @@ fn plan_files(
     planned: &mut Vec<Block>,
     files: &str,
     size: u8,
-) -> Result<(), AllocError>
+)
     requires { IsBetween sequencer.old 0 }
 {
     let mut file = 0;
     let mut name = b'a';
-    for text in files.split('|').skip(1) {
+    for text in files.split('|') {
         assert!(rt; file <= 100);
-        file = plan_text(rt, alloc, sequencer, planned, file, name, text, size)?;
+        file = plan_text(rt, alloc, sequencer, planned, file, name, text, size);
         name = name.wrapping_add(1);
     }
-    Ok(())
 }
 
 /// The order in which results arrive.
@@ -271,13 +276,23 @@ fn put_in_order(blocks: &mut [Block], order: Order) {
     }
 }
 
-/// A case whose files are planned: the sequencer that gets the results, and what it writes.
-#[derive(Drop)]
+/// A case, the sequencer that gets the results, and what it writes.
 struct Trial<'a> {
     alloc: Global,
     case: &'a Case,
     sequencer: Sequencer,
     sink: MemSink,
+}
+
+impl Drop for Trial<'_> {
+    fn drop(self) {
+        let Trial {
+            alloc: _,
+            case: _,
+            sequencer: _,
+            sink: _,
+        } = self;
+    }
 }
 
 impl Trial<'_> {
@@ -327,41 +342,36 @@ impl Trial<'_> {
     }
 }
 
-/// The sequencer of a case whose files are planned, and their blocks, which have at least `size` bytes.
+/// A case of which no file is planned.
+fn trial_of<'a>(rt: &impl Abort, alloc: Global, case: &'a Case) -> Trial<'a>
+    requires room { HasRoom case.now.format }
+    requires zero { (arc_value case.now.query).text.zero ≡ false }
+    ensures { IsBetween result.sequencer 0 }
+{
+    Trial {
+        alloc,
+        case,
+        sequencer: new_sequencer(alloc, &case.query, case.format).expect(rt, "memory"),
+        sink: MemSink::new(alloc, 1000).expect(rt, "memory"),
+    }
+}
+
+/// The blocks of a case's files, each of which stands behind a `|`. They have at least `size` bytes, and are planned.
 fn plan_blocks(
     rt: &impl Abort,
     alloc: Global,
-    case: &Case,
+    sequencer: &mut Sequencer,
+    files: &str,
     size: u8,
-) -> Result<(Sequencer, Vec<Block>), AllocError>
-    requires room { HasRoom case.now.format }
-    requires zero { (arc_value case.now.query).text.zero ≡ false }
+) -> Vec<Block>
+    requires { IsBetween sequencer.old 0 }
 {
-    let mut sequencer = new_sequencer(alloc, &case.query, case.format)?;
     let mut planned = Vec::new(alloc);
-    let files = case.files.as_str();
-    plan_files(rt, alloc, &mut sequencer, &mut planned, files, size)?;
-    Ok((sequencer, planned))
-}
-
-/// A case whose files are planned, and their blocks, which have at least `size` bytes.
-fn plan_case<'a>(
-    rt: &impl Abort,
-    alloc: Global,
-    case: &'a Case,
-    size: u8,
-) -> (Trial<'a>, Vec<Block>)
-    requires room { HasRoom case.now.format }
-    requires zero { (arc_value case.now.query).text.zero ≡ false }
-{
-    let (sequencer, planned) = plan_blocks(rt, alloc, case, size).expect(rt, "a plan");
-    let trial = Trial {
-        alloc,
-        case,
-        sequencer,
-        sink: MemSink::new(alloc, 1000).expect(rt, "memory"),
-    };
-    (trial, planned)
+    match files.strip_prefix(":|") {
+        Some(files) => plan_files(rt, alloc, sequencer, &mut planned, files, size),
+        None => assert!(rt; files == ":", "a colon, and a file behind each bar"),
+    }
+    planned
 }
 
 /// Whether a case has its output and status where blocks have at least `size` bytes and results arrive in this order,
@@ -377,7 +387,8 @@ fn passes(
     requires room { HasRoom case.now.format }
     requires zero { (arc_value case.now.query).text.zero ≡ false }
 {
-    let (mut trial, mut blocks) = plan_case(rt, alloc, case, size);
+    let mut trial = trial_of(rt, alloc, case);
+    let mut blocks = plan_blocks(rt, alloc, &mut trial.sequencer, &case.files, size);
     put_in_order(&mut blocks, order);
     trial.takes_all(rt, other, &blocks) && trial.ends()
 }
@@ -387,9 +398,16 @@ fn assert_case(rt: &impl Abort, alloc: Global, other: &Arc<Query>, row: &str) {
     let case = case_of(rt, alloc, row);
     let size = case.size;
     let seeded = Order::Seeded(case.seed);
-    for (size, order) in [(size, seeded), (1, seeded), (size, Order::Falling)] {
-        let right = passes(rt, alloc, &case, other, size, order);
-        assert!(rt; right, "{row}");
+    let right = passes(rt, alloc, &case, other, size, seeded)
+        && passes(rt, alloc, &case, other, 1, seeded)
+        && passes(rt, alloc, &case, other, size, Order::Falling);
+    assert!(rt; right, "{row}");
+}
+
+/// Each case of a text has its output and status.
+fn assert_cases(rt: &impl Abort, alloc: Global, other: &Arc<Query>, rows: &str) {
+    for row in rows.lines() {
+        assert_case(rt, alloc, other, row);
     }
 }
 
@@ -397,9 +415,7 @@ fn assert_case(rt: &impl Abort, alloc: Global, other: &Arc<Query>, row: &str) {
 fn formats_give_the_output_of_grep(rt: HostRuntime) {
     let other = query_of(rt.alloc(), b"other").expect(&rt, "memory");
     for rows in CASES {
-        for row in rows.lines() {
-            assert_case(&rt, rt.alloc(), &other, row);
-        }
+        assert_cases(&rt, rt.alloc(), &other, rows);
     }
 }
 
@@ -436,16 +452,15 @@ fn read_line(
     file: u32,
     number: u64,
     letter: u8,
-) -> Result<(), AllocError>
+)
     requires reading { IsReading sequencer.old file number }
     requires few { number < 100 }
-    ensures { OnOk result (IsReading sequencer.new file (number + 1)) }
+    ensures { IsReading sequencer.new file (number + 1) }
 {
     let line = [letter, b'\n'];
-    announce_block(alloc, sequencer, file, number, &line)?;
-    let found = search(alloc, query, file, number, &line)?;
+    announce_block(alloc, sequencer, file, number, &line).expect(rt, "memory");
+    let found = search(alloc, query, file, number, &line).expect(rt, "memory");
     arrives_as(rt, sequencer, file, number + 1, found, Arrival::Taken);
-    Ok(())
 }
 
 /// Reads on by a letter: a line arrives, or the file ends and the next one is opened. Answers which file is open then,
@@ -458,17 +473,17 @@ fn read_on(
     file: u32,
     number: u64,
     letter: u8,
-) -> Result<(u32, u64), AllocError>
+) -> (u32, u64)
     requires reading { IsReading sequencer.old file number }
     requires few { (file < 100) × (number < 100) }
-    ensures { IfOk result (λ place. IsReading sequencer.new place.0 place.1) }
+    ensures { IsReading sequencer.new result.0 result.1 }
 {
     if letter == b'|' {
-        open_next(sequencer, file)?;
-        Ok((file + 1, 0))
+        open_next(sequencer, file).expect(rt, "memory");
+        (file + 1, 0)
     } else {
-        read_line(rt, alloc, query, sequencer, file, number, letter)?;
-        Ok((file, number + 1))
+        read_line(rt, alloc, query, sequencer, file, number, letter);
+        (file, number + 1)
     }
 }
 
@@ -489,7 +504,7 @@ fn read_step(
         panic!(rt; "a letter and a sign");
     };
     assert!(rt; file < 100 && number < 100);
-    read_on(rt, alloc, query, sequencer, file, number, *letter).expect(rt, "memory")
+    read_on(rt, alloc, query, sequencer, file, number, *letter)
 }
 
 /// What was read is enough where the steps say so. The sequencer's first file is open without a block.
@@ -513,18 +528,18 @@ fn assert_steps(
 }
 
 /// What was read is enough where the row says so.
-fn assert_enough(rt: &impl Abort, alloc: Global, row: &str) -> Result<(), AllocError> {
+fn assert_enough(rt: &impl Abort, alloc: Global, row: &str) {
     let (letters, steps) = cut(rt, row, " ");
-    let query = query_of(alloc, b"m")?;
-    let mut sequencer = new_sequencer(alloc, &query, format_of(rt, letters))?;
-    open_file(&mut sequencer, 0, b"f")?;
+    let query = query_of(alloc, b"m").expect(rt, "memory");
+    let format = format_of(rt, letters);
+    let mut sequencer = new_sequencer(alloc, &query, format).expect(rt, "memory");
+    open_file(&mut sequencer, 0, b"f").expect(rt, "memory");
     assert_steps(rt, alloc, &query, &mut sequencer, steps);
-    Ok(())
 }
 
 #[test]
 fn enough_was_read(rt: HostRuntime) {
     for row in ENOUGH.lines() {
-        assert_enough(&rt, rt.alloc(), row).expect(&rt, "memory");
+        assert_enough(&rt, rt.alloc(), row);
     }
 }

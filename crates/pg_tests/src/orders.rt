@@ -1,5 +1,5 @@
 //! Six results in each of their orders, and results that come before their blocks are announced.
-ghost use Rattle.std.specs.Prelude.{◌≡◌, ◌+◌, ◌<◌, OnOk, false};
+ghost use Rattle.std.specs.Prelude.{◌≡◌, ◌+◌, ◌<◌, false};
 ghost use Rattle.std.specs.Arc.{arc_value};
 ghost use Rattle.pg_tests.specs.Reading.{IsReading};
 
@@ -62,29 +62,30 @@ fn count_orders(alloc: Global) -> Result<usize, AllocError> {
 
 /// Whether the result of a digit's block has this answer.
 fn is_answered(
+    rt: &impl Abort,
     alloc: Global,
     sequencer: &mut Sequencer,
     query: &Arc<Query>,
     digit: u8,
     arrival: Arrival,
-) -> Result<bool, AllocError> {
+) -> bool {
     let number = u64::from(digit.wrapping_sub(b'0'));
-    let found = search_line(alloc, query, 0, number, digit)?;
-    Ok(sequencer.arrive(found) == arrival)
+    let found = search_line(alloc, query, 0, number, digit).expect(rt, "memory");
+    sequencer.arrive(found) == arrival
 }
 
 /// Whether the result of a digit's block is taken, between that of another query, which is a stranger, and its double.
 fn is_taken_once(
+    rt: &impl Abort,
     alloc: Global,
     sequencer: &mut Sequencer,
     query: &Arc<Query>,
     other: &Arc<Query>,
     digit: u8,
-) -> Result<bool, AllocError> {
-    let is_strange = is_answered(alloc, sequencer, other, digit, Arrival::Stranger)?;
-    let is_taken = is_answered(alloc, sequencer, query, digit, Arrival::Taken)?;
-    let is_doubled = is_answered(alloc, sequencer, query, digit, Arrival::Double)?;
-    Ok(is_strange && is_taken && is_doubled)
+) -> bool {
+    is_answered(rt, alloc, sequencer, other, digit, Arrival::Stranger)
+        && is_answered(rt, alloc, sequencer, query, digit, Arrival::Taken)
+        && is_answered(rt, alloc, sequencer, query, digit, Arrival::Double)
 }
 
 /// How many blocks stand at the front, where those of these digits have their results.
@@ -107,25 +108,51 @@ fn drains_to(sequencer: &mut Sequencer, sink: &mut MemSink, blocks: usize) -> bo
 }
 
 /// Whether results that arrive in an order are taken, and behind each a drain writes the rows of the blocks at the
-/// front; and whether a result is a double where its block's rows were written.
+/// front.
+fn take_in(
+    rt: &impl Abort,
+    alloc: Global,
+    sequencer: &mut Sequencer,
+    query: &Arc<Query>,
+    other: &Arc<Query>,
+    order: &[u8],
+) -> bool {
+    let mut sink = MemSink::new(alloc, ROWS.len()).expect(rt, "memory");
+    let mut right = true;
+    for (at, digit) in order.iter().enumerate() {
+        right &= !sequencer.complete();
+        right &= is_taken_once(rt, alloc, sequencer, query, other, *digit);
+        right &= drains_to(sequencer, &mut sink, front(&order[..=at]));
+    }
+    right
+}
+
+/// Whether that is so of an order, and a result is a double where its block's rows were written.
 fn arrive_in(
+    rt: &impl Abort,
     alloc: Global,
     query: &Arc<Query>,
     other: &Arc<Query>,
     order: &[u8],
-) -> Result<bool, AllocError>
+) -> bool
     requires zero { (arc_value query.now).text.zero ≡ false }
 {
-    let (mut sequencer, _) = plan_lines(alloc, query, NUMBERED, DIGITS)?;
-    let mut sink = MemSink::new(alloc, ROWS.len())?;
-    let mut right = true;
-    for (at, digit) in order.iter().enumerate() {
-        right &= !sequencer.complete();
-        right &= is_taken_once(alloc, &mut sequencer, query, other, *digit)?;
-        right &= drains_to(&mut sequencer, &mut sink, front(&order[..=at]));
+    let planned = plan_lines(alloc, query, NUMBERED, DIGITS);
+    let (mut sequencer, _) = planned.expect(rt, "memory");
+    take_in(rt, alloc, &mut sequencer, query, other, order)
+        && is_answered(rt, alloc, &mut sequencer, query, b'0', Arrival::Double)
+        && sequencer.complete()
+        && sequencer.status() == Some(0)
+}
+
+/// Results arrive rightly in each order.
+fn assert_orders(rt: &impl Abort, alloc: Global, query: &Arc<Query>, other: &Arc<Query>)
+    requires zero { (arc_value query.now).text.zero ≡ false }
+{
+    for number in 0..ORDERS {
+        let right = arrive_in(rt, alloc, query, other, &order_of(number));
+        assert!(rt; right, "order {number}");
     }
-    right &= is_answered(alloc, &mut sequencer, query, b'0', Arrival::Double)?;
-    Ok(right && sequencer.complete() && sequencer.status() == Some(0))
 }
 
 #[test]
@@ -133,11 +160,7 @@ fn six_results_arrive_in_each_order(rt: HostRuntime) {
     let query = query_of(rt.alloc(), b"x").expect(&rt, "memory");
     let other = query_of(rt.alloc(), b"0").expect(&rt, "memory");
     assert!(rt; count_orders(rt.alloc()) == Ok(ORDERS));
-    for number in 0..ORDERS {
-        let order = order_of(number);
-        let right = arrive_in(rt.alloc(), &query, &other, &order).expect(&rt, "memory");
-        assert!(rt; right, "order {number}");
-    }
+    assert_orders(&rt, rt.alloc(), &query, &other);
 }
 
 /// The result of a block, the line of `x` and a letter, is a stranger before it is announced, and taken behind that.
@@ -148,34 +171,32 @@ fn announce_late(
     sequencer: &mut Sequencer,
     number: u64,
     letter: u8,
-) -> Result<(), AllocError>
+)
     requires reading { IsReading sequencer.old 0 number }
     requires few { number < 100 }
-    ensures { OnOk result (IsReading sequencer.new 0 (number + 1)) }
+    ensures { IsReading sequencer.new 0 (number + 1) }
 {
-    let early = search_line(alloc, query, 0, number, letter)?;
+    let early = search_line(alloc, query, 0, number, letter).expect(rt, "memory");
     arrives_as(rt, sequencer, 0, number, early, Arrival::Stranger);
-    announce_line(alloc, sequencer, 0, number, letter)?;
-    let found = search_line(alloc, query, 0, number, letter)?;
+    announce_line(alloc, sequencer, 0, number, letter).expect(rt, "memory");
+    let found = search_line(alloc, query, 0, number, letter).expect(rt, "memory");
     arrives_as(rt, sequencer, 0, number + 1, found, Arrival::Taken);
-    Ok(())
 }
 
 /// What is written of two blocks whose results come too early, and then once more.
-fn write_late(rt: &impl Abort, alloc: Global, sink: &mut MemSink) -> Result<(), AllocError> {
-    let query = query_of(alloc, b"x")?;
-    let mut sequencer = new_sequencer(alloc, &query, PLAIN)?;
-    open_file(&mut sequencer, 0, b"f")?;
-    announce_late(rt, alloc, &query, &mut sequencer, 0, b'a')?;
-    announce_late(rt, alloc, &query, &mut sequencer, 1, b'b')?;
+fn write_late(rt: &impl Abort, alloc: Global, sink: &mut MemSink) {
+    let query = query_of(alloc, b"x").expect(rt, "memory");
+    let mut sequencer = new_sequencer(alloc, &query, PLAIN).expect(rt, "memory");
+    open_file(&mut sequencer, 0, b"f").expect(rt, "memory");
+    announce_late(rt, alloc, &query, &mut sequencer, 0, b'a');
+    announce_late(rt, alloc, &query, &mut sequencer, 1, b'b');
     let drained = sequencer.drain(sink);
     assert!(rt; drained.is_ok());
-    Ok(())
 }
 
 #[test]
 fn early_results_are_strangers(rt: HostRuntime) {
     let mut sink = MemSink::new(rt.alloc(), 100).expect(&rt, "memory");
-    write_late(&rt, rt.alloc(), &mut sink).expect(&rt, "memory");
+    write_late(&rt, rt.alloc(), &mut sink);
     assert!(rt; sink.bytes() == b"xa\nxb\n".as_slice());
 }

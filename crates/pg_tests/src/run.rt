@@ -1,7 +1,8 @@
 //! The run over files in memory: sinks that fail, reads that fail and memory that is refused.
-ghost use Rattle.std.specs.Prelude.{◌≡◌, ◌≤◌, ◌^◌, [], false, IfOk};
+ghost use Rattle.std.specs.Prelude.{◌≡◌, ◌≤◌, ◌^◌, [], false};
 ghost use Rattle.pg_rows.specs.Output.{HasRoom};
 
+use crate::command::words_of;
 use crate::fixtures::PLAIN;
 use crate::formats::{cut, format_of, with_newlines};
 use pg_files::{Ending, Listed, MemFiles, MemStore};
@@ -150,39 +151,41 @@ fn text_of<A: Allocator + Copy>(
 }
 
 /// Files `f`, `g` and `h`, and a directory `d` that can't be listed.
-fn tree_of(alloc: Global) -> Result<MemTree, AllocError> {
+fn tree_of(rt: &impl Abort, alloc: Global) -> MemTree {
     let mut tree = MemTree::new(alloc);
     for path in ["f", "g", "h"] {
-        tree.add(path, Node::new(FileKind::Regular))?;
+        let node = Node::new(FileKind::Regular);
+        tree.add(path, node).expect(rt, "memory");
     }
-    tree.add("d", Node::new(FileKind::Directory))?;
-    Ok(tree)
+    let node = Node::new(FileKind::Directory);
+    tree.add("d", node).expect(rt, "memory");
+    tree
 }
 
 /// The file, and behind it, unless it is alone, names that give none, and a second file.
-fn operands_of(alloc: Global, is_alone: bool) -> Result<Vec<String>, AllocError> {
-    let mut operands = Vec::new(alloc);
-    operands.push(String::from_str(alloc, "f")?)?;
-    if !is_alone {
-        for path in ["g", "d", "h"] {
-            operands.push(String::from_str(alloc, path)?)?;
-        }
-    }
-    Ok(operands)
+fn operands_of(rt: &impl Abort, alloc: Global, is_alone: bool) -> Vec<String> {
+    words_of(rt, alloc, if is_alone { "f" } else { "f g d h" })
 }
 
 /// The file, listed in front of names that give none and the file `h`, a line of `b`, unless it is alone.
-fn list<'t>(alloc: Global, tree: &'t MemTree, case: Case<'_>) -> Result<MemFiles<'t>, AllocError>
-    ensures { IfOk result (λ files. (files.walk.asked.items ≡ []) × (files.done ≡ false)) }
+fn list<'t>(rt: &impl Abort, alloc: Global, tree: &'t MemTree, case: Case<'_>) -> MemFiles<'t>
+    ensures { (result.walk.asked.items ≡ []) × (result.done ≡ false) }
 {
-    let operands = operands_of(alloc, case.is_alone)?;
+    let operands = operands_of(rt, alloc, case.is_alone);
+    let mut files = Listed::new(alloc, tree, store_of(rt, alloc, case));
+    let scope = Scope::all(alloc, true);
+    let listed = files.list(alloc, tree, &operands, scope, true);
+    listed.expect(rt, "memory");
+    files
+}
+
+/// The bytes of the file and of `h`.
+fn store_of(rt: &impl Abort, alloc: Global, case: Case<'_>) -> MemStore {
     let mut store = MemStore::new(alloc);
-    store.add("f", case.file, case.ending)?;
-    store.add("h", b"b\n", Ending::Ends)?;
+    store.add("f", case.file, case.ending).expect(rt, "memory");
+    store.add("h", b"b\n", Ending::Ends).expect(rt, "memory");
     store.set_read_limit(case.read_limit);
-    let mut files = Listed::new(alloc, tree, store);
-    files.list(alloc, tree, &operands, Scope::all(alloc, true), true)?;
-    Ok(files)
+    store
 }
 
 /// What a run answers, with the memory that `heap` gives. A refused text counts as a refused run.
@@ -211,11 +214,20 @@ fn answer<R: Threads + Wait + Clock + Sync, A: Allocator + Copy + Send + Sync>(
 }
 
 /// What a run answered, wrote and told.
-#[derive(Drop)]
 struct Outcome {
     answer: Result<u8, RunFault>,
     out: MemSink,
     faults: MemSink,
+}
+
+impl Drop for Outcome {
+    fn drop(self) {
+        let Outcome {
+            answer: _,
+            out: _,
+            faults: _,
+        } = self;
+    }
 }
 
 /// What a run does, with the memory that `heap` gives.
@@ -225,8 +237,8 @@ fn run_case<R: Abort + Threads + Wait + Clock + Sync, A: Allocator + Copy + Send
     heap: A,
     case: Case<'_>,
 ) -> Outcome {
-    let tree = tree_of(alloc).expect(rt, "memory");
-    let mut files = list(alloc, &tree, case).expect(rt, "memory");
+    let tree = tree_of(rt, alloc);
+    let mut files = list(rt, alloc, &tree, case);
     let mut out = MemSink::new(alloc, case.room).expect(rt, "memory");
     out.set_write_limit(case.write_limit);
     let mut faults = MemSink::new(alloc, 100).expect(rt, "memory");
@@ -278,6 +290,20 @@ impl Expected<'_> {
     }
 }
 
+fn push<'a>(rt: &impl Abort, cases: &mut Vec<Expected<'a>>, case: Expected<'a>) {
+    cases.push(case).expect(rt, "memory");
+}
+
+/// A write of a case fails behind these bytes.
+fn failing<'a>(case: Case<'a>, output: &'a [u8]) -> Expected<'a> {
+    Expected {
+        case,
+        answer: Err(RunFault::Sink),
+        output,
+        told: "",
+    }
+}
+
 impl<'a> Row<'a> {
     fn case(self) -> Case<'a> {
         Case::new(self.format).with(self.pattern, self.file)
@@ -294,62 +320,52 @@ impl<'a> Row<'a> {
     }
 
     /// Blocks and reads of some sizes, by one thread, and blocks by three.
-    fn push_blocks(self, cases: &mut Vec<Expected<'a>>) -> Result<(), AllocError> {
+    fn push_blocks(self, rt: &impl Abort, cases: &mut Vec<Expected<'a>>) {
         for block in 1..=64u32 {
             for read_limit in [1, 2, 5, 100] {
                 let case = self.case().cut(block, read_limit);
-                cases.push(self.expected(case, ""))?;
+                push(rt, cases, self.expected(case, ""));
             }
             let case = self.case().cut(block, 100).spread(2);
-            cases.push(self.expected(case, ""))?;
+            push(rt, cases, self.expected(case, ""));
         }
-        Ok(())
     }
 
     /// An output that takes less fails once it is full, one that takes no byte fails at once, and one that takes a byte
     /// at a time goes through.
-    fn push_writes(self, cases: &mut Vec<Expected<'a>>) -> Result<(), AllocError> {
+    fn push_writes(self, rt: &impl Abort, cases: &mut Vec<Expected<'a>>) {
         for block in 1..=10u32 {
             for limit in 0..self.output.len() {
-                let case = self.case().cut(block, 100);
-                cases.push(Expected {
-                    case: case.into_room(limit, usize::MAX),
-                    answer: Err(RunFault::Sink),
-                    output: &self.output[..limit],
-                    told: "",
-                })?;
+                let case = self.case().cut(block, 100).into_room(limit, usize::MAX);
+                push(rt, cases, failing(case, &self.output[..limit]));
             }
             let case = self.case().cut(block, 100).spread(2);
-            cases.push(self.expected(case.into_room(self.output.len(), 1), ""))?;
-            cases.push(Expected {
-                case: case.into_room(self.output.len(), 0),
-                answer: Err(RunFault::Sink),
-                output: b"",
-                told: "",
-            })?;
+            let slow = case.into_room(self.output.len(), 1);
+            push(rt, cases, self.expected(slow, ""));
+            let stalled = case.into_room(self.output.len(), 0);
+            push(rt, cases, failing(stalled, b""));
         }
-        Ok(())
     }
 
     /// Reading fails behind the file, in blocks and reads of some sizes, by one thread and by three.
-    fn push_reads(self, cases: &mut Vec<Expected<'a>>) -> Result<(), AllocError> {
+    fn push_reads(self, rt: &impl Abort, cases: &mut Vec<Expected<'a>>) {
         for block in 1..=10u32 {
             for (read_limit, workers) in [(1, 0), (2, 0), (1, 2), (2, 2)] {
                 let case = self.case().broken().cut(block, read_limit);
-                cases.push(self.expected(case.spread(workers), "pargrep: f: read failed\n"))?;
+                let told = "pargrep: f: read failed\n";
+                push(rt, cases, self.expected(case.spread(workers), told));
             }
         }
-        Ok(())
     }
 
-    fn cases(self, alloc: Global) -> Result<Vec<Expected<'a>>, AllocError> {
+    fn cases(self, rt: &impl Abort, alloc: Global) -> Vec<Expected<'a>> {
         let mut cases = Vec::new(alloc);
         match self.varied {
-            Varied::Blocks => self.push_blocks(&mut cases)?,
-            Varied::Writes => self.push_writes(&mut cases)?,
-            Varied::Reads => self.push_reads(&mut cases)?,
+            Varied::Blocks => self.push_blocks(rt, &mut cases),
+            Varied::Writes => self.push_writes(rt, &mut cases),
+            Varied::Reads => self.push_reads(rt, &mut cases),
         }
-        Ok(cases)
+        cases
     }
 }
 
@@ -428,9 +444,9 @@ impl<'t> Parsed<'t> {
             varied: varied_of(rt, varied),
             format: format_of(rt, letters),
             pattern,
-            file: with_newlines(alloc, file).expect(rt, "memory"),
+            file: with_newlines(rt, alloc, file),
             status: status.parse().expect(rt, "a status"),
-            output: with_newlines(alloc, output).expect(rt, "memory"),
+            output: with_newlines(rt, alloc, output),
         }
     }
 
@@ -469,7 +485,7 @@ reads x -n--11 a/b/x/c/d/e/x/ 2:2-b/3:x/4-c/--/6-e/7:x/";
 /// All cases of a row end as it says.
 fn assert_row<R: Abort + Threads + Wait + Clock + Sync>(rt: &R, alloc: Global, text: &str) {
     let parsed = Parsed::of(rt, alloc, text);
-    let cases = parsed.row().cases(alloc).expect(rt, "memory");
+    let cases = parsed.row().cases(rt, alloc);
     assert_all(rt, alloc, &cases);
 }
 
@@ -504,11 +520,7 @@ fn any_byte_is_searched_for(rt: HostRuntime) {
             status: 0,
             output,
         };
-        assert_all(
-            &rt,
-            rt.alloc(),
-            &row.cases(rt.alloc()).expect(&rt, "memory"),
-        );
+        assert_all(&rt, rt.alloc(), &row.cases(&rt, rt.alloc()));
     }
 }
 
@@ -573,7 +585,7 @@ fn assert_refused<R: Abort + Threads + Wait + Clock + Sync>(
 ) {
     let (early, output) = cut(rt, answer, " ");
     let early: usize = early.parse().expect(rt, "a number");
-    let output = with_newlines(alloc, output).expect(rt, "memory");
+    let output = with_newlines(rt, alloc, output);
     let whole = Expected {
         case,
         answer: Ok(2),
@@ -597,7 +609,7 @@ fn assert_refused_row<R: Abort + Threads + Wait + Clock + Sync>(rt: &R, alloc: G
             .iter()
             .all(|letter| LETTERS.contains(letter))
     );
-    let patterns = with_newlines(alloc, patterns).expect(rt, "memory");
+    let patterns = with_newlines(rt, alloc, patterns);
     let case = Case::new(format_of(rt, format)).asking(letters, patterns.as_bytes());
     assert_refused(rt, alloc, row, case.cut(1, 3).among_others(), answer);
 }

@@ -159,16 +159,28 @@ fn steps_on(
     sequencer: &mut Sequencer,
     sink: &mut MemSink,
     step: &str,
-) -> Result<bool, AllocError> {
+) -> bool {
     let [asked, file, number, letter, sign, lines] = step.as_bytes() else {
         panic!(rt; "six letters: {step}");
     };
-    let query = query_of(alloc, &[*asked])?;
-    let file = u32::from(digit_of(rt, *file));
-    let number = u64::from(digit_of(rt, *number));
-    let found = search_line(alloc, &query, file, number, *letter)?;
+    let file = digit_of(rt, *file);
+    let number = digit_of(rt, *number);
+    let found = found_of(rt, alloc, *asked, file, number, *letter);
     let arrival = arrival_of(rt, *sign);
-    Ok(arrives(sequencer, sink, found, arrival, digit_of(rt, *lines)))
+    arrives(sequencer, sink, found, arrival, digit_of(rt, *lines))
+}
+
+/// What the search for one letter finds in a block, the line of `x` and a letter.
+fn found_of(
+    rt: &impl Abort,
+    alloc: Global,
+    asked: u8,
+    file: u8,
+    number: u8,
+    letter: u8,
+) -> BlockResult {
+    let query = query_of(alloc, &[asked]).expect(rt, "memory");
+    search_line(alloc, &query, u32::from(file), u64::from(number), letter).expect(rt, "memory")
 }
 
 /// Results arrive as steps say.
@@ -178,12 +190,11 @@ fn assert_steps(
     sequencer: &mut Sequencer,
     sink: &mut MemSink,
     steps: &str,
-) -> Result<(), AllocError> {
+) {
     for step in steps.split(' ') {
-        let right = steps_on(rt, alloc, sequencer, sink, step)?;
+        let right = steps_on(rt, alloc, sequencer, sink, step);
         assert!(rt; right, "{step} of {steps}");
     }
-    Ok(())
 }
 
 /// Whether all results have arrived, this is the status, and a sink has so many bytes of the output.
@@ -192,21 +203,27 @@ fn has_ended(sequencer: &Sequencer, status: u8, sink: &MemSink, written: usize) 
 }
 
 /// Results for files arrive as a row says. With the last one all is written.
-fn assert_arrivals(rt: &impl Abort, alloc: Global, row: &str) -> Result<(), AllocError> {
+fn assert_arrivals(rt: &impl Abort, alloc: Global, row: &str) {
     let (letters, steps) = cut(rt, row, " ");
-    assert!(rt; letters.len() <= 100);
-    let mut sink = MemSink::new(alloc, 100)?;
-    let query = query_of(alloc, b"x")?;
-    let (mut sequencer, _) = plan_lines(alloc, &query, PLAIN, letters.as_bytes())?;
-    assert_steps(rt, alloc, &mut sequencer, &mut sink, steps)?;
+    let mut sequencer = planned(rt, alloc, b"x", letters.as_bytes());
+    let mut sink = MemSink::new(alloc, 100).expect(rt, "memory");
+    assert_steps(rt, alloc, &mut sequencer, &mut sink, steps);
     assert!(rt; has_ended(&sequencer, 0, &sink, OUTPUT.len()), "{row}");
-    Ok(())
+}
+
+/// A sequencer of the search for a text with files that have ended, as `plan_letters` plans them.
+fn planned(rt: &impl Abort, alloc: Global, text: &[u8], letters: &[u8]) -> Sequencer {
+    assert!(rt; letters.len() <= 100);
+    let query = query_of(alloc, text).expect(rt, "memory");
+    let planned = plan_lines(alloc, &query, PLAIN, letters);
+    let (sequencer, _) = planned.expect(rt, "memory");
+    sequencer
 }
 
 #[test]
 fn results_arrive_in_any_order(rt: HostRuntime) {
     for row in ARRIVALS.lines() {
-        assert_arrivals(&rt, rt.alloc(), row).expect(&rt, "memory");
+        assert_arrivals(&rt, rt.alloc(), row);
     }
 }
 
@@ -230,64 +247,83 @@ fn is_drained_for_free<A: Allocator + Copy>(
     are_taken && is_whole && heap.requests() == requests
 }
 
-/// Whether a sequencer with a window asks for no memory behind its announcements. `alloc` is the heap.
-fn asks_for_none<A: Allocator + Copy>(alloc: A, heap: &Refusing) -> Result<bool, AllocError> {
-    let query = query_of(alloc, b"x")?;
+/// A sequencer with a window, of a file with the blocks `xa` and `xb`, which has not ended.
+fn with_window<A: Allocator + Copy>(
+    rt: &impl Abort,
+    alloc: A,
+    query: &Arc<Query<A>, A>,
+) -> Sequencer<A>
+    requires { (arc_value query.now).text.zero ≡ false }
+    ensures { IsReading result 0 2 }
+{
     let format = Format {
         before: Some(1),
         after: Some(1),
         ..PLAIN
     };
-    let mut sink = MemSink::new(alloc, 100)?;
-    let mut sequencer = new_sequencer(alloc, &query, format)?;
-    open_file(&mut sequencer, 0, b"f")?;
-    announce_line(alloc, &mut sequencer, 0, 0, b'a')?;
-    announce_line(alloc, &mut sequencer, 0, 1, b'b')?;
-    let ends = ends_for_free(&mut sequencer, heap, 0);
-    let first = search_line(alloc, &query, 0, 0, b'a')?;
-    let second = search_line(alloc, &query, 0, 1, b'b')?;
-    Ok(ends && is_drained_for_free(heap, &mut sequencer, &mut sink, first, second))
+    let mut sequencer = new_sequencer(alloc, query, format).expect(rt, "memory");
+    open_file(&mut sequencer, 0, b"f").expect(rt, "memory");
+    announce_line(alloc, &mut sequencer, 0, 0, b'a').expect(rt, "memory");
+    announce_line(alloc, &mut sequencer, 0, 1, b'b').expect(rt, "memory");
+    sequencer
+}
+
+/// Whether a sequencer with a window asks for no memory behind its announcements. `alloc` is the heap.
+fn asks_for_none<A: Allocator + Copy>(rt: &impl Abort, alloc: A, heap: &Refusing) -> bool {
+    let query = query_of(alloc, b"x").expect(rt, "memory");
+    let mut sequencer = with_window(rt, alloc, &query);
+    let first = search_line(alloc, &query, 0, 0, b'a').expect(rt, "memory");
+    let second = search_line(alloc, &query, 0, 1, b'b').expect(rt, "memory");
+    let mut sink = MemSink::new(alloc, 100).expect(rt, "memory");
+    ends_for_free(&mut sequencer, heap, 0)
+        && is_drained_for_free(heap, &mut sequencer, &mut sink, first, second)
 }
 
 #[test]
 fn results_take_no_memory(rt: HostRuntime) {
     let heap = Refusing::new(rt.alloc(), u64::MAX);
-    let asks_for_none = asks_for_none(&heap, &heap);
-    assert!(rt; asks_for_none == Ok(true) && heap.requests() > 0);
+    let asks_for_none = asks_for_none(&rt, &heap, &heap);
+    assert!(rt; asks_for_none && heap.requests() > 0);
 }
 
 /// Whether a run in which no line is selected writes nothing, and has status 1.
-fn writes_nothing(alloc: Global) -> Result<bool, AllocError> {
-    let mut sink = MemSink::new(alloc, 100)?;
-    let query = query_of(alloc, b"q")?;
-    let (mut sequencer, _) = plan_lines(alloc, &query, PLAIN, b"abc")?;
-    let all_taken = takes_all(alloc, &query, &mut sequencer)?;
-    let drained = sequencer.drain(&mut sink);
-    Ok(all_taken && drained.is_ok() && has_ended(&sequencer, 1, &sink, 0))
+fn writes_nothing(rt: &impl Abort, alloc: Global) -> bool {
+    let mut sink = MemSink::new(alloc, 100).expect(rt, "memory");
+    let mut sequencer = planned(rt, alloc, b"q", b"abc");
+    let query = query_of(alloc, b"q").expect(rt, "memory");
+    let all_taken = takes_all(alloc, &query, &mut sequencer);
+    all_taken == Ok(true)
+        && sequencer.drain(&mut sink).is_ok()
+        && has_ended(&sequencer, 1, &sink, 0)
 }
 
 #[test]
 fn nothing_is_selected(rt: HostRuntime) {
-    assert!(rt; writes_nothing(rt.alloc()) == Ok(true));
+    assert!(rt; writes_nothing(&rt, rt.alloc()));
 }
 
 /// Whether a run is complete, and its status.
 type State = (bool, Option<u8>);
 
+/// The state of a run.
+fn state_of(sequencer: &Sequencer) -> State {
+    (sequencer.complete(), sequencer.status())
+}
+
 /// The states of a run while its file is open without a block, and once its reading has failed.
-fn states_of_open(alloc: Global) -> Result<(State, State), AllocError> {
-    let query = query_of(alloc, b"x")?;
-    let mut sequencer = new_sequencer(alloc, &query, PLAIN)?;
-    open_file(&mut sequencer, 0, b"f")?;
-    let before = (sequencer.complete(), sequencer.status());
+fn states_of_open(rt: &impl Abort, alloc: Global) -> (State, State) {
+    let query = query_of(alloc, b"x").expect(rt, "memory");
+    let mut sequencer = new_sequencer(alloc, &query, PLAIN).expect(rt, "memory");
+    open_file(&mut sequencer, 0, b"f").expect(rt, "memory");
+    let before = state_of(&sequencer);
     sequencer.end(true);
-    Ok((before, (sequencer.complete(), sequencer.status())))
+    (before, state_of(&sequencer))
 }
 
 #[test]
 fn open_file_is_not_complete(rt: HostRuntime) {
-    let states = states_of_open(rt.alloc());
-    assert!(rt; states == Ok(((false, None), (true, Some(2)))));
+    let states = states_of_open(&rt, rt.alloc());
+    assert!(rt; states == ((false, None), (true, Some(2))));
 }
 
 /// A sequencer that got the results of all three blocks, and whether an announcement was refused and made again.
