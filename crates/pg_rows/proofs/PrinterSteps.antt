@@ -18,7 +18,6 @@ use Rattle.pg_rows.specs.declared.progress.Progress.{Progress}
 use Rattle.pg_rows.specs.declared.printer.Printer.{Printer}
 use Rattle.pg_rows.specs.declared.printer.Place.{Place}
 use Rattle.pg_rows.specs.declared.window.Window.{Window}
-use Rattle.pg_rows.specs.Modes.{rows_in}
 use Rattle.pg_rows.specs.Output.{context, is_below}
 use Rattle.pg_rows.specs.Trail.{run_rows, run_pieces}
 use Rattle.pg_rows.specs.Stretch.{part_rows}

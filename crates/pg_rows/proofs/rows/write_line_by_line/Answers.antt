@@ -1,4 +1,4 @@
-use Rattle.std.proofs.Common.{◌≡◌, ◌+◌, ◌++◌, List, ℕ, length, drop, slice_range, ap, ◌∙◌, subst, arith}
+use Rattle.std.proofs.Common.{◌≡◌, ◌+◌, List, ℕ, length, drop, slice_range, ap, ◌∙◌, subst, arith}
 use Rattle.std.proofs.Common.{length-append, refl}
 use Rattle.std.proofs.lemmas.List.{drop_all}
 use Rattle.pg_lines.specs.Lines.{lines}

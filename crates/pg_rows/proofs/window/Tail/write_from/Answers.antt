@@ -1,9 +1,9 @@
-use Rattle.std.proofs.Common.{◌≡◌, ◌≤◌, ◌++◌, List, ℕ, [], length, drop, sym, ap, ◌∙◌, subst, arith}
-use Rattle.std.proofs.lemmas.List.{drop_all, take_rest}
+use Rattle.std.proofs.Common.{List, ℕ, drop, ap, ◌∙◌}
+use Rattle.std.proofs.lemmas.List.{take_rest}
 use Rattle.pg_lines.specs.Lines.{lines}
 use Rattle.pg_rows.specs.Stretch.{marked_rows}
 use Rattle.pg_rows.specs.Window.{tail_lines}
-use Rattle.pg_rows.proofs.WriteLemmas.{wrote_none, writes_as}
+use Rattle.pg_rows.proofs.WriteLemmas.{writes_as}
 use Rattle.pg_rows.proofs.window.Tail.write_from.Goals as goal
 
 pub returns-clause-writes : goal.returns-clause-writes

@@ -1,7 +1,6 @@
-use Rattle.std.proofs.Common.{◌≡◌, ◌+◌, ◌-◌, ◌<◌, ◌^◌, ◌++◌, List, [], ℕ, zero, suc}
+use Rattle.std.proofs.Common.{◌≡◌, ◌+◌, ◌-◌, ◌<◌, ◌^◌, List, [], ℕ, zero, suc}
 use Rattle.std.proofs.Common.{length, drop, subst, sym, ap, ◌∙◌, arith}
 use Rattle.std.proofs.Common.{refl, length-drop}
-use Rattle.std.proofs.lemmas.List.{append-nil}
 use Rattle.std.specs.List.{AllByRecursion}
 use Rattle.circular_buffer.specs.Buffer.{keep_last}
 use Rattle.pg_rows.specs.declared.window.Tail.{Tail}
