@@ -83,7 +83,7 @@ fn files_of<'n, 't>(
         most,
     };
     let mut files = Listed::new(alloc, tree, store);
-    files.list(alloc, tree, &paths, Scope::all(alloc, false), false)?;
+    files.list(alloc, tree, &paths, Scope::all(alloc, false), false, String::new(alloc))?;
     Ok(files)
 }
 
