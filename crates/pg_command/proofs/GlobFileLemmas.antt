@@ -21,38 +21,38 @@ filters_end filters i h = ap filters_of (drop_all i filters h)
 -- These paths and those of the filters from a place on are all that are read.
 module _ (filters : List FileFilter) (i : ℕ) (d f : FileFilter) (h : i < length filters) (is : f ≡ get_or filters i d)
     (front : List (List ℕ)) (joins : front ++ glob_files (filters_of (drop i filters)) ≡ glob_files (filters_of filters))
-    where
-  abbrev rest : List (List ℕ)
-  rest = glob_files (filters_of (drop (i + 1) filters))
+  where
+    abbrev rest : List (List ℕ)
+    rest = glob_files (filters_of (drop (i + 1) filters))
 
-  paths_here : (o : Option (List ℕ)) → glob_file (filter_said f) ≡ o
-      → front ++ before_files o rest ≡ glob_files (filters_of filters)
-  paths_here o e =
-      ap (λ ps. front ++ ps)
-      (sym (ap glob_files (filters_here filters i d f h is) ∙ ap (λ (p : Option (List ℕ)). before_files p rest) e))
-      ∙ joins
+    paths_here : (o : Option (List ℕ)) → glob_file (filter_said f) ≡ o
+        → front ++ before_files o rest ≡ glob_files (filters_of filters)
+    paths_here o e =
+        ap (λ ps. front ++ ps)
+        (sym (ap glob_files (filters_here filters i d f h is) ∙ ap (λ (p : Option (List ℕ)). before_files p rest) e))
+        ∙ joins
 
-  pub no_path : glob_file (filter_said f) ≡ None → front ++ rest ≡ glob_files (filters_of filters)
-  no_path e = paths_here None e
+    pub no_path : glob_file (filter_said f) ≡ None → front ++ rest ≡ glob_files (filters_of filters)
+    no_path e = paths_here None e
 
-  pub one_path : (path : List ℕ) → glob_file (filter_said f) ≡ Some path
-      → (front ++ path ∷ []) ++ rest ≡ glob_files (filters_of filters)
-  one_path path e = append_assoc front (path ∷ []) rest ∙ paths_here (Some path) e
+    pub one_path : (path : List ℕ) → glob_file (filter_said f) ≡ Some path
+        → (front ++ path ∷ []) ++ rest ≡ glob_files (filters_of filters)
+    one_path path e = append_assoc front (path ∷ []) rest ∙ paths_here (Some path) e
 
-  -- the file that wasn't read stands behind those that were
-  pub stops_there : (path : List ℕ) (contents : List (List ℕ)) (past mid past' : List Given) (fault : Fault)
-      → glob_file (filter_said f) ≡ Some path → HasRead past mid front contents → StopsAt path mid past' fault
-      → FailsToReadAll (glob_files (filters_of filters)) past past' fault
-  stops_there path contents past mid past' fault e read stops = record {
-    front = front;
-    path = path;
-    rest = rest;
-    joins = sym (paths_here (Some path) e);
-    contents = contents;
-    between = mid;
-    read = read;
-    stops = stops;
-  }
+    -- the file that wasn't read stands behind those that were
+    pub stops_there : (path : List ℕ) (contents : List (List ℕ)) (past mid past' : List Given) (fault : Fault)
+        → glob_file (filter_said f) ≡ Some path → HasRead past mid front contents → StopsAt path mid past' fault
+        → FailsToReadAll (glob_files (filters_of filters)) past past' fault
+    stops_there path contents past mid past' fault e read stops = record {
+      front = front;
+      path = path;
+      rest = rest;
+      joins = sym (paths_here (Some path) e);
+      contents = contents;
+      between = mid;
+      read = read;
+      stops = stops;
+    }
 
 -- all of them were read
 pub all_read : (filters : List FileFilter) (i : ℕ) (front contents : List (List ℕ)) (past past' : List Given)

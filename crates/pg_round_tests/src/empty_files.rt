@@ -83,7 +83,14 @@ fn files_of<'n, 't>(
         most,
     };
     let mut files = Listed::new(alloc, tree, store);
-    files.list(alloc, tree, &paths, Scope::all(alloc, false), false, String::new(alloc))?;
+    files.list(
+        alloc,
+        tree,
+        &paths,
+        Scope::all(alloc, false),
+        false,
+        String::new(alloc),
+    )?;
     Ok(files)
 }
 

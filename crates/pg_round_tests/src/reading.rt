@@ -60,7 +60,14 @@ fn file_of<'n, 't>(
         reads,
     };
     let mut files = Listed::new(alloc, tree, store);
-    files.list(alloc, tree, &operands, Scope::all(alloc, true), true, String::new(alloc))?;
+    files.list(
+        alloc,
+        tree,
+        &operands,
+        Scope::all(alloc, true),
+        true,
+        String::new(alloc),
+    )?;
     Ok(files)
 }
 

@@ -63,7 +63,14 @@ fn file_of<'t>(alloc: Global, tree: &'t MemTree, bytes: &[u8]) -> Result<MemFile
     let mut store = MemStore::new(alloc);
     store.add("f", bytes, Ending::Ends)?;
     let mut files = Listed::new(alloc, tree, store);
-    files.list(alloc, tree, &operands, Scope::all(alloc, true), true, String::new(alloc))?;
+    files.list(
+        alloc,
+        tree,
+        &operands,
+        Scope::all(alloc, true),
+        true,
+        String::new(alloc),
+    )?;
     Ok(files)
 }
 

@@ -181,7 +181,14 @@ fn list<'t>(alloc: Global, tree: &'t MemTree, case: Case<'_>) -> Result<MemFiles
     store.add("h", b"b\n", Ending::Ends)?;
     store.set_read_limit(case.read_limit);
     let mut files = Listed::new(alloc, tree, store);
-    files.list(alloc, tree, &operands, Scope::all(alloc, true), true, String::new(alloc))?;
+    files.list(
+        alloc,
+        tree,
+        &operands,
+        Scope::all(alloc, true),
+        true,
+        String::new(alloc),
+    )?;
     Ok(files)
 }
 
