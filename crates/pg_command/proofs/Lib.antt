@@ -3,4 +3,5 @@ pub mod RefusalLemmas
 pub mod StatusLemmas
 pub mod ToldLemmas
 pub mod WorkLemmas
+pub mod GlobFileLemmas
 mod GlobLemmas

@@ -5,7 +5,6 @@ use Rattle.pg_lines.specs.Search.{Search}
 use Rattle.pg_rows.specs.declared.format.Format.{Format}
 use Rattle.pg_rows.specs.Modes.{is_quiet}
 use Rattle.pg_rows.specs.Output.{Entry, status, has_selected, is_bad}
-use Rattle.pg_walk.specs.Items.{Found}
 use Rattle.pg_files.specs.Given.{FilesPast, entries_given}
 use Rattle.pg_rows.specs.Sink.{Stream}
 use Rattle.pg_run.specs.Outcome.{Finishes}
@@ -22,7 +21,7 @@ status_small q format entries =
     chosen (is_quiet format.mode && list_any (has_selected q) entries) (list_any is_bad entries)
     (list_any (has_selected q) entries)
 
-pub finishes_small : {q : Search} {setup : Setup} {finds : List Found → Type 0} {past : FilesPast}
+pub finishes_small : {q : Search} {setup : Setup} {finds : List (List ℕ) → Type 0} {past : FilesPast}
     {out out' told told' : Stream} {answer : ℕ} → Finishes q setup finds past out out' told told' answer → answer ≤ 2
 finishes_small {q} {setup} {finds} {past} done =
     subst (λ n. n ≤ 2) (sym done.answered) (status_small q setup.format (entries_given past.given))

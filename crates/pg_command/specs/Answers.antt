@@ -8,13 +8,13 @@ use Rattle.pg_walk.specs.Places.{is_standard_input}
 use Rattle.pg_walk.specs.Left.{BeginsWalk, IsWalk}
 use Rattle.pg_walk.specs.declared.tree.FileKind.{FileKind}
 use Rattle.pg_walk.specs.declared.tree.FileKind.TheVariants.{Regular, Directory, Link, Other}
-use Rattle.pg_files.specs.Given.{Given}
+use Rattle.pg_files.specs.Given.{FilesPast, Given, names_in}
 use Rattle.pg_files.specs.Listed.{file_paths, files_past, AreOpened, AreSpared}
 use Rattle.pg_rows.specs.Sink.{Stream}
 use Rattle.pg_run.specs.Outcome.{IsSearchFor, Finishes, BreaksOff}
 use Rattle.pg_run.specs.declared.fault.RunFault.{RunFault}
 use Rattle.pg_run.specs.declared.setup.Setup.{Setup}
-use Rattle.pg_command.specs.Asked.{Asked, has_names, scope_for, spares_output, text_of_query}
+use Rattle.pg_command.specs.Asked.{Asked, glob_files, has_names, input_name, scope_for, spares_output, text_of_query}
 use Rattle.pg_command.specs.Causes.{fault_of_run}
 use Rattle.pg_command.specs.Reading.{HasRead, FailsToReadAll}
 use Rattle.pg_command.specs.Told.{Tells}
@@ -47,23 +47,39 @@ pub record IsSetup (tells : Type 0) (tree : Tree) (asked : Asked) (setup : Setup
   pub line : setup.line ≡ 2 ^ 30
 
 -- these may be all items of a walk over the operands
-abbrev pub MayBeAll : Type 0 → Tree → Asked → List Found → Type 0
-MayBeAll tells tree asked items = ∥ IsWalk tells tree asked.files (scope_for asked) items ∥₁
+abbrev pub MayBeAll : Type 0 → Tree → Asked → (globs : List (List ℕ)) → List Found → Type 0
+MayBeAll tells tree asked globs items = ∥ IsWalk tells tree asked.files (scope_for asked globs) items ∥₁
 
--- What was searched: the -f files were read, then the operands walked over as far as items were asked for, each file
+-- these may be the names of all of them
+abbrev pub MayBeNames : Type 0 → Tree → Asked → (globs : List (List ℕ)) → List (List ℕ) → Type 0
+MayBeNames tells tree asked globs names =
+    (items : List Found) × MayBeAll tells tree asked globs items × (names ≡ names_in (input_name asked) items)
+
+-- what items gave that were asked for, and whether that is all
+abbrev pub given_for : Asked → (done : Bool) → List Found → List Given → FilesPast
+given_for asked done items past = files_past (input_name asked) done (reverse items) past
+
+-- The -f files were read, and then the files of globs, and gave these contents.
+abbrev pub HasReadFor : Asked → (past past' : List Given) → (contents globs : List (List ℕ)) → Type 0
+HasReadFor asked past past' contents globs =
+    (middle : List Given) × HasRead past middle asked.pattern_files contents
+    × HasRead middle past' (glob_files asked.filters) globs
+
+-- What was searched: the -f files and those of globs were read, then the operands walked over as far as items were asked for, each file
 -- opened by its path, and nothing else. The items are the first ones of the walk, and where `done` says so all of them.
 -- What is known of the walk is all of it where the tree tells its answers; of any other tree that the items follow the
 -- operands. A file is refused because standard output goes there only where rows are written.
 pub record Work (tells : Type 0) (tree : Tree) (asked : Asked) (past past' : List Given) : Type 0 where
   pub contents : List (List ℕ)
+  pub globs : List (List ℕ)
   pub between : List Given
-  pub read : HasRead past between asked.pattern_files contents
+  pub read : HasReadFor asked past between contents globs
   pub items : List Found
-  pub begins : ∥ BeginsWalk tells tree asked.files (scope_for asked) items ∥₁
+  pub begins : ∥ BeginsWalk tells tree asked.files (scope_for asked globs) items ∥₁
   pub setup : Setup
   pub is_setup : IsSetup tells tree asked setup
   pub done : Bool
-  pub whole : done ≡ Bool.true → MayBeAll tells tree asked items
+  pub whole : done ≡ Bool.true → MayBeAll tells tree asked globs items
   pub opened : AreOpened (reverse items) past'
   pub spared : AreSpared (spares_output asked.format.mode) (reverse items) past'
   pub earlier : drop (length (file_paths (reverse items))) past' ≡ between
@@ -75,7 +91,7 @@ pub record Succeeds (tells : Type 0) (tree : Tree) (asked : Asked) (past past' :
   pub search : Search
   pub is_search : IsSearchFor (text_of_query asked work.contents) search
   pub finishes :
-      Finishes search work.setup (MayBeAll tells tree asked) (files_past work.done (reverse work.items) past')
+      Finishes search work.setup (MayBeNames tells tree asked work.globs) (given_for asked work.done work.items past')
       out out' err err' status
 
 -- Some -f file couldn't be read, and nothing was written.
@@ -84,11 +100,21 @@ pub record FailsAtAPatternFile (asked : Asked) (past past' : List Given) (out ou
   pub stopped : FailsToReadAll asked.pattern_files past past' fault
   pub unwritten : (out' ≡ out) × (err' ≡ err)
 
--- Memory was lacking behind the -f files, and nothing was written.
+-- Some file of globs couldn't be read, behind the -f files, and nothing was written.
+pub record FailsAtAGlobFile (asked : Asked) (past past' : List Given) (out out' err err' : Stream) (fault : Fault)
+    : Type 0 where
+  pub contents : List (List ℕ)
+  pub middle : List Given
+  pub read : HasRead past middle asked.pattern_files contents
+  pub stopped : FailsToReadAll (glob_files asked.filters) middle past' fault
+  pub unwritten : (out' ≡ out) × (err' ≡ err)
+
+-- Memory was lacking behind the -f files and those of globs, and nothing was written.
 pub record FailsBeforeTheRun (asked : Asked) (past past' : List Given) (out out' err err' : Stream) (fault : Fault)
     : Type 0 where
   pub contents : List (List ℕ)
-  pub read : HasRead past past' asked.pattern_files contents
+  pub globs : List (List ℕ)
+  pub read : HasReadFor asked past past' contents globs
   pub memory : fault ≡ OutOfMemory
   pub unwritten : (out' ≡ out) × (err' ≡ err)
 
@@ -99,15 +125,16 @@ pub record FailsInTheRun (tells : Type 0) (tree : Tree) (asked : Asked) (past pa
   pub run : RunFault
   pub is : fault ≡ fault_of_run run
   pub breaks :
-      BreaksOff (text_of_query asked work.contents) work.setup (files_past work.done (reverse work.items) past')
+      BreaksOff (text_of_query asked work.contents) work.setup (given_for asked work.done work.items past')
       out out' err err' run
 
 abbrev pub Fails : (tells : Type 0) → Tree → Asked → (past past' : List Given) → (out out' err err' : Stream) → Fault
     → Type 0
 Fails tells tree asked past past' out out' err err' fault =
     FailsAtAPatternFile asked past past' out out' err err' fault
+    ⊎ (FailsAtAGlobFile asked past past' out out' err err' fault
     ⊎ (FailsBeforeTheRun asked past past' out out' err err' fault
-    ⊎ FailsInTheRun tells tree asked past past' out out' err err' fault)
+    ⊎ FailsInTheRun tells tree asked past past' out out' err err' fault))
 
 -- The status of a search that went through, or a fault was told behind the lines of files.
 abbrev pub Answers : {T : Type 0} → (tells : Type 0) → Tree → Asked → (past past' : List Given)

@@ -1,12 +1,20 @@
 -- What is searched for where a search is asked for, and when rows have names.
 pub use Rattle.pg_words.specs.Asked.{Asked, asked_of}
 use Rattle.std.specs.Prelude.{ℕ, ◌==◌, Bool, true, false, ◌&&◌, ◌||◌, if◌then◌else◌, List, [], ◌∷◌, map, ◌++◌}
+use Rattle.std.specs.Prelude.{unwrap_or, Option, Some, None}
 use Rattle.pg_glob.specs.Filters.{Rule}
+use Rattle.pg_glob.specs.GlobFiles.{rules_in}
 use Rattle.pg_glob.specs.Globs.{pieces_of}
 use Rattle.pg_walk.specs.Scopes.{Scope}
+use Rattle.pg_walk.specs.declared.scope.Devices.{Devices}
+use Rattle.pg_walk.specs.declared.scope.Devices.TheVariants.{ReadOperands, Read as ReadAsFiles, Skip as SkipThem}
 use Rattle.pg_lines.specs.Search.{Patterns, Split, ByLine, SearchText}
+use Rattle.pg_files.specs.Given.{standard_input}
 use Rattle.pg_rows.specs.declared.format.Mode.{Mode}
 use Rattle.pg_rows.specs.Modes.{shows_rows}
+use Rattle.pg_words.specs.Line.{Filter, Include, Exclude, ExcludeFrom}
+use Rattle.pg_words.specs.declared.options.DeviceAction.{DeviceAction}
+use Rattle.pg_words.specs.declared.options.DeviceAction.TheVariants.{Read as ReadAll, Skip as SkipAll}
 use Rattle.pg_words.specs.declared.options.Naming.{Naming}
 use Rattle.pg_words.specs.declared.options.Naming.TheVariants.{Always, Never, BySeveral}
 
@@ -32,6 +40,10 @@ text_of_query asked contents = text_with asked (map ByLine contents)
 abbrev pub spares_output : Mode → Bool
 spares_output mode = shows_rows mode
 
+-- what standard input is called in rows and fault lines: as --label has it
+abbrev pub input_name : Asked → List ℕ
+input_name asked = unwrap_or asked.label standard_input
+
 abbrev pub are_several : List (List ℕ) → Bool
 are_several [] = false
 are_several (file ∷ []) = false
@@ -43,9 +55,32 @@ has_names Always files recursive directory = true
 has_names Never files recursive directory = false
 has_names BySeveral files recursive directory = are_several files || (recursive && directory)
 
--- the file rules of --include and --exclude
-abbrev pub file_rule : Bool × List ℕ → Rule
-file_rule filter = record { keeps = filter.0; glob = pieces_of filter.1 }
+-- a rule for files
+abbrev pub file_rule : Bool → List ℕ → Rule
+file_rule keeps glob = record { keeps = keeps; glob = pieces_of glob }
+
+-- the path of a file of globs
+abbrev pub glob_file : Filter → Option (List ℕ)
+glob_file (Include glob) = None
+glob_file (Exclude glob) = None
+glob_file (ExcludeFrom path) = Some path
+
+abbrev pub before_files : Option (List ℕ) → List (List ℕ) → List (List ℕ)
+before_files None paths = paths
+before_files (Some path) paths = path ∷ paths
+
+-- the paths of all of them, in their order
+abbrev pub glob_files : List Filter → List (List ℕ)
+glob_files [] = []
+glob_files (filter ∷ filters) = before_files (glob_file filter) (glob_files filters)
+
+-- the rules of --include, --exclude and --exclude-from in their order, where the files of globs have these contents
+abbrev pub file_rules : List Filter → (contents : List (List ℕ)) → List Rule
+file_rules [] contents = []
+file_rules (Include glob ∷ filters) contents = file_rule true glob ∷ file_rules filters contents
+file_rules (Exclude glob ∷ filters) contents = file_rule false glob ∷ file_rules filters contents
+file_rules (ExcludeFrom path ∷ filters) [] = file_rules filters []
+file_rules (ExcludeFrom path ∷ filters) (content ∷ contents) = rules_in content ++ file_rules filters contents
 
 -- a glob without a slash (47) at its end
 abbrev pub without_slash : List ℕ → List ℕ
@@ -57,10 +92,19 @@ without_slash (x ∷ y ∷ glob) = x ∷ without_slash (y ∷ glob)
 abbrev pub directory_rule : List ℕ → Rule
 directory_rule glob = record { keeps = false; glob = pieces_of (without_slash glob) }
 
--- Which part of the trees is searched: with -r what is in directories too, but for what the globs leave out.
-abbrev pub scope_for : Asked → Scope
-scope_for asked = record {
+-- what is done with devices, FIFOs and sockets: without -D operands are read, and others give nothing
+abbrev pub devices_for : Option DeviceAction → Devices
+devices_for None = ReadOperands
+devices_for (Some ReadAll) = ReadAsFiles
+devices_for (Some SkipAll) = SkipThem
+
+-- Which part of the trees is searched: with -r what is in directories too, but for what -d, -D and the globs leave out.
+-- The files of globs have these contents.
+abbrev pub scope_for : Asked → (globs : List (List ℕ)) → Scope
+scope_for asked globs = record {
   recursive = asked.recursive;
-  files = map file_rule asked.filters;
+  skips_directories = asked.skips_directories;
+  devices = devices_for asked.devices;
+  files = file_rules asked.filters globs;
   directories = map directory_rule asked.excluded;
 }

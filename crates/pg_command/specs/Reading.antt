@@ -1,9 +1,9 @@
--- The files of patterns, read one after the other.
-use Rattle.std.specs.Prelude.{◌≡◌, ℕ, ◌⊎◌, false, List, [], ◌∷◌, ◌++◌, Result, Ok, Err}
+-- The files of patterns and those of globs, read one after the other.
+use Rattle.std.specs.Prelude.{◌≡◌, ℕ, ◌⊎◌, false, List, [], ◌∷◌, ◌++◌, map, Result, Ok, Err, Vec}
 use Rattle.pg_rows.specs.Output.{Ending, Ended, Failed, Left, is_failed}
 use Rattle.pg_walk.specs.declared.item.Cause.{Cause}
 use Rattle.pg_walk.specs.declared.item.Cause.TheVariants.{ReadFailed}
-use Rattle.pg_files.specs.Given.{Given, NoFile, File, is_output, shown_name}
+use Rattle.pg_files.specs.Given.{Given, NoFile, File, is_output, shown_name, standard_input}
 use Rattle.pg_command.specs.declared.fault.Fault.{Fault}
 use Rattle.pg_command.specs.declared.fault.Fault.TheVariants.{NotText, Usage, Unreadable, Pattern, TooLarge}
 use Rattle.pg_command.specs.declared.fault.Fault.TheVariants.{OutOfMemory, WriteFailed, TooManyFiles, LineTooLong}
@@ -14,6 +14,10 @@ HasRead past past' [] [] = past' ≡ past
 HasRead past past' [] (content ∷ contents) = ⊥
 HasRead past past' (path ∷ paths) [] = ⊥
 HasRead past past' (path ∷ paths) (content ∷ contents) = HasRead (File path content Ended ∷ past) past' paths contents
+
+-- the contents of files, without where they lie in memory
+abbrev pub contents_of : {A : Type 0} → List (Vec ℕ A) → List (List ℕ)
+contents_of contents = map (λ content. content.items) contents
 
 -- the path gave no file, though not because standard output goes there, or a read of it failed
 abbrev pub IsUnread : List ℕ → Cause → List Given → List Given → Type 0
@@ -38,9 +42,10 @@ abbrev pub ReadsOn : {T E F : Type 0} → (path : List ℕ) → List Given → R
 ReadsOn path past (Ok end) bytes past' = IsReadBy path past end bytes past'
 ReadsOn path past (Err _) bytes past' = (got : List ℕ) × (past' ≡ File path got Left ∷ past)
 
--- a path wasn't read to its end, by a fault that has its cause
+-- a path wasn't read to its end, by a fault that has its cause; there --label isn't heeded
 abbrev pub StopsAt : List ℕ → List Given → List Given → Fault → Type 0
-StopsAt path past past' (Unreadable name cause) = (name.now ≡ shown_name path) × IsUnread path cause past past'
+StopsAt path past past' (Unreadable name cause) =
+    (name.now ≡ shown_name standard_input path) × IsUnread path cause past past'
 StopsAt path past past' OutOfMemory = IsGivenUp path past past'
 StopsAt path past past' NotText = ⊥
 StopsAt path past past' (Usage fault) = ⊥

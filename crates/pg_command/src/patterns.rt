@@ -1,16 +1,19 @@
-//! The files of patterns.
-ghost use Rattle.std.specs.Prelude.{◌≡◌, ◌<◌, ◌∷◌, List, ℕ, map, IfErr, IfOk, length};
+//! The files of patterns and those of globs.
+ghost use Rattle.std.specs.Prelude.{◌≡◌, ◌<◌, ◌∷◌, List, ℕ, map, option_map, IfErr, IfOk, length};
 ghost use Rattle.pg_syntax.specs.Memory.{patterns_of};
 ghost use Rattle.pg_syntax.specs.Slices.{bytes_of};
 ghost use Rattle.pg_lines.specs.Search.{ByLine};
 ghost use Rattle.pg_rows.specs.Output.{Ended, Left};
 ghost use Rattle.pg_files.specs.Given.{Given, File};
-ghost use Rattle.pg_command.specs.Reading.{FailsToReadAll, HasRead, ReadsOn, StopsAt};
+ghost use Rattle.pg_words.specs.Filters.{filter_said, filters_of};
+ghost use Rattle.pg_command.specs.Asked.{glob_file, glob_files};
+ghost use Rattle.pg_command.specs.Reading.{contents_of, FailsToReadAll, HasRead, ReadsOn, StopsAt};
 
 use crate::fault::Fault;
-use pg_files::{OpenFault, ReadFault, Store, shown_name};
+use pg_files::{OpenFault, ReadFault, STANDARD_INPUT, Store, shown_name};
 use pg_lines::PatternList;
 use pg_walk::Cause;
+use pg_words::FileFilter;
 use std::alloc::{AllocError, Global};
 
 /// How many bytes are asked for in one read.
@@ -41,6 +44,44 @@ pub(crate) fn read_patterns<'a, S: Store>(
     Ok(lists)
 }
 
+/// Reads the files of globs among filters, one after the other, each to its end. The answer is what they hold.
+///
+/// # Errors
+///
+/// `Unreadable` for the first file that couldn't be opened or read to its end, and `OutOfMemory` where
+/// a request for memory was refused.
+pub(crate) fn read_globs<'a, S: Store>(
+    alloc: Global,
+    filters: &[FileFilter<'a>],
+    store: &mut S,
+) -> Result<Vec<Vec<u8>>, Fault<'a>>
+    ensures read { IfOk result (λ contents. HasRead (S.past store.old) (S.past store.new)
+        (glob_files (filters_of filters.now)) (contents_of contents.items)) }
+    ensures fault { IfErr result (FailsToReadAll (glob_files (filters_of filters.now))
+        (S.past store.old) (S.past store.new)) }
+{
+    let mut contents = Vec::new(alloc);
+    for filter in filters {
+        let Some(path) = glob_file(filter) else {
+            continue;
+        };
+        let bytes = read_file(alloc, path, store)?;
+        contents.push(bytes)?;
+    }
+    Ok(contents)
+}
+
+/// The path of a file of globs, if the filter is one.
+fn glob_file<'a>(filter: &FileFilter<'a>) -> Option<&'a str>
+    ensures { option_map (λ path. path.now) result ≡ glob_file (filter_said filter.now) }
+{
+    match filter {
+        FileFilter::Include(_) => None,
+        FileFilter::Exclude(_) => None,
+        FileFilter::ExcludeFrom(path) => Some(path),
+    }
+}
+
 /// Opens the file at a path and reads it to its end.
 fn read_file<'a, S: Store>(
     alloc: Global,
@@ -50,7 +91,7 @@ fn read_file<'a, S: Store>(
     ensures read { IfOk result (λ bytes. S.past store.new ≡ File path.now bytes.items Ended ∷ S.past store.old) }
     ensures fault { IfErr result (StopsAt path.now (S.past store.old) (S.past store.new)) }
 {
-    let name = shown_name(path);
+    let name = shown_name(STANDARD_INPUT, path);
     match store.open(path, false) {
         Ok(()) => {}
         Err(OpenFault::Refused(cause)) => return Err(Fault::Unreadable(name, cause)),

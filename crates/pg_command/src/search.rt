@@ -3,15 +3,16 @@ ghost use Rattle.std.specs.Prelude.{◌≡◌, ◌≤◌, ◌^◌, [], false, ma
 ghost use Rattle.std.specs.String.{string_bytes};
 ghost use Rattle.pg_syntax.specs.Slices.{bytes_of};
 ghost use Rattle.pg_walk.specs.Scopes.{scope_of};
-ghost use Rattle.pg_command.specs.Asked.{asked_of, has_names, scope_for, spares_output};
+ghost use Rattle.pg_command.specs.Asked.{asked_of, has_names, input_name, scope_for, spares_output};
 ghost use Rattle.pg_command.specs.Answers.{Answers, Fails, IsSetup, Succeeds};
+ghost use Rattle.pg_command.specs.Reading.{contents_of};
 
 use crate::fault::{Fault, report};
 use crate::names::{is_directory, operands_of};
-use crate::patterns::read_patterns;
+use crate::patterns::{read_globs, read_patterns};
 use crate::query::text_of;
 use crate::scope::read_scope;
-use pg_files::{Listed, Store};
+use pg_files::{Listed, STANDARD_INPUT, Store};
 use pg_rows::{Format, Mode, Sink};
 use pg_run::{FreeGate, Setup, run};
 use pg_walk::FileTree;
@@ -30,16 +31,17 @@ pub struct Told;
 
 /// Searches the files that a request names, which a walk over its operands in a tree gives and the
 /// store of `files` opens, each when its turn comes. What is asked for of them goes to `out`, in the
-/// request's format; rows call a file by its path, and standard input `(standard input)`. Each name that
+/// request's format; rows call a file by its path, and standard input by its label or else `(standard input)`. Each
+/// name that
 /// gives no file, and each file whose reading fails, has a line in `err` unless the request is silent. The
 /// answer is the status: 0 where a line was selected, 1 where none was, and 2 where a name gave no file or
 /// a reading failed; but with -q 0 where a line was selected. Nothing was asked of `files` yet, and no
-/// directory is listed before the patterns are read.
+/// directory is listed before the patterns and the files of globs are read.
 ///
 /// # Errors
 ///
 /// `Told` where a fault ended the search, whose line went to `err`: that of the first -f file that
-/// can't be read, then that of the patterns, the first of them that has one, or of their size, and then
+/// can't be read, then that of the first file of globs, then that of the patterns, the first of them that has one, or of their size, and then
 /// those that end a run. `out` got a beginning of its output then.
 pub fn answer<'t, R: Threads + Wait + Clock + Sync, T: FileTree, S: Store + Drop, W: Sink, E: Sink>(
     rt: &R,
@@ -65,7 +67,7 @@ pub fn answer<'t, R: Threads + Wait + Clock + Sync, T: FileTree, S: Store + Drop
     }
 }
 
-/// Reads the files of patterns, and searches the files that a walk over the operands gives. Nothing was
+/// Reads the files of patterns and those of globs, and searches the files that a walk over the operands gives. Nothing was
 /// asked of `files` yet.
 fn search<'a, 't, R: Threads + Wait + Clock + Sync, T: FileTree, S: Store + Drop, W: Sink, E: Sink>(
     rt: &R,
@@ -86,15 +88,18 @@ fn search<'a, 't, R: Threads + Wait + Clock + Sync, T: FileTree, S: Store + Drop
         (E.stream err.old) (E.stream err.new)) }
 {
     let lists = read_patterns(alloc, request.pattern_files.as_slice(), &mut files.store)?;
+    let globs = read_globs(alloc, request.filters.as_slice(), &mut files.store)?;
     let text = text_of(alloc, request, lists)?;
-    let setup = list_files(alloc, request, tree, files)?;
+    let setup = list_files(alloc, request, globs.as_slice(), tree, files)?;
     Ok(run(rt, alloc, text, setup, files, out, err, &FreeGate)?)
 }
 
-/// Has a walk over the operands listed, and says how that is searched. No directory is listed yet.
+/// Has a walk over the operands listed, and says how that is searched, where the files of globs have these contents. No
+/// directory is listed yet.
 fn list_files<'t, T: FileTree, S: Store + Drop>(
     alloc: Global,
     request: &Request<'_>,
+    globs: &[Vec<u8>],
     tree: &'t T,
     files: &mut Listed<'t, T, S>,
 ) -> Result<Setup, AllocError>
@@ -102,16 +107,25 @@ fn list_files<'t, T: FileTree, S: Store + Drop>(
     ensures store { files.new.store ≡ files.old.store }
     ensures walk { OnOk result ((files.new.walk.walker.tree.now ≡ tree.now)
         × (map string_bytes files.new.walk.operands.items ≡ (asked_of request.now).files)
-        × (scope_of files.new.walk.walker.scope ≡ scope_for (asked_of request.now))) }
+        × (scope_of files.new.walk.walker.scope ≡ scope_for (asked_of request.now) (contents_of globs.now))) }
     ensures spares { OnOk result (files.new.spares_output ≡ spares_output request.now.format.mode) }
+    ensures named { OnOk result (string_bytes files.new.input_name ≡ input_name (asked_of request.now)) }
     ensures setup { IfOk result (IsSetup (T.tells tree.now) (T.answers tree.now) (asked_of request.now)) }
 {
     let directory = is_directory(tree, request.files.as_slice())?;
     let operands = operands_of(alloc, request.files.as_slice())?;
-    let scope = read_scope(alloc, request)?;
+    let scope = read_scope(alloc, request, globs)?;
     let spares = spares_output(request.format.mode);
-    files.list(alloc, tree, operands.as_slice(), scope, spares)?;
+    let name = String::from_str(alloc, input_name(request))?;
+    files.list(alloc, tree, operands.as_slice(), scope, spares, name)?;
     Ok(setup_of(request, directory))
+}
+
+/// What standard input is called.
+fn input_name<'a>(request: &Request<'a>) -> &'a str
+    ensures { result.now ≡ input_name (asked_of request.now) }
+{
+    request.label.unwrap_or(STANDARD_INPUT)
 }
 
 /// Whether the output grows with the lines that are read, so that it isn't searched itself.

@@ -14,7 +14,7 @@ use Rattle.pg_walk.specs.Items.{Found, File as AFile, Fault, found, path_in}
 use Rattle.pg_walk.specs.Left.{BeginsWalk, HasGiven, Spot, shown as found_in}
 use Rattle.pg_walk.specs.declared.item.Item.{Item}
 use Rattle.pg_files.specs.Given.{Given, NoFile, File, is_reading, gave_bytes, gave_end}
-use Rattle.pg_files.specs.Given.{AreGiven, MaySpare, is_output, name_of, shown_name}
+use Rattle.pg_files.specs.Given.{AreGiven, MaySpare, is_output, name_of, names_in, shown_name}
 use Rattle.pg_files.specs.Asking.{ReadGives, read_given}
 use Rattle.pg_files.specs.Listed.{asked_for, file_paths, of_items, shown, AreOpened, AreSpared}
 use Rattle.pg_files.specs.Listed.{Sought, given_by, sought, Reaches}
@@ -27,67 +27,67 @@ asked_more items item =
     ap reverse (map-append found items (item ∷ [])) ∙ reverse-append (map found items) (found item ∷ [])
 
 -- a file that is open goes on by bytes
-bytes_by : (more : List ℕ) (items : List Found) (past : List Given) → is_reading (given_by items past) ≡ true →
-    given_by items (gave_bytes more past) ≡ gave_bytes more (given_by items past)
-bytes_by more [] past r = absurd (false≢true r)
-bytes_by more (Fault path cause ∷ items) past r = absurd (false≢true r)
-bytes_by more (AFile path ∷ items) [] r = absurd (false≢true r)
-bytes_by more (AFile path ∷ items) (NoFile name cause ∷ past) r = refl
-bytes_by more (AFile path ∷ items) (File name bytes ending ∷ past) r = refl
+bytes_by : (input : List ℕ) (more : List ℕ) (items : List Found) (past : List Given) → is_reading (given_by input items past) ≡ true →
+    given_by input items (gave_bytes more past) ≡ gave_bytes more (given_by input items past)
+bytes_by input more [] past r = absurd (false≢true r)
+bytes_by input more (Fault path cause ∷ items) past r = absurd (false≢true r)
+bytes_by input more (AFile path ∷ items) [] r = absurd (false≢true r)
+bytes_by input more (AFile path ∷ items) (NoFile name cause ∷ past) r = refl
+bytes_by input more (AFile path ∷ items) (File name bytes ending ∷ past) r = refl
 
 -- and so by its end
-end_by : (failed : Bool) (items : List Found) (past : List Given) → is_reading (given_by items past) ≡ true →
-    given_by items (gave_end failed past) ≡ gave_end failed (given_by items past)
-end_by failed [] past r = absurd (false≢true r)
-end_by failed (Fault path cause ∷ items) past r = absurd (false≢true r)
-end_by failed (AFile path ∷ items) [] r = absurd (false≢true r)
-end_by failed (AFile path ∷ items) (NoFile name cause ∷ past) r = refl
-end_by failed (AFile path ∷ items) (File name bytes ending ∷ past) r = refl
+end_by : (input : List ℕ) (failed : Bool) (items : List Found) (past : List Given) → is_reading (given_by input items past) ≡ true →
+    given_by input items (gave_end failed past) ≡ gave_end failed (given_by input items past)
+end_by input failed [] past r = absurd (false≢true r)
+end_by input failed (Fault path cause ∷ items) past r = absurd (false≢true r)
+end_by input failed (AFile path ∷ items) [] r = absurd (false≢true r)
+end_by input failed (AFile path ∷ items) (NoFile name cause ∷ past) r = refl
+end_by input failed (AFile path ∷ items) (File name bytes ending ∷ past) r = refl
 
-given_count : (into : List ℕ) (count : ℕ) (items : List Found) (past : List Given) →
-    is_reading (given_by items past) ≡ true →
-    given_by items (read_given into count past) ≡ read_given into count (given_by items past)
-given_count into zero items past r = end_by false items past r
-given_count into (suc count) items past r = bytes_by (take (suc count) into) items past r
+given_count : (input : List ℕ) (into : List ℕ) (count : ℕ) (items : List Found) (past : List Given) →
+    is_reading (given_by input items past) ≡ true →
+    given_by input items (read_given into count past) ≡ read_given into count (given_by input items past)
+given_count input into zero items past r = end_by input false items past r
+given_count input into (suc count) items past r = bytes_by input (take (suc count) into) items past r
 
 -- a read of the store's file is one of the file that is given
-pub read_by : {E : Type 0} (into : List ℕ) (items : List Found) (past past' : List Given) (result : Result ℕ E) →
-    is_reading (given_by items past) ≡ true → ReadGives into past past' result →
-    ReadGives into (given_by items past) (given_by items past') result
-read_by into items past past' (Ok count) r gives =
-    (gives.0, ap (given_by items) gives.1 ∙ given_count into count items past r)
-read_by into items past past' (Err e) r gives = ap (given_by items) gives ∙ end_by true items past r
+pub read_by : {E : Type 0} (input into : List ℕ) (items : List Found) (past past' : List Given) (result : Result ℕ E) →
+    is_reading (given_by input items past) ≡ true → ReadGives into past past' result →
+    ReadGives into (given_by input items past) (given_by input items past') result
+read_by input into items past past' (Ok count) r gives =
+    (gives.0, ap (given_by input items) gives.1 ∙ given_count input into count items past r)
+read_by input into items past past' (Err e) r gives = ap (given_by input items) gives ∙ end_by input true items past r
 
 -- what is behind the open file stays
-bytes_behind : (more : List ℕ) (items : List Found) (past : List Given) → is_reading (given_by items past) ≡ true →
+bytes_behind : (input : List ℕ) (more : List ℕ) (items : List Found) (past : List Given) → is_reading (given_by input items past) ≡ true →
     drop (length (file_paths items)) (gave_bytes more past) ≡ drop (length (file_paths items)) past
-bytes_behind more [] past r = absurd (false≢true r)
-bytes_behind more (Fault path cause ∷ items) past r = absurd (false≢true r)
-bytes_behind more (AFile path ∷ items) [] r = refl
-bytes_behind more (AFile path ∷ items) (NoFile name cause ∷ past) r = refl
-bytes_behind more (AFile path ∷ items) (File name bytes ending ∷ past) r = refl
+bytes_behind input more [] past r = absurd (false≢true r)
+bytes_behind input more (Fault path cause ∷ items) past r = absurd (false≢true r)
+bytes_behind input more (AFile path ∷ items) [] r = refl
+bytes_behind input more (AFile path ∷ items) (NoFile name cause ∷ past) r = refl
+bytes_behind input more (AFile path ∷ items) (File name bytes ending ∷ past) r = refl
 
-end_behind : (failed : Bool) (items : List Found) (past : List Given) → is_reading (given_by items past) ≡ true →
+end_behind : (input : List ℕ) (failed : Bool) (items : List Found) (past : List Given) → is_reading (given_by input items past) ≡ true →
     drop (length (file_paths items)) (gave_end failed past) ≡ drop (length (file_paths items)) past
-end_behind failed [] past r = absurd (false≢true r)
-end_behind failed (Fault path cause ∷ items) past r = absurd (false≢true r)
-end_behind failed (AFile path ∷ items) [] r = refl
-end_behind failed (AFile path ∷ items) (NoFile name cause ∷ past) r = refl
-end_behind failed (AFile path ∷ items) (File name bytes ending ∷ past) r = refl
+end_behind input failed [] past r = absurd (false≢true r)
+end_behind input failed (Fault path cause ∷ items) past r = absurd (false≢true r)
+end_behind input failed (AFile path ∷ items) [] r = refl
+end_behind input failed (AFile path ∷ items) (NoFile name cause ∷ past) r = refl
+end_behind input failed (AFile path ∷ items) (File name bytes ending ∷ past) r = refl
 
-count_behind : (into : List ℕ) (count : ℕ) (items : List Found) (past : List Given) →
-    is_reading (given_by items past) ≡ true →
+count_behind : (input : List ℕ) (into : List ℕ) (count : ℕ) (items : List Found) (past : List Given) →
+    is_reading (given_by input items past) ≡ true →
     drop (length (file_paths items)) (read_given into count past) ≡ drop (length (file_paths items)) past
-count_behind into zero items past r = end_behind false items past r
-count_behind into (suc count) items past r = bytes_behind (take (suc count) into) items past r
+count_behind input into zero items past r = end_behind input false items past r
+count_behind input into (suc count) items past r = bytes_behind input (take (suc count) into) items past r
 
-pub read_behind : {E : Type 0} (into : List ℕ) (items : List Found) (past past' : List Given) (result : Result ℕ E) →
-    is_reading (given_by items past) ≡ true → ReadGives into past past' result →
+pub read_behind : {E : Type 0} (input into : List ℕ) (items : List Found) (past past' : List Given) (result : Result ℕ E) →
+    is_reading (given_by input items past) ≡ true → ReadGives into past past' result →
     drop (length (file_paths items)) past' ≡ drop (length (file_paths items)) past
-read_behind into items past past' (Ok count) r gives =
-    ap (drop (length (file_paths items))) gives.1 ∙ count_behind into count items past r
-read_behind into items past past' (Err e) r gives =
-    ap (drop (length (file_paths items))) gives ∙ end_behind true items past r
+read_behind input into items past past' (Ok count) r gives =
+    ap (drop (length (file_paths items))) gives.1 ∙ count_behind input into count items past r
+read_behind input into items past past' (Err e) r gives =
+    ap (drop (length (file_paths items))) gives ∙ end_behind input true items past r
 
 -- a path was opened after the others
 paths_more : (path : List ℕ) (items : List Found) (g : Given) (past : List Given) → name_of g ≡ path →
@@ -167,20 +167,22 @@ abbrev behind_first : List (List ℕ) → List (List ℕ)
 behind_first [] = []
 behind_first (x ∷ xs) = xs
 
-name_shown : (g : Given) → name_of (shown g) ≡ shown_name (name_of g)
-name_shown (NoFile path cause) = refl
-name_shown (File path bytes ending) = refl
+name_shown : (input : List ℕ) (g : Given) → name_of (shown input g) ≡ shown_name input (name_of g)
+name_shown input (NoFile path cause) = refl
+name_shown input (File path bytes ending) = refl
 
 -- items are given under their names
-names_by : (items : List Found) (past : List Given) → AreOpened items past →
-    map name_of (given_by items past) ≡ map (λ item. shown_name (path_in item)) items
-names_by [] past are = refl
-names_by (Fault path cause ∷ items) past are = ap (λ xs. shown_name path ∷ xs) (names_by items past are)
-names_by (AFile path ∷ items) [] are =
+names_by : (input : List ℕ) (items : List Found) (past : List Given) → AreOpened items past →
+    map name_of (given_by input items past) ≡ names_in input items
+names_by input [] past are = refl
+names_by input (Fault path cause ∷ items) past are =
+    ap (λ xs. shown_name input path ∷ xs) (names_by input items past are)
+names_by input (AFile path ∷ items) [] are =
     absurd (let l : 0 ≡ length (path ∷ file_paths items) = ap length are in omega arith)
-names_by (AFile path ∷ items) (g ∷ past) are =
-    ap (λ x. x ∷ map name_of (given_by items past)) (name_shown g ∙ ap shown_name (ap head_or are))
-    ∙ ap (λ xs. shown_name path ∷ xs) (names_by items past (ap behind_first are))
+names_by input (AFile path ∷ items) (g ∷ past) are =
+    ap (λ x. x ∷ map name_of (given_by input items past))
+    (name_shown input g ∙ ap (shown_name input) (ap head_or are))
+    ∙ ap (λ xs. shown_name input path ∷ xs) (names_by input items past (ap behind_first are))
 
 map-reverse : {X Y : Type 0} (f : X → Y) (xs : List X) → map f (reverse xs) ≡ reverse (map f xs)
 map-reverse f [] = refl
@@ -190,10 +192,12 @@ map-reverse f (x ∷ xs) =
     ∙ (ap (λ ys. ys ++ f x ∷ []) (map-reverse f xs) ∙ sym (reverse-append (f x ∷ []) (map f xs))))
 
 -- and so all that were asked for
-pub all_given : {A : Type 0} (items : List (Item A)) (past : List Given) → AreOpened (asked_for items) past →
-    AreGiven (map found items) (given_by (asked_for items) past)
-all_given items past are =
-    names_by (asked_for items) past are ∙ map-reverse (λ item. shown_name (path_in item)) (map found items)
+pub all_given : {A : Type 0} (input : List ℕ) (items : List (Item A)) (past : List Given) →
+    AreOpened (asked_for items) past →
+    AreGiven (names_in input (map found items)) (given_by input (asked_for items) past)
+all_given input items past are =
+    names_by input (asked_for items) past are
+    ∙ map-reverse (λ item. shown_name input (path_in item)) (map found items)
 
 -- What stands before and after the next item was reached, behind those that were asked for.
 module _ (so_far : List Found) where
@@ -245,12 +249,12 @@ module _ {X : Type 0} (tells : X → Type 0) (answers : X → Answers) (ops : Li
       subst Q (sym scope_is) (subst P (sym tree_is) h)
 
   -- the same is looked for
-  pub same_sought : (spares : Bool) (asked asked' : List Found) (past past' : List Given) →
+  pub same_sought : (spares : Bool) (input : List ℕ) (asked asked' : List Found) (past past' : List Given) →
       drop (length (file_paths asked')) past' ≡ drop (length (file_paths asked)) past →
-      sought tree' ops scope' spares asked' past' ≡ sought tree ops scope spares asked past
-  same_sought spares asked asked' past past' behind =
+      sought tree' ops scope' spares input asked' past' ≡ sought tree ops scope spares input asked past
+  same_sought spares input asked asked' past past' behind =
       let at : X → Scope → List Given → Sought X = λ t r earlier.
-      record { tree = t; operands = ops; scope = r; spares = spares; earlier = earlier } in
+      record { tree = t; operands = ops; scope = r; spares = spares; input_name = input; earlier = earlier } in
       ap (λ t. at t scope' (drop (length (file_paths asked')) past')) tree_is
       ∙ ap (λ r. at tree r (drop (length (file_paths asked')) past')) scope_is ∙ ap (at tree scope) behind
 

@@ -38,21 +38,29 @@ is_reading (File name bytes Ended ∷ given) = false
 is_reading (File name bytes Failed ∷ given) = false
 is_reading (File name bytes Left ∷ given) = true
 
--- how a path is called in rows and fault lines
-abbrev pub shown_name : List ℕ → List ℕ
-shown_name path = if pointwise nat_eq path (codes "-") then codes "(standard input)" else path
+-- what standard input is called where no other name is asked for
+abbrev pub standard_input : List ℕ
+standard_input = codes "(standard input)"
+
+-- how a path is called in rows and fault lines, where standard input is called so
+abbrev pub shown_name : (input : List ℕ) → (path : List ℕ) → List ℕ
+shown_name input path = if pointwise nat_eq path (codes "-") then input else path
 
 abbrev pub name_of : Given → List ℕ
 name_of (NoFile name cause) = name
 name_of (File name bytes ending) = name
 
--- Each of the items was given under its name, in their order, and nothing else.
-abbrev pub AreGiven : List Found → List Given → Type 0
-AreGiven items given = map name_of given ≡ reverse (map (λ item. shown_name (path_in item)) items)
+-- the names of items, in their order
+abbrev pub names_in : (input : List ℕ) → List Found → List (List ℕ)
+names_in input items = map (λ item. shown_name input (path_in item)) items
 
--- And these are all that may be found.
-abbrev pub AllGiven : (List Found → Type 0) → List Given → Type 0
-AllGiven finds given = (items : List Found) × finds items × AreGiven items given
+-- One file or miss was given for each of the names, under it, in their order, and nothing else.
+abbrev pub AreGiven : List (List ℕ) → List Given → Type 0
+AreGiven names given = map name_of given ≡ reverse names
+
+-- And these are the names of all that may be found.
+abbrev pub AllGiven : (List (List ℕ) → Type 0) → List Given → Type 0
+AllGiven finds given = (names : List (List ℕ)) × finds names × AreGiven names given
 
 -- it gives no file because standard output goes there
 abbrev pub is_output : Given → Bool

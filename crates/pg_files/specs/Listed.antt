@@ -12,9 +12,10 @@ use Rattle.pg_files.specs.Given.{Given, NoFile, File, FilesPast, MaySpare, is_ou
 use Rattle.pg_files.specs.declared.files.Step.{Step}
 use Rattle.pg_files.specs.declared.files.Step.TheVariants.{File as NextFile, Miss as NextMiss}
 
-abbrev pub shown : Given → Given
-shown (NoFile path cause) = NoFile (shown_name path) cause
-shown (File path bytes ending) = File (shown_name path) bytes ending
+-- what a path gave, under the name that it is called by
+abbrev pub shown : (input : List ℕ) → Given → Given
+shown input (NoFile path cause) = NoFile (shown_name input path) cause
+shown input (File path bytes ending) = File (shown_name input path) bytes ending
 
 -- the items that were asked for, the newest first
 abbrev pub asked_for : {A : Type 0} → List (Item A) → List Found
@@ -22,11 +23,11 @@ asked_for items = reverse (map found items)
 
 -- The items that were asked for, the newest first, have given this: a fault itself, and a file what the store gave for
 -- it. The store's past has the newest access first, and one for each file.
-abbrev pub given_by : List Found → List Given → List Given
-given_by [] past = []
-given_by (Fault path cause ∷ items) past = NoFile (shown_name path) cause ∷ given_by items past
-given_by (AFile path ∷ items) [] = []
-given_by (AFile path ∷ items) (g ∷ past) = shown g ∷ given_by items past
+abbrev pub given_by : (input : List ℕ) → List Found → List Given → List Given
+given_by input [] past = []
+given_by input (Fault path cause ∷ items) past = NoFile (shown_name input path) cause ∷ given_by input items past
+given_by input (AFile path ∷ items) [] = []
+given_by input (AFile path ∷ items) (g ∷ past) = shown input g ∷ given_by input items past
 
 -- the paths of the files among items
 abbrev pub file_paths : List Found → List (List ℕ)
@@ -54,25 +55,27 @@ Reaches spares (AFile path) step past past' =
     ⊎ ((cause : Cause) × (step ≡ NextMiss cause) × (past' ≡ NoFile path cause ∷ past)
     × MaySpare spares (NoFile path cause))
 
-abbrev pub files_past : Bool → List Found → List Given → FilesPast
-files_past done asked past = record { given = given_by asked past; done = done }
+abbrev pub files_past : (input : List ℕ) → Bool → List Found → List Given → FilesPast
+files_past input done asked past = record { given = given_by input asked past; done = done }
 
 -- What is looked for: in which tree, from which operands, and what of it; whether the file that
--- standard output goes to is refused; and what the store gave before.
+-- standard output goes to is refused; what standard input is called; and what the store gave before.
 pub record Sought (Tree : Type 0) : Type 0 where
   pub tree : Tree
   pub operands : List Text
   pub scope : Scope
   pub spares : Bool
+  pub input_name : List ℕ
   pub earlier : List Given
 
 -- what the store gave before the items' files were opened stands behind these
-abbrev pub sought : {Tree : Type 0} → Tree → List Text → Scope → (spares : Bool) → List Found → List Given
-    → Sought Tree
-sought tree operands scope spares asked past = record {
+abbrev pub sought : {Tree : Type 0} → Tree → List Text → Scope → (spares : Bool) → (input : List ℕ) → List Found
+    → List Given → Sought Tree
+sought tree operands scope spares input asked past = record {
   tree = tree;
   operands = operands;
   scope = scope;
   spares = spares;
+  input_name = input;
   earlier = drop (length (file_paths asked)) past;
 }

@@ -1,6 +1,5 @@
 //! Files that are given one after another.
-ghost use Rattle.std.specs.Prelude.{◌≡◌, ◌<◌, false, true, List, length, IfOk, OnErr};
-ghost use Rattle.pg_walk.specs.Items.{Found};
+ghost use Rattle.std.specs.Prelude.{◌≡◌, ◌<◌, ℕ, false, true, List, length, IfOk, OnErr};
 ghost use Rattle.pg_files.specs.Given.{AllGiven, FilesPast, is_reading, newest_name};
 ghost use Rattle.pg_files.specs.Asking.{NextGives, ReadGives};
 
@@ -32,8 +31,8 @@ pub trait Files {
     /// What is asked for, and of what. No call changes it.
     ghost list: { Self → Request };
 
-    /// Whether these may be all items that a request finds.
-    ghost finds: { Request → List Found → Type 0 };
+    /// Whether these may be the names of all that a request finds, in their order.
+    ghost finds: { Request → List (List ℕ) → Type 0 };
 
     /// What was given.
     ghost past: { Self → FilesPast };

@@ -14,7 +14,7 @@ mod store;
 
 pub use disk_store::DiskStore;
 pub use files::{Files, ReadFault, Step};
-pub use listed::{Listed, Walked, shown_name};
+pub use listed::{Listed, STANDARD_INPUT, Walked, shown_name};
 pub use mem_store::{Ending, MemFiles, MemStore};
 pub use past::StorePast;
 pub use store::{OpenFault, Store};

@@ -14,6 +14,9 @@ use pg_rows::History;
 use pg_walk::{FileTree, Item, Scope, Walker, what_is_given};
 use std::alloc::{AllocError, Global};
 
+/// What standard input is called where no other name is asked for.
+pub const STANDARD_INPUT: &str = "(standard input)";
+
 /// A walk, and the items of it that were asked for.
 pub struct Walked<'t, T: FileTree> {
     /// What is walked over. This takes no memory.
@@ -74,6 +77,8 @@ pub struct Listed<'t, T: FileTree, S: Store + Drop> {
     pub done: bool,
     /// The file that the output goes to isn't opened.
     pub spares_output: bool,
+    /// What standard input is called.
+    pub input_name: String,
     /// Where files are opened. It opened those that were asked for, and none since.
     pub store: S,
     ghost begins: { ∥ BeginsWalk (T.tells walk.walker.tree.now) (T.answers walk.walker.tree.now)
@@ -95,6 +100,7 @@ impl<T: FileTree, S: Store + Drop> Drop for Listed<'_, T, S> {
             broken: _,
             done: _,
             spares_output: _,
+            input_name: _,
             store: _,
         } = self;
     }
@@ -119,13 +125,14 @@ impl<'t, T: FileTree, S: Store + Drop> Listed<'t, T, S> {
             broken: false,
             done: false,
             spares_output: false,
+            input_name: String::new(alloc),
             store,
         }
     }
 
     /// From now on the items of a walk over operands in a tree are given, as far as a scope asks for them, where
-    /// `spares_output` is true
-    /// without the file that the output goes to. Nothing was asked of the tree yet.
+    /// `spares_output` is true without the file that the output goes to. Standard input is called `input_name`.
+    /// Nothing was asked of the tree yet.
     ///
     /// # Errors
     ///
@@ -137,11 +144,13 @@ impl<'t, T: FileTree, S: Store + Drop> Listed<'t, T, S> {
         operands: &[String],
         scope: Scope,
         spares_output: bool,
+        input_name: String,
     ) -> Result<(), AllocError>
         ensures walk { OnOk result ((self.new.walk.walker.tree.now ≡ tree.now)
             × (self.new.walk.walker.scope ≡ scope) × (self.new.walk.operands.items ≡ operands.now)) }
         ensures fresh { OnOk result ((self.new.walk.asked.items ≡ []) × (self.new.done ≡ false)) }
         ensures spares { OnOk result (self.new.spares_output ≡ spares_output) }
+        ensures named { OnOk result (self.new.input_name ≡ input_name) }
         ensures store { self.new.store ≡ self.old.store }
     {
         let walk = Walked::new(alloc, tree, operands, scope)?;
@@ -150,26 +159,32 @@ impl<'t, T: FileTree, S: Store + Drop> Listed<'t, T, S> {
         self.walk = walk;
         self.broken = false;
         self.spares_output = spares_output;
+        self.input_name = input_name;
         Ok(())
     }
 }
 
 impl<T: FileTree, S: Store + Drop> Files for Listed<'_, T, S> {
-    ghost use Rattle.std.specs.Prelude.{map};
+    ghost use Rattle.std.specs.Prelude.{List, map};
     ghost use Rattle.std.specs.String.{string_bytes};
+    ghost use Rattle.pg_walk.specs.Items.{Found};
     ghost use Rattle.pg_walk.specs.Left.{IsWalk};
     ghost use Rattle.pg_walk.specs.Scopes.{scope_of};
+    ghost use Rattle.pg_files.specs.Given.{names_in};
     ghost use Rattle.pg_files.specs.Listed.{Sought, asked_for, files_past, sought};
 
     ghost Request = { Sought T };
 
     ghost list = { λ s. sought s.walk.walker.tree.now (map string_bytes s.walk.operands.items)
-        (scope_of s.walk.walker.scope) s.spares_output (asked_for s.walk.asked.items) (S.past s.store) };
+        (scope_of s.walk.walker.scope) s.spares_output (string_bytes s.input_name) (asked_for s.walk.asked.items)
+        (S.past s.store) };
 
-    ghost finds = { λ sought items.
-        ∥ IsWalk (T.tells sought.tree) (T.answers sought.tree) sought.operands sought.scope items ∥₁ };
+    ghost finds = { λ sought names. (items : List Found)
+        × ∥ IsWalk (T.tells sought.tree) (T.answers sought.tree) sought.operands sought.scope items ∥₁
+        × (names ≡ names_in sought.input_name items) };
 
-    ghost past = { λ s. files_past s.done (asked_for s.walk.asked.items) (S.past s.store) };
+    ghost past = { λ s. files_past (string_bytes s.input_name) s.done (asked_for s.walk.asked.items)
+        (S.past s.store) };
 
     fn next(&mut self) -> Result<Step, AllocError> {
         if self.broken {
@@ -193,7 +208,7 @@ impl<T: FileTree, S: Store + Drop> Files for Listed<'_, T, S> {
     fn name(&self) -> &[u8] {
         match &self.walk.newest {
             None => &[],
-            Some(item) => shown_name(path_in(item)).as_bytes(),
+            Some(item) => shown_name(self.input_name.as_str(), path_in(item)).as_bytes(),
         }
     }
 
@@ -230,13 +245,12 @@ fn path_in(item: &Item) -> &str
     }
 }
 
-/// How a path is called in rows and fault lines.
-pub fn shown_name(path: &str) -> &str
-    ensures { result.now ≡ shown_name path.now }
+/// How a path is called in rows and fault lines, where standard input is called `input`.
+pub fn shown_name<'a>(input: &'a str, path: &'a str) -> &'a str
+    ensures { result.now ≡ shown_name input.now path.now }
 {
     if path == "-" {
-        "(standard input)"
-    } else {
-        path
+        return input;
     }
+    path
 }

@@ -1,3 +1,4 @@
 pub mod ReadingLemmas
 pub mod MatchLemmas
 pub mod Examples
+pub mod GlobFileLemmas

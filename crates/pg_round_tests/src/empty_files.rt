@@ -107,7 +107,7 @@ fn files_of<'n, 't>(
     let store = store_of(rt, alloc, taken, most);
     let mut files = Listed::new(alloc, tree, store);
     let scope = Scope::all(alloc, false);
-    let listed = files.list(alloc, tree, &paths, scope, false);
+    let listed = files.list(alloc, tree, &paths, scope, false, String::new(alloc));
     listed.expect(rt, "memory");
     files
 }

@@ -63,7 +63,7 @@ fn file_of<'n, 't>(
     let store = store_of(rt, alloc, case, reads);
     let mut files = Listed::new(alloc, tree, store);
     let scope = Scope::all(alloc, true);
-    let listed = files.list(alloc, tree, &operands, scope, true);
+    let listed = files.list(alloc, tree, &operands, scope, true, String::new(alloc));
     listed.expect(rt, "memory");
     files
 }

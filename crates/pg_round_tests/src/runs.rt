@@ -63,7 +63,7 @@ fn file_of<'t>(rt: &impl Abort, alloc: Global, tree: &'t MemTree, bytes: &[u8]) 
     store.add("f", bytes, Ending::Ends).expect(rt, "memory");
     let mut files = Listed::new(alloc, tree, store);
     let scope = Scope::all(alloc, true);
-    let listed = files.list(alloc, tree, &operands, scope, true);
+    let listed = files.list(alloc, tree, &operands, scope, true, String::new(alloc));
     listed.expect(rt, "memory");
     files
 }

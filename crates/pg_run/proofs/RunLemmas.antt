@@ -31,7 +31,6 @@ use Rattle.pg_run.specs.Cover.{IsReading}
 use Rattle.pg_run.specs.Reading.{InFile, IsLost, Between, IsTold, Breaks, IsSafe, ReadCause, StopCause, Stops, IsDone}
 use Rattle.pg_run.specs.Reading.{AreReadRightly, StopsBehind, Went}
 use Rattle.pg_seq.specs.Settled.{AreLeftRightly}
-use Rattle.pg_walk.specs.Items.{Found}
 use Rattle.pg_run.specs.Reading.{ending_after}
 use Rattle.pg_run.specs.declared.engine.Engine.{Engine}
 use Rattle.pg_run.specs.declared.reader.FileReader.{FileReader}
@@ -456,7 +455,7 @@ read_rightly {aim = aim} {given = given} b quiet none given' (inr e) =
       quiet = λ q. ends_at aim given' given e (none q);
     }
 
-module _ {A : Type 0} {engine : Engine A} {aim : Aim} {finds : List Found → Type 0} {past : FilesPast}
+module _ {A : Type 0} {engine : Engine A} {aim : Aim} {finds : List (List ℕ) → Type 0} {past : FilesPast}
     {out told : Stream} (d : IsDone engine aim finds past out told) where
   pub done_finishes : (out' : Stream) (answer : ℕ) → IsWritten aim d.rests.0.steps out'
       → answer ≡ status aim.query (format_of aim) (entries_of d.rests.0.steps) → out'.failures ≡ aim.out.failures
@@ -548,7 +547,7 @@ breaks_first text setup past out told fault new cause =
     }
 
 -- a run is for the search that its text and trees make
-pub finishes_for : (r : Result ℕ RunFault) (text : SearchText) (setup : Setup) (finds : List Found → Type 0)
+pub finishes_for : (r : Result ℕ RunFault) (text : SearchText) (setup : Setup) (finds : List (List ℕ) → Type 0)
     (past : FilesPast) (out out' told told' : Stream) (own : (trees : List Pattern) × AreTreesOf text trees)
     → IfOk r (Finishes (search_of text own.0) setup finds past out out' told told')
     → IfOk r (λ answer. (q : Search) × IsSearchFor text q × Finishes q setup finds past out out' told told' answer)

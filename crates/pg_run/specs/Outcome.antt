@@ -12,7 +12,6 @@ use Rattle.pg_rows.specs.Output.{Entry, Missed, Read, Ending, Running, Ended, Fa
 use Rattle.pg_rows.specs.Output.{has_selected, output, status}
 use Rattle.pg_rows.specs.Sink.{Stream, TakesPart}
 use Rattle.pg_seq.specs.Settled.{AreLeftRightly}
-use Rattle.pg_walk.specs.Items.{Found}
 use Rattle.pg_files.specs.Given.{AllGiven, FilesPast, nothing_given, entries_given, files_given}
 use Rattle.pg_run.specs.Lengths.{IsTooLong}
 use Rattle.pg_run.specs.Told.{told_of}
@@ -24,8 +23,8 @@ use Rattle.pg_run.specs.declared.fault.RunFault.TheVariants.{Query, OutOfMemory,
 abbrev pub IsSearchFor : SearchText → Search → Type 0
 IsSearchFor text q = (q.text ≡ text) × HasItsTrees q
 
--- all that may be found was given, each item under its name, or with -q a line was selected
-abbrev pub AsksToTheEnd : Search → Setup → (List Found → Type 0) → FilesPast → Type 0
+-- all that may be found was given, each under its name, or with -q a line was selected
+abbrev pub AsksToTheEnd : Search → Setup → (List (List ℕ) → Type 0) → FilesPast → Type 0
 AsksToTheEnd q setup finds past =
     ((past.done ≡ true) × AllGiven finds past.given)
     ⊎ ((is_quiet setup.format.mode ≡ true) × (list_any (has_selected q) (entries_given past.given) ≡ true))
@@ -38,7 +37,7 @@ EndsAtSelected q (last ∷ entries) = list_any (has_selected q) entries ≡ fals
 -- A run came to its end: its output is that of what files gave, and so are the fault lines and the status. All that was
 -- listed was given, with -q up to a file with a selected line, and each file was read to its end, but where some whole
 -- lines at its front were enough.
-pub record Finishes (q : Search) (setup : Setup) (finds : List Found → Type 0) (past : FilesPast)
+pub record Finishes (q : Search) (setup : Setup) (finds : List (List ℕ) → Type 0) (past : FilesPast)
     (out out' told told' : Stream) (answer : ℕ) : Type 0 where
   pub written : out'.taken ≡ out.taken ++ output q setup.format (entries_given past.given)
   pub faults : told'.taken ≡ told.taken ++ told_of setup.silent past.given

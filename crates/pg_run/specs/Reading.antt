@@ -15,7 +15,6 @@ use Rattle.pg_run.specs.Lengths.{IsTooLong}
 use Rattle.pg_run.specs.Told.{told_of}
 use Rattle.pg_run.specs.Outcome.{GoesOn, EndsAtSelected, AsksToTheEnd, GotWholeLines, IsOfAFile, NoneFailed}
 use Rattle.pg_seq.specs.Settled.{AreLeftRightly}
-use Rattle.pg_walk.specs.Items.{Found}
 use Rattle.pg_run.specs.Cover.{Covers, IsReading}
 use Rattle.pg_run.specs.Holding.{Aim, Holds, format_of}
 use Rattle.pg_run.specs.declared.engine.Engine.{Engine}
@@ -164,7 +163,7 @@ Goes true past past' = (drop 1 past'.given ≡ past.given) × (past'.done ≡ pa
 Goes false past past' = (past'.given ≡ past.given) × (past'.done ≡ true)
 
 -- all that is needed was given, searched and told
-pub record IsDone {A : Type 0} (engine : Engine A) (aim : Aim) (finds : List Found → Type 0) (past : FilesPast)
+pub record IsDone {A : Type 0} (engine : Engine A) (aim : Aim) (finds : List (List ℕ) → Type 0) (past : FilesPast)
     (out told : Stream) : Type 0 where
   pub rests : Rests engine aim past.given out told
   pub asked : AsksToTheEnd aim.query aim.setup finds past

@@ -174,7 +174,7 @@ fn list<'t>(rt: &impl Abort, alloc: Global, tree: &'t MemTree, case: Case<'_>) -
     let operands = operands_of(rt, alloc, case.is_alone);
     let mut files = Listed::new(alloc, tree, store_of(rt, alloc, case));
     let scope = Scope::all(alloc, true);
-    let listed = files.list(alloc, tree, &operands, scope, true);
+    let listed = files.list(alloc, tree, &operands, scope, true, String::new(alloc));
     listed.expect(rt, "memory");
     files
 }

@@ -3,35 +3,64 @@ use Rattle.std.specs.Prelude.{◌≡◌, ◌||◌, Bool, if◌then◌else◌, Li
 use Rattle.pg_glob.specs.Filters.{Rule, leaves_out}
 use Rattle.pg_glob.specs.Views.{rules}
 use Rattle.pg_walk.specs.Answers.{Text, Content, Answers}
+use Rattle.pg_walk.specs.declared.scope.Devices.{Devices}
+use Rattle.pg_walk.specs.declared.scope.Devices.TheVariants.{ReadOperands, Read, Skip}
 use Rattle.pg_walk.specs.declared.scope.Scope.{Scope as ScopeOfCode}
 use Rattle.pg_walk.specs.declared.tree.FileKind.{FileKind}
 use Rattle.pg_walk.specs.declared.tree.FileKind.TheVariants.{Regular, Directory, Link, Other}
 use Rattle.pg_walk.specs.declared.tree.LookFault.{LookFault}
 use Rattle.pg_walk.specs.declared.tree.LookFault.TheVariants.{Failed, OutOfMemory}
 
--- Whether directories are visited, which files are left out, and which directories, with all that is in them.
+-- Whether directories are visited, whether all of them are left out, what is done with devices, which files are left
+-- out, and which directories, with all that is in them.
 pub record Scope : Type 0 where
   pub recursive : Bool
+  pub skips_directories : Bool
+  pub devices : Devices
   pub files : List Rule
   pub directories : List Rule
 
 abbrev pub scope_of : {A : Type 0} → ScopeOfCode A → Scope
 scope_of scope = record {
   recursive = scope.recursive;
+  skips_directories = scope.skips_directories;
+  devices = scope.devices;
   files = rules scope.files;
   directories = rules scope.directories;
 }
 
--- what stands at a path is left out: a directory by the rules for directories, and anything else by those for files
+-- devices, FIFOs and sockets are read as regular files are (GNU grep's `-D read`)
+abbrev pub are_read : Devices → Bool
+are_read ReadOperands = Bool.false
+are_read Read = Bool.true
+are_read Skip = Bool.false
+
+-- they are left out, operands too (`-D skip`)
+abbrev pub are_skipped : Devices → Bool
+are_skipped ReadOperands = Bool.false
+are_skipped Read = Bool.false
+are_skipped Skip = Bool.true
+
+-- what stands at a path is left out: a directory where all are (GNU grep's `-d skip`) and by the rules for directories,
+-- a device where all are and by the rules for files, and anything else by these
 abbrev pub is_left_out : Scope → Bool → Text → FileKind → Bool
 is_left_out scope operand path Regular = leaves_out scope.files operand path
-is_left_out scope operand path Directory = leaves_out scope.directories operand path
+is_left_out scope operand path Directory = scope.skips_directories || leaves_out scope.directories operand path
 is_left_out scope operand path Link = leaves_out scope.files operand path
-is_left_out scope operand path Other = leaves_out scope.files operand path
+is_left_out scope operand path Other = are_skipped scope.devices || leaves_out scope.files operand path
 
 -- an operand may be left out
 abbrev pub may_leave_out : Scope → Text → Bool
-may_leave_out scope operand = leaves_out scope.files Bool.true operand || leaves_out scope.directories Bool.true operand
+may_leave_out scope operand =
+    (scope.skips_directories || are_skipped scope.devices)
+    || (leaves_out scope.files Bool.true operand || leaves_out scope.directories Bool.true operand)
+
+-- a device that is read wherever it stands is seen as a regular file
+abbrev pub seen_as : Devices → FileKind → FileKind
+seen_as devices Regular = Regular
+seen_as devices Directory = Directory
+seen_as devices Link = Link
+seen_as devices Other = if are_read devices then Regular else Other
 
 -- what is seen at a path: what stands there, what is left out, or nothing that could be told
 pub data Sight : Type 0 where
@@ -47,7 +76,8 @@ pub record Sights : Type 0 where
 
 abbrev pub sight : Scope → Bool → Text → Option FileKind → Sight
 sight scope operand path None = IsUntold
-sight scope operand path (Some kind) = if is_left_out scope operand path kind then IsLeftOut else Is kind
+sight scope operand path (Some kind) =
+    if is_left_out scope operand path kind then IsLeftOut else Is (seen_as scope.devices kind)
 
 -- what is seen of a tree that answers so; links are followed at operands alone
 abbrev pub sights : Scope → Answers → Sights

@@ -13,6 +13,6 @@ pub use disk_tree::DiskTree;
 pub use item::{Cause, Item};
 pub use laws::{files_are_one, mem_tree_tells, what_is_given};
 pub use mem_tree::{MemTree, Node};
-pub use scope::Scope;
+pub use scope::{Devices, Scope};
 pub use tree::{FileKind, FileTree, Listing, LookFault};
 pub use walker::{Waiting, Walker};

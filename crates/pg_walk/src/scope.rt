@@ -1,15 +1,55 @@
 //! What a walk is asked for.
 ghost use Rattle.std.specs.Prelude.{◌≡◌, IfOk, None, true, false, []};
-ghost use Rattle.pg_walk.specs.Scopes.{is_left_out, may_leave_out, scope_of, sights, TellsSight};
+ghost use Rattle.pg_walk.specs.Scopes.{are_read, are_skipped, is_left_out, may_leave_out, scope_of, seen_as, sights};
+ghost use Rattle.pg_walk.specs.Scopes.{TellsSight};
+ghost use Rattle.pg_walk.specs.declared.scope.Devices.TheVariants.{ReadOperands};
 
 use crate::tree::{FileKind, FileTree, LookFault};
 use pg_glob::Filter;
 use std::alloc::{Allocator, Global};
 
-/// What a walk is asked for: whether it goes into directories, and which files and directories it leaves out.
+/// What is done with devices, FIFOs and sockets.
+#[derive(Clone, Copy, Debug, PartialEq, Eq)]
+pub enum Devices {
+    /// Operands are read, and those below operands give nothing.
+    ReadOperands,
+    /// They are read as regular files are.
+    Read,
+    /// They are left out, operands too.
+    Skip,
+}
+
+impl Devices {
+    /// Whether they are read wherever they stand.
+    fn are_read(self) -> bool
+        ensures { result ≡ are_read self }
+    {
+        match self {
+            Devices::Read => true,
+            Devices::ReadOperands | Devices::Skip => false,
+        }
+    }
+
+    /// Whether they are left out wherever they stand.
+    fn are_skipped(self) -> bool
+        ensures { result ≡ are_skipped self }
+    {
+        match self {
+            Devices::Skip => true,
+            Devices::ReadOperands | Devices::Read => false,
+        }
+    }
+}
+
+/// What a walk is asked for: whether it goes into directories, what is done with devices, and which files and
+/// directories it leaves out.
 pub struct Scope<A: Allocator = Global> {
     /// Whether directories are visited.
     pub recursive: bool,
+    /// Whether all directories are left out, operands too.
+    pub skips_directories: bool,
+    /// What is done with devices, FIFOs and sockets.
+    pub devices: Devices,
     /// Which files are left out, links, pipes and devices among them.
     pub files: Filter<A>,
     /// Which directories are left out, with all that is in them.
@@ -20,6 +60,8 @@ impl<A: Allocator> Drop for Scope<A> {
     fn drop(self) {
         let Scope {
             recursive: _,
+            skips_directories: _,
+            devices: _,
             files: _,
             directories: _,
         } = self;
@@ -27,14 +69,22 @@ impl<A: Allocator> Drop for Scope<A> {
 }
 
 impl<A: Allocator> Scope<A> {
-    /// Nothing is left out, and directories are visited or not.
+    /// Nothing is left out, and directories are visited or not. Devices are read where they are operands.
     pub fn all(alloc: A, recursive: bool) -> Scope<A>
     where
         A: Copy,
-        ensures { scope_of result ≡ record { recursive = recursive; files = []; directories = [] } }
+        ensures { scope_of result ≡ record {
+          recursive = recursive;
+          skips_directories = false;
+          devices = ReadOperands;
+          files = [];
+          directories = [];
+        } }
     {
         Scope {
             recursive,
+            skips_directories: false,
+            devices: Devices::ReadOperands,
             files: Filter::new(alloc),
             directories: Filter::new(alloc),
         }
@@ -45,15 +95,32 @@ impl<A: Allocator> Scope<A> {
         ensures { result ≡ is_left_out (scope_of self.now) operand path.now kind }
     {
         match kind {
-            FileKind::Directory => self.directories.leaves_out(operand, path),
-            FileKind::Regular | FileKind::Link | FileKind::Other => self
-                .files
-                .leaves_out(operand, path),
+            FileKind::Directory => {
+                self.skips_directories || self.directories.leaves_out(operand, path)
+            }
+            FileKind::Other => self.devices.are_skipped() || self.files.leaves_out(operand, path),
+            FileKind::Regular | FileKind::Link => self.files.leaves_out(operand, path),
+        }
+    }
+
+    /// As what something of a kind is seen: a device that is read wherever it stands as a regular file.
+    fn seen_as(&self, kind: FileKind) -> FileKind
+        ensures { result ≡ seen_as self.now.devices kind }
+    {
+        match kind {
+            FileKind::Other => {
+                if self.devices.are_read() {
+                    FileKind::Regular
+                } else {
+                    FileKind::Other
+                }
+            }
+            FileKind::Regular | FileKind::Directory | FileKind::Link => kind,
         }
     }
 }
 
-/// The kind of what stands at a path, unless it is left out. Links are followed at operands alone.
+/// The kind that what stands at a path is seen as, unless it is left out. Links are followed at operands alone.
 pub(crate) fn look<A: Allocator, T: FileTree>(
     tree: &T,
     scope: &Scope<A>,
@@ -69,6 +136,6 @@ pub(crate) fn look<A: Allocator, T: FileTree>(
     if scope.leaves_out(operand, path, kind) {
         Ok(None)
     } else {
-        Ok(Some(kind))
+        Ok(Some(scope.seen_as(kind)))
     }
 }

@@ -1,7 +1,9 @@
 -- Worked examples of long names that are cut short, and of filters.
 use Rattle.std.proofs.Common.{◌≡◌, refl, true, false, [], ◌∷◌, codes, option_map, Some}
 use Rattle.pg_words.specs.Joined.{Free}
-use Rattle.pg_words.specs.Line.{filters_in, table, uses_from}
+use Rattle.pg_words.specs.Line.{Include, Exclude, ExcludeFrom, filters_in, table, uses_from}
+use Rattle.pg_words.specs.Asks.{directories_in}
+use Rattle.pg_words.specs.declared.options.DirectoryAction.TheVariants.{Skip, Recurse}
 use Rattle.pg_words.specs.Spelled.{full_name, full_word, spelled_from, uses_in}
 
 -- one option begins so
@@ -23,7 +25,7 @@ exact : full_word table (codes "--exclude=x") ≡ codes "--exclude=x"
 unfolding full_name
 exact = refl
 
-longer : full_word table (codes "--exclude-=x") ≡ codes "--exclude-dir=x"
+longer : full_word table (codes "--exclude-d=x") ≡ codes "--exclude-dir=x"
 unfolding full_name
 longer = refl
 
@@ -56,10 +58,21 @@ words : spelled_from table Free (codes "--inc" ∷ codes "--no-m" ∷ codes "-yn
 unfolding full_name spelled_from
 words = refl
 
--- the filters of both options stand in one order, and what is no filter is left out
+-- the filters of all three options stand in one order, and what is no filter is left out
 filters : option_map filters_in (uses_in (codes "--include=*.c" ∷ codes "--exclude" ∷ codes "a*" ∷ codes
     "--exclude-dir=d"
-    ∷ codes "x" ∷ codes "--inc" ∷ codes "--" ∷ codes "--" ∷ codes "--include=y" ∷ []))
-    ≡ Some ((true, codes "*.c") ∷ (false, codes "a*") ∷ (true, codes "--") ∷ [])
+    ∷ codes "--exclude-from" ∷ codes "f" ∷ codes "x" ∷ codes "--inc" ∷ codes "--" ∷ codes "--" ∷ codes "--include=y" ∷ []))
+    ≡ Some (Include (codes "*.c") ∷ Exclude (codes "a*") ∷ ExcludeFrom (codes "f") ∷ Include (codes "--") ∷ [])
 unfolding full_name spelled_from uses_from
 filters = refl
+
+-- the last of -d and -r counts, however they are written
+visited : option_map directories_in (uses_in (codes "-d" ∷ codes "skip" ∷ codes "-nr" ∷ codes "x" ∷ []))
+    ≡ Some (Some Recurse)
+unfolding full_name spelled_from uses_from
+visited = refl
+
+left_out : option_map directories_in (uses_in (codes "--rec" ∷ codes "-nd" ∷ codes "skip" ∷ codes "x" ∷ []))
+    ≡ Some (Some Skip)
+unfolding full_name spelled_from uses_from
+left_out = refl

@@ -14,13 +14,13 @@ use Rattle.clap.proofs.LexerLemmas.{name_and_value-at, name_and_value-without}
 use Rattle.clap.proofs.WalkLemmas.{both}
 use Rattle.pg_words.specs.Joined.{letter, letters, long, long_word, short_word, word}
 use Rattle.pg_words.specs.Line.{Text, Opt, Use, Given, Operand, Uses, by_letter, by_name, filter_by, filters_in, fits}
-use Rattle.pg_words.specs.Line.{has_value, table, then_uses, valued}
+use Rattle.pg_words.specs.Line.{Filter, Include, Exclude, ExcludeFrom, has_value, table, then_uses, valued}
 use Rattle.pg_words.proofs.Cases.{long_has}
 use Rattle.pg_words.proofs.Found.{find_holds}
 use Rattle.pg_words.proofs.Passes.{IsPass, found_passes, some_is}
 
 abbrev Filters : Type 0
-Filters = List (Bool × Text)
+Filters = List Filter
 
 filters_both : (us vs : List Use) → filters_in (us ++ vs) ≡ filters_in us ++ filters_in vs
 filters_both [] vs = refl
@@ -29,14 +29,14 @@ filters_both (Given o v ∷ us) vs =
     ∙ sym (append_assoc (filter_by o.name v) (filters_in us) (filters_in vs))
 filters_both (Operand v ∷ us) vs = filters_both us vs
 
-abbrev pub filters_after : List Use → List (Bool × List ℕ) → List (Bool × List ℕ)
+abbrev pub filters_after : List Use → List Filter → List Filter
 filters_after us before = before ++ filters_in us
 
 operands_silent : (ws : List Text) → filters_in (map Operand ws) ≡ []
 operands_silent [] = refl
 operands_silent (w ∷ ws) = operands_silent ws
 
-pub filters_pass : IsPass (List (Bool × List ℕ)) filters_after
+pub filters_pass : IsPass (List Filter) filters_after
 filters_pass = record {
   both = λ us vs before. ap (λ (l : Filters). before ++ l) (filters_both us vs)
       ∙ sym (append_assoc before (filters_in us) (filters_in vs));
@@ -46,18 +46,23 @@ filters_pass = record {
 
 -- ---- what the options of the table say
 
--- neither of the names
+-- none of the names
 abbrev is_silent : Text → Bool
-is_silent name = not (bytes_eq name (codes "include")) && not (bytes_eq name (codes "exclude"))
+is_silent name =
+    not (bytes_eq name (codes "include"))
+    && (not (bytes_eq name (codes "exclude")) && not (bytes_eq name (codes "exclude-from")))
 
 silent_is : (name v : Text) → is_silent name ≡ true → filter_by name v ≡ []
-silent_is name v e = go (bytes_eq name (codes "include")) (bytes_eq name (codes "exclude")) e
+silent_is name v e =
+    go (bytes_eq name (codes "include")) (bytes_eq name (codes "exclude")) (bytes_eq name (codes "exclude-from")) e
   where
-    go : (a b : Bool) → (not a && not b) ≡ true
-        → cond {A = Filters} a ((true, v) ∷ []) (cond {A = Filters} b ((false, v) ∷ []) []) ≡ []
-    go true b e = cc
-    go false true e = cc
-    go false false e = refl
+    go : (a b d : Bool) → (not a && (not b && not d)) ≡ true
+        → cond {A = Filters} a (Include v ∷ [])
+        (cond {A = Filters} b (Exclude v ∷ []) (cond {A = Filters} d (ExcludeFrom v ∷ []) [])) ≡ []
+    go true b d e = cc
+    go false true d e = cc
+    go false false true e = cc
+    go false false false e = refl
 
 -- no letter and no further name
 abbrev has_one_name : Option ℕ → List Text → Bool
@@ -242,33 +247,36 @@ none_named w us lacks e = sym (word_silent w us silent e)
 
 -- a word with another text before its first `=`
 pub other_named : (w t v : Text) (us : List Use) → w ≡ t ++ 61 ∷ v → Lacks 61 t
-    → bytes_eq t (codes "--include") ≡ false → bytes_eq t (codes "--exclude") ≡ false → word table w ≡ Some us
-    → [] ≡ filters_in us
-other_named w t v us cut lacks keeps leaves e = sym (word_silent w us silent e)
+    → bytes_eq t (codes "--include") ≡ false → bytes_eq t (codes "--exclude") ≡ false
+    → bytes_eq t (codes "--exclude-from") ≡ false → word table w ≡ Some us → [] ≡ filters_in us
+other_named w t v us cut lacks keeps leaves reads e = sym (word_silent w us silent e)
   where
     behind : (t : Text) → Lacks 61 t → bytes_eq t (codes "--include") ≡ false
-        → bytes_eq t (codes "--exclude") ≡ false → (p : Text × Option Text) → long_of (t ++ 61 ∷ v) ≡ Some p
-        → pair_silent p ≡ true
-    behind [] lacks keeps leaves p is = cc
-    behind (d ∷ t) lacks keeps leaves p is = go t (d == 45) refl lacks keeps leaves is
+        → bytes_eq t (codes "--exclude") ≡ false → bytes_eq t (codes "--exclude-from") ≡ false
+        → (p : Text × Option Text) → long_of (t ++ 61 ∷ v) ≡ Some p → pair_silent p ≡ true
+    behind [] lacks keeps leaves reads p is = cc
+    behind (d ∷ t) lacks keeps leaves reads p is = go t (d == 45) refl lacks keeps leaves reads is
       where
         named : (n : Text) → Lacks 61 n → bytes_eq n (codes "include") ≡ false → bytes_eq n (codes "exclude") ≡ false
-            → (p : Text × Option Text) → p ≡ name_and_value (n ++ 61 ∷ v) → pair_silent p ≡ true
-        named n lacks keeps leaves p is =
+            → bytes_eq n (codes "exclude-from") ≡ false → (p : Text × Option Text) → p ≡ name_and_value (n ++ 61 ∷ v)
+            → pair_silent p ≡ true
+        named n lacks keeps leaves reads p is =
             ap pair_silent (is ∙ name_and_value-at n v lacks)
-            ∙ (ap (λ (b : Bool). not b && not (bytes_eq n (codes "exclude"))) keeps ∙ ap not leaves)
+            ∙ (ap (λ (b : Bool). not b && (not (bytes_eq n (codes "exclude"))
+            && not (bytes_eq n (codes "exclude-from")))) keeps
+            ∙ (ap (λ (b : Bool). not b && not (bytes_eq n (codes "exclude-from"))) leaves ∙ ap not reads))
 
         some_pair : (n : Text) → long_of_rest (n ++ 61 ∷ v) ≡ Some p → p ≡ name_and_value (n ++ 61 ∷ v)
         some_pair [] e = ap (λ (o : Option (Text × Option Text)). unwrap_or o p) (sym e)
         some_pair (x ∷ n) e = ap (λ (o : Option (Text × Option Text)). unwrap_or o p) (sym e)
 
         go : (t : Text) (b : Bool) → (d == 45) ≡ b → Lacks 61 (d ∷ t) → bytes_eq (d ∷ t) (codes "--include") ≡ false
-            → bytes_eq (d ∷ t) (codes "--exclude") ≡ false
+            → bytes_eq (d ∷ t) (codes "--exclude") ≡ false → bytes_eq (d ∷ t) (codes "--exclude-from") ≡ false
             → option_and_then long_of_rest (option_and_then (strip_byte 45) (cond b (Some (t ++ 61 ∷ v)) None)) ≡ Some p
             → pair_silent p ≡ true
-        go t false first lacks keeps leaves is = cc
-        go [] true first lacks keeps leaves is = cc
-        go (y ∷ n) true first lacks keeps leaves is = second (y == 45) refl is
+        go t false first lacks keeps leaves reads is = cc
+        go [] true first lacks keeps leaves reads is = cc
+        go (y ∷ n) true first lacks keeps leaves reads is = second (y == 45) refl is
           where
             second : (b : Bool) → (y == 45) ≡ b
                 → option_and_then long_of_rest (cond b (Some (n ++ 61 ∷ v)) None) ≡ Some p → pair_silent p ≡ true
@@ -278,10 +286,11 @@ other_named w t v us cut lacks keeps leaves e = sym (word_silent w us silent e)
                 ap (λ (a : ℕ). a ∷ y ∷ n) (eqb-true d 45 first) ∙ ap (λ (a : ℕ). 45 ∷ a ∷ n) (eqb-true y 45 too) in
                 named n (λ i less. lacks (suc (suc i)) (omega (arith, less)))
                 (ap (λ (l : Text). bytes_eq l (codes "--include")) (sym hyphens) ∙ keeps)
-                (ap (λ (l : Text). bytes_eq l (codes "--exclude")) (sym hyphens) ∙ leaves) p (some_pair n is)
+                (ap (λ (l : Text). bytes_eq l (codes "--exclude")) (sym hyphens) ∙ leaves)
+                (ap (λ (l : Text). bytes_eq l (codes "--exclude-from")) (sym hyphens) ∙ reads) p (some_pair n is)
 
     silent : (p : Text × Option Text) → long_of w ≡ Some p → pair_silent p ≡ true
-    silent p is = behind t lacks keeps leaves p (ap long_of (sym cut) ∙ is)
+    silent p is = behind t lacks keeps leaves reads p (ap long_of (sym cut) ∙ is)
 
 module _ (w t v : Text) (us : List Use) (cut : w ≡ t ++ 61 ∷ v) where
   behind_name : (name : Text) → bytes_eq t name ≡ true → word table w ≡ Some us
@@ -290,8 +299,12 @@ module _ (w t v : Text) (us : List Use) (cut : w ≡ t ++ 61 ∷ v) where
       ap (λ (n : Text). word table (n ++ 61 ∷ v)) (sym ((bytes_eq-Decides t name).0 is))
       ∙ (ap (word table) (sym cut) ∙ e)
 
-  pub include_named : bytes_eq t (codes "--include") ≡ true → word table w ≡ Some us → (true, v) ∷ [] ≡ filters_in us
+  pub include_named : bytes_eq t (codes "--include") ≡ true → word table w ≡ Some us → Include v ∷ [] ≡ filters_in us
   include_named is e = ap (λ (o : Uses). filters_in (unwrap_or o us)) (behind_name (codes "--include") is e)
 
-  pub exclude_named : bytes_eq t (codes "--exclude") ≡ true → word table w ≡ Some us → (false, v) ∷ [] ≡ filters_in us
+  pub exclude_named : bytes_eq t (codes "--exclude") ≡ true → word table w ≡ Some us → Exclude v ∷ [] ≡ filters_in us
   exclude_named is e = ap (λ (o : Uses). filters_in (unwrap_or o us)) (behind_name (codes "--exclude") is e)
+
+  pub exclude_from_named : bytes_eq t (codes "--exclude-from") ≡ true → word table w ≡ Some us
+      → ExcludeFrom v ∷ [] ≡ filters_in us
+  exclude_from_named is e = ap (λ (o : Uses). filters_in (unwrap_or o us)) (behind_name (codes "--exclude-from") is e)

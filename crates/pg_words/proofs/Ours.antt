@@ -87,7 +87,19 @@ all_rows = (
                                                                               (refl, refl, refl, refl),
                                                                               (
                                                                                 (refl, refl, refl, refl),
-                                                                                ((refl, refl, refl, refl), ((refl, refl, refl, refl), tt)),
+                                                                                (
+                                                                                  (refl, refl, refl, refl),
+                                                                                  (
+                                                                                    (refl, refl, refl, refl),
+                                                                                    (
+                                                                                      (refl, refl, refl, refl),
+                                                                                      (
+                                                                                        (refl, refl, refl, refl),
+                                                                                        ((refl, refl, refl, refl), ((refl, refl, refl, refl), tt)),
+                                                                                      ),
+                                                                                    ),
+                                                                                  ),
+                                                                                ),
                                                                               ),
                                                                             ),
                                                                           ),

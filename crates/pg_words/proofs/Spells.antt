@@ -11,7 +11,8 @@ use Rattle.clap.specs.Lexer.{short_of}
 use Rattle.clap.proofs.WalkLemmas.{both}
 use Rattle.pg_words.specs.Joined.{Place, Free, Rest, ValueOf, waits}
 use Rattle.pg_words.specs.Line.{Text, by_letter, is_mark, table}
-use Rattle.pg_words.specs.Spelled.{full_word, is_flag, letter_words, newer_letter, number_words, place_behind}
+use Rattle.pg_words.specs.Spelled.{full_word, is_flag, letter_word, letter_words, newer_letter, number_words}
+use Rattle.pg_words.specs.Spelled.{place_behind}
 use Rattle.pg_words.specs.Spelled.{rest_word, spelled_from, spelled_word}
 use Rattle.pg_words.proofs.Found.{ascii_letters}
 use Rattle.pg_words.proofs.Ours.{all_rows}
@@ -107,12 +108,12 @@ module _ (before : List Text) (w digits rest : Text) (x : ℕ) where
 
   pub flag_step : (after : List Text) → is_ascii_digit x ≡ false
       → (is_ascii_digit x || is_flag (by_letter table (newer_letter x))) ≡ true
-      → after ≡ before ++ number_words digits ++ (45 ∷ newer_letter x ∷ []) ∷ []
+      → after ≡ before ++ number_words digits ++ letter_word (newer_letter x) ∷ []
       → after ++ letter_words table w [] rest ≡ before ++ letter_words table w digits (x ∷ rest)
   flag_step after digit own is =
       let flag : is_flag (by_letter table (newer_letter x)) ≡ true =
       ap (λ (b : Bool). b || is_flag (by_letter table (newer_letter x))) (sym digit) ∙ own in
-      let one : List Text = (45 ∷ newer_letter x ∷ []) ∷ [] in
+      let one : List Text = letter_word (newer_letter x) ∷ [] in
       rw (digit, flag, is) (append_assoc (before ++ number_words digits) one (letter_words table w [] rest)
       ∙ append_assoc before (number_words digits) (one ++ letter_words table w [] rest))
 

@@ -1,15 +1,18 @@
 -- What a search asks for, as plain data.
-use Rattle.std.specs.Prelude.{ℕ, Bool, List}
+use Rattle.std.specs.Prelude.{ℕ, Bool, List, Option, option_map}
 use Rattle.pg_syntax.specs.Slices.{bytes_of}
 use Rattle.pg_syntax.specs.declared.pattern_list.Kind.{Kind}
 use Rattle.pg_rows.specs.declared.format.Format.{Format}
 use Rattle.pg_words.specs.Filters.{filters_of}
+use Rattle.pg_words.specs.Line.{Filter}
+use Rattle.pg_words.specs.declared.options.DeviceAction.{DeviceAction}
 use Rattle.pg_words.specs.declared.options.Naming.{Naming}
 use Rattle.pg_words.specs.declared.request.Request.{Request}
 
 -- the syntax of the patterns, the -e texts, the paths of the -f files, the options -i, -x, -w, -v, -z and -o, how rows
--- look and when they have names, the FILE operands, the option -r, the patterns of --include (true) and --exclude
--- (false) in their order, those of --exclude-dir, and the option -s
+-- look and when they have names, the name of --label, the FILE operands, whether directories are visited and
+-- whether they are left out, what -D asks for,
+-- --include, --exclude and --exclude-from in their order, the patterns of --exclude-dir, and the option -s
 pub record Asked : Type 0 where
   pub kind : Kind
   pub texts : List (List ℕ)
@@ -22,9 +25,12 @@ pub record Asked : Type 0 where
   pub pieces : Bool
   pub format : Format
   pub names : Naming
+  pub label : Option (List ℕ)
   pub files : List (List ℕ)
   pub recursive : Bool
-  pub filters : List (Bool × List ℕ)
+  pub skips_directories : Bool
+  pub devices : Option DeviceAction
+  pub filters : List Filter
   pub excluded : List (List ℕ)
   pub silent : Bool
 
@@ -50,8 +56,11 @@ asked_of request = record {
   pieces = request.pieces;
   format = request.format;
   names = request.names;
+  label = option_map (λ name. name.now) request.label;
   files = bytes_of request.files.items;
   recursive = request.recursive;
+  skips_directories = request.skips_directories;
+  devices = request.devices;
   filters = filters_of request.filters.items;
   excluded = bytes_of request.excluded.items;
   silent = request.silent;

@@ -1,6 +1,6 @@
 -- What the words of a command line ask for.
 use Rattle.std.specs.Prelude.{ℕ, ◌+◌, ◌||◌, Bool, not, if◌then◌else◌, List, codes, length, take, drop, Option, Some}
-use Rattle.std.specs.Prelude.{None, option_map, unwrap_or}
+use Rattle.std.specs.Prelude.{None, is_some, option_and_then, option_map, unwrap_or}
 use Rattle.std.specs.List.{list_any}
 use Rattle.std.specs.Str.{bytes_eq}
 use Rattle.std.specs.Str.Parse.{digits_value, without_leading_sign}
@@ -11,6 +11,11 @@ use Rattle.pg_words.specs.Operands.{searched}
 use Rattle.pg_words.specs.Spelled.{uses_in}
 use Rattle.pg_words.specs.Options.{format_of, kind_of, naming_of}
 use Rattle.pg_words.specs.Usage.{usage_fault}
+use Rattle.pg_words.specs.declared.options.DirectoryAction.{DirectoryAction}
+use Rattle.pg_words.specs.declared.options.DirectoryAction.TheVariants.{Read as ReadDirectories, Skip as SkipDirectories}
+use Rattle.pg_words.specs.declared.options.DirectoryAction.TheVariants.{Recurse}
+use Rattle.pg_words.specs.declared.options.DeviceAction.{DeviceAction}
+use Rattle.pg_words.specs.declared.options.DeviceAction.TheVariants.{Read, Skip}
 use Rattle.pg_words.specs.declared.options.Options.{Options}
 use Rattle.pg_words.specs.declared.usage.UsageFault.{UsageFault}
 
@@ -30,6 +35,44 @@ number_in name us = option_map (λ numeral. digits_value 10 (without_leading_sig
 abbrev pub has_other_type : List Text → Bool
 has_other_type names = list_any (λ name. not (bytes_eq name (codes "text"))) names
 
+-- what -d asks for, by its value (GNU grep's option, of which -r is the action `recurse`)
+abbrev pub directory_action : Text → Option DirectoryAction
+directory_action v =
+    if bytes_eq v (codes "read") then Some ReadDirectories
+    else (if bytes_eq v (codes "skip") then Some SkipDirectories
+    else (if bytes_eq v (codes "recurse") then Some Recurse else None))
+
+-- a value of -d that asks for nothing
+abbrev pub has_other_directory_action : List Text → Bool
+has_other_directory_action values = list_any (λ v. not (is_some (directory_action v))) values
+
+-- what is asked for by the last -d or -r
+abbrev pub directories_in : List Use → Option DirectoryAction
+directories_in us = option_and_then directory_action (last_value (codes "directories") us)
+
+-- directories are visited
+abbrev pub is_recursive : Option DirectoryAction → Bool
+is_recursive None = Bool.false
+is_recursive (Some ReadDirectories) = Bool.false
+is_recursive (Some SkipDirectories) = Bool.false
+is_recursive (Some Recurse) = Bool.true
+
+-- they are left out
+abbrev pub skips_directories : Option DirectoryAction → Bool
+skips_directories None = Bool.false
+skips_directories (Some ReadDirectories) = Bool.false
+skips_directories (Some SkipDirectories) = Bool.true
+skips_directories (Some Recurse) = Bool.false
+
+-- what -D asks for, by its value (GNU grep's option)
+abbrev pub device_action : Text → Option DeviceAction
+device_action v =
+    if bytes_eq v (codes "read") then Some Read else (if bytes_eq v (codes "skip") then Some Skip else None)
+
+-- a value of -D that asks for nothing
+abbrev pub has_other_action : List Text → Bool
+has_other_action values = list_any (λ v. not (is_some (device_action v))) values
+
 -- the options that exclude one another, want operands or decide how rows look
 abbrev pub options_in : List Use → Options
 options_in us = record {
@@ -37,6 +80,8 @@ options_in us = record {
   fixed = is_given (codes "fixed-strings") us;
   perl = is_given (codes "perl-regexp") us;
   binary = has_other_type (values_of (codes "binary-files") us);
+  unknown_directories = has_other_directory_action (values_of (codes "directories") us);
+  unknown_devices = has_other_action (values_of (codes "devices") us);
   invert = is_given (codes "invert-match") us;
   fold = ignores_case us;
   pieces = is_given (codes "only-matching") us;
@@ -50,7 +95,7 @@ options_in us = record {
   unparted = is_given (codes "no-group-separator") us;
   names = is_given (codes "with-filename") us;
   no_names = is_given (codes "no-filename") us;
-  recursive = is_given (codes "recursive") us;
+  recursive = is_recursive (directories_in us);
   limit = number_in (codes "max-count") us;
   after = number_in (codes "after-context") us;
   before = number_in (codes "before-context") us;
@@ -82,8 +127,11 @@ asked_in us = record {
   pieces = is_given (codes "only-matching") us;
   format = format_of (options_in us);
   names = naming_of (options_in us);
+  label = last_value (codes "label") us;
   files = searched (files_in us);
-  recursive = is_given (codes "recursive") us;
+  recursive = is_recursive (directories_in us);
+  skips_directories = skips_directories (directories_in us);
+  devices = option_and_then device_action (last_value (codes "devices") us);
   filters = filters_in us;
   excluded = values_of (codes "exclude-dir") us;
   silent = is_given (codes "no-messages") us;

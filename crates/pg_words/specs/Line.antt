@@ -57,14 +57,18 @@ table = record (opt (codes "q") (codes "quiet") Nothing) { others = codes "silen
     ∷ opt (codes "T") (codes "initial-tab") Nothing
     ∷ opt (codes "H") (codes "with-filename") Nothing
     ∷ opt (codes "h") (codes "no-filename") Nothing
+    ∷ opt [] (codes "label") AnyText
     ∷ opt (codes "m") (codes "max-count") (Number 1 4294967295)
     ∷ opt (codes "A") (codes "after-context") (Number 0 4294967295)
     ∷ opt (codes "B") (codes "before-context") (Number 0 65535)
     ∷ opt (codes "C") (codes "context") (Number 0 65535)
     ∷ opt [] (codes "no-group-separator") Nothing
     ∷ opt (codes "r") (codes "recursive") Nothing
+    ∷ opt (codes "d") (codes "directories") AnyText
+    ∷ opt (codes "D") (codes "devices") AnyText
     ∷ opt [] (codes "include") AnyText
     ∷ opt [] (codes "exclude") AnyText
+    ∷ opt [] (codes "exclude-from") AnyText
     ∷ opt [] (codes "exclude-dir") AnyText
     ∷ opt (codes "s") (codes "no-messages") Nothing
     ∷ opt (codes "a") (codes "text") Nothing
@@ -214,14 +218,21 @@ case_after (Operand v ∷ us) before = case_after us before
 abbrev pub ignores_case : List Use → Bool
 ignores_case us = case_after us false
 
--- --include keeps the files whose name this pattern matches, and --exclude leaves them out
-abbrev pub filter_by : Text → Text → List (Bool × Text)
-filter_by name v =
-    if bytes_eq name (codes "include") then (true, v) ∷ []
-    else (if bytes_eq name (codes "exclude") then (false, v) ∷ [] else [])
+-- which files are searched: --include keeps those whose name this pattern matches, --exclude leaves them out, and so
+-- --exclude-from those that a pattern in this file matches
+pub data Filter : Type 0 where
+  Include : Text → Filter
+  Exclude : Text → Filter
+  ExcludeFrom : Text → Filter
 
--- the patterns of --include and --exclude, in their order
-abbrev pub filters_in : List Use → List (Bool × Text)
+abbrev pub filter_by : Text → Text → List Filter
+filter_by name v =
+    if bytes_eq name (codes "include") then Include v ∷ []
+    else (if bytes_eq name (codes "exclude") then Exclude v ∷ []
+    else (if bytes_eq name (codes "exclude-from") then ExcludeFrom v ∷ [] else []))
+
+-- --include, --exclude and --exclude-from, in their order
+abbrev pub filters_in : List Use → List Filter
 filters_in [] = []
 filters_in (Given o v ∷ us) = filter_by o.name v ++ filters_in us
 filters_in (Operand v ∷ us) = filters_in us

@@ -4,7 +4,8 @@ use Rattle.pg_words.specs.declared.options.Options.{Options}
 use Rattle.pg_words.specs.declared.usage.UsageFault.{UsageFault}
 use Rattle.pg_words.specs.declared.usage.UsageFault.TheVariants.{SeveralModes, ExtendedAndFixed, NamesAndNoNames}
 use Rattle.pg_words.specs.declared.usage.UsageFault.TheVariants.{ExcludedByPieces, NoPattern, NoOperand}
-use Rattle.pg_words.specs.declared.usage.UsageFault.TheVariants.{OtherThanText, PerlExpressions}
+use Rattle.pg_words.specs.declared.usage.UsageFault.TheVariants.{OtherThanText, PerlExpressions, UnknownDevices}
+use Rattle.pg_words.specs.declared.usage.UsageFault.TheVariants.{UnknownDirectories}
 use Rattle.pg_words.specs.Options.{has_excluded_by_pieces, has_several_modes}
 
 -- What is wrong with options beside so many texts and files of patterns and so many FILE operands: the first of these.
@@ -12,19 +13,23 @@ abbrev pub usage_fault : Options → ℕ → ℕ → Option UsageFault
 usage_fault options patterns files =
     if options.perl then Some PerlExpressions
     else (if options.binary then Some OtherThanText
+    else (if options.unknown_directories then Some UnknownDirectories
+    else (if options.unknown_devices then Some UnknownDevices
     else (if has_several_modes options then Some SeveralModes
     else (if options.extended && options.fixed then Some ExtendedAndFixed
     else (if options.names && options.no_names then Some NamesAndNoNames
     else (if options.pieces && has_excluded_by_pieces options then Some ExcludedByPieces
     else (if patterns == 0 then Some NoPattern
     else (if options.recursive && (files == 0) then Some NoOperand
-    else None)))))))
+    else None)))))))))
 
 -- what is told of a usage fault
 abbrev pub usage_text : UsageFault → List ℕ
 usage_text PerlExpressions =
     codes "-P is not supported: use -E, which has no lookaround, lazy repetition or back reference"
 usage_text OtherThanText = codes "--binary-files may only be text, and can be left out"
+usage_text UnknownDirectories = codes "-d may only be read, skip or recurse"
+usage_text UnknownDevices = codes "-D may only be read or skip"
 usage_text SeveralModes = codes "only one of -c, -l, -L and -q may be given"
 usage_text ExtendedAndFixed = codes "only one of -E and -F may be given"
 usage_text NamesAndNoNames = codes "only one of -H and -h may be given"

@@ -59,9 +59,10 @@ pub(crate) struct OptionRow(Names, &'static str, Behind);
 
 /// The options, and the operands: PATTERN, where neither -e nor -f is given, and each FILE. Of names that are equally
 /// close to a wrong one `clap` proposes the last. -G is read by nobody: it asks for what is taken without -E and -F,
-/// and has no effect beside them. Nor are -a and -U, for every file is text. --always-spread serves tests alone, so
+/// and has no effect beside them. Nor are -a and -U, for every file is text, nor -r, which is spelled out as -d.
+/// --always-spread serves tests alone, so
 /// that neither --help nor the manual page names it. -P is known to be refused with what to do instead.
-static OPTIONS: [OptionRow; 43] = [
+static OPTIONS: [OptionRow; 47] = [
     OptionRow(Names::Letter('q', &["silent"]), "quiet", Behind::Nothing),
     OptionRow(Names::Letter('E', &[]), "extended-regexp", Behind::Nothing),
     OptionRow(Names::Letter('F', &[]), "fixed-strings", Behind::Nothing),
@@ -92,6 +93,7 @@ static OPTIONS: [OptionRow; 43] = [
     OptionRow(Names::Letter('T', &[]), "initial-tab", Behind::Nothing),
     OptionRow(Names::Letter('H', &[]), "with-filename", Behind::Nothing),
     OptionRow(Names::Letter('h', &[]), "no-filename", Behind::Nothing),
+    OptionRow(Names::Long, "label", Behind::Text("NAME")),
     OptionRow(
         Names::Letter('m', &[]),
         "max-count",
@@ -114,8 +116,15 @@ static OPTIONS: [OptionRow; 43] = [
     ),
     OptionRow(Names::Long, "no-group-separator", Behind::Nothing),
     OptionRow(Names::Letter('r', &[]), "recursive", Behind::Nothing),
+    OptionRow(
+        Names::Letter('d', &[]),
+        "directories",
+        Behind::Text("ACTION"),
+    ),
+    OptionRow(Names::Letter('D', &[]), "devices", Behind::Text("ACTION")),
     OptionRow(Names::Long, "include", Behind::Text("GLOB")),
     OptionRow(Names::Long, "exclude", Behind::Text("GLOB")),
+    OptionRow(Names::Long, "exclude-from", Behind::Text("FILE")),
     OptionRow(Names::Long, "exclude-dir", Behind::Text("GLOB")),
     OptionRow(Names::Letter('s', &[]), "no-messages", Behind::Nothing),
     OptionRow(Names::Letter('a', &[]), "text", Behind::Nothing),

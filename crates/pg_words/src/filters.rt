@@ -1,4 +1,5 @@
-//! Which files are searched by their names: `clap` collects --include and --exclude apart, and their order counts.
+//! Which files are searched by their names: `clap` collects --include, --exclude and --exclude-from apart, and their
+//! order counts.
 ghost use Rattle.std.specs.Prelude.{◌≡◌, ◌++◌, IfOk, List, OnOk, Some, map};
 ghost use Rattle.std.specs.String.{string_bytes};
 ghost use Rattle.pg_words.specs.Filters.{filter_or_none, filters_of};
@@ -9,7 +10,7 @@ use crate::request::FileFilter;
 use crate::split::is_mark;
 use std::alloc::{AllocError, Global};
 
-/// The patterns of --include and --exclude in joined words, in their order.
+/// --include, --exclude and --exclude-from in joined words, in their order.
 pub(crate) fn filters_of<'a>(
     alloc: Global,
     words: &'a [String],
@@ -28,7 +29,7 @@ pub(crate) fn filters_of<'a>(
     Ok(filters)
 }
 
-/// Adds the pattern of a word, if it is --include or --exclude.
+/// Adds the filter of a word, if it is --include, --exclude or --exclude-from.
 fn add_filter<'a>(filters: &mut Vec<FileFilter<'a>>, part: &'a str) -> Result<(), AllocError>
     ensures { OnOk result ((us : List Use) → word table part.now ≡ Some us
         → filters_of filters.new.items ≡ filters_of filters.old.items ++ filters_in us) }
@@ -39,16 +40,19 @@ fn add_filter<'a>(filters: &mut Vec<FileFilter<'a>>, part: &'a str) -> Result<()
     Ok(())
 }
 
-/// The pattern of a word, if it is --include or --exclude.
+/// The filter of a word, if it is --include, --exclude or --exclude-from.
 fn filter_of(part: &str) -> Option<FileFilter<'_>>
     ensures { (us : List Use) → word table part.now ≡ Some us → filter_or_none result ≡ filters_in us }
 {
-    let (option, glob) = part.split_once('=')?;
+    let (option, value) = part.split_once('=')?;
     if option == "--include" {
-        return Some(FileFilter { keeps: true, glob });
+        return Some(FileFilter::Include(value));
     }
     if option == "--exclude" {
-        return Some(FileFilter { keeps: false, glob });
+        return Some(FileFilter::Exclude(value));
+    }
+    if option == "--exclude-from" {
+        return Some(FileFilter::ExcludeFrom(value));
     }
     None
 }

@@ -33,6 +33,7 @@ Output:
   -n, --line-number          print the number of each line before it
   -H, --with-filename        print the name of the file before each line
   -h, --no-filename          never print names of files before lines
+      --label=NAME           call standard input NAME
   -Z, --null                 print a NUL after each name of a file
   -T, --initial-tab          print a tab after the name and number
   -m, --max-count=N          stop after N selected lines of each file
@@ -45,8 +46,13 @@ Output:
 
 Files:
   -r, --recursive            search the files below each directory
+  -d, --directories=ACTION   read directories, which fails, skip them, or recurse,
+                             which is -r; the last one counts
+  -D, --devices=ACTION       read devices, FIFOs and sockets, or skip them; by
+                             default only operands are read
       --include=GLOB         search only files whose name matches GLOB
       --exclude=GLOB         leave out files whose name matches GLOB
+      --exclude-from=FILE    leave out files whose name a glob in FILE matches
       --exclude-dir=GLOB     leave out directories whose name matches GLOB
   -s, --no-messages          suppress messages about unreadable files
   -a, --text                 no effect: every file is text

@@ -1,9 +1,9 @@
-//! Long names of options that are cut short.
-ghost use Rattle.std.specs.Prelude.{◌≡◌, IfOk, None, Some, option_map};
+//! Long names of options, in full.
+ghost use Rattle.std.specs.Prelude.{◌≡◌, ◌++◌, codes, IfOk, None, Some, option_map};
 ghost use Rattle.std.specs.String.{string_bytes};
 ghost use Rattle.clap.specs.Lexer.{long_of, name_and_value};
 ghost use Rattle.pg_words.specs.Line.{table};
-ghost use Rattle.pg_words.specs.Spelled.{full_long, full_name, full_word};
+ghost use Rattle.pg_words.specs.Spelled.{full_long, full_name, full_word, name_word};
 
 use crate::command::{is_name, name_begun};
 use crate::spell::behind_first;
@@ -51,7 +51,7 @@ fn full_long(alloc: Global, text: &str) -> Result<String, AllocError>
 fn full_valued(alloc: Global, name: &str, value: &str) -> Result<String, AllocError>
     ensures { IfOk result (λ word. string_bytes word ≡ full_long table name.now (Some value.now)) }
 {
-    let mut word = full_alone(alloc, name)?;
+    let mut word = hyphened(alloc, full_name(name))?;
     word.push('=')?;
     word.push_str(value)?;
     Ok(word)
@@ -61,8 +61,25 @@ fn full_valued(alloc: Global, name: &str, value: &str) -> Result<String, AllocEr
 fn full_alone(alloc: Global, name: &str) -> Result<String, AllocError>
     ensures { IfOk result (λ word. string_bytes word ≡ full_long table name.now None) }
 {
+    name_word(alloc, full_name(name))
+}
+
+/// The word for a long name in full.
+fn name_word(alloc: Global, name: &str) -> Result<String, AllocError>
+    ensures { IfOk result (λ word. string_bytes word ≡ name_word name.now) }
+{
+    if name == "recursive" {
+        return String::from_str(alloc, "--directories=recurse");
+    }
+    hyphened(alloc, name)
+}
+
+/// A name behind two hyphens.
+fn hyphened(alloc: Global, name: &str) -> Result<String, AllocError>
+    ensures { IfOk result (λ word. string_bytes word ≡ codes "--" ++ name.now) }
+{
     let mut word = String::from_str(alloc, "--")?;
-    word.push_str(full_name(name))?;
+    word.push_str(name)?;
     Ok(word)
 }
 

@@ -1,12 +1,14 @@
 //! What `clap` found, by the names of options.
-ghost use Rattle.std.specs.Prelude.{◌≡◌, ◌≤◌, ◌<◌, ℕ, List, Option, [], map, option_map, unwrap_or, IfSome};
+ghost use Rattle.std.specs.Prelude.{◌≡◌, ◌≤◌, ◌<◌, ℕ, List, None, Option, [], codes, map, option_and_then, option_map};
+ghost use Rattle.std.specs.Prelude.{unwrap_or, IfSome};
 ghost use Rattle.clap.specs.Words.{found_of, matched_of, raw_values};
-ghost use Rattle.pg_words.specs.Asks.{has_other_type, number_in, options_in};
+ghost use Rattle.pg_words.specs.Asks.{device_action, directories_in, directory_action, has_other_action};
+ghost use Rattle.pg_words.specs.Asks.{has_other_directory_action, has_other_type, number_in, options_in};
 ghost use Rattle.pg_words.specs.Found.{found_values, value_behind, IsFound};
 ghost use Rattle.pg_words.specs.Gives.{IsNumberUpTo};
-ghost use Rattle.pg_words.specs.Line.{ignores_case, is_given, Nothing, Number, Use};
+ghost use Rattle.pg_words.specs.Line.{ignores_case, is_given, last_of, last_value, AnyText, Nothing, Number, Use};
 
-use crate::options::Options;
+use crate::options::{DeviceAction, DirectoryAction, Options};
 use clap::ArgMatches;
 
 /// The options that exclude one another, want operands or decide how rows look, and whether case is ignored, which
@@ -19,6 +21,8 @@ pub(crate) fn options_of(found: &ArgMatches<'_>, fold: bool) -> Options
         fixed: flag(found, "fixed-strings"),
         perl: flag(found, "perl-regexp"),
         binary: has_other_type(values_of(found, "binary-files")),
+        unknown_directories: has_other_directory_action(values_of(found, "directories")),
+        unknown_devices: has_other_action(values_of(found, "devices")),
         invert: flag(found, "invert-match"),
         fold,
         pieces: flag(found, "only-matching"),
@@ -32,7 +36,7 @@ pub(crate) fn options_of(found: &ArgMatches<'_>, fold: bool) -> Options
         unparted: flag(found, "no-group-separator"),
         names: flag(found, "with-filename"),
         no_names: flag(found, "no-filename"),
-        recursive: flag(found, "recursive"),
+        recursive: DirectoryAction::is_recursive(directories_of(found)),
         limit: number(found, "max-count"),
         after: number(found, "after-context"),
         before: small_number(found, "before-context"),
@@ -52,11 +56,103 @@ fn has_other_type(types: &[&str]) -> bool
     false
 }
 
+/// What a value of -d asks for.
+fn directory_action(text: &str) -> Option<DirectoryAction>
+    ensures { result ≡ directory_action text.now }
+{
+    if text == "read" {
+        Some(DirectoryAction::Read)
+    } else if text == "skip" {
+        Some(DirectoryAction::Skip)
+    } else if text == "recurse" {
+        Some(DirectoryAction::Recurse)
+    } else {
+        None
+    }
+}
+
+/// Whether one of the values of -d asks for nothing.
+fn has_other_directory_action(values: &[&str]) -> bool
+    ensures { result ≡ has_other_directory_action (map (λ value. value.now) values.now) }
+{
+    for value in values {
+        if directory_action(value).is_none() {
+            return true;
+        }
+    }
+    false
+}
+
+/// What the last -d or -r asks for, if one is given.
+pub(crate) fn directories_of(found: &ArgMatches<'_>) -> Option<DirectoryAction>
+    ensures { (us : List Use) → IsFound us (found_of found.now) → result ≡ directories_in us }
+{
+    match last_value(found, "directories") {
+        Some(text) => directory_action(text),
+        None => None,
+    }
+}
+
+/// What a value of -D asks for.
+fn device_action(text: &str) -> Option<DeviceAction>
+    ensures { result ≡ device_action text.now }
+{
+    if text == "read" {
+        Some(DeviceAction::Read)
+    } else if text == "skip" {
+        Some(DeviceAction::Skip)
+    } else {
+        None
+    }
+}
+
+/// Whether one of the values of -D asks for nothing.
+fn has_other_action(values: &[&str]) -> bool
+    ensures { result ≡ has_other_action (map (λ value. value.now) values.now) }
+{
+    for value in values {
+        if device_action(value).is_none() {
+            return true;
+        }
+    }
+    false
+}
+
+/// What -D asks for, if it is given.
+pub(crate) fn devices_of(found: &ArgMatches<'_>) -> Option<DeviceAction>
+    ensures { (us : List Use) → IsFound us (found_of found.now)
+        → result ≡ option_and_then device_action (last_value (codes "devices") us) }
+{
+    match last_value(found, "devices") {
+        Some(text) => device_action(text),
+        None => None,
+    }
+}
+
 /// The values of an option, in their order, or the operands.
 pub(crate) fn values_of<'w, 'a: 'w>(found: &'w ArgMatches<'a>, name: &str) -> &'w [&'a str]
     ensures { map (λ value. value.now) result.now ≡ found_values (found_of found.now) name.now }
 {
     found.get_strs(name).unwrap_or_default()
+}
+
+/// The last value of an option, if it is given.
+pub(crate) fn last_value<'a>(found: &ArgMatches<'a>, name: &str) -> Option<&'a str>
+    ensures { (us : List Use) → IsFound us (found_of found.now) → value_behind name.now ≡ Some AnyText
+        → option_map (λ value. value.now) result ≡ last_value name.now us }
+{
+    last_of(values_of(found, name))
+}
+
+/// The last of some texts, if there is one.
+fn last_of<'a>(texts: &[&'a str]) -> Option<&'a str>
+    ensures { option_map (λ text. text.now) result ≡ last_of (map (λ text. text.now) texts.now) None }
+{
+    let mut last = None;
+    for text in texts {
+        last = Some(*text);
+    }
+    last
 }
 
 /// Whether an option is given that has no value.

@@ -16,6 +16,55 @@ pub enum Naming {
     BySeveral,
 }
 
+/// What -d asks for.
+#[derive(Clone, Copy)]
+pub enum DirectoryAction {
+    /// Directories are read, which fails.
+    Read,
+    /// They are left out.
+    Skip,
+    /// They are visited, as with -r.
+    Recurse,
+}
+
+impl DirectoryAction {
+    ghost use Rattle.std.specs.Prelude.{Some};
+    ghost use Rattle.pg_words.specs.Asks.{is_recursive, skips_directories};
+
+    /// Whether directories are visited.
+    pub(crate) fn is_recursive(action: Option<DirectoryAction>) -> bool
+        ensures { result ≡ is_recursive action }
+    {
+        match action {
+            None => false,
+            Some(DirectoryAction::Read) => false,
+            Some(DirectoryAction::Skip) => false,
+            Some(DirectoryAction::Recurse) => true,
+        }
+    }
+
+    /// Whether they are left out.
+    pub(crate) fn skips(action: Option<DirectoryAction>) -> bool
+        ensures { result ≡ skips_directories action }
+    {
+        match action {
+            None => false,
+            Some(DirectoryAction::Read) => false,
+            Some(DirectoryAction::Skip) => true,
+            Some(DirectoryAction::Recurse) => false,
+        }
+    }
+}
+
+/// What -D asks for.
+#[derive(Clone, Copy)]
+pub enum DeviceAction {
+    /// Devices, FIFOs and sockets are read as files are.
+    Read,
+    /// They are left out.
+    Skip,
+}
+
 /// The options that exclude one another, want operands or decide how rows look, as they are given.
 #[derive(Clone, Copy)]
 pub struct Options {
@@ -27,6 +76,10 @@ pub struct Options {
     pub perl: bool,
     /// --binary-files with another type than `text`.
     pub binary: bool,
+    /// -d with another action than `read`, `skip` and `recurse`.
+    pub unknown_directories: bool,
+    /// -D with another action than `read` and `skip`.
+    pub unknown_devices: bool,
     /// -v: the lines without a match.
     pub invert: bool,
     /// -i, unless --no-ignore-case follows: upper and lower case don't differ.
@@ -53,7 +106,7 @@ pub struct Options {
     pub names: bool,
     /// -h: no names before rows.
     pub no_names: bool,
-    /// -r: directories are visited.
+    /// -r, or -d recurse: directories are visited.
     pub recursive: bool,
     /// -m N: N selected lines at most; 0 counts as 1.
     pub limit: Option<u32>,

@@ -2,17 +2,19 @@
 ghost use Rattle.std.specs.Prelude.{◌<◌, ◌≤◌, ◌+◌, ◌^◌, vec_len};
 ghost use Rattle.pg_rows.specs.Output.{HasRoom};
 
-use crate::options::Naming;
+use crate::options::{DeviceAction, Naming};
 use pg_rows::Format;
 use pg_syntax::Kind;
 
-/// A pattern for names of files: of --include, or of --exclude.
+/// Which files are searched, by their names.
 #[derive(Clone, Copy)]
-pub struct FileFilter<'a> {
-    /// Whether it is of --include: the files whose name it matches are kept. Else they are left out.
-    pub keeps: bool,
-    /// The pattern.
-    pub glob: &'a str,
+pub enum FileFilter<'a> {
+    /// --include GLOB: the files whose name it matches are kept.
+    Include(&'a str),
+    /// --exclude GLOB: they are left out.
+    Exclude(&'a str),
+    /// --exclude-from FILE: so are those whose name some line of the file matches. `-` is standard input.
+    ExcludeFrom(&'a str),
 }
 
 /// What the words ask for.
@@ -41,11 +43,17 @@ pub struct Request<'a> {
     pub format: Format,
     /// -H, -h, or neither: when rows have names.
     pub names: Naming,
+    /// --label NAME: what standard input is called.
+    pub label: Option<&'a str>,
     /// The FILE operands in their order, `-` for standard input; `-` alone where none is given.
     pub files: Vec<&'a str>,
-    /// -r: directories are visited.
+    /// -r, or -d recurse: directories are visited.
     pub recursive: bool,
-    /// The patterns of --include and --exclude in their order: which files are searched.
+    /// -d skip: directories are left out.
+    pub skips_directories: bool,
+    /// -D ACTION: what is done with devices, FIFOs and sockets.
+    pub devices: Option<DeviceAction>,
+    /// --include, --exclude and --exclude-from in their order: which files are searched.
     pub filters: Vec<FileFilter<'a>>,
     /// The patterns of --exclude-dir in their order: which directories aren't visited.
     pub excluded: Vec<&'a str>,

@@ -13,6 +13,10 @@ pub enum UsageFault {
     PerlExpressions,
     /// --binary-files is given with another type than `text`.
     OtherThanText,
+    /// -d is given with another action than `read`, `skip` and `recurse`.
+    UnknownDirectories,
+    /// -D is given with another action than `read` and `skip`.
+    UnknownDevices,
     /// More than one of -c, -l, -L and -q is given.
     SeveralModes,
     /// Both -E and -F are given.
@@ -37,6 +41,8 @@ impl UsageFault {
                 "-P is not supported: use -E, which has no lookaround, lazy repetition or back reference"
             }
             UsageFault::OtherThanText => "--binary-files may only be text, and can be left out",
+            UsageFault::UnknownDirectories => "-d may only be read, skip or recurse",
+            UsageFault::UnknownDevices => "-D may only be read or skip",
             UsageFault::SeveralModes => "only one of -c, -l, -L and -q may be given",
             UsageFault::ExtendedAndFixed => "only one of -E and -F may be given",
             UsageFault::NamesAndNoNames => "only one of -H and -h may be given",
@@ -72,6 +78,12 @@ pub fn check_usage(
     }
     if options.binary {
         return Err(UsageFault::OtherThanText);
+    }
+    if options.unknown_directories {
+        return Err(UsageFault::UnknownDirectories);
+    }
+    if options.unknown_devices {
+        return Err(UsageFault::UnknownDevices);
     }
     if options.has_several_modes() {
         return Err(UsageFault::SeveralModes);

@@ -16,9 +16,11 @@ ghost use Rattle.pg_words.specs.declared.words.WordsFault.TheVariants.{OutOfMemo
 use crate::case::ignores_case;
 use crate::command::{MAX_BLOCK, MAX_ROUND, MAX_WORKERS, search_command};
 use crate::filters::filters_of;
-use crate::matches::{flag, number_within, options_of, values_of};
+use crate::matches::{
+    devices_of, directories_of, flag, last_value, number_within, options_of, values_of,
+};
 use crate::operands::{Sources, place_operands, searched_files};
-use crate::options::Options;
+use crate::options::{DirectoryAction, Options};
 use crate::request::{FileFilter, Request};
 use crate::split::Words;
 use crate::usage::{UsageFault, check_usage};
@@ -83,8 +85,8 @@ impl<T: Drop> From<AllocFailed<T>> for WordsFault {
 ///
 /// `pargrep [options] [PATTERN] [FILE ...]`: PATTERN is the first operand where neither -e nor -f is
 /// given. Options may stand behind operands, until `--`. Of an option that is given twice the last
-/// one counts, and of -i and --no-ignore-case too; -e, -f and --exclude-dir collect, and --include and --exclude
-/// together, in one order. -C gives the lines before and after where -B or -A doesn't. -y is -i, and digits among
+/// one counts, and of -i and --no-ignore-case and of -d and -r too; -e, -f and --exclude-dir collect, and --include, --exclude and
+/// --exclude-from together, in one order. -C gives the lines before and after where -B or -A doesn't. -y is -i, and digits among
 /// letters are -C with that number. -G has no effect beside -E or -F, and -a, -U and --binary-files=text have none
 /// at all.
 ///
@@ -221,8 +223,11 @@ fn build_request<'a>(
         pieces: options.pieces,
         format: options.format(),
         names: options.naming(),
+        label: last_value(found, "label"),
         files,
         recursive: options.recursive,
+        skips_directories: DirectoryAction::skips(directories_of(found)),
+        devices: devices_of(found),
         filters,
         excluded,
         silent: flag(found, "no-messages"),

@@ -1,8 +1,11 @@
-use Rattle.std.proofs.Common.{◌≡◌, map, take}
+use Rattle.std.proofs.Common.{◌≡◌, ◌++◌, drop}
 use Rattle.pg_glob.specs.Views.{rules}
 use Rattle.pg_words.specs.Filters.{filters_of}
-use Rattle.pg_command.specs.Asked.{file_rule}
+use Rattle.pg_command.specs.Asked.{file_rules}
+use Rattle.pg_command.specs.Reading.{contents_of}
 use Rattle.pg_command.proofs.scope.file_filter.Given as goal
 
-abbrev pub invariant-loop-rule : goal.invariant-loop-rule
-invariant-loop-rule l = rules l.filter ≡ map file_rule (filters_of (take l.rule-index l.filters))
+abbrev pub invariant-loop-asked : goal.invariant-loop-asked
+invariant-loop-asked l =
+    rules l.filter ++ file_rules (filters_of (drop l.asked-index l.filters)) (contents_of l.left)
+    ≡ file_rules (filters_of l.filters) (contents_of l.contents)

@@ -1,17 +1,18 @@
-use Rattle.std.proofs.Common.{◌∙◌, map, ap, inr, refl, subst, sym}
+use Rattle.std.proofs.Common.{◌∙◌, map, ap, inl, inr, refl, subst, sym}
 use Rattle.std.specs.String.{string_bytes}
 use Rattle.pg_syntax.specs.Slices.{bytes_of}
 use Rattle.pg_walk.specs.Scopes.{scope_of}
 use Rattle.pg_files.specs.Listed.{asked_for, files_past, sought}
 use Rattle.pg_rows.specs.Sink.{Stream}
 use Rattle.pg_run.specs.Outcome.{BreaksOff, IsSearchFor}
-use Rattle.pg_command.specs.Asked.{asked_of, text_with}
-use Rattle.pg_command.specs.Answers.{Fails}
-use Rattle.pg_command.specs.Reading.{HasRead}
+use Rattle.pg_command.specs.Asked.{asked_of, glob_files, input_name, scope_for, text_with}
+use Rattle.pg_words.specs.Filters.{filters_of}
+use Rattle.pg_command.specs.Answers.{Fails, HasReadFor}
+use Rattle.pg_command.specs.Reading.{FailsToReadAll, HasRead, contents_of}
 use Rattle.pg_command.specs.declared.fault.Fault.{Fault}
 use Rattle.pg_command.proofs.ReadingLemmas.{if_err}
 use Rattle.pg_command.proofs.StatusLemmas.{finishes_small}
-use Rattle.pg_command.proofs.WorkLemmas.{finishes_so, first_sought, work_of}
+use Rattle.pg_command.proofs.WorkLemmas.{breaks_so, finishes_so, first_sought, work_of}
 use Rattle.std.proofs.lemmas.Result.{IfOk-from_err}
 use Rattle.pg_command.proofs.search.search.Goals as goal
 
@@ -19,8 +20,10 @@ pub returns-in_err-run-clause-fault : goal.returns-in_err-run-clause-fault
 returns-in_err-run-clause-fault g c =
     let asked = asked_of c.args.request.now in
     let contents = c.in_ok-lists.ensures.read.0 in
+    let globs = contents_of c.in_ok-globs.globs.items in
     let past = g.S.Store.past c.args.files.now.store in
-    let between = g.S.Store.past c.read_patterns.new.store in
+    let middle = g.S.Store.past c.read_patterns.new.store in
+    let between = g.S.Store.past c.read_globs.new.store in
     let files = c.run.new.files in
     let past' = g.S.Store.past files.store in
     let start = c.list_files.new.files in
@@ -29,39 +32,51 @@ returns-in_err-run-clause-fault g c =
     let tells = g.T.FileTree.tells in
     let answers = g.T.FileTree.answers in
     let tree = c.args.tree.now in
-    let read = subst (λ paths. HasRead past between (bytes_of paths) contents) c.as_slice.ensures.value
-    c.in_ok-lists.ensures.read.2 in
-    let first = first_sought tree start.walk.walker.tree.now asked start.walk.asked.items
+    let read : HasReadFor asked past between contents globs = (
+      middle,
+      subst (λ paths. HasRead past middle (bytes_of paths) contents) c.as_slice.ensures.value
+          c.in_ok-lists.ensures.read.2,
+      subst (λ filters. HasRead middle between (glob_files (filters_of filters)) globs) c.as_slice-2.ensures.value
+          c.in_ok-globs.ensures.read,
+    ) in
+    let first = first_sought tree start.walk.walker.tree.now asked globs start.walk.asked.items
     (map string_bytes start.walk.operands.items) (scope_of start.walk.walker.scope) start.spares_output
-    (g.S.Store.past start.store) between listed.fresh.0 listed.walk.0 listed.walk.1 listed.walk.2 listed.spares
-    (ap g.S.Store.past listed.store) in
+    (string_bytes start.input_name) (g.S.Store.past start.store) between listed.fresh.0 listed.walk.0 listed.walk.1
+    (listed.walk.2 ∙ ap (λ vs. scope_for asked (contents_of vs)) c.as_slice-3.ensures.value) listed.spares
+    listed.named (ap g.S.Store.past listed.store) in
     let at = sought files.walk.walker.tree.now (map string_bytes files.walk.operands.items)
     (scope_of files.walk.walker.scope)
-    files.spares_output (asked_for files.walk.asked.items) past' in
+    files.spares_output (string_bytes files.input_name) (asked_for files.walk.asked.items) past' in
     let out : Stream = g.W.Sink.stream c.args.out.now in
     let out' : Stream = g.W.Sink.stream c.run.new.out in
     let err : Stream = g.E.Sink.stream c.args.err.now in
-    let err' : Stream = g.E.Sink.stream c.run.new.faults in
+    let err' : Stream =
+    g.E.Sink.stream c.run.new.faults in
     let P : Fault → Type 0 = λ fault.
     Fails (tells tree) (answers tree) asked past past' out out' err err' fault in
     if_err P _ c.from_residual-in_err-run.result c.from_residual-in_err-run.ensures.1
-    (λ fault h. subst P (sym h) (inr (inr (record {
-      work = work_of tells answers tree asked between at (c.in_err-run.ensures.same_list ∙ first) past past' contents
+    (λ fault h. subst P (sym h) (inr (inr (inr (record {
+      work = work_of tells answers tree asked globs between at (c.in_err-run.ensures.same_list ∙ first) past past' contents
           read files.walk.asked.items files.begins c.in_ok-setup.setup listed.setup files.done files.all_asked
           files.are_opened files.are_spared refl;
       run = c.in_err-run.field-0.0;
       is = refl;
       breaks = subst (λ t. BreaksOff t c.in_ok-setup.setup
-          (files_past files.done (asked_for files.walk.asked.items) past') out out' err err' c.in_err-run.field-0.0)
-          text c.in_err-run.ensures.err;
-    }))))
+          (files_past (input_name asked) files.done (asked_for files.walk.asked.items) past') out out' err err'
+          c.in_err-run.field-0.0)
+          text (breaks_so tells answers tree asked globs between at (c.in_err-run.ensures.same_list ∙ first) _
+          c.in_ok-setup.setup files.done (asked_for files.walk.asked.items) past' out out' err err'
+          c.in_err-run.field-0.0 c.in_err-run.ensures.err);
+    })))))
 
 pub returns-clause-success : goal.returns-clause-success
 returns-clause-success g c =
     let asked = asked_of c.args.request.now in
     let contents = c.in_ok-lists.ensures.read.0 in
+    let globs = contents_of c.in_ok-globs.globs.items in
     let past = g.S.Store.past c.args.files.now.store in
-    let between = g.S.Store.past c.read_patterns.new.store in
+    let middle = g.S.Store.past c.read_patterns.new.store in
+    let between = g.S.Store.past c.read_globs.new.store in
     let files = c.run.new.files in
     let past' = g.S.Store.past files.store in
     let start = c.list_files.new.files in
@@ -70,25 +85,31 @@ returns-clause-success g c =
     let tells = g.T.FileTree.tells in
     let answers = g.T.FileTree.answers in
     let tree = c.args.tree.now in
-    let read = subst (λ paths. HasRead past between (bytes_of paths) contents) c.as_slice.ensures.value
-    c.in_ok-lists.ensures.read.2 in
-    let first = first_sought tree start.walk.walker.tree.now asked start.walk.asked.items
+    let read : HasReadFor asked past between contents globs = (
+      middle,
+      subst (λ paths. HasRead past middle (bytes_of paths) contents) c.as_slice.ensures.value
+          c.in_ok-lists.ensures.read.2,
+      subst (λ filters. HasRead middle between (glob_files (filters_of filters)) globs) c.as_slice-2.ensures.value
+          c.in_ok-globs.ensures.read,
+    ) in
+    let first = first_sought tree start.walk.walker.tree.now asked globs start.walk.asked.items
     (map string_bytes start.walk.operands.items) (scope_of start.walk.walker.scope) start.spares_output
-    (g.S.Store.past start.store) between listed.fresh.0 listed.walk.0 listed.walk.1 listed.walk.2 listed.spares
-    (ap g.S.Store.past listed.store) in
+    (string_bytes start.input_name) (g.S.Store.past start.store) between listed.fresh.0 listed.walk.0 listed.walk.1
+    (listed.walk.2 ∙ ap (λ vs. scope_for asked (contents_of vs)) c.as_slice-3.ensures.value) listed.spares
+    listed.named (ap g.S.Store.past listed.store) in
     let at = sought files.walk.walker.tree.now (map string_bytes files.walk.operands.items)
     (scope_of files.walk.walker.scope)
-    files.spares_output (asked_for files.walk.asked.items) past' in
+    files.spares_output (string_bytes files.input_name) (asked_for files.walk.asked.items) past' in
     let done = c.in_ok-run.ensures.ok in
     let is = c.in_ok-run.ensures.same_list ∙ first in
     record {
-      work = work_of tells answers tree asked between at is past past' contents read files.walk.asked.items
+      work = work_of tells answers tree asked globs between at is past past' contents read files.walk.asked.items
           files.begins c.in_ok-setup.setup listed.setup files.done files.all_asked files.are_opened files.are_spared
           refl;
       search = done.0;
       is_search = subst (λ t. IsSearchFor t done.0) text done.1;
-      finishes = finishes_so tells answers tree asked between at is done.0 c.in_ok-setup.setup
-          (files_past files.done (asked_for files.walk.asked.items) past') _ _ _ _ _ done.2;
+      finishes = finishes_so tells answers tree asked globs between at is done.0 c.in_ok-setup.setup
+          files.done (asked_for files.walk.asked.items) past' _ _ _ _ _ done.2;
     }
 
 pub returns-clause-small : goal.returns-clause-small
@@ -123,3 +144,95 @@ returns-in_err-run-clause-success g c =
 pub returns-in_err-run-clause-small : goal.returns-in_err-run-clause-small
 returns-in_err-run-clause-small g c =
     IfOk-from_err c.from_residual-in_err-run.result _ c.from_residual-in_err-run.ensures.0
+
+pub returns-in_err-globs-clause-success : goal.returns-in_err-globs-clause-success
+returns-in_err-globs-clause-success g c =
+    IfOk-from_err c.from_residual-in_err-globs.result _ c.from_residual-in_err-globs.ensures.0
+
+pub returns-in_err-globs-clause-small : goal.returns-in_err-globs-clause-small
+returns-in_err-globs-clause-small g c =
+    IfOk-from_err c.from_residual-in_err-globs.result _ c.from_residual-in_err-globs.ensures.0
+
+pub returns-in_err-globs-clause-fault : goal.returns-in_err-globs-clause-fault
+returns-in_err-globs-clause-fault g c =
+    let asked = asked_of c.args.request.now in
+    let contents = c.in_ok-lists.ensures.read.0 in
+    let past = g.S.Store.past c.args.files.now.store in
+    let middle = g.S.Store.past c.read_patterns.new.store in
+    let past' = g.S.Store.past c.read_globs.new.store in
+    let out : Stream = g.W.Sink.stream c.args.out.now in
+    let err : Stream = g.E.Sink.stream c.args.err.now in
+    let read = subst (λ paths. HasRead past middle (bytes_of paths) contents) c.as_slice.ensures.value
+    c.in_ok-lists.ensures.read.2 in
+    let P : Fault → Type 0 = λ fault.
+    Fails (g.T.FileTree.tells c.args.tree.now) (g.T.FileTree.answers c.args.tree.now) asked past past' out out err err
+    fault in
+    if_err P _ c.from_residual-in_err-globs.result c.from_residual-in_err-globs.ensures.1
+    (λ fault h. subst P (sym h) (inr (inl (record {
+      contents = contents;
+      middle = middle;
+      read = read;
+      stopped = subst (λ filters. FailsToReadAll (glob_files (filters_of filters)) middle past' c.in_err-globs.field-0.0)
+          c.as_slice-2.ensures.value c.in_err-globs.ensures.fault;
+      unwritten = (refl, refl);
+    }))))
+
+pub returns-in_err-text-clause-fault : goal.returns-in_err-text-clause-fault
+returns-in_err-text-clause-fault g c =
+    let asked = asked_of c.args.request.now in
+    let contents = c.in_ok-lists.ensures.read.0 in
+    let past = g.S.Store.past c.args.files.now.store in
+    let middle = g.S.Store.past c.read_patterns.new.store in
+    let past' = g.S.Store.past c.read_globs.new.store in
+    let out : Stream = g.W.Sink.stream c.args.out.now in
+    let err : Stream = g.E.Sink.stream c.args.err.now in
+    let read = subst (λ paths. HasRead past middle (bytes_of paths) contents) c.as_slice.ensures.value
+    c.in_ok-lists.ensures.read.2 in
+    let globs = contents_of c.in_ok-globs.globs.items in
+    let after = g.S.Store.past c.read_globs.new.store in
+    let P : Fault → Type 0 = λ fault.
+    Fails (g.T.FileTree.tells c.args.tree.now) (g.T.FileTree.answers c.args.tree.now) asked past after out out err err
+    fault in
+    if_err P _ c.from_residual-in_err-text.result c.from_residual-in_err-text.ensures.1
+    (λ fault h. subst P (sym h) (inr (inr (inl (record {
+      contents = contents;
+      globs = globs;
+      read = (
+        middle,
+        read,
+        subst (λ filters. HasRead middle past' (glob_files (filters_of filters)) globs) c.as_slice-2.ensures.value
+            c.in_ok-globs.ensures.read,
+      );
+      memory = refl;
+      unwritten = (refl, refl);
+    })))))
+
+pub returns-in_err-setup-clause-fault : goal.returns-in_err-setup-clause-fault
+returns-in_err-setup-clause-fault g c =
+    let asked = asked_of c.args.request.now in
+    let contents = c.in_ok-lists.ensures.read.0 in
+    let past = g.S.Store.past c.args.files.now.store in
+    let middle = g.S.Store.past c.read_patterns.new.store in
+    let past' = g.S.Store.past c.read_globs.new.store in
+    let out : Stream = g.W.Sink.stream c.args.out.now in
+    let err : Stream = g.E.Sink.stream c.args.err.now in
+    let read = subst (λ paths. HasRead past middle (bytes_of paths) contents) c.as_slice.ensures.value
+    c.in_ok-lists.ensures.read.2 in
+    let globs = contents_of c.in_ok-globs.globs.items in
+    let after = g.S.Store.past c.list_files.new.files.store in
+    let P : Fault → Type 0 = λ fault.
+    Fails (g.T.FileTree.tells c.args.tree.now) (g.T.FileTree.answers c.args.tree.now) asked past after out out err err
+    fault in
+    if_err P _ c.from_residual-in_err-setup.result c.from_residual-in_err-setup.ensures.1
+    (λ fault h. subst P (sym h) (inr (inr (inl (record {
+      contents = contents;
+      globs = globs;
+      read = subst (λ p. HasReadFor asked past p contents globs) (ap g.S.Store.past (sym c.in_err-setup.ensures.store)) (
+        middle,
+        read,
+        subst (λ filters. HasRead middle past' (glob_files (filters_of filters)) globs) c.as_slice-2.ensures.value
+            c.in_ok-globs.ensures.read,
+      );
+      memory = refl;
+      unwritten = (refl, refl);
+    })))))

@@ -18,6 +18,10 @@ returns c = λ us is options texts patterns files filters excluded.
         c.flag-2.ensures us is refl,
         c.flag-3.ensures us is refl,
         c.flag-4.ensures us is refl,
+        c.last_value.ensures us is refl,
+        c.devices_of.ensures us is,
+        c.skips.ensures,
+        c.directories_of.ensures us is,
       ) refl,
       rw (
         c.flag-5.ensures us is refl,

@@ -1,10 +1,11 @@
-use Rattle.std.proofs.Common.{◌∙◌, None, Some, map, ap, sym, take, ◌≡◌, ◌∷◌}
+use Rattle.std.proofs.Common.{◌∙◌, None, Some, map, ap, refl, sym, take, ◌≡◌, ◌∷◌}
 use Rattle.std.specs.String.{string_bytes}
 use Rattle.std.proofs.lemmas.Bool.{false≢true}
 use Rattle.std.proofs.Math.Logic.{∥∥₁_map}
 use Rattle.pg_walk.specs.Scopes.{scope_of}
 use Rattle.pg_walk.specs.Items.{found}
 use Rattle.pg_walk.specs.Left.{spots_in}
+use Rattle.pg_files.specs.Given.{names_in}
 use Rattle.pg_files.specs.Listed.{asked_for}
 use Rattle.pg_files.proofs.ListedLemmas.{all_given, asked_more, goes_on, next_opened, next_spared}
 use Rattle.pg_files.proofs.ListedLemmas.{none_more, one_more, same_begins}
@@ -47,10 +48,14 @@ returns-in_default-clause-all g c = λ _.
     asked asked c.in_ok-item.field-0 None (spots_in old.walk.walker.waiting.items) (spots_in new.waiting.items)
     c.in_default.is (none_more asked) (old.goes_on c.if-self.false)
     (c.in_ok-item.ensures.gives ops (map found asked)) in (
-      map found asked,
-      ∥∥₁_map given (λ h. c.what_is_given.ensures.whole ops (map found asked) h
-          (c.in_ok-item.ensures.end c.in_default.is)),
-      all_given asked (g.S.Store.past old.store) old.are_opened,
+      names_in (string_bytes old.input_name) (map found asked),
+      (
+        map found asked,
+        ∥∥₁_map given (λ h. c.what_is_given.ensures.whole ops (map found asked) h
+            (c.in_ok-item.ensures.end c.in_default.is)),
+        refl,
+      ),
+      all_given (string_bytes old.input_name) asked (g.S.Store.past old.store) old.are_opened,
     )
 
 pub invariant_of-self-2 : goal.invariant_of-self-2

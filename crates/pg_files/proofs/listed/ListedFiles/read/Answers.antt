@@ -7,7 +7,7 @@ use Rattle.pg_files.proofs.listed.ListedFiles.read.Goals as goal
 
 pub returns-clause-given : goal.returns-clause-given
 returns-clause-given g c =
-    read_by c.read.new.into (asked_for c.args.self.now.walk.asked.items) (g.S.Store.past c.args.self.now.store)
+    read_by (string_bytes c.args.self.now.input_name) c.read.new.into (asked_for c.args.self.now.walk.asked.items) (g.S.Store.past c.args.self.now.store)
     (g.S.Store.past c.read.new.self) c.read.result c.requires.reading c.read.ensures.given
 
 pub returns-clause-same_list : goal.returns-clause-same_list
@@ -18,8 +18,9 @@ returns-clause-same_list g c =
     same_sought g.T.FileTree.tells g.T.FileTree.answers (map string_bytes c.args.self.now.walk.operands.items)
     c.args.self.now.walk.walker.tree.now c.args.self.now.walk.walker.tree.now
     (scope_of c.args.self.now.walk.walker.scope)
-    (scope_of c.args.self.now.walk.walker.scope) refl refl c.args.self.now.spares_output asked asked past past'
-    (read_behind c.read.new.into asked past past' c.read.result c.requires.reading c.read.ensures.given)
+    (scope_of c.args.self.now.walk.walker.scope) refl refl c.args.self.now.spares_output
+    (string_bytes c.args.self.now.input_name) asked asked past past'
+    (read_behind (string_bytes c.args.self.now.input_name) c.read.new.into asked past past' c.read.result c.requires.reading c.read.ensures.given)
 
 pub read-requires : goal.read-requires
 read-requires g c = c.requires.room

@@ -1,0 +1,33 @@
+use Rattle.std.proofs.Common.{◌∙◌, ap, arith, codes, refl, List, ℕ}
+use Rattle.pg_words.specs.Asks.{has_other_action, has_other_directory_action, has_other_type, is_recursive}
+use Rattle.pg_words.proofs.matches.options_of.Goals as goal
+
+pub returns : goal.returns
+returns c = λ us is fold.
+    rw (
+      c.flag.ensures us is refl,
+      c.flag-2.ensures us is refl,
+      c.flag-3.ensures us is refl,
+      c.has_other_type.ensures ∙ ap has_other_type (c.values_of.ensures ∙ is.texts (codes "binary-files") refl),
+      c.has_other_directory_action.ensures
+          ∙ ap has_other_directory_action (c.values_of-2.ensures ∙ is.texts (codes "directories") refl),
+      c.has_other_action.ensures ∙ ap has_other_action (c.values_of-3.ensures ∙ is.texts (codes "devices") refl),
+      c.flag-4.ensures us is refl,
+      c.flag-5.ensures us is refl,
+      c.flag-6.ensures us is refl,
+      c.flag-7.ensures us is refl,
+      c.flag-8.ensures us is refl,
+      c.flag-9.ensures us is refl,
+      c.flag-10.ensures us is refl,
+      c.flag-11.ensures us is refl,
+      c.flag-12.ensures us is refl,
+      c.flag-13.ensures us is refl,
+      c.flag-14.ensures us is refl,
+      c.flag-15.ensures us is refl,
+      c.is_recursive.ensures ∙ ap is_recursive (c.directories_of.ensures us is),
+      c.number.ensures us is (1, 4294967295, refl, omega arith),
+      c.number-2.ensures us is (0, 4294967295, refl, omega arith),
+      c.small_number.ensures us is (0, 65535, refl, omega arith),
+      c.small_number-2.ensures us is (0, 65535, refl, omega arith),
+      fold,
+    ) refl
