@@ -1,6 +1,6 @@
 -- Between files, and a whole run.
 use Rattle.std.proofs.Common.{Result, Ok, Err}
-use Rattle.std.proofs.Common.{◌≡◌, inl, inr, ℕ, ◌+◌, ◌-◌, ◌<◌, ◌≤◌, ◌^◌, Bool, true, false, not, cond, List, [], ◌∷◌}
+use Rattle.std.proofs.Common.{◌≡◌, inl, inr, ℕ, ◌+◌, ◌-◌, ◌≤◌, ◌^◌, Bool, true, false, not, cond, List, [], ◌∷◌}
 use Rattle.std.proofs.Common.{◌++◌}
 use Rattle.std.proofs.Common.{drop, refl, sym, ap, ◌∙◌, subst, arith, append_assoc}
 use Rattle.std.specs.List.{list_any}

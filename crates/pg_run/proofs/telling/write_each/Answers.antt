@@ -1,4 +1,4 @@
-use Rattle.std.proofs.Common.{ap, drop}
+use Rattle.std.proofs.Common.{ap}
 use Rattle.std.proofs.lemmas.List.{drop_all}
 use Rattle.std.specs.List.{flat_map}
 use Rattle.pg_rows.proofs.WriteLemmas.{writes_part, left_none, left_whole}
