@@ -5,7 +5,7 @@ use Rattle.std.proofs.lemmas.List.{drop_all}
 use Rattle.pg_files.specs.Given.{Given}
 use Rattle.pg_words.specs.Filters.{filter_said, filters_of}
 use Rattle.pg_words.specs.declared.request.FileFilter.{FileFilter}
-use Rattle.pg_command.specs.Asked.{before_files, file_rules, glob_file, glob_files}
+use Rattle.pg_command.specs.Asked.{before_files, glob_file, glob_files}
 use Rattle.pg_command.specs.Reading.{FailsToReadAll, HasRead, StopsAt}
 use Rattle.pg_command.specs.declared.fault.Fault.{Fault}
 

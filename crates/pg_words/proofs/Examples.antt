@@ -1,5 +1,5 @@
 -- Worked examples of long names that are cut short, and of filters.
-use Rattle.std.proofs.Common.{◌≡◌, refl, true, false, [], ◌∷◌, codes, option_map, Some}
+use Rattle.std.proofs.Common.{◌≡◌, refl, [], ◌∷◌, codes, option_map, Some}
 use Rattle.pg_words.specs.Joined.{Free}
 use Rattle.pg_words.specs.Line.{Include, Exclude, ExcludeFrom, filters_in, table, uses_from}
 use Rattle.pg_words.specs.Asks.{directories_in}

@@ -1,4 +1,4 @@
-use Rattle.std.proofs.Common.{◌≡◌, ◌∙◌, ◌++◌, ◌∷◌, [], ap, inr, refl, subst, sym, option_map, Option, List, ℕ}
+use Rattle.std.proofs.Common.{◌∙◌, ◌++◌, ◌∷◌, [], ap, inr, refl, subst, sym, option_map}
 use Rattle.pg_rows.specs.Output.{Ended}
 use Rattle.pg_syntax.proofs.ListLemmas.{map-push}
 use Rattle.pg_words.specs.Filters.{filters_of}

@@ -1,4 +1,4 @@
-use Rattle.std.proofs.Common.{◌∙◌, ap, arith, codes, refl, List, ℕ}
+use Rattle.std.proofs.Common.{◌∙◌, ap, arith, codes, refl}
 use Rattle.pg_words.specs.Asks.{has_other_action, has_other_directory_action, has_other_type, is_recursive}
 use Rattle.pg_words.proofs.matches.options_of.Goals as goal
 
