@@ -27,7 +27,8 @@ sought_for tree asked globs earlier = record {
 }
 
 -- it is looked for, part by part
-pub is_sought : {X : Type 0} (tree : X) (asked : Asked) (globs : List (List ℕ)) (earlier : List Given) (s : Sought X) → s.tree ≡ tree
+pub is_sought : {X : Type 0} (tree : X) (asked : Asked) (globs : List (List ℕ)) (earlier : List Given) (s : Sought X)
+    → s.tree ≡ tree
     → s.operands ≡ asked.files → s.scope ≡ scope_for asked globs → s.spares ≡ spares_output asked.format.mode
     → s.input_name ≡ input_name asked → s.earlier ≡ earlier → s ≡ sought_for tree asked globs earlier
 is_sought {X} tree asked globs earlier s t o r p n e =
@@ -41,7 +42,8 @@ is_sought {X} tree asked globs earlier s t o r p n e =
     ∙ ap (at tree asked.files (scope_for asked globs) (spares_output asked.format.mode) (input_name asked)) e))))
 
 -- and so where nothing was asked for yet
-pub first_sought : {X A : Type 0} (tree tree' : X) (asked : Asked) (globs : List (List ℕ)) (items : List (Item A)) (operands : List (List ℕ))
+pub first_sought : {X A : Type 0} (tree tree' : X) (asked : Asked) (globs : List (List ℕ)) (items : List (Item A))
+    (operands : List (List ℕ))
     (scope : Scope) (spares : Bool) (input : List ℕ) (past between : List Given) → items ≡ [] → tree' ≡ tree
     → operands ≡ asked.files → scope ≡ scope_for asked globs → spares ≡ spares_output asked.format.mode
     → input ≡ input_name asked → past ≡ between

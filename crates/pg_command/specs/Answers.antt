@@ -65,8 +65,8 @@ HasReadFor asked past past' contents globs =
     (middle : List Given) × HasRead past middle asked.pattern_files contents
     × HasRead middle past' (glob_files asked.filters) globs
 
--- What was searched: the -f files and those of globs were read, then the operands walked over as far as items were asked for, each file
--- opened by its path, and nothing else. The items are the first ones of the walk, and where `done` says so all of them.
+-- What was searched: the -f files and those of globs were read, then the operands walked over as far as items were asked
+-- for, each file opened by its path, and nothing else. The items are the first ones of the walk, and where `done` says so all of them.
 -- What is known of the walk is all of it where the tree tells its answers; of any other tree that the items follow the
 -- operands. A file is refused because standard output goes there only where rows are written.
 pub record Work (tells : Type 0) (tree : Tree) (asked : Asked) (past past' : List Given) : Type 0 where

@@ -41,8 +41,8 @@ pub struct Told;
 /// # Errors
 ///
 /// `Told` where a fault ended the search, whose line went to `err`: that of the first -f file that
-/// can't be read, then that of the first file of globs, then that of the patterns, the first of them that has one, or of their size, and then
-/// those that end a run. `out` got a beginning of its output then.
+/// can't be read, then that of the first file of globs, then that of the patterns, the first of them that has one, or of
+/// their size, and then those that end a run. `out` got a beginning of its output then.
 pub fn answer<'t, R: Threads + Wait + Clock + Sync, T: FileTree, S: Store + Drop, W: Sink, E: Sink>(
     rt: &R,
     alloc: Global,
@@ -67,8 +67,8 @@ pub fn answer<'t, R: Threads + Wait + Clock + Sync, T: FileTree, S: Store + Drop
     }
 }
 
-/// Reads the files of patterns and those of globs, and searches the files that a walk over the operands gives. Nothing was
-/// asked of `files` yet.
+/// Reads the files of patterns and those of globs, and searches the files that a walk over the operands gives. Nothing
+/// was asked of `files` yet.
 fn search<'a, 't, R: Threads + Wait + Clock + Sync, T: FileTree, S: Store + Drop, W: Sink, E: Sink>(
     rt: &R,
     alloc: Global,

@@ -27,7 +27,8 @@ asked_more items item =
     ap reverse (map-append found items (item ∷ [])) ∙ reverse-append (map found items) (found item ∷ [])
 
 -- a file that is open goes on by bytes
-bytes_by : (input : List ℕ) (more : List ℕ) (items : List Found) (past : List Given) → is_reading (given_by input items past) ≡ true →
+bytes_by : (input : List ℕ) (more : List ℕ) (items : List Found) (past : List Given)
+    → is_reading (given_by input items past) ≡ true →
     given_by input items (gave_bytes more past) ≡ gave_bytes more (given_by input items past)
 bytes_by input more [] past r = absurd (false≢true r)
 bytes_by input more (Fault path cause ∷ items) past r = absurd (false≢true r)
@@ -36,7 +37,8 @@ bytes_by input more (AFile path ∷ items) (NoFile name cause ∷ past) r = refl
 bytes_by input more (AFile path ∷ items) (File name bytes ending ∷ past) r = refl
 
 -- and so by its end
-end_by : (input : List ℕ) (failed : Bool) (items : List Found) (past : List Given) → is_reading (given_by input items past) ≡ true →
+end_by : (input : List ℕ) (failed : Bool) (items : List Found) (past : List Given)
+    → is_reading (given_by input items past) ≡ true →
     given_by input items (gave_end failed past) ≡ gave_end failed (given_by input items past)
 end_by input failed [] past r = absurd (false≢true r)
 end_by input failed (Fault path cause ∷ items) past r = absurd (false≢true r)
@@ -59,7 +61,8 @@ read_by input into items past past' (Ok count) r gives =
 read_by input into items past past' (Err e) r gives = ap (given_by input items) gives ∙ end_by input true items past r
 
 -- what is behind the open file stays
-bytes_behind : (input : List ℕ) (more : List ℕ) (items : List Found) (past : List Given) → is_reading (given_by input items past) ≡ true →
+bytes_behind : (input : List ℕ) (more : List ℕ) (items : List Found) (past : List Given)
+    → is_reading (given_by input items past) ≡ true →
     drop (length (file_paths items)) (gave_bytes more past) ≡ drop (length (file_paths items)) past
 bytes_behind input more [] past r = absurd (false≢true r)
 bytes_behind input more (Fault path cause ∷ items) past r = absurd (false≢true r)
@@ -67,7 +70,8 @@ bytes_behind input more (AFile path ∷ items) [] r = refl
 bytes_behind input more (AFile path ∷ items) (NoFile name cause ∷ past) r = refl
 bytes_behind input more (AFile path ∷ items) (File name bytes ending ∷ past) r = refl
 
-end_behind : (input : List ℕ) (failed : Bool) (items : List Found) (past : List Given) → is_reading (given_by input items past) ≡ true →
+end_behind : (input : List ℕ) (failed : Bool) (items : List Found) (past : List Given)
+    → is_reading (given_by input items past) ≡ true →
     drop (length (file_paths items)) (gave_end failed past) ≡ drop (length (file_paths items)) past
 end_behind input failed [] past r = absurd (false≢true r)
 end_behind input failed (Fault path cause ∷ items) past r = absurd (false≢true r)
@@ -81,7 +85,8 @@ count_behind : (input : List ℕ) (into : List ℕ) (count : ℕ) (items : List 
 count_behind input into zero items past r = end_behind input false items past r
 count_behind input into (suc count) items past r = bytes_behind input (take (suc count) into) items past r
 
-pub read_behind : {E : Type 0} (input into : List ℕ) (items : List Found) (past past' : List Given) (result : Result ℕ E) →
+pub read_behind : {E : Type 0} (input into : List ℕ) (items : List Found) (past past' : List Given)
+    (result : Result ℕ E) →
     is_reading (given_by input items past) ≡ true → ReadGives into past past' result →
     drop (length (file_paths items)) past' ≡ drop (length (file_paths items)) past
 read_behind input into items past past' (Ok count) r gives =

@@ -10,9 +10,9 @@ use Rattle.pg_words.specs.declared.options.Naming.{Naming}
 use Rattle.pg_words.specs.declared.request.Request.{Request}
 
 -- the syntax of the patterns, the -e texts, the paths of the -f files, the options -i, -x, -w, -v, -z and -o, how rows
--- look and when they have names, the name of --label, the FILE operands, whether directories are visited and
--- whether they are left out, what -D asks for,
--- --include, --exclude and --exclude-from in their order, the patterns of --exclude-dir, and the option -s
+-- look and when they have names, the name of --label, the FILE operands, whether directories are visited and whether
+-- they are left out, what -D asks for, --include, --exclude and --exclude-from in their order, the patterns of
+-- --exclude-dir, and the option -s
 pub record Asked : Type 0 where
   pub kind : Kind
   pub texts : List (List ℕ)

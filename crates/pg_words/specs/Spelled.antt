@@ -1,6 +1,6 @@
 -- Further ways to write options: `-y` is `-i`, `-r` and `--recursive` are `--directories=recurse`, and digits among the
--- letters of a word are the number of -C. So `-n12ye x` is `-n -C12 -i -e x`, where each letter has a word of its own. As `getopt_long` has it, a long name may be
--- cut short where that leaves one option: `--inc=x` is `--include=x`.
+-- letters of a word are the number of -C. So `-n12ye x` is `-n -C12 -i -e x`, where each letter has a word of its own.
+-- As `getopt_long` has it, a long name may be cut short where that leaves one option: `--inc=x` is `--include=x`.
 use Rattle.std.specs.Prelude.{ℕ, ◌==◌, ◌&&◌, ◌||◌, Bool, false, not, if◌then◌else◌, List, [], ◌∷◌, ◌++◌, Option, Some}
 use Rattle.std.specs.Prelude.{None, codes, filter, is_some, length, map, slice_index, take, unwrap_or}
 use Rattle.std.specs.Char.{is_ascii_digit}

@@ -60,8 +60,8 @@ pub(crate) struct OptionRow(Names, &'static str, Behind);
 /// The options, and the operands: PATTERN, where neither -e nor -f is given, and each FILE. Of names that are equally
 /// close to a wrong one `clap` proposes the last. -G is read by nobody: it asks for what is taken without -E and -F,
 /// and has no effect beside them. Nor are -a and -U, for every file is text, nor -r, which is spelled out as -d.
-/// --always-spread serves tests alone, so
-/// that neither --help nor the manual page names it. -P is known to be refused with what to do instead.
+/// --always-spread serves tests alone, so that neither --help nor the manual page names it. -P is known to be refused
+/// with what to do instead.
 static OPTIONS: [OptionRow; 47] = [
     OptionRow(Names::Letter('q', &["silent"]), "quiet", Behind::Nothing),
     OptionRow(Names::Letter('E', &[]), "extended-regexp", Behind::Nothing),

@@ -85,10 +85,10 @@ impl<T: Drop> From<AllocFailed<T>> for WordsFault {
 ///
 /// `pargrep [options] [PATTERN] [FILE ...]`: PATTERN is the first operand where neither -e nor -f is
 /// given. Options may stand behind operands, until `--`. Of an option that is given twice the last
-/// one counts, and of -i and --no-ignore-case and of -d and -r too; -e, -f and --exclude-dir collect, and --include, --exclude and
-/// --exclude-from together, in one order. -C gives the lines before and after where -B or -A doesn't. -y is -i, and digits among
-/// letters are -C with that number. -G has no effect beside -E or -F, and -a, -U and --binary-files=text have none
-/// at all.
+/// one counts, and of -i and --no-ignore-case and of -d and -r too; -e, -f and --exclude-dir collect, and --include,
+/// --exclude and --exclude-from together, in one order. -C gives the lines before and after where -B or -A doesn't. -y
+/// is -i, and digits among letters are -C with that number. -G has no effect beside -E or -F, and -a, -U and
+/// --binary-files=text have none at all.
 ///
 /// The long names are GNU grep's, and --workers, --block and --round. One may be cut short where the rest of it leaves
 /// no other option. --help comes before --version, and both come before a fault that [`check_usage`] finds.

@@ -7,8 +7,8 @@ use Rattle.pg_files.proofs.listed.ListedFiles.read.Goals as goal
 
 pub returns-clause-given : goal.returns-clause-given
 returns-clause-given g c =
-    read_by (string_bytes c.args.self.now.input_name) c.read.new.into (asked_for c.args.self.now.walk.asked.items) (g.S.Store.past c.args.self.now.store)
-    (g.S.Store.past c.read.new.self) c.read.result c.requires.reading c.read.ensures.given
+    read_by (string_bytes c.args.self.now.input_name) c.read.new.into (asked_for c.args.self.now.walk.asked.items)
+    (g.S.Store.past c.args.self.now.store) (g.S.Store.past c.read.new.self) c.read.result c.requires.reading c.read.ensures.given
 
 pub returns-clause-same_list : goal.returns-clause-same_list
 returns-clause-same_list g c =
@@ -20,7 +20,8 @@ returns-clause-same_list g c =
     (scope_of c.args.self.now.walk.walker.scope)
     (scope_of c.args.self.now.walk.walker.scope) refl refl c.args.self.now.spares_output
     (string_bytes c.args.self.now.input_name) asked asked past past'
-    (read_behind (string_bytes c.args.self.now.input_name) c.read.new.into asked past past' c.read.result c.requires.reading c.read.ensures.given)
+    (read_behind (string_bytes c.args.self.now.input_name) c.read.new.into asked past past' c.read.result
+    c.requires.reading c.read.ensures.given)
 
 pub read-requires : goal.read-requires
 read-requires g c = c.requires.room
