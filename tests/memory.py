@@ -45,6 +45,9 @@ ALONE = """\
 -r -L x sparse missing empty
 -r --include=[af] --exclude-dir=c/ x tree row
 -r --exclude=*[!o]w --inc row -n -T -A 1 --no-group-sep x tree row
+-r -n --exclude-from=patterns --exclude-from missing x tree row
+-r -n --exclude-from=patterns -D skip x tree row
+-d skip -c --label=in x tree - row
 -e x -e a -e e row words
 -i -F WATER words
 -i -n -E W[A-C]TER|FIRE words
