@@ -2,13 +2,13 @@
 _pargrep() {
   local current=${COMP_WORDS[COMP_CWORD]} before=${COMP_WORDS[COMP_CWORD - 1]}
   local -a options=(
-    -A --after-context= -B --before-context= -C --context= -D --devices= -d --directories= -E --extended-regexp -F --fixed-strings -G
-    --basic-regexp -H --with-filename -L --files-without-match -T --initial-tab -U --binary -V --version -Z --null -a
-    --text -c --count -e --regexp= -f --file= -h --no-filename -i -y --ignore-case --no-ignore-case -l
-    --files-with-matches -m --max-count= -n --line-number -o --only-matching -q --quiet --silent -r
-    --recursive -s --no-messages -v --invert-match -w --word-regexp -x --line-regexp -z --null-data
-    --binary-files= --block= --exclude= --exclude-dir= --exclude-from= --help --include= --label=
-    --line-buffered --no-group-separator --round= --workers=
+    -A --after-context= -B --before-context= -C --context= -D --devices= -d --directories= -E --extended-regexp -F
+    --fixed-strings -G --basic-regexp -H --with-filename -L --files-without-match -T --initial-tab -U --binary -V
+    --version -Z --null -a --text -c --count -e --regexp= -f --file= -h --no-filename -i -y --ignore-case
+    --no-ignore-case -l --files-with-matches -m --max-count= -n --line-number -o --only-matching -q --quiet --silent
+    -r --recursive -s --no-messages -v --invert-match -w --word-regexp -x --line-regexp -z --null-data
+    --binary-files= --block= --exclude= --exclude-dir= --exclude-from= --help --include= --label= --line-buffered
+    --no-group-separator --round= --workers=
   )
   COMPREPLY=()
   case $before in
