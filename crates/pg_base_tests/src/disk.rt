@@ -1,7 +1,7 @@
 //! The system's tree, over directories that a test makes, and over a runtime that stands in for the system.
 use crate::memory::{assert_walked, walked};
 use crate::rows::{cut, halves};
-use pg_walk::{DiskTree, FileTree, LookFault};
+use pg_walk::{DiskTree, FileTree, LookFault, Scope};
 use refusing::Refusing;
 use std::alloc::{AllocError, Allocator, Global};
 use std::fs::{File, Metadata, OpenOptions};
@@ -42,7 +42,13 @@ fn a_small_stack_holds_all_levels(rt: HostRuntime) {
     let thread = thread::Builder::new()
         .stack_size(SMALL_STACK)
         .spawn(&rt, move || {
-            walked(alloc, alloc, &DiskTree::new(rt), &[operand], true)
+            walked(
+                alloc,
+                alloc,
+                &DiskTree::new(rt),
+                &[operand],
+                Scope::all(alloc, true),
+            )
         });
     let got = thread
         .expect(&rt, "a thread")
@@ -56,6 +62,14 @@ fn a_small_stack_holds_all_levels(rt: HostRuntime) {
 fn a_device_has_no_entries(rt: HostRuntime) {
     let listed = DiskTree::new(&rt).entries(rt.alloc(), "/dev/null");
     assert!(rt; matches!(listed, Err(LookFault::Failed)));
+}
+
+#[test]
+fn a_directory_is_one_by_two_paths(rt: HostRuntime) {
+    let tree = DiskTree::new(&rt);
+    let root = tree.identity("/");
+    assert!(rt; root.is_ok() && root == tree.identity("/dev/.."));
+    assert!(rt; root != tree.identity("/dev"));
 }
 
 /// A runtime that stands in for the system, with a directory `d/`.
@@ -191,7 +205,13 @@ fn walked_over<R: Files + Drop>(
     rt: R,
     operand: String,
 ) -> Result<String, AllocError> {
-    walked(alloc, alloc, &DiskTree::new(rt), &[operand], true)
+    walked(
+        alloc,
+        alloc,
+        &DiskTree::new(rt),
+        &[operand],
+        Scope::all(alloc, true),
+    )
 }
 
 /// A walk over a directory gives what a row wants.

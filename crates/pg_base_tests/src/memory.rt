@@ -1,6 +1,8 @@
 //! Walks over trees in memory.
 use crate::rows::{assert_text, cut, halves};
-use pg_walk::{FileKind, FileTree, Item, Listing, LookFault, MemTree, Node, Scope, Walker};
+use pg_walk::{
+    FileKind, FileTree, Identity, Item, Listing, LookFault, MemTree, Node, Scope, Walker,
+};
 use refusing::Refusing;
 use std::alloc::{AllocError, Allocator, Global};
 use std::cell::Cell;
@@ -30,6 +32,7 @@ fn dead_link() -> Node {
         kind: Some(FileKind::Link),
         target: None,
         listing: None,
+        identity: None,
     }
 }
 
@@ -48,13 +51,25 @@ fn node_of(rt: &impl Abort, alloc: Global, kind: &str, names: &[&str]) -> Node {
     }
 }
 
+/// The word for what stands at a path, and which file it is, by its number behind a `=`, if that can be told.
+fn told<'w>(rt: &impl Abort, word: &'w str) -> (&'w str, Option<Identity>) {
+    match word.split_once('=') {
+        Some((kind, number)) => {
+            let number = number.parse().expect(rt, "a number");
+            (kind, Some(Identity { device: 0, number }))
+        }
+        None => (word, None),
+    }
+}
+
 /// Adds a node by a line: a path, a word for what stands there, and the names that are listed there.
 fn add_node(rt: &impl Abort, alloc: Global, tree: &mut MemTree, line: &str) {
     let mut words = line.split(' ');
     let path = words.next().expect(rt, "a path");
-    let kind = words.next().expect(rt, "what stands there");
+    let (kind, identity) = told(rt, words.next().expect(rt, "what stands there"));
     let names: Vec<&str> = words.collect(alloc).expect(rt, "memory");
-    let node = node_of(rt, alloc, kind, names.as_slice());
+    let mut node = node_of(rt, alloc, kind, names.as_slice());
+    node.identity = identity;
     tree.add(path, node).expect(rt, "memory");
 }
 
@@ -118,16 +133,23 @@ fn show_walk<T: FileTree, A: Allocator + Copy>(
     Ok(())
 }
 
+/// A scope of all that is below operands, with links followed there or not.
+fn all_below(alloc: Global, follows: bool) -> Scope {
+    let mut scope = Scope::all(alloc, true);
+    scope.follows = follows;
+    scope
+}
+
 /// Walks over operands with the memory of `heap`, and shows the items.
 pub(crate) fn walked<T: FileTree, A: Allocator + Copy>(
     alloc: Global,
     heap: A,
     tree: &T,
     operands: &[String],
-    recursive: bool,
+    scope: Scope<A>,
 ) -> Result<String, AllocError> {
     let mut out = String::new(alloc);
-    let walker = Walker::new(heap, tree, operands, Scope::all(heap, recursive))?;
+    let walker = Walker::new(heap, tree, operands, scope)?;
     show_walk(walker, &mut out)?;
     Ok(out)
 }
@@ -166,11 +188,16 @@ impl FileTree for Failing<'_> {
         self.check()?;
         self.tree.entries(alloc, path)
     }
+
+    fn identity(&self, path: &str) -> Result<Identity, LookFault> {
+        self.check()?;
+        self.tree.identity(path)
+    }
 }
 
 /// Trees, with an empty line between them, and behind each what walks over its operands give: `walk` with all that is
-/// below them, `look` without; `fail` with all where the answer of the tree behind so many others fails, and `full`
-/// where there is no memory for it.
+/// below them, `follow` with links followed there too, `look` without; `fail` with all where the answer of the tree
+/// behind so many others fails, and `full` where there is no memory for it, `follow` between with links followed.
 const WALKS: &str = "d directory z a.txt a
 d/a directory b
 d/a/b file
@@ -296,7 +323,34 @@ full-4 d f => out of memory
 full-5 d f => out of memory
 full-6 d f => out of memory
 full-7 d f => out of memory
-full-8 d f => d/a:BadName d/a/x d/c f";
+full-8 d f => d/a:BadName d/a/x d/c f
+
+d directory=1 a dead one two up
+d/ directory=1
+d/a directory=2 b f
+d/a/ directory=2
+d/a/b link-to-directory=2 b f
+d/a/f file
+d/dead link-to-nothing
+d/one link-to-directory=3 x
+d/one/x file
+d/two link-to-directory=3 x
+d/two/x file
+d/up link-to-directory=1 a dead one two up
+walk d => d/a/f
+follow d => d/a/b:InCircle d/a/f d/dead:CannotOpen d/one/x d/two/x d/up:InCircle
+look d => d:IsDirectory
+
+d directory e
+d/ directory=1
+d/e directory=2 f
+d/e/f file
+fail-follow-3 d => d/e/f
+fail-follow-4 d => d/e/f
+fail-follow-5 d => d/e:CannotList
+full-follow-3 d => out of memory
+full-follow-4 d => out of memory
+full-follow-7 d => d/e/f";
 
 /// Walks over a tree of which the answer behind so many others fails.
 fn walk_failing(
@@ -305,6 +359,7 @@ fn walk_failing(
     passes: u32,
     fault: LookFault,
     operands: &[String],
+    follows: bool,
 ) -> Result<String, AllocError> {
     let failing = Failing {
         tree,
@@ -312,7 +367,7 @@ fn walk_failing(
         fault,
         asked: Cell::new(0),
     };
-    walked(alloc, alloc, &failing, operands, true)
+    walked(alloc, alloc, &failing, operands, all_below(alloc, follows))
 }
 
 /// The fault of an answer, by the word for it.
@@ -334,12 +389,16 @@ fn walk_as_asked(
     let (how, operands) = cut(rt, asked, " ");
     let operands = texts(rt, alloc, operands);
     match how {
-        "walk" => walked(alloc, alloc, tree, &operands, true),
-        "look" => walked(alloc, alloc, tree, &operands, false),
+        "walk" => walked(alloc, alloc, tree, &operands, all_below(alloc, false)),
+        "follow" => walked(alloc, alloc, tree, &operands, all_below(alloc, true)),
+        "look" => walked(alloc, alloc, tree, &operands, Scope::all(alloc, false)),
         how => {
             let (word, passes) = cut(rt, how, "-");
-            let passes = passes.parse().expect(rt, "a number of answers");
-            walk_failing(alloc, tree, passes, fault_of(rt, word), &operands)
+            let answers = passes.strip_prefix("follow-");
+            let passes = answers.unwrap_or(passes).parse();
+            let passes = passes.expect(rt, "a number of answers");
+            let fault = fault_of(rt, word);
+            walk_failing(alloc, tree, passes, fault, &operands, answers.is_some())
         }
     }
 }
@@ -384,7 +443,7 @@ const ALLOWED: &str =
 pub(crate) fn is_walked(rt: &impl Abort, alloc: Global, heap: &Refusing) -> bool {
     let tree = tree_of(rt, alloc, REFUSED);
     let operands = texts(rt, alloc, "d d - gone");
-    match walked(alloc, heap, &tree, &operands, true) {
+    match walked(alloc, heap, &tree, &operands, Scope::all(heap, true)) {
         Ok(shown) => !heap.has_refused() && shown.trim_start() == ALLOWED,
         Err(AllocError) => heap.has_refused(),
     }

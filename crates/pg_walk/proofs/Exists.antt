@@ -13,16 +13,17 @@ use Rattle.pg_walk.specs.Answers.{Text, Content}
 use Rattle.pg_walk.specs.Scopes.{Sight, Sights, Is, IsLeftOut, IsUntold}
 use Rattle.pg_walk.specs.Items.{Found, File, Fault}
 use Rattle.pg_walk.specs.Places.{Names, child, is_standard_input}
-use Rattle.pg_walk.specs.Walks.{place_cmp, Ascending, ItemsOf, FilesOf}
+use Rattle.pg_walk.specs.Walks.{place_cmp, directory_gives, Ascending, ItemsOf, FilesOf}
 use Rattle.pg_walk.specs.Descent.{EntryGives, InsideGives, OperandGives, Adds}
-use Rattle.pg_walk.specs.Left.{Spot, Operand, Entry, spot_gives, AreLeft}
+use Rattle.pg_walk.specs.Left.{Spot, Operand, Entry, spot_gives, AreLeft, shown}
 use Rattle.pg_walk.specs.declared.tree.FileKind.TheVariants.{Regular, Directory, Link, Other}
 use Rattle.pg_walk.specs.declared.item.Cause.TheVariants.{CannotOpen, IsDirectory, CannotList, BadName, TooDeep}
+use Rattle.pg_walk.specs.declared.item.Cause.TheVariants.{InCircle}
 use Rattle.pg_walk.proofs.Lists.{contains_none, contains_more, contains_one, front_or_rest, all_none, all_from_contains}
 use Rattle.pg_walk.proofs.Lists.{bytes_same}
-use Rattle.pg_walk.proofs.Steps.{entry_leaf, entry_deep, entry_inside, inside_fails, some_bad, some_good, some_more}
-use Rattle.pg_walk.proofs.Steps.{some_all, SomeGive, operand_standard, operand_kind, operand_none, operand_refused}
-use Rattle.pg_walk.proofs.Steps.{operand_inside}
+use Rattle.pg_walk.proofs.Steps.{entry_leaf, entry_deep, entry_circle, entry_inside, inside_fails, some_bad, some_good}
+use Rattle.pg_walk.proofs.Steps.{some_more, some_all, SomeGive, operand_standard, operand_kind, operand_none}
+use Rattle.pg_walk.proofs.Steps.{operand_refused, operand_circle, operand_inside}
 use Rattle.pg_walk.proofs.Steps.{first_none, first_more, first_all, FirstGive}
 
 -- one more name in its place among ascending ones; `more` are the later ones with it
@@ -166,17 +167,23 @@ entry_by : (a : Sights) (depth : ℕ) (path : Text) (o : Sight) → a.kind path 
     → (o ≡ Is Directory → HasItems (EntryGives a depth path)) → HasItems (EntryGives a depth path)
 entry_by a depth path IsUntold e directory = (
   Fault path CannotOpen ∷ [],
-  entry_leaf a depth path IsUntold (Some (Fault path CannotOpen)) e refl (λ k d. cc) [] _ refl,
+  entry_leaf a depth path IsUntold (Some (Fault path CannotOpen)) e refl (λ k d c. cc) [] _ refl,
 )
 entry_by a depth path (Is Regular) e directory =
-    (File path ∷ [], entry_leaf a depth path (Is Regular) (Some (File path)) e refl (λ k d. cc) [] _ refl)
+    (File path ∷ [], entry_leaf a depth path (Is Regular) (Some (File path)) e refl (λ k d c. cc) [] _ refl)
 entry_by a depth path (Is Link) e directory =
-    ([], entry_leaf a depth path (Is Link) None e refl (λ k d. cc) [] _ refl)
+    ([], entry_leaf a depth path (Is Link) None e refl (λ k d c. cc) [] _ refl)
 entry_by a depth path (Is Other) e directory =
-    ([], entry_leaf a depth path (Is Other) None e refl (λ k d. cc) [] _ refl)
+    ([], entry_leaf a depth path (Is Other) None e refl (λ k d c. cc) [] _ refl)
 entry_by a depth path IsLeftOut e directory =
-    ([], entry_leaf a depth path IsLeftOut None e refl (λ k d. cc) [] _ refl)
+    ([], entry_leaf a depth path IsLeftOut None e refl (λ k d c. cc) [] _ refl)
 entry_by a depth path (Is Directory) e directory = directory refl
+
+-- an entry that is a directory at most 256 levels down
+level_has : (a : Sights) (depth : ℕ) (path : Text) → a.kind path false ≡ Is Directory → depth ≤ 256
+    → HasItems (InsideGives a depth path) → (b : Bool) → a.circle depth path ≡ b → HasItems (EntryGives a depth path)
+level_has a depth path k h f true c = (Fault path InCircle ∷ [], entry_circle a depth path k h c [] _ refl)
+level_has a depth path k h f false c = (f.0, entry_inside a depth path k h c [] f.0 f.1)
 
 entry_has : (a : Sights) (levels depth : ℕ) → levels + depth ≡ 257 → (path : Text) → HasItems (EntryGives a depth path)
 entry_has a zero depth h path =
@@ -186,13 +193,19 @@ entry_has a (suc levels) depth h path =
     entry_by a depth path (a.kind path false) refl
     (λ e.
     let f = inside_by a depth path (a.content path) refl (entry_has a levels (depth + 1) (omega arith)) in
-    (f.0, entry_inside a depth path e (omega arith) [] f.0 f.1))
+    level_has a depth path e (omega arith) f (a.circle depth path) refl)
+
+visited_has : (a : Sights) (r : Bool) (path : Text) → is_standard_input path ≡ false → r ≡ true
+    → a.kind path true ≡ Is Directory → (b : Bool) → a.circle 0 path ≡ b → HasItems (OperandGives a r path)
+visited_has a r path s t k true c =
+    (shown (directory_gives path (a.content path)), operand_circle a r path s t k c)
+visited_has a r path s t k false c =
+    let f = inside_by a 0 path (a.content path) refl (entry_has a 256 1 refl) in
+    (f.0, operand_inside a r path s t k c [] f.0 f.1)
 
 directory_has : (a : Sights) (r : Bool) (path : Text) → is_standard_input path ≡ false
     → a.kind path true ≡ Is Directory → (b : Bool) → r ≡ b → HasItems (OperandGives a r path)
-directory_has a r path s k true t =
-    let f = inside_by a 0 path (a.content path) refl (entry_has a 256 1 refl) in
-    (f.0, operand_inside a r path s t k [] f.0 f.1)
+directory_has a r path s k true t = visited_has a r path s t k (a.circle 0 path) refl
 directory_has a r path s k false t = (Fault path IsDirectory ∷ [], operand_refused a r path s t k [] _ refl)
 
 kind_has : (a : Sights) (r : Bool) (path : Text) → is_standard_input path ≡ false → (o : Sight)

@@ -7,3 +7,4 @@ pub mod Only
 pub mod Exists
 pub mod Examples
 pub mod WithinLemmas
+pub mod CircleLemmas

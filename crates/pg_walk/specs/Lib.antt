@@ -1,4 +1,6 @@
 pub mod Answers
+pub mod Paths
+pub mod Circles
 pub mod Scopes
 pub mod Items
 pub mod Places

@@ -1,8 +1,9 @@
 -- What a walk is asked for, and what it sees of a tree by that.
-use Rattle.std.specs.Prelude.{◌≡◌, ◌||◌, Bool, if◌then◌else◌, List, Option, Some, None, Result, Ok, Err}
+use Rattle.std.specs.Prelude.{ℕ, ◌≡◌, ◌||◌, ◌&&◌, Bool, if◌then◌else◌, List, Option, Some, None, Result, Ok, Err}
 use Rattle.pg_glob.specs.Filters.{Rule, leaves_out}
 use Rattle.pg_glob.specs.Views.{rules}
 use Rattle.pg_walk.specs.Answers.{Text, Content, Answers}
+use Rattle.pg_walk.specs.Circles.{lies_in_itself}
 use Rattle.pg_walk.specs.declared.scope.Devices.{Devices}
 use Rattle.pg_walk.specs.declared.scope.Devices.TheVariants.{ReadOperands, Read, Skip}
 use Rattle.pg_walk.specs.declared.scope.Scope.{Scope as ScopeOfCode}
@@ -11,10 +12,11 @@ use Rattle.pg_walk.specs.declared.tree.FileKind.TheVariants.{Regular, Directory,
 use Rattle.pg_walk.specs.declared.tree.LookFault.{LookFault}
 use Rattle.pg_walk.specs.declared.tree.LookFault.TheVariants.{Failed, OutOfMemory}
 
--- Whether directories are visited, whether all of them are left out, what is done with devices, which files are left
--- out, and which directories, with all that is in them.
+-- Whether directories are visited, whether links are followed below operands too, whether all directories are left out,
+-- what is done with devices, which files are left out, and which directories, with all that is in them.
 pub record Scope : Type 0 where
   pub recursive : Bool
+  pub follows : Bool
   pub skips_directories : Bool
   pub devices : Devices
   pub files : List Rule
@@ -23,6 +25,7 @@ pub record Scope : Type 0 where
 abbrev pub scope_of : {A : Type 0} → ScopeOfCode A → Scope
 scope_of scope = record {
   recursive = scope.recursive;
+  follows = scope.follows;
   skips_directories = scope.skips_directories;
   devices = scope.devices;
   files = rules scope.files;
@@ -68,22 +71,24 @@ pub data Sight : Type 0 where
   IsLeftOut : Sight
   IsUntold : Sight
 
--- A tree as a walk sees it: at each path what is there, with links followed where the flag is true, and what the
--- directory there holds.
+-- A tree as a walk sees it: what is at a path, that of an operand where the flag is true; what the directory there
+-- holds; and whether links lead in a circle to the directory at the path of an entry so many names below its operand.
 pub record Sights : Type 0 where
   pub kind : Text → Bool → Sight
   pub content : Text → Option Content
+  pub circle : ℕ → Text → Bool
 
 abbrev pub sight : Scope → Bool → Text → Option FileKind → Sight
 sight scope operand path None = IsUntold
 sight scope operand path (Some kind) =
     if is_left_out scope operand path kind then IsLeftOut else Is (seen_as scope.devices kind)
 
--- what is seen of a tree that answers so; links are followed at operands alone
+-- what is seen of a tree that answers so: links are followed at operands, and below them where the scope does
 abbrev pub sights : Scope → Answers → Sights
 sights scope a = record {
-  kind = λ path follow. sight scope follow path (a.kind path follow);
+  kind = λ path operand. sight scope operand path (a.kind path (operand || scope.follows));
   content = a.content;
+  circle = λ depth path. scope.follows && lies_in_itself a depth path;
 }
 
 -- a look gave what is seen, unless the tree was out of memory

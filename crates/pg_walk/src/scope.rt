@@ -41,11 +41,13 @@ impl Devices {
     }
 }
 
-/// What a walk is asked for: whether it goes into directories, what is done with devices, and which files and
-/// directories it leaves out.
+/// What a walk is asked for: whether it goes into directories, where it follows links, what is done with devices, and
+/// which files and directories it leaves out.
 pub struct Scope<A: Allocator = Global> {
     /// Whether directories are visited.
     pub recursive: bool,
+    /// Whether links are followed below operands too. At operands they always are.
+    pub follows: bool,
     /// Whether all directories are left out, operands too.
     pub skips_directories: bool,
     /// What is done with devices, FIFOs and sockets.
@@ -60,6 +62,7 @@ impl<A: Allocator> Drop for Scope<A> {
     fn drop(self) {
         let Scope {
             recursive: _,
+            follows: _,
             skips_directories: _,
             devices: _,
             files: _,
@@ -69,12 +72,14 @@ impl<A: Allocator> Drop for Scope<A> {
 }
 
 impl<A: Allocator> Scope<A> {
-    /// Nothing is left out, and directories are visited or not. Devices are read where they are operands.
+    /// Nothing is left out, and directories are visited or not. Links are followed at operands alone, and devices are
+    /// read where they are operands.
     pub fn all(alloc: A, recursive: bool) -> Scope<A>
     where
         A: Copy,
         ensures { scope_of result ≡ record {
           recursive = recursive;
+          follows = false;
           skips_directories = false;
           devices = ReadOperands;
           files = [];
@@ -83,6 +88,7 @@ impl<A: Allocator> Scope<A> {
     {
         Scope {
             recursive,
+            follows: false,
             skips_directories: false,
             devices: Devices::ReadOperands,
             files: Filter::new(alloc),
@@ -120,7 +126,8 @@ impl<A: Allocator> Scope<A> {
     }
 }
 
-/// The kind that what stands at a path is seen as, unless it is left out. Links are followed at operands alone.
+/// The kind that what stands at a path is seen as, unless it is left out. Links are followed at operands, and below
+/// them where the scope does so.
 pub(crate) fn look<A: Allocator, T: FileTree>(
     tree: &T,
     scope: &Scope<A>,
@@ -132,7 +139,7 @@ pub(crate) fn look<A: Allocator, T: FileTree>(
     ensures left_out { operand ≡ true → IfOk result (λ kind. kind ≡ None →
         may_leave_out (scope_of scope.now) path.now ≡ true) }
 {
-    let kind = tree.kind(path, operand)?;
+    let kind = tree.kind(path, operand || scope.follows)?;
     if scope.leaves_out(operand, path, kind) {
         Ok(None)
     } else {

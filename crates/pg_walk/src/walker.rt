@@ -15,6 +15,7 @@ ghost use Rattle.pg_walk.specs.Within.{BelongTo, IsWithin};
 ghost use Rattle.pg_walk.specs.Left.{Operand, Entry, HasGiven, MayGive, Unfolds, UnfoldsWithin};
 ghost use Rattle.pg_walk.specs.Left.{shown, spot_of, spots_in, spot_gives};
 
+use crate::circle::is_in_circle;
 use crate::item::{Cause, Item};
 use crate::scope::{Scope, look};
 use crate::tree::{FileKind, FileTree, LookFault};
@@ -135,6 +136,8 @@ fn entry<A: Allocator + Copy, T: FileTree>(
         Ok(Some(FileKind::Directory)) => {
             if depth > DEEPEST {
                 Ok(Some(Item::Fault(path, Cause::TooDeep)))
+            } else if is_in_circle(tree, scope, path.as_str(), depth)? {
+                Ok(Some(Item::Fault(path, Cause::InCircle)))
             } else {
                 inside(alloc, tree, path, depth, waiting)
             }
@@ -230,8 +233,14 @@ fn operands_waiting<A: Allocator + Copy, B: Allocator>(
 /// each with all that is below it, and so on down to 256 levels. A fault stands where its name
 /// stands, that of a bad name before the directory's entries, and hides no other item.
 ///
-/// Links are followed at operands alone. Below them links give nothing, and nor do pipes, sockets
-/// and devices. What the scope leaves out gives nothing either, once the tree has told its kind.
+/// Links are followed at operands. Below them links give nothing, unless the scope follows them there
+/// too: then what they lead to is given under their own paths, as often as they lead to it. But a
+/// directory that is one of those that it lies in is a fault, and isn't visited. To find such ones,
+/// the tree is asked d + 1 more questions at each directory d names below its operand: which file it
+/// is, and which each of those is that it lies in.
+///
+/// Pipes, sockets and devices give nothing below operands, unless the scope reads them. What the scope
+/// leaves out gives nothing either, once the tree has told its kind.
 ///
 /// The walk holds the paths that wait: the operands that are left, and of each directory that it is
 /// inside those entries that are left. A directory is listed when its turn comes.

@@ -8,7 +8,8 @@ use Rattle.pg_files.proofs.listed.ListedFiles.read.Goals as goal
 pub returns-clause-given : goal.returns-clause-given
 returns-clause-given g c =
     read_by (string_bytes c.args.self.now.input_name) c.read.new.into (asked_for c.args.self.now.walk.asked.items)
-    (g.S.Store.past c.args.self.now.store) (g.S.Store.past c.read.new.self) c.read.result c.requires.reading c.read.ensures.given
+    (g.S.Store.past c.args.self.now.store) (g.S.Store.past c.read.new.self) c.read.result c.requires.reading
+    c.read.ensures.given
 
 pub returns-clause-same_list : goal.returns-clause-same_list
 returns-clause-same_list g c =
