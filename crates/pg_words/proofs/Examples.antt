@@ -2,7 +2,8 @@
 use Rattle.std.proofs.Common.{◌≡◌, refl, [], ◌∷◌, codes, option_map, Some}
 use Rattle.pg_words.specs.Joined.{Free}
 use Rattle.pg_words.specs.Line.{Include, Exclude, ExcludeFrom, filters_in, table, uses_from}
-use Rattle.pg_words.specs.Asks.{directories_in}
+use Rattle.pg_words.specs.Asks.{coloring_in, directories_in}
+use Rattle.pg_words.specs.declared.options.Coloring.TheVariants.{Always}
 use Rattle.pg_words.specs.declared.options.DirectoryAction.TheVariants.{Skip, Recurse}
 use Rattle.pg_words.specs.Spelled.{full_name, full_word, spelled_from, uses_in}
 
@@ -29,12 +30,21 @@ longer : full_word table (codes "--exclude-d=x") ≡ codes "--exclude-dir=x"
 unfolding full_name
 longer = refl
 
+-- what has no value is spelled out with one, by any of its names
+color : full_word table (codes "--colo") ≡ codes "--color=auto"
+unfolding full_name
+color = refl
+
+colour : full_word table (codes "--colour=always") ≡ codes "--colour=always"
+unfolding full_name
+colour = refl
+
 -- line-number, line-regexp and line-buffered
 several : full_word table (codes "--line") ≡ codes "--line"
 unfolding full_name
 several = refl
 
-unknown : full_word table (codes "--colo") ≡ codes "--colo"
+unknown : full_word table (codes "--colon") ≡ codes "--colon"
 unfolding full_name
 unknown = refl
 
@@ -61,16 +71,34 @@ words = refl
 -- the filters of all three options stand in one order, and what is no filter is left out
 filters : option_map filters_in (uses_in (codes "--include=*.c" ∷ codes "--exclude" ∷ codes "a*" ∷ codes
     "--exclude-dir=d"
-    ∷ codes "--exclude-from" ∷ codes "f" ∷ codes "x" ∷ codes "--inc" ∷ codes "--" ∷ codes "--" ∷ codes "--include=y" ∷ []))
+    ∷ codes "--exclude-from" ∷ codes "f" ∷ codes "x" ∷ codes "--inc" ∷ codes "--" ∷ codes "--"
+    ∷ codes "--include=y" ∷ []))
     ≡ Some (Include (codes "*.c") ∷ Exclude (codes "a*") ∷ ExcludeFrom (codes "f") ∷ Include (codes "--") ∷ [])
 unfolding full_name spelled_from uses_from
 filters = refl
 
--- the last of -d and -r counts, however they are written
+-- the word behind --color is no value of it
+not_behind : spelled_from table Free (codes "--col" ∷ codes "always" ∷ codes "--colour" ∷ codes "-nR" ∷ [])
+    ≡ codes "--color=auto" ∷ codes "always" ∷ codes "--color=auto" ∷ codes "-n" ∷ codes "-R" ∷ codes "-drecurse" ∷ []
+unfolding full_name spelled_from
+not_behind = refl
+
+-- the last --color counts, by any of its names, and its word in either case
+colored : option_map coloring_in (uses_in (codes "--color=No" ∷ codes "--colour=YES" ∷ codes "x" ∷ []))
+    ≡ Some Always
+unfolding full_name spelled_from uses_from
+colored = refl
+
+-- the last of -d, -r and -R counts, however they are written
 visited : option_map directories_in (uses_in (codes "-d" ∷ codes "skip" ∷ codes "-nr" ∷ codes "x" ∷ []))
     ≡ Some (Some Recurse)
 unfolding full_name spelled_from uses_from
 visited = refl
+
+left_out_below : option_map directories_in (uses_in (codes "--dereference" ∷ codes "-dskip" ∷ codes "x" ∷ []))
+    ≡ Some (Some Skip)
+unfolding full_name spelled_from uses_from
+left_out_below = refl
 
 left_out : option_map directories_in (uses_in (codes "--rec" ∷ codes "-nd" ∷ codes "skip" ∷ codes "x" ∷ []))
     ≡ Some (Some Skip)

@@ -95,7 +95,13 @@ all_rows = (
                                                                                       (refl, refl, refl, refl),
                                                                                       (
                                                                                         (refl, refl, refl, refl),
-                                                                                        ((refl, refl, refl, refl), ((refl, refl, refl, refl), tt)),
+                                                                                        (
+                                                                                          (refl, refl, refl, refl),
+                                                                                          (
+                                                                                            (refl, refl, refl, refl),
+                                                                                            ((refl, refl, refl, refl), ((refl, refl, refl, refl), tt)),
+                                                                                          ),
+                                                                                        ),
                                                                                       ),
                                                                                     ),
                                                                                   ),

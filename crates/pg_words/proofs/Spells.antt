@@ -11,7 +11,7 @@ use Rattle.clap.specs.Lexer.{short_of}
 use Rattle.clap.proofs.WalkLemmas.{both}
 use Rattle.pg_words.specs.Joined.{Place, Free, Rest, ValueOf, waits}
 use Rattle.pg_words.specs.Line.{Text, by_letter, is_mark, table}
-use Rattle.pg_words.specs.Spelled.{full_word, is_flag, letter_word, letter_words, newer_letter, number_words}
+use Rattle.pg_words.specs.Spelled.{flag_words, full_word, is_flag, letter_words, newer_letter, number_words}
 use Rattle.pg_words.specs.Spelled.{place_behind}
 use Rattle.pg_words.specs.Spelled.{rest_word, spelled_from, spelled_word}
 use Rattle.pg_words.proofs.Found.{ascii_letters}
@@ -108,14 +108,15 @@ module _ (before : List Text) (w digits rest : Text) (x : ℕ) where
 
   pub flag_step : (after : List Text) → is_ascii_digit x ≡ false
       → (is_ascii_digit x || is_flag (by_letter table (newer_letter x))) ≡ true
-      → after ≡ before ++ number_words digits ++ letter_word (newer_letter x) ∷ []
+      → after ≡ before ++ number_words digits ++ flag_words (newer_letter x)
       → after ++ letter_words table w [] rest ≡ before ++ letter_words table w digits (x ∷ rest)
   flag_step after digit own is =
       let flag : is_flag (by_letter table (newer_letter x)) ≡ true =
       ap (λ (b : Bool). b || is_flag (by_letter table (newer_letter x))) (sym digit) ∙ own in
-      let one : List Text = letter_word (newer_letter x) ∷ [] in
-      rw (digit, flag, is) (append_assoc (before ++ number_words digits) one (letter_words table w [] rest)
-      ∙ append_assoc before (number_words digits) (one ++ letter_words table w [] rest))
+      let own_words : List Text = flag_words (newer_letter x) in
+      rw (digit, flag, is)
+      (ap (λ (l : List Text). l ++ letter_words table w [] rest) (append_assoc before (number_words digits) own_words)
+      ∙ append_assoc before (number_words digits ++ own_words) (letter_words table w [] rest))
 
   pub rest_step : (after : List Text) → (is_ascii_digit x || is_flag (by_letter table (newer_letter x))) ≡ false
       → after ≡ before ++ number_words digits ++ rest_word w (x ∷ rest) ∷ []

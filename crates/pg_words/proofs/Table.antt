@@ -49,14 +49,14 @@ letter_found_by : (n : Names) (name : Bor Text) (b : Behind) (rows : List Option
     → has_value_behind b ≡ takes_value (by_letter (opts_of (row n name b ∷ rows)) x)
 letter_found_by (names.Letter letter others) name b rows x e =
     rw e (same_value (Some letter) name.now (map (λ other. other.now) others.now) b)
-letter_found_by names.Long name b rows x e = cc
+letter_found_by (names.Long others) name b rows x e = cc
 letter_found_by names.Place name b rows x e = cc
 
 letter_passed_by : (n : Names) (name : Bor Text) (b : Behind) (rows : List OptionRow) (x : ℕ)
     → has_letter (row n name b) x ≡ false
     → by_letter (opts_of (row n name b ∷ rows)) x ≡ by_letter (opts_of rows) x
 letter_passed_by (names.Letter letter others) name b rows x e = rw e refl
-letter_passed_by names.Long name b rows x e = refl
+letter_passed_by (names.Long others) name b rows x e = refl
 letter_passed_by names.Place name b rows x e = refl
 
 pub letter_found : (r : OptionRow) (rows : List OptionRow) (x : ℕ) → has_letter r x ≡ true
@@ -72,7 +72,7 @@ flag_found_by : (n : Names) (name : Bor Text) (b : Behind) (rows : List OptionRo
     → not (has_value_behind b) ≡ is_flag (by_letter (opts_of (row n name b ∷ rows)) x)
 flag_found_by (names.Letter letter others) name b rows x e =
     rw e (ap not (same_value (Some letter) name.now (map (λ other. other.now) others.now) b))
-flag_found_by names.Long name b rows x e = cc
+flag_found_by (names.Long others) name b rows x e = cc
 flag_found_by names.Place name b rows x e = cc
 
 pub flag_found : (r : OptionRow) (rows : List OptionRow) (x : ℕ) → has_letter r x ≡ true
@@ -85,12 +85,10 @@ name_found_by : (n : Names) (own : Bor Text) (b : Behind) (rows : List OptionRow
 name_found_by (names.Letter letter others) own b rows name e =
     rw (any_map (λ (other : Text). bytes_eq other name) others.now, e)
     (same_value (Some letter) own.now (map (λ other. other.now) others.now) b)
-name_found_by names.Long own b rows name e = rw e (same_value None own.now [] b)
+name_found_by (names.Long others) own b rows name e =
+    rw (any_map (λ (other : Text). bytes_eq other name) others.now, e)
+    (same_value None own.now (map (λ other. other.now) others.now) b)
 name_found_by names.Place own b rows name e = cc
-
-or_false : (b : Bool) → (b || false) ≡ b
-or_false true = refl
-or_false false = refl
 
 and_false : (b : Bool) → (b && false) ≡ false
 and_false true = refl
@@ -101,7 +99,8 @@ name_passed_by : (n : Names) (own : Bor Text) (b : Behind) (rows : List OptionRo
     → by_name (opts_of (row n own b ∷ rows)) name ≡ by_name (opts_of rows) name
 name_passed_by (names.Letter letter others) own b rows name e =
     rw (any_map (λ (other : Text). bytes_eq other name) others.now, e) refl
-name_passed_by names.Long own b rows name e = rw e refl
+name_passed_by (names.Long others) own b rows name e =
+    rw (any_map (λ (other : Text). bytes_eq other name) others.now, e) refl
 name_passed_by names.Place own b rows name e = refl
 
 pub name_found : (r : OptionRow) (rows : List OptionRow) (name : Text) → has_name r name ≡ true
@@ -116,7 +115,8 @@ name_some_by : (n : Names) (own : Bor Text) (b : Behind) (rows : List OptionRow)
     → has_name (row n own b) name ≡ true → is_some (by_name (opts_of (row n own b ∷ rows)) name) ≡ true
 name_some_by (names.Letter letter others) own b rows name e =
     rw (any_map (λ (other : Text). bytes_eq other name) others.now, e) refl
-name_some_by names.Long own b rows name e = rw e refl
+name_some_by (names.Long others) own b rows name e =
+    rw (any_map (λ (other : Text). bytes_eq other name) others.now, e) refl
 name_some_by names.Place own b rows name e = cc
 
 -- ---- names that are cut short
@@ -126,7 +126,8 @@ begun_by : (n : Names) (own : Bor Text) (b : Behind) (rows : List OptionRow) (st
     → names_begun (opts_of (row n own b ∷ rows)) start ≡ own.now ∷ names_begun (opts_of rows) start
 begun_by (names.Letter letter others) own b rows start e =
     rw (any_map (λ (other : Text). begins other start) others.now, e) refl
-begun_by names.Long own b rows start e = rw (or_false (begins own.now start), e) refl
+begun_by (names.Long others) own b rows start e =
+    rw (any_map (λ (other : Text). begins other start) others.now, e) refl
 begun_by names.Place own b rows start e = absurd (true≢false (sym e ∙ and_false _))
 
 not_begun_by : (n : Names) (own : Bor Text) (b : Behind) (rows : List OptionRow) (start : Text)
@@ -134,7 +135,8 @@ not_begun_by : (n : Names) (own : Bor Text) (b : Behind) (rows : List OptionRow)
     → names_begun (opts_of (row n own b ∷ rows)) start ≡ names_begun (opts_of rows) start
 not_begun_by (names.Letter letter others) own b rows start e =
     rw (any_map (λ (other : Text). begins other start) others.now, e) refl
-not_begun_by names.Long own b rows start e = rw (or_false (begins own.now start), e) refl
+not_begun_by (names.Long others) own b rows start e =
+    rw (any_map (λ (other : Text). begins other start) others.now, e) refl
 not_begun_by names.Place own b rows start e = refl
 
 -- the name that was found so far
@@ -153,6 +155,24 @@ map_pairs : (others : List (Bor Text)) → map (λ (alias : Bor Text × Bool). a
 map_pairs [] = refl
 map_pairs (other ∷ others) = ap (λ (l : List Text). other.now ∷ l) (map_pairs others)
 
+texts_of : (long arg : Arg) (others : Bor (List (Bor Text))) → long.aliases.items ≡ []
+    → arg.aliases.items ≡ long.aliases.items ++ map (λ n. (n, false)) others.now
+    → map (λ alias. alias.0.now) arg.aliases.items ≡ map (λ other. other.now) others.now
+texts_of long arg others none adds =
+    ap (map (λ (alias : Bor Text × Bool). alias.0.now)) (adds ∙ ap (λ l. l ++ map (λ n. (n, false)) others.now) none)
+    ∙ map_pairs others.now
+
+pub long_rule : (named long arg : Arg) (r : OptionRow) (others : Bor (List (Bor Text)))
+    → r.0 ≡ names.Long others → rule_of named ≡ named_rule r.2 r.1.now → named.aliases.items ≡ []
+    → long ≡ record named { long = Some r.1 } → AddsAliases long arg (map (λ n. (n, false)) others.now)
+    → rule_of arg ≡ rule_for r
+long_rule named long arg r others is rule none long_is adds =
+    let aliases : long.aliases.items ≡ [] = ap (λ (a : Arg). a.aliases.items) long_is ∙ none in
+    let base : rule_of long ≡ record (named_rule r.2 r.1.now) { long = Some r.1.now } =
+    ap rule_of long_is ∙ ap (λ (x : Rule). record x { long = Some r.1.now }) rule in
+    ap rule_of adds.0 ∙ (ap₂ (λ (x : Rule) (l : List Text). record x { aliases = l }) base
+    (texts_of long arg others aliases adds.1) ∙ sym (rw is refl))
+
 pub letter_rule : (named long short arg : Arg) (r : OptionRow) (letter : ℕ) (others : Bor (List (Bor Text)))
     → r.0 ≡ names.Letter letter others → rule_of named ≡ named_rule r.2 r.1.now → named.aliases.items ≡ []
     → long ≡ record named { long = Some r.1 } → short ≡ record long { short = Some letter }
@@ -163,11 +183,8 @@ letter_rule named long short arg r letter others is rule none long_is short_is a
     let base : rule_of short ≡ record (named_rule r.2 r.1.now) { long = Some r.1.now; short = Some letter } =
     ap rule_of short_is ∙ (ap (λ (a : Arg). record (rule_of a) { short = Some letter }) long_is
     ∙ ap (λ (x : Rule). record x { long = Some r.1.now; short = Some letter }) rule) in
-    let texts : map (λ alias. alias.0.now) arg.aliases.items ≡ map (λ other. other.now) others.now =
-    ap (map (λ (alias : Bor Text × Bool). alias.0.now))
-    (adds.1 ∙ ap (λ l. l ++ map (λ n. (n, false)) others.now) aliases)
-    ∙ map_pairs others.now in
-    ap rule_of adds.0 ∙ (ap₂ (λ (x : Rule) (l : List Text). record x { aliases = l }) base texts ∙ sym (rw is refl))
+    ap rule_of adds.0 ∙ (ap₂ (λ (x : Rule) (l : List Text). record x { aliases = l }) base
+    (texts_of short arg others aliases adds.1) ∙ sym (rw is refl))
 
 -- a command with each of the arguments added
 pub all_added : (args : List Arg) (old new : Command) → AddsInTurn AddsArg old args new

@@ -91,7 +91,8 @@ named_rule it name = record (new_rule name) {
 abbrev pub rule_by : Names → Text → Behind → Rule
 rule_by (names.Letter letter others) name it =
     record (named_rule it name) { long = Some name; short = Some letter; aliases = map (λ other. other.now) others.now }
-rule_by names.Long name it = record (named_rule it name) { long = Some name }
+rule_by (names.Long others) name it =
+    record (named_rule it name) { long = Some name; aliases = map (λ other. other.now) others.now }
 rule_by names.Place name it = named_rule it name
 
 abbrev pub rule_for : OptionRow → Rule
@@ -105,13 +106,17 @@ has_value_behind behind.Itself = true
 
 -- the option has this letter
 abbrev pub has_letter : OptionRow → ℕ → Bool
-has_letter row x = elim row.0 [ names.Letter letter others ↦ letter == x | names.Long ↦ false | names.Place ↦ false ]
+has_letter row x = elim row.0 [
+  | names.Letter letter others ↦ letter == x
+  | names.Long others ↦ false
+  | names.Place ↦ false
+]
 
 -- the option goes by this long name
 abbrev pub has_name : OptionRow → Text → Bool
 has_name row name = elim row.0 [
   | names.Letter letter others ↦ bytes_eq row.1.now name || list_any (λ other. bytes_eq other.now name) others.now
-  | names.Long ↦ bytes_eq row.1.now name
+  | names.Long others ↦ bytes_eq row.1.now name || list_any (λ other. bytes_eq other.now name) others.now
   | names.Place ↦ false
 ]
 
@@ -121,7 +126,7 @@ has_begun_name row start =
     not (bytes_eq row.1.now (codes "always-spread"))
     && elim row.0 [
       | names.Letter letter others ↦ begins row.1.now start || list_any (λ other. begins other.now start) others.now
-      | names.Long ↦ begins row.1.now start
+      | names.Long others ↦ begins row.1.now start || list_any (λ other. begins other.now start) others.now
       | names.Place ↦ false
     ]
 
@@ -141,6 +146,11 @@ opts_of (row ∷ rows) = elim row.0 [
     others = map (λ other. other.now) others.now;
     value = value_of row.2;
   } ∷ opts_of rows
-  | names.Long ↦ record { letter = None; name = row.1.now; others = []; value = value_of row.2 } ∷ opts_of rows
+  | names.Long others ↦ record {
+    letter = None;
+    name = row.1.now;
+    others = map (λ other. other.now) others.now;
+    value = value_of row.2;
+  } ∷ opts_of rows
   | names.Place ↦ opts_of rows
 ]

@@ -5,14 +5,15 @@ use Rattle.pg_syntax.specs.declared.pattern_list.Kind.{Kind}
 use Rattle.pg_rows.specs.declared.format.Format.{Format}
 use Rattle.pg_words.specs.Filters.{filters_of}
 use Rattle.pg_words.specs.Line.{Filter}
+use Rattle.pg_words.specs.declared.options.Coloring.{Coloring}
 use Rattle.pg_words.specs.declared.options.DeviceAction.{DeviceAction}
 use Rattle.pg_words.specs.declared.options.Naming.{Naming}
 use Rattle.pg_words.specs.declared.request.Request.{Request}
 
 -- the syntax of the patterns, the -e texts, the paths of the -f files, the options -i, -x, -w, -v, -z and -o, how rows
--- look and when they have names, the name of --label, the FILE operands, whether directories are visited and whether
--- they are left out, what -D asks for, --include, --exclude and --exclude-from in their order, the patterns of
--- --exclude-dir, and the option -s
+-- look, when they are colored and when they have names, the name of --label, the FILE operands, whether directories are
+-- visited, whether links are followed below them too and whether directories are left out, what -D asks for, --include,
+-- --exclude and --exclude-from in their order, the patterns of --exclude-dir, and the option -s
 pub record Asked : Type 0 where
   pub kind : Kind
   pub texts : List (List ℕ)
@@ -22,12 +23,14 @@ pub record Asked : Type 0 where
   pub word : Bool
   pub invert : Bool
   pub zero : Bool
-  pub pieces : Bool
+  pub parts : Bool
   pub format : Format
+  pub coloring : Coloring
   pub names : Naming
   pub label : Option (List ℕ)
   pub files : List (List ℕ)
   pub recursive : Bool
+  pub follows : Bool
   pub skips_directories : Bool
   pub devices : Option DeviceAction
   pub filters : List Filter
@@ -53,12 +56,14 @@ asked_of request = record {
   word = request.word;
   invert = request.invert;
   zero = request.zero;
-  pieces = request.pieces;
+  parts = request.parts;
   format = request.format;
+  coloring = request.coloring;
   names = request.names;
   label = option_map (λ name. name.now) request.label;
   files = bytes_of request.files.items;
   recursive = request.recursive;
+  follows = request.follows;
   skips_directories = request.skips_directories;
   devices = request.devices;
   filters = filters_of request.filters.items;

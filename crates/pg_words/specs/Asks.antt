@@ -1,8 +1,8 @@
 -- What the words of a command line ask for.
-use Rattle.std.specs.Prelude.{ℕ, ◌+◌, ◌||◌, Bool, not, if◌then◌else◌, List, codes, length, take, drop, Option, Some}
-use Rattle.std.specs.Prelude.{None, is_some, option_and_then, option_map, unwrap_or}
+use Rattle.std.specs.Prelude.{ℕ, ◌+◌, ◌||◌, Bool, not, if◌then◌else◌, List, [], ◌∷◌, codes, length, take, drop}
+use Rattle.std.specs.Prelude.{Option, Some, None, is_some, option_and_then, option_map, unwrap_or}
 use Rattle.std.specs.List.{list_any}
-use Rattle.std.specs.Str.{bytes_eq}
+use Rattle.std.specs.Str.{bytes_eq, str_eq_ignore_ascii_case}
 use Rattle.std.specs.Str.Parse.{digits_value, without_leading_sign}
 use Rattle.pg_words.specs.Asked.{Asked, Pace}
 use Rattle.pg_words.specs.Line.{Text, Use, Uses, filters_in, ignores_case, is_given, last_value, operands_of, some_text}
@@ -12,10 +12,14 @@ use Rattle.pg_words.specs.Spelled.{uses_in}
 use Rattle.pg_words.specs.Options.{format_of, kind_of, naming_of}
 use Rattle.pg_words.specs.Usage.{usage_fault}
 use Rattle.pg_words.specs.declared.options.DirectoryAction.{DirectoryAction}
-use Rattle.pg_words.specs.declared.options.DirectoryAction.TheVariants.{Read as ReadDirectories, Skip as SkipDirectories}
+use Rattle.pg_words.specs.declared.options.DirectoryAction.TheVariants.{Read as ReadDirectories}
+use Rattle.pg_words.specs.declared.options.DirectoryAction.TheVariants.{Skip as SkipDirectories}
 use Rattle.pg_words.specs.declared.options.DirectoryAction.TheVariants.{Recurse}
 use Rattle.pg_words.specs.declared.options.DeviceAction.{DeviceAction}
 use Rattle.pg_words.specs.declared.options.DeviceAction.TheVariants.{Read, Skip}
+use Rattle.pg_words.specs.declared.options.Coloring.{Coloring}
+use Rattle.pg_words.specs.declared.options.Coloring.TheVariants.{Always as AlwaysColored, Never as NeverColored}
+use Rattle.pg_words.specs.declared.options.Coloring.TheVariants.{OnTerminal}
 use Rattle.pg_words.specs.declared.options.Options.{Options}
 use Rattle.pg_words.specs.declared.usage.UsageFault.{UsageFault}
 
@@ -46,7 +50,7 @@ directory_action v =
 abbrev pub has_other_directory_action : List Text → Bool
 has_other_directory_action values = list_any (λ v. not (is_some (directory_action v))) values
 
--- what is asked for by the last -d or -r
+-- what is asked for by the last -d, -r or -R
 abbrev pub directories_in : List Use → Option DirectoryAction
 directories_in us = option_and_then directory_action (last_value (codes "directories") us)
 
@@ -73,6 +77,25 @@ device_action v =
 abbrev pub has_other_action : List Text → Bool
 has_other_action values = list_any (λ v. not (is_some (device_action v))) values
 
+-- the value is one of these words; case is ignored
+abbrev pub is_word_of : List Text → Text → Bool
+is_word_of words v = list_any (λ word. str_eq_ignore_ascii_case v word) words
+
+-- when rows are colored, by the value of --color (GNU grep's option)
+abbrev pub coloring_by : Text → Option Coloring
+coloring_by v =
+    if is_word_of (codes "always" ∷ codes "yes" ∷ codes "force" ∷ []) v then Some AlwaysColored
+    else (if is_word_of (codes "never" ∷ codes "no" ∷ codes "none" ∷ []) v then Some NeverColored
+    else (if is_word_of (codes "auto" ∷ codes "tty" ∷ codes "if-tty" ∷ []) v then Some OnTerminal else None))
+
+-- a value of --color that asks for nothing
+abbrev pub has_other_coloring : List Text → Bool
+has_other_coloring values = list_any (λ v. not (is_some (coloring_by v))) values
+
+-- what is asked for by the last --color; without it rows are never colored
+abbrev pub coloring_in : List Use → Coloring
+coloring_in us = unwrap_or (option_and_then coloring_by (last_value (codes "color") us)) NeverColored
+
 -- the options that exclude one another, want operands or decide how rows look
 abbrev pub options_in : List Use → Options
 options_in us = record {
@@ -82,9 +105,10 @@ options_in us = record {
   binary = has_other_type (values_of (codes "binary-files") us);
   unknown_directories = has_other_directory_action (values_of (codes "directories") us);
   unknown_devices = has_other_action (values_of (codes "devices") us);
+  unknown_coloring = has_other_coloring (values_of (codes "color") us);
   invert = is_given (codes "invert-match") us;
   fold = ignores_case us;
-  pieces = is_given (codes "only-matching") us;
+  parts = is_given (codes "only-matching") us;
   count = is_given (codes "count") us;
   list = is_given (codes "files-with-matches") us;
   list_others = is_given (codes "files-without-match") us;
@@ -124,12 +148,14 @@ asked_in us = record {
   word = is_given (codes "word-regexp") us;
   invert = is_given (codes "invert-match") us;
   zero = is_given (codes "null-data") us;
-  pieces = is_given (codes "only-matching") us;
+  parts = is_given (codes "only-matching") us;
   format = format_of (options_in us);
+  coloring = coloring_in us;
   names = naming_of (options_in us);
   label = last_value (codes "label") us;
   files = searched (files_in us);
   recursive = is_recursive (directories_in us);
+  follows = is_given (codes "dereference-recursive") us;
   skips_directories = skips_directories (directories_in us);
   devices = option_and_then device_action (last_value (codes "devices") us);
   filters = filters_in us;

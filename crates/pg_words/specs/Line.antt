@@ -63,7 +63,9 @@ table = record (opt (codes "q") (codes "quiet") Nothing) { others = codes "silen
     ∷ opt (codes "B") (codes "before-context") (Number 0 65535)
     ∷ opt (codes "C") (codes "context") (Number 0 65535)
     ∷ opt [] (codes "no-group-separator") Nothing
+    ∷ record (opt [] (codes "color") AnyText) { others = codes "colour" ∷ [] }
     ∷ opt (codes "r") (codes "recursive") Nothing
+    ∷ opt (codes "R") (codes "dereference-recursive") Nothing
     ∷ opt (codes "d") (codes "directories") AnyText
     ∷ opt (codes "D") (codes "devices") AnyText
     ∷ opt [] (codes "include") AnyText

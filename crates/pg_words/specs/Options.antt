@@ -33,6 +33,8 @@ format_of options = record {
   names = options.names && not options.no_names;
   null = options.null;
   tabs = options.tabs;
+  parts = options.parts;
+  colored = Bool.false;
   separators = not options.unparted;
   numbers = options.numbers;
   mode = mode_of options;
@@ -52,6 +54,6 @@ abbrev pub has_context : Options → Bool
 has_context options = is_some options.after || is_some options.before || is_some options.around
 
 -- -v, -c, -l, -L, -q, -A, -B or -C
-abbrev pub has_excluded_by_pieces : Options → Bool
-has_excluded_by_pieces options =
+abbrev pub has_excluded_by_parts : Options → Bool
+has_excluded_by_parts options =
     options.invert || options.count || (options.list || options.list_others) || options.quiet || has_context options

@@ -1,6 +1,8 @@
--- Further ways to write options: `-y` is `-i`, `-r` and `--recursive` are `--directories=recurse`, and digits among the
--- letters of a word are the number of -C. So `-n12ye x` is `-n -C12 -i -e x`, where each letter has a word of its own.
--- As `getopt_long` has it, a long name may be cut short where that leaves one option: `--inc=x` is `--include=x`.
+-- Further ways to write options: `-y` is `-i`, `-r` and `--recursive` are `--directories=recurse`, `-R` and
+-- `--dereference-recursive` are that too, and digits among the letters of a word are the number of -C. So `-n12ye x` is
+-- `-n -C12 -i -e x`, where each letter has a word of its own. As `getopt_long` has it, a long name may be cut short
+-- where that leaves one option: `--inc=x` is `--include=x`. The value of `--color` stands in its word alone, or is left
+-- out: `--color x` is `--color=auto x`.
 use Rattle.std.specs.Prelude.{ℕ, ◌==◌, ◌&&◌, ◌||◌, Bool, false, not, if◌then◌else◌, List, [], ◌∷◌, ◌++◌, Option, Some}
 use Rattle.std.specs.Prelude.{None, codes, filter, is_some, length, map, slice_index, take, unwrap_or}
 use Rattle.std.specs.Char.{is_ascii_digit}
@@ -37,10 +39,17 @@ unfoldable pub full_name : List Opt → Text → Text
 full_name os name =
     if is_some (by_name os name) then name else unwrap_or (only_one (names_begun os name)) name
 
--- the word for a name: `--recursive` is `--directories=recurse`
+-- `--color` and `--colour`
+abbrev pub is_color : Text → Bool
+is_color name = bytes_eq name (codes "color") || bytes_eq name (codes "colour")
+
+-- the word for a name: `--recursive` is `--directories=recurse`, `--dereference-recursive` is `-R`, and `--color`
+-- without a value is `--color=auto`
 abbrev pub name_word : Text → Text
 name_word name =
-    if bytes_eq name (codes "recursive") then codes "--directories=recurse" else codes "--" ++ name
+    if bytes_eq name (codes "recursive") then codes "--directories=recurse"
+    else (if bytes_eq name (codes "dereference-recursive") then codes "-R"
+    else (if is_color name then codes "--color=auto" else codes "--" ++ name))
 
 abbrev pub full_long : List Opt → Text → Option Text → Text
 full_long os name None = name_word (full_name os name)
@@ -60,9 +69,11 @@ full_word os w = full_or_same os (long_of w) w
 abbrev pub newer_letter : ℕ → ℕ
 newer_letter x = if x == 121 then 105 else x
 
--- the word for a letter: `-r` (114) is `-d recurse`
-abbrev pub letter_word : ℕ → Text
-letter_word x = if x == 114 then codes "-drecurse" else 45 ∷ x ∷ []
+-- the words for a letter: `-r` (114) is `-d recurse`, and `-R` (82) stands beside it
+abbrev pub flag_words : ℕ → List Text
+flag_words x =
+    if x == 114 then codes "-drecurse" ∷ []
+    else (if x == 82 then codes "-R" ∷ codes "-drecurse" ∷ [] else (45 ∷ x ∷ []) ∷ [])
 
 -- an option without a value
 abbrev pub is_flag : Option Opt → Bool
@@ -84,7 +95,7 @@ letter_words os w digits [] = number_words digits
 letter_words os w digits (x ∷ rest) =
     if is_ascii_digit x then letter_words os w (digits ++ x ∷ []) rest
     else (if is_flag (by_letter os (newer_letter x))
-    then number_words digits ++ letter_word (newer_letter x) ∷ letter_words os w [] rest
+    then number_words digits ++ flag_words (newer_letter x) ++ letter_words os w [] rest
     else number_words digits ++ rest_word w (x ∷ rest) ∷ [])
 
 -- a word that holds no letters stays as it is

@@ -47,8 +47,8 @@ struct Reading {
 pub(crate) enum Names {
     /// A letter and the long name, and further long names.
     Letter(char, &'static [&'static str]),
-    /// The long name.
-    Long,
+    /// The long name, and further ones.
+    Long(&'static [&'static str]),
     /// Its place, as an operand.
     Place,
 }
@@ -59,17 +59,18 @@ pub(crate) struct OptionRow(Names, &'static str, Behind);
 
 /// The options, and the operands: PATTERN, where neither -e nor -f is given, and each FILE. Of names that are equally
 /// close to a wrong one `clap` proposes the last. -G is read by nobody: it asks for what is taken without -E and -F,
-/// and has no effect beside them. Nor are -a and -U, for every file is text, nor -r, which is spelled out as -d.
+/// and has no effect beside them. Nor are -a and -U, for every file is text, nor -r, which is spelled out as -d; -R
+/// stands beside its -d. A --color without a value is spelled out with one.
 /// --always-spread serves tests alone, so that neither --help nor the manual page names it. -P is known to be refused
 /// with what to do instead.
-static OPTIONS: [OptionRow; 47] = [
+static OPTIONS: [OptionRow; 49] = [
     OptionRow(Names::Letter('q', &["silent"]), "quiet", Behind::Nothing),
     OptionRow(Names::Letter('E', &[]), "extended-regexp", Behind::Nothing),
     OptionRow(Names::Letter('F', &[]), "fixed-strings", Behind::Nothing),
     OptionRow(Names::Letter('G', &[]), "basic-regexp", Behind::Nothing),
     OptionRow(Names::Letter('P', &[]), "perl-regexp", Behind::Nothing),
     OptionRow(Names::Letter('i', &[]), "ignore-case", Behind::Nothing),
-    OptionRow(Names::Long, "no-ignore-case", Behind::Nothing),
+    OptionRow(Names::Long(&[]), "no-ignore-case", Behind::Nothing),
     OptionRow(Names::Letter('v', &[]), "invert-match", Behind::Nothing),
     OptionRow(Names::Letter('w', &[]), "word-regexp", Behind::Nothing),
     OptionRow(Names::Letter('x', &[]), "line-regexp", Behind::Nothing),
@@ -93,7 +94,7 @@ static OPTIONS: [OptionRow; 47] = [
     OptionRow(Names::Letter('T', &[]), "initial-tab", Behind::Nothing),
     OptionRow(Names::Letter('H', &[]), "with-filename", Behind::Nothing),
     OptionRow(Names::Letter('h', &[]), "no-filename", Behind::Nothing),
-    OptionRow(Names::Long, "label", Behind::Text("NAME")),
+    OptionRow(Names::Long(&[]), "label", Behind::Text("NAME")),
     OptionRow(
         Names::Letter('m', &[]),
         "max-count",
@@ -114,28 +115,34 @@ static OPTIONS: [OptionRow; 47] = [
         "context",
         Behind::Number(0, MAX_BEFORE),
     ),
-    OptionRow(Names::Long, "no-group-separator", Behind::Nothing),
+    OptionRow(Names::Long(&[]), "no-group-separator", Behind::Nothing),
+    OptionRow(Names::Long(&["colour"]), "color", Behind::Text("WHEN")),
     OptionRow(Names::Letter('r', &[]), "recursive", Behind::Nothing),
+    OptionRow(
+        Names::Letter('R', &[]),
+        "dereference-recursive",
+        Behind::Nothing,
+    ),
     OptionRow(
         Names::Letter('d', &[]),
         "directories",
         Behind::Text("ACTION"),
     ),
     OptionRow(Names::Letter('D', &[]), "devices", Behind::Text("ACTION")),
-    OptionRow(Names::Long, "include", Behind::Text("GLOB")),
-    OptionRow(Names::Long, "exclude", Behind::Text("GLOB")),
-    OptionRow(Names::Long, "exclude-from", Behind::Text("FILE")),
-    OptionRow(Names::Long, "exclude-dir", Behind::Text("GLOB")),
+    OptionRow(Names::Long(&[]), "include", Behind::Text("GLOB")),
+    OptionRow(Names::Long(&[]), "exclude", Behind::Text("GLOB")),
+    OptionRow(Names::Long(&[]), "exclude-from", Behind::Text("FILE")),
+    OptionRow(Names::Long(&[]), "exclude-dir", Behind::Text("GLOB")),
     OptionRow(Names::Letter('s', &[]), "no-messages", Behind::Nothing),
     OptionRow(Names::Letter('a', &[]), "text", Behind::Nothing),
     OptionRow(Names::Letter('U', &[]), "binary", Behind::Nothing),
-    OptionRow(Names::Long, "binary-files", Behind::Text("TYPE")),
-    OptionRow(Names::Long, "line-buffered", Behind::Nothing),
-    OptionRow(Names::Long, "workers", Behind::Number(1, MAX_WORKERS)),
-    OptionRow(Names::Long, "block", Behind::Number(1, MAX_BLOCK)),
-    OptionRow(Names::Long, "round", Behind::Number(1, MAX_ROUND)),
-    OptionRow(Names::Long, "always-spread", Behind::Nothing),
-    OptionRow(Names::Long, "help", Behind::Nothing),
+    OptionRow(Names::Long(&[]), "binary-files", Behind::Text("TYPE")),
+    OptionRow(Names::Long(&[]), "line-buffered", Behind::Nothing),
+    OptionRow(Names::Long(&[]), "workers", Behind::Number(1, MAX_WORKERS)),
+    OptionRow(Names::Long(&[]), "block", Behind::Number(1, MAX_BLOCK)),
+    OptionRow(Names::Long(&[]), "round", Behind::Number(1, MAX_ROUND)),
+    OptionRow(Names::Long(&[]), "always-spread", Behind::Nothing),
+    OptionRow(Names::Long(&[]), "help", Behind::Nothing),
     OptionRow(Names::Letter('V', &[]), "version", Behind::Nothing),
     OptionRow(Names::Place, "operands", Behind::Itself),
 ];
@@ -310,7 +317,7 @@ impl OptionRow {
     {
         match self.0 {
             Names::Letter(_, others) => self.1 == name || others.contains(&name),
-            Names::Long => self.1 == name,
+            Names::Long(others) => self.1 == name || others.contains(&name),
             Names::Place => false,
         }
     }
@@ -324,7 +331,7 @@ impl OptionRow {
         }
         match self.0 {
             Names::Letter(_, others) => begins(self.1, start) || some_begins(others, start),
-            Names::Long => begins(self.1, start),
+            Names::Long(others) => begins(self.1, start) || some_begins(others, start),
             Names::Place => false,
         }
     }
@@ -348,7 +355,7 @@ impl OptionRow {
                 .long(name)
                 .short(*letter)
                 .aliases(others),
-            Names::Long => Ok(behind.named(alloc, name).long(name)),
+            Names::Long(others) => behind.named(alloc, name).long(name).aliases(others),
             Names::Place => Ok(behind.named(alloc, name)),
         }
     }

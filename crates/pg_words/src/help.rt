@@ -42,10 +42,16 @@ Output:
   -C, --context=N            print N lines before and after, at most 65,535;
                              -5 is the same as -C 5
       --no-group-separator   print no line of hyphens between groups of lines
+      --color[=WHEN], --colour[=WHEN]
+                             color matches, names and numbers: always, never
+                             (default), or auto, on a terminal alone, which
+                             a missing WHEN stands for
       --line-buffered        print lines as soon as they are found
 
 Files:
   -r, --recursive            search the files below each directory
+  -R, --dereference-recursive
+                             as -r, and follow links below directories too
   -d, --directories=ACTION   read directories, which fails, skip them, or recurse,
                              which is -r; the last one counts
   -D, --devices=ACTION       read devices, FIFOs and sockets, or skip them; by

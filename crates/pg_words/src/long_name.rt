@@ -3,7 +3,7 @@ ghost use Rattle.std.specs.Prelude.{◌≡◌, ◌++◌, codes, IfOk, None, Some
 ghost use Rattle.std.specs.String.{string_bytes};
 ghost use Rattle.clap.specs.Lexer.{long_of, name_and_value};
 ghost use Rattle.pg_words.specs.Line.{table};
-ghost use Rattle.pg_words.specs.Spelled.{full_long, full_name, full_word, name_word};
+ghost use Rattle.pg_words.specs.Spelled.{full_long, full_name, full_word, is_color, name_word};
 
 use crate::command::{is_name, name_begun};
 use crate::spell::behind_first;
@@ -71,7 +71,20 @@ fn name_word(alloc: Global, name: &str) -> Result<String, AllocError>
     if name == "recursive" {
         return String::from_str(alloc, "--directories=recurse");
     }
+    if name == "dereference-recursive" {
+        return String::from_str(alloc, "-R");
+    }
+    if is_color(name) {
+        return String::from_str(alloc, "--color=auto");
+    }
     hyphened(alloc, name)
+}
+
+/// Whether this is a name of the option that may have a value or not.
+fn is_color(name: &str) -> bool
+    ensures { result ≡ is_color name.now }
+{
+    name == "color" || name == "colour"
 }
 
 /// A name behind two hyphens.

@@ -1,14 +1,16 @@
 //! What `clap` found, by the names of options.
 ghost use Rattle.std.specs.Prelude.{◌≡◌, ◌≤◌, ◌<◌, ℕ, List, None, Option, [], codes, map, option_and_then, option_map};
 ghost use Rattle.std.specs.Prelude.{unwrap_or, IfSome};
+ghost use Rattle.std.specs.Str.{str_eq_ignore_ascii_case};
 ghost use Rattle.clap.specs.Words.{found_of, matched_of, raw_values};
-ghost use Rattle.pg_words.specs.Asks.{device_action, directories_in, directory_action, has_other_action};
-ghost use Rattle.pg_words.specs.Asks.{has_other_directory_action, has_other_type, number_in, options_in};
+ghost use Rattle.pg_words.specs.Asks.{coloring_by, coloring_in, device_action, directories_in, directory_action};
+ghost use Rattle.pg_words.specs.Asks.{has_other_action, has_other_coloring, has_other_directory_action};
+ghost use Rattle.pg_words.specs.Asks.{has_other_type, is_word_of, number_in, options_in};
 ghost use Rattle.pg_words.specs.Found.{found_values, value_behind, IsFound};
 ghost use Rattle.pg_words.specs.Gives.{IsNumberUpTo};
 ghost use Rattle.pg_words.specs.Line.{ignores_case, is_given, last_of, last_value, AnyText, Nothing, Number, Use};
 
-use crate::options::{DeviceAction, DirectoryAction, Options};
+use crate::options::{Coloring, DeviceAction, DirectoryAction, Options};
 use clap::ArgMatches;
 
 /// The options that exclude one another, want operands or decide how rows look, and whether case is ignored, which
@@ -23,9 +25,10 @@ pub(crate) fn options_of(found: &ArgMatches<'_>, fold: bool) -> Options
         binary: has_other_type(values_of(found, "binary-files")),
         unknown_directories: has_other_directory_action(values_of(found, "directories")),
         unknown_devices: has_other_action(values_of(found, "devices")),
+        unknown_coloring: has_other_coloring(values_of(found, "color")),
         invert: flag(found, "invert-match"),
         fold,
-        pieces: flag(found, "only-matching"),
+        parts: flag(found, "only-matching"),
         count: flag(found, "count"),
         list: flag(found, "files-with-matches"),
         list_others: flag(found, "files-without-match"),
@@ -83,7 +86,7 @@ fn has_other_directory_action(values: &[&str]) -> bool
     false
 }
 
-/// What the last -d or -r asks for, if one is given.
+/// What the last of -d, -r and -R asks for, if one is given.
 pub(crate) fn directories_of(found: &ArgMatches<'_>) -> Option<DirectoryAction>
     ensures { (us : List Use) → IsFound us (found_of found.now) → result ≡ directories_in us }
 {
@@ -126,6 +129,62 @@ pub(crate) fn devices_of(found: &ArgMatches<'_>) -> Option<DeviceAction>
     match last_value(found, "devices") {
         Some(text) => device_action(text),
         None => None,
+    }
+}
+
+/// Whether a value is this word; case is ignored.
+fn is_word(text: &str, word: &str) -> bool
+    ensures { result ≡ str_eq_ignore_ascii_case text.now word.now }
+{
+    text.eq_ignore_ascii_case(word)
+}
+
+/// Whether a value is one of these words.
+fn is_word_of(text: &str, words: &[&str]) -> bool
+    ensures { result ≡ is_word_of (map (λ word. word.now) words.now) text.now }
+{
+    for word in words {
+        if is_word(text, word) {
+            return true;
+        }
+    }
+    false
+}
+
+/// What a value of --color asks for.
+fn coloring_by(text: &str) -> Option<Coloring>
+    ensures { result ≡ coloring_by text.now }
+{
+    if is_word_of(text, &["always", "yes", "force"]) {
+        Some(Coloring::Always)
+    } else if is_word_of(text, &["never", "no", "none"]) {
+        Some(Coloring::Never)
+    } else if is_word_of(text, &["auto", "tty", "if-tty"]) {
+        Some(Coloring::OnTerminal)
+    } else {
+        None
+    }
+}
+
+/// Whether one of the values of --color asks for nothing.
+fn has_other_coloring(values: &[&str]) -> bool
+    ensures { result ≡ has_other_coloring (map (λ value. value.now) values.now) }
+{
+    for value in values {
+        if coloring_by(value).is_none() {
+            return true;
+        }
+    }
+    false
+}
+
+/// What the last --color asks for.
+pub(crate) fn coloring_of(found: &ArgMatches<'_>) -> Coloring
+    ensures { (us : List Use) → IsFound us (found_of found.now) → result ≡ coloring_in us }
+{
+    match last_value(found, "color") {
+        Some(text) => coloring_by(text).unwrap_or(Coloring::Never),
+        None => Coloring::Never,
     }
 }
 

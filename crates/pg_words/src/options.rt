@@ -23,7 +23,7 @@ pub enum DirectoryAction {
     Read,
     /// They are left out.
     Skip,
-    /// They are visited, as with -r.
+    /// They are visited, as with -r and -R.
     Recurse,
 }
 
@@ -56,6 +56,17 @@ impl DirectoryAction {
     }
 }
 
+/// When rows are colored.
+#[derive(Clone, Copy)]
+pub enum Coloring {
+    /// Without --color, or with --color=never: never.
+    Never,
+    /// With --color=always: wherever they go.
+    Always,
+    /// With --color=auto, or --color alone: where standard output is a terminal.
+    OnTerminal,
+}
+
 /// What -D asks for.
 #[derive(Clone, Copy)]
 pub enum DeviceAction {
@@ -80,12 +91,14 @@ pub struct Options {
     pub unknown_directories: bool,
     /// -D with another action than `read` and `skip`.
     pub unknown_devices: bool,
+    /// --color with another word than `always`, `never`, `auto` and those that say the same.
+    pub unknown_coloring: bool,
     /// -v: the lines without a match.
     pub invert: bool,
     /// -i, unless --no-ignore-case follows: upper and lower case don't differ.
     pub fold: bool,
     /// -o: the matched parts of lines.
-    pub pieces: bool,
+    pub parts: bool,
     /// -c: the number of lines.
     pub count: bool,
     /// -l: the names of files with a selected line.
@@ -106,7 +119,7 @@ pub struct Options {
     pub names: bool,
     /// -h: no names before rows.
     pub no_names: bool,
-    /// -r, or -d recurse: directories are visited.
+    /// -r, -R, or -d recurse: directories are visited.
     pub recursive: bool,
     /// -m N: N selected lines at most; 0 counts as 1.
     pub limit: Option<u32>,
@@ -119,7 +132,7 @@ pub struct Options {
 }
 
 impl Options {
-    ghost use Rattle.pg_words.specs.Options.{format_of, has_context, has_excluded_by_pieces};
+    ghost use Rattle.pg_words.specs.Options.{format_of, has_context, has_excluded_by_parts};
     ghost use Rattle.pg_words.specs.Options.{has_several_modes, kind_of, mode_of, naming_of};
 
     /// The syntax of the patterns, where not both -E and -F are given.
@@ -135,7 +148,7 @@ impl Options {
         }
     }
 
-    /// How rows look, where none of the options excludes another. They have names with -H alone.
+    /// How rows look, where none of the options excludes another. They have names with -H alone, and no colors.
     pub(crate) fn format(&self) -> Format
         ensures exact { result ≡ format_of self.now }
         ensures some_limit { HasRoom result }
@@ -144,6 +157,8 @@ impl Options {
             names: self.names && !self.no_names,
             null: self.null,
             tabs: self.tabs,
+            parts: self.parts,
+            colored: false,
             separators: !self.unparted,
             numbers: self.numbers,
             mode: self.mode(),
@@ -200,8 +215,8 @@ impl Options {
     }
 
     /// Whether an option is given that -o excludes.
-    pub(crate) fn has_excluded_by_pieces(&self) -> bool
-        ensures { result ≡ has_excluded_by_pieces self.now }
+    pub(crate) fn has_excluded_by_parts(&self) -> bool
+        ensures { result ≡ has_excluded_by_parts self.now }
     {
         let is_listed = self.list || self.list_others;
         self.invert || self.count || is_listed || self.quiet || self.has_context()

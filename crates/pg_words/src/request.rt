@@ -2,7 +2,7 @@
 ghost use Rattle.std.specs.Prelude.{◌<◌, ◌≤◌, ◌+◌, ◌^◌, vec_len};
 ghost use Rattle.pg_rows.specs.Output.{HasRoom};
 
-use crate::options::{DeviceAction, Naming};
+use crate::options::{Coloring, DeviceAction, Naming};
 use pg_rows::Format;
 use pg_syntax::Kind;
 
@@ -37,18 +37,22 @@ pub struct Request<'a> {
     /// -z: a NUL ends each line.
     pub zero: bool,
     /// -o: the matched parts of selected lines have rows, not the lines.
-    pub pieces: bool,
+    pub parts: bool,
     /// How rows look: -c, -l, -L, -q, -n, -m, -A, -B, -C, -H, -h, -T, -Z and --no-group-separator. Without -H they have
-    /// no names.
+    /// no names. They have no colors.
     pub format: Format,
+    /// --color: when rows are colored.
+    pub coloring: Coloring,
     /// -H, -h, or neither: when rows have names.
     pub names: Naming,
     /// --label NAME: what standard input is called.
     pub label: Option<&'a str>,
     /// The FILE operands in their order, `-` for standard input; `-` alone where none is given.
     pub files: Vec<&'a str>,
-    /// -r, or -d recurse: directories are visited.
+    /// The last of -d, -r and -R is -r, -R or -d recurse: directories are visited.
     pub recursive: bool,
+    /// -R: links are followed below operands too.
+    pub follows: bool,
     /// -d skip: directories are left out.
     pub skips_directories: bool,
     /// -D ACTION: what is done with devices, FIFOs and sockets.

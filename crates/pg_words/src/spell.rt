@@ -1,5 +1,5 @@
-//! Words of a command line, spelled out: each letter in a word of its own, -y as -i, -r as -d recurse, a number as that
-//! of -C, and long names in full.
+//! Words of a command line, spelled out: each letter in a word of its own, -y as -i, -r as -d recurse, -R as itself and
+//! that, a number as that of -C, and long names in full.
 ghost use Rattle.std.specs.Prelude.{◌≡◌, ◌++◌, ◌∷◌, ◌<◌, ◌≤◌, ◌||◌, length, slice_index, true, IfOk, OnOk};
 ghost use Rattle.std.specs.Prelude.{List, ℕ, map, option_map, []};
 ghost use Rattle.std.specs.Char.{is_ascii_digit};
@@ -8,7 +8,7 @@ ghost use Rattle.clap.specs.Lexer.{short_of};
 ghost use Rattle.pg_words.specs.Joined.{Free};
 ghost use Rattle.pg_words.specs.Line.{by_letter, table};
 ghost use Rattle.pg_words.specs.Places.{place_of};
-ghost use Rattle.pg_words.specs.Spelled.{full_word, is_flag, letter_word, letter_words, newer_letter, number_words};
+ghost use Rattle.pg_words.specs.Spelled.{flag_words, full_word, is_flag, letter_words, newer_letter, number_words};
 ghost use Rattle.pg_words.specs.Spelled.{place_behind};
 ghost use Rattle.pg_words.specs.Spelled.{rest_word, spelled_from, spelled_word};
 
@@ -179,21 +179,25 @@ fn add_flag(
 ) -> Result<(), AllocError>
     requires { letter < 128 }
     ensures { OnOk result (map string_bytes parts.new.items
-        ≡ map string_bytes parts.old.items ++ number_words digits.now ++ letter_word letter ∷ []) }
+        ≡ map string_bytes parts.old.items ++ number_words digits.now ++ flag_words letter) }
 {
     add_number(alloc, parts, digits)?;
+    if letter == b'r' {
+        return add_copy(alloc, parts, "-drecurse");
+    }
+    if letter == b'R' {
+        add_copy(alloc, parts, "-R")?;
+        return add_copy(alloc, parts, "-drecurse");
+    }
     parts.push(letter_word(alloc, letter)?)?;
     Ok(())
 }
 
-/// The word for the option of a letter.
+/// A letter behind a hyphen.
 fn letter_word(alloc: Global, letter: u8) -> Result<String, AllocError>
     requires { letter < 128 }
-    ensures { IfOk result (λ word. string_bytes word ≡ letter_word letter) }
+    ensures { IfOk result (λ word. string_bytes word ≡ 45 ∷ letter ∷ []) }
 {
-    if letter == b'r' {
-        return String::from_str(alloc, "-drecurse");
-    }
     let mut word = String::from_str(alloc, "-")?;
     word.push(char::from(letter))?;
     Ok(word)

@@ -17,6 +17,8 @@ pub enum UsageFault {
     UnknownDirectories,
     /// -D is given with another action than `read` and `skip`.
     UnknownDevices,
+    /// --color is given with another word than `always`, `never`, `auto` and those that say the same.
+    UnknownColoring,
     /// More than one of -c, -l, -L and -q is given.
     SeveralModes,
     /// Both -E and -F are given.
@@ -24,10 +26,10 @@ pub enum UsageFault {
     /// Both -H and -h are given.
     NamesAndNoNames,
     /// Beside -o one of -v, -c, -l, -L, -q, -A, -B and -C is given.
-    ExcludedByPieces,
+    ExcludedByParts,
     /// There is no -e, no -f and no operand.
     NoPattern,
-    /// Beside -r there is no FILE.
+    /// Beside -r or -R there is no FILE.
     NoOperand,
 }
 
@@ -43,10 +45,11 @@ impl UsageFault {
             UsageFault::OtherThanText => "--binary-files may only be text, and can be left out",
             UsageFault::UnknownDirectories => "-d may only be read, skip or recurse",
             UsageFault::UnknownDevices => "-D may only be read or skip",
+            UsageFault::UnknownColoring => "--color may only be always, never or auto",
             UsageFault::SeveralModes => "only one of -c, -l, -L and -q may be given",
             UsageFault::ExtendedAndFixed => "only one of -E and -F may be given",
             UsageFault::NamesAndNoNames => "only one of -H and -h may be given",
-            UsageFault::ExcludedByPieces => "-o excludes -v, -c, -l, -L, -q, -A, -B and -C",
+            UsageFault::ExcludedByParts => "-o excludes -v, -c, -l, -L, -q, -A, -B and -C",
             UsageFault::NoPattern => {
                 "no pattern given\n\nUsage: pargrep [OPTION ...] PATTERN [FILE ...]\n\n\
                  For more information, try '--help'."
@@ -62,7 +65,7 @@ impl UsageFault {
 /// # Errors
 ///
 /// The first fault that there is, in the order of [`UsageFault`]: `NoPattern` where there is neither a
-/// text nor a file of patterns, `NoOperand` where there is -r and no FILE, and no other fault.
+/// text nor a file of patterns, `NoOperand` where there is -r or -R and no FILE, and no other fault.
 pub fn check_usage(
     options: &Options,
     texts: &[&str],
@@ -85,6 +88,9 @@ pub fn check_usage(
     if options.unknown_devices {
         return Err(UsageFault::UnknownDevices);
     }
+    if options.unknown_coloring {
+        return Err(UsageFault::UnknownColoring);
+    }
     if options.has_several_modes() {
         return Err(UsageFault::SeveralModes);
     }
@@ -94,8 +100,8 @@ pub fn check_usage(
     if options.names && options.no_names {
         return Err(UsageFault::NamesAndNoNames);
     }
-    if options.pieces && options.has_excluded_by_pieces() {
-        return Err(UsageFault::ExcludedByPieces);
+    if options.parts && options.has_excluded_by_parts() {
+        return Err(UsageFault::ExcludedByParts);
     }
     if texts.is_empty() && pattern_files.is_empty() {
         return Err(UsageFault::NoPattern);

@@ -17,7 +17,7 @@ use crate::case::ignores_case;
 use crate::command::{MAX_BLOCK, MAX_ROUND, MAX_WORKERS, search_command};
 use crate::filters::filters_of;
 use crate::matches::{
-    devices_of, directories_of, flag, last_value, number_within, options_of, values_of,
+    coloring_of, devices_of, directories_of, flag, last_value, number_within, options_of, values_of,
 };
 use crate::operands::{Sources, place_operands, searched_files};
 use crate::options::{DirectoryAction, Options};
@@ -85,10 +85,11 @@ impl<T: Drop> From<AllocFailed<T>> for WordsFault {
 ///
 /// `pargrep [options] [PATTERN] [FILE ...]`: PATTERN is the first operand where neither -e nor -f is
 /// given. Options may stand behind operands, until `--`. Of an option that is given twice the last
-/// one counts, and of -i and --no-ignore-case and of -d and -r too; -e, -f and --exclude-dir collect, and --include,
-/// --exclude and --exclude-from together, in one order. -C gives the lines before and after where -B or -A doesn't. -y
-/// is -i, and digits among letters are -C with that number. -G has no effect beside -E or -F, and -a, -U and
-/// --binary-files=text have none at all.
+/// one counts, and of -i and --no-ignore-case and of -d, -r and -R too; -e, -f and --exclude-dir collect, and
+/// --include, --exclude and --exclude-from together, in one order. -C gives the lines before and after where -B or -A
+/// doesn't. -y is -i, and digits among letters are -C with that number. The value of --color stands behind `=` in its
+/// word alone, and is `auto` where it is left out. -G has no effect beside -E or -F, and -a, -U and --binary-files=text
+/// have none at all.
 ///
 /// The long names are GNU grep's, and --workers, --block and --round. One may be cut short where the rest of it leaves
 /// no other option. --help comes before --version, and both come before a fault that [`check_usage`] finds.
@@ -220,12 +221,14 @@ fn build_request<'a>(
         word: flag(found, "word-regexp"),
         invert: options.invert,
         zero: flag(found, "null-data"),
-        pieces: options.pieces,
+        parts: options.parts,
         format: options.format(),
+        coloring: coloring_of(found),
         names: options.naming(),
         label: last_value(found, "label"),
         files,
         recursive: options.recursive,
+        follows: flag(found, "dereference-recursive"),
         skips_directories: DirectoryAction::skips(directories_of(found)),
         devices: devices_of(found),
         filters,

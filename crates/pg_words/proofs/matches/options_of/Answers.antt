@@ -1,5 +1,6 @@
 use Rattle.std.proofs.Common.{◌∙◌, ap, arith, codes, refl}
-use Rattle.pg_words.specs.Asks.{has_other_action, has_other_directory_action, has_other_type, is_recursive}
+use Rattle.pg_words.specs.Asks.{has_other_action, has_other_coloring, has_other_directory_action, has_other_type}
+use Rattle.pg_words.specs.Asks.{is_recursive}
 use Rattle.pg_words.proofs.matches.options_of.Goals as goal
 
 pub returns : goal.returns
@@ -12,6 +13,7 @@ returns c = λ us is fold.
       c.has_other_directory_action.ensures
           ∙ ap has_other_directory_action (c.values_of-2.ensures ∙ is.texts (codes "directories") refl),
       c.has_other_action.ensures ∙ ap has_other_action (c.values_of-3.ensures ∙ is.texts (codes "devices") refl),
+      c.has_other_coloring.ensures ∙ ap has_other_coloring (c.values_of-4.ensures ∙ is.texts (codes "color") refl),
       c.flag-4.ensures us is refl,
       c.flag-5.ensures us is refl,
       c.flag-6.ensures us is refl,
