@@ -46,10 +46,10 @@ module _ (q : Search) (format : Format) (name : List ℕ) (earlier : Bool) where
       let c = cursor_after q format name earlier ls in
       let count = when ended (count_row q format name ls) in
       let row = when ended (name_row q format name ls) in
-      ap (λ xs. rows_in format.mode xs count row) (part_whole q.text.pieces ls)
-      ∙ (ap (λ xs. rows_in format.mode (part_behind q.text.pieces [] ls) (when ended xs) row)
+      ap (λ xs. rows_in format.mode xs count row) (part_whole format.parts ls)
+      ∙ (ap (λ xs. rows_in format.mode (part_behind format.parts [] ls) (when ended xs) row)
       (count_by_trail q format name ls c.trail (trail_is q format ls))
-      ∙ ap (λ xs. rows_in format.mode (part_behind q.text.pieces [] ls) (when ended (counted format c)) (when ended xs))
+      ∙ ap (λ xs. rows_in format.mode (part_behind format.parts [] ls) (when ended (counted format c)) (when ended xs))
       (name_by_trail q format name ls c.trail room (trail_is q format ls)))
 
   pub blocks_join : (front bytes : List ℕ) → AreWhole (terminator q) front
@@ -59,11 +59,11 @@ module _ (q : Search) (format : Format) (name : List ℕ) (earlier : Bool) where
   blocks_join front bytes whole =
       let ls = lines (terminator q) front in
       let ms = lines (terminator q) bytes in
-      let pieces = q.text.pieces in
+      let pieces = format.parts in
       ap (part_behind pieces []) (lines-append (terminator q) front bytes whole)
       ∙ (sym (part_whole pieces (ls ++ ms))
       ∙ (part_more pieces ls ms ∙ ap (λ xs. xs ++ part_behind pieces ls ms) (part_whole pieces ls)))
 
 pub trail_tells : (q : Search) (format : Format) (mode : Mode) (ls : List (List ℕ)) → HasRoom format
-    → trail_suffices q.text.pieces mode format (trail_of q format ls) ≡ lines_suffice mode q format ls
+    → trail_suffices mode format (trail_of q format ls) ≡ lines_suffice mode q format ls
 trail_tells q format mode ls room = sym (suffice_by q format room mode ls (trail_of q format ls) (trail_is q format ls))

@@ -30,16 +30,16 @@ module _ (q : Search) (format : Format) (room : HasRoom format) where
   full_by ls t h = ap not (below_same format.limit t.kept (count_by (selects q) ls) h.quota)
 
   trailed_by : (ls : List (List ℕ)) (t : Trail) → IsTrail q format ls t
-      → is_trailed q format ls ≡ (not q.text.pieces && nat_lt 0 t.countdown)
+      → is_trailed q format ls ≡ (not format.parts && nat_lt 0 t.countdown)
   trailed_by ls t h =
-      ap (λ b. not q.text.pieces && b) (h.near.coming (length ls) (omega arith) ∙ more_by (length ls) t.countdown)
+      ap (λ b. not format.parts && b) (h.near.coming (length ls) (omega arith) ∙ more_by (length ls) t.countdown)
 
   selected_by : (ls : List (List ℕ)) (t : Trail) → IsTrail q format ls t → list_any (selects q) ls ≡ nat_lt 0 t.kept
   selected_by ls t h = some_counted q ls ∙ kept_some format.limit t.kept (count_by (selects q) ls) room h.quota
 
   -- the lines suffice where what is remembered of them says so
   pub suffice_by : (m : Mode) (ls : List (List ℕ)) (t : Trail) → IsTrail q format ls t
-      → lines_suffice m q format ls ≡ trail_suffices q.text.pieces m format t
+      → lines_suffice m q format ls ≡ trail_suffices m format t
   suffice_by m ls t h = go (settles_at_first m) (shows_rows m)
     where
       full : Bool
@@ -48,7 +48,7 @@ module _ (q : Search) (format : Format) (room : HasRoom format) where
       go : (first shown : Bool)
           → cond first (list_any (selects q) ls)
           (cond shown (is_full q format ls && not (is_trailed q format ls)) (is_full q format ls))
-          ≡ cond first (nat_lt 0 t.kept) (cond shown (full && not (not q.text.pieces && nat_lt 0 t.countdown)) full)
+          ≡ cond first (nat_lt 0 t.kept) (cond shown (full && not (not format.parts && nat_lt 0 t.countdown)) full)
       go true shown = selected_by ls t h
       go false true = ap (λ b. b && not (is_trailed q format ls)) (full_by ls t h)
           ∙ ap (λ b. full && not b) (trailed_by ls t h)

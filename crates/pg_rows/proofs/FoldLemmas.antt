@@ -10,7 +10,8 @@ use Rattle.pg_lines.specs.Search.{Search, terminator}
 use Rattle.pg_lines.specs.Selection.{selects}
 use Rattle.pg_rows.specs.declared.format.Format.{Format}
 use Rattle.pg_rows.specs.Modes.{is_named}
-use Rattle.pg_rows.specs.Output.{name_mark, is_below, when, row, is_nothing, line_rows, piece_rows, count_row, name_row}
+use Rattle.pg_rows.specs.Output.{name_end, name_mark, name_text, is_below, when, row, is_nothing, painted, line_rows}
+use Rattle.pg_rows.specs.Output.{piece_rows, count_row, name_row}
 use Rattle.pg_rows.specs.Sink.{IsBeginning}
 use Rattle.pg_rows.specs.Stretch.{prefix_text}
 use Rattle.pg_rows.specs.Trail.{Trail, no_lines, step, trail_of, added, run_rows, run, added_pieces, run_pieces}
@@ -35,7 +36,7 @@ pub rows_more : (q : Search) (format : Format) (name : List ℕ) (earlier : Bool
 rows_more q format name earlier ls [] t h = ap (λ xs. line_rows q format name xs earlier) (append-nil ls)
     ∙ sym (append-nil (line_rows q format name ls earlier))
 rows_more q format name earlier ls (m ∷ ms) t h =
-    let one = added format (terminator q) name earlier t (selects q m) m in
+    let one = added format (terminator q) name earlier t (selects q m) (painted q format m) m in
     let rest = run_rows q format name earlier (step format t (selects q m) m) ms in
     ap (λ xs. line_rows q format name xs earlier) (sym (append_assoc ls (m ∷ []) ms))
     ∙ (rows_more q format name earlier (ls ++ m ∷ []) ms (step format t (selects q m) m) (trail_step q format ls m t h)
@@ -52,9 +53,9 @@ rows_begin q format name earlier ls ms = (
 
 pub count_by_trail : (q : Search) (format : Format) (name : List ℕ) (ls : List (List ℕ)) (t : Trail)
     → IsTrail q format ls t → count_row q format name ls ≡ when format.names
-    (name ++ name_mark format 58 ∷ []) ++ decimal t.kept ++ 10 ∷ []
+    (name_text format name ++ name_end format 58) ++ decimal t.kept ++ 10 ∷ []
 count_by_trail q format name ls t h =
-    ap (λ k. when format.names (name ++ name_mark format 58 ∷ []) ++ decimal k ++ 10 ∷ []) (sym h.count)
+    ap (λ k. when format.names (name_text format name ++ name_end format 58) ++ decimal k ++ 10 ∷ []) (sym h.count)
 
 counted_more : (t any : Bool) (n : ℕ) → any ≡ nat_lt 0 n → (t || any) ≡ nat_lt 0 ((0 + cond t 1 0) + n)
 counted_more true any n e = sym (lt-ltb 0 ((0 + 1) + n) (omega arith))
@@ -78,9 +79,10 @@ kept_some (Some k) kept count e (inr p) =
 -- with a limit that isn't 0 a line is selected where one is kept
 pub name_by_trail : (q : Search) (format : Format) (name : List ℕ) (ls : List (List ℕ)) (t : Trail)
     → is_below 0 format.limit ≡ true → IsTrail q format ls t
-    → name_row q format name ls ≡ when (is_named format.mode (nat_lt 0 t.kept)) (name ++ name_mark format 10 ∷ [])
+    → name_row q format name ls ≡ when (is_named format.mode (nat_lt 0 t.kept)) (name_text format name
+    ++ name_mark format 10 ∷ [])
 name_by_trail q format name ls t some h =
-    ap (λ b. when (is_named format.mode b) (name ++ name_mark format 10 ∷ [])) (some_counted q ls
+    ap (λ b. when (is_named format.mode b) (name_text format name ++ name_mark format 10 ∷ [])) (some_counted q ls
     ∙ kept_some format.limit t.kept (count_by (selects q) ls) some h.quota)
 
 pub pieces_more : (q : Search) (format : Format) (name : List ℕ) (ls ms : List (List ℕ)) (t : Trail)
@@ -118,19 +120,20 @@ or_turn false r s = refl
 step_some : (q : Search) (format : Format) (name : List ℕ) (earlier : Bool) (ls : List (List ℕ)) (m : List ℕ)
     (t : Trail) → IsTrail q format ls t →
     (step format t (selects q m) m).some ≡
-    (something (added format (terminator q) name earlier t (selects q m) m) || t.some)
+    (something (added format (terminator q) name earlier t (selects q m) (painted q format m) m) || t.some)
 step_some q format name earlier ls m t h = go (keeps format t (selects q m)) (nat_lt 0 t.countdown) refl
   where
     go : (a b : Bool) → nat_lt 0 t.countdown ≡ b
         → (cond a (after_kept format t) (cond b (after_context t) (after_other format t m))).some ≡
-        (something (cond a (kept_rows format (terminator q) name earlier t m)
+        (something (cond a (kept_rows format (terminator q) name earlier t (painted q format m))
         (when b (row format (terminator q) name (t.number + 1) 45 m))) || t.some)
     go true b e =
         let end = terminator q in
-        let own = row format end name (t.number + 1) 58 m in
+        let own = row format end name (t.number + 1) 58 (painted q format m) in
         let front = context_rows format end name ((t.number + 1) - length t.window) t.window in
         let inner : something (front ++ own) ≡ true = some_append front own
-        ∙ or_right (something front) (something own) (some_row format end name (t.number + 1) 58 m) in
+        ∙ or_right (something front) (something own) (some_row format end name (t.number + 1) 58
+        (painted q format m)) in
         sym (ap (λ b. b || t.some) (some_append (gap_row format end earlier t) (front ++ own)
         ∙ or_right (something (gap_row format end earlier t)) (something (front ++ own)) inner))
     go false true e =
@@ -143,7 +146,7 @@ pub run_some : (q : Search) (format : Format) (name : List ℕ) (earlier : Bool)
     → IsTrail q format ls t → (run q format t ms).some ≡ (something (run_rows q format name earlier t ms) || t.some)
 run_some q format name earlier ls [] t h = refl
 run_some q format name earlier ls (m ∷ ms) t h =
-    let one = added format (terminator q) name earlier t (selects q m) m in
+    let one = added format (terminator q) name earlier t (selects q m) (painted q format m) m in
     let next = step format t (selects q m) m in
     let rest = run_rows q format name earlier next ms in
     run_some q format name earlier (ls ++ m ∷ []) ms next (trail_step q format ls m t h)
@@ -156,7 +159,7 @@ pub rows_append : (q : Search) (format : Format) (name : List ℕ) (earlier : Bo
     earlier (run q format t ls) ms
 rows_append q format name earlier t [] ms = refl
 rows_append q format name earlier t (l ∷ ls) ms =
-    let one = added format (terminator q) name earlier t (selects q l) l in
+    let one = added format (terminator q) name earlier t (selects q l) (painted q format l) l in
     let next = step format t (selects q l) l in
     ap (λ xs. one ++ xs) (rows_append q format name earlier next ls ms)
     ∙ sym (append_assoc one (run_rows q format name earlier next ls)

@@ -20,3 +20,5 @@ pub mod LeadLemmas
 pub mod RunSteps
 pub mod PrinterSteps
 pub mod PieceLemmas
+pub mod PaintLemmas
+pub mod ColorLaws

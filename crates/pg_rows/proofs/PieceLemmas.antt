@@ -21,10 +21,11 @@ use Rattle.pg_lines.specs.declared.run.Run.{Run}
 use Rattle.pg_lines.specs.declared.run.Part.{Part}
 use Rattle.pg_lines.proofs.LineLaws.{lines_are_lines}
 use Rattle.pg_rows.specs.declared.format.Format.{Format}
-use Rattle.pg_rows.specs.Output.{is_below, row, when}
+use Rattle.pg_rows.specs.Colors.{in_color, part_color}
+use Rattle.pg_rows.specs.Output.{is_below, row, told_parts, when}
 use Rattle.pg_rows.specs.Trail.{Trail, keeps, after_kept, after_context, after_other, step, run_pieces, pieces_in}
 use Rattle.pg_rows.specs.Stretch.{part_row, part_rows, IsPartOf, no_part, AllSelected}
-use Rattle.pg_rows.specs.Pieces.{cut_at}
+use Rattle.pg_rows.specs.Pieces.{cut_at, told_of_lines, HasFound}
 use Rattle.pg_rows.proofs.StretchLemmas.{passed_pieces, full_unkept, step_kept, step_unkept}
 use Rattle.pg_rows.proofs.BlockLemmas.{AreStretches, stretches}
 
@@ -33,12 +34,30 @@ use Rattle.pg_rows.proofs.BlockLemmas.{AreStretches, stretches}
 abbrev IsIn : List ℕ → ℕ × ℕ → Type 0
 IsIn l p = (p.0 ≤ p.1) × (p.1 ≤ length l)
 
-parts_within : (q : Search) (l : List ℕ) → AllByRecursion (IsIn l) (parts q l)
-parts_within q l = go 0 (parts q l) (parts_are_parts q.trees (bounds_of q.text) l)
+-- the parts of a line stand one behind the other, from a place on, and none is empty
+abbrev pub Ascend : List ℕ → ℕ → List (ℕ × ℕ) → Type 0
+Ascend l at [] = at ≤ length l
+Ascend l at (p ∷ ps) = (at ≤ p.0) × (p.0 < p.1) × (p.1 ≤ length l) × Ascend l p.1 ps
+
+pub told_ascend : (q : Search) (l : List ℕ) → Ascend l 0 (told_parts q l)
+told_ascend q l = told q.text.pieces
   where
-    go : (place : ℕ) (ps : List (ℕ × ℕ)) → AreParts q.trees (bounds_of q.text) l place ps → AllByRecursion (IsIn l) ps
-    go _ _ (none h) = tt
-    go _ _ (more {place} {i} {j} {rest} n later) = ((n.hit.ordered, n.hit.within), go j rest later)
+    go : (place : ℕ) (ps : List (ℕ × ℕ)) → place ≤ length l → AreParts q.trees (bounds_of q.text) l place ps
+        → Ascend l place ps
+    go _ _ fits (none h) = fits
+    go _ _ fits (more {place} {i} {j} {rest} n later) =
+        (n.later, n.some, n.hit.within, go j rest n.hit.within later)
+
+    told : (pieces : Bool) → Ascend l 0 (cond pieces (parts q l) [])
+    told true = go 0 (parts q l) (omega arith) (parts_are_parts q.trees (bounds_of q.text) l)
+    told false = omega arith
+
+parts_within : (q : Search) (l : List ℕ) → AllByRecursion (IsIn l) (told_parts q l)
+parts_within q l = go 0 (told_parts q l) (told_ascend q l)
+  where
+    go : (place : ℕ) (ps : List (ℕ × ℕ)) → Ascend l place ps → AllByRecursion (IsIn l) ps
+    go place [] h = tt
+    go place (p ∷ ps) h = ((omega (arith, h.1), h.2), go p.1 ps h.3)
 
 -- the lines stand in the bytes from a place on, each followed by one byte
 abbrev AreAt : List ℕ → ℕ → List (List ℕ) → Type 0
@@ -88,7 +107,7 @@ lines_at end bytes = elim (lines_are_lines end bytes).whole [
 ]
 
 -- a part of a line is a part of the bytes
-slice_in : (bytes l : List ℕ) (at i j : ℕ) → slice_range bytes at (at + length l) ≡ l → i ≤ j → j ≤ length l
+pub slice_in : (bytes l : List ℕ) (at i j : ℕ) → slice_range bytes at (at + length l) ≡ l → i ≤ j → j ≤ length l
     → slice_range bytes (at + i) (at + j) ≡ slice_range l i j
 slice_in bytes l at i j is ordered within =
     let rest = drop (length l) (drop at bytes) in
@@ -105,18 +124,22 @@ slice_in bytes l at i j is ordered within =
 
 -- The rows of the parts of one line.
 
+-- the row of a part
+abbrev part_text : Format → ℕ → List ℕ → ℕ → List ℕ → List ℕ
+part_text format end name number text = row format end name number 58 (in_color format.colored part_color text)
+
 own_rows : (format : Format) (end : ℕ) (name : List ℕ) (before number at seen : ℕ) (bytes l : List ℕ)
     (ps : List (ℕ × ℕ))
     → number ≡ before + seen → slice_range bytes at (at + length l) ≡ l → AllByRecursion (IsIn l) ps
-    → flat_map (λ p. row format end name (number + 1) 58 (slice_range l p.0 p.1)) ps
+    → flat_map (λ p. part_text format end name (number + 1) (slice_range l p.0 p.1)) ps
     ≡ flat_map (part_row format end name before bytes) (map (part_at at seen) ps)
 own_rows format end name before number at seen bytes l [] is text each = refl
 own_rows format end name before number at seen bytes l (p ∷ ps) is text each =
     let later = flat_map (part_row format end name before bytes) (map (part_at at seen) ps) in
-    ap (λ xs. row format end name (number + 1) 58 (slice_range l p.0 p.1) ++ xs)
+    ap (λ xs. part_text format end name (number + 1) (slice_range l p.0 p.1) ++ xs)
     (own_rows format end name before number at seen bytes l ps is text each.1)
-    ∙ (ap (λ n. row format end name (n + 1) 58 (slice_range l p.0 p.1) ++ later) is
-    ∙ ap (λ xs. row format end name (before + seen + 1) 58 xs ++ later)
+    ∙ (ap (λ n. part_text format end name (n + 1) (slice_range l p.0 p.1) ++ later) is
+    ∙ ap (λ xs. part_text format end name (before + seen + 1) xs ++ later)
     (sym (slice_in bytes l at p.0 p.1 text each.0.0 each.0.1)))
 
 -- the line stands before the cut, or behind it
@@ -137,21 +160,48 @@ own_none cut at seen (p ∷ ps) beyond =
 
 -- no part is shown behind the cut
 behind_cut : (q : Search) (cut at seen : ℕ) (ls : List (List ℕ)) → cut ≤ seen
-    → filter (λ (p : Part). nat_lt p.line cut) (parts_of_lines q at seen ls) ≡ []
+    → filter (λ (p : Part). nat_lt p.line cut) (told_of_lines q at seen ls) ≡ []
 behind_cut q cut at seen [] le = refl
 behind_cut q cut at seen (l ∷ ls) le =
-    let later = parts_of_lines q (at + (length l + 1)) (seen + 1) ls in
-    let own = cond (selects q l) (map (part_at at seen) (parts q l)) [] in
+    let later = told_of_lines q (at + (length l + 1)) (seen + 1) ls in
+    let own = cond (selects q l) (map (part_at at seen) (told_parts q l)) [] in
     filter-append (λ (p : Part). nat_lt p.line cut) own later
     ∙ (ap (λ xs. filter (λ (p : Part). nat_lt p.line cut) own ++ xs)
     (behind_cut q cut (at + (length l + 1)) (seen + 1) ls (omega arith))
     ∙ (append-nil (filter (λ (p : Part). nat_lt p.line cut) own) ∙ of_own (selects q l)))
   where
-    of_own : (s : Bool) → filter (λ (p : Part). nat_lt p.line cut) (cond s (map (part_at at seen) (parts q l)) []) ≡ []
-    of_own true = own_none cut at seen (parts q l) (le-ltb seen cut le)
+    of_own : (s : Bool) → filter (λ (p : Part). nat_lt p.line cut)
+        (cond s (map (part_at at seen) (told_parts q l)) []) ≡ []
+    of_own true = own_none cut at seen (told_parts q l) (le-ltb seen cut le)
     of_own false = refl
 
 -- The rows of the parts of lines.
+
+-- what is found is what is told line by line
+found_told : (q : Search) (at seen : ℕ) (ls : List (List ℕ))
+    → cond q.text.pieces (parts_of_lines q at seen ls) [] ≡ told_of_lines q at seen ls
+found_told q at seen [] = none_found q.text.pieces
+  where
+    none_found : (pieces : Bool) → cond pieces (parts_of_lines q at seen []) [] ≡ told_of_lines q at seen []
+    none_found true = refl
+    none_found false = refl
+found_told q at seen (l ∷ ls) =
+    go q.text.pieces (selects q l) (found_told q (at + (length l + 1)) (seen + 1) ls)
+  where
+    go : (pieces s : Bool)
+        → cond pieces (parts_of_lines q (at + (length l + 1)) (seen + 1) ls) []
+        ≡ told_of_lines q (at + (length l + 1)) (seen + 1) ls
+        → cond pieces (cond s (map (part_at at seen) (parts q l)) []
+        ++ parts_of_lines q (at + (length l + 1)) (seen + 1) ls) []
+        ≡ cond s (map (part_at at seen) (cond pieces (parts q l) [])) []
+        ++ told_of_lines q (at + (length l + 1)) (seen + 1) ls
+    go true s ih = ap (λ xs. cond s (map (part_at at seen) (parts q l)) [] ++ xs) ih
+    go false true ih = ih
+    go false false ih = ih
+
+pub found_lines_told : (q : Search) (bytes : List ℕ) (runs : List Run) (ps : List Part) (count : ℕ)
+    → HasFound q bytes runs ps count → ps ≡ told_of_lines q 0 0 (lines (terminator q) bytes)
+found_lines_told q bytes runs ps count h = h.found_parts ∙ found_told q 0 0 (lines (terminator q) bytes)
 
 step_number : (format : Format) (t : Trail) (selected : Bool) (l : List ℕ)
     → (step format t selected l).number ≡ t.number + 1
@@ -172,7 +222,7 @@ rows_apart rows test xs ys =
 abbrev RowsAre : Search → Format → List ℕ → ℕ → List ℕ → Trail → ℕ → ℕ → List (List ℕ) → Type 0
 RowsAre q format name before bytes t at seen ls =
     run_pieces q format name t ls ≡ part_rows format (terminator q) name before (seen + cut_at q format.limit t.kept ls)
-    bytes (parts_of_lines q at seen ls)
+    bytes (told_of_lines q at seen ls)
 
 line_unselected : (q : Search) (format : Format) (name : List ℕ) (before : ℕ) (bytes : List ℕ) (t : Trail) (at seen : ℕ)
     (l : List ℕ) (ls : List (List ℕ)) → selects q l ≡ false
@@ -182,8 +232,8 @@ line_unselected q format name before bytes t at seen l ls off ih =
     let s = selects q l in
     let b = is_below t.kept format.limit in
     let next = step format t s l in
-    let later = parts_of_lines q (at + (length l + 1)) (seen + 1) ls in
-    let own = map (part_at at seen) (parts q l) in
+    let later = told_of_lines q (at + (length l + 1)) (seen + 1) ls in
+    let own = map (part_at at seen) (told_parts q l) in
     let shown = λ (cut : ℕ) (ps : List Part). part_rows format (terminator q) name before cut bytes ps in
     let unkept : keeps format t s ≡ false = and_left s b off in
     let kept_cut = ap (λ k. cut_at q format.limit k ls) (step_unkept format t s l unkept) in
@@ -204,8 +254,8 @@ line_kept q format name before bytes t at seen l ls on below is text ih =
     let s = selects q l in
     let b = is_below t.kept format.limit in
     let next = step format t s l in
-    let later = parts_of_lines q (at + (length l + 1)) (seen + 1) ls in
-    let own = map (part_at at seen) (parts q l) in
+    let later = told_of_lines q (at + (length l + 1)) (seen + 1) ls in
+    let own = map (part_at at seen) (told_parts q l) in
     let rows = part_row format (terminator q) name before bytes in
     let shown = λ (cut : ℕ) (ps : List Part). part_rows format (terminator q) name before cut bytes ps in
     let kept : keeps format t s ≡ true = and_from s b on below in
@@ -216,8 +266,8 @@ line_kept q format name before bytes t at seen l ls on below is text ih =
     let whole : ℕ = seen + cut_at q format.limit t.kept (l ∷ ls) in
     let sum : (seen + 1) + cut_at q format.limit next.kept ls ≡ whole = omega arith in
     let first : pieces_in q format name (t.number + 1) l ≡ shown whole own =
-    own_rows format (terminator q) name before t.number at seen bytes l (parts q l) is text (parts_within q l)
-    ∙ ap (flat_map rows) (sym (own_all whole at seen (parts q l) (lt-ltb seen whole (omega arith)))) in
+    own_rows format (terminator q) name before t.number at seen bytes l (told_parts q l) is text (parts_within q l)
+    ∙ ap (flat_map rows) (sym (own_all whole at seen (told_parts q l) (lt-ltb seen whole (omega arith)))) in
     ap (λ k. when k (pieces_in q format name (t.number + 1) l) ++ run_pieces q format name next ls) kept
     ∙ (ap (λ xs. xs ++ run_pieces q format name next ls) first
     ∙ (ap (λ xs. shown whole own ++ xs) (ih ∙ ap (λ n. shown n later) sum)
@@ -257,12 +307,12 @@ pieces_rows q format name before bytes t at seen (l ∷ ls) is texts =
 pub block_pieces : (q : Search) (format : Format) (name : List ℕ) (t : Trail) (bytes : List ℕ) →
     run_pieces q format name t (lines (terminator q) bytes) ≡ part_rows format (terminator q) name t.number
     (cut_at q format.limit t.kept (lines (terminator q) bytes)) bytes
-    (parts_of_lines q 0 0 (lines (terminator q) bytes))
+    (told_of_lines q 0 0 (lines (terminator q) bytes))
 block_pieces q format name t bytes =
     let ls = lines (terminator q) bytes in
     let start : 0 + cut_at q format.limit t.kept ls ≡ cut_at q format.limit t.kept ls = omega arith in
     pieces_rows q format name t.number bytes t 0 0 ls (omega arith) (lines_at (terminator q) bytes)
-    ∙ ap (λ n. part_rows format (terminator q) name t.number n bytes (parts_of_lines q 0 0 ls)) start
+    ∙ ap (λ n. part_rows format (terminator q) name t.number n bytes (told_of_lines q 0 0 ls)) start
 
 -- The parts stand in the bytes.
 
@@ -279,15 +329,15 @@ all_join P [] ys h k = k
 all_join P (x ∷ xs) ys h k = (h.0, all_join P xs ys h.1 k)
 
 fit_from : (q : Search) (bytes : List ℕ) (at seen : ℕ) (ls : List (List ℕ)) → AreAt bytes at ls
-    → AllByRecursion (IsPartOf bytes) (parts_of_lines q at seen ls)
+    → AllByRecursion (IsPartOf bytes) (told_of_lines q at seen ls)
 fit_from q bytes at seen [] texts = tt
 fit_from q bytes at seen (l ∷ ls) texts =
-    all_join (IsPartOf bytes) (cond (selects q l) (map (part_at at seen) (parts q l)) [])
-    (parts_of_lines q (at + (length l + 1)) (seen + 1) ls) (of_own (selects q l))
+    all_join (IsPartOf bytes) (cond (selects q l) (map (part_at at seen) (told_parts q l)) [])
+    (told_of_lines q (at + (length l + 1)) (seen + 1) ls) (of_own (selects q l))
     (fit_from q bytes (at + (length l + 1)) (seen + 1) ls texts.2)
   where
-    of_own : (s : Bool) → AllByRecursion (IsPartOf bytes) (cond s (map (part_at at seen) (parts q l)) [])
-    of_own true = own_fit bytes l at seen (parts q l) texts.1 (parts_within q l)
+    of_own : (s : Bool) → AllByRecursion (IsPartOf bytes) (cond s (map (part_at at seen) (told_parts q l)) [])
+    of_own true = own_fit bytes l at seen (told_parts q l) texts.1 (parts_within q l)
     of_own false = tt
 
 each_of : {X : Type 0} (P : X → Type 0) (d : X) (xs : List X) → AllByRecursion P xs → (k : ℕ) → k < length xs
@@ -297,7 +347,7 @@ each_of P d (x ∷ xs) h zero below = h.0
 each_of P d (x ∷ xs) h (suc k) below = each_of P d xs h.1 k (omega (arith, below))
 
 pub parts_fit : (q : Search) (bytes : List ℕ) (ps : List Part)
-    → ps ≡ parts_of_lines q 0 0 (lines (terminator q) bytes) → (k : ℕ) → k < length ps
+    → ps ≡ told_of_lines q 0 0 (lines (terminator q) bytes) → (k : ℕ) → k < length ps
     → IsPartOf bytes (get_or ps k no_part)
 parts_fit q bytes ps is k below =
     let P : List Part → Type 0 = λ xs. AllByRecursion (IsPartOf bytes) xs in

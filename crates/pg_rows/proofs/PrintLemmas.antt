@@ -1,6 +1,7 @@
 -- The rows of a block, stretch by stretch.
 use Rattle.std.proofs.Common.{◌≡◌, ℕ, ◌+◌, ◌-◌, ◌<◌, ◌≤◌, ◌⊎◌, inl, inr, Bool, true, false, ◌&&◌, cond}
-use Rattle.std.proofs.Common.{nat_lt, min, List, [], ◌∷◌, ◌++◌, length, take, drop, refl, sym, ap, ◌∙◌, subst, arith}
+use Rattle.std.proofs.Common.{nat_lt, min, List, [], ◌∷◌, ◌++◌, length, take, drop, map, refl, sym, ap, ◌∙◌, subst}
+use Rattle.std.proofs.Common.{arith}
 use Rattle.std.proofs.Common.{append_assoc, length-append, length-drop}
 use Rattle.circular_buffer.specs.Buffer.{keep_last}
 use Rattle.std.proofs.lemmas.List.{append-nil, drop-append-le, drop-drop, drop_all}
@@ -10,7 +11,7 @@ use Rattle.pg_lines.specs.Lines.{lines, AreWhole}
 use Rattle.pg_lines.proofs.LineLemmas.{lines-append}
 use Rattle.pg_rows.specs.declared.format.Format.{Format}
 use Rattle.pg_rows.specs.declared.progress.Progress.{Progress}
-use Rattle.pg_rows.specs.Output.{context, has_separators, when, is_below}
+use Rattle.pg_rows.specs.Output.{context, gap_text, has_separators, painted, when, is_below}
 use Rattle.pg_rows.specs.Trail.{Trail, run, run_rows, gap_row, context_rows}
 use Rattle.pg_rows.specs.Cursor.{Cursor}
 use Rattle.pg_rows.specs.Progress.{Tells, Passes, Keeps}
@@ -59,9 +60,9 @@ keep_none xs = drop_all (length xs - 0) xs (omega arith)
 gap_is : (format : Format) (end : ℕ) (earlier : Bool) (p : Progress) (t : Trail) → Tells p format t
     → gap_row format end earlier t ≡ gap_of format end earlier p
 gap_is format end earlier p t told =
-    ap (λ s. when (has_separators format && cond t.some s earlier) (45 ∷ 45 ∷ end ∷ [])) told.skipped
+    ap (λ s. when (has_separators format && cond t.some s earlier) (gap_text format end)) told.skipped
     ∙ ap (λ s. when (has_separators format && cond s (nat_lt (context format.before) p.behind) earlier)
-    (45 ∷ 45 ∷ end ∷ []))
+    (gap_text format end))
     (sym told.some)
 
 passed_part : (q : Search) (format : Format) (name : List ℕ) (earlier : Bool) (p : Progress) (t : Trail)
@@ -75,10 +76,12 @@ passed_part q format name earlier p t ls told unkept =
 kept_part : (q : Search) (format : Format) (name : List ℕ) (earlier : Bool) (hidden : List (List ℕ)) (p : Progress)
     (t : Trail) (l : List ℕ) (ls : List (List ℕ)) → Tells p format t → t.window ≡ keep_last (leading format p) hidden
     → AllSelected q true (l ∷ ls) → is_below (t.kept + length ls) format.limit ≡ true
-    → run_rows q format name earlier t (l ∷ ls) ≡ rows_of_kept format (terminator q) name earlier hidden p (l ∷ ls)
+    → run_rows q format name earlier t (l ∷ ls) ≡ rows_of_kept format (terminator q) name earlier hidden p
+    (map (painted q format) (l ∷ ls))
 kept_part q format name earlier hidden p t l ls told window selected below =
     let end = terminator q in
-    let own : List ℕ = marked_rows format end name 58 (t.number + 1) (l ∷ ls) in
+    let texts = map (painted q format) (l ∷ ls) in
+    let own : List ℕ = marked_rows format end name 58 (t.number + 1) texts in
     let number : (t.number + 1) - length t.window ≡ (p.number + 1) - leading format p =
     let a = told.number in let b = told.window in omega arith in
     kept_lines_rows q format name earlier t l ls selected below
@@ -89,7 +92,7 @@ kept_part q format name earlier hidden p t l ls told window selected below =
     ∙ (ap (λ n. marked_rows format end name 45 n t.window) number
     ∙ ap (marked_rows format end name 45 ((p.number + 1) - leading format p)) window))
     ∙ ap (λ n. marked_rows format end name 45 ((p.number + 1) - leading format p) (keep_last (leading format p) hidden)
-    ++ marked_rows format end name 58 (n + 1) (l ∷ ls)) (sym told.number)))
+    ++ marked_rows format end name 58 (n + 1) texts) (sym told.number)))
 
 -- Lines of which the first ones are whole, or all.
 
@@ -200,13 +203,15 @@ pub kept_step : (q : Search) (format : Format) (c : Cursor) (hidden hidden' : Li
     → is_below (p.kept + (length (lines (terminator q) front) - 1)) format.limit ≡ true
     → Keeps p format (length (lines (terminator q) front)) later
     → IsAt q format c hidden' bytes before
-    (after ++ rows_of_kept format (terminator q) c.name c.earlier hidden p (lines (terminator q) front)) later
+    (after ++ rows_of_kept format (terminator q) c.name c.earlier hidden p (map (painted q format)
+    (lines (terminator q) front))) later
     (at + length front) (seen + length (lines (terminator q) front))
 kept_step q format c hidden hidden' bytes before after p later at seen h front rest joins whole selected some below
     keeps =
     let end = terminator q in
     moves q format c hidden hidden' bytes before after p later at seen h front rest
-    (rows_of_kept format end c.name c.earlier hidden p (lines end front)) joins (lines_apart end front rest whole)
+    (rows_of_kept format end c.name c.earlier hidden p (map (painted q format) (lines end front))) joins
+    (lines_apart end front rest whole)
     (rows (lines end front) selected some below)
     (told (lines end front) selected some below keeps)
     (window (lines end front) selected some below keeps)
@@ -220,7 +225,7 @@ kept_step q format c hidden hidden' bytes before after p later at seen h front r
     rows : (ls : List (List ℕ)) → AllSelected q true ls → 0 < length ls
         → is_below (p.kept + (length ls - 1)) format.limit ≡ true
         → run_rows q format c.name c.earlier h.trail ls ≡ rows_of_kept format (terminator q) c.name c.earlier hidden p
-        ls
+        (map (painted q format) ls)
     rows [] selected some below = absurd (omega (arith, some))
     rows (l ∷ ls) selected some below = kept_part q format c.name c.earlier hidden p h.trail l ls h.tells h.window
         selected

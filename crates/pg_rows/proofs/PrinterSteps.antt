@@ -1,15 +1,15 @@
 -- What the printer does at a run of selected lines, and behind the last one.
 use Rattle.std.proofs.Common.{◌≡◌, ℕ, ◌+◌, ◌-◌, ◌<◌, ◌≤◌, ◌⊎◌, inl, inr, min, Bool, true, false, cond, nat_eq}
 use Rattle.std.proofs.Common.{List, [], ◌∷◌, ◌++◌}
-use Rattle.std.proofs.Common.{length, take, drop, slice_range, get_or, refl, sym, ap, ◌∙◌, subst, arith, append_assoc}
+use Rattle.std.proofs.Common.{length, map, take, drop, slice_range, get_or, refl, sym, ap, ◌∙◌, subst, arith}
+use Rattle.std.proofs.Common.{append_assoc}
 use Rattle.std.proofs.Common.{length-append, length-drop}
 use Rattle.circular_buffer.specs.Buffer.{keep_last}
-use Rattle.std.proofs.lemmas.Bool.{cases_lt, cases_eq, eq-eqb, ne_eqb}
-use Rattle.std.proofs.lemmas.List.{drop_more, append-nil, drop-drop, length-take-le}
+use Rattle.std.proofs.lemmas.Bool.{cases_lt, cases_eq, cases_Bool, eq-eqb, false≢true, ne_eqb}
+use Rattle.std.proofs.lemmas.List.{drop_more, append-nil, drop-drop, drop-take, length-take-le}
 use Rattle.pg_lines.specs.Search.{Search, terminator}
 use Rattle.pg_lines.specs.Lines.{lines}
 use Rattle.pg_lines.specs.Runs.{AreRuns}
-use Rattle.pg_lines.specs.BlockParts.{parts_of_lines}
 use Rattle.pg_lines.specs.declared.run.Run.{Run}
 use Rattle.pg_lines.specs.declared.run.Part.{Part}
 use Rattle.pg_rows.proofs.ModeLemmas.{rows_are}
@@ -18,10 +18,11 @@ use Rattle.pg_rows.specs.declared.progress.Progress.{Progress}
 use Rattle.pg_rows.specs.declared.printer.Printer.{Printer}
 use Rattle.pg_rows.specs.declared.printer.Place.{Place}
 use Rattle.pg_rows.specs.declared.window.Window.{Window}
-use Rattle.pg_rows.specs.Output.{context, is_below}
+use Rattle.pg_rows.specs.Output.{context, is_below, painted}
 use Rattle.pg_rows.specs.Trail.{run_rows, run_pieces}
-use Rattle.pg_rows.specs.Stretch.{part_rows}
-use Rattle.pg_rows.specs.Pieces.{cut_at, HasFound}
+use Rattle.pg_rows.specs.Stretch.{part_rows, AllSelected}
+use Rattle.pg_rows.specs.Pieces.{cut_at, told_of_lines, HasFound}
+use Rattle.pg_rows.specs.Painting.{count_before, IsTold}
 use Rattle.pg_rows.specs.Cursor.{Cursor}
 use Rattle.pg_rows.specs.Window.{held, IsWindow}
 use Rattle.pg_rows.specs.Progress.{Passes, Keeps, kept_of}
@@ -33,12 +34,13 @@ use Rattle.pg_rows.proofs.StretchLemmas.{length_keep_last}
 use Rattle.pg_rows.proofs.BlockLemmas.{no_run, stretches, full_none, none_full, kept_few}
 use Rattle.pg_rows.proofs.PrintLemmas.{at_first, at_last, enough_hidden, passed_step, keep_none}
 use Rattle.pg_rows.proofs.LeadLemmas.{last_of_both}
-use Rattle.pg_rows.proofs.PieceLemmas.{block_pieces}
-use Rattle.pg_rows.proofs.RunSteps.{IsBefore, comes_next, run_step}
+use Rattle.pg_rows.proofs.PieceLemmas.{block_pieces, found_lines_told}
+use Rattle.pg_rows.proofs.RunSteps.{IsBefore, comes_next, kept_texts, run_step}
+use Rattle.pg_rows.proofs.PaintLemmas.{AreLeft, run_own}
 
 -- the printer has written nothing of a block
 pub before_all : {A : Type 0} (s : Printer A) (q : Search) (format : Format) (c : Cursor) (bytes taken : List ℕ)
-    (runs : List Run) (total : ℕ) → Remembers s q format c → shows_lines q format ≡ true → HasLines q bytes runs total
+    (runs : List Run) (total : ℕ) → Remembers s q format c → shows_lines format ≡ true → HasLines q bytes runs total
     → IsBefore q format c (held (terminator q) s.window) bytes taken taken s.progress 0 0 runs
 before_all s q format c bytes taken runs total r shows has = record {
   here = at_first q format c (held (terminator q) s.window) bytes taken s.progress r.told (r.window shows);
@@ -97,21 +99,22 @@ can_step s q format c bytes before after place runs index total count r has h be
     }
 
 -- the rows from one place to the next
-abbrev pub step_rows : {A : Type 0} → Format → ℕ → List ℕ → Bool → Window A → List ℕ → ℕ → ℕ → ℕ → Progress → Progress
+abbrev pub step_rows : {A : Type 0} → Search → Format → ℕ → List ℕ → Bool → Window A → List ℕ → ℕ → ℕ → ℕ → Progress
+    → Progress
     → List ℕ
-step_rows format end name earlier window bytes at start place p passed =
+step_rows q format end name earlier window bytes at start place p passed =
     rows_of_run format end name earlier (held end window) p passed (lines end (slice_range bytes at start))
-    (lines end (slice_range bytes start place))
+    (map (painted q format) (lines end (slice_range bytes start place)))
 
 step_same : {A : Type 0} (s : Printer A) (q : Search) (format : Format) (c : Cursor) (bytes : List ℕ)
     (at start place : ℕ) (p passed : Progress) → Remembers s q format c →
-    step_rows s.format s.end s.prefix s.earlier s.window bytes at start place p passed
-    ≡ step_rows format (terminator q) c.name c.earlier s.window bytes at start place p passed
+    step_rows q s.format s.end s.prefix s.earlier s.window bytes at start place p passed
+    ≡ step_rows q format (terminator q) c.name c.earlier s.window bytes at start place p passed
 step_same s q format c bytes at start place p passed r =
-    ap (λ f. step_rows f s.end s.prefix s.earlier s.window bytes at start place p passed) r.format_is
-    ∙ (ap (λ e. step_rows format e s.prefix s.earlier s.window bytes at start place p passed) r.end_is
-    ∙ (ap (λ n. step_rows format (terminator q) n s.earlier s.window bytes at start place p passed) r.name_is
-    ∙ ap (λ b. step_rows format (terminator q) c.name b s.window bytes at start place p passed) r.earlier_is))
+    ap (λ f. step_rows q f s.end s.prefix s.earlier s.window bytes at start place p passed) r.format_is
+    ∙ (ap (λ e. step_rows q format e s.prefix s.earlier s.window bytes at start place p passed) r.end_is
+    ∙ (ap (λ n. step_rows q format (terminator q) n s.earlier s.window bytes at start place p passed) r.name_is
+    ∙ ap (λ b. step_rows q format (terminator q) c.name b s.window bytes at start place p passed) r.earlier_is))
 
 -- the step from one place to the next
 pub record IsStep {A : Type 0} (s : Printer A) (bytes : List ℕ) (place : Place) (here : Run) (count : ℕ)
@@ -128,7 +131,8 @@ pub stepped : {A : Type 0} (s : Printer A) (q : Search) (format : Format) (c : C
     → count ≡ kept_of s.format.limit place.progress.kept (get_or runs index no_run).count → (count ≡ 0 → ⊥)
     → IsStep s bytes place (get_or runs index no_run) count passed next
     → IsBefore q format c (held (terminator q) s.window) bytes before (after
-    ++ step_rows s.format s.end s.prefix s.earlier s.window bytes place.at (get_or runs index no_run).span.start next.at
+    ++ step_rows q s.format s.end s.prefix s.earlier s.window bytes place.at (get_or runs index no_run).span.start
+    next.at
     place.progress passed) next.progress next.at next.seen (drop (index + 1) runs)
 stepped s q format c bytes before after place next passed runs index count r h below is some step =
     let here = get_or runs index no_run in
@@ -142,9 +146,9 @@ stepped s q format c bytes before after place next passed runs index count r h b
     some in
     let K : Format → Type 0 = λ f. Keeps passed f count next.progress in
     let E : ℕ → Type 0 = λ e. EndsKept e bytes here count next.at in
-    let rows = step_rows format (terminator q) c.name c.earlier s.window bytes place.at here.span.start next.at
+    let rows = step_rows q format (terminator q) c.name c.earlier s.window bytes place.at here.span.start next.at
     place.progress passed in
-    let written = step_rows s.format s.end s.prefix s.earlier s.window bytes place.at here.span.start next.at
+    let written = step_rows q s.format s.end s.prefix s.earlier s.window bytes place.at here.span.start next.at
     place.progress passed in
     let k = run_step q format c hidden bytes before after place.progress passed next.progress place.at place.seen count
     next.at here more h.here are step.passes (subst K r.format_is step.keeps) is' (omega (arith, some))
@@ -158,6 +162,86 @@ stepped s q format c bytes before after place next passed runs index count r h b
     let S : List ℕ → Type 0 = λ t. IsBefore q format c hidden bytes before t next.progress next.at (here.first + count)
     more in
     subst R same (subst Q (sym step.seen) (subst S (append_assoc after first _) k))
+
+-- what a step takes of the parts
+pub record TakesParts {A : Type 0} (s : Printer A) (q : Search) (bytes : List ℕ) (parts : List Part)
+    (place next : Place) (here : Run) : Type 0 where
+  pub told : IsTold q s.format.colored s.end (take next.at bytes) here.span.start here.first
+      (slice_range parts place.used next.used)
+  pub ordered : place.used ≤ next.used
+  pub within : next.used ≤ length parts
+  pub left : s.format.colored ≡ true → AreLeft q bytes parts next.used next.at next.seen
+
+-- the lines that are kept of a run stand alone where the bytes are cut behind them
+pub cut_bytes : (bytes : List ℕ) (start place : ℕ) → start ≤ place
+    → drop start (take place bytes) ≡ slice_range bytes start place
+cut_bytes bytes start place low =
+    let sum : start + (place - start) ≡ place = omega arith in
+    ap (λ n. drop start (take n bytes)) (sym sum) ∙ drop-take start (place - start) bytes
+
+pub takes_parts : {A : Type 0} (s : Printer A) (q : Search) (format : Format) (c : Cursor)
+    (bytes before after : List ℕ) (parts : List Part) (place next : Place) (runs : List Run) (index count : ℕ)
+    → Remembers s q format c → IsBefore q format c (held (terminator q) s.window) bytes
+    before after place.progress place.at place.seen (drop index runs) → index < length runs
+    → count ≡ kept_of s.format.limit place.progress.kept (get_or runs index no_run).count → (count ≡ 0 → ⊥)
+    → EndsKept s.end bytes (get_or runs index no_run) count next.at
+    → next.seen ≡ (get_or runs index no_run).first + count
+    → next.used ≡ cond s.format.colored
+    (place.used + count_before ((get_or runs index no_run).first + count) (drop place.used parts)) place.used
+    → place.used ≤ length parts
+    → (s.format.colored ≡ true → AreLeft q bytes parts place.used place.at place.seen)
+    → TakesParts s q bytes parts place next (get_or runs index no_run)
+takes_parts s q format c bytes before after parts place next runs index count r h below is some ends seen used fits left
+    =
+    let here = get_or runs index no_run in
+    let more = drop (index + 1) runs in
+    let P : List Run → Type 0 = λ rs. IsBefore q format c (held (terminator q) s.window) bytes before after
+    place.progress place.at place.seen rs in
+    let h' = subst P (drop_more runs index no_run below) h in
+    let is' = is ∙ ap (λ f. kept_of f.limit place.progress.kept here.count) r.format_is in
+    let are = is_ahead q format c (held (terminator q) s.window) bytes before after place.progress place.at place.seen
+    count here more h' is' some in
+    let few = kept_few format.limit place.progress.kept here.count in
+    let E : ℕ → Type 0 = λ e. EndsKept e bytes here count next.at in
+    let kept = kept_texts q place.at place.seen bytes here count next.at are.0 h.here.within (omega (arith, is'))
+    (subst E r.end_is ends) in
+    let own = told_of_lines q here.span.start here.first in
+    let cut : lines s.end (drop here.span.start (take next.at bytes))
+    ≡ lines (terminator q) (slice_range bytes here.span.start next.at) =
+    ap (λ e. lines e (drop here.span.start (take next.at bytes))) r.end_is
+    ∙ ap (lines (terminator q)) (cut_bytes bytes here.span.start next.at ends.low) in
+    let S : List (List ℕ) → Type 0 = λ ls. AllSelected q true ls in
+    let selected = subst S (sym cut) kept.selected in
+    elim (cases_Bool s.format.colored) [
+      | inl on ↦
+          let a = run_own q bytes parts place.used next.used place.at place.seen count next.at here are.0 h.here.within
+          kept ends.low fits (left on) (used ∙ ap (λ b. cond b (place.used
+          + count_before (here.first + count) (drop place.used parts)) place.used) on) in
+          record {
+            told = record {
+              end_is = r.end_is;
+              selected = selected;
+              parts_are = λ _. a.own_is ∙ sym (ap own cut);
+            };
+            ordered = a.ordered;
+            within = a.within;
+            left = λ _. a.later_is ∙ ap (λ n. told_of_lines q next.at n (lines (terminator q) (drop next.at bytes)))
+                (sym seen);
+          }
+      | inr off ↦
+          let same : next.used ≡ place.used = used ∙ ap (λ b. cond b (place.used
+          + count_before (here.first + count) (drop place.used parts)) place.used) off in
+          record {
+            told = record {
+              end_is = r.end_is;
+              selected = selected;
+              parts_are = λ on. absurd (false≢true (sym off ∙ on));
+            };
+            ordered = omega (arith, same);
+            within = omega (arith, same);
+            left = λ on. absurd (false≢true (sym off ∙ on));
+          }
+    ]
 
 -- Behind the last line that is kept.
 
@@ -268,7 +352,7 @@ kept_window ctx behind hidden others is =
     ∙ ap (λ k. drop k others) skip))
 
 pub follows : {A : Type 0} (s : Printer A) (q : Search) (format : Format) (c : Cursor) (bytes before after : List ℕ)
-    (place : Place) (last : Progress) (count stop left : ℕ) → Remembers s q format c → shows_lines q format ≡ true
+    (place : Place) (last : Progress) (count stop left : ℕ) → Remembers s q format c → shows_lines format ≡ true
     → ComesLast q format c (held (terminator q) s.window) bytes before after s.progress place
     → Passes place.progress count last → count ≡ length (lines s.end (drop place.at bytes))
     → lines s.end (drop stop (drop place.at bytes)) ≡ drop place.progress.countdown (lines s.end (drop place.at bytes))
@@ -320,35 +404,34 @@ follows s q format c bytes before after place last count stop left r shows h pas
 -- What a block adds, by the kind of rows.
 
 pub shown_pieces : (q : Search) (format : Format) (c : Cursor) (bytes : List ℕ) → shows_rows format.mode ≡ true
-    → q.text.pieces ≡ true
+    → format.parts ≡ true
     → shown_rows q format c bytes ≡ run_pieces q format c.name c.trail (lines (terminator q) bytes)
 shown_pieces q format c bytes rows pieces =
     let ls = lines (terminator q) bytes in
     let parts = run_pieces q format c.name c.trail ls in
     let whole = run_rows q format c.name c.earlier c.trail ls in
-    rows_are format.mode (cond q.text.pieces parts whole) [] [] rows ∙ ap (λ b. cond b parts whole) pieces
+    rows_are format.mode (cond format.parts parts whole) [] [] rows ∙ ap (λ b. cond b parts whole) pieces
 
 pub shown_lines : (q : Search) (format : Format) (c : Cursor) (bytes : List ℕ) → shows_rows format.mode ≡ true
-    → q.text.pieces ≡ false
+    → format.parts ≡ false
     → shown_rows q format c bytes ≡ run_rows q format c.name c.earlier c.trail (lines (terminator q) bytes)
 shown_lines q format c bytes rows pieces =
     let ls = lines (terminator q) bytes in
     let parts = run_pieces q format c.name c.trail ls in
     let whole = run_rows q format c.name c.earlier c.trail ls in
-    rows_are format.mode (cond q.text.pieces parts whole) [] [] rows ∙ ap (λ b. cond b parts whole) pieces
+    rows_are format.mode (cond format.parts parts whole) [] [] rows ∙ ap (λ b. cond b parts whole) pieces
 
 -- the rows of the parts, as the printer writes them
 pub pieces_same : {A : Type 0} (s : Printer A) (q : Search) (format : Format) (c : Cursor) (bytes : List ℕ)
-    (runs : List Run) (parts : List Part) (total cut : ℕ) → Remembers s q format c → q.text.pieces ≡ true
+    (runs : List Run) (parts : List Part) (total cut : ℕ) → Remembers s q format c
     → HasFound q bytes runs parts total
     → cut ≡ cut_at q s.format.limit s.progress.kept (lines (terminator q) bytes) →
     part_rows s.format s.end s.prefix s.progress.number cut bytes parts
     ≡ run_pieces q format c.name c.trail (lines (terminator q) bytes)
-pieces_same s q format c bytes runs parts total cut r pieces found is =
+pieces_same s q format c bytes runs parts total cut r found is =
     let end = terminator q in
     let ls = lines end bytes in
-    let given = parts_of_lines q 0 0 ls in
-    let found_all : parts ≡ given = found.found_parts ∙ ap (λ b. cond b given []) pieces in
+    let found_all = found_lines_told q bytes runs parts total found in
     let cut_is : cut ≡ cut_at q format.limit c.trail.kept ls =
     is ∙ (ap (λ f. cut_at q f.limit s.progress.kept ls) r.format_is ∙ ap (λ k. cut_at q format.limit k ls) r.told.kept)
     in

@@ -3,7 +3,7 @@ use Rattle.std.proofs.Common.{◌≡◌, ℕ, zero, suc, ◌+◌, ◌<◌, ◌�
 use Rattle.std.proofs.Common.{◌++◌, refl, sym, ap, ◌∙◌, arith, append_assoc}
 use Rattle.std.specs.List.{range_with_len, list_any, filter, flat_map}
 use Rattle.pg_rows.specs.declared.format.Format.{Format}
-use Rattle.pg_rows.specs.Output.{separator, is_behind, has_separators, when}
+use Rattle.pg_rows.specs.Output.{gap_text, separator, is_behind, has_separators, when}
 use Rattle.pg_rows.proofs.NearLemmas.{any_same}
 
 abbrev pub put : (ℕ → Bool) → (ℕ → List ℕ) → ℕ → ℕ → List ℕ
@@ -72,7 +72,7 @@ pub separator_same : (format : Format) (end : ℕ) (set set' : ℕ → Bool) (ea
     → ((k : ℕ) → k < i → set k ≡ set' k) → separator format end set earlier i ≡ separator format end set' earlier i
 separator_same format end set set' earlier i h =
     ap (λ t. when (has_separators format && not t && (earlier || list_any set (range_with_len 0 i)))
-    (45 ∷ 45 ∷ end ∷ []))
+    (gap_text format end))
     (behind_same set set' i h)
-    ∙ ap (λ t. when (has_separators format && not (is_behind set' i) && (earlier || t)) (45 ∷ 45 ∷ end ∷ []))
+    ∙ ap (λ t. when (has_separators format && not (is_behind set' i) && (earlier || t)) (gap_text format end))
     (any_same set set' 0 i (λ k low high. h k (omega arith)))

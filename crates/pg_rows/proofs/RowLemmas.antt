@@ -1,21 +1,49 @@
 -- Rows of stretches of lines.
 use Rattle.std.proofs.Common.{◌≡◌, ℕ, suc, ◌+◌, ◌<◌, Bool, true, false, cond, nat_lt, not, ◌&&◌, ◌||◌, List, [], ◌∷◌}
-use Rattle.std.proofs.Common.{◌++◌, length}
+use Rattle.std.proofs.Common.{◌++◌, ◌==◌, length}
 use Rattle.std.proofs.Common.{drop}
 use Rattle.std.proofs.Common.{get_or, refl, sym, ap, ◌∙◌, arith, append_assoc}
 use Rattle.std.specs.List.{flat_map, filter}
 use Rattle.std.specs.Fmt.{decimal}
+use Rattle.std.proofs.lemmas.Bool.Decides.{nat_tests}
 use Rattle.std.proofs.lemmas.List.{append-nil, drop_more}
 use Rattle.pg_lines.specs.Lines.{terminated}
 use Rattle.pg_rows.specs.declared.format.Format.{Format}
 use Rattle.pg_lines.specs.declared.run.Part.{Part}
-use Rattle.pg_rows.specs.Output.{is_nothing, name_mark, when, row}
-use Rattle.pg_rows.specs.Stretch.{has_text, marked_rows, prefix_text, part_row, part_rows}
+use Rattle.pg_rows.specs.Colors.{in_color, name_color, number_color, mark_color, part_color}
+use Rattle.pg_rows.specs.Output.{is_nothing, mark_text, name_end, name_text, tab_before, when, row}
+use Rattle.pg_rows.specs.Stretch.{has_text, marked_rows, plain_prefix_text, prefix_text, part_row, part_rows}
 
 pub row_is : (format : Format) (end : ℕ) (name : List ℕ) (number mark : ℕ) (text : List ℕ)
     → row format end name number mark text
     ≡ prefix_text format name number mark (not (is_nothing text)) ++ (text ++ end ∷ [])
 row_is format end name number mark text = simp append_assoc
+
+-- without colors a row has before its text what it has without them
+pub plain_prefix : (format : Format) (name : List ℕ) (number mark : ℕ) (has_text : Bool) → format.colored ≡ false
+    → plain_prefix_text format name number mark has_text ≡ prefix_text format name number mark has_text
+plain_prefix format name number mark has_text off =
+    let text : Bool → List ℕ = λ c. when format.names (in_color c name_color name
+    ++ cond format.null (0 ∷ []) (in_color c mark_color (mark ∷ [])))
+    ++ when format.numbers (in_color c number_color (decimal number) ++ in_color c mark_color (mark ∷ []))
+    ++ tab_before format has_text in
+    marked format.null ∙ sym (ap text off)
+  where
+    rest : List ℕ
+    rest = when format.numbers (decimal number ++ mark ∷ [])
+
+    marked : (null : Bool)
+        → when format.names (name ++ cond null 0 mark ∷ []) ++ rest ++ tab_before format has_text
+        ≡ when format.names (name ++ cond null (0 ∷ []) (mark ∷ [])) ++ rest ++ tab_before format has_text
+    marked true = refl
+    marked false = refl
+
+-- the text of a part is something where it is in color, or there is a text
+pub part_some : (colored : Bool) (text : List ℕ)
+    → (colored || not (length text == 0)) ≡ not (is_nothing (in_color colored part_color text))
+part_some true text = refl
+part_some false [] = refl
+part_some false (x ∷ xs) = grind (arith, nat_tests)
 
 -- the rows of lines, and of lines behind them
 pub marked_append : (format : Format) (end : ℕ) (name : List ℕ) (mark number : ℕ) (xs ys : List (List ℕ))
@@ -53,9 +81,10 @@ marked_bare format end name mark number [] names numbers = refl
 marked_bare format end name mark number (l ∷ ls) names numbers =
     let later = marked_rows format end name mark (number + 1) ls in
     let tab : Bool → Bool → List ℕ = λ s t. when (format.tabs && ((s || t) && not (is_nothing l))) (9 ∷ []) in
-    ap (λ t. (when t (name ++ name_mark format mark ∷ []) ++ when format.numbers (decimal number ++ mark ∷ [])
+    let shown_number : List ℕ = in_color format.colored number_color (decimal number) ++ mark_text format mark in
+    ap (λ t. (when t (name_text format name ++ name_end format mark) ++ when format.numbers shown_number
     ++ tab t format.numbers ++ l ++ end ∷ []) ++ later) names
-    ∙ (ap (λ t. (when t (decimal number ++ mark ∷ []) ++ tab false t ++ l ++ end ∷ []) ++ later) numbers
+    ∙ (ap (λ t. (when t shown_number ++ tab false t ++ l ++ end ∷ []) ++ later) numbers
     ∙ (ap (λ t. (when t (9 ∷ []) ++ l ++ end ∷ []) ++ later) (no_tab format.tabs)
     ∙ ap (λ xs. (l ++ end ∷ []) ++ xs) (marked_bare format end name mark (number + 1) ls names numbers)))
 
@@ -99,7 +128,7 @@ parts_more format end name before cut bytes ps k d below =
     (nat_lt p.line cut) refl
 
 -- the row of a count where there are names
-pub count_row_is : (names : Bool) (mark : ℕ) (name count : List ℕ) → names ≡ true
-    → when names (name ++ mark ∷ []) ++ count ++ 10 ∷ [] ≡ (name ++ mark ∷ []) ++ (count ++ 10 ∷ [])
-count_row_is true mark name count e = simp append_assoc
-count_row_is false mark name count e = absurd (cc)
+pub count_row_is : (names : Bool) (name count : List ℕ) → names ≡ true
+    → when names name ++ count ++ 10 ∷ [] ≡ name ++ (count ++ 10 ∷ [])
+count_row_is true name count e = append_assoc name count (10 ∷ [])
+count_row_is false name count e = absurd (cc)

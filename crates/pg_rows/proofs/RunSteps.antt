@@ -1,6 +1,6 @@
 -- From one run of selected lines to the next.
 use Rattle.std.proofs.Common.{◌≡◌, ℕ, ◌+◌, ◌-◌, ◌<◌, ◌≤◌, ◌⊎◌, inl, inr, true, false, List, [], ◌∷◌, ◌++◌}
-use Rattle.std.proofs.Common.{length, take}
+use Rattle.std.proofs.Common.{length, map, take}
 use Rattle.std.proofs.Common.{drop, slice_range, refl, sym, ap, ◌∙◌, subst, arith, append_assoc}
 use Rattle.std.proofs.Common.{length-drop}
 use Rattle.std.proofs.lemmas.Bool.{cases_lt}
@@ -13,7 +13,7 @@ use Rattle.pg_lines.specs.Runs.{AreRuns, IsNextRun}
 use Rattle.pg_lines.specs.declared.run.Run.{Run}
 use Rattle.pg_rows.specs.declared.format.Format.{Format}
 use Rattle.pg_rows.specs.declared.progress.Progress.{Progress}
-use Rattle.pg_rows.specs.Output.{is_below}
+use Rattle.pg_rows.specs.Output.{is_below, painted}
 use Rattle.pg_rows.specs.Sink.{TakesPart}
 use Rattle.pg_rows.specs.Trail.{run_rows}
 use Rattle.pg_rows.specs.Cursor.{Cursor}
@@ -66,6 +66,48 @@ pub comes_next : (q : Search) (at seen : ℕ) (bytes : List ℕ) (run : Run) (ru
     → AreRuns q at seen (drop at bytes) (run ∷ runs) → at ≤ length bytes → ComesNext (terminator q) bytes at seen run
 comes_next q at seen bytes run runs are within = (next_texts q at seen bytes run are.0 within).next
 
+-- the lines of a run that are kept stand up to a place
+pub record KeptTexts (q : Search) (bytes : List ℕ) (run : Run) (count place : ℕ) : Type 0 where
+  pub long : length (lines (terminator q) (slice_range bytes run.span.start place)) ≡ count
+  pub selected : AllSelected q true (lines (terminator q) (slice_range bytes run.span.start place))
+  pub whole : AreWhole (terminator q) (slice_range bytes run.span.start place) ⊎ (drop place bytes ≡ [])
+  pub size : run.span.start + length (slice_range bytes run.span.start place) ≡ place
+
+pub kept_texts : (q : Search) (at seen : ℕ) (bytes : List ℕ) (run : Run) (count place : ℕ)
+    (n : IsNextRun q at seen (drop at bytes) run) → at ≤ length bytes → count ≤ run.count
+    → EndsKept (terminator q) bytes run count place → KeptTexts q bytes run count place
+kept_texts q at seen bytes run count place n within few ends =
+    let end = terminator q in
+    let texts = next_texts q at seen bytes run n within in
+    let front = slice_range bytes run.span.start place in
+    let ls = lines end (slice_range bytes run.span.start run.span.end) in
+    let long : length (lines end front) ≡ count =
+    ap (λ xs. length xs) ends.kept ∙ length-take-le count ls (omega (arith, texts.next.count)) in
+    let selected_all : AllSelected q true ls = let P : List ℕ → Type 0 = λ xs. AllSelected q true (lines end xs) in
+    subst P (sym texts.text) n.text_selected in
+    let selected : AllSelected q true (lines end front) =
+    let P : List (List ℕ) → Type 0 = λ xs. AllSelected q true xs in
+    subst P (sym ends.kept) (all_take (λ l. selects q l ≡ true) count ls selected_all) in
+    let whole : AreWhole end front ⊎ (drop place bytes ≡ []) = elim (cases_lt count run.count) [
+      | inl less ↦ inl (ends.whole less)
+      | inr all ↦
+          let stop = ends.all all in
+          let P : List ℕ → Type 0 = λ xs. AreWhole end xs in
+          elim n.text_whole [
+            | inl w ↦ inl (subst P (sym (ap (slice_range bytes run.span.start) stop ∙ texts.text)) w)
+            | inr none ↦ inr (ap (λ k. drop k bytes) stop ∙ (texts.later ∙ none))
+          ]
+    ] in
+    let left = length-drop run.span.start bytes in
+    record {
+      long = long;
+      selected = selected;
+      whole = whole;
+      size = let cut : length front ≡ place - run.span.start = length-take-le (place - run.span.start)
+          (drop run.span.start bytes) (omega (arith, ends.low, ends.high, texts.next.within)) in
+          omega (arith, ends.low);
+    }
+
 -- The printer has come to a place, and these runs come next or the limit is reached.
 pub record IsBefore (q : Search) (format : Format) (c : Cursor) (hidden : List (List ℕ)) (bytes : List ℕ)
     (before after : List ℕ) (p : Progress) (at seen : ℕ) (runs : List Run) : Type 0 where
@@ -108,7 +150,8 @@ pub run_step : (q : Search) (format : Format) (c : Cursor) (hidden : List (List 
     ++ rows_of_passed format (terminator q) c.name p (lines (terminator q) (slice_range bytes at run.span.start)))
     ++ rows_of_kept format (terminator q) c.name c.earlier
     (hidden ++ drop p.countdown (lines (terminator q) (slice_range bytes at run.span.start))) passed
-    (lines (terminator q) (slice_range bytes run.span.start place))) next place (run.first + count) runs
+    (map (painted q format) (lines (terminator q) (slice_range bytes run.span.start place)))) next place
+    (run.first + count) runs
 run_step q format c hidden bytes before after p passed next at seen count place run runs h are passes keeps is some
     ends =
     let end = terminator q in
@@ -119,23 +162,8 @@ run_step q format c hidden bytes before after p passed next at seen count place 
     let middle = after ++ rows_of_passed format end c.name p gap in
     let front = slice_range bytes run.span.start place in
     let ls = lines end (slice_range bytes run.span.start run.span.end) in
-    let long : length (lines end front) ≡ count =
-    ap (λ xs. length xs) ends.kept ∙ length-take-le count ls (omega (arith, texts.next.count)) in
-    let selected_all : AllSelected q true ls = let P : List ℕ → Type 0 = λ xs. AllSelected q true (lines end xs) in
-    subst P (sym texts.text) n.text_selected in
-    let selected : AllSelected q true (lines end front) =
-    let P : List (List ℕ) → Type 0 = λ xs. AllSelected q true xs in
-    subst P (sym ends.kept) (all_take (λ l. selects q l ≡ true) count ls selected_all) in
-    let whole : AreWhole end front ⊎ (drop place bytes ≡ []) = elim (cases_lt count run.count) [
-      | inl less ↦ inl (ends.whole less)
-      | inr all ↦
-          let stop = ends.all all in
-          let P : List ℕ → Type 0 = λ xs. AreWhole end xs in
-          elim n.text_whole [
-            | inl w ↦ inl (subst P (sym (ap (slice_range bytes run.span.start) stop ∙ texts.text)) w)
-            | inr none ↦ inr (ap (λ k. drop k bytes) stop ∙ (texts.later ∙ none))
-          ]
-    ] in
+    let kept = kept_texts q at seen bytes run count place n h.within (omega (arith, is)) ends in
+    let long = kept.long in
     let same : p.kept + (count - 1) ≡ passed.kept + (length (lines end front) - 1) = omega (arith, passes.kept, long) in
     let below : is_below (passed.kept + (length (lines end front) - 1)) format.limit ≡ true =
     ap (λ k. is_below k format.limit) (sym same) ∙ kept_fits format.limit p.kept run.count (count - 1) (omega arith) in
@@ -143,19 +171,15 @@ run_step q format c hidden bytes before after p passed next at seen count place 
     let h2 = kept_step q format c (hidden ++ drop p.countdown gap) hidden bytes before middle passed next run.span.start
     run.first (gap_step q format c hidden bytes before after p passed at seen run h n texts passes) front
     (drop place bytes)
-    (drop_split bytes run.span.start place ends.low) whole selected (omega (arith, long)) below
+    (drop_split bytes run.span.start place ends.low) kept.whole kept.selected (omega (arith, long)) below
     (subst P (sym long) keeps) in
-    let left = length-drop run.span.start bytes in
-    let size : run.span.start + length front ≡ place =
-    let cut : length front ≡ place - run.span.start = length-take-le (place - run.span.start)
-    (drop run.span.start bytes)
-    (omega (arith, ends.low, ends.high, texts.next.within)) in omega (arith, ends.low) in
-    let rows = rows_of_kept format end c.name c.earlier (hidden ++ drop p.countdown gap) passed (lines end front) in
+    let rows = rows_of_kept format end c.name c.earlier (hidden ++ drop p.countdown gap) passed
+    (map (painted q format) (lines end front)) in
     let Q : ℕ → Type 0 = λ k. IsAt q format c hidden bytes before (middle ++ rows) next k
     (run.first + length (lines end front)) in
     let R : ℕ → Type 0 = λ k. IsAt q format c hidden bytes before (middle ++ rows) next place (run.first + k) in
     record {
-      here = subst R long (subst Q size h2);
+      here = subst R long (subst Q kept.size h2);
       ahead = elim (cases_lt count run.count) [
         | inl less ↦
             let sum : p.kept + kept_of format.limit p.kept run.count ≡ next.kept =

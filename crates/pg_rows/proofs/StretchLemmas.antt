@@ -1,6 +1,7 @@
 -- Whole stretches of lines: what they leave remembered, and their rows.
 use Rattle.std.proofs.Common.{◌≡◌, ℕ, zero, suc, ◌+◌, ◌-◌, ◌<◌, ◌≤◌, inl, inr, Bool, true, false, ◌&&◌, ◌||◌, cond}
-use Rattle.std.proofs.Common.{nat_le, nat_lt, min, Option, Some, None, List, [], ◌∷◌, ◌++◌, length, take, drop, refl}
+use Rattle.std.proofs.Common.{nat_le, nat_lt, min, Option, Some, None, List, [], ◌∷◌, ◌++◌, length, take, drop, map}
+use Rattle.std.proofs.Common.{refl}
 use Rattle.std.proofs.Common.{sym, ap, ◌∙◌, subst, arith, append_assoc, length-append, length-drop}
 use Rattle.std.specs.List.{AllByRecursion}
 use Rattle.circular_buffer.specs.Buffer.{keep_last}
@@ -10,7 +11,7 @@ use Rattle.std.proofs.Math.Seq.{drop-nil}
 use Rattle.pg_lines.specs.Search.{Search, terminator}
 use Rattle.pg_lines.specs.Selection.{selects}
 use Rattle.pg_rows.specs.declared.format.Format.{Format}
-use Rattle.pg_rows.specs.Output.{is_below, context, when, row, has_separators}
+use Rattle.pg_rows.specs.Output.{is_below, context, gap_text, when, row, has_separators, painted}
 use Rattle.pg_rows.specs.Trail.{Trail, keeps, after_kept, after_context, after_other, step, run, run_rows, pieces_in}
 use Rattle.pg_rows.specs.Trail.{run_pieces, gap_row, context_rows, kept_rows}
 use Rattle.pg_rows.specs.Stretch.{marked_rows, AllSelected, AreUnkept, IsPassed, IsKept}
@@ -80,7 +81,7 @@ rows_of_counted q format name earlier t (l ∷ ls) zero same unkept =
     let none : t.countdown ≤ 0 = omega arith in
     let next = step format t s l in
     let is_other = step_other format t s l unkept.0 none in
-    ap (λ b. cond b (kept_rows format (terminator q) name earlier t l)
+    ap (λ b. cond b (kept_rows format (terminator q) name earlier t (painted q format l))
     (when (nat_lt 0 t.countdown) (row format (terminator q) name (t.number + 1) 45 l))
     ++ run_rows q format name earlier next ls) unkept.0
     ∙ (ap (λ b. when b (row format (terminator q) name (t.number + 1) 45 l) ++ run_rows q format name earlier next ls)
@@ -94,7 +95,8 @@ rows_of_counted q format name earlier t (l ∷ ls) (suc count) same unkept =
     let is_context = step_context format t s l unkept.0 some in
     let own = row format (terminator q) name (t.number + 1) 45 l in
     let less : t.countdown - 1 ≡ count = omega arith in
-    ap (λ b. cond b (kept_rows format (terminator q) name earlier t l) (when (nat_lt 0 t.countdown) own)
+    ap (λ b. cond b (kept_rows format (terminator q) name earlier t (painted q format l))
+    (when (nat_lt 0 t.countdown) own)
     ++ run_rows q format name earlier next ls) unkept.0
     ∙ (ap (λ b. when b own ++ run_rows q format name earlier next ls) (lt-ltb 0 t.countdown some)
     ∙ (ap (λ xs. own ++ xs) (rows_of_counted q format name earlier next ls count
@@ -242,7 +244,7 @@ step_kept format t selected l kept =
 more_kept_rows : (q : Search) (format : Format) (name : List ℕ) (earlier : Bool) (t : Trail) (ls : List (List ℕ))
     → AllSelected q true ls → is_below (t.kept + length ls) format.limit ≡ true →
     run_rows q format name earlier (after_kept format t) ls
-    ≡ marked_rows format (terminator q) name 58 ((t.number + 1) + 1) ls
+    ≡ marked_rows format (terminator q) name 58 ((t.number + 1) + 1) (map (painted q format) ls)
 more_kept_rows q format name earlier t [] selected below = refl
 more_kept_rows q format name earlier t (l ∷ ls) selected below =
     let u = after_kept format t in
@@ -250,14 +252,15 @@ more_kept_rows q format name earlier t (l ∷ ls) selected below =
     let first : is_below u.kept format.limit ≡ true =
     below_fewer format.limit u.kept (t.kept + suc (length ls)) (omega arith) below in
     let kept : keeps format u s ≡ true = and_from s (is_below u.kept format.limit) selected.0 first in
-    let own = row format (terminator q) name (u.number + 1) 58 l in
+    let text = painted q format l in
+    let own = row format (terminator q) name (u.number + 1) 58 text in
     let other = when (nat_lt 0 u.countdown) (row format (terminator q) name (u.number + 1) 45 l) in
     let sum : t.kept + suc (length ls) ≡ u.kept + length ls = omega arith in
-    ap (λ b. cond b (kept_rows format (terminator q) name earlier u l) other ++ run_rows q format name earlier
+    ap (λ b. cond b (kept_rows format (terminator q) name earlier u text) other ++ run_rows q format name earlier
     (step format u s l) ls) kept
-    ∙ (ap (λ v. kept_rows format (terminator q) name earlier u l ++ run_rows q format name earlier v ls)
+    ∙ (ap (λ v. kept_rows format (terminator q) name earlier u text ++ run_rows q format name earlier v ls)
     (step_kept format u s l kept)
-    ∙ (ap (λ b. (when b (45 ∷ 45 ∷ terminator q ∷ []) ++ own) ++ run_rows q format name earlier
+    ∙ (ap (λ b. (when b (gap_text format (terminator q)) ++ own) ++ run_rows q format name earlier
     (after_kept format u) ls) (and_right (has_separators format) false refl)
     ∙ ap (λ xs. own ++ xs) (more_kept_rows q format name earlier u ls selected.1
     (ap (λ k. is_below k format.limit) (sym sum) ∙ below))))
@@ -268,7 +271,7 @@ pub kept_lines_rows : (q : Search) (format : Format) (name : List ℕ) (earlier 
     run_rows q format name earlier t (l ∷ ls)
     ≡ gap_row format (terminator q) earlier t
     ++ (context_rows format (terminator q) name ((t.number + 1) - length t.window) t.window
-    ++ marked_rows format (terminator q) name 58 (t.number + 1) (l ∷ ls))
+    ++ marked_rows format (terminator q) name 58 (t.number + 1) (map (painted q format) (l ∷ ls)))
 kept_lines_rows q format name earlier t l ls selected below =
     let end = terminator q in
     let first : is_below t.kept format.limit ≡ true =
@@ -278,9 +281,10 @@ kept_lines_rows q format name earlier t l ls selected below =
     let next = step format t (selects q l) l in
     let gap = gap_row format end earlier t in
     let window = context_rows format end name ((t.number + 1) - length t.window) t.window in
-    let own = row format end name (t.number + 1) 58 l in
-    let rest = marked_rows format end name 58 ((t.number + 1) + 1) ls in
-    ap (λ b. cond b (kept_rows format end name earlier t l)
+    let text = painted q format l in
+    let own = row format end name (t.number + 1) 58 text in
+    let rest = marked_rows format end name 58 ((t.number + 1) + 1) (map (painted q format) ls) in
+    ap (λ b. cond b (kept_rows format end name earlier t text)
     (when (nat_lt 0 t.countdown) (row format end name (t.number + 1) 45 l))
     ++ run_rows q format name earlier next ls) kept
     ∙ (ap (λ u. (gap ++ (window ++ own)) ++ run_rows q format name earlier u ls)

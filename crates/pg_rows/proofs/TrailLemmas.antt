@@ -16,7 +16,7 @@ use Rattle.pg_lines.specs.Selection.{selects}
 use Rattle.pg_lines.proofs.HitLemmas.{some_in_range}
 use Rattle.pg_rows.specs.declared.format.Format.{Format}
 use Rattle.pg_rows.specs.Output.{line_at, is_below, is_kept, is_near, context, members, when, row, has_separators}
-use Rattle.pg_rows.specs.Output.{is_behind, separator, mark_of, line_rows, piece_rows}
+use Rattle.pg_rows.specs.Output.{gap_text, is_behind, separator, mark_of, line_rows, piece_rows, painted, shown_text}
 use Rattle.pg_rows.specs.Trail.{Trail, no_lines, keeps, after_kept, after_context, after_other, step, gap_row}
 use Rattle.pg_rows.specs.Trail.{context_rows, kept_rows, added, pieces_in, added_pieces}
 use Rattle.pg_rows.proofs.NearLemmas.{range_more, IsNear, near_none, near_same, old_below, new_above, new_self}
@@ -153,7 +153,7 @@ separator_is true x b a s k (inr p) = ap (λ u. not u && (x || a)) p.2
 abbrev pub emit_of : Search → Format → List ℕ → Bool → (ℕ → Bool) → (ℕ → Bool) → List (List ℕ) → ℕ → List ℕ
 emit_of q format name earlier set kept ls i =
     separator format (terminator q) set earlier i ++ row format (terminator q) name (i + 1) (mark_of (kept i))
-    (line_at ls i)
+    (shown_text q format (kept i) (line_at ls i))
 
 module _ (q : Search) (format : Format) (ls : List (List ℕ)) (l : List ℕ) (t : Trail) (h : IsTrail q format ls t) where
   abbrev n : ℕ
@@ -363,18 +363,25 @@ module _ (q : Search) (format : Format) (ls : List (List ℕ)) (l : List ℕ) (t
     abbrev emit' : ℕ → List ℕ
     emit' = emit_of q format name earlier set' kept' more
 
+    -- the line's text where it is kept
+    abbrev text : List ℕ
+    text = painted q format l
+
     -- the row alone
     abbrev bare : ℕ → List ℕ
-    bare i = row format end name (i + 1) (mark_of (kept' i)) (line_at more i)
+    bare i = row format end name (i + 1) (mark_of (kept' i)) (shown_text q format (kept' i) (line_at more i))
 
     rows_more : line_rows q format name more earlier ≡ put set' emit' 0 (suc n)
     rows_more = ap (λ k. put (is_near kept' (before_of format) (after_of format) k)
         (emit_of q format name earlier (is_near kept' (before_of format) (after_of format) k) kept' more) 0 k) long
 
-    bare_old : (i : ℕ) → i < n → bare i ≡ row format end name (i + 1) (mark_of (kept i)) (line_at ls i)
+    -- the row of a line, by whether it is kept
+    abbrev bare_of : ℕ → Bool → List ℕ → List ℕ
+    bare_of i b x = row format end name (i + 1) (mark_of b) (shown_text q format b x)
+
+    bare_old : (i : ℕ) → i < n → bare i ≡ bare_of i (kept i) (line_at ls i)
     bare_old i below =
-        ap (λ b. row format end name (i + 1) (mark_of b) (line_at more i)) (kept_same i below)
-        ∙ ap (λ x. row format end name (i + 1) (mark_of (kept i)) x) (line_same i below)
+        ap (λ b. bare_of i b (line_at more i)) (kept_same i below) ∙ ap (bare_of i (kept i)) (line_same i below)
 
     emit_same : (i : ℕ) → i < n → ((k : ℕ) → k < i → set' k ≡ set k) → emit' i ≡ emit i
     emit_same i below s =
@@ -411,10 +418,10 @@ module _ (q : Search) (format : Format) (ls : List (List ℕ)) (l : List ℕ) (t
         let k : (i - 1) + 1 ≡ i = omega arith in
         let b : is_behind set' i ≡ true = behind_at set' (i - 1) i k ∙ s (i - 1) k in
         ap (λ u. when (has_separators format && not u && (earlier || list_any set' (range_with_len 0 i)))
-        (45 ∷ 45 ∷ end ∷ []) ++ bare i) b
+        (gap_text format end) ++ bare i) b
         ∙ drop_when (has_separators format) (earlier || list_any set' (range_with_len 0 i))
       where
-        drop_when : (c x : Bool) → when (c && false && x) (45 ∷ 45 ∷ end ∷ []) ++ bare i ≡ bare i
+        drop_when : (c x : Bool) → when (c && false && x) (gap_text format end) ++ bare i ≡ bare i
         drop_when true x = refl
         drop_when false x = refl
 
@@ -429,8 +436,7 @@ module _ (q : Search) (format : Format) (ls : List (List ℕ)) (l : List ℕ) (t
         ∙ (ap (λ xs. xs ++ emit' n) (old_part n (omega arith) (λ i below. s i))
         ∙ ap (λ xs. put set emit 0 n ++ xs)
         (no_separator n (omega (arith, f.0, f.1)) (λ k g. s k ∙ h.near.last k (omega (arith, f.0)))
-        ∙ (ap (λ b. row format end name (n + 1) (mark_of b) (line_at more n)) e
-        ∙ ap (λ x. row format end name (n + 1) 45 x) line_new))))
+        ∙ (ap (λ b. bare_of n b (line_at more n)) e ∙ ap (bare_of n false) line_new))))
 
     -- the first place of the window
     abbrev at : ℕ
@@ -467,7 +473,7 @@ module _ (q : Search) (format : Format) (ls : List (List ℕ)) (l : List ℕ) (t
 
     first_separator : kept' n ≡ true → separator format end set' earlier at ≡ gap_row format end earlier t
     first_separator e =
-        let tail : List ℕ = 45 ∷ 45 ∷ end ∷ [] in
+        let tail : List ℕ = gap_text format end in
         let b = at_low in
         ap (λ c. when c tail) (separator_is (has_separators format) earlier (is_behind set' at)
         (list_any set' (range_with_len 0 at)) t.some t.skipped (elim (cases_lt 0 h.done) [
@@ -506,13 +512,13 @@ module _ (q : Search) (format : Format) (ls : List (List ℕ)) (l : List ℕ) (t
         let d = h.near.low in
         let inside : at + i < n = omega arith in
         bare_old (at + i) inside
-        ∙ (ap (λ b. row format end name ((at + i) + 1) (mark_of b) (line_at ls (at + i)))
+        ∙ (ap (λ b. bare_of (at + i) b (line_at ls (at + i)))
         (unkept (at + i) inside (h.near.none (at + i) (omega arith) inside))
-        ∙ ap (λ x. row format end name ((at + i) + 1) 45 x)
+        ∙ ap (bare_of (at + i) false)
         (sym (ap (λ xs. get_or xs i []) h.window ∙ get_or-drop at ls i []))))
         ∙ ap (λ m. context_rows format end name m t.window) k
 
-    new_part : kept' n ≡ true → put set' emit' at (suc n - at) ≡ kept_rows format end name earlier t l
+    new_part : kept' n ≡ true → put set' emit' at (suc n - at) ≡ kept_rows format end name earlier t text
     new_part e =
         let w = window_length in
         let a = at_high in
@@ -534,12 +540,12 @@ module _ (q : Search) (format : Format) (ls : List (List ℕ)) (l : List ℕ) (t
         ∙ (flat_map-append bare (range_with_len at m) ((at + m) ∷ [])
         ∙ (ap (λ xs. flat_map bare (range_with_len at m) ++ xs)
         (append-nil (bare (at + m)) ∙
-        (ap bare last ∙ (ap (λ b. row format end name (n + 1) (mark_of b) (line_at more n)) e
-        ∙ (ap (λ x. row format end name (n + 1) 58 x) line_new
-        ∙ ap (λ k. row format end name (k + 1) 58 l) (sym h.number)))))
-        ∙ ap (λ xs. xs ++ row format end name (t.number + 1) 58 l) window_rows))))))))
+        (ap bare last ∙ (ap (λ b. bare_of n b (line_at more n)) e
+        ∙ (ap (bare_of n true) line_new
+        ∙ ap (λ k. row format end name (k + 1) 58 text) (sym h.number)))))
+        ∙ ap (λ xs. xs ++ row format end name (t.number + 1) 58 text) window_rows))))))))
 
-    rows_kept : kept' n ≡ true → put set' emit' 0 (suc n) ≡ put set emit 0 n ++ kept_rows format end name earlier t l
+    rows_kept : kept' n ≡ true → put set' emit' 0 (suc n) ≡ put set emit 0 n ++ kept_rows format end name earlier t text
     rows_kept e =
         let a = at_high in
         let b = at_low in
@@ -549,7 +555,7 @@ module _ (q : Search) (format : Format) (ls : List (List ℕ)) (l : List ℕ) (t
         ∙ (put_split set' emit' 0 at (suc n - at)
         ∙ (ap (λ xs. put set' emit' 0 at ++ xs)
         (let z : 0 + at ≡ at = omega arith in ap (λ k. put set' emit' k (suc n - at)) z ∙ new_part e)
-        ∙ ap (λ xs. xs ++ kept_rows format end name earlier t l)
+        ∙ ap (λ xs. xs ++ kept_rows format end name earlier t text)
         (ap (put set' emit' 0) front
         ∙ (put_split set' emit' 0 h.done (at - h.done)
         ∙ (ap (λ xs. put set' emit' 0 h.done ++ xs)
@@ -559,11 +565,11 @@ module _ (q : Search) (format : Format) (ls : List (List ℕ)) (l : List ℕ) (t
         ∙ (old_part h.done h.near.low (below_done e) ∙ sym old_rows)))))))
 
     pub rows_step : line_rows q format name more earlier ≡ line_rows q format name ls earlier ++ added format end name
-        earlier t (selects q l) l
+        earlier t (selects q l) text l
     rows_step = rows_more ∙ go (keeps format t (selects q l)) refl (nat_lt 0 t.countdown) refl
       where
         go : (a : Bool) → keeps format t (selects q l) ≡ a → (b : Bool) → nat_lt 0 t.countdown ≡ b
-            → put set' emit' 0 (suc n) ≡ put set emit 0 n ++ cond a (kept_rows format end name earlier t l)
+            → put set' emit' 0 (suc n) ≡ put set emit 0 n ++ cond a (kept_rows format end name earlier t text)
             (when b (row format end name (t.number + 1) 45 l))
         go true e b f = rows_kept (kept_new ∙ e)
         go false e true f = rows_context (kept_new ∙ e) (ltb-true 0 t.countdown f)

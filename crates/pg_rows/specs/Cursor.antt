@@ -5,7 +5,7 @@ use Rattle.pg_lines.specs.Search.{Search, terminator}
 use Rattle.pg_lines.specs.Lines.{lines}
 use Rattle.pg_rows.specs.declared.format.Format.{Format}
 use Rattle.pg_rows.specs.Modes.{is_named}
-use Rattle.pg_rows.specs.Output.{name_mark, when}
+use Rattle.pg_rows.specs.Output.{name_end, name_mark, name_text, when}
 use Rattle.pg_rows.specs.Trail.{Trail, no_lines, trail_of, run_rows, run_pieces}
 
 -- whether the run had a row before the file, the file's name, and what is remembered of its lines
@@ -25,11 +25,12 @@ cursor_after q format name earlier ls = record { earlier = earlier; name = name;
 abbrev pub block_rows : Search → Format → Cursor → List ℕ → List ℕ
 block_rows q format c bytes =
     let ls = lines (terminator q) bytes in
-    if q.text.pieces then run_pieces q format c.name c.trail ls else run_rows q format c.name c.earlier c.trail ls
+    if format.parts then run_pieces q format c.name c.trail ls else run_rows q format c.name c.earlier c.trail ls
 
 -- the rows at a file's end
 abbrev pub counted : Format → Cursor → List ℕ
-counted format c = when format.names (c.name ++ name_mark format 58 ∷ []) ++ decimal c.trail.kept ++ 10 ∷ []
+counted format c = when format.names (name_text format c.name ++ name_end format 58) ++ decimal c.trail.kept ++ 10 ∷ []
 
 abbrev pub named : Format → Cursor → List ℕ
-named format c = when (is_named format.mode (nat_lt 0 c.trail.kept)) (c.name ++ name_mark format 10 ∷ [])
+named format c =
+    when (is_named format.mode (nat_lt 0 c.trail.kept)) (name_text format c.name ++ name_mark format 10 ∷ [])

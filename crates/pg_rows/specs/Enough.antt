@@ -16,7 +16,7 @@ is_full q format ls = not (is_below (count_by (selects q) ls) format.limit)
 
 -- a line behind these would be shown as the context of one of them; where parts are shown, none is (GNU grep, -o)
 abbrev pub is_trailed : Search → Format → List (List ℕ) → Bool
-is_trailed q format ls = not q.text.pieces && is_shown q format ls (length ls)
+is_trailed q format ls = not format.parts && is_shown q format ls (length ls)
 
 -- no line behind these changes what a file gives
 abbrev pub lines_suffice : Mode → Search → Format → List (List ℕ) → Bool
@@ -37,10 +37,9 @@ abbrev pub is_enough : Search → Format → List Entry → Bool
 is_enough q format entries =
     if is_quiet format.mode then list_any (has_selected q) entries else file_suffices q format entries
 
--- the same for code that reads line by line: by whether parts are shown, and what is remembered of the open file's
--- lines
-abbrev pub trail_suffices : Bool → Mode → Format → Trail → Bool
-trail_suffices pieces mode format t =
+-- the same for code that reads line by line: by what is remembered of the open file's lines
+abbrev pub trail_suffices : Mode → Format → Trail → Bool
+trail_suffices mode format t =
     let full = not (is_below t.kept format.limit) in
     if settles_at_first mode then nat_lt 0 t.kept
-    else (if shows_rows mode then full && not (not pieces && nat_lt 0 t.countdown) else full)
+    else (if shows_rows mode then full && not (not format.parts && nat_lt 0 t.countdown) else full)

@@ -1,4 +1,5 @@
 pub mod Modes
+pub mod Colors
 pub mod Output
 pub mod Trail
 pub mod Stretch
@@ -9,4 +10,5 @@ pub mod Printing
 pub mod Window
 pub mod Remembered
 pub mod Pieces
+pub mod Painting
 pub mod Enough

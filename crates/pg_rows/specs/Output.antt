@@ -1,5 +1,5 @@
 -- What is written for files, and the exit status (XCU grep, STDOUT and EXIT STATUS; GNU grep for -m, -A, -B, -C, -o,
--- -L, -T, -Z and --no-group-separator).
+-- -L, -T, -Z, --color and --no-group-separator).
 use Rattle.std.specs.Prelude.{◌≡◌, ℕ, zero, suc, ◌+◌, nat_lt, nat_le, Bool, true, false, not, ◌&&◌, ◌||◌, if◌then◌else◌}
 use Rattle.std.specs.Prelude.{is_some, Option, Some, None, List, [], ◌∷◌, ◌++◌, length, take, slice_range}
 use Rattle.std.specs.Prelude.{slice_index_or, unwrap_or}
@@ -9,6 +9,7 @@ use Rattle.pg_lines.specs.Search.{Search, terminator}
 use Rattle.pg_lines.specs.Lines.{lines}
 use Rattle.pg_lines.specs.Selection.{selects, parts}
 use Rattle.pg_rows.specs.declared.format.Format.{Format}
+use Rattle.pg_rows.specs.Colors.{in_color, name_color, number_color, mark_color, part_color, painted_from}
 use Rattle.pg_rows.specs.Modes.{is_quiet, is_named, rows_in}
 
 -- A file's lines have places 0, 1, 2, ..; a set of places is a test.
@@ -48,9 +49,19 @@ members set ls = filter set (range_with_len 0 (length ls))
 abbrev pub when : Bool → List ℕ → List ℕ
 when shown text = if shown then text else []
 
--- what follows a name: a NUL where that is asked for, else this mark
+-- what follows a name without colors: a NUL where that is asked for, else this mark
 abbrev pub name_mark : Format → ℕ → ℕ
 name_mark format mark = if format.null then 0 else mark
+
+abbrev pub name_text : Format → List ℕ → List ℕ
+name_text format name = in_color format.colored name_color name
+
+abbrev pub mark_text : Format → ℕ → List ℕ
+mark_text format mark = in_color format.colored mark_color (mark ∷ [])
+
+-- what follows a name in a row: a NUL where that is asked for, else this mark
+abbrev pub name_end : Format → ℕ → List ℕ
+name_end format mark = if format.null then 0 ∷ [] else mark_text format mark
 
 abbrev pub is_nothing : List ℕ → Bool
 is_nothing [] = true
@@ -63,7 +74,8 @@ tab_before format has_text = when (format.tabs && ((format.names || format.numbe
 -- a row: the name and the line's number where they are asked for, each with a mark; a tab; the text; the terminator
 abbrev pub row : Format → ℕ → List ℕ → ℕ → ℕ → List ℕ → List ℕ
 row format end name number mark text =
-    when format.names (name ++ name_mark format mark ∷ []) ++ when format.numbers (decimal number ++ mark ∷ [])
+    when format.names (name_text format name ++ name_end format mark)
+    ++ when format.numbers (in_color format.colored number_color (decimal number) ++ mark_text format mark)
     ++ tab_before format (not (is_nothing text)) ++ text ++ end ∷ []
 
 -- groups of rows are parted: there is context, and --no-group-separator isn't given
@@ -74,44 +86,62 @@ abbrev pub is_behind : (ℕ → Bool) → ℕ → Bool
 is_behind set zero = false
 is_behind set (suc i) = set i
 
+-- the row of two hyphens
+abbrev pub gap_text : Format → ℕ → List ℕ
+gap_text format end = in_color format.colored mark_color (45 ∷ 45 ∷ []) ++ end ∷ []
+
 -- two hyphens stand before a shown line that doesn't follow a shown line, unless it is the run's first
 abbrev pub separator : Format → ℕ → (ℕ → Bool) → Bool → ℕ → List ℕ
 separator format end shown earlier i =
     when (has_separators format && not (is_behind shown i) && (earlier || list_any shown (range_with_len 0 i)))
-    (45 ∷ 45 ∷ end ∷ [])
+    (gap_text format end)
 
 -- a colon marks a kept line, a hyphen its context
 abbrev pub mark_of : Bool → ℕ
 mark_of kept = if kept then 58 else 45
 
+-- the parts of a line that results of the query tell: none where the query isn't asked for them
+abbrev pub told_parts : Search → List ℕ → List (ℕ × ℕ)
+told_parts q line = if q.text.pieces then parts q line else []
+
+-- the text of a kept line: its matched parts stand in color
+abbrev pub painted : Search → Format → List ℕ → List ℕ
+painted q format line = if format.colored then painted_from line 0 (told_parts q line) else line
+
+-- the text of a shown line
+abbrev pub shown_text : Search → Format → (kept : Bool) → List ℕ → List ℕ
+shown_text q format kept line = if kept then painted q format line else line
+
 abbrev pub line_rows : Search → Format → List ℕ → List (List ℕ) → Bool → List ℕ
 line_rows q format name ls earlier =
     flat_map (λ i. separator format (terminator q) (is_shown q format ls) earlier i
-    ++ row format (terminator q) name (i + 1) (mark_of (is_kept q format.limit ls i)) (line_at ls i))
+    ++ row format (terminator q) name (i + 1) (mark_of (is_kept q format.limit ls i))
+    (shown_text q format (is_kept q format.limit ls i) (line_at ls i)))
     (members (is_shown q format ls) ls)
 
 abbrev pub piece_rows : Search → Format → List ℕ → List (List ℕ) → List ℕ
 piece_rows q format name ls =
-    flat_map (λ i. flat_map (λ p. row format (terminator q) name (i + 1) 58 (slice_range (line_at ls i) p.0 p.1))
-    (parts q (line_at ls i)))
+    flat_map (λ i. flat_map (λ p. row format (terminator q) name (i + 1) 58
+    (in_color format.colored part_color (slice_range (line_at ls i) p.0 p.1)))
+    (told_parts q (line_at ls i)))
     (members (is_kept q format.limit ls) ls)
 
 -- the rows of -c, -l and -L, which end with a newline whatever the terminator, but for a name with a NUL behind it
 abbrev pub count_row : Search → Format → List ℕ → List (List ℕ) → List ℕ
 count_row q format name ls =
-    when format.names (name ++ name_mark format 58 ∷ [])
+    when format.names (name_text format name ++ name_end format 58)
     ++ decimal (length (members (is_kept q format.limit ls) ls)) ++ 10 ∷ []
 
 abbrev pub name_row : Search → Format → List ℕ → List (List ℕ) → List ℕ
 name_row q format name ls =
-    when (is_named format.mode (list_any (selects q) ls)) (name ++ name_mark format 10 ∷ [])
+    when (is_named format.mode (list_any (selects q) ls)) (name_text format name ++ name_mark format 10 ∷ [])
 
 -- what one file gives; `earlier` says that the run has an earlier row
 unfoldable pub file_rows : Search → Format → List ℕ → List ℕ → Bool → Bool → List ℕ
 file_rows q format name bytes ended earlier =
     let ls = lines (terminator q) bytes in
     rows_in format.mode
-    (if q.text.pieces then piece_rows q format name ls else line_rows q format name ls earlier)
+    (if format.parts then piece_rows q format name ls else line_rows q format name ls earlier)
     (when ended (count_row q format name ls))
     (when ended (name_row q format name ls))
 

@@ -1,12 +1,12 @@
--- Up to which line the matched parts of a block are shown.
-use Rattle.std.specs.Prelude.{◌≡◌, ℕ, ◌+◌, if◌then◌else◌, Option, List, [], ◌∷◌}
+-- The matched parts of a block, and up to which line they are shown.
+use Rattle.std.specs.Prelude.{◌≡◌, ℕ, ◌+◌, if◌then◌else◌, Option, List, [], ◌∷◌, ◌++◌, length, map}
 use Rattle.pg_lines.specs.Search.{Search, terminator}
 use Rattle.pg_lines.specs.Selection.{selects}
 use Rattle.pg_lines.specs.Lines.{lines}
-use Rattle.pg_lines.specs.BlockParts.{parts_of_lines}
+use Rattle.pg_lines.specs.BlockParts.{part_at, parts_of_lines}
 use Rattle.pg_lines.specs.declared.run.Run.{Run}
 use Rattle.pg_lines.specs.declared.run.Part.{Part}
-use Rattle.pg_rows.specs.Output.{is_below}
+use Rattle.pg_rows.specs.Output.{is_below, told_parts}
 use Rattle.pg_rows.specs.Remembered.{HasLines}
 
 -- how many lines stand before the first selected one that isn't kept, where so many were kept before
@@ -16,7 +16,14 @@ cut_at q limit kept (l ∷ ls) =
     if selects q l then (if is_below kept limit then cut_at q limit (kept + 1) ls + 1 else 0)
     else cut_at q limit kept ls + 1
 
--- what was found in a block: where its selected lines stand, how many lines it has, and with -o the matched parts
+-- the parts that results of the query tell of lines that stand from a place on, behind some lines
+abbrev pub told_of_lines : Search → ℕ → ℕ → List (List ℕ) → List Part
+told_of_lines q at seen [] = []
+told_of_lines q at seen (l ∷ ls) =
+    (if selects q l then map (part_at at seen) (told_parts q l) else [])
+    ++ told_of_lines q (at + (length l + 1)) (seen + 1) ls
+
+-- what was found in a block: where its selected lines stand, how many lines it has, and the parts that are told
 pub record HasFound (q : Search) (bytes : List ℕ) (runs : List Run) (parts : List Part) (count : ℕ) : Type 0 where
   pub found_lines : HasLines q bytes runs count
   pub found_parts : parts

@@ -1,5 +1,5 @@
 -- How the rows of a block are put together from stretches of its lines.
-use Rattle.std.specs.Prelude.{◌≡◌, ℕ, ◌+◌, ◌-◌, ◌<◌, ◌≤◌, nat_lt, min, Bool, ◌&&◌, if◌then◌else◌, List, [], ◌∷◌, ◌++◌}
+use Rattle.std.specs.Prelude.{◌≡◌, ℕ, ◌+◌, ◌-◌, ◌<◌, ◌≤◌, nat_lt, min, Bool, ◌&&◌, if◌then◌else◌, List, ◌++◌}
 use Rattle.std.specs.Prelude.{length, take, drop, slice_range}
 use Rattle.circular_buffer.specs.Buffer.{keep_last}
 use Rattle.pg_lines.specs.Search.{Search, terminator}
@@ -7,7 +7,7 @@ use Rattle.pg_lines.specs.Lines.{lines, AreWhole}
 use Rattle.pg_lines.specs.declared.run.Run.{Run}
 use Rattle.pg_rows.specs.declared.format.Format.{Format}
 use Rattle.pg_rows.specs.declared.progress.Progress.{Progress}
-use Rattle.pg_rows.specs.Output.{context, has_separators, when}
+use Rattle.pg_rows.specs.Output.{context, gap_text, has_separators, when}
 use Rattle.pg_rows.specs.Trail.{Trail, run, run_rows}
 use Rattle.pg_rows.specs.Cursor.{Cursor}
 use Rattle.pg_rows.specs.Progress.{Tells}
@@ -19,7 +19,7 @@ has_gap format earlier p =
     has_separators format && (if p.shown then nat_lt (context format.before) p.behind else earlier)
 
 abbrev pub gap_of : Format → ℕ → Bool → Progress → List ℕ
-gap_of format end earlier p = when (has_gap format earlier p) (45 ∷ 45 ∷ end ∷ [])
+gap_of format end earlier p = when (has_gap format earlier p) (gap_text format end)
 
 -- how many lines are shown before the next kept line as its context
 abbrev pub leading : Format → Progress → ℕ
@@ -30,11 +30,15 @@ abbrev pub rows_of_leading : Format → ℕ → List ℕ → List (List ℕ) →
 rows_of_leading format end name hidden p =
     marked_rows format end name 45 ((p.number + 1) - leading format p) (keep_last (leading format p) hidden)
 
--- the rows of kept lines, which stand behind these lines that weren't shown
+-- what stands before the next kept line, behind these lines that weren't shown: the two hyphens, and its context
+abbrev pub rows_before : Format → ℕ → List ℕ → Bool → List (List ℕ) → Progress → List ℕ
+rows_before format end name earlier hidden p = gap_of format end earlier p ++ rows_of_leading format end name hidden p
+
+-- the rows of kept lines with these texts, behind these lines that weren't shown
 abbrev pub rows_of_kept : Format → ℕ → List ℕ → Bool → List (List ℕ) → Progress → List (List ℕ) → List ℕ
-rows_of_kept format end name earlier hidden p ls =
+rows_of_kept format end name earlier hidden p texts =
     gap_of format end earlier p
-    ++ (rows_of_leading format end name hidden p ++ marked_rows format end name 58 (p.number + 1) ls)
+    ++ (rows_of_leading format end name hidden p ++ marked_rows format end name 58 (p.number + 1) texts)
 
 -- the rows of lines of which none is kept: the first ones are trailing context
 abbrev pub rows_of_passed : Format → ℕ → List ℕ → Progress → List (List ℕ) → List ℕ
@@ -56,12 +60,12 @@ pub record IsAt (q : Search) (format : Format) (c : Cursor) (hidden : List (List
       ≡ run q format c.trail (lines (terminator q) bytes)
   pub count : seen + length (lines (terminator q) (drop at bytes)) ≡ length (lines (terminator q) bytes)
 
--- the rows of lines of which none is kept, and of kept lines behind them
+-- the rows of lines of which none is kept, and of kept lines with these texts behind them
 abbrev pub rows_of_run : Format → ℕ → List ℕ → Bool → List (List ℕ) → Progress → Progress → List (List ℕ)
     → List (List ℕ) → List ℕ
-rows_of_run format end name earlier hidden p behind_gap gap ls =
+rows_of_run format end name earlier hidden p behind_gap gap texts =
     rows_of_passed format end name p gap
-    ++ rows_of_kept format end name earlier (hidden ++ drop p.countdown gap) behind_gap ls
+    ++ rows_of_kept format end name earlier (hidden ++ drop p.countdown gap) behind_gap texts
 
 -- The run of selected lines comes next behind a place in the bytes, and behind so many lines.
 pub record ComesNext (end : ℕ) (bytes : List ℕ) (at seen : ℕ) (run : Run) : Type 0 where

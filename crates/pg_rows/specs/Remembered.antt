@@ -22,20 +22,19 @@ use Rattle.pg_rows.specs.Printing.{IsAt}
 use Rattle.pg_rows.specs.Window.{held, IsWindow}
 
 -- rows are those of whole lines: neither -c, -l, -q nor -o
-abbrev pub shows_lines : Search → Format → Bool
-shows_lines q format = shows_rows format.mode && not q.text.pieces
+abbrev pub shows_lines : Format → Bool
+shows_lines format = shows_rows format.mode && not format.parts
 
 -- The printer, made for a query and a format, stands at this place of the output.
 pub record Remembers {A : Type 0} (p : Printer A) (q : Search) (format : Format) (c : Cursor) : Type 0 where
   pub format_is : p.format ≡ format
   pub end_is : p.end ≡ terminator q
-  pub pieces_is : p.pieces ≡ q.text.pieces
   pub earlier_is : p.earlier ≡ c.earlier
   pub name_is : p.prefix ≡ c.name
   pub told : Tells p.progress format c.trail
   pub holds : IsWindow (terminator q) p.window
   pub size : p.window.tails.capacity ≡ context format.before
-  pub window : shows_lines q format ≡ true
+  pub window : shows_lines format ≡ true
       → c.trail.window ≡ keep_last (context format.before) (held (terminator q) p.window)
 
 -- these runs hold the selected lines of the bytes, which have so many lines
@@ -76,5 +75,5 @@ pub record Follows {A : Type 0} (p : Printer A) (q : Search) (format : Format) (
   pub told : Tells printed.progress format c.trail
   pub within : printed.start ≤ length bytes
   pub count : printed.lines ≡ length (lines (terminator q) (drop printed.start bytes))
-  pub window : shows_lines q format ≡ true → c.trail.window ≡ keep_last (context format.before)
+  pub window : shows_lines format ≡ true → c.trail.window ≡ keep_last (context format.before)
       ((if printed.fresh then held (terminator q) p.window else []) ++ lines (terminator q) (drop printed.start bytes))

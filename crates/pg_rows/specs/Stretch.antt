@@ -8,7 +8,8 @@ use Rattle.pg_lines.specs.Search.{Search}
 use Rattle.pg_lines.specs.Selection.{selects}
 use Rattle.pg_lines.specs.declared.run.Part.{Part}
 use Rattle.pg_rows.specs.declared.format.Format.{Format}
-use Rattle.pg_rows.specs.Output.{name_mark, context, is_nothing, when, row, tab_before}
+use Rattle.pg_rows.specs.Colors.{in_color, number_color, part_color}
+use Rattle.pg_rows.specs.Output.{name_end, name_mark, name_text, mark_text, context, is_nothing, when, row, tab_before}
 use Rattle.pg_rows.specs.Trail.{Trail, keeps}
 
 -- rows with a mark, of lines numbered from a number on
@@ -47,6 +48,13 @@ pub record IsKept (format : Format) (t : Trail) (count : ℕ) (later : Trail) : 
 -- what a row has before its text, where it has a text or not
 abbrev pub prefix_text : Format → List ℕ → ℕ → ℕ → Bool → List ℕ
 prefix_text format name number mark has_text =
+    when format.names (name_text format name ++ name_end format mark)
+    ++ when format.numbers (in_color format.colored number_color (decimal number) ++ mark_text format mark)
+    ++ tab_before format has_text
+
+-- the same without colors
+abbrev pub plain_prefix_text : Format → List ℕ → ℕ → ℕ → Bool → List ℕ
+plain_prefix_text format name number mark has_text =
     when format.names (name ++ name_mark format mark ∷ []) ++ when format.numbers (decimal number ++ mark ∷ [])
     ++ tab_before format has_text
 
@@ -57,7 +65,8 @@ has_text ls = not (is_nothing (slice_index_or ls 0 []))
 -- the row of a part of some bytes, which stands in the line with this place behind so many lines of the file
 abbrev pub part_row : Format → ℕ → List ℕ → ℕ → List ℕ → Part → List ℕ
 part_row format end name before bytes part =
-    row format end name (before + part.line + 1) 58 (slice_range bytes part.span.start part.span.end)
+    row format end name (before + part.line + 1) 58
+    (in_color format.colored part_color (slice_range bytes part.span.start part.span.end))
 
 -- the rows of the parts that stand in the first `cut` lines
 abbrev pub part_rows : Format → ℕ → List ℕ → ℕ → ℕ → List ℕ → List Part → List ℕ

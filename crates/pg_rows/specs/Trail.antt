@@ -4,9 +4,10 @@ use Rattle.std.specs.Prelude.{◌++◌, length, slice_range}
 use Rattle.std.specs.List.{fold, flat_map}
 use Rattle.circular_buffer.specs.Buffer.{keep_last}
 use Rattle.pg_lines.specs.Search.{Search, terminator}
-use Rattle.pg_lines.specs.Selection.{selects, parts}
+use Rattle.pg_lines.specs.Selection.{selects}
 use Rattle.pg_rows.specs.declared.format.Format.{Format}
-use Rattle.pg_rows.specs.Output.{is_below, context, when, row, has_separators}
+use Rattle.pg_rows.specs.Colors.{in_color, part_color}
+use Rattle.pg_rows.specs.Output.{is_below, context, when, row, gap_text, has_separators, told_parts, painted}
 
 -- what is remembered of the lines so far: their number, how many are kept, how many more are shown as context,
 -- whether one was shown, and of those behind the last shown one the last `before` ones and whether there are more
@@ -62,36 +63,40 @@ trail_of q format ls = run q format no_lines ls
 -- two hyphens stand before the window and the kept line behind it, where they don't follow a shown line
 abbrev pub gap_row : Format → ℕ → Bool → Trail → List ℕ
 gap_row format end earlier t = when (has_separators format && (if t.some then t.skipped else earlier))
-    (45 ∷ 45 ∷ end ∷ [])
+    (gap_text format end)
 
 abbrev pub context_rows : Format → ℕ → List ℕ → ℕ → List (List ℕ) → List ℕ
 context_rows format end name number [] = []
 context_rows format end name number (l ∷ ls) =
     row format end name number 45 l ++ context_rows format end name (number + 1) ls
 
--- the rows that a kept line adds: the window's and its own
+-- the rows that a kept line with this text adds: the window's and its own
 abbrev pub kept_rows : Format → ℕ → List ℕ → Bool → Trail → List ℕ → List ℕ
-kept_rows format end name earlier t l =
+kept_rows format end name earlier t text =
     gap_row format end earlier t
     ++ (context_rows format end name ((t.number + 1) - length t.window) t.window
-    ++ row format end name (t.number + 1) 58 l)
+    ++ row format end name (t.number + 1) 58 text)
 
-abbrev pub added : Format → ℕ → List ℕ → Bool → Trail → Bool → List ℕ → List ℕ
-added format end name earlier t selected l =
+-- what a line adds, which has this text where it is kept
+abbrev pub added : Format → ℕ → List ℕ → Bool → Trail → Bool → (text l : List ℕ) → List ℕ
+added format end name earlier t selected text l =
     if keeps format t selected
-    then kept_rows format end name earlier t l
+    then kept_rows format end name earlier t text
     else (when (nat_lt 0 t.countdown) (row format end name (t.number + 1) 45 l))
 
 -- the rows that many lines add
 abbrev pub run_rows : Search → Format → List ℕ → Bool → Trail → List (List ℕ) → List ℕ
 run_rows q format name earlier t [] = []
-run_rows q format name earlier t (l ∷ ls) = added format (terminator q) name earlier t (selects q l) l
+run_rows q format name earlier t (l ∷ ls) =
+    added format (terminator q) name earlier t (selects q l) (painted q format l) l
     ++ run_rows q format name earlier (step format t (selects q l) l) ls
 
 -- the rows of the matched parts of a line that is kept
 abbrev pub pieces_in : Search → Format → List ℕ → ℕ → List ℕ → List ℕ
 pieces_in q format name number l =
-    flat_map (λ p. row format (terminator q) name number 58 (slice_range l p.0 p.1)) (parts q l)
+    flat_map (λ p. row format (terminator q) name number 58
+    (in_color format.colored part_color (slice_range l p.0 p.1)))
+    (told_parts q l)
 
 abbrev pub added_pieces : Search → Format → List ℕ → Trail → List ℕ → List ℕ
 added_pieces q format name t l = when (keeps format t (selects q l)) (pieces_in q format name (t.number + 1) l)

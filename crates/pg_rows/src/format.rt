@@ -72,6 +72,10 @@ pub struct Format {
     /// -T: a tab stands before a row's text, where that isn't empty and the name or the number stands before it.
     pub tabs: bool,
     pub mode: Mode,
+    /// -o: with `Mode::Rows` the matched parts of the lines that are kept have rows, and not the lines.
+    pub parts: bool,
+    /// --color: names, numbers, marks and the matched parts of kept lines stand in colors.
+    pub colored: bool,
     /// -m: at most so many selected lines of a file count.
     pub limit: Option<u32>,
     /// -B: so many lines before a selected line are shown as its context.

@@ -1,9 +1,11 @@
 //! Laws of the definitions that contracts cite. They speak of all values, and a call does nothing.
-ghost use Rattle.std.specs.Prelude.{◌≡◌, ◌++◌, ℕ, Bool, List, []};
+ghost use Rattle.std.specs.Prelude.{◌≡◌, ◌++◌, ℕ, Bool, true, false, List, []};
+ghost use Rattle.std.specs.List.{Contains};
 ghost use Rattle.pg_lines.specs.Search.{Search, terminator};
 ghost use Rattle.pg_lines.specs.Lines.{AreWhole, lines};
 ghost use Rattle.pg_rows.specs.declared.format.Format.{Format};
 ghost use Rattle.pg_rows.specs.declared.format.Mode.{Mode};
+ghost use Rattle.pg_rows.specs.Colors.{without_escapes};
 ghost use Rattle.pg_rows.specs.Modes.{rows_in};
 ghost use Rattle.pg_rows.specs.Output.{HasRoom, file_rows, when};
 ghost use Rattle.pg_rows.specs.Trail.{trail_of};
@@ -27,5 +29,14 @@ pub fn blocks_give_the_rows()
 /// What is remembered of a file's lines tells whether they suffice. The limit of the format isn't 0.
 pub fn trails_tell_enough()
     ensures { (q : Search) (format : Format) (mode : Mode) (ls : List (List ℕ)) → HasRoom format →
-        trail_suffices q.text.pieces mode format (trail_of q format ls) ≡ lines_suffice mode q format ls }
+        trail_suffices mode format (trail_of q format ls) ≡ lines_suffice mode q format ls }
+{}
+
+/// Colors add escapes to the rows of a file and change nothing else: without them the rows are those without colors,
+/// where neither the file's name nor its bytes have an ESC (27).
+pub fn colors_add_escapes()
+    ensures { (q : Search) (format : Format) (name bytes : List ℕ) (ended earlier : Bool) →
+        ¬ (Contains name 27) → ¬ (Contains bytes 27) →
+        without_escapes (file_rows q (record format { colored = true }) name bytes ended earlier)
+        ≡ file_rows q (record format { colored = false }) name bytes ended earlier }
 {}

@@ -1,6 +1,7 @@
 //! The rows that a grep writes of a file, and the sinks that take them.
 #![tactic(auto)]
 
+mod colors;
 mod format;
 mod history;
 mod laws;
@@ -16,7 +17,7 @@ mod writer;
 
 pub use format::{Format, Mode};
 pub use history::History;
-pub use laws::{blocks_give_the_rows, trails_tell_enough};
+pub use laws::{blocks_give_the_rows, colors_add_escapes, trails_tell_enough};
 pub use mem_sink::MemSink;
 pub use prefix::Prefix;
 pub use printer::{Printed, Printer};

@@ -1,5 +1,5 @@
 //! Where lines begin and end in a text. The byte that ends them is `end`.
-ghost use Rattle.std.specs.Prelude.{◌≡◌, ◌+◌, ◌<◌, ◌≤◌, ◌++◌, length, take, drop, slice_range};
+ghost use Rattle.std.specs.Prelude.{◌≡◌, ◌+◌, ◌<◌, ◌≤◌, ◌++◌, ◌∷◌, length, take, drop, slice_range};
 ghost use Rattle.circular_buffer.specs.Buffer.{keep_last};
 ghost use Rattle.pg_lines.specs.Lines.{lines, AreWhole, IsClear};
 
@@ -17,6 +17,20 @@ pub(crate) fn end_of_line(end: u8, text: &[u8], start: usize) -> usize
 {
     match memchr(end, &text[start..]) {
         Some(len) => start + len + 1,
+        None => text.len(),
+    }
+}
+
+/// Where the text of the line ends that starts at a place: its terminator stands there, or the text ends.
+pub(crate) fn text_end(end: u8, text: &[u8], start: usize) -> usize
+    requires { start < length text.now }
+    ensures low { start ≤ result }
+    ensures high { result ≤ length text.now }
+    ensures line { lines end (drop start text.now)
+        ≡ slice_range text.now start result ∷ lines end (drop (result + 1) text.now) }
+{
+    match memchr(end, &text[start..]) {
+        Some(len) => start + len,
         None => text.len(),
     }
 }

@@ -2,10 +2,12 @@
 ghost use Rattle.std.specs.Prelude.{◌≡◌, ◌+◌, ◌<◌, ◌≤◌, ◌++◌, [], ◌∷◌, IfOk, OnOk, OnErr};
 ghost use Rattle.std.specs.Prelude.{length, vec_len, vec_capacity};
 ghost use Rattle.std.specs.Fmt.{decimal};
-ghost use Rattle.pg_rows.specs.Output.{when, name_mark, tab_before};
-ghost use Rattle.pg_rows.specs.Stretch.{prefix_text};
+ghost use Rattle.pg_rows.specs.Colors.{in_color, number_color};
+ghost use Rattle.pg_rows.specs.Output.{when, name_mark, name_text, name_end, mark_text, tab_before};
+ghost use Rattle.pg_rows.specs.Stretch.{prefix_text, plain_prefix_text};
 ghost use Rattle.pg_rows.specs.Sink.{WritesText};
 
+use crate::colors::{Color, write_marked_name, write_text};
 use crate::format::Format;
 use crate::sink::{Sink, WriteError, write_all};
 use itoa::Buffer;
@@ -54,7 +56,7 @@ impl<A: Allocator> Prefix<A> {
     }
 
     /// Writes the name and the line's number where rows have them, each with the mark, and a tab before a text where
-    /// rows have that, in one text.
+    /// rows have that: without colors in one text.
     ///
     /// # Errors
     ///
@@ -71,6 +73,43 @@ impl<A: Allocator> Prefix<A> {
         ensures writes { WritesText (prefix_text format.now self.old number mark has_text)
             (W.stream out.old) (W.stream out.new) result }
     {
+        if format.colored {
+            self.write_colored(out, format, number, mark, has_text)
+        } else {
+            self.write_plain(out, format, number, mark, has_text)
+        }
+    }
+
+    /// Writes the same in colors, in several texts.
+    fn write_colored<W: Sink>(
+        &self,
+        out: &mut W,
+        format: &Format,
+        number: u64,
+        mark: u8,
+        has_text: bool,
+    ) -> Result<(), WriteError>
+        ensures { WritesText (prefix_text format.now self.now number mark has_text)
+            (W.stream out.old) (W.stream out.new) result }
+    {
+        write_name(out, format, self.name(), mark)?;
+        write_number(out, format, number, mark)?;
+        write_tab(out, format, has_text)
+    }
+
+    /// Writes the same without colors.
+    fn write_plain<W: Sink>(
+        &mut self,
+        out: &mut W,
+        format: &Format,
+        number: u64,
+        mark: u8,
+        has_text: bool,
+    ) -> Result<(), WriteError>
+        ensures same { self.new ≡ self.old }
+        ensures writes { WritesText (plain_prefix_text format.now self.old number mark has_text)
+            (W.stream out.old) (W.stream out.new) result }
+    {
         if !format.names && !format.numbers {
             return Ok(());
         }
@@ -80,6 +119,67 @@ impl<A: Allocator> Prefix<A> {
         let written = write_all(out, &self.buffer.as_slice()[start..]);
         self.buffer.truncate(len);
         written
+    }
+}
+
+/// Writes the name and what follows it, where rows have names.
+fn write_name<W: Sink>(
+    out: &mut W,
+    format: &Format,
+    name: &[u8],
+    mark: u8,
+) -> Result<(), WriteError>
+    ensures { WritesText (when format.now.names (name_text format.now name.now ++ name_end format.now mark))
+        (W.stream out.old) (W.stream out.new) result }
+{
+    if format.names {
+        write_marked_name(out, format, name, mark)
+    } else {
+        Ok(())
+    }
+}
+
+/// Writes the line's number and its mark, where rows have numbers.
+fn write_number<W: Sink>(
+    out: &mut W,
+    format: &Format,
+    number: u64,
+    mark: u8,
+) -> Result<(), WriteError>
+    ensures { WritesText (when format.now.numbers
+        (in_color format.now.colored number_color (decimal number) ++ mark_text format.now mark))
+        (W.stream out.old) (W.stream out.new) result }
+{
+    if !format.numbers {
+        return Ok(());
+    }
+    write_marked_number(out, format, number, mark)
+}
+
+/// Writes a number and its mark.
+fn write_marked_number<W: Sink>(
+    out: &mut W,
+    format: &Format,
+    number: u64,
+    mark: u8,
+) -> Result<(), WriteError>
+    ensures { WritesText (in_color format.now.colored number_color (decimal number) ++ mark_text format.now mark)
+        (W.stream out.old) (W.stream out.new) result }
+{
+    let mut digits = Buffer::new();
+    let text = digits.format(number).as_bytes();
+    write_text(out, format, Color::Number, text)?;
+    write_text(out, format, Color::Mark, &[mark])
+}
+
+/// Writes a tab, where rows have it before a text.
+fn write_tab<W: Sink>(out: &mut W, format: &Format, has_text: bool) -> Result<(), WriteError>
+    ensures { WritesText (tab_before format.now has_text) (W.stream out.old) (W.stream out.new) result }
+{
+    if format.tabs && format.has_prefix() && has_text {
+        write_all(out, b"\t")
+    } else {
+        Ok(())
     }
 }
 

@@ -1,21 +1,25 @@
 //! The rows of files, block by block.
 ghost use Rattle.std.specs.Prelude.{◌≡◌, ℕ, ◌+◌, ◌-◌, ◌<◌, ◌≤◌, ◌^◌, ◌++◌, List, OnOk, OnErr, IfOk};
-ghost use Rattle.std.specs.Prelude.{length, take, drop};
+ghost use Rattle.std.specs.Prelude.{length, map, take, drop, if◌then◌else◌};
 ghost use Rattle.std.specs.Prelude.{slice_range, true, false, nat_lt, [], ◌∷◌};
 ghost use Rattle.std.specs.Prelude.{Some};
 ghost use Rattle.std.specs.Arc.{arc_value};
 ghost use Rattle.pg_lines.specs.Search.{Search, terminator};
 ghost use Rattle.pg_rows.specs.Pieces.{cut_at};
 ghost use Rattle.pg_rows.specs.Remembered.{HasLines};
-ghost use Rattle.pg_rows.specs.Output.{name_mark, when};
+ghost use Rattle.pg_rows.specs.Output.{name_mark, name_text, painted, row, when};
 ghost use Rattle.pg_lines.specs.Lines.{lines, AreWhole};
 ghost use Rattle.pg_rows.specs.Sink.{WritesText, WritesPart};
 
+use crate::colors::end_of_parts;
 use crate::format::{Format, Mode};
-use crate::places::{end_of_first, start_of_last};
+use crate::places::{end_of_first, start_of_last, text_end};
 use crate::prefix::Prefix;
 use crate::progress::Progress;
-use crate::rows::{write_count, write_gap, write_lines, write_name, write_parts};
+use crate::rows::{
+    has_painted_text, write_count, write_gap, write_lines, write_name, write_painted_text,
+    write_parts,
+};
 use crate::sink::{Sink, WriteError};
 use crate::window::Window;
 use pg_lines::{Block, BlockResult, Part, Query, Run};
@@ -35,6 +39,8 @@ struct Place {
     progress: Progress,
     at: usize,
     seen: usize,
+    /// How many parts of the block stand in these lines, where rows have colors.
+    used: usize,
 }
 
 /// What the first lines of a run of selected lines leave, where they are kept.
@@ -81,8 +87,6 @@ fn line_beyond(runs: &[Run], room: u64, total: usize) -> usize
 pub struct Printer<A: Allocator = Global> {
     format: Format,
     end: u8,
-    /// -o: rows are those of matched parts.
-    pieces: bool,
     prefix: Prefix<A>,
     /// Whether a row was written before the open file.
     earlier: bool,
@@ -95,7 +99,6 @@ impl<A: Allocator> Drop for Printer<A> {
         let Printer {
             format: _,
             end: _,
-            pieces: _,
             prefix: _,
             earlier: _,
             progress: _,
@@ -117,7 +120,8 @@ impl<A: Allocator> Printer<A> {
     ghost use Rattle.pg_rows.specs.Progress.{Passes, Keeps};
     ghost use Rattle.pg_rows.specs.Printing.{ComesNext, EndsKept};
     ghost use Rattle.pg_rows.specs.Stretch.{marked_rows};
-    ghost use Rattle.pg_rows.specs.Printing.{has_gap, gap_of, leading, rows_of_run, rows_of_kept, rows_of_leading};
+    ghost use Rattle.pg_rows.specs.Printing.{has_gap, gap_of, leading, rows_of_run, rows_before, rows_of_leading};
+    ghost use Rattle.pg_rows.specs.Painting.{painted_bytes, AreAscending, IsTold, count_before};
     ghost use Rattle.pg_rows.specs.Printing.{rows_of_passed};
 
     /// A printer to which nothing was given, for the rows of a query. It reserves the room of its window.
@@ -135,7 +139,6 @@ impl<A: Allocator> Printer<A> {
         Ok(Printer {
             format,
             end: query.terminator(),
-            pieces: query.text().pieces,
             prefix,
             earlier: false,
             progress: Progress::new(),
@@ -197,7 +200,7 @@ impl<A: Allocator> Printer<A> {
     /// Writes the file's name as a row, where the mode lists the file.
     fn write_listed_name<W: Sink>(&self, out: &mut W) -> Result<(), WriteError>
         ensures { WritesText (when (is_named self.now.format.mode (nat_lt 0 self.now.progress.kept))
-            (self.now.prefix ++ name_mark self.now.format 10 ∷ []))
+            (name_text self.now.format self.now.prefix ++ name_mark self.now.format 10 ∷ []))
             (W.stream out.old) (W.stream out.new) result }
     {
         if self.format.mode.is_named(self.progress.kept > 0) {
@@ -211,7 +214,7 @@ impl<A: Allocator> Printer<A> {
     fn passed(&self, size: usize, runs: &[Run], total: usize) -> Printed
         requires small { self.now.progress.number + total < 2 ^ 63 }
         ensures { (q : Search) (format : Format) (c : Cursor) (bytes : List ℕ) → Remembers self.now q format c →
-            shows_lines q format ≡ false → HasLines q bytes runs.now total → size ≡ length bytes →
+            shows_lines format ≡ false → HasLines q bytes runs.now total → size ≡ length bytes →
             Follows self.now q format (behind_block q format c bytes) bytes result }
     {
         Printed {
@@ -245,15 +248,15 @@ impl<A: Allocator> Printer<A> {
         total: usize,
     ) -> Result<Printed, WriteError>
         requires stands { (q : Search) × (format : Format) × (c : Cursor) × Remembers self.old q format c
-            × (q.text.pieces ≡ true) × HasFound q bytes.now runs.now parts.now total }
+            × (format.parts ≡ true) × HasFound q bytes.now runs.now parts.now total }
         requires small { self.old.progress.number + total < 2 ^ 63 }
         ensures same { self.new ≡ self.old }
         ensures writes { (q : Search) (format : Format) (c : Cursor) → Remembers self.old q format c →
-            q.text.pieces ≡ true → HasFound q bytes.now runs.now parts.now total →
+            format.parts ≡ true → HasFound q bytes.now runs.now parts.now total →
             WritesText (run_pieces q format c.name c.trail (lines (terminator q) bytes.now))
             (W.stream out.old) (W.stream out.new) result }
         ensures follows { (q : Search) (format : Format) (c : Cursor) → Remembers self.old q format c →
-            q.text.pieces ≡ true → HasFound q bytes.now runs.now parts.now total →
+            format.parts ≡ true → HasFound q bytes.now runs.now parts.now total →
             IfOk result (λ printed. Follows self.old q format (behind_block q format c bytes.now) bytes.now printed) }
     {
         let cut = self.cut(runs, total);
@@ -295,10 +298,10 @@ impl<A: Allocator> Printer<A> {
         if !self.format.mode.shows_rows() {
             return Ok(self.passed(bytes.len(), runs, total));
         }
-        if self.pieces {
+        if self.format.parts {
             return self.print_parts(out, bytes, runs, parts, total);
         }
-        self.print_lines(out, bytes, runs, total)
+        self.print_lines(out, bytes, runs, parts, total)
     }
 
     /// Writes the rows that a block adds: the open file's next one, by its result under the query that the
@@ -354,7 +357,7 @@ impl<A: Allocator> Printer<A> {
             (W.stream out.old) (W.stream out.new) result }
     {
         if self.has_gap(progress) {
-            write_gap(out, self.end)
+            write_gap(out, &self.format, self.end)
         } else {
             Ok(())
         }
@@ -459,64 +462,141 @@ impl<A: Allocator> Printer<A> {
         )
     }
 
-    /// Writes the rows of kept lines, with what stands before them.
-    fn print_kept<W: Sink>(
+    /// Writes what stands before a kept line: the two hyphens, and the lines that are shown before it.
+    fn print_before<W: Sink>(
         &mut self,
         out: &mut W,
         progress: Progress,
         near: &[u8],
         count: usize,
-        text: &[u8],
     ) -> Result<(), WriteError>
         requires window { IsWindow self.old.end self.old.window }
         requires whole { AreWhole self.old.end near.now }
         requires count { count ≡ length (lines self.old.end near.now) }
         requires enough { leading self.old.format progress ≤ length (held self.old.end self.old.window) + count }
-        requires small { progress.number + length (lines self.old.end text.now) < 2 ^ 63 }
+        requires small { progress.number < 2 ^ 63 }
         ensures same { self.new ≡ self.old }
-        ensures writes { WritesText (rows_of_kept self.old.format self.old.end self.old.prefix self.old.earlier
-            (held self.old.end self.old.window ++ lines self.old.end near.now) progress (lines self.old.end text.now))
+        ensures writes { WritesText (rows_before self.old.format self.old.end self.old.prefix self.old.earlier
+            (held self.old.end self.old.window ++ lines self.old.end near.now) progress)
             (W.stream out.old) (W.stream out.new) result }
     {
         self.print_gap(out, progress)?;
-        self.print_leading(out, progress, near, count)?;
-        write_lines(
-            out,
-            &self.format,
-            self.end,
-            &mut self.prefix,
-            KEPT_MARK,
-            progress.number + 1,
-            text,
-        )
+        self.print_leading(out, progress, near, count)
     }
 
-    /// Writes the rows of the lines before a run of selected lines, none of which is kept, and those of
-    /// the lines of the run that are kept.
-    fn print_run<W: Sink>(
+    /// Writes the rows of the lines before a run of selected lines, none of which is kept, and what stands
+    /// before the run.
+    fn print_unkept<W: Sink>(
         &mut self,
         out: &mut W,
         progress: Progress,
         passed: Progress,
         gap: &[u8],
         count: usize,
-        text: &[u8],
     ) -> Result<(), WriteError>
         requires window { IsWindow self.old.end self.old.window }
         requires whole { AreWhole self.old.end gap.now }
         requires count { count ≡ length (lines self.old.end gap.now) }
         requires passes { Passes progress count passed }
         requires enough { leading self.old.format progress ≤ length (held self.old.end self.old.window) }
-        requires small { passed.number + length (lines self.old.end text.now) < 2 ^ 63 }
+        requires small { passed.number < 2 ^ 63 }
         ensures same { self.new ≡ self.old }
-        ensures writes { WritesText (rows_of_run self.old.format self.old.end self.old.prefix self.old.earlier
-            (held self.old.end self.old.window) progress passed
-            (lines self.old.end gap.now) (lines self.old.end text.now))
+        ensures writes { WritesText (rows_of_passed self.old.format self.old.end self.old.prefix progress
+            (lines self.old.end gap.now) ++ rows_before self.old.format self.old.end self.old.prefix self.old.earlier
+            (held self.old.end self.old.window ++ drop progress.countdown (lines self.old.end gap.now)) passed)
             (W.stream out.old) (W.stream out.new) result }
     {
         let stop = self.print_passed(out, progress, gap, count)?;
         let hidden = (count as u64).saturating_sub(progress.countdown) as usize;
-        self.print_kept(out, passed, &gap[stop..], hidden, text)
+        self.print_before(out, passed, &gap[stop..], hidden)
+    }
+
+    /// Writes the row of a kept line, which stands from a place of some bytes up to another, with its parts in color.
+    fn print_painted_line<W: Sink>(
+        &mut self,
+        out: &mut W,
+        number: u64,
+        bytes: &[u8],
+        from: usize,
+        to: usize,
+        parts: &[Part],
+    ) -> Result<(), WriteError>
+        requires within { to ≤ length bytes.now }
+        requires ascend { AreAscending from to parts.now }
+        ensures same { self.new ≡ self.old }
+        ensures writes { WritesText (row self.old.format self.old.end self.old.prefix number 58
+            (painted_bytes bytes.now from to parts.now)) (W.stream out.old) (W.stream out.new) result }
+    {
+        let has_text = has_painted_text(from, to, parts);
+        self.prefix
+            .write(out, &self.format, number, KEPT_MARK, has_text)?;
+        write_painted_text(out, self.end, bytes, from, to, parts)
+    }
+
+    /// Writes the rows of kept lines with their parts in color: the lines of some bytes from a place on, behind so
+    /// many lines of the block, numbered from a number on.
+    fn print_painted<W: Sink>(
+        &mut self,
+        out: &mut W,
+        number: u64,
+        bytes: &[u8],
+        from: usize,
+        line: usize,
+        parts: &[Part],
+    ) -> Result<(), WriteError>
+        requires colored { self.old.format.colored ≡ true }
+        requires small { number + length (lines self.old.end (drop from bytes.now)) < 2 ^ 64 }
+        requires few { line + length (lines self.old.end (drop from bytes.now)) < 2 ^ 64 }
+        requires told { (q : Search) × IsTold q true self.old.end bytes.now from line parts.now }
+        ensures same { self.new ≡ self.old }
+        ensures writes { (q : Search) → IsTold q true self.old.end bytes.now from line parts.now →
+            WritesText (marked_rows self.old.format self.old.end self.old.prefix 58 number
+            (map (painted q self.old.format) (lines self.old.end (drop from bytes.now))))
+            (W.stream out.old) (W.stream out.new) result }
+    {
+        let mut at = from;
+        let mut done = 0;
+        let mut used = 0;
+        while at < bytes.len() {
+            let stop = text_end(self.end, bytes, at);
+            let next = end_of_parts(parts, used, line + done + 1);
+            let own = &parts[used..next];
+            self.print_painted_line(out, number + done as u64, bytes, at, stop, own)?;
+            at = stop + 1;
+            done += 1;
+            used = next;
+        }
+        Ok(())
+    }
+
+    /// Writes the rows of kept lines: the lines of some bytes from a place on, behind so many lines of the block,
+    /// numbered from a number on. Where rows have colors, these are their parts.
+    fn print_kept<W: Sink>(
+        &mut self,
+        out: &mut W,
+        number: u64,
+        bytes: &[u8],
+        from: usize,
+        line: usize,
+        parts: &[Part],
+    ) -> Result<(), WriteError>
+        requires within { from ≤ length bytes.now }
+        requires small { number + length (lines self.old.end (drop from bytes.now)) < 2 ^ 64 }
+        requires few { line + length (lines self.old.end (drop from bytes.now)) < 2 ^ 64 }
+        requires told { (q : Search) × IsTold q self.old.format.colored self.old.end bytes.now from line parts.now }
+        ensures same { self.new ≡ self.old }
+        ensures writes { (q : Search) →
+            IsTold q self.old.format.colored self.old.end bytes.now from line parts.now →
+            WritesText (marked_rows self.old.format self.old.end self.old.prefix 58 number
+            (map (painted q self.old.format) (lines self.old.end (drop from bytes.now))))
+            (W.stream out.old) (W.stream out.new) result }
+    {
+        if self.format.colored {
+            return self.print_painted(out, number, bytes, from, line, parts);
+        }
+        let text = &bytes[from..];
+        let prefix = &mut self.prefix;
+        write_lines(out, &self.format, self.end, prefix, KEPT_MARK, number, text)
     }
 
     /// Where the first lines of a run end, so many.
@@ -532,8 +612,22 @@ impl<A: Allocator> Printer<A> {
         run.span.start + end_of_first(self.end, run.span.of(bytes), count)
     }
 
+    /// How many parts of a block stand before so many lines of it, where so many of them are known to. Only colors
+    /// ask for that.
+    fn used_before(&self, parts: &[Part], used: usize, limit: usize) -> usize
+        requires { used ≤ length parts.now }
+        ensures { result ≡ (if self.now.format.colored then used + count_before limit (drop used parts.now) else used) }
+    {
+        if self.format.colored {
+            end_of_parts(parts, used, limit)
+        } else {
+            used
+        }
+    }
+
     /// Goes from a place to the place behind the first lines of a run, so many.
-    fn step(&self, place: Place, bytes: &[u8], run: Run, count: usize) -> Step
+    fn step(&self, place: Place, bytes: &[u8], run: Run, count: usize, parts: &[Part]) -> Step
+        requires used { place.used ≤ length parts.now }
         requires next { ComesNext self.now.end bytes.now place.at place.seen run }
         requires few { count ≤ run.count }
         requires room { run.first + count < 2 ^ 64 }
@@ -542,6 +636,8 @@ impl<A: Allocator> Printer<A> {
         ensures kept { Keeps result.passed self.now.format count result.place.progress }
         ensures ends { EndsKept self.now.end bytes.now run count result.place.at }
         ensures seen { result.place.seen ≡ run.first + count }
+        ensures used { result.place.used ≡ (if self.now.format.colored
+            then place.used + count_before (run.first + count) (drop place.used parts.now) else place.used) }
     {
         let passed = place.progress.pass((run.first - place.seen) as u64);
         Step {
@@ -550,6 +646,7 @@ impl<A: Allocator> Printer<A> {
                 progress: passed.keep(count as u64, &self.format),
                 at: self.end_of_kept(bytes, run, count),
                 seen: run.first + count,
+                used: self.used_before(parts, place.used, run.first + count),
             },
         }
     }
@@ -563,6 +660,7 @@ impl<A: Allocator> Printer<A> {
         bytes: &[u8],
         run: Run,
         next: Step,
+        parts: &[Part],
     ) -> Result<(), WriteError>
         requires window { IsWindow self.old.end self.old.window }
         requires next { ComesNext self.old.end bytes.now place.at place.seen run }
@@ -572,23 +670,29 @@ impl<A: Allocator> Printer<A> {
         requires enough { leading self.old.format place.progress ≤ length (held self.old.end self.old.window) }
         requires small { next.passed.number
             + length (lines self.old.end (slice_range bytes.now run.span.start next.place.at)) < 2 ^ 63 }
+        requires few { run.first
+            + length (lines self.old.end (slice_range bytes.now run.span.start next.place.at)) < 2 ^ 64 }
+        requires used { place.used ≤ next.place.used }
+        requires parts { next.place.used ≤ length parts.now }
+        requires told { (q : Search) × IsTold q self.old.format.colored self.old.end (take next.place.at bytes.now)
+            run.span.start run.first (slice_range parts.now place.used next.place.used) }
         ensures same { self.new ≡ self.old }
-        ensures writes { WritesText (rows_of_run self.old.format self.old.end self.old.prefix self.old.earlier
+        ensures writes { (q : Search) → IsTold q self.old.format.colored self.old.end (take next.place.at bytes.now)
+            run.span.start run.first (slice_range parts.now place.used next.place.used) →
+            WritesText (rows_of_run self.old.format self.old.end self.old.prefix self.old.earlier
             (held self.old.end self.old.window) place.progress next.passed
             (lines self.old.end (slice_range bytes.now place.at run.span.start))
-            (lines self.old.end (slice_range bytes.now run.span.start next.place.at)))
+            (map (painted q self.old.format)
+            (lines self.old.end (slice_range bytes.now run.span.start next.place.at))))
             (W.stream out.old) (W.stream out.new) result }
     {
         let gap = &bytes[place.at..run.span.start];
-        let text = &bytes[run.span.start..next.place.at];
-        self.print_run(
-            out,
-            place.progress,
-            next.passed,
-            gap,
-            run.first - place.seen,
-            text,
-        )
+        let count = run.first - place.seen;
+        self.print_unkept(out, place.progress, next.passed, gap, count)?;
+        let kept = &bytes[..next.place.at];
+        let own = &parts[place.used..next.place.used];
+        let number = next.passed.number + 1;
+        self.print_kept(out, number, kept, run.span.start, run.first, own)
     }
 
     /// Writes the rows of the lines up to the last one of a block that is kept. It goes from run to run,
@@ -598,19 +702,20 @@ impl<A: Allocator> Printer<A> {
         out: &mut W,
         bytes: &[u8],
         runs: &[Run],
+        parts: &[Part],
         total: usize,
     ) -> Result<Place, WriteError>
         requires stands { (q : Search) × (format : Format) × (c : Cursor) × Remembers self.old q format c
-            × (shows_lines q format ≡ true) × HasLines q bytes.now runs.now total }
+            × (shows_lines format ≡ true) × HasFound q bytes.now runs.now parts.now total }
         requires small { self.old.progress.number + total < 2 ^ 63 }
         ensures same { self.new ≡ self.old }
         ensures comes { (q : Search) (format : Format) (c : Cursor) → Remembers self.old q format c →
-            shows_lines q format ≡ true → HasLines q bytes.now runs.now total →
+            shows_lines format ≡ true → HasFound q bytes.now runs.now parts.now total →
             IfOk result (λ place. ComesLast q format c (held (terminator q) self.old.window) bytes.now
             (W.stream out.old).taken (W.stream out.new).taken self.old.progress place) }
         ensures number { IfOk result (λ place. place.progress.number ≡ self.old.progress.number + place.seen) }
         ensures stops { (q : Search) (format : Format) (c : Cursor) → Remembers self.old q format c →
-            shows_lines q format ≡ true → HasLines q bytes.now runs.now total →
+            shows_lines format ≡ true → HasFound q bytes.now runs.now parts.now total →
             OnErr result (WritesPart (run_rows q format c.name c.earlier c.trail (lines (terminator q) bytes.now))
             (W.stream out.old) (W.stream out.new)) }
         ensures no_failure { OnOk result ((W.stream out.new).failures ≡ (W.stream out.old).failures) }
@@ -619,14 +724,15 @@ impl<A: Allocator> Printer<A> {
             progress: self.progress,
             at: 0,
             seen: 0,
+            used: 0,
         };
         for run in runs {
             let count = place.progress.keeps(&self.format, run.count as u64) as usize;
             if count == 0 {
                 return Ok(place);
             }
-            let next = self.step(place, bytes, *run, count);
-            self.print_step(out, place, bytes, *run, next)?;
+            let next = self.step(place, bytes, *run, count, parts);
+            self.print_step(out, place, bytes, *run, next, parts)?;
             place = next.place;
         }
         Ok(place)
@@ -638,21 +744,22 @@ impl<A: Allocator> Printer<A> {
         out: &mut W,
         bytes: &[u8],
         runs: &[Run],
+        parts: &[Part],
         total: usize,
     ) -> Result<Printed, WriteError>
         requires stands { (q : Search) × (format : Format) × (c : Cursor) × Remembers self.old q format c
-            × (shows_lines q format ≡ true) × HasLines q bytes.now runs.now total }
+            × (shows_lines format ≡ true) × HasFound q bytes.now runs.now parts.now total }
         requires small { self.old.progress.number + total < 2 ^ 63 }
         ensures same { self.new ≡ self.old }
         ensures writes { (q : Search) (format : Format) (c : Cursor) → Remembers self.old q format c →
-            shows_lines q format ≡ true → HasLines q bytes.now runs.now total →
+            shows_lines format ≡ true → HasFound q bytes.now runs.now parts.now total →
             WritesText (run_rows q format c.name c.earlier c.trail (lines (terminator q) bytes.now))
             (W.stream out.old) (W.stream out.new) result }
         ensures follows { (q : Search) (format : Format) (c : Cursor) → Remembers self.old q format c →
-            shows_lines q format ≡ true → HasLines q bytes.now runs.now total →
+            shows_lines format ≡ true → HasFound q bytes.now runs.now parts.now total →
             IfOk result (λ printed. Follows self.old q format (behind_block q format c bytes.now) bytes.now printed) }
     {
-        let place = self.print_runs(out, bytes, runs, total)?;
+        let place = self.print_runs(out, bytes, runs, parts, total)?;
         let left = total - place.seen;
         let last = place.progress.pass(left as u64);
         let stop = self.print_passed(out, place.progress, &bytes[place.at..], left)?;

@@ -93,17 +93,15 @@ impl Progress {
         }
     }
 
-    /// Whether no line behind these changes what the file gives, where `pieces` says whether the matched parts of lines
-    /// are shown and not the lines. Parts have no context.
-    pub fn suffices(self, format: &Format, pieces: bool) -> bool
-        ensures { (t : Trail) → Tells self format.now t →
-            result ≡ trail_suffices pieces format.now.mode format.now t }
+    /// Whether no line behind these changes what the file gives. Parts have no context.
+    pub fn suffices(self, format: &Format) -> bool
+        ensures { (t : Trail) → Tells self format.now t → result ≡ trail_suffices format.now.mode format.now t }
     {
         if format.mode.settles_at_first() {
             return self.kept > 0;
         }
         let is_full = self.room(format) == Some(0);
-        let is_trailed = format.mode.shows_rows() && !pieces && self.countdown > 0;
+        let is_trailed = format.mode.shows_rows() && !format.parts && self.countdown > 0;
         is_full && !is_trailed
     }
 

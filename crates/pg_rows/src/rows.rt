@@ -1,12 +1,17 @@
 //! Rows as they are written.
 ghost use Rattle.std.specs.Prelude.{◌≡◌, ◌+◌, ◌<◌, ◌≤◌, ◌^◌, ◌++◌, [], ◌∷◌, OnOk, OnErr, if◌then◌else◌};
-ghost use Rattle.std.specs.Prelude.{length, nat_lt, EachIndex, get_or};
+ghost use Rattle.std.specs.Prelude.{length, nat_lt, not, ◌||◌, ◌==◌, EachIndex, get_or};
 ghost use Rattle.std.specs.Fmt.{decimal};
 ghost use Rattle.pg_lines.specs.Lines.{lines, terminated};
-ghost use Rattle.pg_rows.specs.Output.{when, name_mark, row};
+ghost use Rattle.pg_rows.specs.Colors.{in_color, part_color};
+ghost use Rattle.pg_rows.specs.Output.{is_nothing, when, gap_text, name_end, name_mark, name_text, row};
+ghost use Rattle.pg_rows.specs.Painting.{painted_bytes, AreAscending};
 ghost use Rattle.pg_rows.specs.Stretch.{has_text, marked_rows, part_row, part_rows, IsPartOf, no_part};
 ghost use Rattle.pg_rows.specs.Sink.{WritesText};
 
+use crate::colors::{
+    Color, write_both, write_in_color, write_marked_name, write_painted, write_text,
+};
 use crate::format::Format;
 use crate::places::end_of_line;
 use crate::prefix::Prefix;
@@ -37,14 +42,6 @@ pub(crate) fn write_bare_lines<W: Sink>(out: &mut W, end: u8, text: &[u8]) -> Re
     } else {
         Ok(())
     }
-}
-
-/// Writes a text and another behind it.
-fn write_both<W: Sink>(out: &mut W, first: &[u8], second: &[u8]) -> Result<(), WriteError>
-    ensures { WritesText (first.now ++ second.now) (W.stream out.old) (W.stream out.new) result }
-{
-    write_all(out, first)?;
-    write_all(out, second)
 }
 
 /// Whether the first of some lines isn't empty.
@@ -129,6 +126,34 @@ pub(crate) fn write_lines<W: Sink, A: Allocator>(
     }
 }
 
+/// Whether a part is written as something: escapes count.
+fn has_part_text(format: &Format, text: &[u8]) -> bool
+    ensures { result ≡ not (is_nothing (in_color format.now.colored part_color text.now)) }
+{
+    format.colored || !text.is_empty()
+}
+
+/// Whether bytes from a place up to another, or parts of them in color, are written as something.
+pub(crate) fn has_painted_text(from: usize, to: usize, parts: &[Part]) -> bool
+    ensures { result ≡ (nat_lt from to || not (length parts.now == 0)) }
+{
+    from < to || !parts.is_empty()
+}
+
+/// Writes a part, in its color where rows have colors, and the terminator.
+fn write_part_text<W: Sink>(
+    out: &mut W,
+    format: &Format,
+    end: u8,
+    text: &[u8],
+) -> Result<(), WriteError>
+    ensures { WritesText (in_color format.now.colored part_color text.now ++ end ∷ [])
+        (W.stream out.old) (W.stream out.new) result }
+{
+    write_text(out, format, Color::Part, text)?;
+    write_all(out, &[end])
+}
+
 /// Writes the row of a part of some bytes.
 fn write_row<W: Sink, A: Allocator>(
     out: &mut W,
@@ -140,11 +165,12 @@ fn write_row<W: Sink, A: Allocator>(
     text: &[u8],
 ) -> Result<(), WriteError>
     ensures same { prefix.new ≡ prefix.old }
-    ensures writes { WritesText (row format.now end prefix.old number mark text.now)
+    ensures writes { WritesText
+        (row format.now end prefix.old number mark (in_color format.now.colored part_color text.now))
         (W.stream out.old) (W.stream out.new) result }
 {
-    prefix.write(out, format, number, mark, !text.is_empty())?;
-    write_both(out, text, &[end])
+    prefix.write(out, format, number, mark, has_part_text(format, text))?;
+    write_part_text(out, format, end, text)
 }
 
 /// Writes the row of a part, unless its line stands behind the first `cut` ones.
@@ -200,6 +226,24 @@ pub(crate) fn write_parts<W: Sink, A: Allocator>(
     Ok(())
 }
 
+/// Writes the bytes from a place up to another, with these parts of them in color, and the terminator.
+pub(crate) fn write_painted_text<W: Sink>(
+    out: &mut W,
+    end: u8,
+    bytes: &[u8],
+    from: usize,
+    to: usize,
+    parts: &[Part],
+) -> Result<(), WriteError>
+    requires within { to ≤ length bytes.now }
+    requires ascend { AreAscending from to parts.now }
+    ensures { WritesText (painted_bytes bytes.now from to parts.now ++ end ∷ [])
+        (W.stream out.old) (W.stream out.new) result }
+{
+    write_painted(out, bytes, from, to, parts)?;
+    write_all(out, &[end])
+}
+
 /// Writes the row of a file's count, which ends with a newline whatever the terminator.
 ///
 /// # Errors
@@ -212,7 +256,7 @@ pub(crate) fn write_count<W: Sink, A: Allocator>(
     count: u64,
 ) -> Result<(), WriteError>
     ensures { WritesText
-        (when format.now.names (prefix.now ++ name_mark format.now 58 ∷ []) ++ decimal count ++ 10 ∷ [])
+        (when format.now.names (name_text format.now prefix.now ++ name_end format.now 58) ++ decimal count ++ 10 ∷ [])
         (W.stream out.old) (W.stream out.new) result }
 {
     let mut digits = Buffer::new();
@@ -220,7 +264,7 @@ pub(crate) fn write_count<W: Sink, A: Allocator>(
     if !format.names {
         return write_both(out, text, b"\n");
     }
-    write_both(out, prefix.name(), &[format.name_mark(b':')])?;
+    write_marked_name(out, format, prefix.name(), b':')?;
     write_both(out, text, b"\n")
 }
 
@@ -234,10 +278,11 @@ pub(crate) fn write_name<W: Sink, A: Allocator>(
     format: &Format,
     prefix: &Prefix<A>,
 ) -> Result<(), WriteError>
-    ensures { WritesText (prefix.now ++ name_mark format.now 10 ∷ [])
+    ensures { WritesText (name_text format.now prefix.now ++ name_mark format.now 10 ∷ [])
         (W.stream out.old) (W.stream out.new) result }
 {
-    write_both(out, prefix.name(), &[format.name_mark(b'\n')])
+    write_text(out, format, Color::Name, prefix.name())?;
+    write_all(out, &[format.name_mark(b'\n')])
 }
 
 /// Writes the row of two hyphens that stands between rows that don't follow one another.
@@ -245,8 +290,13 @@ pub(crate) fn write_name<W: Sink, A: Allocator>(
 /// # Errors
 ///
 /// `WriteError` where a write failed. A beginning of the row was taken then.
-pub(crate) fn write_gap<W: Sink>(out: &mut W, end: u8) -> Result<(), WriteError>
-    ensures { WritesText (45 ∷ 45 ∷ end ∷ []) (W.stream out.old) (W.stream out.new) result }
+pub(crate) fn write_gap<W: Sink>(out: &mut W, format: &Format, end: u8) -> Result<(), WriteError>
+    ensures { WritesText (gap_text format.now end) (W.stream out.old) (W.stream out.new) result }
 {
-    write_all(out, &[b'-', b'-', end])
+    if format.colored {
+        write_in_color(out, Color::Mark, b"--")?;
+        write_all(out, &[end])
+    } else {
+        write_all(out, &[b'-', b'-', end])
+    }
 }

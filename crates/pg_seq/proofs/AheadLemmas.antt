@@ -382,7 +382,7 @@ pub front_enough : {A : Type 0} (s : Assembler A) (past : Past) → Stands s pas
     → (let format = past.format in
     cond (is_quiet format.mode) a.selected
     (a.inside
-    && trail_suffices past.query.text.pieces format.mode format (cursor_of past.query format (front_of past)).trail)
+    && trail_suffices format.mode format (cursor_of past.query format (front_of past)).trail)
     ≡ is_enough past.query format (entries_of (front_of past)))
 unfolding front_after
 front_enough s past h a f =
@@ -391,10 +391,10 @@ front_enough s past h a f =
     let trail = (cursor_of q format (front_of past)).trail in
     let lawful : IsShaped (terminator q) (front_of past) =
     front_shaped (terminator q) (taken_of q past.events) (plan past) (shape_of (terminator q) (plan past) h.lawful) in
-    ap (λ t. cond (is_quiet format.mode) t (a.inside && trail_suffices q.text.pieces format.mode format trail))
+    ap (λ t. cond (is_quiet format.mode) t (a.inside && trail_suffices format.mode format trail))
     (sym f.selected)
     ∙ ap (λ t. cond (is_quiet format.mode) (list_any (has_selected q) (entries_of (front_of past))) t)
-    (ap (λ b. b && trail_suffices q.text.pieces format.mode format trail) (sym f.inside)
+    (ap (λ b. b && trail_suffices format.mode format trail) (sym f.inside)
     ∙ sym (suffices_by_cursor q format h.room (front_of past) lawful))
 
 -- a block whose result has come is held

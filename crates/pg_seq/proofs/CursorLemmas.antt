@@ -64,7 +64,7 @@ module _ (q : Search) (format : Format) (limited : is_below 0 format.limit ≡ t
   end = terminator q
 
   abbrev IsPlain : Type 0
-  IsPlain = (shows_rows format.mode ≡ true) × (q.text.pieces ≡ false)
+  IsPlain = (shows_rows format.mode ≡ true) × (format.parts ≡ false)
 
   -- the open file
   pub record IsAtFile (p : List Step) (c : Cursor) : Type 0 where
@@ -81,7 +81,7 @@ module _ (q : Search) (format : Format) (limited : is_below 0 format.limit ≡ t
 
   -- the rows of lines, as the mode has them
   abbrev line_part : List ℕ → List (List ℕ) → Bool → List ℕ
-  line_part name ls earlier = cond q.text.pieces (piece_rows q format name ls) (line_rows q format name ls earlier)
+  line_part name ls earlier = cond format.parts (piece_rows q format name ls) (line_rows q format name ls earlier)
 
   file_running : (name bytes : List ℕ) (earlier : Bool)
       → file_rows q format name bytes false earlier ≡ rows_in format.mode
@@ -96,11 +96,11 @@ module _ (q : Search) (format : Format) (limited : is_below 0 format.limit ≡ t
   file_ended name bytes earlier = refl
 
   part_more : (c : Cursor) (ls ms : List (List ℕ)) (earlier : Bool) → IsTrail q format ls c.trail
-      → (q.text.pieces ≡ false → c.earlier ≡ earlier) →
+      → (format.parts ≡ false → c.earlier ≡ earlier) →
       line_part c.name (ls ++ ms) earlier
-      ≡ line_part c.name ls earlier ++ cond q.text.pieces (run_pieces q format c.name c.trail ms)
+      ≡ line_part c.name ls earlier ++ cond format.parts (run_pieces q format c.name c.trail ms)
       (run_rows q format c.name c.earlier c.trail ms)
-  part_more c ls ms earlier h e = go q.text.pieces e
+  part_more c ls ms earlier h e = go format.parts e
     where
       go : (t : Bool) → (t ≡ false → c.earlier ≡ earlier)
           → cond t (piece_rows q format c.name (ls ++ ms)) (line_rows q format c.name (ls ++ ms) earlier) ≡ cond t
@@ -115,7 +115,7 @@ module _ (q : Search) (format : Format) (limited : is_below 0 format.limit ≡ t
   open_rows name p =
       let earlier = something (output q format (entries_of p)) in
       ap (λ xs. output q format (entries_of p) ++ xs)
-      (file_running name [] earlier ∙ (ap (λ xs. rows_in format.mode xs [] []) (none q.text.pieces)
+      (file_running name [] earlier ∙ (ap (λ xs. rows_in format.mode xs [] []) (none format.parts)
       ∙ nothing_in format.mode)) ∙ append-nil (output q format (entries_of p))
     where
       none : (t : Bool) → cond t (piece_rows q format name [])

@@ -30,11 +30,11 @@ module _ (q : Search) (format : Format) (room : HasRoom format) where
 
   -- while one is, they suffice where what is remembered of them says so
   pub suffices_by_cursor : (p : List Step) → IsShaped (terminator q) p → file_suffices q format (entries_of p)
-      ≡ (is_open p && trail_suffices q.text.pieces format.mode format (cursor_of q format p).trail)
+      ≡ (is_open p && trail_suffices format.mode format (cursor_of q format p).trail)
   suffices_by_cursor p h = go (is_open p) refl
     where
       go : (b : Bool) → is_open p ≡ b → file_suffices q format (entries_of p)
-          ≡ (b && trail_suffices q.text.pieces format.mode format (cursor_of q format p).trail)
+          ≡ (b && trail_suffices format.mode format (cursor_of q format p).trail)
       go false e = closed_entries p e h
       go true e =
           let f = (cursor_is q format room p h).file e in

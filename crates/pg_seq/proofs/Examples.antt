@@ -46,6 +46,8 @@ plain = record {
   numbers = false;
   tabs = false;
   mode = Rows;
+  parts = false;
+  colored = false;
   limit = None;
   before = None;
   after = None;
@@ -117,10 +119,36 @@ limited_context : output (query 109) (record plain { limit = Some 1; before = So
 unfolding has_hit file_rows digits
 limited_context = refl
 
-matched_parts : output (parts 109) (record plain { numbers = true; limit = Some 2 }) (file (codes "m\nmm\nm\n") ∷ [])
-    ≡ codes "1:m\n2:m\n2:m\n"
+matched_parts : output (parts 109) (record plain { numbers = true; parts = true; limit = Some 2 })
+    (file (codes "m\nmm\nm\n") ∷ []) ≡ codes "1:m\n2:m\n2:m\n"
 unfolding has_hit file_rows parts_from digits
 matched_parts = refl
+
+-- Rows in colors. ESC is 27.
+
+-- a color's codes and its text, with what ends the color
+abbrev shown_in : (code text : List ℕ) → List ℕ
+shown_in code text = 27 ∷ codes "[" ++ code ++ codes "m" ++ 27 ∷ codes "[K" ++ text
+    ++ 27 ∷ codes "[m" ++ 27 ∷ codes "[K"
+
+colored_row : output (parts 109) (record plain { names = true; numbers = true; colored = true })
+    (file (codes "amb\n") ∷ []) ≡ shown_in (codes "35") (codes "f") ++ shown_in (codes "36") (codes ":")
+    ++ shown_in (codes "32") (codes "1") ++ shown_in (codes "36") (codes ":")
+    ++ codes "a" ++ shown_in (codes "01;31") (codes "m") ++ codes "b\n"
+unfolding has_hit file_rows parts_from digits
+colored_row = refl
+
+colored_part : output (parts 109) (record plain { parts = true; colored = true }) (file (codes "amb\n") ∷ [])
+    ≡ shown_in (codes "01;31") (codes "m") ++ codes "\n"
+unfolding has_hit file_rows parts_from digits
+colored_part = refl
+
+-- context is plain
+colored_hyphens : output (parts 109) (record plain { after = Some 1; colored = true })
+    (file (codes "m\na\nb\nm\n") ∷ []) ≡ shown_in (codes "01;31") (codes "m") ++ codes "\na\n"
+    ++ shown_in (codes "36") (codes "--") ++ codes "\n" ++ shown_in (codes "01;31") (codes "m") ++ codes "\n"
+unfolding has_hit file_rows parts_from digits
+colored_hyphens = refl
 
 missed_file : status (query 120) plain (Missed (codes "missing") ∷ file (codes "x\n") ∷ []) ≡ 2
 unfolding has_hit

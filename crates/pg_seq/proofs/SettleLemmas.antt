@@ -15,7 +15,8 @@ use Rattle.pg_rows.specs.declared.format.Format.{Format}
 use Rattle.pg_rows.specs.declared.format.Mode.{Mode}
 use Rattle.pg_rows.specs.Modes.{shows_rows, settles_at_first, is_named, end_row, rows_in}
 use Rattle.pg_rows.proofs.ModeLemmas.{rows_settle_late, end_by_count, end_by_name}
-use Rattle.pg_rows.specs.Output.{name_mark, HasRoom, is_below, when, row, file_rows, line_rows, piece_rows}
+use Rattle.pg_rows.specs.Output.{name_end, name_mark, name_text, painted, HasRoom, is_below, when, row, file_rows}
+use Rattle.pg_rows.specs.Output.{line_rows, piece_rows}
 use Rattle.pg_rows.specs.Output.{count_row, name_row, is_shown}
 use Rattle.pg_rows.specs.Trail.{Trail, step, run, run_rows, run_pieces, keeps, after_kept, after_context}
 use Rattle.pg_rows.specs.Trail.{after_other, kept_rows, pieces_in, trail_of}
@@ -95,7 +96,7 @@ module _ (q : Search) (format : Format) where
   no_more_rows name earlier t [] e d = refl
   no_more_rows name earlier t (m ∷ ms) e d =
       let end = terminator q in
-      let kept = kept_rows format end name earlier t m in
+      let kept = kept_rows format end name earlier t (painted q format m) in
       let own = row format end name (t.number + 1) 45 m in
       let next = step format t (selects q m) m in
       let rest = run_rows q format name earlier next ms in
@@ -115,7 +116,7 @@ module _ (q : Search) (format : Format) where
 
   -- the rows of lines, as the mode has them
   abbrev pub line_part : List ℕ → List (List ℕ) → Bool → List ℕ
-  line_part name ls earlier = cond q.text.pieces (piece_rows q format name ls) (line_rows q format name ls earlier)
+  line_part name ls earlier = cond format.parts (piece_rows q format name ls) (line_rows q format name ls earlier)
 
   abbrev rows_of : List ℕ → List (List ℕ) → Bool → Bool → List ℕ
   rows_of name ls ended earlier =
@@ -150,7 +151,7 @@ module _ (q : Search) (format : Format) where
         → count_row q format name (ls ++ ms) ≡ count_row q format name ls
     count_settled name full =
         count_by_trail q format name (ls ++ ms) (run q format t ms) (trail_more q format ls ms t h)
-        ∙ (ap (λ k. when format.names (name ++ name_mark format 58 ∷ []) ++ decimal k ++ 10 ∷ [])
+        ∙ (ap (λ k. when format.names (name_text format name ++ name_end format 58) ++ decimal k ++ 10 ∷ [])
         (run_kept t ms (full_spent ls t h full))
         ∙ sym (count_by_trail q format name ls t h))
 
@@ -161,11 +162,12 @@ module _ (q : Search) (format : Format) where
     name_settled : (name : List ℕ) → list_any (selects q) ls ≡ true
         → name_row q format name (ls ++ ms) ≡ name_row q format name ls
     name_settled name e =
-        ap (λ b. when (is_named format.mode b) (name ++ name_mark format 10 ∷ [])) (selected_settled e ∙ sym e)
+        ap (λ b. when (is_named format.mode b) (name_text format name ++ name_mark format 10 ∷ []))
+        (selected_settled e ∙ sym e)
 
     part_settled : (name : List ℕ) (earlier : Bool) → is_full q format ls ≡ true → is_trailed q format ls ≡ false
         → line_part name (ls ++ ms) earlier ≡ line_part name ls earlier
-    part_settled name earlier full = go q.text.pieces
+    part_settled name earlier full = go format.parts
       where
         go : (b : Bool) → (not b && is_shown q format ls (length ls)) ≡ false
             → cond b (piece_rows q format name (ls ++ ms)) (line_rows q format name (ls ++ ms) earlier)

@@ -11,7 +11,8 @@ use Rattle.pg_lines.specs.Selection.{selects}
 use Rattle.pg_rows.specs.declared.format.Format.{Format}
 use Rattle.pg_rows.specs.Modes.{end_row, is_quiet, shows_rows}
 use Rattle.pg_rows.specs.Output.{Entry, Missed, Read, is_running, is_bad, has_selected, has_separators, is_nothing}
-use Rattle.pg_rows.specs.Output.{count_row, file_rows, line_rows, name_row, output, piece_rows, row, status, when}
+use Rattle.pg_rows.specs.Output.{count_row, file_rows, gap_text, line_rows, name_row, output, painted, piece_rows}
+use Rattle.pg_rows.specs.Output.{row, status, when}
 use Rattle.pg_rows.specs.Trail.{Trail, no_lines, step, keeps, after_kept, after_context, after_other, added}
 use Rattle.pg_rows.specs.Trail.{context_rows, gap_row, run_rows}
 use Rattle.pg_rows.proofs.FoldLemmas.{rows_more, something, some_append, some_row, trail_is}
@@ -19,12 +20,12 @@ use Rattle.pg_seq.specs.Shares.{has_groups, joined_output, joined_status}
 use Rattle.pg_seq.proofs.LongerLemmas.{status_by}
 
 -- the row of hyphens before some rows, if there are any
-abbrev pub with_hyphens : Bool → ℕ → List ℕ → List ℕ
-with_hyphens apart end rows = when (apart && something rows) (45 ∷ 45 ∷ end ∷ []) ++ rows
+abbrev pub with_hyphens : Bool → (hyphens rows : List ℕ) → List ℕ
+with_hyphens apart hyphens rows = when (apart && something rows) hyphens ++ rows
 
-with_none : (apart : Bool) (end : ℕ) → with_hyphens apart end [] ≡ []
-with_none true end = refl
-with_none false end = refl
+with_none : (apart : Bool) (hyphens : List ℕ) → with_hyphens apart hyphens [] ≡ []
+with_none true hyphens = refl
+with_none false hyphens = refl
 
 module _ (q : Search) (format : Format) (name : List ℕ) where
   -- once a line of the file was shown, earlier rows of the run change nothing
@@ -32,7 +33,7 @@ module _ (q : Search) (format : Format) (name : List ℕ) where
       → gap_row format (terminator q) a t ≡ gap_row format (terminator q) b t
   gap_same a b t e =
       let gap : Bool → Bool → List ℕ = λ some earlier.
-      when (has_separators format && cond some t.skipped earlier) (45 ∷ 45 ∷ terminator q ∷ []) in
+      when (has_separators format && cond some t.skipped earlier) (gap_text format (terminator q)) in
       ap (λ some. gap some a) e ∙ sym (ap (λ some. gap some b) e)
 
   stays_shown : (t : Trail) (m : List ℕ) → t.some ≡ true → (kept near : Bool)
@@ -50,17 +51,17 @@ module _ (q : Search) (format : Format) (name : List ℕ) where
       let kept = keeps format t selected in
       let next = step format t selected m in
       let front = context_rows format end name ((t.number + 1) - length t.window) t.window in
-      let own = row format end name (t.number + 1) 58 m in
+      let own = row format end name (t.number + 1) 58 (painted q format m) in
       let other = when (nat_lt 0 t.countdown) (row format end name (t.number + 1) 45 m) in
       ap (λ gap. cond kept (gap ++ (front ++ own)) other ++ run_rows q format name a next ms) (gap_same a b t e)
-      ∙ ap (λ xs. added format end name b t selected m ++ xs)
+      ∙ ap (λ xs. added format end name b t selected (painted q format m) m ++ xs)
       (same_behind a b next ms (stays_shown t m e kept (nat_lt 0 t.countdown)))
 
   -- before the first line that is shown the row of hyphens stands where the run had a row
   first_apart : (t : Trail) (ms : List (List ℕ)) → t.some ≡ false → nat_lt 0 t.countdown ≡ false
       → run_rows q format name true t ms
-      ≡ with_hyphens (has_separators format) (terminator q) (run_rows q format name false t ms)
-  first_apart t [] unshown none = sym (with_none (has_separators format) (terminator q))
+      ≡ with_hyphens (has_separators format) (gap_text format (terminator q)) (run_rows q format name false t ms)
+  first_apart t [] unshown none = sym (with_none (has_separators format) (gap_text format (terminator q)))
   first_apart t (m ∷ ms) unshown none =
       go (keeps format t (selects q m)) (nat_lt 0 t.countdown) none
       (first_apart (after_other format t m) ms unshown none)
@@ -69,7 +70,7 @@ module _ (q : Search) (format : Format) (name : List ℕ) where
       end = terminator q
 
       own : List ℕ
-      own = row format end name (t.number + 1) 58 m
+      own = row format end name (t.number + 1) 58 (painted q format m)
 
       body : List ℕ
       body = context_rows format end name ((t.number + 1) - length t.window) t.window ++ own
@@ -81,14 +82,15 @@ module _ (q : Search) (format : Format) (name : List ℕ) where
       next kept near = cond kept (after_kept format t) (cond near (after_context t) (after_other format t m))
 
       gap : Bool → Bool → List ℕ
-      gap some earlier = when (has_separators format && cond some t.skipped earlier) (45 ∷ 45 ∷ end ∷ [])
+      gap some earlier = when (has_separators format && cond some t.skipped earlier) (gap_text format end)
 
       go : (kept near : Bool) → near ≡ false
           → run_rows q format name true (after_other format t m) ms
-          ≡ with_hyphens (has_separators format) end (run_rows q format name false (after_other format t m) ms)
+          ≡ with_hyphens (has_separators format) (gap_text format end)
+          (run_rows q format name false (after_other format t m) ms)
           → cond kept (gap_row format end true t ++ body) (when near other)
           ++ run_rows q format name true (next kept near) ms
-          ≡ with_hyphens (has_separators format) end
+          ≡ with_hyphens (has_separators format) (gap_text format end)
           (cond kept (gap_row format end false t ++ body) (when near other)
           ++ run_rows q format name false (next kept near) ms)
       go true near e others =
@@ -97,11 +99,11 @@ module _ (q : Search) (format : Format) (name : List ℕ) where
           ap (λ g. (g ++ body) ++ run_rows q format name true (after_kept format t) ms) (ap (λ s. gap s true) unshown)
           ∙ (ap (λ xs. (gap false true ++ body) ++ xs) (same_behind true false (after_kept format t) ms refl)
           ∙ (append_assoc (gap false true) body rest
-          ∙ (sym (ap (λ s. when (has_separators format && s) (45 ∷ 45 ∷ end ∷ []) ++ (body ++ rest)) shown)
-          ∙ sym (ap (λ g. with_hyphens (has_separators format) end ((g ++ body) ++ rest))
+          ∙ (sym (ap (λ s. when (has_separators format && s) (gap_text format end) ++ (body ++ rest)) shown)
+          ∙ sym (ap (λ g. with_hyphens (has_separators format) (gap_text format end) ((g ++ body) ++ rest))
           (ap (λ s. gap s false) unshown ∙ gap_none (has_separators format))))))
         where
-          gap_none : (c : Bool) → when (c && false) (45 ∷ 45 ∷ end ∷ []) ≡ []
+          gap_none : (c : Bool) → when (c && false) (gap_text format end) ≡ []
           gap_none true = refl
           gap_none false = refl
 
@@ -111,23 +113,24 @@ module _ (q : Search) (format : Format) (name : List ℕ) where
               some_append body rest
               ∙ or_left (something body) (something rest)
               (some_append front own
-              ∙ or_right (something front) (something own) (some_row format end name (t.number + 1) 58 m))
+              ∙ or_right (something front) (something own) (some_row format end name (t.number + 1) 58
+              (painted q format m)))
       go false true e others = absurd (false≢true (sym e))
       go false false e others = others
 
   lines_apart : (ls : List (List ℕ)) → line_rows q format name ls true
-      ≡ with_hyphens (has_separators format) (terminator q) (line_rows q format name ls false)
+      ≡ with_hyphens (has_separators format) (gap_text format (terminator q)) (line_rows q format name ls false)
   lines_apart ls =
       rows_more q format name true [] ls no_lines (trail_is q format [])
       ∙ (first_apart no_lines ls refl refl
-      ∙ ap (with_hyphens (has_separators format) (terminator q))
+      ∙ ap (with_hyphens (has_separators format) (gap_text format (terminator q)))
       (sym (rows_more q format name false [] ls no_lines (trail_is q format []))))
 
 module _ (q : Search) (format : Format) where
   file_apart : (name bytes : List ℕ) (ended : Bool) → file_rows q format name bytes ended true
-      ≡ with_hyphens (has_groups q format) (terminator q) (file_rows q format name bytes ended false)
+      ≡ with_hyphens (has_groups format) (gap_text format (terminator q)) (file_rows q format name bytes ended false)
   unfolding file_rows
-  file_apart name bytes ended = go (shows_rows format.mode) q.text.pieces
+  file_apart name bytes ended = go (shows_rows format.mode) format.parts
     where
       ls : List (List ℕ)
       ls = lines (terminator q) bytes
@@ -140,31 +143,32 @@ module _ (q : Search) (format : Format) where
           cond shows (cond pieces (piece_rows q format name ls) (line_rows q format name ls earlier)) last
 
       go : (shows pieces : Bool) → rows shows pieces true
-          ≡ with_hyphens (shows && (not pieces && has_separators format)) (terminator q) (rows shows pieces false)
+          ≡ with_hyphens (shows && (not pieces && has_separators format)) (gap_text format (terminator q))
+          (rows shows pieces false)
       go true true = refl
       go true false = lines_apart q format name ls
       go false pieces = refl
 
   abbrev apart : Bool → List ℕ
-  apart b = when b (45 ∷ 45 ∷ terminator q ∷ [])
+  apart b = when b (gap_text format (terminator q))
 
   apart_none : (c : Bool) → apart (c && false) ≡ []
   apart_none true = refl
   apart_none false = refl
 
   join_first : (later : List ℕ) → joined_output q format [] later ≡ later
-  join_first later = ap (λ xs. xs ++ later) (apart_none (has_groups q format))
+  join_first later = ap (λ xs. xs ++ later) (apart_none (has_groups format))
 
   join_last : (first : List ℕ) → joined_output q format first [] ≡ first
   join_last [] = join_first []
   join_last (b ∷ bytes) =
       let first = b ∷ bytes in
-      append-nil (first ++ apart (has_groups q format && false))
-      ∙ (ap (λ xs. first ++ xs) (apart_none (has_groups q format)) ∙ append-nil first)
+      append-nil (first ++ apart (has_groups format && false))
+      ∙ (ap (λ xs. first ++ xs) (apart_none (has_groups format)) ∙ append-nil first)
 
   -- the rows of one more file of the later share
   join_more : (first later : List ℕ) (rows : Bool → List ℕ)
-      → rows true ≡ with_hyphens (has_groups q format) (terminator q) (rows false)
+      → rows true ≡ with_hyphens (has_groups format) (gap_text format (terminator q)) (rows false)
       → joined_output q format first later ++ rows (something (joined_output q format first later))
       ≡ joined_output q format first (later ++ rows (something later))
   join_more [] later rows e =
@@ -173,9 +177,9 @@ module _ (q : Search) (format : Format) where
       let first = b ∷ bytes in
       ap (λ xs. xs ++ rows true) (join_last first)
       ∙ (ap (λ xs. first ++ xs) e
-      ∙ sym (append_assoc first (apart (has_groups q format && something (rows false))) (rows false)))
+      ∙ sym (append_assoc first (apart (has_groups format && something (rows false))) (rows false)))
   join_more (b ∷ bytes) (c ∷ more) rows e =
-      append_assoc ((b ∷ bytes) ++ apart (has_groups q format && true)) (c ∷ more) (rows true)
+      append_assoc ((b ∷ bytes) ++ apart (has_groups format && true)) (c ∷ more) (rows true)
 
 pub outputs_join : (q : Search) (format : Format) (first later : List Entry) → output q format (later ++ first)
     ≡ joined_output q format (output q format first) (output q format later)
@@ -193,9 +197,9 @@ plain_join q format first later e =
     let front = output q format first in
     let rest = output q format later in
     let both = not (is_nothing front) && not (is_nothing rest) in
-    let apart : Bool → List ℕ = λ b. when (b && both) (45 ∷ 45 ∷ terminator q ∷ []) in
+    let apart : Bool → List ℕ = λ b. when (b && both) (gap_text format (terminator q)) in
     outputs_join q format first later
-    ∙ (ap (λ b. (front ++ apart b) ++ rest) (no_groups (shows_rows format.mode) q.text.pieces (has_separators format) e)
+    ∙ (ap (λ b. (front ++ apart b) ++ rest) (no_groups (shows_rows format.mode) format.parts (has_separators format) e)
     ∙ ap (λ xs. xs ++ rest) (append-nil front))
   where
     no_groups : (shows pieces context : Bool) → context ≡ false → (shows && (not pieces && context)) ≡ false

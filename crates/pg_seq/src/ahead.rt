@@ -24,16 +24,16 @@ impl Ahead {
     ghost use Rattle.pg_rows.specs.Progress.{Tells};
     ghost use Rattle.pg_rows.specs.Trail.{Trail};
 
-    /// Whether enough was read, where `pieces` says whether matched parts are shown.
-    pub(crate) fn is_enough(self, format: &Format, pieces: bool) -> bool
+    /// Whether enough was read.
+    pub(crate) fn is_enough(self, format: &Format) -> bool
         ensures { (t : Trail) → Tells self.progress format.now t →
             result ≡ (if is_quiet format.now.mode then self.selected
-            else (self.inside && trail_suffices pieces format.now.mode format.now t)) }
+            else (self.inside && trail_suffices format.now.mode format.now t)) }
     {
         if format.mode.is_quiet() {
             self.selected
         } else {
-            self.inside && self.progress.suffices(format, pieces)
+            self.inside && self.progress.suffices(format)
         }
     }
 }

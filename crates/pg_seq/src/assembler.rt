@@ -297,13 +297,6 @@ impl<A: Allocator> Assembler<A> {
         !self.running && self.buffer.has_all_results()
     }
 
-    /// Whether the matched parts of lines are shown.
-    fn pieces(&self) -> bool
-        ensures { result ≡ (arc_value self.now.query).text.pieces }
-    {
-        self.query.text().pieces
-    }
-
     /// Whether enough was read, by the files that may be handed out.
     pub(crate) fn enough(&self) -> bool
         requires { (past : Past) × Stands self.now past }
@@ -320,7 +313,7 @@ impl<A: Allocator> Assembler<A> {
         while let Some(next) = self.next_ahead(ahead) {
             ahead = next;
         }
-        ahead.is_enough(&self.format, self.pieces())
+        ahead.is_enough(&self.format)
     }
 
     /// One step further, where it could be done.

@@ -5,12 +5,12 @@ use Rattle.pg_rows.specs.declared.format.Mode.{Mode}
 use Rattle.pg_rows.specs.declared.format.Mode.TheVariants.{Count}
 use Rattle.pg_rows.specs.Cursor.{Cursor, counted, named}
 use Rattle.pg_rows.specs.Modes.{rows_in}
-use Rattle.pg_rows.specs.Output.{name_mark, when}
+use Rattle.pg_rows.specs.Output.{name_end, name_text, when}
 use Rattle.pg_rows.specs.Remembered.{end_rows}
 use Rattle.pg_rows.proofs.printer.Printer.end.Goals as goal
 
 abbrev count_text : Format → List ℕ → ℕ → List ℕ
-count_text format name kept = when format.names (name ++ name_mark format 58 ∷ []) ++ decimal kept ++ 10 ∷ []
+count_text format name kept = when format.names (name_text format name ++ name_end format 58) ++ decimal kept ++ 10 ∷ []
 
 -- the text of a count is what the file's end adds
 count_is : (mine format : Format) (c : Cursor) (name : List ℕ) (kept : ℕ) → mine.mode ≡ Count → mine ≡ format

@@ -1,4 +1,4 @@
-use Rattle.std.proofs.Common.{◌-◌, refl, sym, ap, ◌∙◌, rules}
+use Rattle.std.proofs.Common.{◌-◌, refl, sym, ap, ◌∙◌}
 use Rattle.std.proofs.Math.Seq.{drop-nil}
 use Rattle.circular_buffer.specs.Buffer.{keep_last}
 use Rattle.pg_lines.specs.Search.{terminator, terminator_of}
@@ -13,7 +13,6 @@ returns g c q same =
     record {
       format_is = refl;
       end_is = c.terminator.ensures ∙ sym (ap terminator_of same);
-      pieces_is = search rules;
       earlier_is = refl;
       name_is = c.in_ok-prefix.ensures;
       told = c.new-3.ensures c.args.format;

@@ -13,7 +13,6 @@ returns g c q format cur r =
     record {
       format_is = r.format_is;
       end_is = r.end_is;
-      pieces_is = r.pieces_is;
       earlier_is =
           ap (λ b. b || c.args.self.now.progress.shown) r.earlier_is ∙ ap (λ b. cur.earlier || b) r.told.some;
       name_is = refl;

@@ -14,7 +14,7 @@ returns-then-self-clause-writes g c q format cur r found =
     let a = c.args in
     let rows : shows_rows format.mode ≡ true = ap (λ f. shows_rows f.mode) (sym r.format_is) ∙ sym
     c.if-not-shows_rows.ensures in
-    let pieces : q.text.pieces ≡ true = sym r.pieces_is ∙ c.if-self.true in
+    let pieces : format.parts ≡ true = ap (λ f. f.parts) (sym r.format_is) ∙ c.if-self.true in
     writes_as (run_pieces q format cur.name cur.trail (lines (terminator q) a.bytes.now))
     (shown_rows q format cur a.bytes.now) _ _ _ (sym (shown_pieces q format cur a.bytes.now rows pieces))
     (c.print_parts.ensures.writes q format cur r pieces found)
@@ -24,8 +24,8 @@ returns-clause-writes g c q format cur r found =
     let a = c.args in
     let rows : shows_rows format.mode ≡ true = ap (λ f. shows_rows f.mode) (sym r.format_is) ∙ sym
     c.if-not-shows_rows.ensures in
-    let pieces : q.text.pieces ≡ false = sym r.pieces_is ∙ c.if-self.false in
+    let pieces : format.parts ≡ false = ap (λ f. f.parts) (sym r.format_is) ∙ c.if-self.false in
     writes_as (run_rows q format cur.name cur.earlier cur.trail (lines (terminator q) a.bytes.now))
     (shown_rows q format cur a.bytes.now) _ _ _ (sym (shown_lines q format cur a.bytes.now rows pieces))
-    (c.print_lines.ensures.writes q format cur r (and_from (shows_rows format.mode) (not q.text.pieces) rows
-    (ap not pieces)) found.found_lines)
+    (c.print_lines.ensures.writes q format cur r (and_from (shows_rows format.mode) (not format.parts) rows
+    (ap not pieces)) found)

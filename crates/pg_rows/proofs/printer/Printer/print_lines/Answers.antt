@@ -29,7 +29,8 @@ returns-in_err-stop-clause-writes g c q format cur r shows has =
     let cut = take (length a.bytes.now - place.at) text in
     let whole : cut ≡ text = take_rest a.bytes.now place.at in
     let count : a.total - place.seen ≡ length (lines s.end text) =
-    let all = h.here.count in let total = has.total in let same = ap (λ e. length (lines e text)) r.end_is in omega
+    let all = h.here.count in let total = has.found_lines.total in let same = ap (λ e. length (lines e text))
+    r.end_is in omega
     arith in
     let start = (g.W.Sink.stream a.out.now).taken in
     let middle = (g.W.Sink.stream c.print_runs.new.out).taken in
@@ -63,7 +64,8 @@ returns-clause-writes g c q format cur r shows has =
     let cut = take (length a.bytes.now - place.at) text in
     let whole : cut ≡ text = take_rest a.bytes.now place.at in
     let count : a.total - place.seen ≡ length (lines s.end text) =
-    let all = h.here.count in let total = has.total in let same = ap (λ e. length (lines e text)) r.end_is in omega
+    let all = h.here.count in let total = has.found_lines.total in let same = ap (λ e. length (lines e text))
+    r.end_is in omega
     arith in
     let start = (g.W.Sink.stream a.out.now).taken in
     let middle = (g.W.Sink.stream c.print_runs.new.out).taken in
@@ -97,7 +99,8 @@ returns-clause-follows g c q format cur r shows has =
     let cut = take (length a.bytes.now - place.at) text in
     let whole : cut ≡ text = take_rest a.bytes.now place.at in
     let count : a.total - place.seen ≡ length (lines s.end text) =
-    let all = h.here.count in let total = has.total in let same = ap (λ e. length (lines e text)) r.end_is in omega
+    let all = h.here.count in let total = has.found_lines.total in let same = ap (λ e. length (lines e text))
+    r.end_is in omega
     arith in
     let start = (g.W.Sink.stream a.out.now).taken in
     let middle = (g.W.Sink.stream c.print_runs.new.out).taken in
@@ -128,7 +131,7 @@ pub overflow_sub-left : goal.overflow_sub-left
 overflow_sub-left g c =
     let w = c.requires.stands in
     let h = c.in_ok-place.ensures.comes w.0 w.1 w.2 w.3 w.4 w.5 in
-    left_within c.args.total c.in_ok-place.place.seen _ _ w.5.total h.here.count
+    left_within c.args.total c.in_ok-place.place.seen _ _ w.5.found_lines.total h.here.count
 
 pub print_passed-requires-clause-count : goal.print_passed-requires-clause-count
 print_passed-requires-clause-count g c =
@@ -144,7 +147,7 @@ print_passed-requires-clause-count g c =
     let R : ℕ → Type 0 = λ e. n ≡ length (lines e (drop place.at bytes)) in
     subst P (sym c.in_ok-place.ensures.same) (subst Q (sym (take_rest bytes place.at))
     (subst R (sym w.3.end_is)
-    (left_count c.args.total place.seen _ _ w.5.total h.here.count)))
+    (left_count c.args.total place.seen _ _ w.5.found_lines.total h.here.count)))
 
 pub print_passed-requires-clause-small : goal.print_passed-requires-clause-small
 print_passed-requires-clause-small g c =
@@ -152,7 +155,7 @@ print_passed-requires-clause-small g c =
     let h = c.in_ok-place.ensures.comes w.0 w.1 w.2 w.3 w.4 w.5 in
     left_small c.in_ok-place.place.progress.number c.args.self.now.progress.number c.args.total
     c.in_ok-place.place.seen c.in_ok-place.ensures.number
-    (left_within c.args.total c.in_ok-place.place.seen _ _ w.5.total h.here.count) c.requires.small
+    (left_within c.args.total c.in_ok-place.place.seen _ _ w.5.found_lines.total h.here.count) c.requires.small
 
 pub returns-in_err-place-clause-writes : goal.returns-in_err-place-clause-writes
 returns-in_err-place-clause-writes g c q format cur r shows has =

@@ -13,7 +13,8 @@ use Rattle.pg_rows.proofs.SinkLemmas.{on_err}
 use Rattle.pg_rows.proofs.BlockLemmas.{no_run}
 use Rattle.pg_rows.proofs.RunSteps.{IsBefore, failed_before}
 use Rattle.pg_rows.proofs.PrinterSteps.{before_all, can_step, IsStep, step_rows, stepped, comes_last}
-use Rattle.pg_rows.proofs.PrinterSteps.{stops, ends_some}
+use Rattle.pg_rows.proofs.PrinterSteps.{stops, ends_some, takes_parts}
+use Rattle.pg_rows.proofs.PieceLemmas.{found_lines_told}
 use Rattle.pg_rows.proofs.printer.Printer.print_runs.Goals as goal
 
 rises : (before middle after : ℕ) → middle ≡ before → middle < after → before < after
@@ -29,7 +30,10 @@ loop-run-init g c = record {
   comes = λ q format cur r shows has.
       before_all c.args.self.now q format cur c.args.bytes.now (g.W.Sink.stream c.args.out.now).taken c.args.runs.now
       c.args.total
-      r shows has;
+      r shows has.found_lines;
+  used = omega arith;
+  left = λ q format cur r shows has colored.
+      found_lines_told q c.args.bytes.now c.args.runs.now c.args.parts.now c.args.total has;
 }
 
 pub step-next-requires-clause-next : goal.step-next-requires-clause-next
@@ -42,7 +46,8 @@ step-next-requires-clause-next g c =
     let can = can_step l.self w.0 w.1 w.2 c.args.bytes.now (g.W.Sink.stream c.args.out.now).taken
     (g.W.Sink.stream l.out).taken
     l.place
-    c.args.runs.now l.run-index c.args.total c.keeps-count.result r w.5 (l.invariant.comes w.0 w.1 w.2 r w.4 w.5)
+    c.args.runs.now l.run-index c.args.total c.keeps-count.result r w.5.found_lines
+    (l.invariant.comes w.0 w.1 w.2 r w.4 w.5)
     c.loop-run-test.true c.keeps-count.ensures c.if-count-eq0.false in
     can.next
 
@@ -56,7 +61,8 @@ step-next-requires-clause-room g c =
     let can = can_step l.self w.0 w.1 w.2 c.args.bytes.now (g.W.Sink.stream c.args.out.now).taken
     (g.W.Sink.stream l.out).taken
     l.place
-    c.args.runs.now l.run-index c.args.total c.keeps-count.result r w.5 (l.invariant.comes w.0 w.1 w.2 r w.4 w.5)
+    c.args.runs.now l.run-index c.args.total c.keeps-count.result r w.5.found_lines
+    (l.invariant.comes w.0 w.1 w.2 r w.4 w.5)
     c.loop-run-test.true c.keeps-count.ensures c.if-count-eq0.false in
     let few = can.few in
     let room = can.room in
@@ -73,7 +79,8 @@ step-next-requires-clause-small g c =
     let can = can_step l.self w.0 w.1 w.2 c.args.bytes.now (g.W.Sink.stream c.args.out.now).taken
     (g.W.Sink.stream l.out).taken
     l.place
-    c.args.runs.now l.run-index c.args.total c.keeps-count.result r w.5 (l.invariant.comes w.0 w.1 w.2 r w.4 w.5)
+    c.args.runs.now l.run-index c.args.total c.keeps-count.result r w.5.found_lines
+    (l.invariant.comes w.0 w.1 w.2 r w.4 w.5)
     c.loop-run-test.true c.keeps-count.ensures c.if-count-eq0.false in
     let few = can.few in
     let room = can.room in
@@ -92,7 +99,8 @@ print_step-requires-clause-next g c =
     let can = can_step l.self w.0 w.1 w.2 c.args.bytes.now (g.W.Sink.stream c.args.out.now).taken
     (g.W.Sink.stream l.out).taken
     l.place
-    c.args.runs.now l.run-index c.args.total c.keeps-count.result r w.5 (l.invariant.comes w.0 w.1 w.2 r w.4 w.5)
+    c.args.runs.now l.run-index c.args.total c.keeps-count.result r w.5.found_lines
+    (l.invariant.comes w.0 w.1 w.2 r w.4 w.5)
     c.loop-run-test.true c.keeps-count.ensures c.if-count-eq0.false in
     can.next
 
@@ -106,7 +114,8 @@ print_step-requires-clause-small g c =
     let can = can_step l.self w.0 w.1 w.2 c.args.bytes.now (g.W.Sink.stream c.args.out.now).taken
     (g.W.Sink.stream l.out).taken
     l.place
-    c.args.runs.now l.run-index c.args.total c.keeps-count.result r w.5 (l.invariant.comes w.0 w.1 w.2 r w.4 w.5)
+    c.args.runs.now l.run-index c.args.total c.keeps-count.result r w.5.found_lines
+    (l.invariant.comes w.0 w.1 w.2 r w.4 w.5)
     c.loop-run-test.true c.keeps-count.ensures c.if-count-eq0.false in
     let few = can.few in
     let room = can.room in
@@ -118,6 +127,66 @@ print_step-requires-clause-small g c =
     let cut = ap (λ xs. length xs) c.step-next.ensures.ends.kept ∙ length-take-le c.keeps-count.result ls
     (omega (arith, can.next.count)) in
     omega arith
+
+pub print_step-requires-clause-few : goal.print_step-requires-clause-few
+print_step-requires-clause-few g c =
+    let w = c.requires.stands in
+    let l = c.loop-run in
+    let here = get_or c.args.runs.now l.run-index no_run in
+    let P : Printer g.row.A.Denot → Type 0 = λ s. Remembers s w.0 w.1 w.2 in
+    let r = subst P (sym l.invariant.same) w.3 in
+    let can = can_step l.self w.0 w.1 w.2 c.args.bytes.now (g.W.Sink.stream c.args.out.now).taken
+    (g.W.Sink.stream l.out).taken
+    l.place
+    c.args.runs.now l.run-index c.args.total c.keeps-count.result r w.5.found_lines
+    (l.invariant.comes w.0 w.1 w.2 r w.4 w.5)
+    c.loop-run-test.true c.keeps-count.ensures c.if-count-eq0.false in
+    let few = can.few in
+    let room = can.room in
+    let fits = c.ranges.total.fits in
+    let ls = lines l.self.end (slice_range c.args.bytes.now here.span.start here.span.end) in
+    let cut = ap (λ xs. length xs) c.step-next.ensures.ends.kept ∙ length-take-le c.keeps-count.result ls
+    (omega (arith, can.next.count)) in
+    omega arith
+
+pub print_step-requires-clause-told : goal.print_step-requires-clause-told
+print_step-requires-clause-told g c =
+    let w = c.requires.stands in
+    let l = c.loop-run in
+    let P : Printer g.row.A.Denot → Type 0 = λ s. Remembers s w.0 w.1 w.2 in
+    let r = subst P (sym l.invariant.same) w.3 in
+    let takes = takes_parts l.self w.0 w.1 w.2 c.args.bytes.now (g.W.Sink.stream c.args.out.now).taken
+    (g.W.Sink.stream l.out).taken c.args.parts.now l.place c.step-next.result.place c.args.runs.now l.run-index
+    c.keeps-count.result r (l.invariant.comes w.0 w.1 w.2 r w.4 w.5) c.loop-run-test.true c.keeps-count.ensures
+    c.if-count-eq0.false c.step-next.ensures.ends c.step-next.ensures.seen c.step-next.ensures.used l.invariant.used
+    (l.invariant.left w.0 w.1 w.2 r w.4 w.5) in
+    (w.0, takes.told)
+
+pub print_step-requires-clause-used : goal.print_step-requires-clause-used
+print_step-requires-clause-used g c =
+    let w = c.requires.stands in
+    let l = c.loop-run in
+    let P : Printer g.row.A.Denot → Type 0 = λ s. Remembers s w.0 w.1 w.2 in
+    let r = subst P (sym l.invariant.same) w.3 in
+    let takes = takes_parts l.self w.0 w.1 w.2 c.args.bytes.now (g.W.Sink.stream c.args.out.now).taken
+    (g.W.Sink.stream l.out).taken c.args.parts.now l.place c.step-next.result.place c.args.runs.now l.run-index
+    c.keeps-count.result r (l.invariant.comes w.0 w.1 w.2 r w.4 w.5) c.loop-run-test.true c.keeps-count.ensures
+    c.if-count-eq0.false c.step-next.ensures.ends c.step-next.ensures.seen c.step-next.ensures.used l.invariant.used
+    (l.invariant.left w.0 w.1 w.2 r w.4 w.5) in
+    takes.ordered
+
+pub print_step-requires-clause-parts : goal.print_step-requires-clause-parts
+print_step-requires-clause-parts g c =
+    let w = c.requires.stands in
+    let l = c.loop-run in
+    let P : Printer g.row.A.Denot → Type 0 = λ s. Remembers s w.0 w.1 w.2 in
+    let r = subst P (sym l.invariant.same) w.3 in
+    let takes = takes_parts l.self w.0 w.1 w.2 c.args.bytes.now (g.W.Sink.stream c.args.out.now).taken
+    (g.W.Sink.stream l.out).taken c.args.parts.now l.place c.step-next.result.place c.args.runs.now l.run-index
+    c.keeps-count.result r (l.invariant.comes w.0 w.1 w.2 r w.4 w.5) c.loop-run-test.true c.keeps-count.ensures
+    c.if-count-eq0.false c.step-next.ensures.ends c.step-next.ensures.seen c.step-next.ensures.used l.invariant.used
+    (l.invariant.left w.0 w.1 w.2 r w.4 w.5) in
+    takes.within
 
 pub returns-then-count-eq0-clause-comes : goal.returns-then-count-eq0-clause-comes
 returns-then-count-eq0-clause-comes g c q format cur r shows has =
@@ -171,11 +240,15 @@ returns-in_err-print_step-clause-stops g c q format cur r shows has =
     let k = stepped l.self q format cur a.bytes.now start (g.W.Sink.stream l.out).taken l.place next.place next.passed
     a.runs.now
     l.run-index c.keeps-count.result r' h c.loop-run-test.true c.keeps-count.ensures c.if-count-eq0.false step in
-    let more = step_rows l.self.format l.self.end l.self.prefix l.self.earlier l.self.window a.bytes.now l.place.at
+    let more = step_rows q l.self.format l.self.end l.self.prefix l.self.earlier l.self.window a.bytes.now l.place.at
     here.span.start next.place.at l.place.progress next.passed in
     let after = (g.W.Sink.stream c.print_step.new.out).taken in
     let hidden = held (terminator q) l.self.window in
-    let failed = c.in_err-print_step.ensures.writes.err in
+    let takes = takes_parts l.self q format cur a.bytes.now start (g.W.Sink.stream l.out).taken a.parts.now l.place
+    next.place a.runs.now l.run-index c.keeps-count.result r' h c.loop-run-test.true c.keeps-count.ensures
+    c.if-count-eq0.false c.step-next.ensures.ends c.step-next.ensures.seen c.step-next.ensures.used l.invariant.used
+    (l.invariant.left q format cur r' shows has) in
+    let failed = (c.in_err-print_step.ensures.writes q takes.told).err in
     on_err (WritesPart (run_rows q format cur.name cur.earlier cur.trail (lines (terminator q) a.bytes.now))
     (g.W.Sink.stream a.out.now) (g.W.Sink.stream c.print_step.new.out)) c.from_residual.result
     (record {
@@ -195,7 +268,8 @@ loop-run-preserved g c =
     let can = can_step l.self w.0 w.1 w.2 c.args.bytes.now (g.W.Sink.stream c.args.out.now).taken
     (g.W.Sink.stream l.out).taken
     l.place
-    c.args.runs.now l.run-index c.args.total c.keeps-count.result r w.5 (l.invariant.comes w.0 w.1 w.2 r w.4 w.5)
+    c.args.runs.now l.run-index c.args.total c.keeps-count.result r w.5.found_lines
+    (l.invariant.comes w.0 w.1 w.2 r w.4 w.5)
     c.loop-run-test.true c.keeps-count.ensures c.if-count-eq0.false in
     let few = can.few in
     let room = can.room in
@@ -208,9 +282,14 @@ loop-run-preserved g c =
     let some : 0 < c.keeps-count.result = let ne = c.if-count-eq0.false in omega arith in
     let place_some = ends_some l.self.end c.args.bytes.now here c.keeps-count.result c.step-next.result.place.at
     c.step-next.ensures.ends can.next.count can.few some in
+    let takes = takes_parts l.self w.0 w.1 w.2 c.args.bytes.now (g.W.Sink.stream c.args.out.now).taken
+    (g.W.Sink.stream l.out).taken c.args.parts.now l.place c.step-next.result.place c.args.runs.now l.run-index
+    c.keeps-count.result r (l.invariant.comes w.0 w.1 w.2 r w.4 w.5) c.loop-run-test.true c.keeps-count.ensures
+    c.if-count-eq0.false c.step-next.ensures.ends c.step-next.ensures.seen c.step-next.ensures.used l.invariant.used
+    (l.invariant.left w.0 w.1 w.2 r w.4 w.5) in
     record {
       same = c.in_ok-print_step.ensures.same ∙ l.invariant.same;
-      no_failure = c.in_ok-print_step.ensures.writes.ok.no_failure ∙ l.invariant.no_failure;
+      no_failure = (c.in_ok-print_step.ensures.writes w.0 takes.told).ok.no_failure ∙ l.invariant.no_failure;
       number = omega arith;
       fresh = λ none. absurd (omega (arith, none, place_some));
       kept = λ more. c.step-next.ensures.kept.behind;
@@ -231,7 +310,7 @@ loop-run-preserved g c =
           next.passed
           a.runs.now
           l.run-index c.keeps-count.result r' h c.loop-run-test.true c.keeps-count.ensures c.if-count-eq0.false step in
-          let more = step_rows l.self.format l.self.end l.self.prefix l.self.earlier l.self.window a.bytes.now
+          let more = step_rows q l.self.format l.self.end l.self.prefix l.self.earlier l.self.window a.bytes.now
           l.place.at
           here.span.start next.place.at l.place.progress next.passed in
           let S : List ℕ → Type 0 = λ t. IsBefore q format cur (held (terminator q) l.self.window) a.bytes.now start t
@@ -239,5 +318,23 @@ loop-run-preserved g c =
           let T : Printer g.row.A.Denot → Type 0 = λ s. IsBefore q format cur (held (terminator q) s.window) a.bytes.now
           start (g.W.Sink.stream c.print_step.new.out).taken next.place.progress next.place.at next.place.seen
           (drop (l.run-index + 1) a.runs.now) in
-          subst T (sym c.in_ok-print_step.ensures.same) (subst S (sym c.in_ok-print_step.ensures.writes.ok.taken) k);
+          let own = takes_parts l.self q format cur a.bytes.now start (g.W.Sink.stream l.out).taken a.parts.now l.place
+          next.place a.runs.now l.run-index c.keeps-count.result r' h c.loop-run-test.true c.keeps-count.ensures
+          c.if-count-eq0.false c.step-next.ensures.ends c.step-next.ensures.seen c.step-next.ensures.used
+          l.invariant.used (l.invariant.left q format cur r' shows has) in
+          subst T (sym c.in_ok-print_step.ensures.same)
+          (subst S (sym (c.in_ok-print_step.ensures.writes q own.told).ok.taken) k);
+      used = takes.within;
+      left = λ q format cur r0 shows has colored.
+          let a = c.args in
+          let start = (g.W.Sink.stream a.out.now).taken in
+          let R : Printer g.row.A.Denot → Type 0 = λ s. Remembers s q format cur in
+          let r' = subst R c.in_ok-print_step.ensures.same r0 in
+          let h = l.invariant.comes q format cur r' shows has in
+          let next = c.step-next.result in
+          let own = takes_parts l.self q format cur a.bytes.now start (g.W.Sink.stream l.out).taken a.parts.now l.place
+          next.place a.runs.now l.run-index c.keeps-count.result r' h c.loop-run-test.true c.keeps-count.ensures
+          c.if-count-eq0.false c.step-next.ensures.ends c.step-next.ensures.seen c.step-next.ensures.used
+          l.invariant.used (l.invariant.left q format cur r' shows has) in
+          own.left (ap (λ s. s.format.colored) (sym c.in_ok-print_step.ensures.same) ∙ colored);
     }

@@ -1,4 +1,4 @@
-use Rattle.std.proofs.Common.{◌∙◌, Bool, ◌&&◌, cond, ap, sym, subst, refl}
+use Rattle.std.proofs.Common.{◌∙◌, ◌&&◌, cond, ap, sym, subst, refl}
 use Rattle.pg_rows.specs.declared.format.Format.{Format}
 use Rattle.pg_rows.specs.Progress.{Tells}
 use Rattle.pg_rows.specs.Modes.{is_quiet}
@@ -19,14 +19,10 @@ returns g c = λ past h.
     let f = c.in_default.ensures.further past h (c.loop-next.invariant past h) in
     let trail = (cursor_of past.query past.format (front_of past)).trail in
     let T : Format → Type 0 = λ x. Tells a.progress x trail in
-    let pieces = past.query.text.pieces in
     c.is_enough.ensures trail (subst T h.format f.progress)
-    ∙ (ap (λ (p : Bool). cond (is_quiet s.format.mode) a.selected
-    (a.inside && trail_suffices p s.format.mode s.format trail))
-    (c.pieces.ensures ∙ ap (λ t. t.pieces) (sym h.query))
-    ∙ (ap (λ (x : Format). cond (is_quiet x.mode) a.selected (a.inside && trail_suffices pieces x.mode x trail))
+    ∙ (ap (λ (x : Format). cond (is_quiet x.mode) a.selected (a.inside && trail_suffices x.mode x trail))
     (sym h.format)
-    ∙ front_enough s past h a f))
+    ∙ front_enough s past h a f)
 
 pub next_ahead-requires : goal.next_ahead-requires
 next_ahead-requires g c =
