@@ -25,7 +25,7 @@ use Rattle.pg_seq.proofs.LongerLemmas.{reason, rows_of_left, AreAlike, alike_sam
 
 abbrev line_part : Search → Format → List ℕ → List (List ℕ) → Bool → List ℕ
 line_part q format name ls earlier =
-    cond q.text.pieces (piece_rows q format name ls) (line_rows q format name ls earlier)
+    cond format.parts (piece_rows q format name ls) (line_rows q format name ls earlier)
 
 -- files that are alike leave `enough` as it is
 pub enough_alike : (q : Search) (format : Format) (e : Entry) (es fs : List Entry) → AreAlike q format es fs
@@ -129,7 +129,7 @@ in_mode m a a' c n b = go (shows_rows m)
 
 part_begins : (q : Search) (format : Format) (name : List ℕ) (earlier : Bool) (ls ms : List (List ℕ))
     → IsBeginning (line_part q format name ls earlier) (line_part q format name (ls ++ ms) earlier)
-part_begins q format name earlier ls ms = go q.text.pieces
+part_begins q format name earlier ls ms = go format.parts
   where
     go : (b : Bool) → IsBeginning (cond b (piece_rows q format name ls) (line_rows q format name ls earlier))
         (cond b (piece_rows q format name (ls ++ ms)) (line_rows q format name (ls ++ ms) earlier))

@@ -213,7 +213,7 @@ closed_entries aim (Misses name ∷ steps) e h = refl
 no_rows : (q : Search) (format : Format) (name : List ℕ) (earlier : Bool)
     → file_rows q format name [] false earlier ≡ []
 unfolding file_rows
-no_rows q format name earlier = ap (λ rows. rows_in format.mode rows [] []) (go q.text.pieces) ∙ nothing_in format.mode
+no_rows q format name earlier = ap (λ rows. rows_in format.mode rows [] []) (go format.parts) ∙ nothing_in format.mode
   where
     go : (pieces : Bool) → cond pieces (piece_rows q format name []) (line_rows q format name [] earlier) ≡ []
     go true = refl

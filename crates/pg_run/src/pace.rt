@@ -5,9 +5,15 @@ use std::time::{Clock, Duration};
 /// So many bytes are measured before a verdict.
 const MEASURED: u64 = 1_048_576;
 
+/// So many nanoseconds are enough for a verdict, however few bytes were searched: four a byte.
+const LONG: u64 = 4 * MEASURED;
+
 /// A search that takes more than a nanosecond a byte is slow: by several threads, each block needs memory of its own,
 /// and to clear it takes half as long.
 const BYTES_A_NANO: u64 = 1;
+
+/// By several threads a byte takes about so many times as long: memory is cleared for it, and others read beside.
+const SPREAD_COST: u64 = 2;
 
 /// What a clock shows, if it can be read.
 pub(crate) fn time<R: Clock>(rt: &R) -> Option<Duration> {
@@ -29,10 +35,10 @@ fn nanos_since<R: Clock>(rt: &R, begun: Duration) -> Option<u64> {
 pub(crate) struct Pace {
     /// So many bytes were searched since the last verdict.
     bytes: u64,
-    /// It took so many nanoseconds, of all threads together.
+    /// It took so many nanoseconds, of all threads together, as if one had searched alone.
     nanos: u64,
-    /// The last verdict: whether the search was slow.
-    pub(crate) is_slow: Option<bool>,
+    /// The last verdict: whether the search was slow. Before the first one it counts as fast.
+    pub(crate) is_slow: bool,
 }
 
 impl Pace {
@@ -41,7 +47,7 @@ impl Pace {
         Pace {
             bytes: 0,
             nanos: 0,
-            is_slow: None,
+            is_slow: false,
         }
     }
 
@@ -60,7 +66,11 @@ impl Pace {
         let Some(nanos) = nanos_since(rt, begun) else {
             return self;
         };
-        let nanos = nanos.saturating_mul(u64::from(threads));
+        let nanos = if threads > 1 {
+            nanos.saturating_mul(u64::from(threads)) / SPREAD_COST
+        } else {
+            nanos
+        };
         self.with(bytes as u64, nanos)
     }
 
@@ -68,7 +78,7 @@ impl Pace {
     fn with(self, bytes: u64, nanos: u64) -> Pace {
         let bytes = self.bytes.saturating_add(bytes);
         let nanos = self.nanos.saturating_add(nanos);
-        if bytes < MEASURED {
+        if bytes < MEASURED && nanos < LONG {
             return Pace {
                 bytes,
                 nanos,
@@ -78,7 +88,7 @@ impl Pace {
         Pace {
             bytes: 0,
             nanos: 0,
-            is_slow: Some(nanos.saturating_mul(BYTES_A_NANO) > bytes),
+            is_slow: nanos.saturating_mul(BYTES_A_NANO) > bytes,
         }
     }
 }
