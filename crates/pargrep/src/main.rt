@@ -1,7 +1,7 @@
 //! Pargrep: prints the lines of files that patterns select.
 #![tactic(auto)]
 
-use pg_command::{Fault, report, run, words_of};
+use pg_command::{Call, Fault, report, run, words_of};
 use pg_files::{DiskStore, Listed};
 use pg_rows::Out;
 use pg_walk::DiskTree;
@@ -10,20 +10,20 @@ use std::io::{BufWriter, IsTerminal};
 use std::process::ExitCode;
 
 /// How many bytes of output are held back until they are written, so that a write goes out for many
-/// lines. On a terminal none are.
+/// lines.
 const OUT_BUFFER: usize = 65_536;
 
 fn main(rt: HostRuntime) -> ExitCode {
     let alloc = rt.alloc();
     let mut err = Out::new(rt.stderr());
     let stdout = rt.stdout();
-    let held = if stdout.is_terminal() { 0 } else { OUT_BUFFER };
-    let Ok(buffered) = BufWriter::with_capacity(alloc, held, stdout) else {
+    let terminal = stdout.is_terminal();
+    let Ok(buffered) = BufWriter::with_capacity(alloc, OUT_BUFFER, stdout) else {
         return ExitCode::from(report(alloc, Fault::OutOfMemory, &mut err));
     };
-    let words = words_of(&rt);
+    let call = words_of(&rt).map(|words| Call { words, terminal });
     let tree = DiskTree::new(&rt);
     let mut files = Listed::new(alloc, &tree, DiskStore::new(&rt));
     let mut out = Out::new(buffered);
-    ExitCode::from(run(&rt, alloc, words, &tree, &mut files, &mut out, &mut err))
+    ExitCode::from(run(&rt, alloc, call, &tree, &mut files, &mut out, &mut err))
 }

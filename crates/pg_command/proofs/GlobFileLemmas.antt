@@ -20,7 +20,8 @@ filters_end filters i h = ap filters_of (drop_all i filters h)
 
 -- These paths and those of the filters from a place on are all that are read.
 module _ (filters : List FileFilter) (i : ℕ) (d f : FileFilter) (h : i < length filters) (is : f ≡ get_or filters i d)
-    (front : List (List ℕ)) (joins : front ++ glob_files (filters_of (drop i filters)) ≡ glob_files (filters_of filters))
+    (front : List (List ℕ))
+    (joins : front ++ glob_files (filters_of (drop i filters)) ≡ glob_files (filters_of filters))
   where
     abbrev rest : List (List ℕ)
     rest = glob_files (filters_of (drop (i + 1) filters))

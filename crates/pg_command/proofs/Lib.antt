@@ -1,5 +1,6 @@
 pub mod ReadingLemmas
 pub mod RefusalLemmas
+pub mod ShownLemmas
 pub mod StatusLemmas
 pub mod ToldLemmas
 pub mod WorkLemmas

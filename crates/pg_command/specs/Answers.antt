@@ -17,7 +17,7 @@ use Rattle.pg_run.specs.declared.setup.Setup.{Setup}
 use Rattle.pg_command.specs.Asked.{Asked, glob_files, has_names, input_name, scope_for, spares_output, text_of_query}
 use Rattle.pg_command.specs.Causes.{fault_of_run}
 use Rattle.pg_command.specs.Reading.{HasRead, FailsToReadAll}
-use Rattle.pg_command.specs.Told.{Tells}
+use Rattle.pg_command.specs.Told.{TellsOfSearch}
 use Rattle.pg_command.specs.declared.fault.Fault.{Fault}
 use Rattle.pg_command.specs.declared.fault.Fault.TheVariants.{OutOfMemory}
 
@@ -65,10 +65,10 @@ HasReadFor asked past past' contents globs =
     (middle : List Given) × HasRead past middle asked.pattern_files contents
     × HasRead middle past' (glob_files asked.filters) globs
 
--- What was searched: the -f files and those of globs were read, then the operands walked over as far as items were asked
--- for, each file opened by its path, and nothing else. The items are the first ones of the walk, and where `done` says so all of them.
--- What is known of the walk is all of it where the tree tells its answers; of any other tree that the items follow the
--- operands. A file is refused because standard output goes there only where rows are written.
+-- What was searched: the -f files and those of globs were read, then the operands walked over as far as items were
+-- asked for, each file opened by its path, and nothing else. The items are the first ones of the walk, and where `done`
+-- says so all of them. What is known of the walk is all of it where the tree tells its answers; of any other tree that
+-- the items follow the operands. A file is refused because standard output goes there only where rows are written.
 pub record Work (tells : Type 0) (tree : Tree) (asked : Asked) (past past' : List Given) : Type 0 where
   pub contents : List (List ℕ)
   pub globs : List (List ℕ)
@@ -143,4 +143,4 @@ Answers tells tree asked past past' out out' err err' (Ok status) =
     Succeeds tells tree asked past past' out out' err err' status
 Answers tells tree asked past past' out out' err err' (Err _) =
     (fault : Fault) × (middle : Stream) × Fails tells tree asked past past' out out' err middle fault
-    × Tells fault middle err'
+    × TellsOfSearch asked.texts fault middle err'

@@ -1,6 +1,6 @@
 -- What is searched for where a search is asked for, and when rows have names.
 pub use Rattle.pg_words.specs.Asked.{Asked, asked_of}
-use Rattle.std.specs.Prelude.{ℕ, ◌==◌, Bool, true, false, ◌&&◌, ◌||◌, if◌then◌else◌, List, [], ◌∷◌, map, ◌++◌}
+use Rattle.std.specs.Prelude.{ℕ, ◌==◌, Bool, true, false, not, ◌&&◌, ◌||◌, if◌then◌else◌, List, [], ◌∷◌, map, ◌++◌}
 use Rattle.std.specs.Prelude.{unwrap_or, Option, Some, None}
 use Rattle.pg_glob.specs.Filters.{Rule}
 use Rattle.pg_glob.specs.GlobFiles.{rules_in}
@@ -13,10 +13,28 @@ use Rattle.pg_files.specs.Given.{standard_input}
 use Rattle.pg_rows.specs.declared.format.Mode.{Mode}
 use Rattle.pg_rows.specs.Modes.{shows_rows}
 use Rattle.pg_words.specs.Line.{Filter, Include, Exclude, ExcludeFrom}
+use Rattle.pg_words.specs.declared.options.Coloring.{Coloring}
+use Rattle.pg_words.specs.declared.options.Coloring.TheVariants.{Always as AlwaysColored, Never as NeverColored}
+use Rattle.pg_words.specs.declared.options.Coloring.TheVariants.{OnTerminal}
 use Rattle.pg_words.specs.declared.options.DeviceAction.{DeviceAction}
 use Rattle.pg_words.specs.declared.options.DeviceAction.TheVariants.{Read as ReadAll, Skip as SkipAll}
 use Rattle.pg_words.specs.declared.options.Naming.{Naming}
 use Rattle.pg_words.specs.declared.options.Naming.TheVariants.{Always, Never, BySeveral}
+
+-- rows are colored, where standard output is a terminal or not
+abbrev pub is_colored : Coloring → (terminal : Bool) → Bool
+is_colored NeverColored terminal = false
+is_colored AlwaysColored terminal = true
+is_colored OnTerminal terminal = terminal
+
+-- what is asked for there
+abbrev pub asked_on : (terminal : Bool) → Asked → Asked
+asked_on terminal asked =
+    record asked { format = record asked.format { colored = is_colored asked.coloring terminal } }
+
+-- the matched parts of lines are wanted: with -o, and where those of selected lines are colored
+abbrev pub wants_parts : Asked → Bool
+wants_parts asked = asked.parts || (asked.format.colored && shows_rows asked.format.mode && not asked.invert)
 
 -- what is searched for with these lists behind the -e texts
 abbrev pub text_with : Asked → List Patterns → SearchText
@@ -27,7 +45,7 @@ text_with asked lists = record {
   whole = asked.whole;
   word = asked.word;
   invert = asked.invert;
-  pieces = asked.pieces;
+  pieces = wants_parts asked;
   zero = asked.zero;
 }
 
@@ -98,11 +116,12 @@ devices_for None = ReadOperands
 devices_for (Some ReadAll) = ReadAsFiles
 devices_for (Some SkipAll) = SkipThem
 
--- Which part of the trees is searched: with -r what is in directories too, but for what -d, -D and the globs leave out.
--- The files of globs have these contents.
+-- Which part of the trees is searched: with -r what is in directories too, and with -R also what links there lead to,
+-- but for what -d, -D and the globs leave out. The files of globs have these contents.
 abbrev pub scope_for : Asked → (globs : List (List ℕ)) → Scope
 scope_for asked globs = record {
   recursive = asked.recursive;
+  follows = asked.follows;
   skips_directories = asked.skips_directories;
   devices = devices_for asked.devices;
   files = file_rules asked.filters globs;

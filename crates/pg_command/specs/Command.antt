@@ -1,5 +1,5 @@
 -- What the command answers, and what it writes.
-use Rattle.std.specs.Prelude.{◌≡◌, ℕ, ◌<◌, ◌⊎◌, List, ◌++◌, codes, Result, Ok, Err, MatchResult}
+use Rattle.std.specs.Prelude.{◌≡◌, ℕ, ◌<◌, ◌⊎◌, Bool, List, ◌++◌, codes, Result, Ok, Err, MatchResult}
 use Rattle.std.specs.Result.{IsErr}
 use Rattle.std.specs.String.{string_bytes}
 use Rattle.pg_rows.specs.Sink.{Stream, WritesAll, WritesPart}
@@ -11,6 +11,7 @@ use Rattle.pg_words.specs.declared.words.WordsFault.{WordsFault}
 use Rattle.pg_words.specs.declared.words.WordsFault.TheVariants.{Refused, Usage as UsageOfWords}
 use Rattle.pg_words.specs.declared.words.WordsFault.TheVariants.{OutOfMemory as NoMemoryForWords}
 use Rattle.pg_command.specs.Answers.{Answers}
+use Rattle.pg_command.specs.Asked.{asked_on}
 use Rattle.pg_command.specs.Told.{Tells, TellsText, line_of}
 use Rattle.pg_command.specs.declared.fault.Fault.TheVariants.{OutOfMemory, Usage, WriteFailed}
 use Rattle.pg_command.specs.declared.search.Told.{Told}
@@ -35,23 +36,26 @@ pub record Shows {T : Type 0} (text : List ℕ) (past past' : List Given) (out o
   pub unopened : past' ≡ past
   pub shown : IsShown text out out' err err' answer
 
--- What is done where this is asked for. Why words are refused the parser of options says in its own text.
-abbrev pub Does : {T : Type 0} → (tells : Type 0) → Tree → Asks → (past past' : List Given)
+-- What is done where this is asked for, and standard output is a terminal or not. Why words are refused the parser of
+-- options says in its own text.
+abbrev pub Does : {T : Type 0} → (tells : Type 0) → Tree → (terminal : Bool) → Asks → (past past' : List Given)
     → (out out' err err' : Stream) → Result ℕ T → Type 0
-Does tells tree (AsksSearch asked pace) past past' out out' err err' answer =
-    Answers tells tree asked past past' out out' err err' answer
-Does tells tree AsksHelp past past' out out' err err' answer = Shows HELP.now past past' out out' err err' answer
-Does tells tree AsksVersion past past' out out' err err' answer = Shows VERSION.now past past' out out' err err' answer
-Does tells tree (HasFault fault) past past' out out' err err' answer =
+Does tells tree terminal (AsksSearch asked pace) past past' out out' err err' answer =
+    Answers tells tree (asked_on terminal asked) past past' out out' err err' answer
+Does tells tree terminal AsksHelp past past' out out' err err' answer =
+    Shows HELP.now past past' out out' err err' answer
+Does tells tree terminal AsksVersion past past' out out' err err' answer =
+    Shows VERSION.now past past' out out' err err' answer
+Does tells tree terminal (HasFault fault) past past' out out' err err' answer =
     Refuses (line_of (Usage fault)) past past' out out' err err' answer
-Does tells tree IsRefused past past' out out' err err' answer =
+Does tells tree terminal IsRefused past past' out out' err err' answer =
     (text : List ℕ) × Refuses (codes "pargrep: " ++ text) past past' out out' err err' answer
 
 -- What the words ask for was done, or memory was lacking before anything was.
-abbrev pub Commands : {T : Type 0} → (tells : Type 0) → Tree → (words : List (List ℕ)) → (past past' : List Given)
-    → (out out' err err' : Stream) → Result ℕ T → Type 0
-Commands tells tree words past past' out out' err err' answer =
-    Does tells tree (asks words) past past' out out' err err' answer
+abbrev pub Commands : {T : Type 0} → (tells : Type 0) → Tree → (terminal : Bool) → (words : List (List ℕ))
+    → (past past' : List Given) → (out out' err err' : Stream) → Result ℕ T → Type 0
+Commands tells tree terminal words past past' out out' err err' answer =
+    Does tells tree terminal (asks words) past past' out out' err err' answer
     ⊎ Refuses (line_of OutOfMemory) past past' out out' err err' answer
 
 -- what is told of words that aren't taken
@@ -62,12 +66,12 @@ TellsOfWords NoMemoryForWords = Tells OutOfMemory
 
 -- The status of the command stands where all that was held back could be sent on; else that is told, and the status is
 -- 2, as after a fault that was told.
-pub record Runs (tells : Type 0) (tree : Tree) (words : List (List ℕ)) (past past' : List Given)
+pub record Runs (tells : Type 0) (tree : Tree) (terminal : Bool) (words : List (List ℕ)) (past past' : List Given)
     (out out' err err' : Stream) (status : ℕ) : Type 0 where
   pub middle : Stream
   pub told : Stream
   pub answer : Result ℕ Told
-  pub command : Commands tells tree words past past' out middle err told answer
+  pub command : Commands tells tree terminal words past past' out middle err told answer
   pub taken : out'.taken ≡ middle.taken
   pub ended : MatchResult answer
       (λ before. ((status ≡ before) × (out'.failures ≡ middle.failures) × (err' ≡ told))

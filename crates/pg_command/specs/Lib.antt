@@ -3,4 +3,5 @@ pub mod Asked
 pub mod Causes
 pub mod Command
 pub mod Reading
+pub mod Shown
 pub mod Told

@@ -1,11 +1,12 @@
 -- What the program tells on standard error.
-use Rattle.std.specs.Prelude.{◌⊎◌, ℕ, List, ◌++◌, codes}
+use Rattle.std.specs.Prelude.{◌⊎◌, ℕ, List, ◌++◌, codes, Option, Some, None}
 use Rattle.std.specs.Fmt.{decimal}
 use Rattle.pg_syntax.specs.FaultTexts.{kind_text}
 use Rattle.pg_syntax.specs.declared.fault.ListFault.{ListFault}
 use Rattle.pg_rows.specs.Sink.{Stream, WritesAll, WritesPart}
 use Rattle.pg_run.specs.Told.{fault_line as file_line}
 use Rattle.pg_words.specs.Usage.{usage_text}
+use Rattle.pg_command.specs.Shown.{shown_lines, shown_text}
 use Rattle.pg_command.specs.declared.fault.Fault.{Fault}
 use Rattle.pg_command.specs.declared.fault.Fault.TheVariants.{NotText, Usage, Unreadable, Pattern, TooLarge}
 use Rattle.pg_command.specs.declared.fault.Fault.TheVariants.{OutOfMemory, WriteFailed, TooManyFiles, LineTooLong}
@@ -32,6 +33,16 @@ line_of WriteFailed = plain_line (codes "write failed")
 line_of TooManyFiles = plain_line (codes "too many files")
 line_of LineTooLong = plain_line (codes "line too long")
 
+-- the lines of a pattern's fault: the first, and below it the pattern, if it is shown
+abbrev pub lines_of_pattern : (text : Option (List ℕ)) → ListFault → List ℕ
+lines_of_pattern None f = pattern_line f
+lines_of_pattern (Some text) f = pattern_line f ++ shown_lines text f
+
+-- the lines of a fault of a search for the patterns of these texts
+abbrev pub lines_of : (texts : List (List ℕ)) → Fault → List ℕ
+lines_of texts (Pattern fault) = lines_of_pattern (shown_text texts fault) fault
+lines_of texts fault = line_of fault
+
 -- it is about neither a file nor a pattern
 abbrev pub IsPlain : Fault → Type 0
 IsPlain (Unreadable name cause) = ⊥
@@ -41,6 +52,10 @@ IsPlain fault = Unit {0}
 -- the text was written; or a beginning of it, and standard error failed
 abbrev pub TellsText : List ℕ → Stream → Stream → Type 0
 TellsText text err err' = WritesAll text err err' ⊎ WritesPart text err err'
+
+-- and so the lines of a fault of a search
+abbrev pub TellsOfSearch : (texts : List (List ℕ)) → Fault → Stream → Stream → Type 0
+TellsOfSearch texts fault = TellsText (lines_of texts fault)
 
 -- and so the fault's line
 abbrev pub Tells : Fault → Stream → Stream → Type 0

@@ -1,15 +1,20 @@
 //! The faults of the program.
-ghost use Rattle.std.specs.Prelude.{◌≡◌, ◌++◌, codes};
+ghost use Rattle.std.specs.Prelude.{◌≡◌, ◌++◌, ◌≤◌, codes};
 ghost use Rattle.std.specs.List.{flat_map};
+ghost use Rattle.pg_syntax.specs.Slices.{bytes_of};
 ghost use Rattle.pg_run.specs.Told.{fault_line as file_line};
 ghost use Rattle.pg_command.specs.Causes.{fault_of_query, fault_of_run};
-ghost use Rattle.pg_command.specs.Told.{IsPlain, Tells, TellsText, line_of, pattern_line, plain_line};
+ghost use Rattle.pg_command.specs.Shown.{shown_lines, shown_text};
+ghost use Rattle.pg_command.specs.Told.{IsPlain, Tells, TellsOfSearch, TellsText, line_of, lines_of_pattern};
+ghost use Rattle.pg_command.specs.Told.{pattern_line, plain_line};
 ghost use Rattle.pg_command.specs.declared.fault.Fault.TheVariants.{OutOfMemory};
 
+use crate::shown::{advice, blanks, byte_at, shown_text};
 use itoa::Buffer;
 use pg_lines::{ListFault, QueryFault};
 use pg_rows::Sink;
 use pg_run::{RunFault, tell};
+use pg_syntax::SyntaxFault;
 use pg_walk::Cause;
 use pg_words::UsageFault;
 use std::alloc::{AllocError, AllocFailed, Global};
@@ -114,6 +119,19 @@ pub fn report<W: Sink>(alloc: Global, fault: Fault<'_>, err: &mut W) -> u8
     FAULT_STATUS
 }
 
+/// Writes the lines of a fault of a search for the patterns of these texts: its line, and below that of a pattern the
+/// pattern with a mark under the place, and what to write instead, where that is known.
+pub(crate) fn tell_of_search<W: Sink>(alloc: Global, texts: &[&str], fault: Fault<'_>, err: &mut W)
+    ensures { TellsOfSearch (bytes_of texts.now) fault.entry (W.stream err.old) (W.stream err.new) }
+{
+    match fault {
+        Fault::Pattern(fault) => tell_pattern_of(alloc, texts, fault, err),
+        _ => {
+            report(alloc, fault, err);
+        }
+    }
+}
+
 /// Writes a line that says what is wrong.
 fn tell_text<W: Sink>(alloc: Global, text: &str, err: &mut W)
     ensures { TellsText (plain_line text.now) (W.stream err.old) (W.stream err.new) }
@@ -154,6 +172,66 @@ fn tell_pattern<W: Sink>(alloc: Global, fault: ListFault, err: &mut W)
         offset.format(fault.fault.at),
     );
     tell_parts(alloc, &parts, err);
+}
+
+/// Writes the lines of a pattern's fault, with the pattern, if it is one of these texts and can be shown.
+fn tell_pattern_of<W: Sink>(alloc: Global, texts: &[&str], fault: ListFault, err: &mut W)
+    ensures { TellsText (lines_of_pattern (shown_text (bytes_of texts.now) fault) fault) (W.stream err.old)
+        (W.stream err.new) }
+{
+    match shown_text(texts, fault) {
+        Some(text) => tell_shown(alloc, text, fault, err),
+        None => tell_pattern(alloc, fault, err),
+    }
+}
+
+/// Writes the lines of the fault of a pattern with this text.
+fn tell_shown<W: Sink>(alloc: Global, text: &str, fault: ListFault, err: &mut W)
+    requires { fault.fault.at ≤ 200 }
+    ensures { TellsText (pattern_line fault ++ shown_lines text.now fault) (W.stream err.old) (W.stream err.new) }
+{
+    let ListFault { pattern, fault } = fault;
+    let SyntaxFault { kind, at } = fault;
+    let (mut number, mut offset) = (Buffer::new(), Buffer::new());
+    let next = byte_at(text, at + 1);
+    let parts = shown_parts(
+        number.format(pattern),
+        kind.text(),
+        offset.format(at),
+        text,
+        blanks(at),
+        advice(kind, next),
+    );
+    tell_parts(alloc, &parts, err);
+}
+
+/// The parts of the lines of the fault of a pattern that is shown, in their order.
+fn shown_parts<'a>(
+    number: &'a str,
+    reason: &'a str,
+    offset: &'a str,
+    text: &'a str,
+    blanks: &'a [u8],
+    advice: &'a str,
+) -> [&'a [u8]; 12]
+    ensures { flat_map (λ part. part.now) result ≡ (codes "pargrep: pattern " ++ number.now ++ codes ": " ++ reason.now
+        ++ codes " at " ++ offset.now ++ codes "\n") ++ (codes "pargrep:   " ++ text.now ++ codes "\npargrep:   "
+        ++ blanks.now ++ codes "^\n" ++ advice.now) }
+{
+    [
+        b"pargrep: pattern ",
+        number.as_bytes(),
+        b": ",
+        reason.as_bytes(),
+        b" at ",
+        offset.as_bytes(),
+        b"\npargrep:   ",
+        text.as_bytes(),
+        b"\npargrep:   ",
+        blanks,
+        b"^\n",
+        advice.as_bytes(),
+    ]
 }
 
 /// The parts of the line of a pattern's fault, in their order.

@@ -4,8 +4,10 @@ ghost use Rattle.std.specs.String.{string_bytes};
 ghost use Rattle.pg_command.specs.Command.{Commands, IsShown, Runs, TellsOfWords};
 ghost use Rattle.pg_command.specs.Told.{Tells};
 
+use crate::colors::request_on;
 use crate::fault::{FAULT_STATUS, Fault, report, tell_parts};
 use crate::search::{Told, answer};
+use crate::words::Call;
 use pg_files::{Listed, Store};
 use pg_rows::{Out, Sink, write_all};
 use pg_walk::FileTree;
@@ -16,9 +18,9 @@ use std::sync::Wait;
 use std::thread::Threads;
 use std::time::Clock;
 
-/// Does what the words of a command line ask for, as [`read_words`] has it; they leave out the program's
-/// name: a search, as [`answer`] has it, or a text about the program. The answer is the status. Nothing
-/// was asked of `files` yet.
+/// Does what the words of a call ask for, as [`read_words`] has it: a search, as [`answer`] has it, or a text about the
+/// program. Whether rows are colored on a terminal alone is settled by the call. The answer is the status. Nothing was
+/// asked of `files` yet.
 ///
 /// # Errors
 ///
@@ -33,23 +35,26 @@ pub fn command<
 >(
     rt: &R,
     alloc: Global,
-    words: &[String],
+    call: &Call,
     tree: &'t T,
     files: &mut Listed<'t, T, S>,
     out: &mut W,
     err: &mut E,
 ) -> Result<u8, Told>
     requires { files.old.walk.asked.items ≡ [] }
-    ensures commands { Commands (T.tells tree.now) (T.answers tree.now) (map string_bytes words.now)
-        (S.past files.old.store) (S.past files.new.store) (W.stream out.old) (W.stream out.new)
-        (E.stream err.old) (E.stream err.new) result }
+    ensures commands { Commands (T.tells tree.now) (T.answers tree.now) call.now.terminal
+        (map string_bytes call.now.words.items) (S.past files.old.store) (S.past files.new.store)
+        (W.stream out.old) (W.stream out.new) (E.stream err.old) (E.stream err.new) result }
     ensures small { IfOk result (λ status. status ≤ 2) }
 {
-    let Ok(joined) = Words::new(alloc, words) else {
+    let Ok(joined) = Words::new(alloc, call.words.as_slice()) else {
         return refuse(alloc, WordsFault::OutOfMemory, err);
     };
     match read_words(alloc, &joined) {
-        Ok(Task::Search(request)) => answer(rt, alloc, &request, tree, files, out, err),
+        Ok(Task::Search(request)) => {
+            let request = request_on(request, call.terminal);
+            answer(rt, alloc, &request, tree, files, out, err)
+        }
         Ok(Task::Help) => show(alloc, HELP, out, err),
         Ok(Task::Version) => show(alloc, VERSION, out, err),
         Err(fault) => refuse(alloc, fault, err),
@@ -87,52 +92,51 @@ fn show<W: Sink, E: Sink>(alloc: Global, text: &str, out: &mut W, err: &mut E) -
     Ok(0)
 }
 
-/// Runs the command over the words, or tells why they can't be had. Nothing was asked of `files` yet. The
+/// Runs the command over the words of a call, or tells why they can't be had. Nothing was asked of `files` yet. The
 /// answer is the exit status of the program: that of the command, or 2 where there are no words or what
 /// standard output held back can't be sent on, which is part of success.
 pub fn run<'t, R: Threads + Wait + Clock + Sync, T: FileTree, S: Store + Drop, W: Write, E: Sink>(
     rt: &R,
     alloc: Global,
-    words: Result<Vec<String>, Fault<'_>>,
+    call: Result<Call, Fault<'_>>,
     tree: &'t T,
     files: &mut Listed<'t, T, S>,
     out: &mut Out<W>,
     err: &mut E,
 ) -> u8
     requires { files.old.walk.asked.items ≡ [] }
-    ensures runs { IfOk words.entry (λ texts. Runs (T.tells tree.now) (T.answers tree.now)
-        (map string_bytes texts.items)
-        (S.past files.old.store) (S.past files.new.store)
+    ensures runs { IfOk call.entry (λ called. Runs (T.tells tree.now) (T.answers tree.now) called.terminal
+        (map string_bytes called.words.items) (S.past files.old.store) (S.past files.new.store)
         out.old.stream out.new.stream (E.stream err.old) (E.stream err.new) result) }
-    ensures told { IfErr words.entry (λ fault. (result ≡ 2) × Tells fault (E.stream err.old)
+    ensures told { IfErr call.entry (λ fault. (result ≡ 2) × Tells fault (E.stream err.old)
         (E.stream err.new)) }
-    ensures unused { OnErr words.entry ((files.new ≡ files.old) × (out.new ≡ out.old)) }
+    ensures unused { OnErr call.entry ((files.new ≡ files.old) × (out.new ≡ out.old)) }
     ensures small { result ≤ 2 }
 {
-    match words {
-        Ok(words) => run_words(rt, alloc, words.as_slice(), tree, files, out, err),
+    match call {
+        Ok(call) => run_call(rt, alloc, &call, tree, files, out, err),
         Err(fault) => report(alloc, fault, err),
     }
 }
 
 /// Runs the command and sends on what standard output holds back. Nothing was asked of `files` yet. The
 /// answer is the exit status.
-fn run_words<'t, R: Threads + Wait + Clock + Sync, T: FileTree, S: Store + Drop, W: Write, E: Sink>(
+fn run_call<'t, R: Threads + Wait + Clock + Sync, T: FileTree, S: Store + Drop, W: Write, E: Sink>(
     rt: &R,
     alloc: Global,
-    words: &[String],
+    call: &Call,
     tree: &'t T,
     files: &mut Listed<'t, T, S>,
     out: &mut Out<W>,
     err: &mut E,
 ) -> u8
     requires { files.old.walk.asked.items ≡ [] }
-    ensures runs { Runs (T.tells tree.now) (T.answers tree.now) (map string_bytes words.now)
-        (S.past files.old.store) (S.past files.new.store)
+    ensures runs { Runs (T.tells tree.now) (T.answers tree.now) call.now.terminal
+        (map string_bytes call.now.words.items) (S.past files.old.store) (S.past files.new.store)
         out.old.stream out.new.stream (E.stream err.old) (E.stream err.new) result }
     ensures small { result ≤ 2 }
 {
-    let answer = command(rt, alloc, words, tree, files, out, err);
+    let answer = command(rt, alloc, call, tree, files, out, err);
     let flushed = out.flush();
     match answer {
         Ok(_) if flushed.is_err() => report(alloc, Fault::WriteFailed, err),

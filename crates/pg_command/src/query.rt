@@ -3,7 +3,7 @@ ghost use Rattle.std.specs.Prelude.{◌≡◌, ◌++◌, map, IfOk};
 ghost use Rattle.pg_syntax.specs.Memory.{patterns_of};
 ghost use Rattle.pg_syntax.specs.Slices.{bytes_of};
 ghost use Rattle.pg_lines.specs.Search.{Split};
-ghost use Rattle.pg_command.specs.Asked.{asked_of, text_with};
+ghost use Rattle.pg_command.specs.Asked.{asked_of, text_with, wants_parts};
 
 use pg_lines::{PatternList, QueryText};
 use pg_words::Request;
@@ -25,9 +25,17 @@ pub(crate) fn text_of(
         whole: request.whole,
         word: request.word,
         invert: request.invert,
-        pieces: request.pieces,
+        pieces: wants_parts(request),
         zero: request.zero,
     })
+}
+
+/// Whether the matched parts of lines are wanted: with -o, and where those of selected lines are colored.
+fn wants_parts(request: &Request<'_>) -> bool
+    ensures { result ≡ wants_parts (asked_of request.now) }
+{
+    let format = &request.format;
+    request.parts || format.colored && format.mode.shows_rows() && !request.invert
 }
 
 /// All lists of patterns: the texts, and then the files.

@@ -13,7 +13,8 @@ use pg_walk::{Devices, Scope};
 use pg_words::{DeviceAction, FileFilter, Request};
 use std::alloc::{AllocError, Global};
 
-/// The globs of a request, read, and whether directories are visited. The files of globs have these contents.
+/// The globs of a request, read, whether directories are visited, and whether links are followed below operands. The
+/// files of globs have these contents.
 pub(crate) fn read_scope(
     alloc: Global,
     request: &Request<'_>,
@@ -23,6 +24,7 @@ pub(crate) fn read_scope(
 {
     Ok(Scope {
         recursive: request.recursive,
+        follows: request.follows,
         skips_directories: request.skips_directories,
         devices: devices_for(request.devices),
         files: file_filter(alloc, request.filters.as_slice(), globs)?,

@@ -7,7 +7,7 @@ ghost use Rattle.pg_command.specs.Asked.{asked_of, has_names, input_name, scope_
 ghost use Rattle.pg_command.specs.Answers.{Answers, Fails, IsSetup, Succeeds};
 ghost use Rattle.pg_command.specs.Reading.{contents_of};
 
-use crate::fault::{Fault, report};
+use crate::fault::{Fault, tell_of_search};
 use crate::names::{is_directory, operands_of};
 use crate::patterns::{read_globs, read_patterns};
 use crate::query::text_of;
@@ -40,9 +40,9 @@ pub struct Told;
 ///
 /// # Errors
 ///
-/// `Told` where a fault ended the search, whose line went to `err`: that of the first -f file that
-/// can't be read, then that of the first file of globs, then that of the patterns, the first of them that has one, or of
-/// their size, and then those that end a run. `out` got a beginning of its output then.
+/// `Told` where a fault ended the search, whose lines went to `err`: that of the first -f file that can't be read, then
+/// that of the first file of globs, then that of the patterns, the first of them that has one, or of their size, and
+/// then those that end a run. `out` got a beginning of its output then.
 pub fn answer<'t, R: Threads + Wait + Clock + Sync, T: FileTree, S: Store + Drop, W: Sink, E: Sink>(
     rt: &R,
     alloc: Global,
@@ -61,7 +61,7 @@ pub fn answer<'t, R: Threads + Wait + Clock + Sync, T: FileTree, S: Store + Drop
     match search(rt, alloc, request, tree, files, out, err) {
         Ok(status) => Ok(status),
         Err(fault) => {
-            report(alloc, fault, err);
+            tell_of_search(alloc, request.texts.as_slice(), fault, err);
             Err(Told)
         }
     }

@@ -7,6 +7,15 @@ use std::env;
 use std::io::ErrorKind;
 use std::rt::Env;
 
+/// What the program is called with.
+#[derive(Drop)]
+pub struct Call {
+    /// The words behind its name.
+    pub words: Vec<String>,
+    /// Whether standard output is a terminal.
+    pub terminal: bool,
+}
+
 /// The words behind the program's name.
 ///
 /// # Errors

@@ -56,8 +56,8 @@ returns-in_err-run-clause-fault g c =
     Fails (tells tree) (answers tree) asked past past' out out' err err' fault in
     if_err P _ c.from_residual-in_err-run.result c.from_residual-in_err-run.ensures.1
     (λ fault h. subst P (sym h) (inr (inr (inr (record {
-      work = work_of tells answers tree asked globs between at (c.in_err-run.ensures.same_list ∙ first) past past' contents
-          read files.walk.asked.items files.begins c.in_ok-setup.setup listed.setup files.done files.all_asked
+      work = work_of tells answers tree asked globs between at (c.in_err-run.ensures.same_list ∙ first) past past'
+          contents read files.walk.asked.items files.begins c.in_ok-setup.setup listed.setup files.done files.all_asked
           files.are_opened files.are_spared refl;
       run = c.in_err-run.field-0.0;
       is = refl;
@@ -172,7 +172,8 @@ returns-in_err-globs-clause-fault g c =
       contents = contents;
       middle = middle;
       read = read;
-      stopped = subst (λ filters. FailsToReadAll (glob_files (filters_of filters)) middle past' c.in_err-globs.field-0.0)
+      stopped = subst
+          (λ filters. FailsToReadAll (glob_files (filters_of filters)) middle past' c.in_err-globs.field-0.0)
           c.as_slice-2.ensures.value c.in_err-globs.ensures.fault;
       unwritten = (refl, refl);
     }))))
@@ -227,12 +228,13 @@ returns-in_err-setup-clause-fault g c =
     (λ fault h. subst P (sym h) (inr (inr (inl (record {
       contents = contents;
       globs = globs;
-      read = subst (λ p. HasReadFor asked past p contents globs) (ap g.S.Store.past (sym c.in_err-setup.ensures.store)) (
-        middle,
-        read,
-        subst (λ filters. HasRead middle past' (glob_files (filters_of filters)) globs) c.as_slice-2.ensures.value
-            c.in_ok-globs.ensures.read,
-      );
+      read = subst (λ p. HasReadFor asked past p contents globs)
+          (ap g.S.Store.past (sym c.in_err-setup.ensures.store)) (
+            middle,
+            read,
+            subst (λ filters. HasRead middle past' (glob_files (filters_of filters)) globs) c.as_slice-2.ensures.value
+                c.in_ok-globs.ensures.read,
+          );
       memory = refl;
       unwritten = (refl, refl);
     })))))
