@@ -27,6 +27,8 @@ pub(crate) fn setup(workers: u32, round: u32) -> Setup
             separators: true,
             numbers: false,
             mode: Mode::Rows,
+            parts: false,
+            colored: false,
             limit: None,
             before: None,
             after: None,

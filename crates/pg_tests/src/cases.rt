@@ -3,15 +3,16 @@
 /// A case is a row of six fields:
 /// - six letters: `H` names, `n` numbers, a mode (`c`, `l`, `q`), the limit, and the lines of context before and after;
 ///   `-` stands for what isn't given;
-/// - the pattern: `F`, `G` or `E` for its kind, then `o` for matched parts or `v` for lines that aren't matched, and
-///   behind a colon the text;
+/// - the pattern: `F`, `G` or `E` for its kind, then `o` for matched parts, `c` for lines in colors, `C` for parts in
+///   colors or `v` for lines that aren't matched, and behind a colon the text;
 /// - the least bytes of a block;
 /// - the seed of the order in which results arrive;
 /// - the files `a`, `b`, `c`, a `|` before each, where `!` is one that isn't there;
 /// - the status, and behind a colon the output.
 ///
-/// In files and output `/` stands for a newline. Texts of a few rows are proved sooner than one of all.
-pub(crate) const CASES: [&str; 13] = [
+/// In files and output `/` stands for a newline, and `~` for an ESC. Texts of a few rows are proved sooner than one of
+/// all.
+pub(crate) const CASES: [&str; 15] = [
     r"H--12- F:m 5 242 :|x//x//x/|/mm/xx/x/ 0:b-/b:mm/
 H---22 E:^ 6 241 :|x/mx/x/xm/ 0:a:x/a:mx/a:x/a:xm/
 ---101 G:^x 9 127 :||x/mm/xm/|x/xx/xm/ 0:x/mm/--/x/xx/
@@ -133,5 +134,25 @@ Hnq--- Gv:m* 3 30 :|xx/m/mm/xm/||x/mm/xx/x/mm/mx/mm/ 1:
 -nq--2 G:m. 9 122 :|!|x/xx/x/xm/mx/|! 0:
 Hnq23- F:mx 2 90 :|x/x/mm/xx/ 1:",
     r"-nq--- F:x 4 221 :||!|x/x/x/x/x/xx/x/x/ 0:
--nq300 F:m 8 235 :|mxm/x/mm/mm/|mx/ 0:",
+-nq300 F:m 8 235 :|mxm/x/mm/mm/|mx/ 0:
+-n--1- Fc:x 9 109 :|m/ 1:
+------ Fc: 6 189 :|!|mxm/mx/x/ 2:mxm/mx/x/
+-----0 Ec:^ 5 196 :|x/m/mm//|mm/ 0:x/m/mm//~[36m~[K--~[m~[K/mm/
+---31- Ec:^$ 7 4 :|xx/x/mxm/x/x/|x/x/x/x/m//|mxm/xx/m/xx/ 0:m//
+-----2 Fc: 8 197 :|xx/mxm//xx/|x/x/|mx//x/mm/x/ 0:xx/mxm//xx/~[36m~[K--~[m~[K/x/x/~[36m~[K--~[m~[K/mx//x/mm/x/
+Hn-1-2 Fc:m 7 131 :||xx/x/x/// 1:
+Hn---- Fc:m 4 139 :|/m/x///|! 2:~[35m~[Ka~[m~[K~[36m~[K:~[m~[K~[32m~[K2~[m~[K~[36m~[K:~[m~[K~[01;31m~[Km~[m~[K/
+H----1 Fc:m 8 178 :|m/ 0:~[35m~[Ka~[m~[K~[36m~[K:~[m~[K~[01;31m~[Km~[m~[K/",
+    r"H--3-- Fc:mx 6 139 :|m/x/m/xm/m//|m/m/|/mxm/ 0:~[35m~[Kc~[m~[K~[36m~[K:~[m~[K~[01;31m~[Kmx~[m~[Km/
+------ Ec:^ 9 57 :|x/x/|xx//x/x/|m//xm/x/ 0:x/x/xx//x/x/m//xm/x/
+H--1-0 Ec:m|x 4 217 :|mm//m/mx//| 0:~[35m~[Ka~[m~[K~[36m~[K:~[m~[K~[01;31m~[Km~[m~[K~[01;31m~[Km~[m~[K/
+---222 Gc:m* 3 163 :|x/|!|m/mx/mx/ 2:x/~[36m~[K--~[m~[K/~[01;31m~[Km~[m~[K/~[01;31m~[Km~[m~[Kx/mx/
+------ EC:^m 7 75 :|x/x/x/ 1:
+Hn-3-- EC:m$ 9 193 :|///|xx/| 1:
+---1-- EC:^$ 5 160 :||x//m/x/x/x/x/xx/|xx/x/x/xx/m/x/ 0:
+H----- FC:mx 4 77 :|mxm/x/|x/x/xm/x/m/m/x/ 0:~[35m~[Ka~[m~[K~[36m~[K:~[m~[K~[01;31m~[Kmx~[m~[K/
+H--3-- EC:^$ 7 19 :|xx/xm/x/|x/mm/xx/m/|m/xm/m/m////mxm/ 0:
+-n---- GC:m* 6 4 :|xm/ 0:~[32m~[K1~[m~[K~[36m~[K:~[m~[K~[01;31m~[Km~[m~[K/",
+    r"--c--- Ec:m$ 3 187 :|!|mxm/xm/xm/ 2:3/
+--c21- Fc:m 9 59 :|m/xx/mm/mx/mx/x/xx/mm/|m/xm/x/x/xm/x/ 0:2/2/",
 ];

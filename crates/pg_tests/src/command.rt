@@ -2,7 +2,7 @@
 ghost use Rattle.std.specs.Prelude.{◌≤◌};
 
 use crate::formats::cut;
-use pg_command::{Fault, Told, command, report};
+use pg_command::{Call, Fault, Told, command, report};
 use pg_files::{Ending, Listed, MemStore};
 use pg_rows::MemSink;
 use pg_walk::{FileKind, MemTree, Node};
@@ -135,7 +135,10 @@ fn run(
     text: &str,
     case: Case,
 ) -> Outcome {
-    let words = words_of(rt, alloc, text);
+    let call = Call {
+        words: words_of(rt, alloc, text),
+        terminal: false,
+    };
     let mut tree = MemTree::new(alloc);
     tree.add("broken", Node::new(FileKind::Regular))
         .expect(rt, "memory");
@@ -144,7 +147,7 @@ fn run(
     let mut out = MemSink::new(alloc, case.out).expect(rt, "memory");
     out.set_write_limit(case.write);
     let mut err = MemSink::new(alloc, case.err).expect(rt, "memory");
-    let answer = command(rt, alloc, &words, &tree, &mut files, &mut out, &mut err);
+    let answer = command(rt, alloc, &call, &tree, &mut files, &mut out, &mut err);
     Outcome { answer, out, err }
 }
 

@@ -15,6 +15,8 @@ pub(crate) const PLAIN: Format = Format {
     separators: true,
     numbers: false,
     mode: Mode::Rows,
+    parts: false,
+    colored: false,
     limit: None,
     before: None,
     after: None,

@@ -20,11 +20,15 @@ pub(crate) fn cut<'a>(rt: &impl Abort, text: &'a str, mark: &str) -> (&'a str, &
     text.split_once(mark).expect(rt, "one field more")
 }
 
-/// A field with newlines in place of its slashes.
-pub(crate) fn with_newlines(rt: &impl Abort, alloc: Global, field: &str) -> String {
+/// A field with newlines in place of its slashes, and with an ESC in place of each tilde.
+pub(crate) fn with_controls(rt: &impl Abort, alloc: Global, field: &str) -> String {
     field
         .chars()
-        .map(|c| if c == '/' { '\n' } else { c })
+        .map(|c| match c {
+            '/' => '\n',
+            '~' => '\x1b',
+            _ => c,
+        })
         .collect(alloc)
         .expect(rt, "memory")
 }
@@ -79,6 +83,8 @@ pub(crate) fn format_of(rt: &impl Abort, letters: &str) -> Format
         separators: true,
         numbers: is_given(rt, *numbers, b'n'),
         mode: mode_of(rt, *mode),
+        parts: false,
+        colored: false,
         limit: limit_of(rt, *limit),
         before: digit(rt, *before),
         after: digit(rt, *after).map(u32::from),
@@ -103,14 +109,22 @@ fn kind_and_option(rt: &impl Abort, letters: &str) -> (Kind, u8) {
     }
 }
 
-/// The query of letters and a text behind a colon: its kind, `o` for matched parts, `v` for lines that aren't matched.
+/// What is asked of the parts of lines, by the letter of an option: whether they have rows, and whether rows have
+/// colors.
+fn asked_parts(option: u8) -> (bool, bool) {
+    (matches!(option, b'o' | b'C'), matches!(option, b'c' | b'C'))
+}
+
+/// The query of letters and a text behind a colon: its kind, `o` for matched parts, `c` for lines in colors, `C` for
+/// parts in colors, and `v` for lines that aren't matched.
 fn asked_query(rt: &impl Abort, alloc: Global, field: &str) -> Arc<Query>
     ensures { (arc_value result).text.zero ≡ false }
 {
     let (letters, pattern) = cut(rt, field, ":");
     let (kind, option) = kind_and_option(rt, letters);
     let mut text = text_of(alloc, kind, pattern.as_bytes()).expect(rt, "memory");
-    text.pieces = option == b'o';
+    let (parts, colored) = asked_parts(option);
+    text.pieces = parts || colored;
     text.invert = !text.pieces && is_given(rt, option, b'v');
     compile(alloc, text).expect(rt, "a query")
 }
@@ -158,13 +172,19 @@ fn case_of(rt: &impl Abort, alloc: Global, row: &str) -> Case
     let (seed, rest) = cut(rt, rest, " ");
     let (files, answer) = cut(rt, rest, " ");
     let (status, output) = cut(rt, answer, ":");
+    let (option_letters, _) = cut(rt, asked, ":");
+    let (_, option) = kind_and_option(rt, option_letters);
+    let mut format = format_of(rt, letters);
+    let (parts, colored) = asked_parts(option);
+    format.parts = parts;
+    format.colored = colored;
     Case {
-        format: format_of(rt, letters),
+        format,
         query: asked_query(rt, alloc, asked),
         size: number(rt, size),
         seed: number(rt, seed),
-        files: with_newlines(rt, alloc, files),
-        output: with_newlines(rt, alloc, output),
+        files: with_controls(rt, alloc, files),
+        output: with_controls(rt, alloc, output),
         status: number(rt, status),
     }
 }

@@ -25,6 +25,8 @@ const NUMBERED: Format = Format {
     separators: true,
     numbers: true,
     mode: Mode::Rows,
+    parts: false,
+    colored: false,
     limit: None,
     before: None,
     after: None,

@@ -4,7 +4,7 @@ ghost use Rattle.pg_rows.specs.Output.{HasRoom};
 
 use crate::command::words_of;
 use crate::fixtures::PLAIN;
-use crate::formats::{cut, format_of, with_newlines};
+use crate::formats::{cut, format_of, with_controls};
 use pg_files::{Ending, Listed, MemFiles, MemStore};
 use pg_lines::{Kind, ListFault, PatternList, QueryFault, QueryText};
 use pg_rows::{Format, MemSink};
@@ -94,6 +94,7 @@ impl<'a> Case<'a> {
     /// The search for other patterns.
     fn asking(mut self, letters: &'a str, pattern: &'a [u8]) -> Case<'a> {
         self.letters = letters;
+        self.format.parts = has(letters, b'o');
         self.pattern = pattern;
         self
     }
@@ -444,9 +445,9 @@ impl<'t> Parsed<'t> {
             varied: varied_of(rt, varied),
             format: format_of(rt, letters),
             pattern,
-            file: with_newlines(rt, alloc, file),
+            file: with_controls(rt, alloc, file),
             status: status.parse().expect(rt, "a status"),
-            output: with_newlines(rt, alloc, output),
+            output: with_controls(rt, alloc, output),
         }
     }
 
@@ -585,7 +586,7 @@ fn assert_refused<R: Abort + Threads + Wait + Clock + Sync>(
 ) {
     let (early, output) = cut(rt, answer, " ");
     let early: usize = early.parse().expect(rt, "a number");
-    let output = with_newlines(rt, alloc, output);
+    let output = with_controls(rt, alloc, output);
     let whole = Expected {
         case,
         answer: Ok(2),
@@ -609,7 +610,7 @@ fn assert_refused_row<R: Abort + Threads + Wait + Clock + Sync>(rt: &R, alloc: G
             .iter()
             .all(|letter| LETTERS.contains(letter))
     );
-    let patterns = with_newlines(rt, alloc, patterns);
+    let patterns = with_controls(rt, alloc, patterns);
     let case = Case::new(format_of(rt, format)).asking(letters, patterns.as_bytes());
     assert_refused(rt, alloc, row, case.cut(1, 3).among_others(), answer);
 }
