@@ -32,7 +32,8 @@ from pathlib import Path
 
 import built
 
-ENVIRONMENT = {"LC_ALL": "C", "PATH": os.environ.get("PATH", os.defpath)}
+# GNU grep colors rows on a terminal only where that has a name.
+ENVIRONMENT = {"LC_ALL": "C", "PATH": os.environ.get("PATH", os.defpath), "TERM": "vt100"}
 WORKERS = (1, 4)
 
 # What hasn't come after so many seconds is missing.
@@ -71,6 +72,13 @@ class Case:
     ways: tuple = EACH
 
 
+
+
+def colored(code, text):
+    """A text in a color, as GNU grep writes it."""
+    return f"\x1b[{code}m\x1b[K{text}\x1b[m\x1b[K"
+
+
 CASES = [
     Case("x IN", (("x1", "x1"), ("none",), ("2x", "2x"), ("",), ("x", "x"))),
     Case("y IN", (("x1",), ("x2",)), status=1),
@@ -85,6 +93,15 @@ CASES = [
     Case("x IN | y", (("x1",), ("xy2", "xy2"), ("y3",), ("yx4", "yx4"))),
     Case("-n x IN | -v y | -o [0-9]:x", (("x1", "1:x"), ("a",), ("xy3",), ("x4", "4:x"))),
     Case("-c x IN", (("x1",), ("none",), ("x3",)), ("2",)),
+    # On a terminal rows have colors, where that is asked for, and else none.
+    Case("--color -n x IN", (("ax1", "1:ax1"), ("none",), ("x", "3:x")), ways=(PIPE, FIFO)),
+    Case(
+        "--color -n x IN",
+        (("ax1", f"{colored(32, 1)}{colored(36, ':')}a{colored('01;31', 'x')}1"), ("none",)),
+        ways=(TERMINAL,),
+    ),
+    Case("-n x IN", (("ax1", "1:ax1"),), ways=(TERMINAL,)),
+    Case("--color=never -n x IN", (("ax1", "1:ax1"),), ways=(TERMINAL,)),
     # It ends, though more could come.
     Case("-q x IN", (("none",), ("x2",)), ends=True),
     Case("-m 1 x IN", (("none",), ("x2", "x2")), ends=True),

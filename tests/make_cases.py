@@ -19,6 +19,9 @@ SEED = 4
 # How many cases there are of each mode; `o` stands for rows of matched parts.
 COUNTS = {"-": 62, "o": 20, "c": 14, "l": 12, "q": 14}
 
+# The same of cases in colors, which stand behind the others.
+COLORED = {"-": 12, "o": 6, "c": 2}
+
 # The most columns of a row, and how many of the cases are left out that write nothing, -q aside.
 WIDTH = 118
 LEFT_OUT = 0.7
@@ -39,14 +42,15 @@ HEAD = """\
 /// A case is a row of six fields:
 /// - six letters: `H` names, `n` numbers, a mode (`c`, `l`, `q`), the limit, and the lines of context before and after;
 ///   `-` stands for what isn't given;
-/// - the pattern: `F`, `G` or `E` for its kind, then `o` for matched parts or `v` for lines that aren't matched, and
-///   behind a colon the text;
+/// - the pattern: `F`, `G` or `E` for its kind, then `o` for matched parts, `c` for lines in colors, `C` for parts in
+///   colors or `v` for lines that aren't matched, and behind a colon the text;
 /// - the least bytes of a block;
 /// - the seed of the order in which results arrive;
 /// - the files `a`, `b`, `c`, a `|` before each, where `!` is one that isn't there;
 /// - the status, and behind a colon the output.
 ///
-/// In files and output `/` stands for a newline. Texts of a few rows are proved sooner than one of all.
+/// In files and output `/` stands for a newline, and `~` for an ESC. Texts of a few rows are proved sooner than one of
+/// all.
 pub(crate) const CASES: [&str; %d] = [
 """
 
@@ -65,12 +69,13 @@ class Case:
     limit: int
     before: int
     after: int
+    colored: bool
     pattern: str
     files: list
 
     def words(self):
         """The words behind grep's name."""
-        words = ["-s", "-H" if self.names else "-h"]
+        words = ["-s", "-H" if self.names else "-h"] + ["--color=always"] * self.colored
         words += ["-n"] * self.numbers + ["-v"] * self.invert
         words += [] if self.mode == "-" else [f"-{self.mode}"]
         for option, value in (("-m", self.limit), ("-B", self.before), ("-A", self.after)):
@@ -84,7 +89,8 @@ class Case:
         mode = "-" if self.mode == "o" else self.mode
         numbers = "".join("-" if value is None else str(value) for value in (self.limit, self.before, self.after))
         form = ("H" if self.names else "-") + ("n" if self.numbers else "-") + mode + numbers
-        kind = self.pattern[0] + ("o" if self.mode == "o" else "v" if self.invert else "")
+        option = ("C" if self.mode == "o" else "c") if self.colored else "o" if self.mode == "o" else ""
+        kind = self.pattern[0] + (option or "v" * self.invert)
         return f"{form} {kind}:{self.pattern[1:]}"
 
 
@@ -102,17 +108,18 @@ def make_file(rng, density):
     return lines
 
 
-def make_case(rng, mode):
+def make_case(rng, mode, colored):
     context = {"-": 0.6, "o": 0}.get(mode, 0.2)
     density = rng.choice([0.15, 0.3, 0.6])
     return Case(
         mode=mode,
         names=rng.random() < 0.5,
         numbers=rng.random() < 0.5,
-        invert=mode != "o" and rng.random() < 0.2,
+        invert=mode != "o" and not colored and rng.random() < 0.2,
         limit=maybe(rng, 0.35, 1, 3),
         before=maybe(rng, context, 0, 3),
         after=maybe(rng, context, 0, 3),
+        colored=colored,
         pattern=rng.choice(PATTERNS[:1] * 6 + PATTERNS),
         files=[make_file(rng, density) for _ in range(rng.choice([0] + [1] * 6 + [2] * 10 + [3] * 13))],
     )
@@ -146,16 +153,18 @@ def row_of(rng, case):
     status, output = ask_grep(case)
     files = "".join("|" + (MISSED if lines is None else text_of(lines)) for lines in case.files)
     row = f"{case.letters()} {rng.randint(2, 9)} {rng.randint(0, 255)} :{files} {status}:{output}"
-    return row.replace("\n", "/")
+    return row.replace("\n", "/").replace("\x1b", "~")
 
 
 def main():
     rng = random.Random(SEED)
     rows = []
-    for mode, count in COUNTS.items():
+    modes = [(mode, count, False) for mode, count in COUNTS.items()]
+    modes += [(mode, count, True) for mode, count in COLORED.items()]
+    for mode, count, colored in modes:
         wanted = len(rows) + count
         while len(rows) < wanted:
-            row = row_of(rng, make_case(rng, mode))
+            row = row_of(rng, make_case(rng, mode, colored))
             is_dull = mode != "q" and row.endswith(":") and rng.random() < LEFT_OUT
             if len(row) <= WIDTH and row not in rows and not is_dull:
                 rows.append(row)

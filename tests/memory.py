@@ -54,6 +54,10 @@ ALONE = """\
 -o -n -E [wf][a-z]+ words
 -v -n -E [wf][a-z]+ words
 -f patterns -n words row
+--color=always -H -n -C 1 -e x -e a row words
+--color=always -o -T -i -E WAT|FI words
+--color=always -c x row words
+-R -n x tree row
 -F -f list -c words row
 -F -i -f list -o words
 -w -x -z -c x row
@@ -77,6 +81,7 @@ SPREAD = """\
 --always-spread --workers 2 --block 1 --round 2 -v -n x row words
 --always-spread --workers 2 --block 1 --round 2 -r -c x tree row
 --always-spread --workers 2 --block 1 --round 2 -r -c x sparse
+--always-spread --workers 2 --block 1 --round 2 --color=always -n -C 1 -E [wf][a-z]+ words row
 """
 
 

@@ -23,7 +23,7 @@ HIDDEN = {"--always-spread", "-P", "--perl-regexp"}
 OLDER = {"-y": "-i"}
 
 OPTION = re.compile(
-    r"""OptionRow\(\s*Names::(?:Letter\('(?P<letter>.)',\s*&\[(?P<others>[^\]]*)\]\)|Long),\s*"""
+    r"""OptionRow\(\s*Names::(?:Letter\('(?P<letter>.)',\s*|Long\()&\[(?P<others>[^\]]*)\]\),\s*"""
     r""""(?P<name>[a-z-]+)",\s*Behind::(?P<value>\w+)"""
 )
 
@@ -81,7 +81,7 @@ def options_of_zsh():
         named = re.match(r"  '(?:\([^)]*\)|\*)'\{([^}]*)\}|  '(?:\(- \*\)|\*)?(--[a-z-]+=?)\[", line)
         if named:
             words = (named[1] or named[2]).split(",")
-            found |= {word.rstrip("+="): word[-1] in "+=" for word in words}
+            found |= {re.sub(r"(\+|=-?)$", "", word): word[-1] in "+=-" for word in words}
     return found
 
 
@@ -90,7 +90,7 @@ def options_of_fish():
     for line in (COMPLETIONS / "pargrep.fish").read_text().splitlines():
         if not line.startswith("complete"):
             continue
-        takes = re.search(r" -[xr] ", line) is not None
+        takes = re.search(r" -([xr]|f -a) ", line) is not None
         found |= {f"-{it}": takes for it in re.findall(r" -s (\S)", line)}
         found |= {f"--{it}": takes for it in re.findall(r" -l ([a-z-]+)", line)}
     return found

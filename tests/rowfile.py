@@ -8,7 +8,7 @@ NAME = re.compile(r"[a-z0-9]+(-[a-z0-9]+)*")
 BARE = re.compile(r"[A-Za-z0-9_./=,+@%^-]+")
 QUOTED = re.compile(r'"((?:[^"\\]|\\.)*)"(?:\s*\*\s*([0-9]+))?')
 ESCAPE = re.compile(r"\\(x[0-9A-Fa-f]{2}|.)")
-ESCAPES = {"n": b"\n", "t": b"\t", "r": b"\r", "0": b"\0", "\\": b"\\", '"': b'"'}
+ESCAPES = {"n": b"\n", "t": b"\t", "r": b"\r", "0": b"\0", "e": b"\x1b", "\\": b"\\", '"': b'"'}
 STREAMS = {"input": 0, "output": 1, "error": 2}
 LONGEST_TEXT = 2**26
 LONGEST_BEFORE_A_FAULT = 2000
