@@ -91,6 +91,9 @@ COMMON = """
 -cE [wn][aeiou]t
 -cE [a-z]+in[.,:;a]
 -cE ^[a-z]+.[a-z]+.of
+--color=always -nF water
+--color=always -nE [a-z]{9,}
+--color=always -E [aeiou]
 """
 
 LOG = """
@@ -138,6 +141,7 @@ def cases(folder, megabytes):
     texts.make_tree(folder / "tree")
     for options in ("-rF", "-rcF", "-rlF"):
         yield Case([options, "needle"], "tree", [options.replace("r", ""), "needle"], is_tree=True)
+    yield Case(["-RcF", "needle"], "tree", ["-LcF", "needle"], is_tree=True)
     texts.make_empty_files(folder / "empty", 30_000)
     for options in ("-rcF", "-rlF"):
         yield Case([options, "needle"], "empty", [options.replace("r", ""), "needle"], is_tree=True)
