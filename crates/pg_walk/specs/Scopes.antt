@@ -78,8 +78,10 @@ pub record Sights : Type 0 where
   pub content : Text → Option Content
   pub circle : ℕ → Text → Bool
 
+-- an entry of which nothing can be told, as a link that leads to nothing, is left out by the rules for files
 abbrev pub sight : Scope → Bool → Text → Option FileKind → Sight
-sight scope operand path None = IsUntold
+sight scope operand path None =
+    if operand then IsUntold else if leaves_out scope.files operand path then IsLeftOut else IsUntold
 sight scope operand path (Some kind) =
     if is_left_out scope operand path kind then IsLeftOut else Is (seen_as scope.devices kind)
 

@@ -127,7 +127,7 @@ impl<A: Allocator> Scope<A> {
 }
 
 /// The kind that what stands at a path is seen as, unless it is left out. Links are followed at operands, and below
-/// them where the scope does so.
+/// them where the scope does so. An entry whose kind can't be told, as a link to nothing, is left out as files are.
 pub(crate) fn look<A: Allocator, T: FileTree>(
     tree: &T,
     scope: &Scope<A>,
@@ -139,10 +139,10 @@ pub(crate) fn look<A: Allocator, T: FileTree>(
     ensures left_out { operand ≡ true → IfOk result (λ kind. kind ≡ None →
         may_leave_out (scope_of scope.now) path.now ≡ true) }
 {
-    let kind = tree.kind(path, operand || scope.follows)?;
-    if scope.leaves_out(operand, path, kind) {
-        Ok(None)
-    } else {
-        Ok(Some(scope.seen_as(kind)))
+    match tree.kind(path, operand || scope.follows) {
+        Ok(kind) if scope.leaves_out(operand, path, kind) => Ok(None),
+        Ok(kind) => Ok(Some(scope.seen_as(kind))),
+        Err(LookFault::Failed) if !operand && scope.files.leaves_out(false, path) => Ok(None),
+        Err(fault) => Err(fault),
     }
 }

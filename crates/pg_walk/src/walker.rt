@@ -240,7 +240,8 @@ fn operands_waiting<A: Allocator + Copy, B: Allocator>(
 /// is, and which each of those is that it lies in.
 ///
 /// Pipes, sockets and devices give nothing below operands, unless the scope reads them. What the scope
-/// leaves out gives nothing either, once the tree has told its kind.
+/// leaves out gives nothing either, once the tree has told its kind; an entry whose kind can't be told,
+/// as a followed link to nothing, is left out as files are.
 ///
 /// The walk holds the paths that wait: the operands that are left, and of each directory that it is
 /// inside those entries that are left. A directory is listed when its turn comes.
