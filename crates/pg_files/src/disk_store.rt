@@ -7,7 +7,7 @@ ghost use Rattle.pg_files.specs.Store.{Opens};
 use crate::files::ReadFault;
 use crate::past::StorePast;
 use crate::store::{OpenFault, Store};
-use pg_walk::Cause;
+use pg_walk::{Cause, Identity};
 use std::fs::{Metadata, OpenFile};
 use std::io::{ErrorKind, Read};
 use std::marker::Model;
@@ -22,18 +22,11 @@ enum Source<I: Read + Drop, F: Read + OpenFile + Drop> {
     Open(F),
 }
 
-/// What tells a file from all others that are there.
-#[derive(Clone, Copy, PartialEq, Eq)]
-struct FileId {
-    device: u64,
-    number: u64,
-}
-
 /// What tells a regular file from all others. Other things have none.
-fn regular_id(metadata: io::Result<Metadata>) -> Option<FileId> {
+fn regular_id(metadata: io::Result<Metadata>) -> Option<Identity> {
     let metadata = metadata.ok()?;
     if metadata.is_file() {
-        Some(FileId {
+        Some(Identity {
             device: metadata.dev(),
             number: metadata.ino(),
         })
@@ -50,7 +43,7 @@ pub struct DiskStore<R: Files + Input + Drop> {
     /// Whether a read of the open file may wait: it is no regular file, as far as could be found out.
     waits: bool,
     /// The regular file that standard output goes to.
-    output: Option<FileId>,
+    output: Option<Identity>,
     past: StorePast,
 }
 
@@ -86,7 +79,7 @@ impl<R: Files + Input + Drop> DiskStore<R> {
     }
 
     /// Whether this is the file that standard output goes to.
-    fn is_output(&self, id: Option<FileId>) -> bool {
+    fn is_output(&self, id: Option<Identity>) -> bool {
         self.output.is_some() && self.output == id
     }
 
