@@ -104,7 +104,7 @@ def make(folder):
         "sparse/c/e": b"",
         "sparse/f": b"x\n",
         "sparse/g": b"",
-        "long": b"abc xyz yxa zzb zac\nq w e r t\n" * 75_000,
+        "long": b"abc xyz yxa zzb zac\nq w e r t\n" * 40_000,
     }
     for name, text in files.items():
         (folder / name).write_bytes(text)

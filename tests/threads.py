@@ -1,9 +1,9 @@
 #!/usr/bin/env python3
 """Compares what the program writes by several threads: `tests/threads.py [--program PATH]`
 
-Threads are started only for a round of 1 MiB, only where nothing that was read can be enough, and only where the first
-megabyte, which one thread searches, took more than a nanosecond a byte. So files of some MiB are made, the same ones
-each time, in a folder that is removed at the end. Each command line below is run over them by 2 and by 4
+Threads are started only for a round of 1 MiB, only where nothing that was read can be enough, and at first only for a
+query whose lines the automaton is asked about; later by how long the search has taken. So files of some MiB are made,
+the same ones each time, in a folder that is removed at the end. Each command line below is run over them by 2 and by 4
 workers, and by one thread (`--round 1`), and has to give the same bytes and the same status each time, as the
 machine's own grep gives them. While 4 workers are asked for, the threads of the process are counted: several have to be
 seen for the lines of SPREAD, and for those of ALONE the first one and no other. A run of one thread must show no second
@@ -60,7 +60,7 @@ ALONE = """\
 -q -E [aeiou]{9} large other
 """
 
-# The automaton is asked about most lines, which takes long, and all of the files has to be read: threads start.
+# The automaton is asked about at most lines, and all of the files has to be read: threads start.
 SPREAD = """\
 -E [a-d][aeiou][r-z] large
 -E [a-d][aeiou][r-z] large other short last
@@ -90,7 +90,7 @@ SPREAD = """\
 -i -c -E [XYZ]{3} large other
 -w -E [a-d][aeiou][r-z] large
 -w -c -E [a-z]{8} large last
--w -n -E [xyz][a-z]* large
+-w -n -E [xyz][a-z]* other
 -x -E [a-z]{1,8}.[a-z]{1,8}.[a-z]{1,8} large
 -x -v -c -E .{20,} large last
 -z -n -E ^[a-d][aeiou] nuls

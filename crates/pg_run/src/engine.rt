@@ -10,7 +10,7 @@ ghost use Rattle.pg_run.specs.Endless.{is_endless};
 use crate::fault::RunFault;
 use crate::pace::{Pace, time};
 use crate::setup::Setup;
-use pg_lines::{Block, Cutter, Query, Scratch, search_block};
+use pg_lines::{Block, Cutter, Kind, Query, Scratch, search_block};
 use pg_round::{Gate, NothingToRead, Reader, search_round};
 use pg_rows::{Format, Sink, WriteError};
 use pg_seq::Sequencer;
@@ -22,6 +22,9 @@ use std::time::Clock;
 
 /// A round of fewer bytes isn't worth the starting of threads.
 const LEAST_SPREAD: usize = 1_048_576;
+
+/// Shorter texts stand in many lines.
+const RARE: usize = 2;
 
 /// So many bytes are held in reserve while blocks wait for their round.
 const RESERVE: usize = 524_288;
@@ -93,12 +96,24 @@ pub(crate) fn is_endless(format: Format) -> bool
     format.limit.is_none() && !format.mode.settles_at_first()
 }
 
+/// Whether the machine is likely to be asked about most lines. Of other queries one thread finds the lines as fast as
+/// they are read; also of most lists of fixed strings, which have too many literals to tell.
+fn is_slow<A: Allocator>(query: &Query<A>) -> bool {
+    let literals = query.literals();
+    if literals.is_empty() {
+        return query.text().kind != Kind::Fixed;
+    }
+    literals
+        .iter()
+        .any(|literal| !literal.is_enough && literal.text.len() < RARE)
+}
+
 /// Whether blocks are to wait for a round: where several threads may search, and that pays, by how fast the last
-/// blocks were searched. The first ones are searched by one thread.
-fn is_spread(setup: &Setup, pace: Pace) -> bool
+/// blocks were searched, or where too few were, by the query.
+fn is_spread<A: Allocator>(query: &Query<A>, setup: &Setup, pace: Pace) -> bool
     ensures { result ≡ true → is_endless setup.now.format ≡ true }
 {
-    let pays = setup.always_spread || pace.is_slow;
+    let pays = setup.always_spread || pace.is_slow.unwrap_or(is_slow(query));
     pays && setup.workers > 0 && setup.round > 1 && is_endless(setup.format)
 }
 
@@ -184,7 +199,7 @@ impl<A: Allocator + Copy> Engine<A> {
     {
         let query = Arc::new(alloc, query)?;
         let pace = Pace::new();
-        let spread = is_spread(&setup, pace);
+        let spread = is_spread(&query, &setup, pace);
         let sequencer = Sequencer::new(alloc, Arc::try_clone(&query)?, setup.format)?;
         let scratch = scratch_for(alloc, &query)?;
         Ok(Engine {
@@ -340,7 +355,7 @@ impl<A: Allocator + Copy> Engine<A> {
             Holds self.new aim steps out }
     {
         if self.round.is_empty() {
-            self.spread = is_spread(&self.setup, self.pace);
+            self.spread = is_spread(&self.query, &self.setup, self.pace);
         }
     }
 

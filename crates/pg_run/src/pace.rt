@@ -5,9 +5,6 @@ use std::time::{Clock, Duration};
 /// So many bytes are measured before a verdict.
 const MEASURED: u64 = 1_048_576;
 
-/// So many nanoseconds are enough for a verdict, however few bytes were searched: four a byte.
-const LONG: u64 = 4 * MEASURED;
-
 /// A search that takes more than a nanosecond a byte is slow: by several threads, each block needs memory of its own,
 /// and to clear it takes half as long.
 const BYTES_A_NANO: u64 = 1;
@@ -37,8 +34,8 @@ pub(crate) struct Pace {
     bytes: u64,
     /// It took so many nanoseconds, of all threads together, as if one had searched alone.
     nanos: u64,
-    /// The last verdict: whether the search was slow. Before the first one it counts as fast.
-    pub(crate) is_slow: bool,
+    /// The last verdict: whether the search was slow.
+    pub(crate) is_slow: Option<bool>,
 }
 
 impl Pace {
@@ -47,7 +44,7 @@ impl Pace {
         Pace {
             bytes: 0,
             nanos: 0,
-            is_slow: false,
+            is_slow: None,
         }
     }
 
@@ -78,7 +75,7 @@ impl Pace {
     fn with(self, bytes: u64, nanos: u64) -> Pace {
         let bytes = self.bytes.saturating_add(bytes);
         let nanos = self.nanos.saturating_add(nanos);
-        if bytes < MEASURED && nanos < LONG {
+        if bytes < MEASURED {
             return Pace {
                 bytes,
                 nanos,
@@ -88,7 +85,7 @@ impl Pace {
         Pace {
             bytes: 0,
             nanos: 0,
-            is_slow: nanos.saturating_mul(BYTES_A_NANO) > bytes,
+            is_slow: Some(nanos.saturating_mul(BYTES_A_NANO) > bytes),
         }
     }
 }

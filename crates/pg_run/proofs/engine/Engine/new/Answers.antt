@@ -42,7 +42,7 @@ returns-in_err-scratch g c =
 
 pub invariant_of-result-clause-fits : goal.invariant_of-result-clause-fits
 invariant_of-result-clause-fits g c =
-    c.in_ok-scratch.ensures ∙ ap (λ q. q.machine) c.deref.ensures
+    c.in_ok-scratch.ensures ∙ ap (λ q. q.machine) c.deref-2.ensures
 
 pub invariant_of-result-clause-endless : goal.invariant_of-result-clause-endless
 invariant_of-result-clause-endless g c = c.is_spread-spread.ensures
