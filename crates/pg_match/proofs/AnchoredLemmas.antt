@@ -7,6 +7,7 @@ use Rattle.std.proofs.lemmas.List.{get_or_read}
 use Rattle.std.proofs.lemmas.Option.{slice_get-get_or}
 use Rattle.std.proofs.lemmas.Bool.{cases_eq, cases_lt}
 use Rattle.pg_match.specs.Anchored.{StandsFrom, GoesAlone, ToldAlone, IsAnchoredMemoryOf, start_row}
+use Rattle.pg_match.specs.Anchored.{NothingBefore, TellsBegun, begun_of}
 use Rattle.pg_match.specs.Automata.{Nfa, Edge, Runs, IsRunnable}
 use Rattle.pg_match.specs.Bounds.{MayBegin, MayEnd}
 use Rattle.pg_match.specs.Memories.{Remembered, ended, fresh_at, In, Same, IsShape, IsBlank, Keeps}
@@ -24,6 +25,39 @@ use Rattle.pg_match.proofs.SearchLemmas.{edge_moves}
 use Rattle.pg_match.proofs.SkimLemmas.{no_cross}
 use Rattle.pg_match.proofs.StandsLemmas.{reads_edge, edge_reads, ends_here, ends_at_last}
 use Rattle.pg_match.proofs.StepLemmas.{edge_still}
+
+-- where no span may begin none does
+pub nothing_here : (m : Nfa) (l : List ℕ) (s : ℕ) → (MayBegin m.bounds l s → ⊥) → NothingBefore m l s (s + 1)
+nothing_here m l s refused = λ i j ge lt less inside run.
+    let same : i ≡ s = omega arith in refused (subst (MayBegin m.bounds l) same run.0)
+
+-- none begins before the next place either
+pub nothing_on : (m : Nfa) (l : List ℕ) (from p : ℕ) → NothingBefore m l from p → NothingBefore m l p (p + 1)
+    → NothingBefore m l from (p + 1)
+nothing_on m l from p before here = λ i j ge lt less inside run. elim (cases_lt i p) [
+  | inl early ↦ before i j ge early less inside run
+  | inr there ↦ here i j there lt less inside run
+]
+
+-- the best span from a later place on, where none begins before it
+pub best_behind : (m : Nfa) (l : List ℕ) (from start : ℕ) (best : Option (ℕ × ℕ)) → from ≤ start
+    → NothingBefore m l from start
+    → IsBest m.states l m.start (MayBegin m.bounds l) (MayEnd m.bounds l) start (length l + 1) best
+    → IsBest m.states l m.start (MayBegin m.bounds l) (MayEnd m.bounds l) from (length l + 1) best
+best_behind m l from start None later none best = λ s j ge lt within run. elim (cases_lt s start) [
+  | inl early ↦ none s j ge early lt within run
+  | inr there ↦ best s j there lt within run
+]
+best_behind m l from start (Some b) later none best = (
+  omega (arith, best.0),
+  best.1,
+  best.2,
+  best.3,
+  λ s j ge lt within run. elim (cases_lt s start) [
+    | inl early ↦ absurd (none s j ge early lt within run)
+    | inr there ↦ best.4 s j there lt within run
+  ],
+)
 
 -- where no start is sown, a step goes alone
 pub gone_alone : (t : List State) (seeds : List ℕ) (b : ℕ) (S U : ℕ → Type 0) → GoesOn t seeds b (IsTrue false) S U
@@ -289,23 +323,42 @@ module _ (m : Nfa) (t : Remembered) (is : IsAnchoredMemoryOf m t) where
       ),
     )
 
-    pub best_dead : (p at v : ℕ) (last : Option ℕ) → Follows m t l s p at last → MayBegin m.bounds l s
-        → get_or l p 0 < 256 → p < length l → v ≡ get_or t.steps (at + get_or l p 0) v → v ≡ 2 → IfSome last IsEnd
-    best_dead p at v last f begins byte lt read two =
+    -- the same, or none begins at s where no end was found
+    begun_end : (p : ℕ) (last : Option ℕ) → MayBegin m.bounds l s → IsLastEnd m l s p last → p ≤ length l
+        → ((n j : ℕ) → p < j → j ≤ length l → Runs m.states l n m.start s j → ⊥)
+        → (p ≡ length l → (n : ℕ) → Runs m.states l n m.start s p → ⊥) → TellsBegun m l s (begun_of last p)
+    begun_end p None begins f within none not_last = λ i j ge lt less inside run.
+        let same : i ≡ s = omega arith in
+        let here = subst (λ w. Runs m.states l run.2.0 m.start w j) same run.2.1 in
+        elim (cases_lt p j) [
+          | inl past ↦ none run.2.0 j past (omega arith) here
+          | inr upto ↦ elim (cases_lt j (length l)) [
+            | inl before ↦ f run.2.0 j (omega arith) upto before run.1 here
+            | inr end ↦
+                let is_p : j ≡ p = omega arith in
+                not_last (omega arith) run.2.0 (subst (λ w. Runs m.states l run.2.0 m.start s w) is_p here)
+          ]
+        ]
+    begun_end p (Some e) begins f within none not_last = best_end p (Some e) begins f within none not_last
+
+    pub begun_dead : (p at v : ℕ) (last : Option ℕ) → Follows m t l s p at last → MayBegin m.bounds l s
+        → get_or l p 0 < 256 → p < length l → v ≡ get_or t.steps (at + get_or l p 0) v → v ≡ 2
+        → TellsBegun m l s (begun_of last p)
+    begun_dead p at v last f begins byte lt read two =
         let b = get_or l p 0 in
         let cell = get_or_read t.steps _ v (in_steps at b f.row byte) read 0 in
         let none = dead_behind at v b f.row byte cell two in
-        best_end p last begins f.found f.within
+        begun_end p last begins f.found f.within
         (λ n j past inside run.
         let c = f.stands.complete n j run (omega arith) in
         no_cross m l p b (In t (at / 256)) (slice_get-get_or l p 0 lt) (f.stands.closed lt) none c.1 c.0 j c.2 c.3
         (omega arith))
         (λ e. absurd (omega arith))
 
-    pub best_no_more : (at p : ℕ) (last : Option ℕ) → Follows m t l s p at last → MayBegin m.bounds l s
-        → p ≡ length l → s < length l → NoHitAtEnd m false (In t (at / 256)) → IfSome last IsEnd
-    best_no_more at p last f begins end inside missed =
-        best_end p last begins f.found f.within (λ n j past upto run. absurd (omega arith))
+    pub begun_no_more : (at p : ℕ) (last : Option ℕ) → Follows m t l s p at last → MayBegin m.bounds l s
+        → p ≡ length l → s < length l → NoHitAtEnd m false (In t (at / 256)) → TellsBegun m l s (begun_of last p)
+    begun_no_more at p last f begins end inside missed =
+        begun_end p last begins f.found f.within (λ n j past upto run. absurd (omega arith))
         (λ e n run.
         let here = subst (λ w. StandsFrom m l s w (In t (at / 256))) end f.stands in
         let last_run = subst (λ w. Runs m.states l n m.start s w) end run in

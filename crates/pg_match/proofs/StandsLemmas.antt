@@ -144,8 +144,8 @@ module _ (m : Nfa) (l : List ℕ) where
   }
 
   -- a match ends at p only if 0 is in a set that is closed there
-  pub ends_here : (p : ℕ) (S : ℕ → Type 0) → ((q r : ℕ) → S q → Edge (slice_get m.states q) l p r p → S r) → IsRunnable m
-      → (k q : ℕ) → S q → Runs m.states l k q p p → S 0
+  pub ends_here : (p : ℕ) (S : ℕ → Type 0) → ((q r : ℕ) → S q → Edge (slice_get m.states q) l p r p → S r)
+      → IsRunnable m → (k q : ℕ) → S q → Runs m.states l k q p p → S 0
   ends_here p S closed is zero q h run = subst S (is.only q run.0) h
   ends_here p S closed is (suc k) q h run =
       elim (edge_moves (slice_get m.states q) l p run.0 run.1 run.2) [

@@ -1,10 +1,15 @@
 -- Sets of the runs that began at one place, and where each byte leads from them: the table of anchored searches.
 use Rattle.std.specs.Prelude.{◌≡◌, ℕ, zero, suc, ◌+◌, ◌*◌, ◌<◌, ◌≤◌, ◌⊎◌, ◌↔◌, Bool, true, false, List, length, Some}
 use Rattle.std.specs.Prelude.{slice_get, slice_index}
+use Rattle.std.specs.Prelude.{Option, None}
 use Rattle.pg_match.specs.Automata.{Nfa, Edge, Runs}
+use Rattle.pg_match.specs.Bounds.{MayBegin, MayEnd}
 use Rattle.pg_match.specs.Closures.{Leads}
 use Rattle.pg_match.specs.Memories.{Remembered, In, IsShape, IsUnknown, fresh_at, ended}
 use Rattle.pg_match.specs.Steps.{Reads, LeadsStill, IsStill, Starts, ReadsNone, AnswersEnd}
+use Rattle.pg_match.specs.Searches.{IsBest, RunsFrom}
+use Rattle.pg_match.specs.declared.dfa_anchored.Begun.{Begun}
+use Rattle.pg_match.specs.declared.dfa_anchored.Begun.TheVariants.{Longest, Nothing, Unknown}
 use Rattle.pg_match.specs.declared.state.State.{State}
 
 -- S holds the states at p of the runs that began at s
@@ -42,3 +47,22 @@ pub record IsAnchoredMemoryOf (m : Nfa) (t : Remembered) : Type 0 where
       → (r ≤ t.count) × AnswersEnd m false (In t r) answer
   pub inside : 1 ≤ t.count → Starts m false (In t 1)
   pub first : 2 ≤ t.count → Starts m true (In t 2)
+
+-- no span with a byte, which begins and ends where it may, begins from one place on before another
+abbrev pub NothingBefore : Nfa → List ℕ → ℕ → ℕ → Type 0
+NothingBefore m l from place =
+    (i j : ℕ) → from ≤ i → i < place → i < j → j < length l + 1
+    → RunsFrom m.states l m.start (MayBegin m.bounds l) (MayEnd m.bounds l) i j → ⊥
+
+-- what is told of the spans with a byte that begin at a place: where the longest one ends, or that there is none, or
+-- nothing
+abbrev pub TellsBegun : Nfa → List ℕ → ℕ → Begun → Type 0
+TellsBegun m l s (Longest e) =
+    IsBest m.states l m.start (MayBegin m.bounds l) (MayEnd m.bounds l) s (length l + 1) (Some (s, e))
+TellsBegun m l s (Nothing known) = NothingBefore m l s (s + 1)
+TellsBegun m l s Unknown = Unit {0}
+
+-- the last place where a span was found to end, or that none was, as is known at a place
+abbrev pub begun_of : Option ℕ → ℕ → Begun
+begun_of None place = Nothing place
+begun_of (Some e) place = Longest e

@@ -1,7 +1,7 @@
 //! The longest match from a known start, by the remembered sets of the runs that begin there.
 ghost use Rattle.std.specs.Prelude.{◌≡◌, ◌+◌, ◌*◌, ◌<◌, ◌≤◌, ◌^◌, length, IfSome, IsTrue, Some};
 ghost use Rattle.pg_match.specs.Automata.{IsRunnable};
-ghost use Rattle.pg_match.specs.Anchored.{IsAnchoredMemoryOf, start_row};
+ghost use Rattle.pg_match.specs.Anchored.{IsAnchoredMemoryOf, start_row, NothingBefore, TellsBegun, begun_of};
 ghost use Rattle.pg_match.specs.Bounds.{MayBegin, MayEnd};
 ghost use Rattle.pg_match.specs.Memories.{In, Keeps, Same};
 ghost use Rattle.pg_match.specs.Searches.{IsBest};
@@ -15,6 +15,23 @@ use crate::search::StateSets;
 use crate::sparse_set::StateSet;
 use std::alloc::Allocator;
 
+/// What one try of a start may cost on average, in steps of the table for each start that is passed.
+const TRY: usize = 64;
+
+/// What all tries may cost beyond that.
+const TRIES: usize = 1_024;
+
+/// What remembered sets tell of the spans that begin at a place and have a byte.
+#[derive(Clone, Copy)]
+pub(crate) enum Begun {
+    /// The longest one ends here.
+    Longest(usize),
+    /// There is none, as was found out at this place.
+    Nothing(usize),
+    /// That isn't remembered.
+    Unknown,
+}
+
 /// The row of the set of a start at a place.
 fn start_row(start: usize) -> usize
     ensures { result ≡ start_row start }
@@ -22,22 +39,30 @@ fn start_row(start: usize) -> usize
     if start == 0 { 2 } else { 1 }
 }
 
+/// The end of the last span that was found, or that none was, as is known at a place.
+fn outcome_at(last: Option<usize>, place: usize) -> Begun
+    ensures { result ≡ begun_of last place }
+{
+    match last {
+        Some(end) => Begun::Longest(end),
+        None => Begun::Nothing(place),
+    }
+}
+
 impl<A: Allocator> Automaton<A> {
-    /// The end of the best span from a place on, if that begins there and is remembered.
-    pub(crate) fn longest(&self, memory: &Cache<A>, line: &[u8], start: usize) -> Option<usize>
+    /// What is remembered of the spans that begin at a place.
+    pub(crate) fn longest(&self, memory: &Cache<A>, line: &[u8], start: usize) -> Begun
         requires runs { IsRunnable (nfa self.now) }
         requires memory { IsAnchoredMemoryOf (nfa self.now) (remembered memory.now) }
         requires start_in { start ≤ length line.now }
-        ensures { IfSome result (λ end. IsBest self.now.states.items line.now self.now.start
-            (MayBegin self.now.bounds line.now) (MayEnd self.now.bounds line.now) start (length line.now + 1)
-            (Some (start, end))) }
+        ensures { TellsBegun (nfa self.now) line.now start result }
     {
         let row = start_row(start);
         if start >= line.len() || row > memory.count {
-            return None;
+            return Begun::Unknown;
         }
         if !self.bounds.may_begin(line, start) {
-            return None;
+            return Begun::Nothing(start);
         }
         let mut state = 256 * row as u32;
         let mut place = start;
@@ -45,7 +70,11 @@ impl<A: Allocator> Automaton<A> {
         while place < line.len() {
             let next = memory.steps[state as usize + line[place] as usize];
             if next < 256 {
-                return if next == DEAD { last } else { None };
+                return if next == DEAD {
+                    outcome_at(last, place)
+                } else {
+                    Begun::Unknown
+                };
             }
             state = next;
             place += 1;
@@ -54,9 +83,45 @@ impl<A: Allocator> Automaton<A> {
             }
         }
         match memory.ends[(state / 256) as usize] {
-            Some(is_end) => if is_end { Some(place) } else { last },
-            None => None,
+            Some(is_end) => if is_end {
+                Begun::Longest(place)
+            } else {
+                outcome_at(last, place)
+            },
+            None => Begun::Unknown,
         }
+    }
+
+    /// Tries one place after another from a start on, as far as it is remembered of the spans that begin there, and as
+    /// long as that costs little for each. Answers the place that it comes to, and where the longest span from there
+    /// ends, if one begins there.
+    fn try_starts(&self, memory: &Cache<A>, line: &[u8], start: usize) -> (usize, Option<usize>)
+        requires runs { IsRunnable (nfa self.now) }
+        requires memory { IsAnchoredMemoryOf (nfa self.now) (remembered memory.now) }
+        requires start_in { start ≤ length line.now }
+        ensures onward { (start ≤ result.0) × (result.0 ≤ length line.now) }
+        ensures nothing { NothingBefore (nfa self.now) line.now start result.0 }
+        ensures best { IfSome result.1 (λ end. IsBest self.now.states.items line.now self.now.start
+            (MayBegin self.now.bounds line.now) (MayEnd self.now.bounds line.now) result.0 (length line.now + 1)
+            (Some (result.0, end))) }
+    {
+        let mut place = start;
+        let mut left = TRIES;
+        while place < line.len() {
+            match self.longest(memory, line, place) {
+                Begun::Longest(end) => return (place, Some(end)),
+                Begun::Unknown => return (place, None),
+                Begun::Nothing(known) => {
+                    let steps = known.saturating_sub(place);
+                    if steps > left {
+                        return (place, None);
+                    }
+                    left = (left - steps).saturating_add(TRY);
+                    place += 1;
+                }
+            }
+        }
+        (place, None)
     }
 
     /// The row of a set, or 0 where there is no room.
@@ -205,8 +270,35 @@ impl<A: Allocator> Automaton<A> {
         }
     }
 
-    /// The best span from a place on, by what is remembered of the runs that begin there, or else by runs of the
-    /// automaton; then more is remembered, in a share of the room that both tables have.
+    /// Learns more of the runs that begin at a place, and of those that begin where the best span does.
+    fn study_both(
+        &self,
+        sets: &mut StateSets<A>,
+        memory: &mut Cache<A>,
+        line: &[u8],
+        place: usize,
+        best: Option<(usize, usize)>,
+    )
+        requires runs { IsRunnable (nfa self.now) }
+        requires seeds { HasSeeds self.now }
+        requires starts { HasStarts self.now }
+        requires room { HaveRoom (buffers sets.old) (length self.now.states.items) }
+        requires memory { IsAnchoredMemoryOf (nfa self.now) (remembered memory.old) }
+        requires short { length line.now ≤ 2 ^ 30 }
+        requires visits { sets.old.visits ≤ (length line.now + 1) * length self.now.states.items }
+        ensures room { HaveRoom (buffers sets.new) (length self.now.states.items) }
+        ensures memory { IsAnchoredMemoryOf (nfa self.now) (remembered memory.new) }
+        ensures visits { sets.new.visits ≤ (length line.now + 1) * length self.now.states.items }
+        ensures told { Tells sets.old sets.new }
+    {
+        self.study_from(sets, memory, line, place);
+        if let Some((first, _)) = best {
+            self.study_from(sets, memory, line, first);
+        }
+    }
+
+    /// The best span from a place on, by what is remembered of the runs that begin there and behind it, or else by runs
+    /// of the automaton; then more is remembered, in a share of the room that both tables have.
     pub(crate) fn find_from(
         &self,
         sets: &mut StateSets<A>,
@@ -230,13 +322,14 @@ impl<A: Allocator> Automaton<A> {
         ensures visits { sets.new.visits ≤ (length line.now + 1) * length self.now.states.items }
         ensures told { added sets.new ≡ added sets.old + sets.new.visits }
     {
-        if let Some(end) = self.longest(anchored, line, start) {
+        let (place, end) = self.try_starts(anchored, line, start);
+        if let Some(end) = end {
             sets.visits = 0;
-            return Some((start, end));
+            return Some((place, end));
         }
-        let best = self.find(sets, line, start);
+        let best = self.find(sets, line, place);
         anchored.leave_room(memory.count.max(SETS / 2));
-        self.study_from(sets, anchored, line, start);
+        self.study_both(sets, anchored, line, place, best);
         memory.leave_room(anchored.count);
         best
     }

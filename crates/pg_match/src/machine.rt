@@ -91,7 +91,8 @@ impl<A: Allocator> Model for Scratch<A> {
     } };
 
     ghost invariant = { λ s. HaveRoom (buffers s.sets) (length (nfa (arc_value s.automaton)).states)
-        × Remembers s.memory (nfa (arc_value s.automaton)) × RemembersAnchored s.anchored (nfa (arc_value s.automaton)) };
+        × Remembers s.memory (nfa (arc_value s.automaton))
+        × RemembersAnchored s.anchored (nfa (arc_value s.automaton)) };
 }
 
 impl From<AllocError> for BuildFault {

@@ -37,4 +37,5 @@ returns-clause-told g c =
 pub returns-clause-starts : goal.returns-clause-starts
 returns-clause-starts g c =
     started (nfa c.args.self.now) c.args.first (members c.clear.new.self) (members c.insert.new.self)
-    (members c.close.new.set) c.clear.ensures.empty c.insert.ensures.inserted (rw c.deref.ensures.value at c.close.ensures)
+    (members c.close.new.set) c.clear.ensures.empty c.insert.ensures.inserted
+    (rw c.deref.ensures.value at c.close.ensures)

@@ -16,7 +16,8 @@ returns-then-sets-eq0-clause-memory g c =
     let u = members c.go_on.new.sets.current in
     let goes = gone_alone m.states c.args.self.now.seeds.items b S (Has u) c.go_on.ensures.goes in
     let none = read_by_none m b S u goes c.go_on.ensures.room.now c.if-sets-eq0.true in
-    alone_marked m old (remembered c.mark.new.self) r b 2 c.requires.memory c.mark.ensures c.requires.known (omega arith)
+    alone_marked m old (remembered c.mark.new.self) r b 2 c.requires.memory c.mark.ensures c.requires.known
+    (omega arith)
     (inr (inl (refl, none_same m b S (In old r) (same_back (In old r) S c.load.ensures.same) none)))
 
 pub returns-then-to-eq0-clause-memory : goal.returns-then-to-eq0-clause-memory

@@ -2,7 +2,7 @@ use Rattle.std.proofs.Common.{◌/◌, ◌<◌, ◌∙◌, length, arith, sym, t
 use Rattle.std.proofs.lemmas.List.{get_or_read}
 use Rattle.pg_match.specs.Views.{nfa, remembered}
 use Rattle.pg_match.proofs.AnchoredLemmas.{start_row_few, follows_first, follows_on, follows_end, in_flags, in_rows}
-use Rattle.pg_match.proofs.AnchoredLemmas.{best_dead, best_no_more, best_at_end, ends_told}
+use Rattle.pg_match.proofs.AnchoredLemmas.{begun_dead, begun_no_more, best_at_end, ends_told, nothing_here}
 use Rattle.pg_match.proofs.automaton.Automaton.longest.Goals as goal
 use Rattle.pg_match.proofs.automaton.Automaton.longest.Goals.{else-index-via-then-index+else-may_end}
 use Rattle.pg_match.proofs.automaton.Automaton.longest.Goals.{else-index-via-else-index}
@@ -17,10 +17,11 @@ overflow_cast-state g c = omega (arith, c.start_row-row.ensures, start_row_few c
 
 pub returns-then-next-eq-DEAD : goal.returns-then-next-eq-DEAD
 returns-then-next-eq-DEAD g c =
-    best_dead (nfa c.args.self.now) (remembered c.args.memory.now) c.requires.memory c.args.line.now c.args.start
-    c.requires.runs c.loop-place.place c.loop-place.state c.index-next.result.now c.loop-place.last
-    c.loop-place.invariant (c.may_begin.ensures.0 c.if-not-may_begin.false) (omega (arith, c.type_inv.line c.loop-place.place))
-    c.loop-place-test.true c.index-next.ensures c.if-next-eq-DEAD.true
+    rw c.outcome_at.ensures (begun_dead (nfa c.args.self.now) (remembered c.args.memory.now) c.requires.memory
+    c.args.line.now c.args.start c.requires.runs c.loop-place.place c.loop-place.state c.index-next.result.now
+    c.loop-place.last c.loop-place.invariant (c.may_begin.ensures.0 c.if-not-may_begin.false)
+    (omega (arith, c.type_inv.line c.loop-place.place)) c.loop-place-test.true c.index-next.ensures
+    c.if-next-eq-DEAD.true)
 
 pub index-requires : goal.index-requires
 index-requires g c =
@@ -82,7 +83,13 @@ returns-else-is_end g c =
       c.requires.memory.shape.ends_size,
     ) in
     let told = get_or_read t.ends (at / 256) c.index-2.result.now inside c.index-2.ensures None in
-    best_no_more m t c.requires.memory c.args.line.now c.args.start c.requires.runs at c.loop-place.place
-    c.loop-place.last f (c.may_begin.ensures.0 c.if-not-may_begin.false) (omega arith) (omega arith)
+    rw c.outcome_at-else-is_end.ensures (begun_no_more m t c.requires.memory c.args.line.now c.args.start
+    c.requires.runs at c.loop-place.place c.loop-place.last f (c.may_begin.ensures.0 c.if-not-may_begin.false)
+    (omega arith) (omega arith)
     (ends_told m t c.requires.memory (at / 256) c.index-2.result.now c.in-Some.is_end false told c.in-Some.is
-    c.if-is_end.false)
+    c.if-is_end.false))
+
+pub returns-then-not-may_begin : goal.returns-then-not-may_begin
+returns-then-not-may_begin g c =
+    nothing_here (nfa c.args.self.now) c.args.line.now c.args.start
+    (λ may. true≢false (sym (c.may_begin.ensures.1 may) ∙ c.if-not-may_begin.true))
