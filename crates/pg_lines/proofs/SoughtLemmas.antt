@@ -5,7 +5,7 @@ use Rattle.pg_lines.specs.Search.{SearchText}
 use Rattle.pg_lines.specs.Literals.{AreLiterals}
 use Rattle.pg_lines.specs.Candidates.{AreNeedles, literals_sought}
 use Rattle.pg_lines.specs.declared.needles.Needles.{Needles}
-use Rattle.pg_lines.specs.declared.needles.Needles.TheVariants.{Few, Many, GivenUp}
+use Rattle.pg_lines.specs.declared.needles.Needles.TheVariants.{Few, Many, GivenUp, TooSlow}
 use Rattle.pg_lines.specs.declared.span.Span.{Span}
 use Rattle.pg_lines.proofs.LiteralLemmas.{no_literals}
 use Rattle.pg_lines.proofs.NeedleLemmas as N
@@ -16,6 +16,7 @@ pub are_sought : {A : Type 0} (text : SearchText) (bytes : List ℕ) (at : ℕ) 
 are_sought text bytes at (Few list) are = are.literals
 are_sought text bytes at (Many set) are = are.literals
 are_sought text bytes at GivenUp are = no_literals text
+are_sought text bytes at TooSlow are = no_literals text
 
 -- they are so from a later place on
 pub needles_later : {A : Type 0} (text : SearchText) (bytes : List ℕ) (at later : ℕ) (needles : Needles A) → at ≤ later
@@ -23,6 +24,7 @@ pub needles_later : {A : Type 0} (text : SearchText) (bytes : List ℕ) (at late
 needles_later text bytes at later (Few list) low are = N.needles_later text bytes at later list low are
 needles_later text bytes at later (Many set) low are = are
 needles_later text bytes at later GivenUp low are = are
+needles_later text bytes at later TooSlow low are = are
 
 -- where a line is found, they are so behind it
 pub needles_behind : {A : Type 0} (text : SearchText) (bytes : List ℕ) (at : ℕ) (needles : Needles A)

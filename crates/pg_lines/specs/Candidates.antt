@@ -13,7 +13,7 @@ use Rattle.pg_lines.specs.declared.needle_set.NeedleSet.{NeedleSet}
 use Rattle.pg_lines.specs.declared.needle_set.NextLine.{NextLine}
 use Rattle.pg_lines.specs.declared.needle_set.NextLine.TheVariants.{Found, Nowhere, GaveUp}
 use Rattle.pg_lines.specs.declared.needles.Needles.{Needles}
-use Rattle.pg_lines.specs.declared.needles.Needles.TheVariants.{Few, Many, GivenUp}
+use Rattle.pg_lines.specs.declared.needles.Needles.TheVariants.{Few, Many, GivenUp, TooSlow}
 use Rattle.pg_lines.specs.declared.needle.Place.{Place}
 use Rattle.pg_lines.specs.declared.needle.Candidate.{Candidate}
 
@@ -80,12 +80,14 @@ abbrev pub AreNeedles : {A : Type 0} → SearchText → List ℕ → ℕ → Nee
 AreNeedles text bytes at (Few list) = IsNeedleList text bytes at list
 AreNeedles text bytes at (Many set) = IsNeedleSet text bytes set
 AreNeedles text bytes at GivenUp = Unit {0}
+AreNeedles text bytes at TooSlow = Unit {0}
 
 -- the literals that are looked for
 abbrev pub literals_sought : {A : Type 0} → Needles A → List LiteralData
 literals_sought (Few list) = map literal_of list.needles.items
 literals_sought (Many set) = set_literals set.literals.now
 literals_sought GivenUp = []
+literals_sought TooSlow = []
 
 -- the first line that holds a literal, in bytes from a place on, if there is one and the search wasn't given up
 abbrev pub IsNextCandidate : Bool → ℕ → List LiteralData → ℕ → List ℕ → NextLine → Type 0

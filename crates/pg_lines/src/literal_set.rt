@@ -5,6 +5,7 @@ ghost use Rattle.pg_strings.specs.Keys.{items_of};
 ghost use Rattle.pg_strings.specs.Outcomes.{strings_of};
 
 use pg_literal::Literal;
+use pg_match::Bounds;
 use pg_strings::StringSet;
 use std::alloc::{AllocError, Allocator, Global};
 
@@ -43,6 +44,11 @@ fn has_empty<A: Allocator>(literals: &[Literal<A>]) -> bool
     literals.iter().any(|literal| literal.text.is_empty())
 }
 
+/// Whether each literal has at most two bytes.
+fn are_all_short<A: Allocator>(literals: &[Literal<A>]) -> bool {
+    literals.iter().all(|literal| literal.text.len() <= 2)
+}
+
 /// Whether each literal is enough.
 fn are_all_enough<A: Allocator>(literals: &[Literal<A>]) -> bool
     ensures { IsTrue result → All (λ literal. IsTrue literal.is_enough) literals.now }
@@ -52,11 +58,13 @@ fn are_all_enough<A: Allocator>(literals: &[Literal<A>]) -> bool
 
 impl<A: Allocator + Copy> LiteralSet<A> {
     /// The set of more than 8 literals, unless one is empty, with a flag that says whether they are all patterns and
-    /// fixed strings. A refused request for memory is the only error.
+    /// fixed strings. Words of one or two bytes have none: they stand nearly everywhere within other words, where the
+    /// automaton is faster. A refused request for memory is the only error.
     pub fn of(
         alloc: A,
         literals: &[Literal<A>],
         is_fixed: bool,
+        bounds: Bounds,
     ) -> Result<Option<LiteralSet<A>>, AllocError>
         ensures strings { IfOk result (λ found. IfSome found (λ set. strings_of set.strings
             ≡ map (λ literal. literal.text.items) literals.now)) }
@@ -64,7 +72,8 @@ impl<A: Allocator + Copy> LiteralSet<A> {
             → All (λ literal. IsTrue literal.is_enough) literals.now)) }
         ensures fixed { IfOk result (λ found. IfSome found (λ set. set.is_fixed ≡ is_fixed)) }
     {
-        if literals.len() <= FEW || has_empty(literals) {
+        let are_dense = bounds == Bounds::Word && are_all_short(literals);
+        if literals.len() <= FEW || has_empty(literals) || are_dense {
             return Ok(None);
         }
         let strings = StringSet::new(alloc, copies_of(alloc, literals)?)?;

@@ -16,7 +16,10 @@ use std::alloc::{AllocError, Allocator};
 pub(crate) enum Needles<'n, A: Allocator> {
     Few(NeedleList<'n, A>),
     Many(NeedleSet<'n, A>),
+    /// They stand in too many lines in vain.
     GivenUp,
+    /// To compare them with the text takes too long, in single lines as in the block.
+    TooSlow,
 }
 
 impl<'n, A: Allocator> Drop for Needles<'n, A> {
@@ -25,6 +28,7 @@ impl<'n, A: Allocator> Drop for Needles<'n, A> {
             Needles::Few(_) => {}
             Needles::Many(_) => {}
             Needles::GivenUp => {}
+            Needles::TooSlow => {}
         }
     }
 }
@@ -59,7 +63,15 @@ impl<'n, A: Allocator> Needles<'n, A> {
         match self {
             Needles::Few(list) => list.is_empty(),
             Needles::Many(_) => false,
-            Needles::GivenUp => true,
+            Needles::GivenUp | Needles::TooSlow => true,
+        }
+    }
+
+    /// Whether to compare them with the text takes too long.
+    pub fn are_too_slow(&self) -> bool {
+        match self {
+            Needles::TooSlow => true,
+            Needles::Few(_) | Needles::Many(_) | Needles::GivenUp => false,
         }
     }
 
@@ -79,7 +91,7 @@ impl<'n, A: Allocator> Needles<'n, A> {
                 None => NextLine::Nowhere,
             },
             Needles::Many(set) => set.next_line(query, bytes, at),
-            Needles::GivenUp => NextLine::GaveUp,
+            Needles::GivenUp | Needles::TooSlow => NextLine::GaveUp,
         }
     }
 }

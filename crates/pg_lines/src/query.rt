@@ -184,7 +184,7 @@ impl<A: Allocator> Query<A> {
         let trees = trees_of(alloc, &text)?;
         let machine = machine_of(alloc, &text, trees.as_slice())?;
         let literals = literals_of(alloc, &text, trees.as_slice())?;
-        let literal_set = LiteralSet::of(alloc, &literals, text.is_fixed())?;
+        let literal_set = LiteralSet::of(alloc, &literals, text.is_fixed(), text.bounds())?;
         Ok(Query {
             text,
             machine,

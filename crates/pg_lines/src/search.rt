@@ -100,6 +100,28 @@ fn next_matched<A: Allocator>(
     None
 }
 
+/// The same, where the automaton alone is asked.
+fn next_by_automaton<A: Allocator>(
+    query: &Query<A>,
+    scratch: &mut Scratch<A>,
+    bytes: &[u8],
+    at: usize,
+) -> Option<Span>
+    requires at { at ≤ length bytes.now }
+    requires fits { Fits scratch.old query.now.machine }
+    requires short { AreShort (terminator_of query.now.text) (drop at bytes.now) }
+    ensures fits { Fits scratch.new query.now.machine }
+    ensures within { IfSome result (λ line. (at ≤ line.start) × (line.start < line.end)
+        × (line.end ≤ length bytes.now)) }
+    ensures some { (trees : List Pattern) → AreTreesOf query.now.text trees →
+        IfSome result (IsNextLine (search_of (uninverted query.now.text) trees) at (drop at bytes.now)) }
+    ensures none { (trees : List Pattern) → AreTreesOf query.now.text trees →
+        IfNone result (AllLines (search_of (uninverted query.now.text) trees) false (drop at bytes.now)) }
+{
+    let strings = BlockStrings::new(None, None, bytes);
+    next_matched(query, &strings, scratch, bytes, at)
+}
+
 /// The first line with a hit at or behind a place where a line starts, with its terminator, where such lines hold a
 /// needle: only those that do are looked at. If too many of them have none, needles are looked for no more.
 fn next_confirmed<A: Allocator>(
@@ -133,8 +155,8 @@ fn next_confirmed<A: Allocator>(
             NextLine::Found(found) => found,
             NextLine::Nowhere => return None,
             NextLine::GaveUp => {
-                *needles = Needles::GivenUp;
-                return next_matched(query, strings, scratch, bytes, from);
+                *needles = Needles::TooSlow;
+                return next_by_automaton(query, scratch, bytes, from);
             }
         };
         let line = found.line;
@@ -173,6 +195,9 @@ fn next_hit<A: Allocator>(
     ensures none { (trees : List Pattern) → AreTreesOf query.now.text trees →
         IfNone result (AllLines (search_of (uninverted query.now.text) trees) false (drop at bytes.now)) }
 {
+    if needles.are_too_slow() {
+        return next_by_automaton(query, scratch, bytes, at);
+    }
     if needles.is_empty() {
         next_matched(query, strings, scratch, bytes, at)
     } else {

@@ -1,5 +1,6 @@
 -- What is known of the matches of some patterns in a row.
-use Rattle.std.specs.Prelude.{◌≡◌, ◌⊎◌, ◌≤◌, ◌<◌, ℕ, zero, suc, ◌+◌, Bool, List, [], ◌++◌, length, map, Option, Some, IfSome, true}
+use Rattle.std.specs.Prelude.{◌≡◌, ◌⊎◌, ◌≤◌, ◌<◌, ℕ, zero, suc, ◌+◌, Bool, List, [], ◌++◌, length, map}
+use Rattle.std.specs.Prelude.{Option, Some, IfSome, true}
 use Rattle.std.specs.Prelude.{IsTrue}
 use Rattle.pg_bytes.specs.Sets.{Bytes, one}
 use Rattle.pg_syntax.specs.Patterns.{Pattern, Rep, folded}

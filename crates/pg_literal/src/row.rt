@@ -128,8 +128,24 @@ fn has_terminator(set: &ByteSet, count: usize) -> bool {
     count > 1 && (set.contains(b'\n') || set.contains(0))
 }
 
+/// The only byte of a set, if it has but one.
+fn single_byte(set: &ByteSet) -> Option<u8> {
+    let byte = first_byte(set)?;
+    let mut single = ByteSet::empty();
+    single.insert(byte);
+    if *set == single { Some(byte) } else { None }
+}
+
 /// The weight of a set. One without a byte that is searched for counts as if it had one.
 fn weight_of(set: &ByteSet, fold: bool) -> Weight {
+    // Most sets are of one byte, and are told so without a look at all others.
+    if let Some(byte) = single_byte(set) {
+        let is_searched = as_searched(byte, fold) == byte;
+        return Weight {
+            count: 1,
+            rarity: if is_searched { rarity_of(byte) } else { RAREST },
+        };
+    }
     let mut count: usize = 0;
     let mut rarity: usize = RAREST;
     for byte in 0..=u8::MAX {

@@ -113,29 +113,29 @@ pub returns-clause-some : goal.returns-clause-some
 returns-clause-some g c = λ trees spelled.
     let q = search_of (uninverted c.args.query.now.text) trees in
     let is = c.loop-in_vain.invariant.skipped trees spelled in
-    if_some _ _ c.next_matched-2.result (skipped_some q c.args.at c.loop-in_vain.from c.args.bytes.now is)
-    (c.next_matched-2.ensures.some trees spelled)
+    if_some _ _ c.next_matched.result (skipped_some q c.args.at c.loop-in_vain.from c.args.bytes.now is)
+    (c.next_matched.ensures.some trees spelled)
 
 pub returns-clause-none : goal.returns-clause-none
 returns-clause-none g c = λ trees spelled.
     let q = search_of (uninverted c.args.query.now.text) trees in
     let is = c.loop-in_vain.invariant.skipped trees spelled in
-    if_none _ _ c.next_matched-2.result (skipped_all q c.args.at c.loop-in_vain.from c.args.bytes.now is)
-    (c.next_matched-2.ensures.none trees spelled)
+    if_none _ _ c.next_matched.result (skipped_all q c.args.at c.loop-in_vain.from c.args.bytes.now is)
+    (c.next_matched.ensures.none trees spelled)
 
 pub returns-in-GaveUp-clause-some : goal.returns-in-GaveUp-clause-some
 returns-in-GaveUp-clause-some g c = λ trees spelled.
     let q = search_of (uninverted c.args.query.now.text) trees in
     let is = c.loop-in_vain.invariant.skipped trees spelled in
-    if_some _ _ c.next_matched.result (skipped_some q c.args.at c.loop-in_vain.from c.args.bytes.now is)
-    (c.next_matched.ensures.some trees spelled)
+    if_some _ _ c.next_by_automaton.result (skipped_some q c.args.at c.loop-in_vain.from c.args.bytes.now is)
+    (c.next_by_automaton.ensures.some trees spelled)
 
 pub returns-in-GaveUp-clause-none : goal.returns-in-GaveUp-clause-none
 returns-in-GaveUp-clause-none g c = λ trees spelled.
     let q = search_of (uninverted c.args.query.now.text) trees in
     let is = c.loop-in_vain.invariant.skipped trees spelled in
-    if_none _ _ c.next_matched.result (skipped_all q c.args.at c.loop-in_vain.from c.args.bytes.now is)
-    (c.next_matched.ensures.none trees spelled)
+    if_none _ _ c.next_by_automaton.result (skipped_all q c.args.at c.loop-in_vain.from c.args.bytes.now is)
+    (c.next_by_automaton.ensures.none trees spelled)
 
 pub next_line-requires-clause-at : goal.next_line-requires-clause-at
 next_line-requires-clause-at g c = c.loop-in_vain.invariant.within
@@ -161,17 +161,17 @@ returns-in-Nowhere-clause-some g c = λ trees spelled. tt
 pub has_hit-requires-clause-fits : goal.has_hit-requires-clause-fits
 has_hit-requires-clause-fits g c = c.loop-in_vain.invariant.fits
 
-pub next_matched-requires-2-clause-at : goal.next_matched-requires-2-clause-at
-next_matched-requires-2-clause-at g c = c.loop-in_vain.invariant.within
+pub next_matched-requires-clause-at : goal.next_matched-requires-clause-at
+next_matched-requires-clause-at g c = c.loop-in_vain.invariant.within
 
-pub next_matched-requires-2-clause-fits : goal.next_matched-requires-2-clause-fits
-next_matched-requires-2-clause-fits g c = c.loop-in_vain.invariant.fits
+pub next_matched-requires-clause-fits : goal.next_matched-requires-clause-fits
+next_matched-requires-clause-fits g c = c.loop-in_vain.invariant.fits
 
-pub next_matched-requires-2-clause-short : goal.next_matched-requires-2-clause-short
-next_matched-requires-2-clause-short g c = c.loop-in_vain.invariant.short
+pub next_matched-requires-clause-short : goal.next_matched-requires-clause-short
+next_matched-requires-clause-short g c = c.loop-in_vain.invariant.short
 
 pub returns-clause-fits : goal.returns-clause-fits
-returns-clause-fits g c = c.next_matched-2.ensures.fits
+returns-clause-fits g c = c.next_matched.ensures.fits
 
 pub has_hit-requires-clause-line : goal.has_hit-requires-clause-line
 has_hit-requires-clause-line g c =
@@ -183,6 +183,3 @@ has_hit-requires-clause-line g c =
 
 pub next_matched-requires-clause-strings : goal.next_matched-requires-clause-strings
 next_matched-requires-clause-strings g c = c.requires.strings
-
-pub next_matched-requires-2-clause-strings : goal.next_matched-requires-2-clause-strings
-next_matched-requires-2-clause-strings g c = c.requires.strings

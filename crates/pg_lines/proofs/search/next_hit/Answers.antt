@@ -59,3 +59,8 @@ next_matched-requires-clause-strings g c = c.requires.strings
 
 pub next_confirmed-requires-clause-strings : goal.next_confirmed-requires-clause-strings
 next_confirmed-requires-clause-strings g c = c.requires.strings
+
+pub returns-then-are_too_slow-clause-needles : goal.returns-then-are_too_slow-clause-needles
+returns-then-are_too_slow-clause-needles g c =
+    needles_behind c.args.query.now.text c.args.bytes.now c.args.at c.args.needles.now c.next_by_automaton.result
+    c.requires.needles c.next_by_automaton.ensures.within
