@@ -4,11 +4,12 @@ _pargrep() {
   local -a options=(
     -A --after-context= -B --before-context= -C --context= -D --devices= -d --directories= -E --extended-regexp -F
     --fixed-strings -G --basic-regexp -H --with-filename -L --files-without-match -T --initial-tab -U --binary -V
-    --version -Z --null -a --text -c --count -e --regexp= -f --file= -h --no-filename -i -y --ignore-case
-    --no-ignore-case -l --files-with-matches -m --max-count= -n --line-number -o --only-matching -q --quiet --silent
-    -R --dereference-recursive -r --recursive -s --no-messages -v --invert-match -w --word-regexp -x --line-regexp
-    -z --null-data --binary-files= --block= --color= --colour= --exclude= --exclude-dir= --exclude-from= --help
-    --include= --label= --line-buffered --no-group-separator --round= --workers=
+    --version -Z --null -a --text -b --byte-offset -c --count -e --regexp= -f --file= -h --no-filename -i -y
+    --ignore-case --no-ignore-case -l --files-with-matches -m --max-count= -n --line-number -o --only-matching -q
+    --quiet --silent -R --dereference-recursive -r --recursive -s --no-messages -v --invert-match -w --word-regexp
+    -x --line-regexp -z --null-data --binary-files= --block= --color= --colour= --exclude= --exclude-dir=
+    --exclude-from= --group-separator= --help --include= --label= --line-buffered --no-group-separator --round=
+    --workers=
   )
   COMPREPLY=()
   # Where bash cuts words at `=`, that is a word of its own.
@@ -25,7 +26,8 @@ _pargrep() {
   esac
   case $before in
     -[ABCDdem] | --after-context | --before-context | --context | --devices | --directories | --regexp | --max-count | \
-      --binary-files | --block | --exclude | --exclude-dir | --include | --label | --round | --workers)
+      --binary-files | --block | --exclude | --exclude-dir | --group-separator | --include | --label | --round | \
+      --workers)
       return ;;
   esac
   case $current in

@@ -4,7 +4,7 @@ ghost use Rattle.pg_files.specs.Given.{nothing_given};
 
 use crate::fixtures::{Counting, Meeting, PATIENCE, text};
 use pg_files::{Ending, Files, Listed, MemFiles, MemStore};
-use pg_rows::{Format, MemSink, Mode, Sink, WriteError};
+use pg_rows::{Format, MemSink, Mode, Separator, Sink, WriteError};
 use pg_run::{FreeGate, Gate, RunFault, Setup, run};
 use pg_walk::{FileKind, MemTree, Node, Scope};
 use std::alloc::Global;
@@ -24,8 +24,9 @@ pub(crate) fn setup(workers: u32, round: u32) -> Setup
             names: false,
             null: false,
             tabs: false,
-            separators: true,
+            separator: Some(Separator::hyphens()),
             numbers: false,
+            offsets: false,
             mode: Mode::Rows,
             parts: false,
             colored: false,

@@ -18,9 +18,11 @@ use Rattle.pg_rows.specs.Colors.{escape, in_color, name_color, number_color, mar
 use Rattle.pg_rows.specs.Colors.{without_from, without_escapes}
 use Rattle.pg_rows.specs.Modes.{is_named, rows_in}
 use Rattle.pg_rows.specs.Output.{is_nothing, when, row, tab_before, gap_text, painted, shown_text, told_parts, line_at}
+use Rattle.pg_rows.specs.Output.{has_prefix, line_start, number_text}
 use Rattle.pg_rows.specs.Output.{separator, is_shown, is_kept, mark_of, members, line_rows, piece_rows, count_row}
 use Rattle.pg_rows.specs.Output.{name_row}
 use Rattle.pg_rows.specs.Output.{file_rows, name_text, name_end, name_mark, mark_text, has_separators, is_behind}
+use Rattle.pg_rows.specs.Separator.{text_between}
 use Rattle.pg_rows.proofs.PieceLemmas.{Ascend, told_ascend}
 
 -- Bytes without an ESC.
@@ -232,12 +234,11 @@ module _ (q : Search) (format : Format) where
       (strips_append (name_text on name) (name_end on mark) name (name_end off mark) (strips_name name h)
       (strips_end mark k))
 
-  strips_number : (number mark : ℕ) → IsOther mark
-      → Strips (when format.numbers (in_color true number_color (decimal number) ++ mark_text on mark))
-      (when format.numbers (decimal number ++ mark ∷ []))
-  strips_number number mark k =
+  strips_number : (shown : Bool) (number mark : ℕ) → IsOther mark
+      → Strips (when shown (number_text on mark number)) (when shown (decimal number ++ mark ∷ []))
+  strips_number shown number mark k =
       let digits = in_color true number_color (decimal number) in
-      strips_when format.numbers (digits ++ mark_text on mark) (decimal number ++ mark ∷ [])
+      strips_when shown (digits ++ mark_text on mark) (decimal number ++ mark ∷ [])
       (strips_append digits (mark_text on mark) (decimal number) (mark ∷ [])
       (strips_color number_color (decimal number) number_escape (clean_decimal number)) (strips_mark mark k))
 
@@ -245,81 +246,88 @@ module _ (q : Search) (format : Format) where
   strips_tab a b e =
       strips_as (tab_before on (not a)) (tab_before off (not a)) (tab_before off (not b))
       (ap (λ t. tab_before off (not t)) e)
-      (strips_when (format.tabs && ((format.names || format.numbers) && not a)) (9 ∷ []) (9 ∷ [])
+      (strips_when (format.tabs && (has_prefix format && not a)) (9 ∷ []) (9 ∷ [])
       (strips_clean (9 ∷ []) ((λ (t : 9 ≡ 27). omega (arith, t)), tt)))
 
-  strips_row : (name : List ℕ) (number mark : ℕ) (text plain : List ℕ) → IsClean name → IsOther mark
+  strips_row : (name : List ℕ) (number offset mark : ℕ) (text plain : List ℕ) → IsClean name → IsOther mark
       → is_nothing text ≡ is_nothing plain → Strips text plain
-      → Strips (row on end name number mark text) (row off end name number mark plain)
-  strips_row name number mark text plain h k e s =
+      → Strips (row on end name number offset mark text) (row off end name number offset mark plain)
+  strips_row name number offset mark text plain h k e s =
       let a = when format.names (name_text on name ++ name_end on mark) in
       let a' = when format.names (name ++ name_end off mark) in
-      let b = when format.numbers (in_color true number_color (decimal number) ++ mark_text on mark) in
+      let b = when format.numbers (number_text on mark number) in
       let b' = when format.numbers (decimal number ++ mark ∷ []) in
+      let c = when format.offsets (number_text on mark offset) in
+      let c' = when format.offsets (decimal offset ++ mark ∷ []) in
       let t = tab_before on (not (is_nothing text)) in
       let t' = tab_before off (not (is_nothing plain)) in
-      strips_append (a ++ b ++ t ++ text) (end ∷ []) (a' ++ b' ++ t' ++ plain) (end ∷ [])
-      (strips_append (a ++ b ++ t) text (a' ++ b' ++ t') plain
-      (strips_append (a ++ b) t (a' ++ b') t' (strips_append a b a' b' (strips_named name mark h k)
-      (strips_number number mark k)) (strips_tab (is_nothing text) (is_nothing plain) e)) s)
+      strips_append (a ++ b ++ c ++ t ++ text) (end ∷ []) (a' ++ b' ++ c' ++ t' ++ plain) (end ∷ [])
+      (strips_append (a ++ b ++ c ++ t) text (a' ++ b' ++ c' ++ t') plain
+      (strips_append (a ++ b ++ c) t (a' ++ b' ++ c') t'
+      (strips_append (a ++ b) c (a' ++ b') c' (strips_append a b a' b' (strips_named name mark h k)
+      (strips_number format.numbers number mark k)) (strips_number format.offsets offset mark k))
+      (strips_tab (is_nothing text) (is_nothing plain) e)) s)
       (strips_clean (end ∷ []) (end_clean, tt))
 
-  strips_gap : Strips (gap_text on end) (gap_text off end)
-  strips_gap =
-      let hyphens : List ℕ = 45 ∷ 45 ∷ [] in
-      let hyphen : IsOther 45 = λ (e : 45 ≡ 27). omega (arith, e) in
-      strips_append (in_color true mark_color hyphens) (end ∷ []) hyphens (end ∷ [])
-      (strips_color mark_color hyphens mark_escape (hyphen, (hyphen, tt))) (strips_clean (end ∷ []) (end_clean, tt))
+  strips_gap : IsClean (text_between format.separator) → Strips (gap_text on end) (gap_text off end)
+  strips_gap h =
+      let text = text_between format.separator in
+      strips_append (in_color true mark_color text) (end ∷ []) text (end ∷ [])
+      (strips_color mark_color text mark_escape h) (strips_clean (end ∷ []) (end_clean, tt))
 
   -- a line's row
-  strips_line : (name : List ℕ) (number : ℕ) (l : List ℕ) → IsClean name → IsClean l → (kept : Bool)
-      → Strips (row on end name number (mark_of kept) (shown_text q on kept l))
-      (row off end name number (mark_of kept) (shown_text q off kept l))
-  strips_line name number l h k true =
-      strips_row name number 58 (painted q on l) l h (λ (e : 58 ≡ 27). omega (arith, e))
+  strips_line : (name : List ℕ) (number offset : ℕ) (l : List ℕ) → IsClean name → IsClean l → (kept : Bool)
+      → Strips (row on end name number offset (mark_of kept) (shown_text q on kept l))
+      (row off end name number offset (mark_of kept) (shown_text q off kept l))
+  strips_line name number offset l h k true =
+      strips_row name number offset 58 (painted q on l) l h (λ (e : 58 ≡ 27). omega (arith, e))
       (painted_nothing l (told_parts q l) (told_ascend q l)) (strips_painted l 0 (told_parts q l) (told_ascend q l) k)
-  strips_line name number l h k false =
-      strips_row name number 45 l l h (λ (e : 45 ≡ 27). omega (arith, e)) refl (strips_clean l k)
+  strips_line name number offset l h k false =
+      strips_row name number offset 45 l l h (λ (e : 45 ≡ 27). omega (arith, e)) refl (strips_clean l k)
 
   strips_lines : (name : List ℕ) (ls : List (List ℕ)) (earlier : Bool) → IsClean name → AllByRecursion IsClean ls
+      → IsClean (text_between format.separator)
       → Strips (line_rows q on name ls earlier) (line_rows q off name ls earlier)
-  strips_lines name ls earlier h k =
+  strips_lines name ls earlier h k g =
       let shown = is_shown q format ls in
       let kept = is_kept q format.limit ls in
       let apart : ℕ → Bool = λ i.
       has_separators format && not (is_behind shown i) && (earlier || list_any shown (range_with_len 0 i)) in
       let given : Format → ℕ → List ℕ = λ f i. separator f end shown earlier i
-      ++ row f end name (i + 1) (mark_of (kept i)) (shown_text q f (kept i) (line_at ls i)) in
+      ++ row f end name (i + 1) (line_start ls i) (mark_of (kept i)) (shown_text q f (kept i) (line_at ls i)) in
       strips_all (given on) (given off) (members shown ls) (λ i.
       strips_append (separator on end shown earlier i)
-      (row on end name (i + 1) (mark_of (kept i)) (shown_text q on (kept i) (line_at ls i)))
+      (row on end name (i + 1) (line_start ls i) (mark_of (kept i)) (shown_text q on (kept i) (line_at ls i)))
       (separator off end shown earlier i)
-      (row off end name (i + 1) (mark_of (kept i)) (shown_text q off (kept i) (line_at ls i)))
-      (strips_when (apart i) (gap_text on end) (gap_text off end) strips_gap)
-      (strips_line name (i + 1) (line_at ls i) h (clean_line ls i k) (kept i)))
+      (row off end name (i + 1) (line_start ls i) (mark_of (kept i)) (shown_text q off (kept i) (line_at ls i)))
+      (strips_when (apart i) (gap_text on end) (gap_text off end) (strips_gap g))
+      (strips_line name (i + 1) (line_start ls i) (line_at ls i) h (clean_line ls i k) (kept i)))
 
   -- the rows of the parts of a line
-  strips_parts : (name : List ℕ) (number : ℕ) (l : List ℕ) (at : ℕ) (ps : List (ℕ × ℕ)) → IsClean name → IsClean l
-      → Ascend l at ps
-      → Strips (flat_map (λ p. row on end name number 58 (in_color true part_color (slice_range l p.0 p.1))) ps)
-      (flat_map (λ p. row off end name number 58 (slice_range l p.0 p.1)) ps)
-  strips_parts name number l at [] h k a = λ ys. refl
-  strips_parts name number l at (p ∷ ps) h k a =
+  strips_parts : (name : List ℕ) (number offset : ℕ) (l : List ℕ) (at : ℕ) (ps : List (ℕ × ℕ)) → IsClean name
+      → IsClean l → Ascend l at ps
+      → Strips (flat_map (λ p. row on end name number (offset + p.0) 58
+      (in_color true part_color (slice_range l p.0 p.1))) ps)
+      (flat_map (λ p. row off end name number (offset + p.0) 58 (slice_range l p.0 p.1)) ps)
+  strips_parts name number offset l at [] h k a = λ ys. refl
+  strips_parts name number offset l at (p ∷ ps) h k a =
       let own = slice_range l p.0 p.1 in
-      strips_append (row on end name number 58 (in_color true part_color own))
-      (flat_map (λ p. row on end name number 58 (in_color true part_color (slice_range l p.0 p.1))) ps)
-      (row off end name number 58 own) (flat_map (λ p. row off end name number 58 (slice_range l p.0 p.1)) ps)
-      (strips_row name number 58 (in_color true part_color own) own h (λ (e : 58 ≡ 27). omega (arith, e))
+      let place : ℕ = offset + p.0 in
+      strips_append (row on end name number place 58 (in_color true part_color own))
+      (flat_map (λ p. row on end name number (offset + p.0) 58 (in_color true part_color (slice_range l p.0 p.1))) ps)
+      (row off end name number place 58 own)
+      (flat_map (λ p. row off end name number (offset + p.0) 58 (slice_range l p.0 p.1)) ps)
+      (strips_row name number place 58 (in_color true part_color own) own h (λ (e : 58 ≡ 27). omega (arith, e))
       (sym (slice_some l p.0 p.1 a.1 a.2)) (strips_color part_color own part_escape (clean_slice l p.0 p.1 k)))
-      (strips_parts name number l p.1 ps h k a.3)
+      (strips_parts name number offset l p.1 ps h k a.3)
 
   strips_pieces : (name : List ℕ) (ls : List (List ℕ)) → IsClean name → AllByRecursion IsClean ls
       → Strips (piece_rows q on name ls) (piece_rows q off name ls)
   strips_pieces name ls h k =
-      let given : Format → ℕ → List ℕ = λ f i. flat_map (λ p. row f end name (i + 1) 58
+      let given : Format → ℕ → List ℕ = λ f i. flat_map (λ p. row f end name (i + 1) (line_start ls i + p.0) 58
       (in_color f.colored part_color (slice_range (line_at ls i) p.0 p.1))) (told_parts q (line_at ls i)) in
       strips_all (given on) (given off) (members (is_kept q format.limit ls) ls) (λ i.
-      strips_parts name (i + 1) (line_at ls i) 0 (told_parts q (line_at ls i)) h (clean_line ls i k)
+      strips_parts name (i + 1) (line_start ls i) (line_at ls i) 0 (told_parts q (line_at ls i)) h (clean_line ls i k)
       (told_ascend q (line_at ls i)))
 
   strips_count : (name : List ℕ) (ls : List (List ℕ)) → IsClean name
@@ -354,11 +362,11 @@ strips_mode Others rows count name rows' count' name' r c n = n
 strips_mode Quiet rows count name rows' count' name' r c n = λ ys. refl
 
 pub colors_add : (q : Search) (format : Format) (name bytes : List ℕ) (ended earlier : Bool)
-    → (Contains name 27 → ⊥) → (Contains bytes 27 → ⊥)
+    → (Contains name 27 → ⊥) → (Contains bytes 27 → ⊥) → (Contains (text_between format.separator) 27 → ⊥)
     → without_escapes (file_rows q (record format { colored = true }) name bytes ended earlier)
     ≡ file_rows q (record format { colored = false }) name bytes ended earlier
 unfolding file_rows
-colors_add q format name bytes ended earlier clear_name clear_bytes =
+colors_add q format name bytes ended earlier clear_name clear_bytes clear_text =
     let on : Format = record format { colored = true } in
     let off : Format = record format { colored = false } in
     let ls = lines (terminator q) bytes in
@@ -381,3 +389,4 @@ colors_add q format name bytes ended earlier clear_name clear_bytes =
         (clean_lines (terminator q) bytes (clean bytes clear_bytes))
     of_rows false = strips_lines q format name (lines (terminator q) bytes) earlier (clean name clear_name)
         (clean_lines (terminator q) bytes (clean bytes clear_bytes))
+        (clean (text_between format.separator) clear_text)

@@ -11,7 +11,7 @@ use Rattle.pg_lines.specs.Selection.{selects}
 use Rattle.pg_rows.specs.declared.format.Format.{Format}
 use Rattle.pg_rows.specs.Modes.{is_named}
 use Rattle.pg_rows.specs.Output.{name_end, name_mark, name_text, is_below, when, row, is_nothing, painted, line_rows}
-use Rattle.pg_rows.specs.Output.{piece_rows, count_row, name_row}
+use Rattle.pg_rows.specs.Output.{piece_rows, count_row, name_row, size_of}
 use Rattle.pg_rows.specs.Sink.{IsBeginning}
 use Rattle.pg_rows.specs.Stretch.{prefix_text}
 use Rattle.pg_rows.specs.Trail.{Trail, no_lines, step, trail_of, added, run_rows, run, added_pieces, run_pieces}
@@ -105,10 +105,10 @@ pub some_append : (xs ys : List ℕ) → something (xs ++ ys) ≡ (something xs 
 some_append [] ys = refl
 some_append (x ∷ xs) ys = refl
 
-pub some_row : (format : Format) (end : ℕ) (name : List ℕ) (number mark : ℕ) (text : List ℕ)
-    → something (row format end name number mark text) ≡ true
-some_row format end name number mark text =
-    let front = prefix_text format name number mark (not (is_nothing text)) ++ text in
+pub some_row : (format : Format) (end : ℕ) (name : List ℕ) (number offset mark : ℕ) (text : List ℕ)
+    → something (row format end name number offset mark text) ≡ true
+some_row format end name number offset mark text =
+    let front = prefix_text format name number offset mark (not (is_nothing text)) ++ text in
     some_append front (end ∷ []) ∙ or_right (something front) true refl
 
 or_turn : (a r s : Bool) → ((a || r) || s) ≡ (r || (a || s))
@@ -126,20 +126,21 @@ step_some q format name earlier ls m t h = go (keeps format t (selects q m)) (na
     go : (a b : Bool) → nat_lt 0 t.countdown ≡ b
         → (cond a (after_kept format t) (cond b (after_context t) (after_other format t m))).some ≡
         (something (cond a (kept_rows format (terminator q) name earlier t (painted q format m))
-        (when b (row format (terminator q) name (t.number + 1) 45 m))) || t.some)
+        (when b (row format (terminator q) name (t.number + 1) t.offset 45 m))) || t.some)
     go true b e =
         let end = terminator q in
-        let own = row format end name (t.number + 1) 58 (painted q format m) in
-        let front = context_rows format end name ((t.number + 1) - length t.window) t.window in
+        let own = row format end name (t.number + 1) t.offset 58 (painted q format m) in
+        let front = context_rows format end name ((t.number + 1) - length t.window) (t.offset - size_of t.window)
+        t.window in
         let inner : something (front ++ own) ≡ true = some_append front own
-        ∙ or_right (something front) (something own) (some_row format end name (t.number + 1) 58
+        ∙ or_right (something front) (something own) (some_row format end name (t.number + 1) t.offset 58
         (painted q format m)) in
         sym (ap (λ b. b || t.some) (some_append (gap_row format end earlier t) (front ++ own)
         ∙ or_right (something (gap_row format end earlier t)) (something (front ++ own)) inner))
     go false true e =
         let pos : 0 < t.countdown = ltb-true 0 t.countdown e in
         let some : t.some ≡ true = h.some ∙ lt-ltb 0 h.done (h.near.flush pos).1 in
-        some ∙ sym (or_right (something (row format (terminator q) name (t.number + 1) 45 m)) t.some some)
+        some ∙ sym (or_right (something (row format (terminator q) name (t.number + 1) t.offset 45 m)) t.some some)
     go false false e = refl
 
 pub run_some : (q : Search) (format : Format) (name : List ℕ) (earlier : Bool) (ls ms : List (List ℕ)) (t : Trail)

@@ -1,6 +1,7 @@
 pub mod ModeLemmas
 pub mod NearLemmas
 pub mod PutLemmas
+pub mod SizeLemmas
 pub mod TrailLemmas
 pub mod FoldLemmas
 pub mod CursorLaws
@@ -8,6 +9,7 @@ pub mod EnoughLemmas
 pub mod StretchLemmas
 pub mod ProgressLemmas
 pub mod BlockLemmas
+pub mod SeparatorLemmas
 pub mod SinkLemmas
 pub mod HistorySteps
 pub mod WriteLemmas

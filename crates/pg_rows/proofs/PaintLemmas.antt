@@ -22,7 +22,7 @@ use Rattle.pg_rows.specs.Colors.{in_color, painted_from, part_color}
 use Rattle.pg_rows.specs.Output.{painted, row, told_parts}
 use Rattle.pg_rows.specs.Sink.{Stream}
 use Rattle.pg_rows.specs.Pieces.{told_of_lines}
-use Rattle.pg_rows.specs.Stretch.{AllSelected, marked_rows}
+use Rattle.pg_rows.specs.Stretch.{AllSelected, marked_rows, plain}
 use Rattle.pg_rows.specs.Painting.{painted_bytes, AreAscending, IsTold, count_before}
 use Rattle.pg_rows.proofs.FoldLemmas.{something, some_append}
 use Rattle.pg_rows.proofs.PieceLemmas.{Ascend, slice_in, told_ascend}
@@ -254,50 +254,56 @@ line_painted q format bytes l at stop seen own colored is ordered within own_is 
 -- Line by line.
 
 -- the rows of the lines from a place on are left to write, and their parts are left
-pub record AreToPrint (q : Search) (format : Format) (end : ℕ) (name : List ℕ) (number : ℕ) (bytes : List ℕ)
+pub record AreToPrint (q : Search) (format : Format) (end : ℕ) (name : List ℕ) (number offset : ℕ) (bytes : List ℕ)
     (from line : ℕ) (parts : List Part) (at done used : ℕ) (before after : Stream) : Type 0 where
   pub told : drop used parts ≡ told_of_lines q at (line + done) (lines end (drop at bytes))
   pub selected : AllSelected q true (lines end (drop at bytes))
-  pub left : WritesAllBut (marked_rows format end name 58 number (map (painted q format) (lines end (drop from bytes))))
-      (marked_rows format end name 58 (number + done) (map (painted q format) (lines end (drop at bytes)))) before after
+  pub left : WritesAllBut
+      (marked_rows format end name 58 (painted q format) number offset (lines end (drop from bytes)))
+      (marked_rows format end name 58 (painted q format) (number + done) (offset + (at - from))
+      (lines end (drop at bytes))) before after
 
-pub none_printed : (q : Search) (format : Format) (end : ℕ) (name : List ℕ) (number : ℕ) (bytes : List ℕ)
+pub none_printed : (q : Search) (format : Format) (end : ℕ) (name : List ℕ) (number offset : ℕ) (bytes : List ℕ)
     (from line : ℕ) (parts : List Part) (before : Stream) → IsTold q true end bytes from line parts
-    → AreToPrint q format end name number bytes from line parts from 0 0 before before
-none_printed q format end name number bytes from line parts before told =
+    → AreToPrint q format end name number offset bytes from line parts from 0 0 before before
+none_printed q format end name number offset bytes from line parts before told =
     let ls = lines end (drop from bytes) in
-    let rows : ℕ → List ℕ = λ n. marked_rows format end name 58 n (map (painted q format) ls) in
+    let rows : ℕ → ℕ → List ℕ = λ n o. marked_rows format end name 58 (painted q format) n o ls in
     let same_line : line ≡ line + 0 = omega arith in
     let same_number : number ≡ number + 0 = omega arith in
-    let P : ℕ → Type 0 = λ n. WritesAllBut (rows number) (rows n) before before in
+    let same_offset : offset ≡ offset + (from - from) = omega arith in
+    let P : ℕ → Type 0 = λ n. WritesAllBut (rows number offset) (rows n (offset + (from - from))) before before in
+    let Q : ℕ → Type 0 = λ o. WritesAllBut (rows number offset) (rows number o) before before in
     record {
       told = told.parts_are refl ∙ ap (λ n. told_of_lines q from n ls) same_line;
       selected = told.selected;
-      left = subst P same_number (left_whole (rows number) before);
+      left = subst P same_number (subst Q same_offset (left_whole (rows number offset) before));
     }
 
 -- the next line: its parts, its row, and what is left behind it
-pub record PrintsLine (q : Search) (format : Format) (end : ℕ) (name : List ℕ) (number : ℕ) (bytes : List ℕ)
-    (line : ℕ) (parts : List Part) (at stop done used next : ℕ) : Type 0 where
+pub record PrintsLine (q : Search) (format : Format) (end : ℕ) (name : List ℕ) (number offset : ℕ) (bytes : List ℕ)
+    (from line : ℕ) (parts : List Part) (at stop done used next : ℕ) : Type 0 where
   pub ordered : used ≤ next
   pub within : next ≤ length parts
   pub ascend : AreAscending at stop (slice_range parts used next)
-  pub rows : marked_rows format end name 58 (number + done) (map (painted q format) (lines end (drop at bytes)))
-      ≡ row format end name (number + done) 58 (painted_bytes bytes at stop (slice_range parts used next))
-      ++ marked_rows format end name 58 (number + (done + 1))
-      (map (painted q format) (lines end (drop (stop + 1) bytes)))
+  pub rows : marked_rows format end name 58 (painted q format) (number + done) (offset + (at - from))
+      (lines end (drop at bytes))
+      ≡ row format end name (number + done) (offset + (at - from)) 58
+      (painted_bytes bytes at stop (slice_range parts used next))
+      ++ marked_rows format end name 58 (painted q format) (number + (done + 1)) (offset + ((stop + 1) - from))
+      (lines end (drop (stop + 1) bytes))
   pub told : drop next parts ≡ told_of_lines q (stop + 1) (line + (done + 1)) (lines end (drop (stop + 1) bytes))
   pub selected : AllSelected q true (lines end (drop (stop + 1) bytes))
 
-pub prints_line : (q : Search) (format : Format) (end : ℕ) (name : List ℕ) (number : ℕ) (bytes : List ℕ)
+pub prints_line : (q : Search) (format : Format) (end : ℕ) (name : List ℕ) (number offset : ℕ) (bytes : List ℕ)
     (from line : ℕ) (parts : List Part) (at stop done used next : ℕ) (before after : Stream)
-    → AreToPrint q format end name number bytes from line parts at done used before after
+    → AreToPrint q format end name number offset bytes from line parts at done used before after → from ≤ at
     → format.colored ≡ true → used ≤ length parts → at ≤ stop → stop ≤ length bytes
     → lines end (drop at bytes) ≡ slice_range bytes at stop ∷ lines end (drop (stop + 1) bytes)
     → next ≡ used + count_before (line + done + 1) (drop used parts)
-    → PrintsLine q format end name number bytes line parts at stop done used next
-prints_line q format end name number bytes from line parts at stop done used next before after h colored fits low high
-    is size =
+    → PrintsLine q format end name number offset bytes from line parts at stop done used next
+prints_line q format end name number offset bytes from line parts at stop done used next before after h begun colored
+    fits low high is size =
     let l = slice_range bytes at stop in
     let ls = lines end (drop (stop + 1) bytes) in
     let seen : ℕ = line + done in
@@ -319,28 +325,37 @@ prints_line q format end name number bytes from line parts at stop done used nex
     let line_number : seen + 1 ≡ line + (done + 1) = omega arith in
     let painting = line_painted q format bytes l at stop seen (slice_range parts used next) colored refl low high
     a.own_is in
-    let texts = map (painted q format) ls in
+    let here : ℕ = offset + (at - from) in
+    let further : here + (length l + 1) ≡ offset + ((stop + 1) - from) = omega arith in
+    let own_row : List ℕ → List ℕ = λ xs. row format end name (number + done) here 58 xs in
     record {
       ordered = a.ordered;
       within = a.within;
       ascend = painting.ascend;
-      rows = ap (λ xs. marked_rows format end name 58 (number + done) (map (painted q format) xs)) is
-          ∙ (ap (λ xs. row format end name (number + done) 58 xs ++ marked_rows format end name 58
-          ((number + done) + 1) texts) (sym painting.text)
-          ∙ ap (λ n. row format end name (number + done) 58 (painted_bytes bytes at stop (slice_range parts used next))
-          ++ marked_rows format end name 58 n texts) row_number);
+      rows = ap (λ xs. marked_rows format end name 58 (painted q format) (number + done) here xs) is
+          ∙ (ap (λ xs. own_row xs ++ marked_rows format end name 58 (painted q format)
+          ((number + done) + 1) (here + (length l + 1)) ls) (sym painting.text)
+          ∙ (ap (λ n. own_row (painted_bytes bytes at stop (slice_range parts used next))
+          ++ marked_rows format end name 58 (painted q format) n (here + (length l + 1)) ls) row_number
+          ∙ ap (λ o. own_row (painted_bytes bytes at stop (slice_range parts used next))
+          ++ marked_rows format end name 58 (painted q format) (number + (done + 1)) o ls) further));
       told = a.later_is ∙ (ap (λ n. told_of_lines q n (seen + 1) ls) place
           ∙ ap (λ n. told_of_lines q (stop + 1) n ls) line_number);
       selected = selected.1;
     }
 
 -- without colors a line's text is the line
-pub plain_texts : (q : Search) (format : Format) (ls : List (List ℕ)) → format.colored ≡ false
-    → ls ≡ map (painted q format) ls
-plain_texts q format [] plain = refl
-plain_texts q format (l ∷ ls) plain =
-    ap (λ xs. l ∷ xs) (plain_texts q format ls plain)
-    ∙ ap (λ b. cond b (painted_from l 0 (told_parts q l)) l ∷ map (painted q format) ls) (sym plain)
+pub plain_texts : (q : Search) (format : Format) (end : ℕ) (name : List ℕ) (mark number offset : ℕ)
+    (ls : List (List ℕ)) → format.colored ≡ false
+    → marked_rows format end name mark plain number offset ls
+    ≡ marked_rows format end name mark (painted q format) number offset ls
+plain_texts q format end name mark number offset [] off = refl
+plain_texts q format end name mark number offset (l ∷ ls) off =
+    let text : Bool → List ℕ = λ b. cond b (painted_from l 0 (told_parts q l)) l in
+    ap (λ xs. row format end name number offset mark l ++ xs)
+    (plain_texts q format end name mark (number + 1) (offset + (length l + 1)) ls off)
+    ∙ ap (λ b. row format end name number offset mark (text b)
+    ++ marked_rows format end name mark (painted q format) (number + 1) (offset + (length l + 1)) ls) (sym off)
 
 -- From one run of selected lines to the next.
 

@@ -23,7 +23,8 @@ use Rattle.pg_lines.proofs.LineLaws.{lines_are_lines}
 use Rattle.pg_rows.specs.declared.format.Format.{Format}
 use Rattle.pg_rows.specs.Colors.{in_color, part_color}
 use Rattle.pg_rows.specs.Output.{is_below, row, told_parts, when}
-use Rattle.pg_rows.specs.Trail.{Trail, keeps, after_kept, after_context, after_other, step, run_pieces, pieces_in}
+use Rattle.pg_rows.specs.Trail.{Trail, keeps, after_kept, after_context, after_other, with_offset, step, run_pieces}
+use Rattle.pg_rows.specs.Trail.{pieces_in}
 use Rattle.pg_rows.specs.Stretch.{part_row, part_rows, IsPartOf, no_part, AllSelected}
 use Rattle.pg_rows.specs.Pieces.{cut_at, told_of_lines, HasFound}
 use Rattle.pg_rows.proofs.StretchLemmas.{passed_pieces, full_unkept, step_kept, step_unkept}
@@ -125,22 +126,30 @@ slice_in bytes l at i j is ordered within =
 -- The rows of the parts of one line.
 
 -- the row of a part
-abbrev part_text : Format → ℕ → List ℕ → ℕ → List ℕ → List ℕ
-part_text format end name number text = row format end name number 58 (in_color format.colored part_color text)
+abbrev part_text : Format → ℕ → List ℕ → (number offset : ℕ) → List ℕ → List ℕ
+part_text format end name number offset text =
+    row format end name number offset 58 (in_color format.colored part_color text)
 
-own_rows : (format : Format) (end : ℕ) (name : List ℕ) (before number at seen : ℕ) (bytes l : List ℕ)
+-- where a line stands, by where the first line stands
+abbrev IsPlaced : (first start number offset at seen : ℕ) → Type 0
+IsPlaced first start number offset at seen = (number ≡ first + seen) × (offset ≡ start + at)
+
+own_rows : (format : Format) (end : ℕ) (name : List ℕ) (first start number offset at seen : ℕ) (bytes l : List ℕ)
     (ps : List (ℕ × ℕ))
-    → number ≡ before + seen → slice_range bytes at (at + length l) ≡ l → AllByRecursion (IsIn l) ps
-    → flat_map (λ p. part_text format end name (number + 1) (slice_range l p.0 p.1)) ps
-    ≡ flat_map (part_row format end name before bytes) (map (part_at at seen) ps)
-own_rows format end name before number at seen bytes l [] is text each = refl
-own_rows format end name before number at seen bytes l (p ∷ ps) is text each =
-    let later = flat_map (part_row format end name before bytes) (map (part_at at seen) ps) in
-    ap (λ xs. part_text format end name (number + 1) (slice_range l p.0 p.1) ++ xs)
-    (own_rows format end name before number at seen bytes l ps is text each.1)
-    ∙ (ap (λ n. part_text format end name (n + 1) (slice_range l p.0 p.1) ++ later) is
-    ∙ ap (λ xs. part_text format end name (before + seen + 1) xs ++ later)
-    (sym (slice_in bytes l at p.0 p.1 text each.0.0 each.0.1)))
+    → IsPlaced first start number offset at seen → slice_range bytes at (at + length l) ≡ l
+    → AllByRecursion (IsIn l) ps
+    → flat_map (λ p. part_text format end name number (offset + p.0) (slice_range l p.0 p.1)) ps
+    ≡ flat_map (part_row format end name first start bytes) (map (part_at at seen) ps)
+own_rows format end name first start number offset at seen bytes l [] is text each = refl
+own_rows format end name first start number offset at seen bytes l (p ∷ ps) is text each =
+    let later = flat_map (part_row format end name first start bytes) (map (part_at at seen) ps) in
+    let place : offset + p.0 ≡ start + (at + p.0) = omega (arith, is.1) in
+    ap (λ xs. part_text format end name number (offset + p.0) (slice_range l p.0 p.1) ++ xs)
+    (own_rows format end name first start number offset at seen bytes l ps is text each.1)
+    ∙ (ap (λ n. part_text format end name n (offset + p.0) (slice_range l p.0 p.1) ++ later) is.0
+    ∙ (ap (λ n. part_text format end name (first + seen) n (slice_range l p.0 p.1) ++ later) place
+    ∙ ap (λ xs. part_text format end name (first + seen) (start + (at + p.0)) xs ++ later)
+    (sym (slice_in bytes l at p.0 p.1 text each.0.0 each.0.1))))
 
 -- the line stands before the cut, or behind it
 own_all : (cut at seen : ℕ) (ps : List (ℕ × ℕ)) → nat_lt seen cut ≡ true
@@ -208,7 +217,8 @@ step_number : (format : Format) (t : Trail) (selected : Bool) (l : List ℕ)
 step_number format t selected l = go (keeps format t selected) (nat_lt 0 t.countdown)
   where
     go : (k b : Bool)
-        → (cond k (after_kept format t) (cond b (after_context t) (after_other format t l))).number ≡ t.number + 1
+        → (with_offset (t.offset + (length l + 1))
+        (cond k (after_kept format t) (cond b (after_context t) (after_other format t l)))).number ≡ t.number + 1
     go true b = refl
     go false true = refl
     go false false = refl
@@ -219,45 +229,47 @@ rows_apart rows test xs ys =
     ap (flat_map rows) (filter-append test xs ys) ∙ flat_map-append rows (filter test xs) (filter test ys)
 
 -- where the rows of the lines behind are known
-abbrev RowsAre : Search → Format → List ℕ → ℕ → List ℕ → Trail → ℕ → ℕ → List (List ℕ) → Type 0
-RowsAre q format name before bytes t at seen ls =
-    run_pieces q format name t ls ≡ part_rows format (terminator q) name before (seen + cut_at q format.limit t.kept ls)
-    bytes (told_of_lines q at seen ls)
+abbrev RowsAre : Search → Format → List ℕ → (first start : ℕ) → List ℕ → Trail → ℕ → ℕ → List (List ℕ) → Type 0
+RowsAre q format name first start bytes t at seen ls =
+    run_pieces q format name t ls ≡ part_rows format (terminator q) name first start
+    (seen + cut_at q format.limit t.kept ls) bytes (told_of_lines q at seen ls)
 
-line_unselected : (q : Search) (format : Format) (name : List ℕ) (before : ℕ) (bytes : List ℕ) (t : Trail) (at seen : ℕ)
+line_unselected : (q : Search) (format : Format) (name : List ℕ) (first start : ℕ) (bytes : List ℕ) (t : Trail)
+    (at seen : ℕ)
     (l : List ℕ) (ls : List (List ℕ)) → selects q l ≡ false
-    → RowsAre q format name before bytes (step format t (selects q l) l) (at + (length l + 1)) (seen + 1) ls
-    → RowsAre q format name before bytes t at seen (l ∷ ls)
-line_unselected q format name before bytes t at seen l ls off ih =
+    → RowsAre q format name first start bytes (step format t (selects q l) l) (at + (length l + 1)) (seen + 1) ls
+    → RowsAre q format name first start bytes t at seen (l ∷ ls)
+line_unselected q format name first start bytes t at seen l ls off ih =
     let s = selects q l in
     let b = is_below t.kept format.limit in
     let next = step format t s l in
     let later = told_of_lines q (at + (length l + 1)) (seen + 1) ls in
     let own = map (part_at at seen) (told_parts q l) in
-    let shown = λ (cut : ℕ) (ps : List Part). part_rows format (terminator q) name before cut bytes ps in
+    let shown = λ (cut : ℕ) (ps : List Part). part_rows format (terminator q) name first start cut bytes ps in
     let unkept : keeps format t s ≡ false = and_left s b off in
     let kept_cut = ap (λ k. cut_at q format.limit k ls) (step_unkept format t s l unkept) in
     let cut : cut_at q format.limit t.kept (l ∷ ls) ≡ cut_at q format.limit t.kept ls + 1 =
     ap (λ x. cond x (cond b (cut_at q format.limit (t.kept + 1) ls + 1) 0) (cut_at q format.limit t.kept ls + 1)) off in
     let sum : (seen + 1) + cut_at q format.limit next.kept ls ≡ seen + cut_at q format.limit t.kept (l ∷ ls) =
     omega arith in
-    ap (λ k. when k (pieces_in q format name (t.number + 1) l) ++ run_pieces q format name next ls) unkept
+    ap (λ k. when k (pieces_in q format name (t.number + 1) t.offset l) ++ run_pieces q format name next ls) unkept
     ∙ (ih ∙ (ap (λ n. shown n later) sum
     ∙ ap (λ x. shown (seen + cut_at q format.limit t.kept (l ∷ ls)) (cond x own [] ++ later)) (sym off)))
 
-line_kept : (q : Search) (format : Format) (name : List ℕ) (before : ℕ) (bytes : List ℕ) (t : Trail) (at seen : ℕ)
+line_kept : (q : Search) (format : Format) (name : List ℕ) (first start : ℕ) (bytes : List ℕ) (t : Trail)
+    (at seen : ℕ)
     (l : List ℕ) (ls : List (List ℕ)) → selects q l ≡ true → is_below t.kept format.limit ≡ true
-    → t.number ≡ before + seen → slice_range bytes at (at + length l) ≡ l
-    → RowsAre q format name before bytes (step format t (selects q l) l) (at + (length l + 1)) (seen + 1) ls
-    → RowsAre q format name before bytes t at seen (l ∷ ls)
-line_kept q format name before bytes t at seen l ls on below is text ih =
+    → IsPlaced first start (t.number + 1) t.offset at seen → slice_range bytes at (at + length l) ≡ l
+    → RowsAre q format name first start bytes (step format t (selects q l) l) (at + (length l + 1)) (seen + 1) ls
+    → RowsAre q format name first start bytes t at seen (l ∷ ls)
+line_kept q format name first start bytes t at seen l ls on below is text ih =
     let s = selects q l in
     let b = is_below t.kept format.limit in
     let next = step format t s l in
     let later = told_of_lines q (at + (length l + 1)) (seen + 1) ls in
     let own = map (part_at at seen) (told_parts q l) in
-    let rows = part_row format (terminator q) name before bytes in
-    let shown = λ (cut : ℕ) (ps : List Part). part_rows format (terminator q) name before cut bytes ps in
+    let rows = part_row format (terminator q) name first start bytes in
+    let shown = λ (cut : ℕ) (ps : List Part). part_rows format (terminator q) name first start cut bytes ps in
     let kept : keeps format t s ≡ true = and_from s b on below in
     let kept_cut = ap (λ (u : Trail). cut_at q format.limit u.kept ls) (step_kept format t s l kept) in
     let cut : cut_at q format.limit t.kept (l ∷ ls) ≡ cut_at q format.limit (t.kept + 1) ls + 1 =
@@ -265,21 +277,23 @@ line_kept q format name before bytes t at seen l ls on below is text ih =
     ∙ ap (λ x. cond x (cut_at q format.limit (t.kept + 1) ls + 1) 0) below in
     let whole : ℕ = seen + cut_at q format.limit t.kept (l ∷ ls) in
     let sum : (seen + 1) + cut_at q format.limit next.kept ls ≡ whole = omega arith in
-    let first : pieces_in q format name (t.number + 1) l ≡ shown whole own =
-    own_rows format (terminator q) name before t.number at seen bytes l (told_parts q l) is text (parts_within q l)
+    let here : pieces_in q format name (t.number + 1) t.offset l ≡ shown whole own =
+    own_rows format (terminator q) name first start (t.number + 1) t.offset at seen bytes l (told_parts q l) is text
+    (parts_within q l)
     ∙ ap (flat_map rows) (sym (own_all whole at seen (told_parts q l) (lt-ltb seen whole (omega arith)))) in
-    ap (λ k. when k (pieces_in q format name (t.number + 1) l) ++ run_pieces q format name next ls) kept
-    ∙ (ap (λ xs. xs ++ run_pieces q format name next ls) first
+    ap (λ k. when k (pieces_in q format name (t.number + 1) t.offset l) ++ run_pieces q format name next ls) kept
+    ∙ (ap (λ xs. xs ++ run_pieces q format name next ls) here
     ∙ (ap (λ xs. shown whole own ++ xs) (ih ∙ ap (λ n. shown n later) sum)
     ∙ (sym (rows_apart rows (λ (p : Part). nat_lt p.line whole) own later)
     ∙ ap (λ x. shown whole (cond x own [] ++ later)) (sym on))))
 
-line_beyond : (q : Search) (format : Format) (name : List ℕ) (before : ℕ) (bytes : List ℕ) (t : Trail) (at seen : ℕ)
+line_beyond : (q : Search) (format : Format) (name : List ℕ) (first start : ℕ) (bytes : List ℕ) (t : Trail)
+    (at seen : ℕ)
     (l : List ℕ) (ls : List (List ℕ)) → selects q l ≡ true → is_below t.kept format.limit ≡ false
-    → RowsAre q format name before bytes t at seen (l ∷ ls)
-line_beyond q format name before bytes t at seen l ls on full =
+    → RowsAre q format name first start bytes t at seen (l ∷ ls)
+line_beyond q format name first start bytes t at seen l ls on full =
     let b = is_below t.kept format.limit in
-    let rows = part_row format (terminator q) name before bytes in
+    let rows = part_row format (terminator q) name first start bytes in
     let cut : cut_at q format.limit t.kept (l ∷ ls) ≡ 0 =
     ap (λ x. cond x (cond b (cut_at q format.limit (t.kept + 1) ls + 1) 0) (cut_at q format.limit t.kept ls + 1)) on
     ∙ ap (λ x. cond x (cut_at q format.limit (t.kept + 1) ls + 1) 0) full in
@@ -288,31 +302,37 @@ line_beyond q format name before bytes t at seen l ls on full =
     (omega arith)))
 
 -- the rows of what was found in lines that stand in the bytes, behind some lines of the file
-pieces_rows : (q : Search) (format : Format) (name : List ℕ) (before : ℕ) (bytes : List ℕ) (t : Trail) (at seen : ℕ)
-    (ls : List (List ℕ)) → t.number ≡ before + seen → AreAt bytes at ls → RowsAre q format name before bytes t at seen
+pieces_rows : (q : Search) (format : Format) (name : List ℕ) (first start : ℕ) (bytes : List ℕ) (t : Trail)
+    (at seen : ℕ)
+    (ls : List (List ℕ)) → IsPlaced first start (t.number + 1) t.offset at seen → AreAt bytes at ls
+    → RowsAre q format name first start bytes t at seen
     ls
-pieces_rows q format name before bytes t at seen [] is texts = refl
-pieces_rows q format name before bytes t at seen (l ∷ ls) is texts =
+pieces_rows q format name first start bytes t at seen [] is texts = refl
+pieces_rows q format name first start bytes t at seen (l ∷ ls) is texts =
     let next = step format t (selects q l) l in
-    let number : next.number ≡ before + (seen + 1) = omega (arith, step_number format t (selects q l) l) in
-    let ih = pieces_rows q format name before bytes next (at + (length l + 1)) (seen + 1) ls number texts.2 in
+    let number : next.number + 1 ≡ first + (seen + 1) = omega (arith, is.0, step_number format t (selects q l) l) in
+    let offset : t.offset + (length l + 1) ≡ start + (at + (length l + 1)) = omega (arith, is.1) in
+    let ih = pieces_rows q format name first start bytes next (at + (length l + 1)) (seen + 1) ls (number, offset)
+    texts.2 in
     elim (cases_Bool (selects q l)) [
-      | inr off ↦ line_unselected q format name before bytes t at seen l ls off ih
+      | inr off ↦ line_unselected q format name first start bytes t at seen l ls off ih
       | inl on ↦ elim (cases_Bool (is_below t.kept format.limit)) [
-        | inl below ↦ line_kept q format name before bytes t at seen l ls on below is texts.0 ih
-        | inr full ↦ line_beyond q format name before bytes t at seen l ls on full
+        | inl below ↦ line_kept q format name first start bytes t at seen l ls on below is texts.0 ih
+        | inr full ↦ line_beyond q format name first start bytes t at seen l ls on full
       ]
     ]
 
 pub block_pieces : (q : Search) (format : Format) (name : List ℕ) (t : Trail) (bytes : List ℕ) →
-    run_pieces q format name t (lines (terminator q) bytes) ≡ part_rows format (terminator q) name t.number
+    run_pieces q format name t (lines (terminator q) bytes) ≡ part_rows format (terminator q) name (t.number + 1)
+    t.offset
     (cut_at q format.limit t.kept (lines (terminator q) bytes)) bytes
     (told_of_lines q 0 0 (lines (terminator q) bytes))
 block_pieces q format name t bytes =
     let ls = lines (terminator q) bytes in
     let start : 0 + cut_at q format.limit t.kept ls ≡ cut_at q format.limit t.kept ls = omega arith in
-    pieces_rows q format name t.number bytes t 0 0 ls (omega arith) (lines_at (terminator q) bytes)
-    ∙ ap (λ n. part_rows format (terminator q) name t.number n bytes (told_of_lines q 0 0 ls)) start
+    pieces_rows q format name (t.number + 1) t.offset bytes t 0 0 ls (omega arith, omega arith)
+    (lines_at (terminator q) bytes)
+    ∙ ap (λ n. part_rows format (terminator q) name (t.number + 1) t.offset n bytes (told_of_lines q 0 0 ls)) start
 
 -- The parts stand in the bytes.
 

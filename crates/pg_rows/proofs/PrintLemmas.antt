@@ -1,26 +1,28 @@
 -- The rows of a block, stretch by stretch.
-use Rattle.std.proofs.Common.{◌≡◌, ℕ, ◌+◌, ◌-◌, ◌<◌, ◌≤◌, ◌⊎◌, inl, inr, Bool, true, false, ◌&&◌, cond}
-use Rattle.std.proofs.Common.{nat_lt, min, List, [], ◌∷◌, ◌++◌, length, take, drop, map, refl, sym, ap, ◌∙◌, subst}
+use Rattle.std.proofs.Common.{◌≡◌, ℕ, ◌+◌, ◌-◌, ◌<◌, ◌≤◌, ◌⊎◌, inl, inr, Bool, true, false}
+use Rattle.std.proofs.Common.{◌&&◌, cond}
+use Rattle.std.proofs.Common.{nat_lt, min, List, [], ◌∷◌, ◌++◌, length, take, drop, refl, sym, ap, ◌∙◌, subst}
 use Rattle.std.proofs.Common.{arith}
 use Rattle.std.proofs.Common.{append_assoc, length-append, length-drop}
 use Rattle.circular_buffer.specs.Buffer.{keep_last}
 use Rattle.std.proofs.lemmas.List.{append-nil, drop-append-le, drop-drop, drop_all}
-use Rattle.std.proofs.Math.Seq.{drop-append_seam}
+use Rattle.std.proofs.Math.Seq.{drop-append_seam, take-nil}
 use Rattle.pg_lines.specs.Search.{Search, terminator}
 use Rattle.pg_lines.specs.Lines.{lines, AreWhole}
 use Rattle.pg_lines.proofs.LineLemmas.{lines-append}
 use Rattle.pg_rows.specs.declared.format.Format.{Format}
 use Rattle.pg_rows.specs.declared.progress.Progress.{Progress}
-use Rattle.pg_rows.specs.Output.{context, gap_text, has_separators, painted, when, is_below}
+use Rattle.pg_rows.specs.Output.{context, gap_text, has_separators, painted, size_of, when, is_below}
 use Rattle.pg_rows.specs.Trail.{Trail, run, run_rows, gap_row, context_rows}
 use Rattle.pg_rows.specs.Cursor.{Cursor}
 use Rattle.pg_rows.specs.Progress.{Tells, Passes, Keeps}
-use Rattle.pg_rows.specs.Stretch.{marked_rows, AllSelected, AreUnkept}
+use Rattle.pg_rows.specs.Stretch.{marked_rows, plain, AllSelected, AreUnkept}
 use Rattle.pg_rows.specs.Printing.{gap_of, leading, rows_of_kept, rows_of_passed, IsAt}
 use Rattle.pg_rows.proofs.FoldLemmas.{rows_append}
 use Rattle.pg_rows.proofs.StretchLemmas.{run_append, context_is_marked, passed_rows, passed_trail, kept_lines_rows}
 use Rattle.pg_rows.proofs.StretchLemmas.{kept_trail, unselected_unkept, full_unkept, length_keep_last}
 use Rattle.pg_rows.proofs.ProgressLemmas.{passes_tells, keeps_tells}
+use Rattle.pg_rows.proofs.SizeLemmas.{run_offset, run_place, size_whole}
 
 -- The last ones of some items.
 
@@ -67,32 +69,36 @@ gap_is format end earlier p t told =
 
 passed_part : (q : Search) (format : Format) (name : List ℕ) (earlier : Bool) (p : Progress) (t : Trail)
     (ls : List (List ℕ)) → Tells p format t → AreUnkept q format t ls
-    → run_rows q format name earlier t ls ≡ rows_of_passed format (terminator q) name p ls
+    → run_rows q format name earlier t ls ≡ rows_of_passed format (terminator q) name p t.offset ls
 passed_part q format name earlier p t ls told unkept =
     passed_rows q format name earlier t ls unkept
-    ∙ (ap (λ n. marked_rows format (terminator q) name 45 (n + 1) (take t.countdown ls)) (sym told.number)
-    ∙ ap (λ n. marked_rows format (terminator q) name 45 (p.number + 1) (take n ls)) (sym told.countdown))
+    ∙ (ap (λ n. marked_rows format (terminator q) name 45 plain (n + 1) t.offset (take t.countdown ls))
+    (sym told.number)
+    ∙ ap (λ n. marked_rows format (terminator q) name 45 plain (p.number + 1) t.offset (take n ls))
+    (sym told.countdown))
 
 kept_part : (q : Search) (format : Format) (name : List ℕ) (earlier : Bool) (hidden : List (List ℕ)) (p : Progress)
     (t : Trail) (l : List ℕ) (ls : List (List ℕ)) → Tells p format t → t.window ≡ keep_last (leading format p) hidden
     → AllSelected q true (l ∷ ls) → is_below (t.kept + length ls) format.limit ≡ true
-    → run_rows q format name earlier t (l ∷ ls) ≡ rows_of_kept format (terminator q) name earlier hidden p
-    (map (painted q format) (l ∷ ls))
+    → run_rows q format name earlier t (l ∷ ls) ≡ rows_of_kept format (terminator q) name earlier hidden p t.offset
+    (painted q format) (l ∷ ls)
 kept_part q format name earlier hidden p t l ls told window selected below =
     let end = terminator q in
-    let texts = map (painted q format) (l ∷ ls) in
-    let own : List ℕ = marked_rows format end name 58 (t.number + 1) texts in
+    let own : List ℕ = marked_rows format end name 58 (painted q format) (t.number + 1) t.offset (l ∷ ls) in
+    let lead : ℕ → List (List ℕ) → List ℕ =
+    λ n ws. marked_rows format end name 45 plain n (t.offset - size_of ws) ws in
     let number : (t.number + 1) - length t.window ≡ (p.number + 1) - leading format p =
     let a = told.number in let b = told.window in omega arith in
     kept_lines_rows q format name earlier t l ls selected below
-    ∙ (ap (λ g. g ++ (context_rows format end name ((t.number + 1) - length t.window) t.window ++ own))
+    ∙ (ap (λ g. g ++ (context_rows format end name ((t.number + 1) - length t.window) (t.offset - size_of t.window)
+    t.window ++ own))
     (gap_is format end earlier p t told)
     ∙ ap (λ xs. gap_of format end earlier p ++ xs)
-    (ap (λ xs. xs ++ own) (context_is_marked format end name ((t.number + 1) - length t.window) t.window
-    ∙ (ap (λ n. marked_rows format end name 45 n t.window) number
-    ∙ ap (marked_rows format end name 45 ((p.number + 1) - leading format p)) window))
-    ∙ ap (λ n. marked_rows format end name 45 ((p.number + 1) - leading format p) (keep_last (leading format p) hidden)
-    ++ marked_rows format end name 58 (n + 1) texts) (sym told.number)))
+    (ap (λ xs. xs ++ own) (context_is_marked format end name ((t.number + 1) - length t.window)
+    (t.offset - size_of t.window) t.window
+    ∙ (ap (λ n. lead n t.window) number ∙ ap (lead ((p.number + 1) - leading format p)) window))
+    ∙ ap (λ n. lead ((p.number + 1) - leading format p) (keep_last (leading format p) hidden)
+    ++ marked_rows format end name 58 (painted q format) (n + 1) t.offset (l ∷ ls)) (sym told.number)))
 
 -- Lines of which the first ones are whole, or all.
 
@@ -124,18 +130,36 @@ enough_hidden q format c hidden bytes before after p at seen h =
     let e = h.tells.window in
     omega arith
 
+-- a line begins at a place behind whole lines
+offset_behind : (q : Search) (format : Format) (c : Cursor) (bytes : List ℕ) (at : ℕ) (t : Trail) (front rest : List ℕ)
+    → (t.offset ≡ c.trail.offset + at) ⊎ (drop at bytes ≡ []) → drop at bytes ≡ front ++ rest
+    → AreWhole (terminator q) front ⊎ (rest ≡ []) → drop (at + length front) bytes ≡ rest
+    → ((run q format t (lines (terminator q) front)).offset ≡ c.trail.offset + (at + length front))
+    ⊎ (drop (at + length front) bytes ≡ [])
+offset_behind q format c bytes at t front rest (inr none) joins whole behind =
+    inr (behind ∙ nothing_behind front rest (sym joins ∙ none))
+  where
+    nothing_behind : (xs ys : List ℕ) → xs ++ ys ≡ [] → ys ≡ []
+    nothing_behind [] ys e = e
+    nothing_behind (x ∷ xs) ys e = absurd (cc)
+offset_behind q format c bytes at t front rest (inl place) joins (inr none) behind = inr (behind ∙ none)
+offset_behind q format c bytes at t front rest (inl place) joins (inl whole) behind =
+    let a = run_offset q format t (lines (terminator q) front) in
+    let b = size_whole (terminator q) front whole in
+    inl (omega (arith, a, b, place))
+
 -- more of the rows was written
 moves : (q : Search) (format : Format) (c : Cursor) (hidden hidden' : List (List ℕ)) (bytes before after : List ℕ)
     (p later : Progress) (at seen : ℕ) (h : IsAt q format c hidden bytes before after p at seen)
-    (front rest more : List ℕ) → drop at bytes ≡ front ++ rest
-    → lines (terminator q) (front ++ rest) ≡ lines (terminator q) front ++ lines (terminator q) rest
+    (front rest more : List ℕ) → drop at bytes ≡ front ++ rest → AreWhole (terminator q) front ⊎ (rest ≡ [])
     → run_rows q format c.name c.earlier h.trail (lines (terminator q) front) ≡ more
     → Tells later format (run q format h.trail (lines (terminator q) front))
     → (run q format h.trail (lines (terminator q) front)).window ≡ keep_last (leading format later) hidden'
     → IsAt q format c hidden' bytes before (after ++ more) later (at + length front)
     (seen + length (lines (terminator q) front))
-moves q format c hidden hidden' bytes before after p later at seen h front rest more joins apart rows told window =
+moves q format c hidden hidden' bytes before after p later at seen h front rest more joins whole rows told window =
     let end = terminator q in
+    let apart = lines_apart end front rest whole in
     let next = behind_front at bytes front rest h.within joins in
     let u = run q format h.trail (lines end front) in
     let all : lines end (drop at bytes) ≡ lines end front ++ lines end rest = ap (lines end) joins ∙ apart in
@@ -145,6 +169,8 @@ moves q format c hidden hidden' bytes before after p later at seen h front rest 
       tells = told;
       window = window;
       within = next.1;
+      offset = offset_behind q format c bytes at h.trail front rest h.offset joins whole next.0;
+      room = run_place q format h.trail (lines end front) h.room;
       part = h.part ++ more;
       taken = ap (λ xs. xs ++ more) h.taken ∙ append_assoc before h.part more;
       rows = ap (λ ls. (h.part ++ more) ++ run_rows q format c.name c.earlier u ls) back
@@ -160,6 +186,17 @@ moves q format c hidden hidden' bytes before after p later at seen h front rest 
           let s = length-append (lines end front) (lines end rest) in let k = h.count in omega arith;
     }
 
+nothing_before : (xs ys : List ℕ) → xs ++ ys ≡ [] → xs ≡ []
+nothing_before [] ys e = refl
+nothing_before (x ∷ xs) ys e = absurd (cc)
+
+-- of no lines there are no rows
+no_rows : (format : Format) (end : ℕ) (name : List ℕ) (p : Progress) (offset : ℕ) (ls : List (List ℕ)) → ls ≡ []
+    → rows_of_passed format end name p offset ls ≡ []
+no_rows format end name p offset ls none =
+    ap (λ xs. rows_of_passed format end name p offset xs) none
+    ∙ ap (marked_rows format end name 45 plain (p.number + 1) offset) (take-nil p.countdown)
+
 -- lines are passed of which none is kept
 pub passed_step : (q : Search) (format : Format) (c : Cursor) (hidden : List (List ℕ)) (bytes before after : List ℕ)
     (p later : Progress) (at seen : ℕ) (h : IsAt q format c hidden bytes before after p at seen)
@@ -167,8 +204,8 @@ pub passed_step : (q : Search) (format : Format) (c : Cursor) (hidden : List (Li
     → AllSelected q false (lines (terminator q) front) ⊎ (is_below p.kept format.limit ≡ false)
     → Passes p (length (lines (terminator q) front)) later
     → IsAt q format c (hidden ++ drop p.countdown (lines (terminator q) front)) bytes before
-    (after ++ rows_of_passed format (terminator q) c.name p (lines (terminator q) front)) later (at + length front)
-    (seen + length (lines (terminator q) front))
+    (after ++ rows_of_passed format (terminator q) c.name p (c.trail.offset + at) (lines (terminator q) front)) later
+    (at + length front) (seen + length (lines (terminator q) front))
 passed_step q format c hidden bytes before after p later at seen h front rest joins whole none passes =
     let end = terminator q in
     let ls = lines end front in
@@ -189,9 +226,17 @@ passed_step q format c hidden bytes before after p later at seen h front rest jo
     ∙ (window_more (context format.before) p.behind t.window hidden others h.window
     (enough_hidden q format c hidden bytes before after p at seen h)
     ∙ ap (λ n. keep_last n (hidden ++ others)) behind)) in
+    let placed : rows_of_passed format end c.name p t.offset ls
+    ≡ rows_of_passed format end c.name p (c.trail.offset + at) ls = elim h.offset [
+      | inl place ↦ ap (λ k. rows_of_passed format end c.name p k ls) place
+      | inr none ↦
+          let nothing : ls ≡ [] = ap (lines end) (nothing_before front rest (sym joins ∙ none)) in
+          no_rows format end c.name p t.offset ls nothing
+          ∙ sym (no_rows format end c.name p (c.trail.offset + at) ls nothing)
+    ] in
     moves q format c hidden (hidden ++ others) bytes before after p later at seen h front rest
-    (rows_of_passed format end c.name p ls) joins (lines_apart end front rest whole)
-    (passed_part q format c.name c.earlier p t ls h.tells unkept)
+    (rows_of_passed format end c.name p (c.trail.offset + at) ls) joins whole
+    (passed_part q format c.name c.earlier p t ls h.tells unkept ∙ placed)
     (passes_tells p (length ls) later passes q format t ls refl unkept h.tells) window
 
 -- lines are kept
@@ -203,19 +248,26 @@ pub kept_step : (q : Search) (format : Format) (c : Cursor) (hidden hidden' : Li
     → is_below (p.kept + (length (lines (terminator q) front) - 1)) format.limit ≡ true
     → Keeps p format (length (lines (terminator q) front)) later
     → IsAt q format c hidden' bytes before
-    (after ++ rows_of_kept format (terminator q) c.name c.earlier hidden p (map (painted q format)
-    (lines (terminator q) front))) later
+    (after ++ rows_of_kept format (terminator q) c.name c.earlier hidden p (c.trail.offset + at) (painted q format)
+    (lines (terminator q) front)) later
     (at + length front) (seen + length (lines (terminator q) front))
 kept_step q format c hidden hidden' bytes before after p later at seen h front rest joins whole selected some below
     keeps =
     let end = terminator q in
     moves q format c hidden hidden' bytes before after p later at seen h front rest
-    (rows_of_kept format end c.name c.earlier hidden p (map (painted q format) (lines end front))) joins
-    (lines_apart end front rest whole)
-    (rows (lines end front) selected some below)
+    (rows_of_kept format end c.name c.earlier hidden p (c.trail.offset + at) (painted q format) (lines end front)) joins
+    whole
+    (rows (lines end front) selected some below ∙ ap (λ k. rows_of_kept format end c.name c.earlier hidden p k
+    (painted q format) (lines end front)) (place h.offset))
     (told (lines end front) selected some below keeps)
     (window (lines end front) selected some below keeps)
   where
+    place : (h.trail.offset ≡ c.trail.offset + at) ⊎ (drop at bytes ≡ []) → h.trail.offset ≡ c.trail.offset + at
+    place (inl e) = e
+    place (inr none) =
+        let nothing = ap (λ xs. length (lines (terminator q) xs)) (nothing_before front rest (sym joins ∙ none)) in
+        absurd (omega (arith, some, nothing))
+
     fits : (l : List ℕ) (ls : List (List ℕ)) → is_below (p.kept + (length (l ∷ ls) - 1)) format.limit ≡ true
         → is_below (h.trail.kept + length ls) format.limit ≡ true
     fits l ls below =
@@ -225,7 +277,7 @@ kept_step q format c hidden hidden' bytes before after p later at seen h front r
     rows : (ls : List (List ℕ)) → AllSelected q true ls → 0 < length ls
         → is_below (p.kept + (length ls - 1)) format.limit ≡ true
         → run_rows q format c.name c.earlier h.trail ls ≡ rows_of_kept format (terminator q) c.name c.earlier hidden p
-        (map (painted q format) ls)
+        h.trail.offset (painted q format) ls
     rows [] selected some below = absurd (omega (arith, some))
     rows (l ∷ ls) selected some below = kept_part q format c.name c.earlier hidden p h.trail l ls h.tells h.window
         selected
@@ -253,8 +305,8 @@ kept_step q format c hidden hidden' bytes before after p later at seen h front r
 pub at_first : (q : Search) (format : Format) (c : Cursor) (hidden : List (List ℕ)) (bytes taken : List ℕ)
     (p : Progress)
     → Tells p format c.trail → c.trail.window ≡ keep_last (context format.before) hidden
-    → IsAt q format c hidden bytes taken taken p 0 0
-at_first q format c hidden bytes taken p told window =
+    → size_of c.trail.window ≤ c.trail.offset → IsAt q format c hidden bytes taken taken p 0 0
+at_first q format c hidden bytes taken p told window room =
     let a = ap (λ xs. length xs) window in
     let b = length_keep_last (context format.before) hidden in
     let e = told.window in
@@ -264,6 +316,8 @@ at_first q format c hidden bytes taken p told window =
       tells = told;
       window = window ∙ ap (λ n. drop n hidden) same;
       within = omega arith;
+      offset = inl (omega arith);
+      room = room;
       part = [];
       taken = sym (append-nil taken);
       rows = refl;

@@ -1,11 +1,12 @@
 -- What the printer does at a run of selected lines, and behind the last one.
 use Rattle.std.proofs.Common.{◌≡◌, ℕ, ◌+◌, ◌-◌, ◌<◌, ◌≤◌, ◌⊎◌, inl, inr, min, Bool, true, false, cond, nat_eq}
 use Rattle.std.proofs.Common.{List, [], ◌∷◌, ◌++◌}
-use Rattle.std.proofs.Common.{length, map, take, drop, slice_range, get_or, refl, sym, ap, ◌∙◌, subst, arith}
+use Rattle.std.proofs.Common.{length, take, drop, slice_range, get_or, refl, sym, ap, ◌∙◌, subst, arith}
 use Rattle.std.proofs.Common.{append_assoc}
 use Rattle.std.proofs.Common.{length-append, length-drop}
 use Rattle.circular_buffer.specs.Buffer.{keep_last}
 use Rattle.std.proofs.lemmas.Bool.{cases_lt, cases_eq, cases_Bool, eq-eqb, false≢true, ne_eqb}
+use Rattle.std.proofs.Math.Seq.{take-nil}
 use Rattle.std.proofs.lemmas.List.{drop_more, append-nil, drop-drop, drop-take, length-take-le}
 use Rattle.pg_lines.specs.Search.{Search, terminator}
 use Rattle.pg_lines.specs.Lines.{lines}
@@ -18,7 +19,7 @@ use Rattle.pg_rows.specs.declared.progress.Progress.{Progress}
 use Rattle.pg_rows.specs.declared.printer.Printer.{Printer}
 use Rattle.pg_rows.specs.declared.printer.Place.{Place}
 use Rattle.pg_rows.specs.declared.window.Window.{Window}
-use Rattle.pg_rows.specs.Output.{context, is_below, painted}
+use Rattle.pg_rows.specs.Output.{context, is_below, painted, size_of}
 use Rattle.pg_rows.specs.Trail.{run_rows, run_pieces}
 use Rattle.pg_rows.specs.Stretch.{part_rows, AllSelected}
 use Rattle.pg_rows.specs.Pieces.{cut_at, told_of_lines, HasFound}
@@ -35,7 +36,8 @@ use Rattle.pg_rows.proofs.BlockLemmas.{no_run, stretches, full_none, none_full, 
 use Rattle.pg_rows.proofs.PrintLemmas.{at_first, at_last, enough_hidden, passed_step, keep_none}
 use Rattle.pg_rows.proofs.LeadLemmas.{last_of_both}
 use Rattle.pg_rows.proofs.PieceLemmas.{block_pieces, found_lines_told}
-use Rattle.pg_rows.proofs.RunSteps.{IsBefore, comes_next, kept_texts, run_step}
+use Rattle.pg_rows.proofs.RunSteps.{IsBefore, comes_next, gap_step, kept_texts, next_texts, run_step}
+use Rattle.pg_rows.proofs.SizeLemmas.{run_offset}
 use Rattle.pg_rows.proofs.PaintLemmas.{AreLeft, run_own}
 
 -- the printer has written nothing of a block
@@ -43,7 +45,7 @@ pub before_all : {A : Type 0} (s : Printer A) (q : Search) (format : Format) (c 
     (runs : List Run) (total : ℕ) → Remembers s q format c → shows_lines format ≡ true → HasLines q bytes runs total
     → IsBefore q format c (held (terminator q) s.window) bytes taken taken s.progress 0 0 runs
 before_all s q format c bytes taken runs total r shows has = record {
-  here = at_first q format c (held (terminator q) s.window) bytes taken s.progress r.told (r.window shows);
+  here = at_first q format c (held (terminator q) s.window) bytes taken s.progress r.told (r.window shows) r.room;
   ahead = inl has.each;
 }
 
@@ -99,22 +101,23 @@ can_step s q format c bytes before after place runs index total count r has h be
     }
 
 -- the rows from one place to the next
-abbrev pub step_rows : {A : Type 0} → Search → Format → ℕ → List ℕ → Bool → Window A → List ℕ → ℕ → ℕ → ℕ → Progress
-    → Progress
-    → List ℕ
-step_rows q format end name earlier window bytes at start place p passed =
-    rows_of_run format end name earlier (held end window) p passed (lines end (slice_range bytes at start))
-    (map (painted q format) (lines end (slice_range bytes start place)))
+abbrev pub step_rows : {A : Type 0} → Search → Format → ℕ → List ℕ → Bool → Window A → (offset : ℕ) → List ℕ
+    → ℕ → ℕ → ℕ → Progress → Progress → List ℕ
+step_rows q format end name earlier window offset bytes at start place p passed =
+    rows_of_run format end name earlier (held end window) p passed (offset + at)
+    (lines end (slice_range bytes at start))
+    (offset + start) (painted q format) (lines end (slice_range bytes start place))
 
 step_same : {A : Type 0} (s : Printer A) (q : Search) (format : Format) (c : Cursor) (bytes : List ℕ)
     (at start place : ℕ) (p passed : Progress) → Remembers s q format c →
-    step_rows q s.format s.end s.prefix s.earlier s.window bytes at start place p passed
-    ≡ step_rows q format (terminator q) c.name c.earlier s.window bytes at start place p passed
+    step_rows q s.format s.end s.prefix s.earlier s.window s.offset bytes at start place p passed
+    ≡ step_rows q format (terminator q) c.name c.earlier s.window c.trail.offset bytes at start place p passed
 step_same s q format c bytes at start place p passed r =
-    ap (λ f. step_rows q f s.end s.prefix s.earlier s.window bytes at start place p passed) r.format_is
-    ∙ (ap (λ e. step_rows q format e s.prefix s.earlier s.window bytes at start place p passed) r.end_is
-    ∙ (ap (λ n. step_rows q format (terminator q) n s.earlier s.window bytes at start place p passed) r.name_is
-    ∙ ap (λ b. step_rows q format (terminator q) c.name b s.window bytes at start place p passed) r.earlier_is))
+    ap (λ f. step_rows q f s.end s.prefix s.earlier s.window s.offset bytes at start place p passed) r.format_is
+    ∙ (ap (λ e. step_rows q format e s.prefix s.earlier s.window s.offset bytes at start place p passed) r.end_is
+    ∙ (ap (λ n. step_rows q format (terminator q) n s.earlier s.window s.offset bytes at start place p passed) r.name_is
+    ∙ (ap (λ b. step_rows q format (terminator q) c.name b s.window s.offset bytes at start place p passed) r.earlier_is
+    ∙ ap (λ o. step_rows q format (terminator q) c.name c.earlier s.window o bytes at start place p passed) r.offset)))
 
 -- the step from one place to the next
 pub record IsStep {A : Type 0} (s : Printer A) (bytes : List ℕ) (place : Place) (here : Run) (count : ℕ)
@@ -131,7 +134,8 @@ pub stepped : {A : Type 0} (s : Printer A) (q : Search) (format : Format) (c : C
     → count ≡ kept_of s.format.limit place.progress.kept (get_or runs index no_run).count → (count ≡ 0 → ⊥)
     → IsStep s bytes place (get_or runs index no_run) count passed next
     → IsBefore q format c (held (terminator q) s.window) bytes before (after
-    ++ step_rows q s.format s.end s.prefix s.earlier s.window bytes place.at (get_or runs index no_run).span.start
+    ++ step_rows q s.format s.end s.prefix s.earlier s.window s.offset bytes place.at
+    (get_or runs index no_run).span.start
     next.at
     place.progress passed) next.progress next.at next.seen (drop (index + 1) runs)
 stepped s q format c bytes before after place next passed runs index count r h below is some step =
@@ -146,14 +150,12 @@ stepped s q format c bytes before after place next passed runs index count r h b
     some in
     let K : Format → Type 0 = λ f. Keeps passed f count next.progress in
     let E : ℕ → Type 0 = λ e. EndsKept e bytes here count next.at in
-    let rows = step_rows q format (terminator q) c.name c.earlier s.window bytes place.at here.span.start next.at
-    place.progress passed in
-    let written = step_rows q s.format s.end s.prefix s.earlier s.window bytes place.at here.span.start next.at
-    place.progress passed in
+    let rows = step_rows q format (terminator q) c.name c.earlier s.window c.trail.offset bytes place.at here.span.start
+    next.at place.progress passed in
     let k = run_step q format c hidden bytes before after place.progress passed next.progress place.at place.seen count
     next.at here more h.here are step.passes (subst K r.format_is step.keeps) is' (omega (arith, some))
     (subst E r.end_is step.ends) in
-    let first = rows_of_passed format (terminator q) c.name place.progress
+    let first = rows_of_passed format (terminator q) c.name place.progress (c.trail.offset + place.at)
     (lines (terminator q) (slice_range bytes place.at here.span.start)) in
     let same = ap (λ xs. after ++ xs)
     (sym (step_same s q format c bytes place.at here.span.start next.at place.progress passed r)) in
@@ -162,6 +164,45 @@ stepped s q format c bytes before after place next passed runs index count r h b
     let S : List ℕ → Type 0 = λ t. IsBefore q format c hidden bytes before t next.progress next.at (here.first + count)
     more in
     subst R same (subst Q (sym step.seen) (subst S (append_assoc after first _) k))
+
+-- the lines before a run that are shown as its context have no more bytes than the file has before the run
+pub has_room : {A : Type 0} (s : Printer A) (q : Search) (format : Format) (c : Cursor) (bytes before after : List ℕ)
+    (place : Place) (passed : Progress) (runs : List Run) (index count : ℕ)
+    → Remembers s q format c → IsBefore q format c (held (terminator q) s.window) bytes
+    before after place.progress place.at place.seen (drop index runs) → index < length runs
+    → count ≡ kept_of s.format.limit place.progress.kept (get_or runs index no_run).count → (count ≡ 0 → ⊥)
+    → Passes place.progress ((get_or runs index no_run).first - place.seen) passed
+    → size_of (keep_last (leading s.format passed) (held s.end s.window ++ drop place.progress.countdown
+    (lines s.end (slice_range bytes place.at (get_or runs index no_run).span.start))))
+    ≤ s.offset + (get_or runs index no_run).span.start
+has_room s q format c bytes before after place passed runs index count r h below is some passes =
+    let here = get_or runs index no_run in
+    let more = drop (index + 1) runs in
+    let hidden = held (terminator q) s.window in
+    let P : List Run → Type 0 = λ rs. IsBefore q format c hidden bytes before after place.progress place.at place.seen
+    rs in
+    let h' = subst P (drop_more runs index no_run below) h in
+    let is' = is ∙ ap (λ f. kept_of f.limit place.progress.kept here.count) r.format_is in
+    let are = is_ahead q format c hidden bytes before after place.progress place.at place.seen count here more h' is'
+    some in
+    let n = are.0 in
+    let k = gap_step q format c hidden bytes before after place.progress passed place.at place.seen here h.here n
+    (next_texts q place.at place.seen bytes here n h.here.within) passes in
+    let gap = slice_range bytes place.at here.span.start in
+    let shown : Format → ℕ → List (List ℕ) = λ f e.
+    keep_last (leading f passed) (held e s.window ++ drop place.progress.countdown (lines e gap)) in
+    let same : size_of (shown s.format s.end) ≡ size_of k.trail.window =
+    ap (λ f. size_of (shown f s.end)) r.format_is
+    ∙ (ap (λ e. size_of (shown format e)) r.end_is ∙ sym (ap size_of k.window)) in
+    let room = k.room in
+    let offset = r.offset in
+    elim k.offset [
+      | inl place_is ↦ omega (arith, same, room, offset, place_is)
+      | inr none ↦
+          let texts = next_texts q place.at place.seen bytes here n h.here.within in
+          absurd (n.text_some (sym texts.text
+          ∙ (ap (take (here.span.end - here.span.start)) none ∙ take-nil (here.span.end - here.span.start))))
+    ]
 
 -- what a step takes of the parts
 pub record TakesParts {A : Type 0} (s : Printer A) (q : Search) (bytes : List ℕ) (parts : List Part)
@@ -308,7 +349,8 @@ pub behind_last : {A : Type 0} (s : Printer A) (q : Search) (format : Format) (c
     → Passes place.progress count last → count ≡ length (lines s.end (drop place.at bytes)) →
     IsAt q format c
     (held (terminator q) s.window ++ drop place.progress.countdown (lines (terminator q) (drop place.at bytes))) bytes
-    before (after ++ rows_of_passed s.format s.end s.prefix place.progress (lines s.end (drop place.at bytes))) last
+    before (after ++ rows_of_passed s.format s.end s.prefix place.progress (s.offset + place.at)
+    (lines s.end (drop place.at bytes))) last
     (length bytes) (place.seen + length (lines (terminator q) (drop place.at bytes)))
 behind_last s q format c bytes before after place last count r h passes is =
     let end = terminator q in
@@ -321,12 +363,13 @@ behind_last s q format c bytes before after place last count r h passes is =
     (subst P (is ∙ ap (λ e. length (lines e front)) r.end_is) passes) in
     let long = length-drop place.at bytes in
     let whole : place.at + length front ≡ length bytes = let w = h.here.within in omega arith in
-    let rows = λ (f : Format) (e : ℕ) (name : List ℕ). rows_of_passed f e name place.progress (lines e front) in
-    let same : rows format end c.name ≡ rows s.format s.end s.prefix =
-    sym (ap (λ f. rows f s.end s.prefix) r.format_is ∙ (ap (λ e. rows format e s.prefix) r.end_is
-    ∙ ap (rows format end) r.name_is)) in
+    let rows = λ (f : Format) (e : ℕ) (name : List ℕ) (o : ℕ).
+    rows_of_passed f e name place.progress (o + place.at) (lines e front) in
+    let same : rows format end c.name c.trail.offset ≡ rows s.format s.end s.prefix s.offset =
+    sym (ap (λ f. rows f s.end s.prefix s.offset) r.format_is ∙ (ap (λ e. rows format e s.prefix s.offset) r.end_is
+    ∙ (ap (λ n. rows format end n s.offset) r.name_is ∙ ap (rows format end c.name) r.offset))) in
     let Q : ℕ → Type 0 = λ n. IsAt q format c (hidden ++ drop place.progress.countdown ls) bytes before
-    (after ++ rows format end c.name) last n (place.seen + length ls) in
+    (after ++ rows format end c.name c.trail.offset) last n (place.seen + length ls) in
     let R : List ℕ → Type 0 = λ t. IsAt q format c (hidden ++ drop place.progress.countdown ls) bytes before
     (after ++ t) last (length bytes) (place.seen + length ls) in
     subst R same (subst Q whole k)
@@ -351,15 +394,33 @@ kept_window ctx behind hidden others is =
     ∙ (ap (λ xs. xs ++ keep_last (min n (length others)) others) (keep_none hidden)
     ∙ ap (λ k. drop k others) skip))
 
+-- where a block ends
+pub offset_follows : {A : Type 0} (s : Printer A) (q : Search) (format : Format) (c : Cursor) (bytes : List ℕ)
+    → Remembers s q format c
+    → s.offset + size_of (lines s.end bytes) ≡ (behind_block q format c bytes).trail.offset
+offset_follows s q format c bytes r =
+    ap (λ e. s.offset + size_of (lines e bytes)) r.end_is
+    ∙ (ap (λ o. o + size_of (lines (terminator q) bytes)) r.offset
+    ∙ sym (run_offset q format c.trail (lines (terminator q) bytes)))
+
 pub follows : {A : Type 0} (s : Printer A) (q : Search) (format : Format) (c : Cursor) (bytes before after : List ℕ)
-    (place : Place) (last : Progress) (count stop left : ℕ) → Remembers s q format c → shows_lines format ≡ true
+    (place : Place) (last : Progress) (count stop left offset : ℕ) → Remembers s q format c
+    → shows_lines format ≡ true
     → ComesLast q format c (held (terminator q) s.window) bytes before after s.progress place
     → Passes place.progress count last → count ≡ length (lines s.end (drop place.at bytes))
     → lines s.end (drop stop (drop place.at bytes)) ≡ drop place.progress.countdown (lines s.end (drop place.at bytes))
-    → stop ≤ length (drop place.at bytes) → left ≡ count - place.progress.countdown →
+    → stop ≤ length (drop place.at bytes) → left ≡ count - place.progress.countdown
+    → offset ≡ s.offset + size_of (lines s.end bytes) →
     Follows s q format (behind_block q format c bytes) bytes
-    (record { progress = last; fresh = nat_eq place.at 0; start = place.at + stop; lines = left })
-follows s q format c bytes before after place last count stop left r shows h passes is rest within left_is =
+    (record {
+      progress = last;
+      offset = offset;
+      fresh = nat_eq place.at 0;
+      start = place.at + stop;
+      lines = left;
+    })
+follows s q format c bytes before after place last count stop left offset r shows h passes is rest within left_is
+    behind_is =
     let end = terminator q in
     let hidden = held end s.window in
     let ls = lines end (drop place.at bytes) in
@@ -367,7 +428,8 @@ follows s q format c bytes before after place last count stop left r shows h pas
     let ctx = context format.before in
     let k = behind_last s q format c bytes before after place last count r h passes is in
     let done = at_last q format c (hidden ++ others) bytes before
-    (after ++ rows_of_passed s.format s.end s.prefix place.progress (lines s.end (drop place.at bytes))) last
+    (after ++ rows_of_passed s.format s.end s.prefix place.progress (s.offset + place.at)
+    (lines s.end (drop place.at bytes))) last
     (length bytes) (place.seen + length ls) k refl in
     let P : ℕ → Type 0 = λ e. lines e (drop stop (drop place.at bytes))
     ≡ drop place.progress.countdown (lines e (drop place.at bytes)) in
@@ -394,6 +456,7 @@ follows s q format c bytes before after place last count stop left r shows h pas
     ] in
     record {
       told = done.1;
+      offset = behind_is ∙ offset_follows s q format c bytes r;
       within = let a = length-drop place.at bytes in let b = h.here.within in omega arith;
       count = left_is ∙ (ap (λ n. n - place.progress.countdown) total
           ∙ (sym long ∙ ap (λ xs. length xs) (sym tail)));
@@ -426,7 +489,7 @@ pub pieces_same : {A : Type 0} (s : Printer A) (q : Search) (format : Format) (c
     (runs : List Run) (parts : List Part) (total cut : ℕ) → Remembers s q format c
     → HasFound q bytes runs parts total
     → cut ≡ cut_at q s.format.limit s.progress.kept (lines (terminator q) bytes) →
-    part_rows s.format s.end s.prefix s.progress.number cut bytes parts
+    part_rows s.format s.end s.prefix (s.progress.number + 1) s.offset cut bytes parts
     ≡ run_pieces q format c.name c.trail (lines (terminator q) bytes)
 pieces_same s q format c bytes runs parts total cut r found is =
     let end = terminator q in
@@ -435,10 +498,13 @@ pieces_same s q format c bytes runs parts total cut r found is =
     let cut_is : cut ≡ cut_at q format.limit c.trail.kept ls =
     is ∙ (ap (λ f. cut_at q f.limit s.progress.kept ls) r.format_is ∙ ap (λ k. cut_at q format.limit k ls) r.told.kept)
     in
-    ap (λ f. part_rows f s.end s.prefix s.progress.number cut bytes parts) r.format_is
-    ∙ (ap (λ e. part_rows format e s.prefix s.progress.number cut bytes parts) r.end_is
-    ∙ (ap (λ n. part_rows format end n s.progress.number cut bytes parts) r.name_is
-    ∙ (ap (λ k. part_rows format end c.name k cut bytes parts) r.told.number
-    ∙ (ap (λ k. part_rows format end c.name c.trail.number k bytes parts) cut_is
-    ∙ (ap (part_rows format end c.name c.trail.number (cut_at q format.limit c.trail.kept ls) bytes) found_all
-    ∙ sym (block_pieces q format c.name c.trail bytes))))))
+    let number : ℕ = s.progress.number + 1 in
+    ap (λ f. part_rows f s.end s.prefix number s.offset cut bytes parts) r.format_is
+    ∙ (ap (λ e. part_rows format e s.prefix number s.offset cut bytes parts) r.end_is
+    ∙ (ap (λ n. part_rows format end n number s.offset cut bytes parts) r.name_is
+    ∙ (ap (λ k. part_rows format end c.name (k + 1) s.offset cut bytes parts) r.told.number
+    ∙ (ap (λ o. part_rows format end c.name (c.trail.number + 1) o cut bytes parts) r.offset
+    ∙ (ap (λ k. part_rows format end c.name (c.trail.number + 1) c.trail.offset k bytes parts) cut_is
+    ∙ (ap (part_rows format end c.name (c.trail.number + 1) c.trail.offset (cut_at q format.limit c.trail.kept ls)
+    bytes) found_all
+    ∙ sym (block_pieces q format c.name c.trail bytes)))))))

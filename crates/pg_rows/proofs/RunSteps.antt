@@ -1,6 +1,6 @@
 -- From one run of selected lines to the next.
 use Rattle.std.proofs.Common.{◌≡◌, ℕ, ◌+◌, ◌-◌, ◌<◌, ◌≤◌, ◌⊎◌, inl, inr, true, false, List, [], ◌∷◌, ◌++◌}
-use Rattle.std.proofs.Common.{length, map, take}
+use Rattle.std.proofs.Common.{length, take}
 use Rattle.std.proofs.Common.{drop, slice_range, refl, sym, ap, ◌∙◌, subst, arith, append_assoc}
 use Rattle.std.proofs.Common.{length-drop}
 use Rattle.std.proofs.lemmas.Bool.{cases_lt}
@@ -115,13 +115,13 @@ pub record IsBefore (q : Search) (format : Format) (c : Cursor) (hidden : List (
   pub ahead : AreRuns q at seen (drop at bytes) runs ⊎ (is_below p.kept format.limit ≡ false)
 
 -- the lines of the gap were passed
-gap_step : (q : Search) (format : Format) (c : Cursor) (hidden : List (List ℕ)) (bytes before after : List ℕ)
+pub gap_step : (q : Search) (format : Format) (c : Cursor) (hidden : List (List ℕ)) (bytes before after : List ℕ)
     (p passed : Progress) (at seen : ℕ) (run : Run) → IsAt q format c hidden bytes before after p at seen
     → (n : IsNextRun q at seen (drop at bytes) run) → NextTexts q at seen bytes run n
     → Passes p (run.first - seen) passed →
     IsAt q format c (hidden ++ drop p.countdown (lines (terminator q) (slice_range bytes at run.span.start))) bytes
     before
-    (after ++ rows_of_passed format (terminator q) c.name p (lines (terminator q)
+    (after ++ rows_of_passed format (terminator q) c.name p (c.trail.offset + at) (lines (terminator q)
     (slice_range bytes at run.span.start)))
     passed run.span.start run.first
 gap_step q format c hidden bytes before after p passed at seen run h n texts passes =
@@ -131,7 +131,8 @@ gap_step q format c hidden bytes before after p passed at seen run h n texts pas
     let P : ℕ → Type 0 = λ k. Passes p k passed in
     let Q : ℕ → ℕ → List ℕ → Type 0 = λ place lines_seen gap. IsAt q format c
     (hidden ++ drop p.countdown (lines end gap))
-    bytes before (after ++ rows_of_passed format end c.name p (lines end gap)) passed place lines_seen in
+    bytes before (after ++ rows_of_passed format end c.name p (c.trail.offset + at) (lines end gap)) passed place
+    lines_seen in
     let h1 : Q (at + length n.gap) (seen + length (lines end n.gap)) n.gap =
     passed_step q format c hidden bytes before after p passed at seen h n.gap (n.text ++ n.later) joins
     (inl n.gap_whole) (inl n.gap_unselected) (subst P count passes) in
@@ -147,10 +148,12 @@ pub run_step : (q : Search) (format : Format) (c : Cursor) (hidden : List (List 
     → Passes p (run.first - seen) passed → Keeps passed format count next
     → count ≡ kept_of format.limit p.kept run.count → 0 < count → EndsKept (terminator q) bytes run count place →
     IsBefore q format c hidden bytes before ((after
-    ++ rows_of_passed format (terminator q) c.name p (lines (terminator q) (slice_range bytes at run.span.start)))
+    ++ rows_of_passed format (terminator q) c.name p (c.trail.offset + at)
+    (lines (terminator q) (slice_range bytes at run.span.start)))
     ++ rows_of_kept format (terminator q) c.name c.earlier
     (hidden ++ drop p.countdown (lines (terminator q) (slice_range bytes at run.span.start))) passed
-    (map (painted q format) (lines (terminator q) (slice_range bytes run.span.start place)))) next place
+    (c.trail.offset + run.span.start) (painted q format)
+    (lines (terminator q) (slice_range bytes run.span.start place))) next place
     (run.first + count) runs
 run_step q format c hidden bytes before after p passed next at seen count place run runs h are passes keeps is some
     ends =
@@ -159,7 +162,7 @@ run_step q format c hidden bytes before after p passed next at seen count place 
     let texts = next_texts q at seen bytes run n h.within in
     let few = kept_few format.limit p.kept run.count in
     let gap = lines end (slice_range bytes at run.span.start) in
-    let middle = after ++ rows_of_passed format end c.name p gap in
+    let middle = after ++ rows_of_passed format end c.name p (c.trail.offset + at) gap in
     let front = slice_range bytes run.span.start place in
     let ls = lines end (slice_range bytes run.span.start run.span.end) in
     let kept = kept_texts q at seen bytes run count place n h.within (omega (arith, is)) ends in
@@ -174,7 +177,7 @@ run_step q format c hidden bytes before after p passed next at seen count place 
     (drop_split bytes run.span.start place ends.low) kept.whole kept.selected (omega (arith, long)) below
     (subst P (sym long) keeps) in
     let rows = rows_of_kept format end c.name c.earlier (hidden ++ drop p.countdown gap) passed
-    (map (painted q format) (lines end front)) in
+    (c.trail.offset + run.span.start) (painted q format) (lines end front) in
     let Q : ℕ → Type 0 = λ k. IsAt q format c hidden bytes before (middle ++ rows) next k
     (run.first + length (lines end front)) in
     let R : ℕ → Type 0 = λ k. IsAt q format c hidden bytes before (middle ++ rows) next place (run.first + k) in

@@ -1,6 +1,6 @@
 -- Whole stretches of lines: what they leave remembered, and their rows.
 use Rattle.std.proofs.Common.{◌≡◌, ℕ, zero, suc, ◌+◌, ◌-◌, ◌<◌, ◌≤◌, inl, inr, Bool, true, false, ◌&&◌, ◌||◌, cond}
-use Rattle.std.proofs.Common.{nat_le, nat_lt, min, Option, Some, None, List, [], ◌∷◌, ◌++◌, length, take, drop, map}
+use Rattle.std.proofs.Common.{nat_le, nat_lt, min, Option, Some, None, List, [], ◌∷◌, ◌++◌, length, take, drop}
 use Rattle.std.proofs.Common.{refl}
 use Rattle.std.proofs.Common.{sym, ap, ◌∙◌, subst, arith, append_assoc, length-append, length-drop}
 use Rattle.std.specs.List.{AllByRecursion}
@@ -11,10 +11,10 @@ use Rattle.std.proofs.Math.Seq.{drop-nil}
 use Rattle.pg_lines.specs.Search.{Search, terminator}
 use Rattle.pg_lines.specs.Selection.{selects}
 use Rattle.pg_rows.specs.declared.format.Format.{Format}
-use Rattle.pg_rows.specs.Output.{is_below, context, gap_text, when, row, has_separators, painted}
+use Rattle.pg_rows.specs.Output.{is_below, context, gap_text, size_of, when, row, has_separators, painted}
 use Rattle.pg_rows.specs.Trail.{Trail, keeps, after_kept, after_context, after_other, step, run, run_rows, pieces_in}
-use Rattle.pg_rows.specs.Trail.{run_pieces, gap_row, context_rows, kept_rows}
-use Rattle.pg_rows.specs.Stretch.{marked_rows, AllSelected, AreUnkept, IsPassed, IsKept}
+use Rattle.pg_rows.specs.Trail.{run_pieces, gap_row, context_rows, kept_rows, with_offset}
+use Rattle.pg_rows.specs.Stretch.{marked_rows, plain, AllSelected, AreUnkept, IsPassed, IsKept}
 use Rattle.pg_rows.proofs.NearLemmas.{or_false}
 use Rattle.pg_rows.proofs.WindowLemmas.{kept_all}
 
@@ -27,27 +27,32 @@ run_append q format t (l ∷ ls) ms = run_append q format (step format t (select
 
 -- Rows with one mark.
 
-pub context_is_marked : (format : Format) (end : ℕ) (name : List ℕ) (number : ℕ) (ls : List (List ℕ)) →
-    context_rows format end name number ls ≡ marked_rows format end name 45 number ls
-context_is_marked format end name number [] = refl
-context_is_marked format end name number (l ∷ ls) =
-    ap (λ xs. row format end name number 45 l ++ xs) (context_is_marked format end name (number + 1) ls)
+pub context_is_marked : (format : Format) (end : ℕ) (name : List ℕ) (number offset : ℕ) (ls : List (List ℕ)) →
+    context_rows format end name number offset ls ≡ marked_rows format end name 45 plain number offset ls
+context_is_marked format end name number offset [] = refl
+context_is_marked format end name number offset (l ∷ ls) =
+    ap (λ xs. row format end name number offset 45 l ++ xs)
+    (context_is_marked format end name (number + 1) (offset + (length l + 1)) ls)
 
 -- One line that isn't kept.
 
+-- the offset behind a line
+abbrev pub further : List ℕ → Trail → Trail → Trail
+further l t later = with_offset (t.offset + (length l + 1)) later
+
 step_context : (format : Format) (t : Trail) (selected : Bool) (l : List ℕ) → keeps format t selected ≡ false
-    → 0 < t.countdown → step format t selected l ≡ after_context t
+    → 0 < t.countdown → step format t selected l ≡ further l t (after_context t)
 step_context format t selected l unkept some =
-    ap (λ b. cond b (after_kept format t)
-    (cond (nat_lt 0 t.countdown) (after_context t) (after_other format t l))) unkept
-    ∙ ap (λ b. cond b (after_context t) (after_other format t l)) (lt-ltb 0 t.countdown some)
+    ap (λ b. further l t (cond b (after_kept format t)
+    (cond (nat_lt 0 t.countdown) (after_context t) (after_other format t l)))) unkept
+    ∙ ap (λ b. further l t (cond b (after_context t) (after_other format t l))) (lt-ltb 0 t.countdown some)
 
 step_other : (format : Format) (t : Trail) (selected : Bool) (l : List ℕ) → keeps format t selected ≡ false
-    → t.countdown ≤ 0 → step format t selected l ≡ after_other format t l
+    → t.countdown ≤ 0 → step format t selected l ≡ further l t (after_other format t l)
 step_other format t selected l unkept none =
-    ap (λ b. cond b (after_kept format t)
-    (cond (nat_lt 0 t.countdown) (after_context t) (after_other format t l))) unkept
-    ∙ ap (λ b. cond b (after_context t) (after_other format t l)) (le-ltb 0 t.countdown none)
+    ap (λ b. further l t (cond b (after_kept format t)
+    (cond (nat_lt 0 t.countdown) (after_context t) (after_other format t l)))) unkept
+    ∙ ap (λ b. further l t (cond b (after_context t) (after_other format t l))) (le-ltb 0 t.countdown none)
 
 pub step_unkept : (format : Format) (t : Trail) (selected : Bool) (l : List ℕ) → keeps format t selected ≡ false
     → (step format t selected l).kept ≡ t.kept
@@ -73,7 +78,8 @@ unkept_next q format t l ls unkept =
 
 rows_of_counted : (q : Search) (format : Format) (name : List ℕ) (earlier : Bool) (t : Trail) (ls : List (List ℕ))
     (count : ℕ) → t.countdown ≡ count → AreUnkept q format t ls →
-    run_rows q format name earlier t ls ≡ marked_rows format (terminator q) name 45 (t.number + 1) (take count ls)
+    run_rows q format name earlier t ls
+    ≡ marked_rows format (terminator q) name 45 plain (t.number + 1) t.offset (take count ls)
 rows_of_counted q format name earlier t [] zero same unkept = refl
 rows_of_counted q format name earlier t [] (suc count) same unkept = refl
 rows_of_counted q format name earlier t (l ∷ ls) zero same unkept =
@@ -82,9 +88,10 @@ rows_of_counted q format name earlier t (l ∷ ls) zero same unkept =
     let next = step format t s l in
     let is_other = step_other format t s l unkept.0 none in
     ap (λ b. cond b (kept_rows format (terminator q) name earlier t (painted q format l))
-    (when (nat_lt 0 t.countdown) (row format (terminator q) name (t.number + 1) 45 l))
+    (when (nat_lt 0 t.countdown) (row format (terminator q) name (t.number + 1) t.offset 45 l))
     ++ run_rows q format name earlier next ls) unkept.0
-    ∙ (ap (λ b. when b (row format (terminator q) name (t.number + 1) 45 l) ++ run_rows q format name earlier next ls)
+    ∙ (ap (λ b. when b (row format (terminator q) name (t.number + 1) t.offset 45 l)
+    ++ run_rows q format name earlier next ls)
     (le-ltb 0 t.countdown none)
     ∙ rows_of_counted q format name earlier next ls zero (ap (λ u. u.countdown) is_other ∙ same)
     (unkept_next q format t l ls unkept))
@@ -93,7 +100,7 @@ rows_of_counted q format name earlier t (l ∷ ls) (suc count) same unkept =
     let some : 0 < t.countdown = omega arith in
     let next = step format t s l in
     let is_context = step_context format t s l unkept.0 some in
-    let own = row format (terminator q) name (t.number + 1) 45 l in
+    let own = row format (terminator q) name (t.number + 1) t.offset 45 l in
     let less : t.countdown - 1 ≡ count = omega arith in
     ap (λ b. cond b (kept_rows format (terminator q) name earlier t (painted q format l))
     (when (nat_lt 0 t.countdown) own)
@@ -101,13 +108,16 @@ rows_of_counted q format name earlier t (l ∷ ls) (suc count) same unkept =
     ∙ (ap (λ b. when b own ++ run_rows q format name earlier next ls) (lt-ltb 0 t.countdown some)
     ∙ (ap (λ xs. own ++ xs) (rows_of_counted q format name earlier next ls count
     (ap (λ u. u.countdown) is_context ∙ less) (unkept_next q format t l ls unkept))
-    ∙ ap (λ k. own ++ marked_rows format (terminator q) name 45 (k + 1) (take count ls))
-    (ap (λ u. u.number) is_context)))
+    ∙ (ap (λ k. own ++ marked_rows format (terminator q) name 45 plain (k + 1) next.offset (take count ls))
+    (ap (λ u. u.number) is_context)
+    ∙ ap (λ k. own ++ marked_rows format (terminator q) name 45 plain ((t.number + 1) + 1) k (take count ls))
+    (ap (λ u. u.offset) is_context))))
 
 -- their rows are those of the trailing context
 pub passed_rows : (q : Search) (format : Format) (name : List ℕ) (earlier : Bool) (t : Trail) (ls : List (List ℕ))
     → AreUnkept q format t ls →
-    run_rows q format name earlier t ls ≡ marked_rows format (terminator q) name 45 (t.number + 1) (take t.countdown ls)
+    run_rows q format name earlier t ls
+    ≡ marked_rows format (terminator q) name 45 plain (t.number + 1) t.offset (take t.countdown ls)
 passed_rows q format name earlier t ls unkept = rows_of_counted q format name earlier t ls t.countdown refl unkept
 
 pub passed_pieces : (q : Search) (format : Format) (name : List ℕ) (t : Trail) (ls : List (List ℕ))
@@ -115,7 +125,7 @@ pub passed_pieces : (q : Search) (format : Format) (name : List ℕ) (t : Trail)
 passed_pieces q format name t [] unkept = refl
 passed_pieces q format name t (l ∷ ls) unkept =
     let next = step format t (selects q l) l in
-    ap (λ b. when b (pieces_in q format name (t.number + 1) l) ++ run_pieces q format name next ls) unkept.0
+    ap (λ b. when b (pieces_in q format name (t.number + 1) t.offset l) ++ run_pieces q format name next ls) unkept.0
     ∙ passed_pieces q format name next ls (unkept_next q format t l ls unkept)
 
 keep_last_twice : {X : Type 0} (limit : ℕ) (xs ys : List X)
@@ -236,33 +246,34 @@ below_fewer None m n le below = refl
 below_fewer (Some limit) m n le below = let lt = ltb-true n limit below in lt-ltb m limit (omega arith)
 
 pub step_kept : (format : Format) (t : Trail) (selected : Bool) (l : List ℕ) → keeps format t selected ≡ true
-    → step format t selected l ≡ after_kept format t
+    → step format t selected l ≡ further l t (after_kept format t)
 step_kept format t selected l kept =
-    ap (λ b. cond b (after_kept format t) (cond (nat_lt 0 t.countdown) (after_context t) (after_other format t l))) kept
+    ap (λ b. further l t (cond b (after_kept format t)
+    (cond (nat_lt 0 t.countdown) (after_context t) (after_other format t l)))) kept
 
 -- behind a kept line the rows of kept lines stand alone
-more_kept_rows : (q : Search) (format : Format) (name : List ℕ) (earlier : Bool) (t : Trail) (ls : List (List ℕ))
-    → AllSelected q true ls → is_below (t.kept + length ls) format.limit ≡ true →
-    run_rows q format name earlier (after_kept format t) ls
-    ≡ marked_rows format (terminator q) name 58 ((t.number + 1) + 1) (map (painted q format) ls)
-more_kept_rows q format name earlier t [] selected below = refl
-more_kept_rows q format name earlier t (l ∷ ls) selected below =
-    let u = after_kept format t in
+more_kept_rows : (q : Search) (format : Format) (name : List ℕ) (earlier : Bool) (t : Trail) (offset : ℕ)
+    (ls : List (List ℕ)) → AllSelected q true ls → is_below (t.kept + length ls) format.limit ≡ true →
+    run_rows q format name earlier (with_offset offset (after_kept format t)) ls
+    ≡ marked_rows format (terminator q) name 58 (painted q format) ((t.number + 1) + 1) offset ls
+more_kept_rows q format name earlier t offset [] selected below = refl
+more_kept_rows q format name earlier t offset (l ∷ ls) selected below =
+    let u = with_offset offset (after_kept format t) in
     let s = selects q l in
     let first : is_below u.kept format.limit ≡ true =
     below_fewer format.limit u.kept (t.kept + suc (length ls)) (omega arith) below in
     let kept : keeps format u s ≡ true = and_from s (is_below u.kept format.limit) selected.0 first in
     let text = painted q format l in
-    let own = row format (terminator q) name (u.number + 1) 58 text in
-    let other = when (nat_lt 0 u.countdown) (row format (terminator q) name (u.number + 1) 45 l) in
+    let own = row format (terminator q) name (u.number + 1) offset 58 text in
+    let other = when (nat_lt 0 u.countdown) (row format (terminator q) name (u.number + 1) offset 45 l) in
     let sum : t.kept + suc (length ls) ≡ u.kept + length ls = omega arith in
     ap (λ b. cond b (kept_rows format (terminator q) name earlier u text) other ++ run_rows q format name earlier
     (step format u s l) ls) kept
     ∙ (ap (λ v. kept_rows format (terminator q) name earlier u text ++ run_rows q format name earlier v ls)
     (step_kept format u s l kept)
     ∙ (ap (λ b. (when b (gap_text format (terminator q)) ++ own) ++ run_rows q format name earlier
-    (after_kept format u) ls) (and_right (has_separators format) false refl)
-    ∙ ap (λ xs. own ++ xs) (more_kept_rows q format name earlier u ls selected.1
+    (further l u (after_kept format u)) ls) (and_right (has_separators format) false refl)
+    ∙ ap (λ xs. own ++ xs) (more_kept_rows q format name earlier u (offset + (length l + 1)) ls selected.1
     (ap (λ k. is_below k format.limit) (sym sum) ∙ below))))
 
 -- the first line adds the window and its own row, and the others add theirs
@@ -270,8 +281,9 @@ pub kept_lines_rows : (q : Search) (format : Format) (name : List ℕ) (earlier 
     (ls : List (List ℕ)) → AllSelected q true (l ∷ ls) → is_below (t.kept + length ls) format.limit ≡ true →
     run_rows q format name earlier t (l ∷ ls)
     ≡ gap_row format (terminator q) earlier t
-    ++ (context_rows format (terminator q) name ((t.number + 1) - length t.window) t.window
-    ++ marked_rows format (terminator q) name 58 (t.number + 1) (map (painted q format) (l ∷ ls)))
+    ++ (context_rows format (terminator q) name ((t.number + 1) - length t.window) (t.offset - size_of t.window)
+    t.window
+    ++ marked_rows format (terminator q) name 58 (painted q format) (t.number + 1) t.offset (l ∷ ls))
 kept_lines_rows q format name earlier t l ls selected below =
     let end = terminator q in
     let first : is_below t.kept format.limit ≡ true =
@@ -280,23 +292,25 @@ kept_lines_rows q format name earlier t l ls selected below =
     and_from (selects q l) (is_below t.kept format.limit) selected.0 first in
     let next = step format t (selects q l) l in
     let gap = gap_row format end earlier t in
-    let window = context_rows format end name ((t.number + 1) - length t.window) t.window in
+    let window = context_rows format end name ((t.number + 1) - length t.window) (t.offset - size_of t.window)
+    t.window in
     let text = painted q format l in
-    let own = row format end name (t.number + 1) 58 text in
-    let rest = marked_rows format end name 58 ((t.number + 1) + 1) (map (painted q format) ls) in
+    let own = row format end name (t.number + 1) t.offset 58 text in
+    let behind : ℕ = t.offset + (length l + 1) in
+    let rest = marked_rows format end name 58 (painted q format) ((t.number + 1) + 1) behind ls in
     ap (λ b. cond b (kept_rows format end name earlier t text)
-    (when (nat_lt 0 t.countdown) (row format end name (t.number + 1) 45 l))
+    (when (nat_lt 0 t.countdown) (row format end name (t.number + 1) t.offset 45 l))
     ++ run_rows q format name earlier next ls) kept
     ∙ (ap (λ u. (gap ++ (window ++ own)) ++ run_rows q format name earlier u ls)
     (step_kept format t (selects q l) l kept)
-    ∙ (ap (λ xs. (gap ++ (window ++ own)) ++ xs) (more_kept_rows q format name earlier t ls selected.1 below)
+    ∙ (ap (λ xs. (gap ++ (window ++ own)) ++ xs) (more_kept_rows q format name earlier t behind ls selected.1 below)
     ∙ (append_assoc gap (window ++ own) rest
     ∙ ap (λ xs. gap ++ xs) (append_assoc window own rest))))
 
-more_kept_trail : (q : Search) (format : Format) (t : Trail) (ls : List (List ℕ)) → AllSelected q true ls
-    → is_below (t.kept + length ls) format.limit ≡ true →
-    IsKept format t (length ls + 1) (run q format (after_kept format t) ls)
-more_kept_trail q format t [] selected below = record {
+more_kept_trail : (q : Search) (format : Format) (t : Trail) (offset : ℕ) (ls : List (List ℕ))
+    → AllSelected q true ls → is_below (t.kept + length ls) format.limit ≡ true →
+    IsKept format t (length ls + 1) (run q format (with_offset offset (after_kept format t)) ls)
+more_kept_trail q format t offset [] selected below = record {
   number = omega arith;
   kept = omega arith;
   countdown = refl;
@@ -304,14 +318,15 @@ more_kept_trail q format t [] selected below = record {
   skipped = refl;
   window = refl;
 }
-more_kept_trail q format t (l ∷ ls) selected below =
-    let u = after_kept format t in
+more_kept_trail q format t offset (l ∷ ls) selected below =
+    let u = with_offset offset (after_kept format t) in
     let s = selects q l in
     let first : is_below u.kept format.limit ≡ true =
     below_fewer format.limit u.kept (t.kept + suc (length ls)) (omega arith) below in
     let kept : keeps format u s ≡ true = and_from s (is_below u.kept format.limit) selected.0 first in
     let sum : t.kept + suc (length ls) ≡ u.kept + length ls = omega arith in
-    let later = more_kept_trail q format u ls selected.1 (ap (λ k. is_below k format.limit) (sym sum) ∙ below) in
+    let later = more_kept_trail q format u (offset + (length l + 1)) ls selected.1
+    (ap (λ k. is_below k format.limit) (sym sum) ∙ below) in
     let P : Trail → Type 0 = λ v. IsKept format t (suc (length ls) + 1) (run q format v ls) in
     subst P (sym (step_kept format u s l kept)) (record {
       number = let e = later.number in omega arith;
@@ -333,9 +348,9 @@ kept_trail q format t l ls selected below =
     and_from (selects q l) (is_below t.kept format.limit) selected.0 first in
     let P : Trail → Type 0 = λ v. IsKept format t (length (l ∷ ls)) (run q format v ls) in
     let count : length ls + 1 ≡ length (l ∷ ls) = omega arith in
-    let Q : ℕ → Type 0 = λ k. IsKept format t k (run q format (after_kept format t) ls) in
+    let Q : ℕ → Type 0 = λ k. IsKept format t k (run q format (further l t (after_kept format t)) ls) in
     subst P (sym (step_kept format t (selects q l) l kept))
-    (subst Q count (more_kept_trail q format t ls selected.1 below))
+    (subst Q count (more_kept_trail q format t (t.offset + (length l + 1)) ls selected.1 below))
 
 -- lines that aren't selected aren't kept, and none is once the limit is reached
 

@@ -7,7 +7,8 @@ use Rattle.circular_buffer.specs.Buffer.{keep_last}
 use Rattle.std.proofs.lemmas.Bool.{false≢true, le-leb, lt-leb, lt-ltb, le-ltb, ltb-true, ltb-false, cases_lt}
 use Rattle.std.proofs.lemmas.Bool.{cases_Bool}
 use Rattle.std.proofs.lemmas.List.{append-nil, get_or_append_left, get_or_push, take-append-le, take_at, length_push}
-use Rattle.std.proofs.lemmas.List.{drop-append-le, drop-drop, get_or-drop, drop_all}
+use Rattle.std.proofs.lemmas.List.{take-append-drop, drop-append-le, drop-drop, get_or-drop, drop_all}
+use Rattle.std.proofs.Math.Seq.{take-add}
 use Rattle.std.proofs.lemmas.List.Concat.{flat_map-append}
 use Rattle.std.proofs.lemmas.List.Elements.{filter-append}
 use Rattle.std.proofs.lemmas.List.Sums.{sum_by_push}
@@ -15,12 +16,15 @@ use Rattle.pg_lines.specs.Search.{Search, terminator}
 use Rattle.pg_lines.specs.Selection.{selects}
 use Rattle.pg_lines.proofs.HitLemmas.{some_in_range}
 use Rattle.pg_rows.specs.declared.format.Format.{Format}
-use Rattle.pg_rows.specs.Output.{line_at, is_below, is_kept, is_near, context, members, when, row, has_separators}
+use Rattle.pg_rows.specs.Output.{line_at, line_start, size_of, is_below, is_kept, is_near, context, members, when}
+use Rattle.pg_rows.specs.Output.{row, has_separators}
 use Rattle.pg_rows.specs.Output.{gap_text, is_behind, separator, mark_of, line_rows, piece_rows, painted, shown_text}
-use Rattle.pg_rows.specs.Trail.{Trail, no_lines, keeps, after_kept, after_context, after_other, step, gap_row}
+use Rattle.pg_rows.specs.Trail.{Trail, no_lines, keeps, after_kept, after_context, after_other, with_offset, step}
+use Rattle.pg_rows.specs.Trail.{gap_row}
 use Rattle.pg_rows.specs.Trail.{context_rows, kept_rows, added, pieces_in, added_pieces}
 use Rattle.pg_rows.proofs.NearLemmas.{range_more, IsNear, near_none, near_same, old_below, new_above, new_self}
 use Rattle.pg_rows.proofs.NearLemmas.{IsNear-kept, IsNear-context, IsNear-other}
+use Rattle.pg_rows.proofs.SizeLemmas.{size_append, size_push}
 use Rattle.pg_rows.proofs.PutLemmas.{put, put_first, put_same, put_none, put_all, put_split, separator_same}
 
 -- the first place of the window: the last B of the places from d to n
@@ -39,6 +43,7 @@ Quota limit kept count = (kept ≡ count) ⊎ ((is_below kept limit ≡ false) �
 -- what is remembered fits the lines
 pub record IsTrail (q : Search) (format : Format) (ls : List (List ℕ)) (t : Trail) : Type 0 where
   pub number : t.number ≡ length ls
+  pub offset : t.offset ≡ size_of ls
   pub count : t.kept ≡ length (members (is_kept q format.limit ls) ls)
   pub quota : Quota format.limit t.kept (count_by (selects q) ls)
   pub done : ℕ
@@ -118,18 +123,25 @@ keep_more B n d ls l e low =
     ap (λ xs. drop (length (drop f ls ++ l ∷ []) - B) xs) (sym (drop-append-le f ls (l ∷ []) inside))
     ∙ (drop-drop (length (drop f ls ++ l ∷ []) - B) f (ls ++ l ∷ []) ∙ ap (λ m. drop m (ls ++ l ∷ [])) k)
 
-rows_are : (format : Format) (end : ℕ) (name : List ℕ) (r : ℕ → List ℕ) (k : ℕ) (ws : List (List ℕ))
-    → ((i : ℕ) → i < length ws → r (k + i) ≡ row format end name ((k + i) + 1) 45 (get_or ws i []))
-    → flat_map r (range_with_len k (length ws)) ≡ context_rows format end name (k + 1) ws
-rows_are format end name r k [] h = refl
-rows_are format end name r k (w ∷ ws) h =
+rows_are : (format : Format) (end : ℕ) (name : List ℕ) (r : ℕ → List ℕ) (k o : ℕ) (ws : List (List ℕ))
+    → ((i : ℕ) → i < length ws
+    → r (k + i) ≡ row format end name ((k + i) + 1) (o + line_start ws i) 45 (get_or ws i []))
+    → flat_map r (range_with_len k (length ws)) ≡ context_rows format end name (k + 1) o ws
+rows_are format end name r k o [] h = refl
+rows_are format end name r k o (w ∷ ws) h =
     let z : k + 0 ≡ k = omega arith in
-    let first : r k ≡ row format end name (k + 1) 45 w = ap r (sym z)
-    ∙ (h 0 (omega arith) ∙ ap (λ m. row format end name (m + 1) 45 w) z) in
+    let y : o + 0 ≡ o = omega arith in
+    let first : r k ≡ row format end name (k + 1) o 45 w = ap r (sym z)
+    ∙ (h 0 (omega arith) ∙ (ap (λ m. row format end name (m + 1) (o + 0) 45 w) z
+    ∙ ap (λ m. row format end name (k + 1) m 45 w) y)) in
     ap (λ xs. xs ++ flat_map r (range_with_len (k + 1) (length ws))) first
-    ∙ ap (λ xs. row format end name (k + 1) 45 w ++ xs) (rows_are format end name r (k + 1) ws (λ i below.
+    ∙ ap (λ xs. row format end name (k + 1) o 45 w ++ xs)
+    (rows_are format end name r (k + 1) (o + (length w + 1)) ws (λ i below.
     let e : (k + 1) + i ≡ k + suc i = omega arith in
-    ap r e ∙ (h (suc i) (omega arith) ∙ ap (λ m. row format end name (m + 1) 45 (get_or ws i [])) (sym e))))
+    let f : o + ((length w + 1) + line_start ws i) ≡ (o + (length w + 1)) + line_start ws i = omega arith in
+    ap r e ∙ (h (suc i) (omega arith)
+    ∙ (ap (λ m. row format end name (m + 1) (o + ((length w + 1) + line_start ws i)) 45 (get_or ws i [])) (sym e)
+    ∙ ap (λ m. row format end name (((k + 1) + i) + 1) m 45 (get_or ws i [])) f))))
 
 separator_is : (c x b a s k : Bool) → ((s ≡ true) × (a ≡ true) × (not b ≡ k))
     ⊎ ((s ≡ false) × (a ≡ false) × (b ≡ false)) → (c && not b && (x || a)) ≡ (c && cond s k x)
@@ -152,7 +164,8 @@ separator_is true x b a s k (inr p) = ap (λ u. not u && (x || a)) p.2
 -- what one place gives
 abbrev pub emit_of : Search → Format → List ℕ → Bool → (ℕ → Bool) → (ℕ → Bool) → List (List ℕ) → ℕ → List ℕ
 emit_of q format name earlier set kept ls i =
-    separator format (terminator q) set earlier i ++ row format (terminator q) name (i + 1) (mark_of (kept i))
+    separator format (terminator q) set earlier i
+    ++ row format (terminator q) name (i + 1) (line_start ls i) (mark_of (kept i))
     (shown_text q format (kept i) (line_at ls i))
 
 module _ (q : Search) (format : Format) (ls : List (List ℕ)) (l : List ℕ) (t : Trail) (h : IsTrail q format ls t) where
@@ -182,6 +195,16 @@ module _ (q : Search) (format : Format) (ls : List (List ℕ)) (l : List ℕ) (t
 
   line_new : line_at more n ≡ l
   line_new = get_or_push ls l [] n refl
+
+  -- a line begins where it began, and the new one behind the others
+  start_same : (i : ℕ) → i ≤ n → line_start more i ≡ line_start ls i
+  start_same i below = ap size_of (take-append-le i ls (l ∷ []) below)
+
+  start_new : line_start more n ≡ t.offset
+  start_new = ap size_of (take_at ls (l ∷ []) n refl) ∙ sym h.offset
+
+  offset_more : t.offset + (length l + 1) ≡ size_of more
+  offset_more = ap (λ k. k + (length l + 1)) h.offset ∙ sym (size_push ls l)
 
   kept_same : (i : ℕ) → i < n → kept' i ≡ kept i
   kept_same i below =
@@ -228,7 +251,10 @@ module _ (q : Search) (format : Format) (ls : List (List ℕ)) (l : List ℕ) (t
   drop_end : (k : ℕ) → k ≡ length more → drop k more ≡ []
   drop_end k e = drop_all k more (omega arith)
 
-  trail_kept : keeps format t (selects q l) ≡ true → IsTrail q format more (after_kept format t)
+  abbrev moved : Trail → Trail
+  moved = with_offset (t.offset + (length l + 1))
+
+  trail_kept : keeps format t (selects q l) ≡ true → IsTrail q format more (moved (after_kept format t))
   trail_kept e =
       let P : ℕ → Type 0 = λ m. Near m m (after_of format) in
       let one : t.kept + cond (keeps format t (selects q l)) 1 0 ≡ t.kept + 1 = ap (λ b. t.kept + cond b 1 0) e in
@@ -236,6 +262,7 @@ module _ (q : Search) (format : Format) (ls : List (List ℕ)) (l : List ℕ) (t
       let at : window_at (before_of format) (length more) (length more) ≡ length more = omega arith in
       record {
         number = number_more;
+        offset = offset_more;
         count = sym one ∙ sym count_more;
         quota = subst W one quota_more;
         done = length more;
@@ -246,7 +273,8 @@ module _ (q : Search) (format : Format) (ls : List (List ℕ)) (l : List ℕ) (t
         window = sym (drop_end (window_at (before_of format) (length more) (length more)) at);
       }
 
-  trail_context : keeps format t (selects q l) ≡ false → 0 < t.countdown → IsTrail q format more (after_context t)
+  trail_context : keeps format t (selects q l) ≡ false → 0 < t.countdown
+      → IsTrail q format more (moved (after_context t))
   trail_context e some =
       let P : ℕ → Type 0 = λ m. Near m m (t.countdown - 1) in
       let none : t.kept + cond (keeps format t (selects q l)) 1 0 ≡ t.kept = let z : t.kept + 0 ≡ t.kept =
@@ -258,6 +286,7 @@ module _ (q : Search) (format : Format) (ls : List (List ℕ)) (l : List ℕ) (t
       let empty : drop n ls ≡ [] = drop_all n ls (omega arith) in
       record {
         number = number_more;
+        offset = offset_more;
         count = sym none ∙ sym count_more;
         quota = subst W none quota_more;
         done = length more;
@@ -295,7 +324,8 @@ module _ (q : Search) (format : Format) (ls : List (List ℕ)) (l : List ℕ) (t
             ∙ sym (lt-ltb (before_of format) (length more - h.done) (omega (arith, long)))
       ])
 
-  trail_other : keeps format t (selects q l) ≡ false → t.countdown ≡ 0 → IsTrail q format more (after_other format t l)
+  trail_other : keeps format t (selects q l) ≡ false → t.countdown ≡ 0
+      → IsTrail q format more (moved (after_other format t l))
   trail_other e none_left =
       let P : ℕ → Type 0 = λ m. Near m h.done 0 in
       let Q : ℕ → Type 0 = λ c. Near (length more) h.done c in
@@ -304,6 +334,7 @@ module _ (q : Search) (format : Format) (ls : List (List ℕ)) (l : List ℕ) (t
       let W : ℕ → Type 0 = λ k. Quota format.limit k (count_by (selects q) more) in
       record {
         number = number_more;
+        offset = offset_more;
         count = sym none ∙ sym count_more;
         quota = subst W none quota_more;
         done = h.done;
@@ -321,7 +352,8 @@ module _ (q : Search) (format : Format) (ls : List (List ℕ)) (l : List ℕ) (t
   trail_step = go (keeps format t (selects q l)) refl (nat_lt 0 t.countdown) refl
     where
       go : (a : Bool) → keeps format t (selects q l) ≡ a → (b : Bool) → nat_lt 0 t.countdown ≡ b
-          → IsTrail q format more (cond a (after_kept format t) (cond b (after_context t) (after_other format t l)))
+          → IsTrail q format more
+          (moved (cond a (after_kept format t) (cond b (after_context t) (after_other format t l))))
       go true e b f = trail_kept e
       go false e true f = trail_context e (ltb-true 0 t.countdown f)
       go false e false f = trail_other e (let z : t.countdown ≤ 0 = ltb-false 0 t.countdown f in omega arith)
@@ -341,17 +373,24 @@ module _ (q : Search) (format : Format) (ls : List (List ℕ)) (l : List ℕ) (t
   pub pieces_step : (name : List ℕ) → piece_rows q format name more ≡ piece_rows q format name ls ++ added_pieces q
       format name t l
   pieces_step name =
-      let given : List (List ℕ) → ℕ → List ℕ = λ xs i. pieces_in q format name (i + 1) (line_at xs i) in
+      let given : List (List ℕ) → ℕ → List ℕ = λ xs i. pieces_in q format name (i + 1) (line_start xs i) (line_at xs i)
+      in
       ap (put kept' (given more) 0) long
       ∙ (put_last kept' (given more) n
       ∙ (ap (λ xs. xs ++ cond (kept' n) (given more n) [])
       (put_same kept' kept (given more) (given ls) 0 n (λ i _ high.
       ap (λ b. cond b (given more i) []) (kept_same i (omega arith))
-      ∙ ap (λ x. cond (kept i) (pieces_in q format name (i + 1) x) []) (line_same i (omega arith))))
+      ∙ (ap (λ x. cond (kept i) (pieces_in q format name (i + 1) (line_start more i) x) [])
+      (line_same i (omega arith))
+      ∙ ap (λ o. cond (kept i) (pieces_in q format name (i + 1) o (line_at ls i)) [])
+      (start_same i (omega arith)))))
       ∙ ap (λ xs. put kept (given ls) 0 n ++ xs)
       (ap (λ b. cond b (given more n) []) kept_new
-      ∙ (ap (λ x. cond (keeps format t (selects q l)) (pieces_in q format name (n + 1) x) []) line_new
-      ∙ ap (λ k. cond (keeps format t (selects q l)) (pieces_in q format name (k + 1) l) []) (sym h.number)))))
+      ∙ (ap (λ x. cond (keeps format t (selects q l)) (pieces_in q format name (n + 1) (line_start more n) x) [])
+      line_new
+      ∙ (ap (λ o. cond (keeps format t (selects q l)) (pieces_in q format name (n + 1) o l) []) start_new
+      ∙ ap (λ k. cond (keeps format t (selects q l)) (pieces_in q format name (k + 1) t.offset l) [])
+      (sym h.number))))))
 
   module _ (name : List ℕ) (earlier : Bool) where
     abbrev end : ℕ
@@ -369,19 +408,28 @@ module _ (q : Search) (format : Format) (ls : List (List ℕ)) (l : List ℕ) (t
 
     -- the row alone
     abbrev bare : ℕ → List ℕ
-    bare i = row format end name (i + 1) (mark_of (kept' i)) (shown_text q format (kept' i) (line_at more i))
+    bare i = row format end name (i + 1) (line_start more i) (mark_of (kept' i))
+        (shown_text q format (kept' i) (line_at more i))
 
     rows_more : line_rows q format name more earlier ≡ put set' emit' 0 (suc n)
     rows_more = ap (λ k. put (is_near kept' (before_of format) (after_of format) k)
         (emit_of q format name earlier (is_near kept' (before_of format) (after_of format) k) kept' more) 0 k) long
 
     -- the row of a line, by whether it is kept
-    abbrev bare_of : ℕ → Bool → List ℕ → List ℕ
-    bare_of i b x = row format end name (i + 1) (mark_of b) (shown_text q format b x)
+    abbrev bare_of : ℕ → ℕ → Bool → List ℕ → List ℕ
+    bare_of i o b x = row format end name (i + 1) o (mark_of b) (shown_text q format b x)
 
-    bare_old : (i : ℕ) → i < n → bare i ≡ bare_of i (kept i) (line_at ls i)
+    bare_old : (i : ℕ) → i < n → bare i ≡ bare_of i (line_start ls i) (kept i) (line_at ls i)
     bare_old i below =
-        ap (λ b. bare_of i b (line_at more i)) (kept_same i below) ∙ ap (bare_of i (kept i)) (line_same i below)
+        ap (λ b. bare_of i (line_start more i) b (line_at more i)) (kept_same i below)
+        ∙ (ap (bare_of i (line_start more i) (kept i)) (line_same i below)
+        ∙ ap (λ o. bare_of i o (kept i) (line_at ls i)) (start_same i (omega (arith, below))))
+
+    -- the row of the new line
+    bare_new : (b : Bool) → kept' n ≡ b → bare n ≡ bare_of n t.offset b l
+    bare_new b e =
+        ap (λ b. bare_of n (line_start more n) b (line_at more n)) e
+        ∙ (ap (bare_of n (line_start more n) b) line_new ∙ ap (λ o. bare_of n o b l) start_new)
 
     emit_same : (i : ℕ) → i < n → ((k : ℕ) → k < i → set' k ≡ set k) → emit' i ≡ emit i
     emit_same i below s =
@@ -426,7 +474,7 @@ module _ (q : Search) (format : Format) (ls : List (List ℕ)) (l : List ℕ) (t
         drop_when false x = refl
 
     rows_context : kept' n ≡ false → 0 < t.countdown
-        → put set' emit' 0 (suc n) ≡ put set emit 0 n ++ row format end name (n + 1) 45 l
+        → put set' emit' 0 (suc n) ≡ put set emit 0 n ++ row format end name (n + 1) t.offset 45 l
     rows_context e some =
         let s = near_same kept kept' (before_of format) (after_of format) n h.done t.countdown kept_same h.near e in
         let here : set' n ≡ true = s n ∙ (h.near.coming n (omega arith) ∙ lt-ltb n (n + t.countdown) (omega arith)) in
@@ -436,7 +484,7 @@ module _ (q : Search) (format : Format) (ls : List (List ℕ)) (l : List ℕ) (t
         ∙ (ap (λ xs. xs ++ emit' n) (old_part n (omega arith) (λ i below. s i))
         ∙ ap (λ xs. put set emit 0 n ++ xs)
         (no_separator n (omega (arith, f.0, f.1)) (λ k g. s k ∙ h.near.last k (omega (arith, f.0)))
-        ∙ (ap (λ b. bare_of n b (line_at more n)) e ∙ ap (bare_of n false) line_new))))
+        ∙ bare_new false e)))
 
     -- the first place of the window
     abbrev at : ℕ
@@ -503,20 +551,34 @@ module _ (q : Search) (format : Format) (ls : List (List ℕ)) (l : List ℕ) (t
               )
         ]))
 
+    -- where the lines of the window begin
+    window_start : (i : ℕ) → line_start ls (at + i) ≡ (t.offset - size_of t.window) + line_start t.window i
+    window_start i =
+        let apart : take (at + i) ls ≡ take at ls ++ take i (drop at ls) = take-add at i ls in
+        let whole = ap size_of (take-append-drop at ls) in
+        let both = size_append (take at ls) (drop at ls) in
+        let held = ap size_of h.window in
+        let first : size_of (take at ls) ≡ t.offset - size_of t.window = omega (arith, h.offset) in
+        ap size_of apart ∙ (size_append (take at ls) (take i (drop at ls))
+        ∙ (ap (λ k. k + line_start (drop at ls) i) first
+        ∙ ap (λ ws. (t.offset - size_of t.window) + line_start ws i) (sym h.window)))
+
     window_rows : flat_map bare (range_with_len at (length t.window)) ≡ context_rows format end name
-        ((t.number + 1) - length t.window) t.window
+        ((t.number + 1) - length t.window) (t.offset - size_of t.window) t.window
     window_rows =
         let w = window_length in
         let k : at + 1 ≡ (t.number + 1) - length t.window = omega (arith, h.number) in
-        rows_are format end name bare at t.window (λ i below.
+        let o : ℕ = t.offset - size_of t.window in
+        rows_are format end name bare at o t.window (λ i below.
         let d = h.near.low in
         let inside : at + i < n = omega arith in
         bare_old (at + i) inside
-        ∙ (ap (λ b. bare_of (at + i) b (line_at ls (at + i)))
+        ∙ (ap (λ b. bare_of (at + i) (line_start ls (at + i)) b (line_at ls (at + i)))
         (unkept (at + i) inside (h.near.none (at + i) (omega arith) inside))
-        ∙ ap (bare_of (at + i) false)
-        (sym (ap (λ xs. get_or xs i []) h.window ∙ get_or-drop at ls i []))))
-        ∙ ap (λ m. context_rows format end name m t.window) k
+        ∙ (ap (bare_of (at + i) (line_start ls (at + i)) false)
+        (sym (ap (λ xs. get_or xs i []) h.window ∙ get_or-drop at ls i []))
+        ∙ ap (λ m. bare_of (at + i) m false (get_or t.window i [])) (window_start i))))
+        ∙ ap (λ m. context_rows format end name m o t.window) k
 
     new_part : kept' n ≡ true → put set' emit' at (suc n - at) ≡ kept_rows format end name earlier t text
     new_part e =
@@ -540,10 +602,9 @@ module _ (q : Search) (format : Format) (ls : List (List ℕ)) (l : List ℕ) (t
         ∙ (flat_map-append bare (range_with_len at m) ((at + m) ∷ [])
         ∙ (ap (λ xs. flat_map bare (range_with_len at m) ++ xs)
         (append-nil (bare (at + m)) ∙
-        (ap bare last ∙ (ap (λ b. bare_of n b (line_at more n)) e
-        ∙ (ap (bare_of n true) line_new
-        ∙ ap (λ k. row format end name (k + 1) 58 text) (sym h.number)))))
-        ∙ ap (λ xs. xs ++ row format end name (t.number + 1) 58 text) window_rows))))))))
+        (ap bare last ∙ (bare_new true e
+        ∙ ap (λ k. row format end name (k + 1) t.offset 58 text) (sym h.number))))
+        ∙ ap (λ xs. xs ++ row format end name (t.number + 1) t.offset 58 text) window_rows))))))))
 
     rows_kept : kept' n ≡ true → put set' emit' 0 (suc n) ≡ put set emit 0 n ++ kept_rows format end name earlier t text
     rows_kept e =
@@ -570,10 +631,10 @@ module _ (q : Search) (format : Format) (ls : List (List ℕ)) (l : List ℕ) (t
       where
         go : (a : Bool) → keeps format t (selects q l) ≡ a → (b : Bool) → nat_lt 0 t.countdown ≡ b
             → put set' emit' 0 (suc n) ≡ put set emit 0 n ++ cond a (kept_rows format end name earlier t text)
-            (when b (row format end name (t.number + 1) 45 l))
+            (when b (row format end name (t.number + 1) t.offset 45 l))
         go true e b f = rows_kept (kept_new ∙ e)
         go false e true f = rows_context (kept_new ∙ e) (ltb-true 0 t.countdown f)
-            ∙ ap (λ k. put set emit 0 n ++ row format end name (k + 1) 45 l) (sym h.number)
+            ∙ ap (λ k. put set emit 0 n ++ row format end name (k + 1) t.offset 45 l) (sym h.number)
         go false e false f = rows_other (kept_new ∙ e)
             (let z : t.countdown ≤ 0 = ltb-false 0 t.countdown f in omega arith) ∙ sym (append-nil (put set emit 0 n))
 
@@ -581,6 +642,7 @@ module _ (q : Search) (format : Format) (ls : List (List ℕ)) (l : List ℕ) (t
 pub no_trail : (q : Search) (format : Format) → IsTrail q format [] no_lines
 no_trail q format = record {
   number = refl;
+  offset = refl;
   count = refl;
   quota = inl refl;
   done = 0;

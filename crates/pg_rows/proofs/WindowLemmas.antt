@@ -10,9 +10,11 @@ use Rattle.circular_buffer.specs.Buffer.{Buffer, buffer, keep_last}
 use Rattle.pg_lines.specs.Lines.{lines}
 use Rattle.pg_rows.specs.declared.format.Format.{Format}
 use Rattle.pg_rows.specs.declared.window.Tail.{Tail}
-use Rattle.pg_rows.specs.Stretch.{marked_rows}
+use Rattle.pg_rows.specs.Output.{size_of}
+use Rattle.pg_rows.specs.Stretch.{marked_rows, plain}
 use Rattle.pg_rows.specs.Window.{tail_lines, lines_in, IsTail, AreHeld, GivesUp}
 use Rattle.pg_rows.proofs.RowLemmas.{marked_append}
+use Rattle.pg_rows.proofs.SizeLemmas.{size_append}
 
 -- bytes don't have more lines than bytes
 pub few_lines : (end : ℕ) (xs : List ℕ) → length (lines end xs) ≤ length xs
@@ -200,20 +202,36 @@ lines_pushed {A} end tails size t pushed same = ap (λ (b : Buffer (Tail A)). li
 
 -- Tails that are written.
 
+-- the lines of the first tail and of those behind it, where some first lines are skipped
+tails_apart : {A : Type 0} (end skip : ℕ) (t : Tail A) (ts : List (Tail A)) → IsTail end t
+    → drop skip (lines_in end (t ∷ ts))
+    ≡ drop skip (tail_lines end t) ++ drop (skip - t.lines) (lines_in end ts)
+tails_apart end skip t ts tail =
+    drop_both skip (tail_lines end t) (lines_in end ts)
+    ∙ ap (λ k. drop skip (tail_lines end t) ++ drop (skip - k) (lines_in end ts)) (sym tail.counted)
+
+pub shown_size : {A : Type 0} (end skip : ℕ) (t : Tail A) (ts : List (Tail A)) → IsTail end t
+    → size_of (drop skip (lines_in end (t ∷ ts)))
+    ≡ size_of (drop skip (tail_lines end t)) + size_of (drop (skip - t.lines) (lines_in end ts))
+shown_size end skip t ts tail =
+    ap size_of (tails_apart end skip t ts tail)
+    ∙ size_append (drop skip (tail_lines end t)) (drop (skip - t.lines) (lines_in end ts))
+
 -- the rows of the first tail and of those behind it, where some first lines are skipped
-pub shown_tails : {A : Type 0} (format : Format) (end : ℕ) (name : List ℕ) (number skip : ℕ) (t : Tail A)
+pub shown_tails : {A : Type 0} (format : Format) (end : ℕ) (name : List ℕ) (number offset skip : ℕ) (t : Tail A)
     (ts : List (Tail A)) → IsTail end t
-    → marked_rows format end name 45 number (drop skip (lines_in end (t ∷ ts)))
-    ≡ marked_rows format end name 45 number (drop skip (tail_lines end t)) ++ marked_rows format end name 45
-    (number + (t.lines - skip)) (drop (skip - t.lines) (lines_in end ts))
-shown_tails format end name number skip t ts tail =
+    → marked_rows format end name 45 plain number offset (drop skip (lines_in end (t ∷ ts)))
+    ≡ marked_rows format end name 45 plain number offset (drop skip (tail_lines end t))
+    ++ marked_rows format end name 45 plain (number + (t.lines - skip))
+    (offset + size_of (drop skip (tail_lines end t))) (drop (skip - t.lines) (lines_in end ts))
+shown_tails format end name number offset skip t ts tail =
     let shown = drop skip (tail_lines end t) in
+    let rows = λ (n o : ℕ) (ls : List (List ℕ)). marked_rows format end name 45 plain n o ls in
     let n : length shown ≡ t.lines - skip = omega (arith, length-drop skip (tail_lines end t), tail.counted) in
-    ap (marked_rows format end name 45 number) (drop_both skip (tail_lines end t) (lines_in end ts))
-    ∙ (ap (λ k. marked_rows format end name 45 number (shown ++ drop (skip - k) (lines_in end ts))) (sym tail.counted)
-    ∙ (marked_append format end name 45 number shown (drop (skip - t.lines) (lines_in end ts))
-    ∙ ap (λ k. marked_rows format end name 45 number shown ++ marked_rows format end name 45 (number + k)
-    (drop (skip - t.lines) (lines_in end ts))) n))
+    ap (rows number offset) (tails_apart end skip t ts tail)
+    ∙ (marked_append format end name 45 plain number offset shown (drop (skip - t.lines) (lines_in end ts))
+    ∙ ap (λ k. rows number offset shown ++ rows (number + k) (offset + size_of shown)
+    (drop (skip - t.lines) (lines_in end ts))) n)
 
 pub shown_count : {A : Type 0} (end skip : ℕ) (t : Tail A) (ts : List (Tail A)) → IsTail end t
     → length (drop skip (lines_in end (t ∷ ts))) ≡ (t.lines - skip) + length (drop (skip - t.lines) (lines_in end ts))

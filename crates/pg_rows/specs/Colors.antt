@@ -2,7 +2,7 @@
 -- an erasure of the rest of the line behind it (8.3.41).
 use Rattle.std.specs.Prelude.{ℕ, Bool, true, false, ◌||◌, ◌==◌, if◌then◌else◌, List, [], ◌∷◌, ◌++◌, drop, slice_range}
 
--- the codes: "35" for names, "32" for numbers, "36" for marks and hyphens, "01;31" for matched parts
+-- the codes: "35" for names, "32" for numbers, "36" for marks and separators, "01;31" for matched parts
 abbrev pub name_color : List ℕ
 name_color = 51 ∷ 53 ∷ []
 

@@ -1,5 +1,6 @@
 pub mod Modes
 pub mod Colors
+pub mod Separator
 pub mod Output
 pub mod Trail
 pub mod Stretch

@@ -1,5 +1,5 @@
 -- What is written for files, and the exit status (XCU grep, STDOUT and EXIT STATUS; GNU grep for -m, -A, -B, -C, -o,
--- -L, -T, -Z, --color and --no-group-separator).
+-- -b, -L, -T, -Z, --color, --group-separator and --no-group-separator).
 use Rattle.std.specs.Prelude.{◌≡◌, ℕ, zero, suc, ◌+◌, nat_lt, nat_le, Bool, true, false, not, ◌&&◌, ◌||◌, if◌then◌else◌}
 use Rattle.std.specs.Prelude.{is_some, Option, Some, None, List, [], ◌∷◌, ◌++◌, length, take, slice_range}
 use Rattle.std.specs.Prelude.{slice_index_or, unwrap_or}
@@ -11,11 +11,21 @@ use Rattle.pg_lines.specs.Selection.{selects, parts}
 use Rattle.pg_rows.specs.declared.format.Format.{Format}
 use Rattle.pg_rows.specs.Colors.{in_color, name_color, number_color, mark_color, part_color, painted_from}
 use Rattle.pg_rows.specs.Modes.{is_quiet, is_named, rows_in}
+use Rattle.pg_rows.specs.Separator.{text_between}
 
 -- A file's lines have places 0, 1, 2, ..; a set of places is a test.
 
 abbrev pub line_at : List (List ℕ) → ℕ → List ℕ
 line_at ls i = slice_index_or ls i []
+
+-- how many bytes lines have, each with its terminator
+abbrev pub size_of : List (List ℕ) → ℕ
+size_of [] = 0
+size_of (l ∷ ls) = (length l + 1) + size_of ls
+
+-- where a line begins in its file: behind the lines before it, each with its terminator
+abbrev pub line_start : List (List ℕ) → ℕ → ℕ
+line_start ls i = size_of (take i ls)
 
 abbrev pub is_below : ℕ → Option ℕ → Bool
 is_below n None = true
@@ -67,30 +77,40 @@ abbrev pub is_nothing : List ℕ → Bool
 is_nothing [] = true
 is_nothing (b ∷ bytes) = false
 
--- with -T a tab (9) stands before a text that isn't empty, where the name or the number stands before it
-abbrev pub tab_before : Format → Bool → List ℕ
-tab_before format has_text = when (format.tabs && ((format.names || format.numbers) && has_text)) (9 ∷ [])
+-- rows have something before their texts
+abbrev pub has_prefix : Format → Bool
+has_prefix format = (format.names || format.numbers) || format.offsets
 
--- a row: the name and the line's number where they are asked for, each with a mark; a tab; the text; the terminator
-abbrev pub row : Format → ℕ → List ℕ → ℕ → ℕ → List ℕ → List ℕ
-row format end name number mark text =
+-- with -T a tab (9) stands before a text that isn't empty, where something else stands before it
+abbrev pub tab_before : Format → Bool → List ℕ
+tab_before format has_text = when (format.tabs && (has_prefix format && has_text)) (9 ∷ [])
+
+-- a number in a row, and its mark
+abbrev pub number_text : Format → (mark number : ℕ) → List ℕ
+number_text format mark number = in_color format.colored number_color (decimal number) ++ mark_text format mark
+
+-- a row: the name, the line's number and the offset of its first byte where they are asked for, each with a mark; a
+-- tab; the text; the terminator
+abbrev pub row : Format → ℕ → List ℕ → (number offset mark : ℕ) → List ℕ → List ℕ
+row format end name number offset mark text =
     when format.names (name_text format name ++ name_end format mark)
-    ++ when format.numbers (in_color format.colored number_color (decimal number) ++ mark_text format mark)
+    ++ when format.numbers (number_text format mark number)
+    ++ when format.offsets (number_text format mark offset)
     ++ tab_before format (not (is_nothing text)) ++ text ++ end ∷ []
 
 -- groups of rows are parted: there is context, and --no-group-separator isn't given
 abbrev pub has_separators : Format → Bool
-has_separators format = format.separators && (is_some format.before || is_some format.after)
+has_separators format = is_some format.separator && (is_some format.before || is_some format.after)
 
 abbrev pub is_behind : (ℕ → Bool) → ℕ → Bool
 is_behind set zero = false
 is_behind set (suc i) = set i
 
--- the row of two hyphens
+-- the row between groups of lines
 abbrev pub gap_text : Format → ℕ → List ℕ
-gap_text format end = in_color format.colored mark_color (45 ∷ 45 ∷ []) ++ end ∷ []
+gap_text format end = in_color format.colored mark_color (text_between format.separator) ++ end ∷ []
 
--- two hyphens stand before a shown line that doesn't follow a shown line, unless it is the run's first
+-- such a row stands before a shown line that doesn't follow a shown line, unless it is the run's first
 abbrev pub separator : Format → ℕ → (ℕ → Bool) → Bool → ℕ → List ℕ
 separator format end shown earlier i =
     when (has_separators format && not (is_behind shown i) && (earlier || list_any shown (range_with_len 0 i)))
@@ -115,13 +135,13 @@ shown_text q format kept line = if kept then painted q format line else line
 abbrev pub line_rows : Search → Format → List ℕ → List (List ℕ) → Bool → List ℕ
 line_rows q format name ls earlier =
     flat_map (λ i. separator format (terminator q) (is_shown q format ls) earlier i
-    ++ row format (terminator q) name (i + 1) (mark_of (is_kept q format.limit ls i))
+    ++ row format (terminator q) name (i + 1) (line_start ls i) (mark_of (is_kept q format.limit ls i))
     (shown_text q format (is_kept q format.limit ls i) (line_at ls i)))
     (members (is_shown q format ls) ls)
 
 abbrev pub piece_rows : Search → Format → List ℕ → List (List ℕ) → List ℕ
 piece_rows q format name ls =
-    flat_map (λ i. flat_map (λ p. row format (terminator q) name (i + 1) 58
+    flat_map (λ i. flat_map (λ p. row format (terminator q) name (i + 1) (line_start ls i + p.0) 58
     (in_color format.colored part_color (slice_range (line_at ls i) p.0 p.1)))
     (told_parts q (line_at ls i)))
     (members (is_kept q format.limit ls) ls)

@@ -1,5 +1,5 @@
 -- How the rows of a block are put together from stretches of its lines.
-use Rattle.std.specs.Prelude.{◌≡◌, ℕ, ◌+◌, ◌-◌, ◌<◌, ◌≤◌, nat_lt, min, Bool, ◌&&◌, if◌then◌else◌, List, ◌++◌}
+use Rattle.std.specs.Prelude.{◌≡◌, ℕ, ◌+◌, ◌-◌, ◌<◌, ◌≤◌, ◌⊎◌, nat_lt, min, Bool, ◌&&◌, if◌then◌else◌, List, [], ◌++◌}
 use Rattle.std.specs.Prelude.{length, take, drop, slice_range}
 use Rattle.circular_buffer.specs.Buffer.{keep_last}
 use Rattle.pg_lines.specs.Search.{Search, terminator}
@@ -7,13 +7,13 @@ use Rattle.pg_lines.specs.Lines.{lines, AreWhole}
 use Rattle.pg_lines.specs.declared.run.Run.{Run}
 use Rattle.pg_rows.specs.declared.format.Format.{Format}
 use Rattle.pg_rows.specs.declared.progress.Progress.{Progress}
-use Rattle.pg_rows.specs.Output.{context, gap_text, has_separators, when}
+use Rattle.pg_rows.specs.Output.{context, gap_text, has_separators, size_of, when}
 use Rattle.pg_rows.specs.Trail.{Trail, run, run_rows}
 use Rattle.pg_rows.specs.Cursor.{Cursor}
 use Rattle.pg_rows.specs.Progress.{Tells}
-use Rattle.pg_rows.specs.Stretch.{marked_rows}
+use Rattle.pg_rows.specs.Stretch.{marked_rows, plain}
 
--- whether two hyphens stand before the next kept line and its context
+-- whether a separator stands before the next kept line and its context
 abbrev pub has_gap : Format → Bool → Progress → Bool
 has_gap format earlier p =
     has_separators format && (if p.shown then nat_lt (context format.before) p.behind else earlier)
@@ -25,33 +25,40 @@ gap_of format end earlier p = when (has_gap format earlier p) (gap_text format e
 abbrev pub leading : Format → Progress → ℕ
 leading format p = min (context format.before) p.behind
 
--- the rows of the lines that are shown before the next kept one, of those that weren't shown
-abbrev pub rows_of_leading : Format → ℕ → List ℕ → List (List ℕ) → Progress → List ℕ
-rows_of_leading format end name hidden p =
-    marked_rows format end name 45 ((p.number + 1) - leading format p) (keep_last (leading format p) hidden)
+-- the rows of the lines that are shown before the next kept one, which has this offset, of those that weren't shown
+abbrev pub rows_of_leading : Format → ℕ → List ℕ → List (List ℕ) → Progress → (offset : ℕ) → List ℕ
+rows_of_leading format end name hidden p offset =
+    marked_rows format end name 45 plain ((p.number + 1) - leading format p)
+    (offset - size_of (keep_last (leading format p) hidden)) (keep_last (leading format p) hidden)
 
--- what stands before the next kept line, behind these lines that weren't shown: the two hyphens, and its context
-abbrev pub rows_before : Format → ℕ → List ℕ → Bool → List (List ℕ) → Progress → List ℕ
-rows_before format end name earlier hidden p = gap_of format end earlier p ++ rows_of_leading format end name hidden p
+-- what stands before the next kept line, behind these lines that weren't shown: the separator, and its context
+abbrev pub rows_before : Format → ℕ → List ℕ → Bool → List (List ℕ) → Progress → (offset : ℕ) → List ℕ
+rows_before format end name earlier hidden p offset =
+    gap_of format end earlier p ++ rows_of_leading format end name hidden p offset
 
--- the rows of kept lines with these texts, behind these lines that weren't shown
-abbrev pub rows_of_kept : Format → ℕ → List ℕ → Bool → List (List ℕ) → Progress → List (List ℕ) → List ℕ
-rows_of_kept format end name earlier hidden p texts =
+-- the rows of kept lines with these texts, the first of which has this offset, behind lines that weren't shown
+abbrev pub rows_of_kept : Format → ℕ → List ℕ → Bool → List (List ℕ) → Progress → (offset : ℕ)
+    → (text : List ℕ → List ℕ) → List (List ℕ) → List ℕ
+rows_of_kept format end name earlier hidden p offset text ls =
     gap_of format end earlier p
-    ++ (rows_of_leading format end name hidden p ++ marked_rows format end name 58 (p.number + 1) texts)
+    ++ (rows_of_leading format end name hidden p offset
+    ++ marked_rows format end name 58 text (p.number + 1) offset ls)
 
--- the rows of lines of which none is kept: the first ones are trailing context
-abbrev pub rows_of_passed : Format → ℕ → List ℕ → Progress → List (List ℕ) → List ℕ
-rows_of_passed format end name p ls = marked_rows format end name 45 (p.number + 1) (take p.countdown ls)
+-- the rows of lines of which none is kept, from this offset on: the first ones are trailing context
+abbrev pub rows_of_passed : Format → ℕ → List ℕ → Progress → (offset : ℕ) → List (List ℕ) → List ℕ
+rows_of_passed format end name p offset ls =
+    marked_rows format end name 45 plain (p.number + 1) offset (take p.countdown ls)
 
 -- The printer has come to a place in a block, with these numbers, and behind these lines of earlier blocks that weren't
--- shown. So far it has written the rows of the lines before the place.
+-- shown. So far it has written the rows of the lines before the place, and the next line, if any, begins there.
 pub record IsAt (q : Search) (format : Format) (c : Cursor) (hidden : List (List ℕ)) (bytes : List ℕ)
     (before after : List ℕ) (p : Progress) (at seen : ℕ) : Type 0 where
   pub trail : Trail
   pub tells : Tells p format trail
   pub window : trail.window ≡ keep_last (leading format p) hidden
   pub within : at ≤ length bytes
+  pub offset : (trail.offset ≡ c.trail.offset + at) ⊎ (drop at bytes ≡ [])
+  pub room : size_of trail.window ≤ trail.offset
   pub part : List ℕ
   pub taken : after ≡ before ++ part
   pub rows : part ++ run_rows q format c.name c.earlier trail (lines (terminator q) (drop at bytes))
@@ -60,12 +67,13 @@ pub record IsAt (q : Search) (format : Format) (c : Cursor) (hidden : List (List
       ≡ run q format c.trail (lines (terminator q) bytes)
   pub count : seen + length (lines (terminator q) (drop at bytes)) ≡ length (lines (terminator q) bytes)
 
--- the rows of lines of which none is kept, and of kept lines with these texts behind them
-abbrev pub rows_of_run : Format → ℕ → List ℕ → Bool → List (List ℕ) → Progress → Progress → List (List ℕ)
-    → List (List ℕ) → List ℕ
-rows_of_run format end name earlier hidden p behind_gap gap texts =
-    rows_of_passed format end name p gap
-    ++ rows_of_kept format end name earlier (hidden ++ drop p.countdown gap) behind_gap texts
+-- the rows of lines of which none is kept, from an offset on, and of kept lines with these texts behind them, from
+-- another offset on
+abbrev pub rows_of_run : Format → ℕ → List ℕ → Bool → List (List ℕ) → Progress → Progress
+    → (offset : ℕ) → List (List ℕ) → (kept_offset : ℕ) → (text : List ℕ → List ℕ) → List (List ℕ) → List ℕ
+rows_of_run format end name earlier hidden p behind_gap offset gap kept_offset text kept =
+    rows_of_passed format end name p offset gap
+    ++ rows_of_kept format end name earlier (hidden ++ drop p.countdown gap) behind_gap kept_offset text kept
 
 -- The run of selected lines comes next behind a place in the bytes, and behind so many lines.
 pub record ComesNext (end : ℕ) (bytes : List ℕ) (at seen : ℕ) (run : Run) : Type 0 where

@@ -13,7 +13,7 @@ use Rattle.pg_rows.specs.declared.printer.Printed.{Printed}
 use Rattle.pg_rows.specs.declared.printer.Place.{Place}
 use Rattle.pg_rows.specs.Modes.{shows_rows}
 use Rattle.pg_rows.specs.Modes.{rows_in}
-use Rattle.pg_rows.specs.Output.{context, is_below}
+use Rattle.pg_rows.specs.Output.{context, is_below, size_of}
 use Rattle.pg_rows.specs.Trail.{no_lines, run}
 use Rattle.pg_rows.specs.Cursor.{Cursor, block_rows, counted, named}
 use Rattle.pg_rows.specs.Progress.{Tells}
@@ -32,6 +32,8 @@ pub record Remembers {A : Type 0} (p : Printer A) (q : Search) (format : Format)
   pub earlier_is : p.earlier ≡ c.earlier
   pub name_is : p.prefix ≡ c.name
   pub told : Tells p.progress format c.trail
+  pub offset : p.offset ≡ c.trail.offset
+  pub room : size_of c.trail.window ≤ c.trail.offset
   pub holds : IsWindow (terminator q) p.window
   pub size : p.window.tails.capacity ≡ context format.before
   pub window : shows_lines format ≡ true
@@ -73,6 +75,7 @@ end_rows format c = rows_in format.mode [] (counted format c) (named format c)
 pub record Follows {A : Type 0} (p : Printer A) (q : Search) (format : Format) (c : Cursor) (bytes : List ℕ)
     (printed : Printed) : Type 0 where
   pub told : Tells printed.progress format c.trail
+  pub offset : printed.offset ≡ c.trail.offset
   pub within : printed.start ≤ length bytes
   pub count : printed.lines ≡ length (lines (terminator q) (drop printed.start bytes))
   pub window : shows_lines format ≡ true → c.trail.window ≡ keep_last (context format.before)

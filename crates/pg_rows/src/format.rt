@@ -1,7 +1,10 @@
 //! How rows look.
-ghost use Rattle.std.specs.Prelude.{◌≡◌, ◌||◌};
+ghost use Rattle.std.specs.Prelude.{◌≡◌};
 ghost use Rattle.pg_rows.specs.Modes.{shows_rows, settles_at_first, is_quiet, is_named};
-ghost use Rattle.pg_rows.specs.Output.{has_separators, name_mark};
+ghost use Rattle.pg_rows.specs.Output.{has_prefix, has_separators, name_mark};
+ghost use Rattle.pg_rows.specs.Separator.{text_between};
+
+use crate::separator::Separator;
 
 /// What is written of each file.
 #[derive(Clone, Copy, Debug, PartialEq, Eq)]
@@ -69,7 +72,9 @@ pub struct Format {
     pub null: bool,
     /// -n: each row has its line's number, from 1.
     pub numbers: bool,
-    /// -T: a tab stands before a row's text, where that isn't empty and the name or the number stands before it.
+    /// -b: each row has the offset of its first byte in its file, from 0: of its line, or with -o of its part.
+    pub offsets: bool,
+    /// -T: a tab stands before a row's text, where that isn't empty and something else stands before it.
     pub tabs: bool,
     pub mode: Mode,
     /// -o: with `Mode::Rows` the matched parts of the lines that are kept have rows, and not the lines.
@@ -82,9 +87,9 @@ pub struct Format {
     pub before: Option<u16>,
     /// -A: so many lines after a selected line are shown as its context.
     pub after: Option<u32>,
-    /// Where there is context, two hyphens stand between groups of lines that aren't adjacent: not with
-    /// --no-group-separator.
-    pub separators: bool,
+    /// --group-separator: where there is context, a row with this text stands between groups of lines that aren't
+    /// adjacent, and with `None`, which is --no-group-separator, nothing.
+    pub separator: Option<Separator>,
 }
 
 impl Format {
@@ -99,13 +104,23 @@ impl Format {
     pub(crate) fn has_separators(&self) -> bool
         ensures { result ≡ has_separators self.now }
     {
-        self.separators && (self.before.is_some() || self.after.is_some())
+        self.separator.is_some() && (self.before.is_some() || self.after.is_some())
+    }
+
+    /// The text between groups of lines: no byte where they aren't parted.
+    pub(crate) fn text_between(&self) -> &[u8]
+        ensures { result.now ≡ text_between self.now.separator }
+    {
+        match &self.separator {
+            Some(separator) => separator.as_slice(),
+            None => b"",
+        }
     }
 
     /// Whether a row has something before its text.
     pub(crate) fn has_prefix(&self) -> bool
-        ensures { result ≡ (self.now.names || self.now.numbers) }
+        ensures { result ≡ has_prefix self.now }
     {
-        self.names || self.numbers
+        self.names || self.numbers || self.offsets
     }
 }

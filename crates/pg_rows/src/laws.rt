@@ -8,6 +8,7 @@ ghost use Rattle.pg_rows.specs.declared.format.Mode.{Mode};
 ghost use Rattle.pg_rows.specs.Colors.{without_escapes};
 ghost use Rattle.pg_rows.specs.Modes.{rows_in};
 ghost use Rattle.pg_rows.specs.Output.{HasRoom, file_rows, when};
+ghost use Rattle.pg_rows.specs.Separator.{text_between};
 ghost use Rattle.pg_rows.specs.Trail.{trail_of};
 ghost use Rattle.pg_rows.specs.Cursor.{block_rows, counted, cursor_after, named};
 ghost use Rattle.pg_rows.specs.Enough.{lines_suffice, trail_suffices};
@@ -33,10 +34,10 @@ pub fn trails_tell_enough()
 {}
 
 /// Colors add escapes to the rows of a file and change nothing else: without them the rows are those without colors,
-/// where neither the file's name nor its bytes have an ESC (27).
+/// where neither the file's name nor its bytes nor the text between groups of lines have an ESC (27).
 pub fn colors_add_escapes()
     ensures { (q : Search) (format : Format) (name bytes : List ℕ) (ended earlier : Bool) →
-        ¬ (Contains name 27) → ¬ (Contains bytes 27) →
+        ¬ (Contains name 27) → ¬ (Contains bytes 27) → ¬ (Contains (text_between format.separator) 27) →
         without_escapes (file_rows q (record format { colored = true }) name bytes ended earlier)
         ≡ file_rows q (record format { colored = false }) name bytes ended earlier }
 {}

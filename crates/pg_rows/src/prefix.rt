@@ -2,20 +2,20 @@
 ghost use Rattle.std.specs.Prelude.{◌≡◌, ◌+◌, ◌<◌, ◌≤◌, ◌++◌, [], ◌∷◌, IfOk, OnOk, OnErr};
 ghost use Rattle.std.specs.Prelude.{length, vec_len, vec_capacity};
 ghost use Rattle.std.specs.Fmt.{decimal};
-ghost use Rattle.pg_rows.specs.Colors.{in_color, number_color};
-ghost use Rattle.pg_rows.specs.Output.{when, name_mark, name_text, name_end, mark_text, tab_before};
+ghost use Rattle.pg_rows.specs.Output.{when, name_mark, name_text, name_end, number_text, tab_before};
 ghost use Rattle.pg_rows.specs.Stretch.{prefix_text, plain_prefix_text};
 ghost use Rattle.pg_rows.specs.Sink.{WritesText};
 
 use crate::colors::{Color, write_marked_name, write_text};
 use crate::format::Format;
+use crate::position::Position;
 use crate::sink::{Sink, WriteError, write_all};
 use itoa::Buffer;
 use std::alloc::{AllocError, Allocator, Global};
 use std::marker::Model;
 
-/// The bytes that a name's mark, a number and its mark, and a tab take at most.
-const ROOM: usize = 23;
+/// The bytes that a name's mark, two numbers with their marks, and a tab take at most.
+const ROOM: usize = 44;
 
 /// A file's name, with room behind it for all that a row has before its text. The room is reserved
 /// when the value is made, so rows take no memory.
@@ -31,7 +31,7 @@ impl<A: Allocator> Model for Prefix<A> {
 
     ghost view = { λ p. p.buffer.items };
 
-    ghost invariant = { λ p. vec_len p.buffer + 23 ≤ vec_capacity p.buffer };
+    ghost invariant = { λ p. vec_len p.buffer + 44 ≤ vec_capacity p.buffer };
 }
 
 impl<A: Allocator> Prefix<A> {
@@ -55,8 +55,8 @@ impl<A: Allocator> Prefix<A> {
         self.buffer.as_slice()
     }
 
-    /// Writes the name and the line's number where rows have them, each with the mark, and a tab before a text where
-    /// rows have that: without colors in one text.
+    /// Writes the name, the number and the offset where rows have them, each with the mark, and a tab before a text
+    /// where rows have that: without colors in one text.
     ///
     /// # Errors
     ///
@@ -65,18 +65,18 @@ impl<A: Allocator> Prefix<A> {
         &mut self,
         out: &mut W,
         format: &Format,
-        number: u64,
+        at: Position,
         mark: u8,
         has_text: bool,
     ) -> Result<(), WriteError>
         ensures same { self.new ≡ self.old }
-        ensures writes { WritesText (prefix_text format.now self.old number mark has_text)
+        ensures writes { WritesText (prefix_text format.now self.old at.number at.offset mark has_text)
             (W.stream out.old) (W.stream out.new) result }
     {
         if format.colored {
-            self.write_colored(out, format, number, mark, has_text)
+            self.write_colored(out, format, at, mark, has_text)
         } else {
-            self.write_plain(out, format, number, mark, has_text)
+            self.write_plain(out, format, at, mark, has_text)
         }
     }
 
@@ -85,15 +85,16 @@ impl<A: Allocator> Prefix<A> {
         &self,
         out: &mut W,
         format: &Format,
-        number: u64,
+        at: Position,
         mark: u8,
         has_text: bool,
     ) -> Result<(), WriteError>
-        ensures { WritesText (prefix_text format.now self.now number mark has_text)
+        ensures { WritesText (prefix_text format.now self.now at.number at.offset mark has_text)
             (W.stream out.old) (W.stream out.new) result }
     {
         write_name(out, format, self.name(), mark)?;
-        write_number(out, format, number, mark)?;
+        write_number(out, format, format.numbers, at.number, mark)?;
+        write_number(out, format, format.offsets, at.offset, mark)?;
         write_tab(out, format, has_text)
     }
 
@@ -102,19 +103,19 @@ impl<A: Allocator> Prefix<A> {
         &mut self,
         out: &mut W,
         format: &Format,
-        number: u64,
+        at: Position,
         mark: u8,
         has_text: bool,
     ) -> Result<(), WriteError>
         ensures same { self.new ≡ self.old }
-        ensures writes { WritesText (plain_prefix_text format.now self.old number mark has_text)
+        ensures writes { WritesText (plain_prefix_text format.now self.old at.number at.offset mark has_text)
             (W.stream out.old) (W.stream out.new) result }
     {
-        if !format.names && !format.numbers {
+        if !format.names && !format.numbers && !format.offsets {
             return Ok(());
         }
         let len = self.buffer.len();
-        append_marks(&mut self.buffer, format, number, mark, has_text);
+        append_marks(&mut self.buffer, format, at, mark, has_text);
         let start = if format.names { 0 } else { len };
         let written = write_all(out, &self.buffer.as_slice()[start..]);
         self.buffer.truncate(len);
@@ -139,18 +140,18 @@ fn write_name<W: Sink>(
     }
 }
 
-/// Writes the line's number and its mark, where rows have numbers.
+/// Writes a number and its mark, where it is shown.
 fn write_number<W: Sink>(
     out: &mut W,
     format: &Format,
+    shown: bool,
     number: u64,
     mark: u8,
 ) -> Result<(), WriteError>
-    ensures { WritesText (when format.now.numbers
-        (in_color format.now.colored number_color (decimal number) ++ mark_text format.now mark))
+    ensures { WritesText (when shown (number_text format.now mark number))
         (W.stream out.old) (W.stream out.new) result }
 {
-    if !format.numbers {
+    if !shown {
         return Ok(());
     }
     write_marked_number(out, format, number, mark)
@@ -163,8 +164,7 @@ fn write_marked_number<W: Sink>(
     number: u64,
     mark: u8,
 ) -> Result<(), WriteError>
-    ensures { WritesText (in_color format.now.colored number_color (decimal number) ++ mark_text format.now mark)
-        (W.stream out.old) (W.stream out.new) result }
+    ensures { WritesText (number_text format.now mark number) (W.stream out.old) (W.stream out.new) result }
 {
     let mut digits = Buffer::new();
     let text = digits.format(number).as_bytes();
@@ -183,18 +183,36 @@ fn write_tab<W: Sink>(out: &mut W, format: &Format, has_text: bool) -> Result<()
     }
 }
 
-/// Puts the name's mark, the number and its mark, and a tab behind a name, as far as rows have them.
+/// Puts a number and its mark behind a text, where it is shown.
+fn append_number<A: Allocator>(buffer: &mut Vec<u8, A>, shown: bool, number: u64, mark: u8)
+    requires { vec_len buffer.old + 21 ≤ vec_capacity buffer.old }
+    ensures items { buffer.new.items ≡ buffer.old.items ++ when shown (decimal number ++ mark ∷ []) }
+    ensures low { vec_len buffer.old ≤ vec_len buffer.new }
+    ensures high { vec_len buffer.new ≤ vec_len buffer.old + 21 }
+    ensures capacity { vec_capacity buffer.old ≤ vec_capacity buffer.new }
+{
+    if shown {
+        let mut digits = Buffer::new();
+        buffer
+            .extend_from_slice(digits.format(number).as_bytes())
+            .unwrap();
+        buffer.push(mark).unwrap();
+    }
+}
+
+/// Puts the name's mark, the number and the offset with their marks, and a tab behind a name, as far as rows have them.
 fn append_marks<A: Allocator>(
     buffer: &mut Vec<u8, A>,
     format: &Format,
-    number: u64,
+    at: Position,
     mark: u8,
     has_text: bool,
 )
-    requires { vec_len buffer.old + 23 ≤ vec_capacity buffer.old }
+    requires { vec_len buffer.old + 44 ≤ vec_capacity buffer.old }
     ensures items { buffer.new.items ≡ buffer.old.items
         ++ (when format.now.names (name_mark format.now mark ∷ [])
-        ++ when format.now.numbers (decimal number ++ mark ∷ [])
+        ++ when format.now.numbers (decimal at.number ++ mark ∷ [])
+        ++ when format.now.offsets (decimal at.offset ++ mark ∷ [])
         ++ tab_before format.now has_text) }
     ensures len { vec_len buffer.old ≤ vec_len buffer.new }
     ensures capacity { vec_capacity buffer.old ≤ vec_capacity buffer.new }
@@ -202,13 +220,8 @@ fn append_marks<A: Allocator>(
     if format.names {
         buffer.push(format.name_mark(mark)).unwrap();
     }
-    if format.numbers {
-        let mut digits = Buffer::new();
-        buffer
-            .extend_from_slice(digits.format(number).as_bytes())
-            .unwrap();
-        buffer.push(mark).unwrap();
-    }
+    append_number(buffer, format.numbers, at.number, mark);
+    append_number(buffer, format.offsets, at.offset, mark);
     if format.tabs && format.has_prefix() && has_text {
         buffer.push(b'\t').unwrap();
     }

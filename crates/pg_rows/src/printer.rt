@@ -1,33 +1,28 @@
 //! The rows of files, block by block.
 ghost use Rattle.std.specs.Prelude.{◌≡◌, ℕ, ◌+◌, ◌-◌, ◌<◌, ◌≤◌, ◌^◌, ◌++◌, List, OnOk, OnErr, IfOk};
-ghost use Rattle.std.specs.Prelude.{length, map, take, drop, if◌then◌else◌};
+ghost use Rattle.std.specs.Prelude.{length, take, drop, if◌then◌else◌};
 ghost use Rattle.std.specs.Prelude.{slice_range, true, false, nat_lt, [], ◌∷◌};
 ghost use Rattle.std.specs.Prelude.{Some};
 ghost use Rattle.std.specs.Arc.{arc_value};
 ghost use Rattle.pg_lines.specs.Search.{Search, terminator};
 ghost use Rattle.pg_rows.specs.Pieces.{cut_at};
 ghost use Rattle.pg_rows.specs.Remembered.{HasLines};
-ghost use Rattle.pg_rows.specs.Output.{name_mark, name_text, painted, row, when};
+ghost use Rattle.pg_rows.specs.Output.{name_mark, name_text, painted, size_of, when};
 ghost use Rattle.pg_lines.specs.Lines.{lines, AreWhole};
 ghost use Rattle.pg_rows.specs.Sink.{WritesText, WritesPart};
 
 use crate::colors::end_of_parts;
 use crate::format::{Format, Mode};
-use crate::places::{end_of_first, start_of_last, text_end};
+use crate::places::{end_of_first, start_of_last};
+use crate::position::Position;
 use crate::prefix::Prefix;
 use crate::progress::Progress;
-use crate::rows::{
-    has_painted_text, write_count, write_gap, write_lines, write_name, write_painted_text,
-    write_parts,
-};
+use crate::rows::{size_of_lines, write_count, write_gap, write_lines, write_name, write_parts};
 use crate::sink::{Sink, WriteError};
 use crate::window::Window;
 use pg_lines::{Block, BlockResult, Part, Query, Run};
 use std::alloc::{AllocError, Allocator, Global};
 use std::sync::Arc;
-
-/// What stands behind the name and the number of a line that is kept.
-const KEPT_MARK: u8 = b':';
 
 /// What stands behind the name and the number of a line that is shown as context.
 const CONTEXT_MARK: u8 = b'-';
@@ -57,6 +52,8 @@ struct Step {
 #[derive(Clone, Copy, Debug)]
 pub struct Printed {
     progress: Progress,
+    /// Where the next block begins in the file.
+    offset: u64,
     /// No line of the block was kept, so what was held before it may still be shown too.
     fresh: bool,
     start: usize,
@@ -82,15 +79,17 @@ fn line_beyond(runs: &[Run], room: u64, total: usize) -> usize
 
 /// The rows of files, one file after another.
 ///
-/// It remembers of the open file how many lines it had and how many were kept, and holds the last
+/// It remembers of the open file how many lines and bytes it had and how many were kept, and holds the last
 /// lines that may still be shown as leading context.
 pub struct Printer<A: Allocator = Global> {
-    format: Format,
-    end: u8,
-    prefix: Prefix<A>,
+    pub(crate) format: Format,
+    pub(crate) end: u8,
+    pub(crate) prefix: Prefix<A>,
     /// Whether a row was written before the open file.
     earlier: bool,
     progress: Progress,
+    /// Where the next block of the open file begins in it.
+    offset: u64,
     window: Window<A>,
 }
 
@@ -102,6 +101,7 @@ impl<A: Allocator> Drop for Printer<A> {
             prefix: _,
             earlier: _,
             progress: _,
+            offset: _,
             window: _,
         } = self;
     }
@@ -117,11 +117,11 @@ impl<A: Allocator> Printer<A> {
     ghost use Rattle.pg_rows.specs.Remembered.{opened_as, end_rows, shown_rows};
     ghost use Rattle.pg_rows.specs.Trail.{run_rows, run_pieces};
     ghost use Rattle.pg_rows.specs.Window.{held, IsWindow};
+    ghost use Rattle.circular_buffer.specs.Buffer.{keep_last};
     ghost use Rattle.pg_rows.specs.Progress.{Passes, Keeps};
     ghost use Rattle.pg_rows.specs.Printing.{ComesNext, EndsKept};
-    ghost use Rattle.pg_rows.specs.Stretch.{marked_rows};
     ghost use Rattle.pg_rows.specs.Printing.{has_gap, gap_of, leading, rows_of_run, rows_before, rows_of_leading};
-    ghost use Rattle.pg_rows.specs.Painting.{painted_bytes, AreAscending, IsTold, count_before};
+    ghost use Rattle.pg_rows.specs.Painting.{IsTold, count_before};
     ghost use Rattle.pg_rows.specs.Printing.{rows_of_passed};
 
     /// A printer to which nothing was given, for the rows of a query. It reserves the room of its window.
@@ -142,6 +142,7 @@ impl<A: Allocator> Printer<A> {
             prefix,
             earlier: false,
             progress: Progress::new(),
+            offset: 0,
             window,
         })
     }
@@ -154,6 +155,7 @@ impl<A: Allocator> Printer<A> {
         self.earlier |= self.progress.shown;
         self.prefix = prefix;
         self.progress = Progress::new();
+        self.offset = 0;
         self.window.clear();
     }
 
@@ -176,6 +178,7 @@ impl<A: Allocator> Printer<A> {
             Remembers self.new q format (behind_block q format c (arc_value block).bytes) }
     {
         self.progress = printed.progress;
+        self.offset = printed.offset;
         self.window.clear_unless(printed.fresh);
         self.window
             .push_some(self.end, block, printed.start, printed.lines);
@@ -211,18 +214,28 @@ impl<A: Allocator> Printer<A> {
     }
 
     /// Goes past a block of which no line is held, by its runs of selected lines. Nothing looks at a line.
-    fn passed(&self, size: usize, runs: &[Run], total: usize) -> Printed
+    fn passed(&self, bytes: &[u8], runs: &[Run], total: usize) -> Printed
         requires small { self.now.progress.number + total < 2 ^ 63 }
-        ensures { (q : Search) (format : Format) (c : Cursor) (bytes : List ℕ) → Remembers self.now q format c →
-            shows_lines format ≡ false → HasLines q bytes runs.now total → size ≡ length bytes →
-            Follows self.now q format (behind_block q format c bytes) bytes result }
+        requires placed { self.now.offset + length bytes.now < 2 ^ 63 }
+        ensures { (q : Search) (format : Format) (c : Cursor) → Remembers self.now q format c →
+            shows_lines format ≡ false → HasLines q bytes.now runs.now total →
+            Follows self.now q format (behind_block q format c bytes.now) bytes.now result }
     {
         Printed {
             progress: self.progress.after(&self.format, runs, total as u64),
+            offset: self.behind(bytes),
             fresh: true,
-            start: size,
+            start: bytes.len(),
             lines: 0,
         }
+    }
+
+    /// Where a block ends in the open file: a last line without a terminator counts as if it had one.
+    fn behind(&self, bytes: &[u8]) -> u64
+        requires { self.now.offset + length bytes.now < 2 ^ 63 }
+        ensures { result ≡ self.now.offset + size_of (lines self.now.end bytes.now) }
+    {
+        self.offset + size_of_lines(self.end, bytes)
     }
 
     /// How many lines of a block stand before the first selected one that isn't kept.
@@ -250,6 +263,7 @@ impl<A: Allocator> Printer<A> {
         requires stands { (q : Search) × (format : Format) × (c : Cursor) × Remembers self.old q format c
             × (format.parts ≡ true) × HasFound q bytes.now runs.now parts.now total }
         requires small { self.old.progress.number + total < 2 ^ 63 }
+        requires placed { self.old.offset + length bytes.now < 2 ^ 63 }
         ensures same { self.new ≡ self.old }
         ensures writes { (q : Search) (format : Format) (c : Cursor) → Remembers self.old q format c →
             format.parts ≡ true → HasFound q bytes.now runs.now parts.now total →
@@ -260,14 +274,17 @@ impl<A: Allocator> Printer<A> {
             IfOk result (λ printed. Follows self.old q format (behind_block q format c bytes.now) bytes.now printed) }
     {
         let cut = self.cut(runs, total);
-        let before = self.progress.number;
-        let printed = self.passed(bytes.len(), runs, total);
+        let first = Position {
+            number: self.progress.number + 1,
+            offset: self.offset,
+        };
+        let printed = self.passed(bytes, runs, total);
         write_parts(
             out,
             &self.format,
             self.end,
             &mut self.prefix,
-            before,
+            first,
             cut,
             bytes,
             parts,
@@ -287,6 +304,7 @@ impl<A: Allocator> Printer<A> {
         requires stands { (q : Search) × (format : Format) × (c : Cursor) × Remembers self.old q format c
             × HasFound q bytes.now runs.now parts.now total }
         requires small { self.old.progress.number + total < 2 ^ 63 }
+        requires placed { self.old.offset + length bytes.now < 2 ^ 63 }
         ensures same { self.new ≡ self.old }
         ensures writes { (q : Search) (format : Format) (c : Cursor) → Remembers self.old q format c →
             HasFound q bytes.now runs.now parts.now total →
@@ -296,7 +314,7 @@ impl<A: Allocator> Printer<A> {
             IfOk result (λ printed. Follows self.old q format (behind_block q format c bytes.now) bytes.now printed) }
     {
         if !self.format.mode.shows_rows() {
-            return Ok(self.passed(bytes.len(), runs, total));
+            return Ok(self.passed(bytes, runs, total));
         }
         if self.format.parts {
             return self.print_parts(out, bytes, runs, parts, total);
@@ -305,7 +323,7 @@ impl<A: Allocator> Printer<A> {
     }
 
     /// Writes the rows that a block adds: the open file's next one, by its result under the query that the
-    /// printer is for, and with fewer than 2^63 lines in the file up to its end. The printer stands where it
+    /// printer is for, and with fewer than 2^63 lines and bytes in the file up to its end. The printer stands where it
     /// stood; `pass` goes on behind the block.
     ///
     /// # Errors
@@ -317,7 +335,8 @@ impl<A: Allocator> Printer<A> {
         found: &BlockResult<A>,
     ) -> Result<Printed, WriteError>
         requires { (q : Search) × (format : Format) × (c : Cursor) × Remembers self.old q format c × HasItsTrees q
-            × (found.now.query ≡ q.text) × (c.trail.number + length (lines_of found.now) < 2 ^ 63) }
+            × (found.now.query ≡ q.text) × (c.trail.number + length (lines_of found.now) < 2 ^ 63)
+            × (c.trail.offset + length found.now.block.bytes < 2 ^ 63) }
         ensures same { self.new ≡ self.old }
         ensures writes { (q : Search) (format : Format) (c : Cursor) → Remembers self.old q format c → HasItsTrees q →
             found.now.query ≡ q.text → WritesText (shown_rows q format c found.now.block.bytes)
@@ -337,7 +356,7 @@ impl<A: Allocator> Printer<A> {
         )
     }
 
-    /// Whether two hyphens stand before the next kept line and its context.
+    /// Whether a separator stands before the next kept line and its context.
     fn has_gap(&self, progress: Progress) -> bool
         ensures { result ≡ has_gap self.now.format self.now.earlier progress }
     {
@@ -351,7 +370,7 @@ impl<A: Allocator> Printer<A> {
         }
     }
 
-    /// Writes the two hyphens that may stand before the next kept line and its context.
+    /// Writes the separator that may stand before the next kept line and its context.
     fn print_gap<W: Sink>(&self, out: &mut W, progress: Progress) -> Result<(), WriteError>
         ensures { WritesText (gap_of self.now.format self.now.end self.now.earlier progress)
             (W.stream out.old) (W.stream out.new) result }
@@ -370,34 +389,42 @@ impl<A: Allocator> Printer<A> {
         u64::from(self.format.before.unwrap_or(0)).min(progress.behind) as usize
     }
 
-    /// Writes those lines that are shown as trailing context, where none is kept. The answer is the
-    /// place behind them.
+    /// Writes those lines that are shown as trailing context, where none is kept: they begin at this offset. The answer
+    /// is the place behind them.
     fn print_passed<W: Sink>(
         &mut self,
         out: &mut W,
         progress: Progress,
+        offset: u64,
         text: &[u8],
         count: usize,
     ) -> Result<usize, WriteError>
         requires count { count ≡ length (lines self.old.end text.now) }
         requires small { progress.number + count < 2 ^ 63 }
+        requires placed { offset + length text.now < 2 ^ 63 }
         ensures same { self.new ≡ self.old }
         ensures writes { WritesText
-            (rows_of_passed self.old.format self.old.end self.old.prefix progress (lines self.old.end text.now))
+            (rows_of_passed self.old.format self.old.end self.old.prefix progress offset (lines self.old.end text.now))
             (W.stream out.old) (W.stream out.new) result }
         ensures within { IfOk result (λ stop. stop ≤ length text.now) }
         ensures rest { IfOk result (λ stop. lines self.old.end (drop stop text.now)
             ≡ drop progress.countdown (lines self.old.end text.now)) }
     {
         let stop = self.end_of_passed(progress, text, count);
+        let first = Position {
+            number: progress.number + 1,
+            offset,
+        };
+        let prefix = &mut self.prefix;
+        let shown = &text[..stop];
         write_lines(
             out,
             &self.format,
             self.end,
-            &mut self.prefix,
+            prefix,
             CONTEXT_MARK,
-            progress.number + 1,
-            &text[..stop],
+            first,
+            shown,
         )?;
         Ok(stop)
     }
@@ -417,12 +444,13 @@ impl<A: Allocator> Printer<A> {
         end_of_first(self.end, text, progress.countdown as usize)
     }
 
-    /// Writes the rows of the lines that are shown before a kept one: the last ones that are held, and
-    /// the last ones of those that stand before it in its block.
+    /// Writes the rows of the lines that are shown before a kept one, which begins at this offset: the last ones that
+    /// are held, and the last ones of those that stand before it in its block.
     fn print_leading<W: Sink>(
         &mut self,
         out: &mut W,
         progress: Progress,
+        offset: u64,
         near: &[u8],
         count: usize,
     ) -> Result<(), WriteError>
@@ -431,9 +459,11 @@ impl<A: Allocator> Printer<A> {
         requires count { count ≡ length (lines self.old.end near.now) }
         requires enough { leading self.old.format progress ≤ length (held self.old.end self.old.window) + count }
         requires small { progress.number < 2 ^ 63 }
+        requires low { size_of (keep_last (leading self.old.format progress)
+            (held self.old.end self.old.window ++ lines self.old.end near.now)) ≤ offset }
         ensures same { self.new ≡ self.old }
         ensures writes { WritesText (rows_of_leading self.old.format self.old.end self.old.prefix
-            (held self.old.end self.old.window ++ lines self.old.end near.now) progress)
+            (held self.old.end self.old.window ++ lines self.old.end near.now) progress offset)
             (W.stream out.old) (W.stream out.new) result }
     {
         let leading = self.leading(progress);
@@ -441,32 +471,42 @@ impl<A: Allocator> Printer<A> {
             return Ok(());
         }
         let close = leading.min(count);
-        let first = progress.number + 1 - leading as u64;
-        self.window.write_last(
-            out,
-            &self.format,
-            self.end,
-            &mut self.prefix,
-            first,
-            leading - close,
-        )?;
+        let far = leading - close;
         let from = start_of_last(self.end, near, close);
+        let last = &near[from..];
+        let start = offset - last.len() as u64;
+        let begin = self
+            .window
+            .offset_of_last(&self.format, self.end, start, far);
+        let first = Position {
+            number: progress.number + 1 - leading as u64,
+            offset: begin,
+        };
+        let prefix = &mut self.prefix;
+        self.window
+            .write_last(out, &self.format, self.end, prefix, first, far)?;
+        let next = Position {
+            number: progress.number + 1 - close as u64,
+            offset: start,
+        };
         write_lines(
             out,
             &self.format,
             self.end,
-            &mut self.prefix,
+            prefix,
             CONTEXT_MARK,
-            progress.number + 1 - close as u64,
-            &near[from..],
+            next,
+            last,
         )
     }
 
-    /// Writes what stands before a kept line: the two hyphens, and the lines that are shown before it.
+    /// Writes what stands before a kept line, which begins at this offset: the separator, and the lines that are
+    /// shown before it.
     fn print_before<W: Sink>(
         &mut self,
         out: &mut W,
         progress: Progress,
+        offset: u64,
         near: &[u8],
         count: usize,
     ) -> Result<(), WriteError>
@@ -475,22 +515,25 @@ impl<A: Allocator> Printer<A> {
         requires count { count ≡ length (lines self.old.end near.now) }
         requires enough { leading self.old.format progress ≤ length (held self.old.end self.old.window) + count }
         requires small { progress.number < 2 ^ 63 }
+        requires low { size_of (keep_last (leading self.old.format progress)
+            (held self.old.end self.old.window ++ lines self.old.end near.now)) ≤ offset }
         ensures same { self.new ≡ self.old }
         ensures writes { WritesText (rows_before self.old.format self.old.end self.old.prefix self.old.earlier
-            (held self.old.end self.old.window ++ lines self.old.end near.now) progress)
+            (held self.old.end self.old.window ++ lines self.old.end near.now) progress offset)
             (W.stream out.old) (W.stream out.new) result }
     {
         self.print_gap(out, progress)?;
-        self.print_leading(out, progress, near, count)
+        self.print_leading(out, progress, offset, near, count)
     }
 
-    /// Writes the rows of the lines before a run of selected lines, none of which is kept, and what stands
-    /// before the run.
+    /// Writes the rows of the lines before a run of selected lines, none of which is kept, and what stands before the
+    /// run. The lines begin at this offset.
     fn print_unkept<W: Sink>(
         &mut self,
         out: &mut W,
         progress: Progress,
         passed: Progress,
+        offset: u64,
         gap: &[u8],
         count: usize,
     ) -> Result<(), WriteError>
@@ -500,103 +543,21 @@ impl<A: Allocator> Printer<A> {
         requires passes { Passes progress count passed }
         requires enough { leading self.old.format progress ≤ length (held self.old.end self.old.window) }
         requires small { passed.number < 2 ^ 63 }
+        requires placed { offset + length gap.now < 2 ^ 63 }
+        requires low { size_of (keep_last (leading self.old.format passed)
+            (held self.old.end self.old.window ++ drop progress.countdown (lines self.old.end gap.now)))
+            ≤ offset + length gap.now }
         ensures same { self.new ≡ self.old }
-        ensures writes { WritesText (rows_of_passed self.old.format self.old.end self.old.prefix progress
+        ensures writes { WritesText (rows_of_passed self.old.format self.old.end self.old.prefix progress offset
             (lines self.old.end gap.now) ++ rows_before self.old.format self.old.end self.old.prefix self.old.earlier
-            (held self.old.end self.old.window ++ drop progress.countdown (lines self.old.end gap.now)) passed)
+            (held self.old.end self.old.window ++ drop progress.countdown (lines self.old.end gap.now)) passed
+            (offset + length gap.now))
             (W.stream out.old) (W.stream out.new) result }
     {
-        let stop = self.print_passed(out, progress, gap, count)?;
+        let stop = self.print_passed(out, progress, offset, gap, count)?;
         let hidden = (count as u64).saturating_sub(progress.countdown) as usize;
-        self.print_before(out, passed, &gap[stop..], hidden)
-    }
-
-    /// Writes the row of a kept line, which stands from a place of some bytes up to another, with its parts in color.
-    fn print_painted_line<W: Sink>(
-        &mut self,
-        out: &mut W,
-        number: u64,
-        bytes: &[u8],
-        from: usize,
-        to: usize,
-        parts: &[Part],
-    ) -> Result<(), WriteError>
-        requires within { to ≤ length bytes.now }
-        requires ascend { AreAscending from to parts.now }
-        ensures same { self.new ≡ self.old }
-        ensures writes { WritesText (row self.old.format self.old.end self.old.prefix number 58
-            (painted_bytes bytes.now from to parts.now)) (W.stream out.old) (W.stream out.new) result }
-    {
-        let has_text = has_painted_text(from, to, parts);
-        self.prefix
-            .write(out, &self.format, number, KEPT_MARK, has_text)?;
-        write_painted_text(out, self.end, bytes, from, to, parts)
-    }
-
-    /// Writes the rows of kept lines with their parts in color: the lines of some bytes from a place on, behind so
-    /// many lines of the block, numbered from a number on.
-    fn print_painted<W: Sink>(
-        &mut self,
-        out: &mut W,
-        number: u64,
-        bytes: &[u8],
-        from: usize,
-        line: usize,
-        parts: &[Part],
-    ) -> Result<(), WriteError>
-        requires colored { self.old.format.colored ≡ true }
-        requires small { number + length (lines self.old.end (drop from bytes.now)) < 2 ^ 64 }
-        requires few { line + length (lines self.old.end (drop from bytes.now)) < 2 ^ 64 }
-        requires told { (q : Search) × IsTold q true self.old.end bytes.now from line parts.now }
-        ensures same { self.new ≡ self.old }
-        ensures writes { (q : Search) → IsTold q true self.old.end bytes.now from line parts.now →
-            WritesText (marked_rows self.old.format self.old.end self.old.prefix 58 number
-            (map (painted q self.old.format) (lines self.old.end (drop from bytes.now))))
-            (W.stream out.old) (W.stream out.new) result }
-    {
-        let mut at = from;
-        let mut done = 0;
-        let mut used = 0;
-        while at < bytes.len() {
-            let stop = text_end(self.end, bytes, at);
-            let next = end_of_parts(parts, used, line + done + 1);
-            let own = &parts[used..next];
-            self.print_painted_line(out, number + done as u64, bytes, at, stop, own)?;
-            at = stop + 1;
-            done += 1;
-            used = next;
-        }
-        Ok(())
-    }
-
-    /// Writes the rows of kept lines: the lines of some bytes from a place on, behind so many lines of the block,
-    /// numbered from a number on. Where rows have colors, these are their parts.
-    fn print_kept<W: Sink>(
-        &mut self,
-        out: &mut W,
-        number: u64,
-        bytes: &[u8],
-        from: usize,
-        line: usize,
-        parts: &[Part],
-    ) -> Result<(), WriteError>
-        requires within { from ≤ length bytes.now }
-        requires small { number + length (lines self.old.end (drop from bytes.now)) < 2 ^ 64 }
-        requires few { line + length (lines self.old.end (drop from bytes.now)) < 2 ^ 64 }
-        requires told { (q : Search) × IsTold q self.old.format.colored self.old.end bytes.now from line parts.now }
-        ensures same { self.new ≡ self.old }
-        ensures writes { (q : Search) →
-            IsTold q self.old.format.colored self.old.end bytes.now from line parts.now →
-            WritesText (marked_rows self.old.format self.old.end self.old.prefix 58 number
-            (map (painted q self.old.format) (lines self.old.end (drop from bytes.now))))
-            (W.stream out.old) (W.stream out.new) result }
-    {
-        if self.format.colored {
-            return self.print_painted(out, number, bytes, from, line, parts);
-        }
-        let text = &bytes[from..];
-        let prefix = &mut self.prefix;
-        write_lines(out, &self.format, self.end, prefix, KEPT_MARK, number, text)
+        let behind = offset + gap.len() as u64;
+        self.print_before(out, passed, behind, &gap[stop..], hidden)
     }
 
     /// Where the first lines of a run end, so many.
@@ -672,6 +633,10 @@ impl<A: Allocator> Printer<A> {
             + length (lines self.old.end (slice_range bytes.now run.span.start next.place.at)) < 2 ^ 63 }
         requires few { run.first
             + length (lines self.old.end (slice_range bytes.now run.span.start next.place.at)) < 2 ^ 64 }
+        requires placed { self.old.offset + length bytes.now < 2 ^ 63 }
+        requires room { size_of (keep_last (leading self.old.format next.passed) (held self.old.end self.old.window
+            ++ drop place.progress.countdown (lines self.old.end (slice_range bytes.now place.at run.span.start))))
+            ≤ self.old.offset + run.span.start }
         requires used { place.used ≤ next.place.used }
         requires parts { next.place.used ≤ length parts.now }
         requires told { (q : Search) × IsTold q self.old.format.colored self.old.end (take next.place.at bytes.now)
@@ -680,19 +645,22 @@ impl<A: Allocator> Printer<A> {
         ensures writes { (q : Search) → IsTold q self.old.format.colored self.old.end (take next.place.at bytes.now)
             run.span.start run.first (slice_range parts.now place.used next.place.used) →
             WritesText (rows_of_run self.old.format self.old.end self.old.prefix self.old.earlier
-            (held self.old.end self.old.window) place.progress next.passed
-            (lines self.old.end (slice_range bytes.now place.at run.span.start))
-            (map (painted q self.old.format)
-            (lines self.old.end (slice_range bytes.now run.span.start next.place.at))))
+            (held self.old.end self.old.window) place.progress next.passed (self.old.offset + place.at)
+            (lines self.old.end (slice_range bytes.now place.at run.span.start)) (self.old.offset + run.span.start)
+            (painted q self.old.format) (lines self.old.end (slice_range bytes.now run.span.start next.place.at)))
             (W.stream out.old) (W.stream out.new) result }
     {
         let gap = &bytes[place.at..run.span.start];
         let count = run.first - place.seen;
-        self.print_unkept(out, place.progress, next.passed, gap, count)?;
+        let offset = self.offset + place.at as u64;
+        self.print_unkept(out, place.progress, next.passed, offset, gap, count)?;
         let kept = &bytes[..next.place.at];
         let own = &parts[place.used..next.place.used];
-        let number = next.passed.number + 1;
-        self.print_kept(out, number, kept, run.span.start, run.first, own)
+        let first = Position {
+            number: next.passed.number + 1,
+            offset: self.offset + run.span.start as u64,
+        };
+        self.print_kept(out, first, kept, run.span.start, run.first, own)
     }
 
     /// Writes the rows of the lines up to the last one of a block that is kept. It goes from run to run,
@@ -708,6 +676,7 @@ impl<A: Allocator> Printer<A> {
         requires stands { (q : Search) × (format : Format) × (c : Cursor) × Remembers self.old q format c
             × (shows_lines format ≡ true) × HasFound q bytes.now runs.now parts.now total }
         requires small { self.old.progress.number + total < 2 ^ 63 }
+        requires placed { self.old.offset + length bytes.now < 2 ^ 63 }
         ensures same { self.new ≡ self.old }
         ensures comes { (q : Search) (format : Format) (c : Cursor) → Remembers self.old q format c →
             shows_lines format ≡ true → HasFound q bytes.now runs.now parts.now total →
@@ -750,6 +719,7 @@ impl<A: Allocator> Printer<A> {
         requires stands { (q : Search) × (format : Format) × (c : Cursor) × Remembers self.old q format c
             × (shows_lines format ≡ true) × HasFound q bytes.now runs.now parts.now total }
         requires small { self.old.progress.number + total < 2 ^ 63 }
+        requires placed { self.old.offset + length bytes.now < 2 ^ 63 }
         ensures same { self.new ≡ self.old }
         ensures writes { (q : Search) (format : Format) (c : Cursor) → Remembers self.old q format c →
             shows_lines format ≡ true → HasFound q bytes.now runs.now parts.now total →
@@ -762,9 +732,12 @@ impl<A: Allocator> Printer<A> {
         let place = self.print_runs(out, bytes, runs, parts, total)?;
         let left = total - place.seen;
         let last = place.progress.pass(left as u64);
-        let stop = self.print_passed(out, place.progress, &bytes[place.at..], left)?;
+        let next = self.behind(bytes);
+        let offset = self.offset + place.at as u64;
+        let stop = self.print_passed(out, place.progress, offset, &bytes[place.at..], left)?;
         Ok(Printed {
             progress: last,
+            offset: next,
             fresh: place.at == 0,
             start: place.at + stop,
             lines: (left as u64).saturating_sub(place.progress.countdown) as usize,

@@ -4,16 +4,15 @@ ghost use Rattle.std.specs.Prelude.{length, nat_lt, not, ◌||◌, ◌==◌, Eac
 ghost use Rattle.std.specs.Fmt.{decimal};
 ghost use Rattle.pg_lines.specs.Lines.{lines, terminated};
 ghost use Rattle.pg_rows.specs.Colors.{in_color, part_color};
-ghost use Rattle.pg_rows.specs.Output.{is_nothing, when, gap_text, name_end, name_mark, name_text, row};
+ghost use Rattle.pg_rows.specs.Output.{is_nothing, size_of, when, gap_text, name_end, name_mark, name_text, row};
 ghost use Rattle.pg_rows.specs.Painting.{painted_bytes, AreAscending};
-ghost use Rattle.pg_rows.specs.Stretch.{has_text, marked_rows, part_row, part_rows, IsPartOf, no_part};
+ghost use Rattle.pg_rows.specs.Stretch.{has_text, marked_rows, part_row, part_rows, plain, IsPartOf, no_part};
 ghost use Rattle.pg_rows.specs.Sink.{WritesText};
 
-use crate::colors::{
-    Color, write_both, write_in_color, write_marked_name, write_painted, write_text,
-};
+use crate::colors::{Color, write_both, write_marked_name, write_painted, write_text};
 use crate::format::Format;
 use crate::places::end_of_line;
+use crate::position::Position;
 use crate::prefix::Prefix;
 use crate::sink::{Sink, WriteError, write_all};
 use itoa::Buffer;
@@ -25,6 +24,17 @@ fn is_incomplete(end: u8, text: &[u8]) -> bool
     ensures { terminated end (lines end text.now) ≡ (if result then text.now ++ end ∷ [] else text.now) }
 {
     !text.is_empty() && text[text.len() - 1] != end
+}
+
+/// How many bytes some lines have, each with its terminator.
+pub(crate) fn size_of_lines(end: u8, text: &[u8]) -> u64
+    ensures { result ≡ size_of (lines end text.now) }
+{
+    if is_incomplete(end, text) {
+        text.len() as u64 + 1
+    } else {
+        text.len() as u64
+    }
 }
 
 /// Writes some lines and nothing else. A last one without a terminator gets one.
@@ -61,15 +71,16 @@ fn write_line<W: Sink, A: Allocator>(
     end: u8,
     prefix: &mut Prefix<A>,
     mark: u8,
-    number: u64,
+    at: Position,
     line: &[u8],
 ) -> Result<(), WriteError>
     requires { length (lines end line.now) ≡ 1 }
     ensures same { prefix.new ≡ prefix.old }
-    ensures writes { WritesText (marked_rows format.now end prefix.old mark number (lines end line.now))
+    ensures writes { WritesText
+        (marked_rows format.now end prefix.old mark plain at.number at.offset (lines end line.now))
         (W.stream out.old) (W.stream out.new) result }
 {
-    prefix.write(out, format, number, mark, has_text(end, line))?;
+    prefix.write(out, format, at, mark, has_text(end, line))?;
     write_bare_lines(out, end, line)
 }
 
@@ -80,27 +91,30 @@ fn write_line_by_line<W: Sink, A: Allocator>(
     end: u8,
     prefix: &mut Prefix<A>,
     mark: u8,
-    number: u64,
+    first: Position,
     text: &[u8],
 ) -> Result<(), WriteError>
-    requires { number + length (lines end text.now) < 2 ^ 64 }
+    requires small { first.number + length (lines end text.now) < 2 ^ 64 }
+    requires placed { first.offset + length text.now < 2 ^ 64 }
     ensures same { prefix.new ≡ prefix.old }
-    ensures writes { WritesText (marked_rows format.now end prefix.old mark number (lines end text.now))
+    ensures writes { WritesText
+        (marked_rows format.now end prefix.old mark plain first.number first.offset (lines end text.now))
         (W.stream out.old) (W.stream out.new) result }
 {
-    let mut at = number;
+    let mut at = first;
     let mut start = 0;
     while start < text.len() {
         let next = end_of_line(end, text, start);
         write_line(out, format, end, prefix, mark, at, &text[start..next])?;
-        at += 1;
+        at.number += 1;
+        at.offset += (next - start) as u64;
         start = next;
     }
     Ok(())
 }
 
-/// Writes the rows of lines with a mark, numbered from a number on. A last line without a terminator
-/// gets one. Without names and numbers the text goes out as it is.
+/// Writes the rows of lines with a mark, the first of which stands at this position. A last line without a
+/// terminator gets one. Where rows have nothing before their texts the text goes out as it is.
 ///
 /// # Errors
 ///
@@ -111,16 +125,18 @@ pub(crate) fn write_lines<W: Sink, A: Allocator>(
     end: u8,
     prefix: &mut Prefix<A>,
     mark: u8,
-    number: u64,
+    first: Position,
     text: &[u8],
 ) -> Result<(), WriteError>
-    requires { number + length (lines end text.now) < 2 ^ 64 }
+    requires small { first.number + length (lines end text.now) < 2 ^ 64 }
+    requires placed { first.offset + length text.now < 2 ^ 64 }
     ensures same { prefix.new ≡ prefix.old }
-    ensures writes { WritesText (marked_rows format.now end prefix.old mark number (lines end text.now))
+    ensures writes { WritesText
+        (marked_rows format.now end prefix.old mark plain first.number first.offset (lines end text.now))
         (W.stream out.old) (W.stream out.new) result }
 {
     if format.has_prefix() {
-        write_line_by_line(out, format, end, prefix, mark, number, text)
+        write_line_by_line(out, format, end, prefix, mark, first, text)
     } else {
         write_bare_lines(out, end, text)
     }
@@ -161,45 +177,50 @@ fn write_row<W: Sink, A: Allocator>(
     end: u8,
     prefix: &mut Prefix<A>,
     mark: u8,
-    number: u64,
+    at: Position,
     text: &[u8],
 ) -> Result<(), WriteError>
     ensures same { prefix.new ≡ prefix.old }
     ensures writes { WritesText
-        (row format.now end prefix.old number mark (in_color format.now.colored part_color text.now))
+        (row format.now end prefix.old at.number at.offset mark (in_color format.now.colored part_color text.now))
         (W.stream out.old) (W.stream out.new) result }
 {
-    prefix.write(out, format, number, mark, has_part_text(format, text))?;
+    prefix.write(out, format, at, mark, has_part_text(format, text))?;
     write_part_text(out, format, end, text)
 }
 
-/// Writes the row of a part, unless its line stands behind the first `cut` ones.
+/// Writes the row of a part of some bytes, unless its line stands behind the first `cut` ones. Their first line stands
+/// at this position.
 fn write_part<W: Sink, A: Allocator>(
     out: &mut W,
     format: &Format,
     end: u8,
     prefix: &mut Prefix<A>,
-    before: u64,
+    first: Position,
     cut: usize,
     bytes: &[u8],
     part: Part,
 ) -> Result<(), WriteError>
     requires within { IsPartOf bytes.now part }
-    requires small { before + cut < 2 ^ 64 }
+    requires small { first.number + cut < 2 ^ 64 }
+    requires placed { first.offset + length bytes.now < 2 ^ 64 }
     ensures same { prefix.new ≡ prefix.old }
     ensures writes { WritesText
-        (when (nat_lt part.line cut) (part_row format.now end prefix.old before bytes.now part))
+        (when (nat_lt part.line cut) (part_row format.now end prefix.old first.number first.offset bytes.now part))
         (W.stream out.old) (W.stream out.new) result }
 {
     if part.line >= cut {
         return Ok(());
     }
-    let number = before + part.line as u64 + 1;
-    write_row(out, format, end, prefix, b':', number, part.span.of(bytes))
+    let at = Position {
+        number: first.number + part.line as u64,
+        offset: first.offset + part.span.start as u64,
+    };
+    write_row(out, format, end, prefix, b':', at, part.span.of(bytes))
 }
 
-/// Writes the rows of the parts of some bytes that stand in their first `cut` lines. Before these
-/// bytes the file has `before` lines.
+/// Writes the rows of the parts of some bytes that stand in their first `cut` lines. The first of these stands at this
+/// position.
 ///
 /// # Errors
 ///
@@ -209,19 +230,20 @@ pub(crate) fn write_parts<W: Sink, A: Allocator>(
     format: &Format,
     end: u8,
     prefix: &mut Prefix<A>,
-    before: u64,
+    first: Position,
     cut: usize,
     bytes: &[u8],
     parts: &[Part],
 ) -> Result<(), WriteError>
     requires within { EachIndex parts.now (λ k. IsPartOf bytes.now (get_or parts.now k no_part)) }
-    requires small { before + cut < 2 ^ 64 }
+    requires small { first.number + cut < 2 ^ 64 }
+    requires placed { first.offset + length bytes.now < 2 ^ 64 }
     ensures same { prefix.new ≡ prefix.old }
-    ensures writes { WritesText (part_rows format.now end prefix.old before cut bytes.now parts.now)
+    ensures writes { WritesText (part_rows format.now end prefix.old first.number first.offset cut bytes.now parts.now)
         (W.stream out.old) (W.stream out.new) result }
 {
     for part in parts {
-        write_part(out, format, end, prefix, before, cut, bytes, *part)?;
+        write_part(out, format, end, prefix, first, cut, bytes, *part)?;
     }
     Ok(())
 }
@@ -285,7 +307,7 @@ pub(crate) fn write_name<W: Sink, A: Allocator>(
     write_all(out, &[format.name_mark(b'\n')])
 }
 
-/// Writes the row of two hyphens that stands between rows that don't follow one another.
+/// Writes the row of the separator that stands between rows that don't follow one another.
 ///
 /// # Errors
 ///
@@ -293,10 +315,6 @@ pub(crate) fn write_name<W: Sink, A: Allocator>(
 pub(crate) fn write_gap<W: Sink>(out: &mut W, format: &Format, end: u8) -> Result<(), WriteError>
     ensures { WritesText (gap_text format.now end) (W.stream out.old) (W.stream out.new) result }
 {
-    if format.colored {
-        write_in_color(out, Color::Mark, b"--")?;
-        write_all(out, &[end])
-    } else {
-        write_all(out, &[b'-', b'-', end])
-    }
+    write_text(out, format, Color::Mark, format.text_between())?;
+    write_all(out, &[end])
 }

@@ -1,16 +1,19 @@
 //! Lines that may still be shown.
-ghost use Rattle.std.specs.Prelude.{◌≡◌, ℕ, ◌+◌, ◌<◌, ◌≤◌, ◌^◌, ◌⊎◌, ◌++◌, [], length};
+ghost use Rattle.std.specs.Prelude.{◌≡◌, ℕ, ◌+◌, ◌-◌, ◌<◌, ◌≤◌, ◌^◌, ◌⊎◌, ◌++◌, [], length};
 ghost use Rattle.std.specs.Prelude.{drop, IfOk, OnOk, OnErr, if◌then◌else◌};
 ghost use Rattle.std.specs.Arc.{arc_value};
 ghost use Rattle.circular_buffer.specs.Buffer.{keep_last};
 ghost use Rattle.pg_rows.specs.Sink.{WritesText};
-ghost use Rattle.pg_rows.specs.Stretch.{marked_rows};
+ghost use Rattle.pg_lines.specs.Lines.{lines};
+ghost use Rattle.pg_rows.specs.Output.{size_of};
+ghost use Rattle.pg_rows.specs.Stretch.{marked_rows, plain};
 ghost use Rattle.pg_rows.specs.Window.{lines_from, tail_lines, held, IsTail, IsWindow, GivesUp, HasRoomFor};
 
 use crate::format::Format;
 use crate::places::end_of_first;
+use crate::position::Position;
 use crate::prefix::Prefix;
-use crate::rows::write_lines;
+use crate::rows::{size_of_lines, write_lines};
 use crate::sink::{Sink, WriteError};
 use circular_buffer::HeapCircularBuffer;
 use pg_lines::Block;
@@ -46,29 +49,43 @@ impl<A: Allocator> Tail<A> {
         &block.bytes.as_slice()[self.start..]
     }
 
-    /// Writes its lines but the first ones as context.
+    /// Its bytes behind its first lines.
+    fn text_from(&self, end: u8, skip: usize) -> &[u8]
+        requires { IsTail end self.now }
+        ensures { lines end result.now ≡ drop skip (tail_lines end self.now) }
+    {
+        let text = self.text();
+        if skip >= self.lines {
+            return &text[text.len()..];
+        }
+        let from = end_of_first(end, text, skip);
+        &text[from..]
+    }
+
+    /// Writes its lines but the first ones as context. The answer is how many bytes these have, each with its
+    /// terminator.
     fn write_from<W: Sink>(
         &self,
         out: &mut W,
         format: &Format,
         end: u8,
         prefix: &mut Prefix<A>,
-        number: u64,
+        first: Position,
         skip: usize,
-    ) -> Result<(), WriteError>
+    ) -> Result<u64, WriteError>
         requires tail { IsTail end self.now }
-        requires small { number + length (drop skip (tail_lines end self.now)) < 2 ^ 64 }
+        requires small { first.number + length (drop skip (tail_lines end self.now)) < 2 ^ 64 }
+        requires placed { first.offset + size_of (drop skip (tail_lines end self.now)) < 2 ^ 64 }
         ensures same { prefix.new ≡ prefix.old }
         ensures writes { WritesText
-            (marked_rows format.now end prefix.old 45 number (drop skip (tail_lines end self.now)))
+            (marked_rows format.now end prefix.old 45 plain first.number first.offset
+            (drop skip (tail_lines end self.now)))
             (W.stream out.old) (W.stream out.new) result }
+        ensures size { IfOk result (λ size. size ≡ size_of (drop skip (tail_lines end self.now))) }
     {
-        if skip >= self.lines {
-            return Ok(());
-        }
-        let text = self.text();
-        let from = end_of_first(end, text, skip);
-        write_lines(out, format, end, prefix, b'-', number, &text[from..])
+        let text = self.text_from(end, skip);
+        write_lines(out, format, end, prefix, b'-', first, text)?;
+        Ok(size_of_lines(end, text))
     }
 }
 
@@ -187,7 +204,38 @@ impl<A: Allocator> Window<A> {
         }
     }
 
-    /// Writes the last `count` lines as context, numbered from a number on.
+    /// How many bytes the last `count` lines have, each with its terminator.
+    fn size_of_last(&self, end: u8, count: usize) -> u64
+        requires window { IsWindow end self.now }
+        requires within { count ≤ length (held end self.now) }
+        requires small { size_of (keep_last count (held end self.now)) < 2 ^ 64 }
+        ensures { result ≡ size_of (keep_last count (held end self.now)) }
+    {
+        let mut skip = self.lines - count;
+        let mut size = 0;
+        for tail in self.tails.iter() {
+            size += size_of_lines(end, tail.text_from(end, skip));
+            skip = skip.saturating_sub(tail.lines);
+        }
+        size
+    }
+
+    /// Where the last `count` lines begin, which end at this offset: 0 where rows have no offsets, which alone ask for
+    /// it.
+    pub(crate) fn offset_of_last(&self, format: &Format, end: u8, offset: u64, count: usize) -> u64
+        requires window { IsWindow end self.now }
+        requires within { count ≤ length (held end self.now) }
+        requires low { size_of (keep_last count (held end self.now)) ≤ offset }
+        ensures { result ≡ (if format.now.offsets then offset - size_of (keep_last count (held end self.now)) else 0) }
+    {
+        if format.offsets {
+            offset - self.size_of_last(end, count)
+        } else {
+            0
+        }
+    }
+
+    /// Writes the last `count` lines as context, the first of which stands at this position.
     ///
     /// # Errors
     ///
@@ -198,22 +246,25 @@ impl<A: Allocator> Window<A> {
         format: &Format,
         end: u8,
         prefix: &mut Prefix<A>,
-        number: u64,
+        first: Position,
         count: usize,
     ) -> Result<(), WriteError>
         requires window { IsWindow end self.now }
         requires within { count ≤ length (held end self.now) }
-        requires small { number + count < 2 ^ 64 }
+        requires small { first.number + count < 2 ^ 64 }
+        requires placed { first.offset + size_of (keep_last count (held end self.now)) < 2 ^ 64 }
         ensures same { prefix.new ≡ prefix.old }
         ensures writes { WritesText
-            (marked_rows format.now end prefix.old 45 number (keep_last count (held end self.now)))
+            (marked_rows format.now end prefix.old 45 plain first.number first.offset
+            (keep_last count (held end self.now)))
             (W.stream out.old) (W.stream out.new) result }
     {
         let mut skip = self.lines - count;
-        let mut at = number;
+        let mut at = first;
         for tail in self.tails.iter() {
-            tail.write_from(out, format, end, prefix, at, skip)?;
-            at += tail.lines.saturating_sub(skip) as u64;
+            let size = tail.write_from(out, format, end, prefix, at, skip)?;
+            at.number += tail.lines.saturating_sub(skip) as u64;
+            at.offset += size;
             skip = skip.saturating_sub(tail.lines);
         }
         Ok(())

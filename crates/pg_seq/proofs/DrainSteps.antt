@@ -15,6 +15,7 @@ use Rattle.pg_rows.specs.declared.format.Format.{Format}
 use Rattle.pg_rows.specs.declared.printer.Printer.{Printer}
 use Rattle.pg_rows.specs.Output.{HasRoom, output}
 use Rattle.pg_rows.specs.Sink.{IsBeginning, TakesPart}
+use Rattle.pg_rows.proofs.SizeLemmas.{size_few}
 use Rattle.pg_rows.specs.Cursor.{Cursor}
 use Rattle.pg_rows.specs.Remembered.{Remembers, opened_as, behind_block, shown_rows, end_rows}
 use Rattle.pg_seq.specs.declared.opening.Opening.{Opening}
@@ -53,6 +54,20 @@ few_numbers q format room done b lawful =
       few_lines (terminator q) file.bytes,
       ap length file.same,
       few_lines (terminator q) b.bytes,
+    )
+
+-- and so are the offsets of its bytes
+pub few_bytes : (q : Search) (format : Format) → HasRoom format → (done : List Step) (b : BlockData)
+    → IsPlan (terminator q) (Announces b ∷ done)
+    → (cursor_of q format done).trail.offset + length b.bytes < 2 ^ 63
+few_bytes q format room done b lawful =
+    let file = (cursor_is q format room done (shape_of (terminator q) done lawful.1)).file lawful.0.0.running in
+    omega (
+      arith,
+      lawful.0.1.small,
+      file.trail.offset,
+      size_few (terminator q) file.bytes,
+      ap length file.same,
     )
 
 module _ {A : Type 0} (s : Assembler A) (past : Past) (h : Stands s past) where
@@ -375,6 +390,22 @@ module _ {A : Type 0} (s : Assembler A) (past : Past) (h : Stands s past) where
         few,
         ap (λ t. length (lines (terminator_of t) found.block.bytes)) r.0,
         ap (λ b. length (lines (terminator q) b.bytes)) r.1,
+      )
+
+  pub bytes_fit : (slot : Slot A) (rest : List (Slot A)) (found : Searched) → s.printing ≡ true → is_at_end s ≡ false
+      → s.buffer.slots.items ≡ slot ∷ rest → slot.result ≡ Some found
+      → here.trail.offset + length found.block.bytes < 2 ^ 63
+  bytes_fit slot rest found printing over e is =
+      let n = block_next slot rest printing over e in
+      let r = result_is slot rest found e is in
+      let P : List Step → Type 0 = λ p. IsPlan (terminator q) p in
+      let lawful : IsPlan (terminator q) (Announces (slot_block slot) ∷ done) =
+      of_done (λ p. IsPlan (terminator q) p) (λ s p h. h.1) (Announces (slot_block slot) ∷ done) n.later
+      (subst P (h.writes.split ∙ ap (behind done) n.is) h.lawful) in
+      omega (
+        arith,
+        few_bytes q past.format h.room done (slot_block slot) lawful,
+        ap (λ b. length b.bytes) r.1,
       )
 
   -- the rows were written, and the printer stands behind the block

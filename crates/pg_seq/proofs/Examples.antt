@@ -15,6 +15,7 @@ use Rattle.pg_seq.specs.declared.answers.Arrival.TheVariants.{Taken, Double, Str
 use Rattle.pg_rows.specs.declared.format.Format.{Format}
 use Rattle.pg_rows.specs.declared.format.Mode.TheVariants.{Rows, Count, List as Names, ListOthers as Others, Quiet}
 use Rattle.pg_rows.specs.Output.{output, status, file_rows, Entry, Missed, Read, Ended}
+use Rattle.pg_rows.specs.Separator.{separator_of}
 
 -- the fixed string of one byte
 abbrev text_of : ℕ → SearchText
@@ -44,6 +45,7 @@ plain = record {
   names = false;
   null = false;
   numbers = false;
+  offsets = false;
   tabs = false;
   mode = Rows;
   parts = false;
@@ -51,7 +53,7 @@ plain = record {
   limit = None;
   before = None;
   after = None;
-  separators = true;
+  separator = Some (separator_of (codes "--"));
 }
 
 abbrev file : List ℕ → Entry
@@ -123,6 +125,29 @@ matched_parts : output (parts 109) (record plain { numbers = true; parts = true;
     (file (codes "m\nmm\nm\n") ∷ []) ≡ codes "1:m\n2:m\n2:m\n"
 unfolding has_hit file_rows parts_from digits
 matched_parts = refl
+
+-- with -b the offset of a row's first byte stands behind its number: lines count with their terminators
+offsets_and_numbers : output (query 109) (record plain { numbers = true; offsets = true })
+    (file (codes "ab\nm\n\nxm") ∷ []) ≡ codes "2:3:m\n4:6:xm\n"
+unfolding has_hit file_rows digits
+offsets_and_numbers = refl
+
+offsets_of_context : output (query 109) (record plain { offsets = true; before = Some 1; after = Some 1 })
+    (file (codes "a\nbb\nm\nc\nd\ne\nm\n") ∷ []) ≡ codes "2-bb\n5:m\n7-c\n--\n11-e\n13:m\n"
+unfolding has_hit file_rows digits
+offsets_of_context = refl
+
+-- and with -o that of the part
+offsets_of_parts : output (parts 109) (record plain { offsets = true; parts = true })
+    (file (codes "a\namm\nm\n") ∷ []) ≡ codes "3:m\n4:m\n6:m\n"
+unfolding has_hit file_rows parts_from digits
+offsets_of_parts = refl
+
+-- also where other bytes end lines
+offsets_with_zero : output (zeros 98) (record plain { names = true; offsets = true })
+    (file (codes "a\n" ++ 0 ∷ codes "b" ++ 0 ∷ []) ∷ []) ≡ codes "f:3:b" ++ 0 ∷ []
+unfolding has_hit file_rows digits
+offsets_with_zero = refl
 
 -- Rows in colors. ESC is 27.
 

@@ -19,7 +19,7 @@ use Rattle.pg_rows.specs.Output.{name_end, name_mark, name_text, painted, HasRoo
 use Rattle.pg_rows.specs.Output.{line_rows, piece_rows}
 use Rattle.pg_rows.specs.Output.{count_row, name_row, is_shown}
 use Rattle.pg_rows.specs.Trail.{Trail, step, run, run_rows, run_pieces, keeps, after_kept, after_context}
-use Rattle.pg_rows.specs.Trail.{after_other, kept_rows, pieces_in, trail_of}
+use Rattle.pg_rows.specs.Trail.{after_other, kept_rows, pieces_in, trail_of, with_offset}
 use Rattle.pg_rows.specs.Enough.{is_full, is_trailed, lines_suffice}
 use Rattle.pg_rows.proofs.TrailLemmas.{IsTrail, Quota}
 use Rattle.pg_rows.proofs.FoldLemmas.{trail_is, trail_more, rows_more, pieces_more, count_by_trail, some_counted}
@@ -49,7 +49,8 @@ module _ (format : Format) where
   after_unkept shown t l = cond shown (after_context t) (after_other format t l)
 
   abbrev after_line : Bool → Bool → Trail → List ℕ → Trail
-  after_line kept shown t l = cond kept (after_kept format t) (after_unkept shown t l)
+  after_line kept shown t l =
+      with_offset (t.offset + (length l + 1)) (cond kept (after_kept format t) (after_unkept shown t l))
 
   keeps_none : (t : Trail) (s : Bool) → IsSpent format t → keeps format t s ≡ false
   keeps_none t s e = and_right s (is_below t.kept format.limit) e
@@ -97,7 +98,7 @@ module _ (q : Search) (format : Format) where
   no_more_rows name earlier t (m ∷ ms) e d =
       let end = terminator q in
       let kept = kept_rows format end name earlier t (painted q format m) in
-      let own = row format end name (t.number + 1) 45 m in
+      let own = row format end name (t.number + 1) t.offset 45 m in
       let next = step format t (selects q m) m in
       let rest = run_rows q format name earlier next ms in
       ap (λ b. cond b kept (when (nat_lt 0 t.countdown) own) ++ rest) (keeps_none format t (selects q m) e)
@@ -111,7 +112,7 @@ module _ (q : Search) (format : Format) where
   no_more_pieces name t (m ∷ ms) e =
       let next = step format t (selects q m) m in
       let rest = run_pieces q format name next ms in
-      ap (λ b. when b (pieces_in q format name (t.number + 1) m) ++ rest) (keeps_none format t (selects q m) e)
+      ap (λ b. when b (pieces_in q format name (t.number + 1) t.offset m) ++ rest) (keeps_none format t (selects q m) e)
       ∙ no_more_pieces name next ms (step_spent format t (selects q m) m e)
 
   -- the rows of lines, as the mode has them

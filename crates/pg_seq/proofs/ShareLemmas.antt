@@ -12,9 +12,9 @@ use Rattle.pg_rows.specs.declared.format.Format.{Format}
 use Rattle.pg_rows.specs.Modes.{end_row, is_quiet, shows_rows}
 use Rattle.pg_rows.specs.Output.{Entry, Missed, Read, is_running, is_bad, has_selected, has_separators, is_nothing}
 use Rattle.pg_rows.specs.Output.{count_row, file_rows, gap_text, line_rows, name_row, output, painted, piece_rows}
-use Rattle.pg_rows.specs.Output.{row, status, when}
+use Rattle.pg_rows.specs.Output.{row, size_of, status, when}
 use Rattle.pg_rows.specs.Trail.{Trail, no_lines, step, keeps, after_kept, after_context, after_other, added}
-use Rattle.pg_rows.specs.Trail.{context_rows, gap_row, run_rows}
+use Rattle.pg_rows.specs.Trail.{context_rows, gap_row, run_rows, with_offset}
 use Rattle.pg_rows.proofs.FoldLemmas.{rows_more, something, some_append, some_row, trail_is}
 use Rattle.pg_seq.specs.Shares.{has_groups, joined_output, joined_status}
 use Rattle.pg_seq.proofs.LongerLemmas.{status_by}
@@ -37,7 +37,8 @@ module _ (q : Search) (format : Format) (name : List ℕ) where
       ap (λ some. gap some a) e ∙ sym (ap (λ some. gap some b) e)
 
   stays_shown : (t : Trail) (m : List ℕ) → t.some ≡ true → (kept near : Bool)
-      → (cond kept (after_kept format t) (cond near (after_context t) (after_other format t m))).some ≡ true
+      → (with_offset (t.offset + (length m + 1))
+      (cond kept (after_kept format t) (cond near (after_context t) (after_other format t m)))).some ≡ true
   stays_shown t m e true near = refl
   stays_shown t m e false true = e
   stays_shown t m e false false = e
@@ -50,9 +51,10 @@ module _ (q : Search) (format : Format) (name : List ℕ) where
       let selected = selects q m in
       let kept = keeps format t selected in
       let next = step format t selected m in
-      let front = context_rows format end name ((t.number + 1) - length t.window) t.window in
-      let own = row format end name (t.number + 1) 58 (painted q format m) in
-      let other = when (nat_lt 0 t.countdown) (row format end name (t.number + 1) 45 m) in
+      let front = context_rows format end name ((t.number + 1) - length t.window) (t.offset - size_of t.window)
+      t.window in
+      let own = row format end name (t.number + 1) t.offset 58 (painted q format m) in
+      let other = when (nat_lt 0 t.countdown) (row format end name (t.number + 1) t.offset 45 m) in
       ap (λ gap. cond kept (gap ++ (front ++ own)) other ++ run_rows q format name a next ms) (gap_same a b t e)
       ∙ ap (λ xs. added format end name b t selected (painted q format m) m ++ xs)
       (same_behind a b next ms (stays_shown t m e kept (nat_lt 0 t.countdown)))
@@ -64,40 +66,47 @@ module _ (q : Search) (format : Format) (name : List ℕ) where
   first_apart t [] unshown none = sym (with_none (has_separators format) (gap_text format (terminator q)))
   first_apart t (m ∷ ms) unshown none =
       go (keeps format t (selects q m)) (nat_lt 0 t.countdown) none
-      (first_apart (after_other format t m) ms unshown none)
+      (first_apart (further (after_other format t m)) ms unshown none)
     where
       end : ℕ
       end = terminator q
 
+      further : Trail → Trail
+      further = with_offset (t.offset + (length m + 1))
+
       own : List ℕ
-      own = row format end name (t.number + 1) 58 (painted q format m)
+      own = row format end name (t.number + 1) t.offset 58 (painted q format m)
+
+      front : List ℕ
+      front = context_rows format end name ((t.number + 1) - length t.window) (t.offset - size_of t.window) t.window
 
       body : List ℕ
-      body = context_rows format end name ((t.number + 1) - length t.window) t.window ++ own
+      body = front ++ own
 
       other : List ℕ
-      other = row format end name (t.number + 1) 45 m
+      other = row format end name (t.number + 1) t.offset 45 m
 
       next : Bool → Bool → Trail
-      next kept near = cond kept (after_kept format t) (cond near (after_context t) (after_other format t m))
+      next kept near = further (cond kept (after_kept format t) (cond near (after_context t) (after_other format t m)))
 
       gap : Bool → Bool → List ℕ
       gap some earlier = when (has_separators format && cond some t.skipped earlier) (gap_text format end)
 
       go : (kept near : Bool) → near ≡ false
-          → run_rows q format name true (after_other format t m) ms
+          → run_rows q format name true (further (after_other format t m)) ms
           ≡ with_hyphens (has_separators format) (gap_text format end)
-          (run_rows q format name false (after_other format t m) ms)
+          (run_rows q format name false (further (after_other format t m)) ms)
           → cond kept (gap_row format end true t ++ body) (when near other)
           ++ run_rows q format name true (next kept near) ms
           ≡ with_hyphens (has_separators format) (gap_text format end)
           (cond kept (gap_row format end false t ++ body) (when near other)
           ++ run_rows q format name false (next kept near) ms)
       go true near e others =
-          let rest = run_rows q format name false (after_kept format t) ms in
+          let rest = run_rows q format name false (further (after_kept format t)) ms in
           let shown : something (body ++ rest) ≡ true = body_shown rest in
-          ap (λ g. (g ++ body) ++ run_rows q format name true (after_kept format t) ms) (ap (λ s. gap s true) unshown)
-          ∙ (ap (λ xs. (gap false true ++ body) ++ xs) (same_behind true false (after_kept format t) ms refl)
+          ap (λ g. (g ++ body) ++ run_rows q format name true (further (after_kept format t)) ms)
+          (ap (λ s. gap s true) unshown)
+          ∙ (ap (λ xs. (gap false true ++ body) ++ xs) (same_behind true false (further (after_kept format t)) ms refl)
           ∙ (append_assoc (gap false true) body rest
           ∙ (sym (ap (λ s. when (has_separators format && s) (gap_text format end) ++ (body ++ rest)) shown)
           ∙ sym (ap (λ g. with_hyphens (has_separators format) (gap_text format end) ((g ++ body) ++ rest))
@@ -109,11 +118,10 @@ module _ (q : Search) (format : Format) (name : List ℕ) where
 
           body_shown : (rest : List ℕ) → something (body ++ rest) ≡ true
           body_shown rest =
-              let front = context_rows format end name ((t.number + 1) - length t.window) t.window in
               some_append body rest
               ∙ or_left (something body) (something rest)
               (some_append front own
-              ∙ or_right (something front) (something own) (some_row format end name (t.number + 1) 58
+              ∙ or_right (something front) (something own) (some_row format end name (t.number + 1) t.offset 58
               (painted q format m)))
       go false true e others = absurd (false≢true (sym e))
       go false false e others = others

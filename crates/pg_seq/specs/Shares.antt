@@ -7,11 +7,11 @@ use Rattle.pg_rows.specs.declared.format.Mode.{Mode}
 use Rattle.pg_rows.specs.Modes.{shows_rows, is_quiet}
 use Rattle.pg_rows.specs.Output.{gap_text, has_separators, is_nothing, when}
 
--- groups of lines are set apart by two hyphens: lines are shown, and context with them
+-- groups of lines are set apart: lines are shown, and context with them
 abbrev pub has_groups : Format → Bool
 has_groups format = shows_rows format.mode && (not format.parts && has_separators format)
 
--- what stands between the outputs of two shares: the row of hyphens where both have rows, of groups of lines
+-- what stands between the outputs of two shares: the row between groups where both have rows, of groups of lines
 abbrev pub between : Search → Format → List ℕ → List ℕ → List ℕ
 between q format first later =
     when (has_groups format && (not (is_nothing first) && not (is_nothing later))) (gap_text format (terminator q))

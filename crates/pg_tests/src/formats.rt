@@ -10,6 +10,7 @@ use crate::planning::{
     announce_block, end_file, is_block, miss_name, new_sequencer, open_file, open_next,
 };
 use pg_lines::{Block, BlockResult, Cutter, Kind, Query};
+use pg_rows::Separator;
 use pg_seq::{Arrival, Format, MemSink, Mode, Sequencer};
 use std::alloc::Global;
 use std::process::Abort;
@@ -80,10 +81,11 @@ pub(crate) fn format_of(rt: &impl Abort, letters: &str) -> Format
         names: is_given(rt, *names, b'H'),
         null: false,
         tabs: false,
-        separators: true,
+        separator: Some(Separator::hyphens()),
         numbers: is_given(rt, *numbers, b'n'),
         mode: mode_of(rt, *mode),
         parts: false,
+        offsets: false,
         colored: false,
         limit: limit_of(rt, *limit),
         before: digit(rt, *before),

@@ -10,6 +10,7 @@ use crate::planning::{
     announce_block, end_file, ends_for_free, new_sequencer, open_file, open_next,
 };
 use pg_lines::{BlockResult, Query};
+use pg_rows::Separator;
 use pg_seq::{Arrival, Format, MemSink, Sequencer, SinkFault};
 use refusing::Refusing;
 use std::alloc::{AllocError, Allocator, Global};
@@ -257,6 +258,7 @@ fn with_window<A: Allocator + Copy>(
     ensures { IsReading result 0 2 }
 {
     let format = Format {
+        separator: Some(Separator::hyphens()),
         before: Some(1),
         after: Some(1),
         ..PLAIN

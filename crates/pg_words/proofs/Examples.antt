@@ -1,7 +1,7 @@
--- Worked examples of long names that are cut short, and of filters.
-use Rattle.std.proofs.Common.{◌≡◌, refl, [], ◌∷◌, codes, option_map, Some}
+-- Worked examples of long names that are cut short, of filters, and of options of which the last one counts.
+use Rattle.std.proofs.Common.{◌≡◌, refl, [], ◌∷◌, codes, option_map, None, Some}
 use Rattle.pg_words.specs.Joined.{Free}
-use Rattle.pg_words.specs.Line.{Include, Exclude, ExcludeFrom, filters_in, table, uses_from}
+use Rattle.pg_words.specs.Line.{Include, Exclude, ExcludeFrom, filters_in, separator_in, table, uses_from}
 use Rattle.pg_words.specs.Asks.{coloring_in, directories_in}
 use Rattle.pg_words.specs.declared.options.Coloring.TheVariants.{Always}
 use Rattle.pg_words.specs.declared.options.DirectoryAction.TheVariants.{Skip, Recurse}
@@ -104,3 +104,19 @@ left_out : option_map directories_in (uses_in (codes "--rec" ∷ codes "-nd" ∷
     ≡ Some (Some Skip)
 unfolding full_name spelled_from uses_from
 left_out = refl
+
+-- the last of --group-separator and --no-group-separator counts, and an option's value is neither
+separator : option_map separator_in (uses_in (codes "--no-group" ∷ codes "--gr" ∷ codes "a=b" ∷ codes "-e"
+    ∷ codes "--no-group-separator" ∷ [])) ≡ Some (Some (codes "a=b"))
+unfolding full_name spelled_from uses_from
+separator = refl
+
+no_separator : option_map separator_in (uses_in (codes "--group-separator=a" ∷ codes "--no-group-separator" ∷ []))
+    ≡ Some None
+unfolding full_name spelled_from uses_from
+no_separator = refl
+
+hyphens : option_map separator_in (uses_in (codes "-A1" ∷ codes "--" ∷ codes "--no-group-separator" ∷ []))
+    ≡ Some (Some (codes "--"))
+unfolding full_name spelled_from uses_from
+hyphens = refl

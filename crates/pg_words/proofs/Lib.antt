@@ -12,6 +12,8 @@ pub mod Ours
 pub mod Passes
 pub mod Rows
 pub mod Rules
+pub mod SeparatorWords
+pub mod SilentWords
 pub mod Spells
 pub mod Table
 pub mod Uses

@@ -99,7 +99,19 @@ all_rows = (
                                                                                           (refl, refl, refl, refl),
                                                                                           (
                                                                                             (refl, refl, refl, refl),
-                                                                                            ((refl, refl, refl, refl), ((refl, refl, refl, refl), tt)),
+                                                                                            (
+                                                                                              (refl, refl, refl, refl),
+                                                                                              (
+                                                                                                (refl, refl, refl, refl),
+                                                                                                (
+                                                                                                  (refl, refl, refl, refl),
+                                                                                                  (
+                                                                                                    (refl, refl, refl, refl),
+                                                                                                    tt,
+                                                                                                  ),
+                                                                                                ),
+                                                                                              ),
+                                                                                            ),
                                                                                           ),
                                                                                         ),
                                                                                       ),

@@ -4,9 +4,10 @@ use Rattle.std.specs.Prelude.{Option, Some, None, is_some, option_and_then, opti
 use Rattle.std.specs.List.{list_any}
 use Rattle.std.specs.Str.{bytes_eq, str_eq_ignore_ascii_case}
 use Rattle.std.specs.Str.Parse.{digits_value, without_leading_sign}
+use Rattle.pg_rows.specs.Separator.{separator_for}
 use Rattle.pg_words.specs.Asked.{Asked, Pace}
 use Rattle.pg_words.specs.Line.{Text, Use, Uses, filters_in, ignores_case, is_given, last_value, operands_of, some_text}
-use Rattle.pg_words.specs.Line.{values_of}
+use Rattle.pg_words.specs.Line.{separator_in, values_of}
 use Rattle.pg_words.specs.Operands.{searched}
 use Rattle.pg_words.specs.Spelled.{uses_in}
 use Rattle.pg_words.specs.Options.{format_of, kind_of, naming_of}
@@ -92,6 +93,10 @@ coloring_by v =
 abbrev pub has_other_coloring : List Text → Bool
 has_other_coloring values = list_any (λ v. not (is_some (coloring_by v))) values
 
+-- a text of --group-separator that no separator can hold
+abbrev pub has_long_separator : List Text → Bool
+has_long_separator values = list_any (λ v. not (is_some (separator_for v))) values
+
 -- what is asked for by the last --color; without it rows are never colored
 abbrev pub coloring_in : List Use → Coloring
 coloring_in us = unwrap_or (option_and_then coloring_by (last_value (codes "color") us)) NeverColored
@@ -106,6 +111,7 @@ options_in us = record {
   unknown_directories = has_other_directory_action (values_of (codes "directories") us);
   unknown_devices = has_other_action (values_of (codes "devices") us);
   unknown_coloring = has_other_coloring (values_of (codes "color") us);
+  long_separator = has_long_separator (values_of (codes "group-separator") us);
   invert = is_given (codes "invert-match") us;
   fold = ignores_case us;
   parts = is_given (codes "only-matching") us;
@@ -116,7 +122,8 @@ options_in us = record {
   numbers = is_given (codes "line-number") us;
   null = is_given (codes "null") us;
   tabs = is_given (codes "initial-tab") us;
-  unparted = is_given (codes "no-group-separator") us;
+  offsets = is_given (codes "byte-offset") us;
+  separator = option_and_then separator_for (separator_in us);
   names = is_given (codes "with-filename") us;
   no_names = is_given (codes "no-filename") us;
   recursive = is_recursive (directories_in us);

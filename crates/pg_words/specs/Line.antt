@@ -53,6 +53,7 @@ table = record (opt (codes "q") (codes "quiet") Nothing) { others = codes "silen
     ∷ opt (codes "l") (codes "files-with-matches") Nothing
     ∷ opt (codes "L") (codes "files-without-match") Nothing
     ∷ opt (codes "Z") (codes "null") Nothing
+    ∷ opt (codes "b") (codes "byte-offset") Nothing
     ∷ opt (codes "n") (codes "line-number") Nothing
     ∷ opt (codes "T") (codes "initial-tab") Nothing
     ∷ opt (codes "H") (codes "with-filename") Nothing
@@ -62,6 +63,7 @@ table = record (opt (codes "q") (codes "quiet") Nothing) { others = codes "silen
     ∷ opt (codes "A") (codes "after-context") (Number 0 4294967295)
     ∷ opt (codes "B") (codes "before-context") (Number 0 65535)
     ∷ opt (codes "C") (codes "context") (Number 0 65535)
+    ∷ opt [] (codes "group-separator") AnyText
     ∷ opt [] (codes "no-group-separator") Nothing
     ∷ record (opt [] (codes "color") AnyText) { others = codes "colour" ∷ [] }
     ∷ opt (codes "r") (codes "recursive") Nothing
@@ -219,6 +221,22 @@ case_after (Operand v ∷ us) before = case_after us before
 -- case is ignored
 abbrev pub ignores_case : List Use → Bool
 ignores_case us = case_after us false
+
+-- --group-separator gives a text, and --no-group-separator takes it away
+abbrev pub separator_by : Text → Text → Option Text → Option Text
+separator_by name v before =
+    if bytes_eq name (codes "group-separator") then Some v
+    else (if bytes_eq name (codes "no-group-separator") then None else before)
+
+-- the last of these options counts
+abbrev pub separator_after : List Use → Option Text → Option Text
+separator_after [] before = before
+separator_after (Given o v ∷ us) before = separator_after us (separator_by o.name v before)
+separator_after (Operand v ∷ us) before = separator_after us before
+
+-- the text between groups of lines, if there is one; without these options it is two hyphens
+abbrev pub separator_in : List Use → Option Text
+separator_in us = separator_after us (Some (codes "--"))
 
 -- which files are searched: --include keeps those whose name this pattern matches, --exclude leaves them out, and so
 -- --exclude-from those that a pattern in this file matches

@@ -5,7 +5,7 @@ use Rattle.pg_words.specs.declared.usage.UsageFault.{UsageFault}
 use Rattle.pg_words.specs.declared.usage.UsageFault.TheVariants.{SeveralModes, ExtendedAndFixed, NamesAndNoNames}
 use Rattle.pg_words.specs.declared.usage.UsageFault.TheVariants.{ExcludedByParts, NoPattern, NoOperand}
 use Rattle.pg_words.specs.declared.usage.UsageFault.TheVariants.{OtherThanText, PerlExpressions, UnknownDevices}
-use Rattle.pg_words.specs.declared.usage.UsageFault.TheVariants.{UnknownColoring, UnknownDirectories}
+use Rattle.pg_words.specs.declared.usage.UsageFault.TheVariants.{LongSeparator, UnknownColoring, UnknownDirectories}
 use Rattle.pg_words.specs.Options.{has_excluded_by_parts, has_several_modes}
 
 -- What is wrong with options beside so many texts and files of patterns and so many FILE operands: the first of these.
@@ -16,13 +16,14 @@ usage_fault options patterns files =
     else (if options.unknown_directories then Some UnknownDirectories
     else (if options.unknown_devices then Some UnknownDevices
     else (if options.unknown_coloring then Some UnknownColoring
+    else (if options.long_separator then Some LongSeparator
     else (if has_several_modes options then Some SeveralModes
     else (if options.extended && options.fixed then Some ExtendedAndFixed
     else (if options.names && options.no_names then Some NamesAndNoNames
     else (if options.parts && has_excluded_by_parts options then Some ExcludedByParts
     else (if patterns == 0 then Some NoPattern
     else (if options.recursive && (files == 0) then Some NoOperand
-    else None))))))))))
+    else None)))))))))))
 
 -- what is told of a usage fault
 abbrev pub usage_text : UsageFault → List ℕ
@@ -32,6 +33,7 @@ usage_text OtherThanText = codes "--binary-files may only be text, and can be le
 usage_text UnknownDirectories = codes "-d may only be read, skip or recurse"
 usage_text UnknownDevices = codes "-D may only be read or skip"
 usage_text UnknownColoring = codes "--color may only be always, never or auto"
+usage_text LongSeparator = codes "the text of --group-separator has more than 64 bytes"
 usage_text SeveralModes = codes "only one of -c, -l, -L and -q may be given"
 usage_text ExtendedAndFixed = codes "only one of -E and -F may be given"
 usage_text NamesAndNoNames = codes "only one of -H and -h may be given"

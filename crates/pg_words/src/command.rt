@@ -63,7 +63,7 @@ pub(crate) struct OptionRow(Names, &'static str, Behind);
 /// stands beside its -d. A --color without a value is spelled out with one.
 /// --always-spread serves tests alone, so that neither --help nor the manual page names it. -P is known to be refused
 /// with what to do instead.
-static OPTIONS: [OptionRow; 49] = [
+static OPTIONS: [OptionRow; 51] = [
     OptionRow(Names::Letter('q', &["silent"]), "quiet", Behind::Nothing),
     OptionRow(Names::Letter('E', &[]), "extended-regexp", Behind::Nothing),
     OptionRow(Names::Letter('F', &[]), "fixed-strings", Behind::Nothing),
@@ -90,6 +90,7 @@ static OPTIONS: [OptionRow; 49] = [
         Behind::Nothing,
     ),
     OptionRow(Names::Letter('Z', &[]), "null", Behind::Nothing),
+    OptionRow(Names::Letter('b', &[]), "byte-offset", Behind::Nothing),
     OptionRow(Names::Letter('n', &[]), "line-number", Behind::Nothing),
     OptionRow(Names::Letter('T', &[]), "initial-tab", Behind::Nothing),
     OptionRow(Names::Letter('H', &[]), "with-filename", Behind::Nothing),
@@ -115,6 +116,7 @@ static OPTIONS: [OptionRow; 49] = [
         "context",
         Behind::Number(0, MAX_BEFORE),
     ),
+    OptionRow(Names::Long(&[]), "group-separator", Behind::Text("TEXT")),
     OptionRow(Names::Long(&[]), "no-group-separator", Behind::Nothing),
     OptionRow(Names::Long(&["colour"]), "color", Behind::Text("WHEN")),
     OptionRow(Names::Letter('r', &[]), "recursive", Behind::Nothing),

@@ -31,17 +31,21 @@ Output:
   -q, --quiet, --silent      print nothing; only the exit status tells
   -o, --only-matching        print the matching parts of selected lines
   -n, --line-number          print the number of each line before it
+  -b, --byte-offset          print the offset of each line before it, or with
+                             -o of each part: bytes from the file's start
   -H, --with-filename        print the name of the file before each line
   -h, --no-filename          never print names of files before lines
       --label=NAME           call standard input NAME
   -Z, --null                 print a NUL after each name of a file
-  -T, --initial-tab          print a tab after the name and number
+  -T, --initial-tab          print a tab after the name, number and offset
   -m, --max-count=N          stop after N selected lines of each file
   -A, --after-context=N      print N lines after each selected line
   -B, --before-context=N     print N lines before it, at most 65,535
   -C, --context=N            print N lines before and after, at most 65,535;
                              -5 is the same as -C 5
-      --no-group-separator   print no line of hyphens between groups of lines
+      --group-separator=TEXT print TEXT between groups of lines, at most 64
+                             bytes (default --)
+      --no-group-separator   print nothing between them; the last one counts
       --color[=WHEN], --colour[=WHEN]
                              color matches, names and numbers: always, never
                              (default), or auto, on a terminal alone, which

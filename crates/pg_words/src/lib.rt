@@ -14,6 +14,7 @@ mod matches;
 mod operands;
 mod options;
 mod request;
+mod separator;
 mod spell;
 mod split;
 mod usage;

@@ -3,20 +3,29 @@ ghost use Rattle.std.specs.Prelude.{◌≡◌, ◌≤◌, ◌<◌, ℕ, List, No
 ghost use Rattle.std.specs.Prelude.{unwrap_or, IfSome};
 ghost use Rattle.std.specs.Str.{str_eq_ignore_ascii_case};
 ghost use Rattle.clap.specs.Words.{found_of, matched_of, raw_values};
+ghost use Rattle.pg_rows.specs.Separator.{separator_for};
 ghost use Rattle.pg_words.specs.Asks.{coloring_by, coloring_in, device_action, directories_in, directory_action};
-ghost use Rattle.pg_words.specs.Asks.{has_other_action, has_other_coloring, has_other_directory_action};
+ghost use Rattle.pg_words.specs.Asks.{has_long_separator, has_other_action, has_other_coloring};
+ghost use Rattle.pg_words.specs.Asks.{has_other_directory_action};
 ghost use Rattle.pg_words.specs.Asks.{has_other_type, is_word_of, number_in, options_in};
 ghost use Rattle.pg_words.specs.Found.{found_values, value_behind, IsFound};
 ghost use Rattle.pg_words.specs.Gives.{IsNumberUpTo};
-ghost use Rattle.pg_words.specs.Line.{ignores_case, is_given, last_of, last_value, AnyText, Nothing, Number, Use};
+ghost use Rattle.pg_words.specs.Line.{ignores_case, is_given, last_of, last_value, separator_in, AnyText, Nothing};
+ghost use Rattle.pg_words.specs.Line.{Number, Use};
 
 use crate::options::{Coloring, DeviceAction, DirectoryAction, Options};
 use clap::ArgMatches;
+use pg_rows::Separator;
 
-/// The options that exclude one another, want operands or decide how rows look, and whether case is ignored, which
-/// `clap` doesn't know.
-pub(crate) fn options_of(found: &ArgMatches<'_>, fold: bool) -> Options
-    ensures { (us : List Use) → IsFound us (found_of found.now) → fold ≡ ignores_case us → result ≡ options_in us }
+/// The options that exclude one another, want operands or decide how rows look, and what `clap` doesn't know of them:
+/// whether case is ignored, and what parts groups of lines.
+pub(crate) fn options_of(
+    found: &ArgMatches<'_>,
+    fold: bool,
+    separator: Option<Separator>,
+) -> Options
+    ensures { (us : List Use) → IsFound us (found_of found.now) → fold ≡ ignores_case us
+        → separator ≡ option_and_then separator_for (separator_in us) → result ≡ options_in us }
 {
     Options {
         extended: flag(found, "extended-regexp"),
@@ -26,6 +35,7 @@ pub(crate) fn options_of(found: &ArgMatches<'_>, fold: bool) -> Options
         unknown_directories: has_other_directory_action(values_of(found, "directories")),
         unknown_devices: has_other_action(values_of(found, "devices")),
         unknown_coloring: has_other_coloring(values_of(found, "color")),
+        long_separator: has_long_separator(values_of(found, "group-separator")),
         invert: flag(found, "invert-match"),
         fold,
         parts: flag(found, "only-matching"),
@@ -36,7 +46,8 @@ pub(crate) fn options_of(found: &ArgMatches<'_>, fold: bool) -> Options
         numbers: flag(found, "line-number"),
         null: flag(found, "null"),
         tabs: flag(found, "initial-tab"),
-        unparted: flag(found, "no-group-separator"),
+        offsets: flag(found, "byte-offset"),
+        separator,
         names: flag(found, "with-filename"),
         no_names: flag(found, "no-filename"),
         recursive: DirectoryAction::is_recursive(directories_of(found)),
@@ -172,6 +183,18 @@ fn has_other_coloring(values: &[&str]) -> bool
 {
     for value in values {
         if coloring_by(value).is_none() {
+            return true;
+        }
+    }
+    false
+}
+
+/// Whether one of the texts of --group-separator is too long.
+fn has_long_separator(texts: &[&str]) -> bool
+    ensures { result ≡ has_long_separator (map (λ text. text.now) texts.now) }
+{
+    for text in texts {
+        if Separator::new(text.as_bytes()).is_none() {
             return true;
         }
     }

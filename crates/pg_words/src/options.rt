@@ -2,7 +2,7 @@
 ghost use Rattle.std.specs.Prelude.{◌≡◌};
 ghost use Rattle.pg_rows.specs.Output.{HasRoom};
 
-use pg_rows::{Format, Mode};
+use pg_rows::{Format, Mode, Separator};
 use pg_syntax::Kind;
 
 /// When rows and counts begin with the file's name.
@@ -93,6 +93,8 @@ pub struct Options {
     pub unknown_devices: bool,
     /// --color with another word than `always`, `never`, `auto` and those that say the same.
     pub unknown_coloring: bool,
+    /// --group-separator with a text of more than 64 bytes.
+    pub long_separator: bool,
     /// -v: the lines without a match.
     pub invert: bool,
     /// -i, unless --no-ignore-case follows: upper and lower case don't differ.
@@ -113,8 +115,11 @@ pub struct Options {
     pub null: bool,
     /// -T: a tab before the text of rows that have something before it.
     pub tabs: bool,
-    /// --no-group-separator: nothing parts groups of lines that aren't adjacent.
-    pub unparted: bool,
+    /// -b: the offsets of rows in their files.
+    pub offsets: bool,
+    /// --group-separator TEXT, or two hyphens, unless --no-group-separator follows: what parts groups of lines that
+    /// aren't adjacent.
+    pub separator: Option<Separator>,
     /// -H: the file's name before each row.
     pub names: bool,
     /// -h: no names before rows.
@@ -159,8 +164,9 @@ impl Options {
             tabs: self.tabs,
             parts: self.parts,
             colored: false,
-            separators: !self.unparted,
+            separator: self.separator,
             numbers: self.numbers,
+            offsets: self.offsets,
             mode: self.mode(),
             limit: self.limit.map(|lines| lines.max(1)),
             before: self.before.or(self.around),

@@ -38,8 +38,8 @@ pub struct Request<'a> {
     pub zero: bool,
     /// -o: the matched parts of selected lines have rows, not the lines.
     pub parts: bool,
-    /// How rows look: -c, -l, -L, -q, -n, -m, -A, -B, -C, -H, -h, -T, -Z and --no-group-separator. Without -H they have
-    /// no names. They have no colors.
+    /// How rows look: -c, -l, -L, -q, -n, -b, -m, -A, -B, -C, -H, -h, -T, -Z, --group-separator and
+    /// --no-group-separator. Without -H they have no names. They have no colors.
     pub format: Format,
     /// --color: when rows are colored.
     pub coloring: Coloring,

@@ -19,6 +19,8 @@ pub enum UsageFault {
     UnknownDevices,
     /// --color is given with another word than `always`, `never`, `auto` and those that say the same.
     UnknownColoring,
+    /// --group-separator is given with a text of more than 64 bytes.
+    LongSeparator,
     /// More than one of -c, -l, -L and -q is given.
     SeveralModes,
     /// Both -E and -F are given.
@@ -46,6 +48,7 @@ impl UsageFault {
             UsageFault::UnknownDirectories => "-d may only be read, skip or recurse",
             UsageFault::UnknownDevices => "-D may only be read or skip",
             UsageFault::UnknownColoring => "--color may only be always, never or auto",
+            UsageFault::LongSeparator => "the text of --group-separator has more than 64 bytes",
             UsageFault::SeveralModes => "only one of -c, -l, -L and -q may be given",
             UsageFault::ExtendedAndFixed => "only one of -E and -F may be given",
             UsageFault::NamesAndNoNames => "only one of -H and -h may be given",
@@ -90,6 +93,9 @@ pub fn check_usage(
     }
     if options.unknown_coloring {
         return Err(UsageFault::UnknownColoring);
+    }
+    if options.long_separator {
+        return Err(UsageFault::LongSeparator);
     }
     if options.has_several_modes() {
         return Err(UsageFault::SeveralModes);

@@ -1,7 +1,8 @@
 //! The words of the command line.
-ghost use Rattle.std.specs.Prelude.{◌≡◌, ◌<◌, ◌+◌, List, codes, map, vec_len};
+ghost use Rattle.std.specs.Prelude.{◌≡◌, ◌<◌, ◌+◌, List, codes, map, option_and_then, vec_len};
 ghost use Rattle.std.specs.String.{string_bytes};
 ghost use Rattle.clap.specs.Words.{found_of, kind_of};
+ghost use Rattle.pg_rows.specs.Separator.{separator_for};
 ghost use Rattle.pg_syntax.specs.Slices.{bytes_of};
 ghost use Rattle.pg_words.specs.Asked.{asked_of, pace_of};
 ghost use Rattle.pg_words.specs.Asks.{asked_in, asks_of, fault_in, files_in, options_in, pace_in, search_or, texts_in};
@@ -9,7 +10,7 @@ ghost use Rattle.pg_words.specs.Filters.{filters_of};
 ghost use Rattle.pg_words.specs.Found.{AreSources, IsFound};
 ghost use Rattle.pg_words.specs.Gives.{Gives, IsRefusal};
 ghost use Rattle.pg_words.specs.Joined.{asked};
-ghost use Rattle.pg_words.specs.Line.{filters_in, ignores_case, table, values_of, Use};
+ghost use Rattle.pg_words.specs.Line.{filters_in, ignores_case, separator_in, table, values_of, Use};
 ghost use Rattle.pg_words.specs.Operands.{searched};
 ghost use Rattle.pg_words.specs.declared.words.WordsFault.TheVariants.{OutOfMemory, Usage};
 
@@ -22,10 +23,12 @@ use crate::matches::{
 use crate::operands::{Sources, place_operands, searched_files};
 use crate::options::{DirectoryAction, Options};
 use crate::request::{FileFilter, Request};
+use crate::separator::separator_of;
 use crate::split::Words;
 use crate::usage::{UsageFault, check_usage};
 use clap::error::ErrorKind;
 use clap::{ArgMatches, Error};
+use pg_rows::Separator;
 use std::alloc::{AllocError, AllocFailed, Global};
 
 /// The number of workers where --workers isn't given.
@@ -85,11 +88,11 @@ impl<T: Drop> From<AllocFailed<T>> for WordsFault {
 ///
 /// `pargrep [options] [PATTERN] [FILE ...]`: PATTERN is the first operand where neither -e nor -f is
 /// given. Options may stand behind operands, until `--`. Of an option that is given twice the last
-/// one counts, and of -i and --no-ignore-case and of -d, -r and -R too; -e, -f and --exclude-dir collect, and
-/// --include, --exclude and --exclude-from together, in one order. -C gives the lines before and after where -B or -A
-/// doesn't. -y is -i, and digits among letters are -C with that number. The value of --color stands behind `=` in its
-/// word alone, and is `auto` where it is left out. -G has no effect beside -E or -F, and -a, -U and --binary-files=text
-/// have none at all.
+/// one counts, and of -i and --no-ignore-case, of --group-separator and --no-group-separator, and of -d, -r and -R too;
+/// -e, -f and --exclude-dir collect, and --include, --exclude and --exclude-from together, in one order. -C gives the
+/// lines before and after where -B or -A doesn't. -y is -i, and digits among letters are -C with that number. The value
+/// of --color stands behind `=` in its word alone, and is `auto` where it is left out. -G has no effect beside -E or
+/// -F, and -a, -U and --binary-files=text have none at all.
 ///
 /// The long names are GNU grep's, and --workers, --block and --round. One may be cut short where the rest of it leaves
 /// no other option. --help comes before --version, and both come before a fault that [`check_usage`] finds.
@@ -107,7 +110,13 @@ pub fn read_words<'a>(alloc: Global, words: &'a Words) -> Result<Task<'a>, Words
     match command.try_get_matches_from(words.as_slice()) {
         Ok(found) => {
             let filters = filters_of(alloc, words.as_slice())?;
-            task_of(alloc, &found, ignores_case(words.as_slice()), filters)
+            task_of(
+                alloc,
+                &found,
+                ignores_case(words.as_slice()),
+                separator_of(words.as_slice()),
+                filters,
+            )
         }
         Err(error) => Err(refusal(alloc, &error)),
     }
@@ -127,15 +136,17 @@ fn refusal(alloc: Global, error: &Error) -> WordsFault
     }
 }
 
-/// --help before --version, and both before a search, in which case is ignored or not and these filters say which files
-/// are searched.
+/// --help before --version, and both before a search, in which case is ignored or not, this parts groups of lines, and
+/// these filters say which files are searched.
 fn task_of<'a>(
     alloc: Global,
     found: &ArgMatches<'a>,
     fold: bool,
+    separator: Option<Separator>,
     filters: Vec<FileFilter<'a>>,
 ) -> Result<Task<'a>, WordsFault>
     ensures { (us : List Use) → IsFound us (found_of found.now) → fold ≡ ignores_case us
+        → separator ≡ option_and_then separator_for (separator_in us)
         → filters_of filters.entry.items ≡ filters_in us → Gives (asks_of (Some us)) result }
 {
     if flag(found, "help") {
@@ -147,7 +158,7 @@ fn task_of<'a>(
     search_of(
         alloc,
         found,
-        &options_of(found, fold),
+        &options_of(found, fold, separator),
         sources_of(found),
         filters,
     )

@@ -1,6 +1,6 @@
 use Rattle.std.proofs.Common.{◌≡◌, ◌+◌, ◌-◌, ◌<◌, ◌≤◌, ◌^◌, length, drop}
 use Rattle.pg_lines.specs.Lines.{lines}
-use Rattle.pg_rows.specs.Stretch.{marked_rows}
+use Rattle.pg_rows.specs.Stretch.{marked_rows, plain}
 use Rattle.pg_rows.proofs.WriteLemmas.{WritesAllBut}
 use Rattle.pg_rows.proofs.rows.write_line_by_line.Given as goal
 
@@ -8,10 +8,12 @@ use Rattle.pg_rows.proofs.rows.write_line_by_line.Given as goal
 abbrev pub invariant-loop-start : goal.invariant-loop-start
 invariant-loop-start g l = record {
   within : l.start ≤ length l.text;
-  small : l.at + length (lines l.end (drop l.start l.text)) < 2 ^ 64;
+  small : l.at.number + length (lines l.end (drop l.start l.text)) < 2 ^ 64;
+  place : l.at.offset ≡ l.fn.first.offset + l.start;
   prefix : l.prefix ≡ l.fn.prefix;
-  left : WritesAllBut (marked_rows l.format l.end l.fn.prefix l.mark l.number (lines l.end l.text))
-      (marked_rows l.format l.end l.fn.prefix l.mark l.at (lines l.end (drop l.start l.text)))
+  left : WritesAllBut (marked_rows l.format l.end l.fn.prefix l.mark plain l.fn.first.number l.fn.first.offset
+      (lines l.end l.text))
+      (marked_rows l.format l.end l.fn.prefix l.mark plain l.at.number l.at.offset (lines l.end (drop l.start l.text)))
       (g.W.Sink.stream l.fn.out) (g.W.Sink.stream l.out);
 }
 

@@ -15,17 +15,18 @@ returns-in_err-write_part-clause-writes g c =
     let a = c.args in
     let k = c.loop-part.part-index in
     let parts = a.parts.now in
-    let rows = part_rows a.format.now a.end a.prefix.now a.before a.cut a.bytes.now in
+    let rows = part_rows a.format.now a.end a.prefix.now a.first.number a.first.offset a.cut a.bytes.now in
     let p = get_or parts k no_part in
     let text = λ (name : List ℕ). when (nat_lt p.line a.cut)
-    (part_row a.format.now a.end name a.before a.bytes.now p) in
+    (part_row a.format.now a.end name a.first.number a.first.offset a.bytes.now p) in
     let before = g.W.Sink.stream a.out.now in
     let middle = g.W.Sink.stream c.loop-part.out in
     let after = g.W.Sink.stream c.write_part.new.out in
     let P : List ℕ → Type 0 = λ name. WritesPart (text name) middle after in
     writes_part (rows parts) before after c.from_residual.result c.from_residual.ensures.0
     (left_part (rows parts) (rows (drop k parts)) (rows (drop (k + 1) parts)) (text a.prefix.now) before middle after
-    (parts_more a.format.now a.end a.prefix.now a.before a.cut a.bytes.now parts k no_part c.loop-part-test.true)
+    (parts_more a.format.now a.end a.prefix.now a.first.number a.first.offset a.cut a.bytes.now parts k no_part
+    c.loop-part-test.true)
     (subst P c.loop-part.invariant.prefix c.in_err-write_part.ensures.writes.err) c.loop-part.invariant.left)
 
 pub loop-part-preserved : goal.loop-part-preserved
@@ -33,10 +34,10 @@ loop-part-preserved g c =
     let a = c.args in
     let k = c.loop-part.part-index in
     let parts = a.parts.now in
-    let rows = part_rows a.format.now a.end a.prefix.now a.before a.cut a.bytes.now in
+    let rows = part_rows a.format.now a.end a.prefix.now a.first.number a.first.offset a.cut a.bytes.now in
     let p = get_or parts k no_part in
     let text = λ (name : List ℕ). when (nat_lt p.line a.cut)
-    (part_row a.format.now a.end name a.before a.bytes.now p) in
+    (part_row a.format.now a.end name a.first.number a.first.offset a.bytes.now p) in
     let before = g.W.Sink.stream a.out.now in
     let middle = g.W.Sink.stream c.loop-part.out in
     let after = g.W.Sink.stream c.write_part.new.out in
@@ -44,7 +45,8 @@ loop-part-preserved g c =
     record {
       prefix = c.in_ok-write_part.ensures.same ∙ c.loop-part.invariant.prefix;
       left = left_less (rows parts) (rows (drop k parts)) (rows (drop (k + 1) parts)) (text a.prefix.now) before middle
-          after (parts_more a.format.now a.end a.prefix.now a.before a.cut a.bytes.now parts k no_part
+          after (parts_more a.format.now a.end a.prefix.now a.first.number a.first.offset a.cut a.bytes.now parts k
+          no_part
           c.loop-part-test.true) (subst P c.loop-part.invariant.prefix c.in_ok-write_part.ensures.writes.ok)
           c.loop-part.invariant.left;
     }
@@ -54,7 +56,8 @@ loop-part-init g c =
     let a = c.args in
     record {
       prefix = refl;
-      left = left_whole (part_rows a.format.now a.end a.prefix.now a.before a.cut a.bytes.now a.parts.now)
+      left = left_whole (part_rows a.format.now a.end a.prefix.now a.first.number a.first.offset a.cut a.bytes.now
+          a.parts.now)
           (g.W.Sink.stream a.out.now);
     }
 
@@ -62,7 +65,7 @@ pub returns-clause-writes : goal.returns-clause-writes
 returns-clause-writes g c =
     let a = c.args in
     let k = c.loop-part.part-index in
-    let rows = part_rows a.format.now a.end a.prefix.now a.before a.cut a.bytes.now in
+    let rows = part_rows a.format.now a.end a.prefix.now a.first.number a.first.offset a.cut a.bytes.now in
     record {
       ok = left_none (rows a.parts.now) (rows (drop k a.parts.now)) (g.W.Sink.stream a.out.now)
           (g.W.Sink.stream c.loop-part.out) (ap rows (drop_all k a.parts.now c.loop-part-test.false))

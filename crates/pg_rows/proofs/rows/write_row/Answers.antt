@@ -11,10 +11,12 @@ returns-in_err-write-clause-writes g c =
     let a = c.args in
     let shown = in_color a.format.now.colored part_color a.text.now in
     let text : List ℕ = shown ++ a.end ∷ [] in
-    let front = prefix_text a.format.now a.prefix.now a.number a.mark c.has_part_text.result in
-    let rows = row_is a.format.now a.end a.prefix.now a.number a.mark shown
-    ∙ ap (λ b. prefix_text a.format.now a.prefix.now a.number a.mark b ++ text) (sym c.has_part_text.ensures) in
-    writes_as (front ++ text) (row a.format.now a.end a.prefix.now a.number a.mark shown) _ _ _ (sym rows)
+    let front = prefix_text a.format.now a.prefix.now a.at.number a.at.offset a.mark c.has_part_text.result in
+    let rows = row_is a.format.now a.end a.prefix.now a.at.number a.at.offset a.mark shown
+    ∙ ap (λ b. prefix_text a.format.now a.prefix.now a.at.number a.at.offset a.mark b ++ text)
+    (sym c.has_part_text.ensures) in
+    writes_as (front ++ text) (row a.format.now a.end a.prefix.now a.at.number a.at.offset a.mark shown) _ _ _
+    (sym rows)
     (writes_part (front ++ text) _ _ c.from_residual.result c.from_residual.ensures.0
     (part_of_first front text _ _ c.in_err-write.ensures.writes.err))
 
@@ -23,8 +25,10 @@ returns-clause-writes g c =
     let a = c.args in
     let shown = in_color a.format.now.colored part_color a.text.now in
     let text : List ℕ = shown ++ a.end ∷ [] in
-    let front = prefix_text a.format.now a.prefix.now a.number a.mark c.has_part_text.result in
-    let rows = row_is a.format.now a.end a.prefix.now a.number a.mark shown
-    ∙ ap (λ b. prefix_text a.format.now a.prefix.now a.number a.mark b ++ text) (sym c.has_part_text.ensures) in
-    writes_as (front ++ text) (row a.format.now a.end a.prefix.now a.number a.mark shown) _ _ _ (sym rows)
+    let front = prefix_text a.format.now a.prefix.now a.at.number a.at.offset a.mark c.has_part_text.result in
+    let rows = row_is a.format.now a.end a.prefix.now a.at.number a.at.offset a.mark shown
+    ∙ ap (λ b. prefix_text a.format.now a.prefix.now a.at.number a.at.offset a.mark b ++ text)
+    (sym c.has_part_text.ensures) in
+    writes_as (front ++ text) (row a.format.now a.end a.prefix.now a.at.number a.at.offset a.mark shown) _ _ _
+    (sym rows)
     (writes_then front text _ _ _ _ c.in_ok-write.ensures.writes.ok c.write_part_text.ensures)

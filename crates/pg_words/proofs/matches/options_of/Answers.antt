@@ -1,10 +1,10 @@
 use Rattle.std.proofs.Common.{◌∙◌, ap, arith, codes, refl}
 use Rattle.pg_words.specs.Asks.{has_other_action, has_other_coloring, has_other_directory_action, has_other_type}
-use Rattle.pg_words.specs.Asks.{is_recursive}
+use Rattle.pg_words.specs.Asks.{has_long_separator, is_recursive}
 use Rattle.pg_words.proofs.matches.options_of.Goals as goal
 
 pub returns : goal.returns
-returns c = λ us is fold.
+returns c = λ us is fold separator.
     rw (
       c.flag.ensures us is refl,
       c.flag-2.ensures us is refl,
@@ -14,6 +14,8 @@ returns c = λ us is fold.
           ∙ ap has_other_directory_action (c.values_of-2.ensures ∙ is.texts (codes "directories") refl),
       c.has_other_action.ensures ∙ ap has_other_action (c.values_of-3.ensures ∙ is.texts (codes "devices") refl),
       c.has_other_coloring.ensures ∙ ap has_other_coloring (c.values_of-4.ensures ∙ is.texts (codes "color") refl),
+      c.has_long_separator.ensures
+          ∙ ap has_long_separator (c.values_of-5.ensures ∙ is.texts (codes "group-separator") refl),
       c.flag-4.ensures us is refl,
       c.flag-5.ensures us is refl,
       c.flag-6.ensures us is refl,
@@ -32,4 +34,5 @@ returns c = λ us is fold.
       c.small_number.ensures us is (0, 65535, refl, omega arith),
       c.small_number-2.ensures us is (0, 65535, refl, omega arith),
       fold,
+      separator,
     ) refl

@@ -31,6 +31,8 @@ returns-in_ok-filters-in-Ok c =
     (c.task_of.ensures got.0 got.2
     (c.ignores_case.ensures got.0
     (ap (λ (l : List (List ℕ)). asked table l) (ap (map string_bytes) c.as_slice-in-Ok-2.ensures) ∙ got.1))
+    (c.separator_of.ensures got.0
+    (ap (λ (l : List (List ℕ)). asked table l) (ap (map string_bytes) c.as_slice-in-Ok-3.ensures) ∙ got.1))
     (c.in_ok-filters-in-Ok.ensures got.0
     (ap (λ (l : List (List ℕ)). asked table l) (ap (map string_bytes) c.as_slice-in-Ok.ensures) ∙ got.1)))
 

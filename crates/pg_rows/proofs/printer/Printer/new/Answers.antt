@@ -1,4 +1,4 @@
-use Rattle.std.proofs.Common.{◌-◌, refl, sym, ap, ◌∙◌}
+use Rattle.std.proofs.Common.{◌-◌, refl, sym, ap, ◌∙◌, arith}
 use Rattle.std.proofs.Math.Seq.{drop-nil}
 use Rattle.circular_buffer.specs.Buffer.{keep_last}
 use Rattle.pg_lines.specs.Search.{terminator, terminator_of}
@@ -16,6 +16,8 @@ returns g c q same =
       earlier_is = refl;
       name_is = c.in_ok-prefix.ensures;
       told = c.new-3.ensures c.args.format;
+      offset = refl;
+      room = omega arith;
       holds = c.in_ok-window.ensures.window end;
       size = c.in_ok-window.ensures.size ∙ (c.from.ensures ∙ c.unwrap_or.ensures);
       window = λ shows. sym (ap (λ ts. keep_last n (lines_in end ts)) c.in_ok-window.ensures.nothing

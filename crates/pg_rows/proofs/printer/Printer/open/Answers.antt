@@ -1,4 +1,4 @@
-use Rattle.std.proofs.Common.{◌-◌, ◌||◌, refl, sym, ap, ◌∙◌}
+use Rattle.std.proofs.Common.{◌-◌, ◌||◌, refl, sym, ap, ◌∙◌, arith}
 use Rattle.std.proofs.Math.Seq.{drop-nil}
 use Rattle.circular_buffer.specs.Buffer.{keep_last}
 use Rattle.pg_lines.specs.Search.{terminator}
@@ -17,6 +17,8 @@ returns g c q format cur r =
           ap (λ b. b || c.args.self.now.progress.shown) r.earlier_is ∙ ap (λ b. cur.earlier || b) r.told.some;
       name_is = refl;
       told = c.new-self.ensures format;
+      offset = refl;
+      room = omega arith;
       holds = c.clear.ensures.window end;
       size = c.clear.ensures.size ∙ r.size;
       window = λ shows. sym (ap (λ ts. keep_last n (lines_in end ts)) c.clear.ensures.nothing ∙ drop-nil (0 - n));

@@ -11,7 +11,7 @@ returns-in_err-print_gap-clause-writes g c =
     let s = a.self.now in
     let hidden = held s.end s.window ++ lines s.end a.near.now in
     let gap = gap_of s.format s.end s.earlier a.progress in
-    let lead = rows_of_leading s.format s.end s.prefix hidden a.progress in
+    let lead = rows_of_leading s.format s.end s.prefix hidden a.progress a.offset in
     writes_part (gap ++ lead) _ _ c.from_residual.result c.from_residual.ensures.0
     (part_of_first gap lead _ _ c.in_err-print_gap.ensures.err)
 
@@ -21,5 +21,5 @@ returns-clause-writes g c =
     let s = a.self.now in
     let hidden = held s.end s.window ++ lines s.end a.near.now in
     let gap = gap_of s.format s.end s.earlier a.progress in
-    let lead = rows_of_leading s.format s.end s.prefix hidden a.progress in
+    let lead = rows_of_leading s.format s.end s.prefix hidden a.progress a.offset in
     writes_then gap lead _ _ _ _ c.in_ok-print_gap.ensures.ok c.print_leading.ensures.writes

@@ -1,11 +1,12 @@
 use Rattle.std.proofs.Common.{◌≡◌, ℕ, ◌+◌, ◌-◌, ◌≤◌, ◌<◌, ◌^◌, List, ◌++◌, length, take, drop}
 use Rattle.std.proofs.Common.{refl, sym, ap, ◌∙◌, subst}
-use Rattle.std.proofs.Common.{arith}
+use Rattle.std.proofs.Common.{arith, length-drop}
 use Rattle.std.proofs.lemmas.List.{take_rest}
 use Rattle.std.proofs.lemmas.Result.{IfOk-from_err}
 use Rattle.pg_lines.specs.Search.{terminator}
 use Rattle.pg_lines.specs.Lines.{lines}
 use Rattle.pg_rows.specs.declared.printer.Printer.{Printer}
+use Rattle.pg_rows.specs.Output.{size_of}
 use Rattle.pg_rows.specs.Sink.{TakesPart}
 use Rattle.pg_rows.specs.Trail.{run_rows}
 use Rattle.pg_rows.specs.Window.{held}
@@ -36,7 +37,7 @@ returns-in_err-stop-clause-writes g c q format cur r shows has =
     let middle = (g.W.Sink.stream c.print_runs.new.out).taken in
     let after = (g.W.Sink.stream c.print_passed.new.out).taken in
     let rows = λ (p : Printer g.row.A.Denot) (t : List ℕ). rows_of_passed p.format p.end p.prefix place.progress
-    (lines p.end t) in
+    (p.offset + place.at) (lines p.end t) in
     let same : rows c.print_runs.new.self cut ≡ rows s text =
     ap (λ p. rows p cut) c.in_ok-place.ensures.same ∙ ap (rows s) whole in
     let k = behind_last s q format cur a.bytes.now start middle place c.pass-last.result (a.total - place.seen) r h
@@ -71,7 +72,7 @@ returns-clause-writes g c q format cur r shows has =
     let middle = (g.W.Sink.stream c.print_runs.new.out).taken in
     let after = (g.W.Sink.stream c.print_passed.new.out).taken in
     let rows = λ (p : Printer g.row.A.Denot) (t : List ℕ). rows_of_passed p.format p.end p.prefix place.progress
-    (lines p.end t) in
+    (p.offset + place.at) (lines p.end t) in
     let same : rows c.print_runs.new.self cut ≡ rows s text =
     ap (λ p. rows p cut) c.in_ok-place.ensures.same ∙ ap (rows s) whole in
     let k = behind_last s q format cur a.bytes.now start middle place c.pass-last.result (a.total - place.seen) r h
@@ -110,10 +111,12 @@ returns-clause-follows g c q format cur r shows has =
     ≡ drop place.progress.countdown (lines p.end cut) in
     let Q : List ℕ → Type 0 = λ t. lines s.end (drop stop t) ≡ drop place.progress.countdown (lines s.end t) in
     let R : List ℕ → Type 0 = λ t. stop ≤ length t in
+    let behind = c.behind-next.ensures
+    ∙ ap (λ p. p.offset + size_of (lines p.end a.bytes.now)) c.in_ok-place.ensures.same in
     follows s q format cur a.bytes.now start middle place c.pass-last.result (a.total - place.seen) stop
-    c.saturating_sub.result r shows h c.pass-last.ensures.fields count
+    c.saturating_sub.result c.behind-next.result r shows h c.pass-last.ensures.fields count
     (subst Q whole (subst P c.in_ok-place.ensures.same c.in_ok-stop.ensures.rest))
-    (subst R whole c.in_ok-stop.ensures.within) c.saturating_sub.ensures
+    (subst R whole c.in_ok-stop.ensures.within) c.saturating_sub.ensures behind
 
 -- what the runs leave is within the block
 
@@ -165,3 +168,30 @@ returns-in_err-place-clause-writes g c q format cur r shows has =
 pub returns-in_err-stop-clause-follows : goal.returns-in_err-stop-clause-follows
 returns-in_err-stop-clause-follows g c q format cur r shows has =
     IfOk-from_err c.from_residual-in_err-stop.result _ c.from_residual-in_err-stop.ensures.0
+
+-- the block's bytes are within the bound on the file's
+placed_same : (offset before : ℕ) (bytes : List ℕ) → offset ≡ before → before + length bytes < 2 ^ 63
+    → offset + length bytes < 2 ^ 63
+placed_same offset before bytes e placed = omega arith
+
+pub behind-next-requires : goal.behind-next-requires
+behind-next-requires g c =
+    placed_same _ _ c.args.bytes.now (ap (λ p. p.offset) c.in_ok-place.ensures.same) c.requires.placed
+
+pub overflow_add-offset : goal.overflow_add-offset
+overflow_add-offset g c =
+    let w = c.requires.stands in
+    let h = c.in_ok-place.ensures.comes w.0 w.1 w.2 w.3 w.4 w.5 in
+    let within = h.here.within in
+    let placed = placed_same _ _ c.args.bytes.now (ap (λ p. p.offset) c.in_ok-place.ensures.same) c.requires.placed in
+    omega arith
+
+pub print_passed-requires-clause-placed : goal.print_passed-requires-clause-placed
+print_passed-requires-clause-placed g c =
+    let w = c.requires.stands in
+    let h = c.in_ok-place.ensures.comes w.0 w.1 w.2 w.3 w.4 w.5 in
+    let within = h.here.within in
+    let place = c.in_ok-place.place in
+    let size = ap (λ xs. length xs) (take_rest c.args.bytes.now place.at) ∙ length-drop place.at c.args.bytes.now in
+    let placed = placed_same _ _ c.args.bytes.now (ap (λ p. p.offset) c.in_ok-place.ensures.same) c.requires.placed in
+    omega arith

@@ -1,4 +1,4 @@
-use Rattle.std.proofs.Common.{◌≡◌, ℕ, ◌+◌, List, ◌∷◌, length, map, drop, slice_range, subst, ap, ◌∙◌, arith}
+use Rattle.std.proofs.Common.{◌≡◌, ℕ, ◌+◌, ◌-◌, List, ◌∷◌, length, drop, slice_range, subst, ap, ◌∙◌, arith}
 use Rattle.pg_lines.specs.Lines.{lines}
 use Rattle.pg_rows.specs.declared.printer.Printer.{Printer}
 use Rattle.pg_rows.specs.Output.{painted, row}
@@ -20,9 +20,11 @@ slice_bounds-own-end g c =
     ≡ slice_range a.bytes.now l.at stop ∷ lines p.end (drop (stop + 1) a.bytes.now) in
     let is = subst P l.invariant.same c.text_end-stop.ensures.line in
     let w = c.requires.told in
-    let h = prints_line w.0 s.format s.end s.prefix a.number a.bytes.now a.from a.line a.parts.now l.at stop l.done
+    let h = prints_line w.0 s.format s.end s.prefix a.first.number a.first.offset a.bytes.now a.from a.line
+    a.parts.now l.at stop l.done
     l.used
-    next (g.W.Sink.stream a.out.now) (g.W.Sink.stream l.out) (l.invariant.left w.0 w.1) c.requires.colored
+    next (g.W.Sink.stream a.out.now) (g.W.Sink.stream l.out) (l.invariant.left w.0 w.1) l.invariant.begun
+    c.requires.colored
     l.invariant.fits c.text_end-stop.ensures.low c.text_end-stop.ensures.high is c.end_of_parts-next.ensures in
     let within = h.within in
     let ordered = h.ordered in
@@ -39,9 +41,11 @@ print_painted_line-requires-clause-ascend g c =
     ≡ slice_range a.bytes.now l.at stop ∷ lines p.end (drop (stop + 1) a.bytes.now) in
     let is = subst P l.invariant.same c.text_end-stop.ensures.line in
     let w = c.requires.told in
-    let h = prints_line w.0 s.format s.end s.prefix a.number a.bytes.now a.from a.line a.parts.now l.at stop l.done
+    let h = prints_line w.0 s.format s.end s.prefix a.first.number a.first.offset a.bytes.now a.from a.line
+    a.parts.now l.at stop l.done
     l.used
-    next (g.W.Sink.stream a.out.now) (g.W.Sink.stream l.out) (l.invariant.left w.0 w.1) c.requires.colored
+    next (g.W.Sink.stream a.out.now) (g.W.Sink.stream l.out) (l.invariant.left w.0 w.1) l.invariant.begun
+    c.requires.colored
     l.invariant.fits c.text_end-stop.ensures.low c.text_end-stop.ensures.high is c.end_of_parts-next.ensures in
     h.ascend
 
@@ -56,17 +60,19 @@ returns-in_err-print_painted_line-clause-writes g c q told =
     ≡ slice_range a.bytes.now l.at stop ∷ lines p.end (drop (stop + 1) a.bytes.now) in
     let is = subst P l.invariant.same c.text_end-stop.ensures.line in
     let left = l.invariant.left q told in
-    let h = prints_line q s.format s.end s.prefix a.number a.bytes.now a.from a.line a.parts.now l.at stop l.done l.used
-    next (g.W.Sink.stream a.out.now) (g.W.Sink.stream l.out) left c.requires.colored
+    let h = prints_line q s.format s.end s.prefix a.first.number a.first.offset a.bytes.now a.from a.line a.parts.now
+    l.at stop l.done l.used
+    next (g.W.Sink.stream a.out.now) (g.W.Sink.stream l.out) left l.invariant.begun c.requires.colored
     l.invariant.fits c.text_end-stop.ensures.low c.text_end-stop.ensures.high is c.end_of_parts-next.ensures in
-    let whole = marked_rows s.format s.end s.prefix 58 a.number (map (painted q s.format)
-    (lines s.end (drop a.from a.bytes.now))) in
-    let rest = marked_rows s.format s.end s.prefix 58 (a.number + l.done) (map (painted q s.format)
-    (lines s.end (drop l.at a.bytes.now))) in
-    let later = marked_rows s.format s.end s.prefix 58 (a.number + (l.done + 1)) (map (painted q s.format)
-    (lines s.end (drop (stop + 1) a.bytes.now))) in
+    let whole = marked_rows s.format s.end s.prefix 58 (painted q s.format) a.first.number a.first.offset
+    (lines s.end (drop a.from a.bytes.now)) in
+    let rest = marked_rows s.format s.end s.prefix 58 (painted q s.format) (a.first.number + l.done)
+    (a.first.offset + (l.at - a.from)) (lines s.end (drop l.at a.bytes.now)) in
+    let later = marked_rows s.format s.end s.prefix 58 (painted q s.format) (a.first.number + (l.done + 1))
+    (a.first.offset + ((stop + 1) - a.from)) (lines s.end (drop (stop + 1) a.bytes.now)) in
     let own = painted_bytes a.bytes.now l.at stop (slice_range a.parts.now l.used next) in
-    let text : Printer g.row.A.Denot → List ℕ = λ p. row p.format p.end p.prefix (a.number + l.done) 58 own in
+    let text : Printer g.row.A.Denot → List ℕ = λ p. row p.format p.end p.prefix (a.first.number + l.done)
+    (a.first.offset + (l.at - a.from)) 58 own in
     let middle = g.W.Sink.stream l.out in
     let after = g.W.Sink.stream c.print_painted_line.new.out in
     let Q : List ℕ → Type 0 = λ xs. WritesPart xs middle after in
@@ -85,30 +91,35 @@ loop-at-preserved g c =
     ≡ slice_range a.bytes.now l.at stop ∷ lines p.end (drop (stop + 1) a.bytes.now) in
     let is = subst P l.invariant.same c.text_end-stop.ensures.line in
     let w = c.requires.told in
-    let h = prints_line w.0 s.format s.end s.prefix a.number a.bytes.now a.from a.line a.parts.now l.at stop l.done
+    let h = prints_line w.0 s.format s.end s.prefix a.first.number a.first.offset a.bytes.now a.from a.line
+    a.parts.now l.at stop l.done
     l.used
-    next (g.W.Sink.stream a.out.now) (g.W.Sink.stream l.out) (l.invariant.left w.0 w.1) c.requires.colored
+    next (g.W.Sink.stream a.out.now) (g.W.Sink.stream l.out) (l.invariant.left w.0 w.1) l.invariant.begun
+    c.requires.colored
     l.invariant.fits c.text_end-stop.ensures.low c.text_end-stop.ensures.high is c.end_of_parts-next.ensures in
     let count = l.invariant.count in
     let long = ap (λ xs. length xs) is in
     record {
       same = c.in_ok-print_painted_line.ensures.same ∙ l.invariant.same;
+      begun = let begun = l.invariant.begun in let low = c.text_end-stop.ensures.low in omega arith;
       fits = h.within;
       count = omega arith;
       left = λ q told.
           let left = l.invariant.left q told in
-          let h = prints_line q s.format s.end s.prefix a.number a.bytes.now a.from a.line a.parts.now l.at stop
+          let h = prints_line q s.format s.end s.prefix a.first.number a.first.offset a.bytes.now a.from a.line
+          a.parts.now l.at stop
           l.done l.used
-          next (g.W.Sink.stream a.out.now) (g.W.Sink.stream l.out) left c.requires.colored
+          next (g.W.Sink.stream a.out.now) (g.W.Sink.stream l.out) left l.invariant.begun c.requires.colored
           l.invariant.fits c.text_end-stop.ensures.low c.text_end-stop.ensures.high is c.end_of_parts-next.ensures in
-          let whole = marked_rows s.format s.end s.prefix 58 a.number (map (painted q s.format)
-          (lines s.end (drop a.from a.bytes.now))) in
-          let rest = marked_rows s.format s.end s.prefix 58 (a.number + l.done) (map (painted q s.format)
-          (lines s.end (drop l.at a.bytes.now))) in
-          let later = marked_rows s.format s.end s.prefix 58 (a.number + (l.done + 1)) (map (painted q s.format)
-          (lines s.end (drop (stop + 1) a.bytes.now))) in
+          let whole = marked_rows s.format s.end s.prefix 58 (painted q s.format) a.first.number a.first.offset
+          (lines s.end (drop a.from a.bytes.now)) in
+          let rest = marked_rows s.format s.end s.prefix 58 (painted q s.format) (a.first.number + l.done)
+          (a.first.offset + (l.at - a.from)) (lines s.end (drop l.at a.bytes.now)) in
+          let later = marked_rows s.format s.end s.prefix 58 (painted q s.format) (a.first.number + (l.done + 1))
+          (a.first.offset + ((stop + 1) - a.from)) (lines s.end (drop (stop + 1) a.bytes.now)) in
           let own = painted_bytes a.bytes.now l.at stop (slice_range a.parts.now l.used next) in
-          let text : Printer g.row.A.Denot → List ℕ = λ p. row p.format p.end p.prefix (a.number + l.done) 58 own in
+          let text : Printer g.row.A.Denot → List ℕ = λ p. row p.format p.end p.prefix (a.first.number + l.done)
+          (a.first.offset + (l.at - a.from)) 58 own in
           let middle = g.W.Sink.stream l.out in
           let after = g.W.Sink.stream c.print_painted_line.new.out in
           let Q : List ℕ → Type 0 = λ xs. WritesAll xs middle after in

@@ -15,10 +15,10 @@ returns-in_err-write-clause-writes g c =
     let text : List ℕ = shown ++ s.end ∷ [] in
     let some = c.has_painted_text-has_text.ensures ∙ painted_some a.bytes.now a.from a.to a.parts.now
     c.requires.within in
-    let front = prefix_text s.format s.prefix a.number 58 c.has_painted_text-has_text.result in
-    let rows = row_is s.format s.end s.prefix a.number 58 shown
-    ∙ ap (λ b. prefix_text s.format s.prefix a.number 58 b ++ text) (sym some) in
-    writes_as (front ++ text) (row s.format s.end s.prefix a.number 58 shown) _ _ _ (sym rows)
+    let front = prefix_text s.format s.prefix a.at.number a.at.offset 58 c.has_painted_text-has_text.result in
+    let rows = row_is s.format s.end s.prefix a.at.number a.at.offset 58 shown
+    ∙ ap (λ b. prefix_text s.format s.prefix a.at.number a.at.offset 58 b ++ text) (sym some) in
+    writes_as (front ++ text) (row s.format s.end s.prefix a.at.number a.at.offset 58 shown) _ _ _ (sym rows)
     (writes_part (front ++ text) _ _ c.from_residual.result c.from_residual.ensures.0
     (part_of_first front text _ _ c.in_err-write.ensures.writes.err))
 
@@ -30,8 +30,8 @@ returns-clause-writes g c =
     let text : List ℕ = shown ++ s.end ∷ [] in
     let some = c.has_painted_text-has_text.ensures ∙ painted_some a.bytes.now a.from a.to a.parts.now
     c.requires.within in
-    let front = prefix_text s.format s.prefix a.number 58 c.has_painted_text-has_text.result in
-    let rows = row_is s.format s.end s.prefix a.number 58 shown
-    ∙ ap (λ b. prefix_text s.format s.prefix a.number 58 b ++ text) (sym some) in
-    writes_as (front ++ text) (row s.format s.end s.prefix a.number 58 shown) _ _ _ (sym rows)
+    let front = prefix_text s.format s.prefix a.at.number a.at.offset 58 c.has_painted_text-has_text.result in
+    let rows = row_is s.format s.end s.prefix a.at.number a.at.offset 58 shown
+    ∙ ap (λ b. prefix_text s.format s.prefix a.at.number a.at.offset 58 b ++ text) (sym some) in
+    writes_as (front ++ text) (row s.format s.end s.prefix a.at.number a.at.offset 58 shown) _ _ _ (sym rows)
     (writes_then front text _ _ _ _ c.in_ok-write.ensures.writes.ok c.write_painted_text.ensures)

@@ -1,4 +1,4 @@
-use Rattle.std.proofs.Common.{not, refl, ap}
+use Rattle.std.proofs.Common.{not, ap}
 use Rattle.std.proofs.lemmas.Bool.{and_right}
 use Rattle.pg_lines.specs.Search.{terminator}
 use Rattle.pg_lines.specs.Lines.{lines}
@@ -33,5 +33,5 @@ returns-clause-writes g c q format cur r pieces found =
 
 pub returns-clause-follows : goal.returns-clause-follows
 returns-clause-follows g c q format cur r pieces found =
-    c.passed-printed.ensures q format cur c.args.bytes.now r
-    (and_right (shows_rows format.mode) (not format.parts) (ap not pieces)) found.found_lines refl
+    c.passed-printed.ensures q format cur r
+    (and_right (shows_rows format.mode) (not format.parts) (ap not pieces)) found.found_lines

@@ -1,4 +1,4 @@
-use Rattle.std.proofs.Common.{◌≡◌, ℕ, ◌+◌, ◌<◌, inl, inr, List, [], length, drop, get_or}
+use Rattle.std.proofs.Common.{◌≡◌, ℕ, ◌+◌, ◌<◌, ◌^◌, inl, inr, List, [], length, drop, get_or}
 use Rattle.std.proofs.Common.{slice_range}
 use Rattle.std.proofs.Common.{refl, sym, ap, ◌∙◌, subst, arith}
 use Rattle.std.proofs.lemmas.List.{drop_all, length-take-le}
@@ -13,7 +13,7 @@ use Rattle.pg_rows.proofs.SinkLemmas.{on_err}
 use Rattle.pg_rows.proofs.BlockLemmas.{no_run}
 use Rattle.pg_rows.proofs.RunSteps.{IsBefore, failed_before}
 use Rattle.pg_rows.proofs.PrinterSteps.{before_all, can_step, IsStep, step_rows, stepped, comes_last}
-use Rattle.pg_rows.proofs.PrinterSteps.{stops, ends_some, takes_parts}
+use Rattle.pg_rows.proofs.PrinterSteps.{stops, ends_some, takes_parts, has_room}
 use Rattle.pg_rows.proofs.PieceLemmas.{found_lines_told}
 use Rattle.pg_rows.proofs.printer.Printer.print_runs.Goals as goal
 
@@ -240,7 +240,8 @@ returns-in_err-print_step-clause-stops g c q format cur r shows has =
     let k = stepped l.self q format cur a.bytes.now start (g.W.Sink.stream l.out).taken l.place next.place next.passed
     a.runs.now
     l.run-index c.keeps-count.result r' h c.loop-run-test.true c.keeps-count.ensures c.if-count-eq0.false step in
-    let more = step_rows q l.self.format l.self.end l.self.prefix l.self.earlier l.self.window a.bytes.now l.place.at
+    let more = step_rows q l.self.format l.self.end l.self.prefix l.self.earlier l.self.window l.self.offset
+    a.bytes.now l.place.at
     here.span.start next.place.at l.place.progress next.passed in
     let after = (g.W.Sink.stream c.print_step.new.out).taken in
     let hidden = held (terminator q) l.self.window in
@@ -310,7 +311,8 @@ loop-run-preserved g c =
           next.passed
           a.runs.now
           l.run-index c.keeps-count.result r' h c.loop-run-test.true c.keeps-count.ensures c.if-count-eq0.false step in
-          let more = step_rows q l.self.format l.self.end l.self.prefix l.self.earlier l.self.window a.bytes.now
+          let more = step_rows q l.self.format l.self.end l.self.prefix l.self.earlier l.self.window l.self.offset
+          a.bytes.now
           l.place.at
           here.span.start next.place.at l.place.progress next.passed in
           let S : List ℕ → Type 0 = λ t. IsBefore q format cur (held (terminator q) l.self.window) a.bytes.now start t
@@ -338,3 +340,19 @@ loop-run-preserved g c =
           l.invariant.used (l.invariant.left q format cur r' shows has) in
           own.left (ap (λ s. s.format.colored) (sym c.in_ok-print_step.ensures.same) ∙ colored);
     }
+
+pub print_step-requires-clause-room : goal.print_step-requires-clause-room
+print_step-requires-clause-room g c =
+    let w = c.requires.stands in
+    let l = c.loop-run in
+    let P : Printer g.row.A.Denot → Type 0 = λ s. Remembers s w.0 w.1 w.2 in
+    let r = subst P (sym l.invariant.same) w.3 in
+    has_room l.self w.0 w.1 w.2 c.args.bytes.now (g.W.Sink.stream c.args.out.now).taken (g.W.Sink.stream l.out).taken
+    l.place c.step-next.result.passed c.args.runs.now l.run-index c.keeps-count.result r
+    (l.invariant.comes w.0 w.1 w.2 r w.4 w.5) c.loop-run-test.true c.keeps-count.ensures c.if-count-eq0.false
+    c.step-next.ensures.passed
+
+pub print_step-requires-clause-placed : goal.print_step-requires-clause-placed
+print_step-requires-clause-placed g c =
+    let P : Printer g.row.A.Denot → Type 0 = λ s. s.offset + length c.args.bytes.now < 2 ^ 63 in
+    subst P (sym c.loop-run.invariant.same) c.requires.placed

@@ -1,35 +1,26 @@
-use Rattle.std.proofs.Common.{◌≡◌, ℕ, zero, suc, ◌+◌, ◌-◌, ◌≤◌, ◌++◌, List, [], ◌∷◌}
+use Rattle.std.proofs.Common.{◌≡◌, ℕ, ◌+◌, ◌-◌, ◌≤◌, ◌++◌, List}
 use Rattle.std.proofs.Common.{length, take, drop, min, arith}
-use Rattle.std.proofs.Common.{sym, ap, ◌∙◌, subst, length-drop, refl, inl, inr}
+use Rattle.std.proofs.Common.{sym, ap, ◌∙◌, subst, length-drop}
 use Rattle.std.proofs.lemmas.List.{take_rest}
 use Rattle.pg_lines.specs.Lines.{lines, AreWhole}
 use Rattle.pg_rows.specs.declared.printer.Printer.{Printer}
-use Rattle.pg_rows.specs.Output.{context}
+use Rattle.circular_buffer.specs.Buffer.{keep_last}
+use Rattle.pg_rows.specs.Output.{context, size_of}
 use Rattle.pg_rows.specs.Window.{held, IsWindow}
 use Rattle.pg_rows.specs.Printing.{leading, rows_of_passed, rows_before}
+use Rattle.pg_rows.proofs.SizeLemmas.{whole_drop}
 use Rattle.pg_rows.proofs.WriteLemmas.{part_of_first, writes_part, writes_then, writes_as}
 use Rattle.pg_rows.proofs.printer.Printer.print_unkept.Goals as goal
-
--- what is left of whole lines behind a place are whole lines
-
-whole_tail : (end b : ℕ) (bytes : List ℕ) → AreWhole end (b ∷ bytes) → AreWhole end bytes
-whole_tail end b bytes (inl e) = absurd (cc)
-whole_tail end b bytes (inr ([], e)) = inl (ap (drop 1) e)
-whole_tail end b bytes (inr (x ∷ front, e)) = inr (front, ap (drop 1) e)
-
-whole_drop : (end k : ℕ) (bytes : List ℕ) → AreWhole end bytes → AreWhole end (drop k bytes)
-whole_drop end zero bytes w = w
-whole_drop end (suc k) [] w = inl refl
-whole_drop end (suc k) (b ∷ bytes) w = whole_drop end k bytes (whole_tail end b bytes w)
 
 pub returns-in_err-stop-clause-writes : goal.returns-in_err-stop-clause-writes
 returns-in_err-stop-clause-writes g c =
     let a = c.args in
     let s = a.self.now in
     let gap = lines s.end a.gap.now in
+    let behind : ℕ = a.offset + length a.gap.now in
     let all = held s.end s.window ++ drop a.progress.countdown gap in
-    let first = rows_of_passed s.format s.end s.prefix a.progress gap in
-    let second = rows_before s.format s.end s.prefix s.earlier all a.passed in
+    let first = rows_of_passed s.format s.end s.prefix a.progress a.offset gap in
+    let second = rows_before s.format s.end s.prefix s.earlier all a.passed behind in
     writes_part (first ++ second) _ _ c.from_residual.result c.from_residual.ensures.0
     (part_of_first first second _ _ c.in_err-stop.ensures.writes.err)
 
@@ -40,16 +31,19 @@ returns-clause-writes g c =
     let t = c.print_passed.new.self in
     let stop = c.in_ok-stop.stop in
     let gap = lines s.end a.gap.now in
-    let first = rows_of_passed s.format s.end s.prefix a.progress gap in
+    let first = rows_of_passed s.format s.end s.prefix a.progress a.offset gap in
+    let behind : ℕ = a.offset + length a.gap.now in
     let all = held s.end s.window ++ drop a.progress.countdown gap in
-    let second = rows_before s.format s.end s.prefix s.earlier all a.passed in
+    let second = rows_before s.format s.end s.prefix s.earlier all a.passed behind in
     let near = take (length a.gap.now - stop) (drop stop a.gap.now) in
-    let written = rows_before t.format t.end t.prefix t.earlier (held t.end t.window ++ lines t.end near) a.passed in
+    let written = rows_before t.format t.end t.prefix t.earlier (held t.end t.window
+    ++ lines t.end near) a.passed behind
+    in
     let rest = ap (lines s.end) (take_rest a.gap.now stop) ∙ c.in_ok-stop.ensures.rest in
     let as_second : written ≡ second =
-    ap (λ p. rows_before p.format p.end p.prefix p.earlier (held p.end p.window ++ lines p.end near) a.passed)
+    ap (λ p. rows_before p.format p.end p.prefix p.earlier (held p.end p.window ++ lines p.end near) a.passed behind)
     c.in_ok-stop.ensures.same
-    ∙ ap (λ xs. rows_before s.format s.end s.prefix s.earlier (held s.end s.window ++ xs) a.passed) rest in
+    ∙ ap (λ xs. rows_before s.format s.end s.prefix s.earlier (held s.end s.window ++ xs) a.passed behind) rest in
     writes_then first second _ _ _ _ c.in_ok-stop.ensures.writes.ok
     (writes_as written second _ _ _ as_second c.print_before.ensures.writes)
 
@@ -98,3 +92,18 @@ print_before-requires-clause-enough g c =
     subst Q (sym c.in_ok-stop.ensures.same) (subst R (sym c.requires.passes.behind) (enough_behind
     (context s.format.before) a.progress.behind (a.count - a.progress.countdown) (length (held s.end s.window)) n
     c.requires.enough c.saturating_sub-hidden.ensures))
+
+-- the lines that are shown before the run have no more bytes than the file before it
+pub print_before-requires-clause-low : goal.print_before-requires-clause-low
+print_before-requires-clause-low g c =
+    let a = c.args in
+    let s = a.self.now in
+    let stop = c.in_ok-stop.stop in
+    let near = take (length a.gap.now - stop) (drop stop a.gap.now) in
+    let rest = ap (lines s.end) (take_rest a.gap.now stop) ∙ c.in_ok-stop.ensures.rest in
+    let behind : ℕ = a.offset + length a.gap.now in
+    let Q : Printer g.row.A.Denot → Type 0 = λ p.
+    size_of (keep_last (leading p.format a.passed) (held p.end p.window ++ lines p.end near)) ≤ behind in
+    let R : List (List ℕ) → Type 0 = λ ls.
+    size_of (keep_last (leading s.format a.passed) (held s.end s.window ++ ls)) ≤ behind in
+    subst Q (sym c.in_ok-stop.ensures.same) (subst R (sym rest) c.requires.low)

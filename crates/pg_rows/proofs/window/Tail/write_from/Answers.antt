@@ -1,18 +1,21 @@
-use Rattle.std.proofs.Common.{List, ℕ, drop, ap, ◌∙◌}
-use Rattle.std.proofs.lemmas.List.{take_rest}
-use Rattle.pg_lines.specs.Lines.{lines}
-use Rattle.pg_rows.specs.Stretch.{marked_rows}
+use Rattle.std.proofs.Common.{List, ℕ, drop, ap, arith}
+use Rattle.pg_rows.specs.Output.{size_of}
+use Rattle.pg_rows.specs.Stretch.{marked_rows, plain}
 use Rattle.pg_rows.specs.Window.{tail_lines}
+use Rattle.pg_rows.proofs.SizeLemmas.{size_enough}
 use Rattle.pg_rows.proofs.WriteLemmas.{writes_as}
 use Rattle.pg_rows.proofs.window.Tail.write_from.Goals as goal
 
 pub returns-clause-writes : goal.returns-clause-writes
 returns-clause-writes g c =
     let a = c.args in
-    let end = a.end in
-    let skip = a.skip in
-    let rows = λ (ls : List (List ℕ)). marked_rows a.format.now end a.prefix.now 45 a.number ls in
-    let same =
-    ap (lines end) (take_rest c.text-text.result.now c.end_of_first-from.result)
-    ∙ (c.end_of_first-from.ensures.rest ∙ ap (λ xs. drop skip (lines end xs)) c.text-text.ensures.value) in
-    writes_as _ (rows (drop skip (tail_lines end a.self.now))) _ _ _ (ap rows same) c.write_lines.ensures.writes
+    let rows = λ (ls : List (List ℕ)). marked_rows a.format.now a.end a.prefix.now 45 plain a.first.number
+    a.first.offset ls in
+    writes_as _ (rows (drop a.skip (tail_lines a.end a.self.now))) _ _ _ (ap rows c.text_from-text.ensures)
+    (record { ok = c.in_ok-write_lines.ensures.writes.ok; err = tt })
+
+pub write_lines-requires-clause-placed : goal.write_lines-requires-clause-placed
+write_lines-requires-clause-placed g c =
+    let enough = size_enough c.args.end c.text_from-text.result.now in
+    let same = ap size_of c.text_from-text.ensures in
+    omega (arith, enough, same, c.requires.placed)

@@ -5,7 +5,8 @@ use Rattle.pg_rows.specs.declared.printer.Printer.{Printer}
 use Rattle.pg_rows.specs.Remembered.{Remembers, Follows, behind_block, shown_rows}
 use Rattle.pg_seq.specs.Slots.{slot_block}
 use Rattle.pg_seq.proofs.StandLemmas.{same_stands}
-use Rattle.pg_seq.proofs.DrainSteps.{here, none_ready, result_is, lines_fit, printed_next, block_part}
+use Rattle.pg_seq.proofs.DrainSteps.{here, none_ready, result_is, lines_fit, bytes_fit, printed_next}
+use Rattle.pg_seq.proofs.DrainSteps.{block_part}
 use Rattle.pg_seq.proofs.assembler.Assembler.print_next.Goals as goal
 
 pub returns-in_default-clause-goes : goal.returns-in_default-clause-goes
@@ -28,6 +29,7 @@ print-requires g c =
       h.trees,
       (result_is s past h p.slot p.later c.in-Some.found.now p.slots p.result).0,
       lines_fit s past h p.slot p.later c.in-Some.found.now c.requires.inside.0 c.requires.inside.1 p.slots p.result,
+      bytes_fit s past h p.slot p.later c.in-Some.found.now c.requires.inside.0 c.requires.inside.1 p.slots p.result,
     )
 
 pub returns-in_err-printed-clause-goes : goal.returns-in_err-printed-clause-goes

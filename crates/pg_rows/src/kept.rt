@@ -1,0 +1,116 @@
+//! The rows of kept lines.
+ghost use Rattle.std.specs.Prelude.{◌≡◌, ◌+◌, ◌-◌, ◌<◌, ◌≤◌, ◌^◌, OnOk, OnErr, length, drop, slice_range, true};
+ghost use Rattle.pg_lines.specs.Lines.{lines};
+ghost use Rattle.pg_lines.specs.Search.{Search};
+ghost use Rattle.pg_rows.specs.Output.{painted, row};
+ghost use Rattle.pg_rows.specs.Painting.{painted_bytes, AreAscending, IsTold};
+ghost use Rattle.pg_rows.specs.Sink.{WritesText};
+ghost use Rattle.pg_rows.specs.Stretch.{marked_rows};
+
+use crate::colors::end_of_parts;
+use crate::places::text_end;
+use crate::position::Position;
+use crate::printer::Printer;
+use crate::rows::{has_painted_text, write_lines, write_painted_text};
+use crate::sink::{Sink, WriteError};
+use pg_lines::Part;
+use std::alloc::Allocator;
+
+/// What stands behind the name and the numbers of a line that is kept.
+const KEPT_MARK: u8 = b':';
+
+impl<A: Allocator> Printer<A> {
+    /// Writes the row of a kept line, which stands from a place of some bytes up to another, with its parts in color.
+    fn print_painted_line<W: Sink>(
+        &mut self,
+        out: &mut W,
+        at: Position,
+        bytes: &[u8],
+        from: usize,
+        to: usize,
+        parts: &[Part],
+    ) -> Result<(), WriteError>
+        requires within { to ≤ length bytes.now }
+        requires ascend { AreAscending from to parts.now }
+        ensures same { self.new ≡ self.old }
+        ensures writes { WritesText (row self.old.format self.old.end self.old.prefix at.number at.offset 58
+            (painted_bytes bytes.now from to parts.now)) (W.stream out.old) (W.stream out.new) result }
+    {
+        let has_text = has_painted_text(from, to, parts);
+        self.prefix
+            .write(out, &self.format, at, KEPT_MARK, has_text)?;
+        write_painted_text(out, self.end, bytes, from, to, parts)
+    }
+
+    /// Writes the rows of kept lines with their parts in color: the lines of some bytes from a place on, behind so
+    /// many lines of the block, the first of which stands at this position.
+    fn print_painted<W: Sink>(
+        &mut self,
+        out: &mut W,
+        first: Position,
+        bytes: &[u8],
+        from: usize,
+        line: usize,
+        parts: &[Part],
+    ) -> Result<(), WriteError>
+        requires colored { self.old.format.colored ≡ true }
+        requires small { first.number + length (lines self.old.end (drop from bytes.now)) < 2 ^ 64 }
+        requires placed { first.offset + length bytes.now < 2 ^ 64 }
+        requires few { line + length (lines self.old.end (drop from bytes.now)) < 2 ^ 64 }
+        requires told { (q : Search) × IsTold q true self.old.end bytes.now from line parts.now }
+        ensures same { self.new ≡ self.old }
+        ensures writes { (q : Search) → IsTold q true self.old.end bytes.now from line parts.now →
+            WritesText (marked_rows self.old.format self.old.end self.old.prefix 58 (painted q self.old.format)
+            first.number first.offset (lines self.old.end (drop from bytes.now)))
+            (W.stream out.old) (W.stream out.new) result }
+    {
+        let mut at = from;
+        let mut done = 0;
+        let mut used = 0;
+        while at < bytes.len() {
+            let stop = text_end(self.end, bytes, at);
+            let next = end_of_parts(parts, used, line + done + 1);
+            let own = &parts[used..next];
+            let place = Position {
+                number: first.number + done as u64,
+                offset: first.offset + (at - from) as u64,
+            };
+            self.print_painted_line(out, place, bytes, at, stop, own)?;
+            at = stop + 1;
+            done += 1;
+            used = next;
+        }
+        Ok(())
+    }
+
+    /// Writes the rows of kept lines: the lines of some bytes from a place on, behind so many lines of the block, the
+    /// first of which stands at this position. Where rows have colors, these are their parts.
+    pub(crate) fn print_kept<W: Sink>(
+        &mut self,
+        out: &mut W,
+        first: Position,
+        bytes: &[u8],
+        from: usize,
+        line: usize,
+        parts: &[Part],
+    ) -> Result<(), WriteError>
+        requires within { from ≤ length bytes.now }
+        requires small { first.number + length (lines self.old.end (drop from bytes.now)) < 2 ^ 64 }
+        requires placed { first.offset + length bytes.now < 2 ^ 64 }
+        requires few { line + length (lines self.old.end (drop from bytes.now)) < 2 ^ 64 }
+        requires told { (q : Search) × IsTold q self.old.format.colored self.old.end bytes.now from line parts.now }
+        ensures same { self.new ≡ self.old }
+        ensures writes { (q : Search) →
+            IsTold q self.old.format.colored self.old.end bytes.now from line parts.now →
+            WritesText (marked_rows self.old.format self.old.end self.old.prefix 58 (painted q self.old.format)
+            first.number first.offset (lines self.old.end (drop from bytes.now)))
+            (W.stream out.old) (W.stream out.new) result }
+    {
+        if self.format.colored {
+            return self.print_painted(out, first, bytes, from, line, parts);
+        }
+        let text = &bytes[from..];
+        let prefix = &mut self.prefix;
+        write_lines(out, &self.format, self.end, prefix, KEPT_MARK, first, text)
+    }
+}
