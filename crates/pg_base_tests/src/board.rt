@@ -23,8 +23,8 @@ fn is_spent_behind_two(board: &Board, seat: &mut Seat) -> bool
 fn a_spent_seat_stays_spent(rt: HostRuntime) {
     let (board, mut seats) = Board::open(rt.alloc(), 2, 1).expect(&rt, "memory");
     let is_spent = is_spent_behind_two(&board, &mut seats[0]);
-    assert!(rt; is_spent);
-    assert!(rt; board.close(seats) == Drawn { upto: 2 });
+    let drawn = board.close(seats);
+    assert!(rt; is_spent && drawn == Drawn { upto: 2 });
 }
 
 /// So many counters, each 0.
@@ -101,10 +101,13 @@ fn draw_each_once<R: Threads + Sync>(
 
 #[test]
 fn four_threads_draw_each_number_once(rt: HostRuntime) {
-    assert!(rt; draw_each_once(&rt, rt.alloc(), 1000, 4, u64::MAX));
-    assert!(rt; draw_each_once(&rt, rt.alloc(), 65, 65, 1));
-    assert!(rt; draw_each_once(&rt, rt.alloc(), 0, 3, 1));
-    assert!(rt; draw_each_once(&rt, rt.alloc(), 3, 65, 2));
+    let alloc = rt.alloc();
+    assert!(rt;
+        draw_each_once(&rt, alloc, 1000, 4, u64::MAX)
+            && draw_each_once(&rt, alloc, 65, 65, 1)
+            && draw_each_once(&rt, alloc, 0, 3, 1)
+            && draw_each_once(&rt, alloc, 3, 65, 2)
+    );
 }
 
 /// Opens a board of two numbers, draws one, and closes it. Answers what was drawn, up to where, and how many requests

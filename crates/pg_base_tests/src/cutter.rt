@@ -4,8 +4,7 @@ ghost use Rattle.pg_lines.specs.Cutter.{IsDrained};
 use crate::rows::{Question, assert_rows, bytes_of, show_bytes};
 use pg_lines::{Block, CutFault, Cutter};
 use refusing::Refusing;
-use std::alloc::{Allocator, Global};
-use std::process::Abort;
+use std::alloc::{AllocError, Allocator, Global};
 
 /// How the bytes of a file come into a cutter.
 #[derive(Clone, Copy)]
@@ -56,11 +55,11 @@ const LINED: &str = "%0A a%0Abc%0A%0Ad => 7.0:a%0Abc%0A 7.1:%0A 7.2:d
 %00 a%00b%0Ac%00%00d => 7.0:a%00b%0Ac%00 7.1:%00 7.2:d";
 
 /// Shows a block.
-fn show_block(rt: &impl Abort, block: &Block, out: &mut String) {
+fn show_block(block: &Block, out: &mut String) {
     let file = block.file;
     let number = block.number;
-    write!(out, " {file}.{number}:").expect(rt, "memory");
-    show_bytes(rt, block.bytes.as_slice(), out);
+    let _ = write!(out, " {file}.{number}:");
+    show_bytes(block.bytes.as_slice(), out);
 }
 
 /// Takes a piece of at most 4,096 bytes by way of the cutter's room.
@@ -72,21 +71,9 @@ fn fill<A: Allocator + Copy>(cutter: &mut Cutter<A>, piece: &[u8]) -> Result<(),
     cutter.fill(count)
 }
 
-/// Takes the whole lines that are in no block where that is the way, and shows them.
-fn show_lines(rt: &impl Abort, cutter: &mut Cutter, way: Way, out: &mut String)
-    requires { IsDrained cutter.old }
-    ensures { IsDrained cutter.new }
-{
-    if !matches!(way, Way::Lined) {
-        return;
-    }
-    if let Some(block) = cutter.take_lines().expect(rt, "memory") {
-        show_block(rt, &block, out);
-    }
-}
-
-/// Takes a piece, and shows the blocks that are given then, or why the piece isn't taken.
-fn show_taken(rt: &impl Abort, cutter: &mut Cutter, way: Way, piece: &[u8], out: &mut String)
+/// Takes a piece, and shows the blocks that are given then, or why the piece isn't taken, and the whole lines that are
+/// in no block where these are taken too.
+fn show_taken(cutter: &mut Cutter, way: Way, piece: &[u8], out: &mut String)
     ensures { IsDrained cutter.new }
 {
     let taken = match way {
@@ -94,48 +81,36 @@ fn show_taken(rt: &impl Abort, cutter: &mut Cutter, way: Way, piece: &[u8], out:
         Way::Filled => fill(cutter, piece),
     };
     if let Err(fault) = taken {
-        write!(out, " ({fault})").expect(rt, "memory");
+        let _ = write!(out, " ({fault})");
     }
     while let Some(block) = cutter.take() {
-        show_block(rt, &block, out);
+        show_block(&block, out);
     }
-    show_lines(rt, cutter, way, out);
+    if matches!(way, Way::Lined) {
+        show_lines(cutter, out);
+    }
 }
 
-/// Shows what a cutter, from which no block waits to be taken, gives of pieces, where spaces part them.
-fn show_pieces(
-    rt: &impl Abort,
-    alloc: Global,
-    cutter: &mut Cutter,
-    way: Way,
-    pieces: &str,
-    out: &mut String,
-)
+/// Takes the whole lines that are in no block, and shows them.
+fn show_lines(cutter: &mut Cutter, out: &mut String)
     requires { IsDrained cutter.old }
     ensures { IsDrained cutter.new }
 {
-    for piece in pieces.split(' ') {
-        let piece = bytes_of(rt, alloc, piece);
-        show_taken(rt, cutter, way, &piece, out);
+    if let Ok(Some(block)) = cutter.take_lines() {
+        show_block(&block, out);
     }
 }
 
-/// Shows what a cutter gives of a file in pieces, where spaces part them.
-pub(crate) fn blocks_of(
-    rt: &impl Abort,
-    alloc: Global,
-    way: Way,
-    end: &str,
-    pieces: &str,
-) -> String {
-    let end = *bytes_of(rt, alloc, end).first().expect(rt, "a byte");
-    let mut out = String::new(alloc);
+/// Shows what a cutter gives of a file in pieces, which spaces part.
+pub(crate) fn show_blocks(alloc: Global, way: Way, end: &str, pieces: &str, out: &mut String) {
+    let end = bytes_of(alloc, end).first().copied().unwrap_or(b'?');
     let mut cutter = Cutter::new(alloc, 7, 3, 4, end);
-    show_pieces(rt, alloc, &mut cutter, way, pieces, &mut out);
-    if let Some(block) = cutter.finish() {
-        show_block(rt, &block, &mut out);
+    for piece in pieces.split(' ') {
+        show_taken(&mut cutter, way, &bytes_of(alloc, piece), out);
     }
-    out
+    if let Some(block) = cutter.finish() {
+        show_block(&block, out);
+    }
 }
 
 #[test]
@@ -173,17 +148,20 @@ fn is_cut(heap: &Refusing, file: &[u8], most: u64) -> bool {
     is_taken(&mut cutter, heap, file) && gives_first(&mut cutter, heap, most)
 }
 
-/// Whether there is a block, of these bytes.
-fn is_block<A: Allocator>(block: Option<Block<A>>, bytes: &[u8]) -> bool {
-    block.is_some_and(|block| block.bytes.as_slice() == bytes)
+/// Whether there is a block with this number and these bytes.
+fn is_block<A: Allocator>(block: Option<Block<A>>, number: u64, bytes: &[u8]) -> bool {
+    match block {
+        Some(block) => block.number == number && block.bytes.as_slice() == bytes,
+        None => false,
+    }
 }
 
 /// Whether a cutter gives the block `a` and its terminator, and `b` as the last one, and asks for no memory meanwhile.
 fn gives_both<A: Allocator + Copy>(cutter: Cutter<A>, heap: &Refusing) -> bool {
     let mut cutter = cutter;
     let requests = heap.requests();
-    let are_taken = is_block(cutter.take(), b"a\n") && cutter.take().is_none();
-    are_taken && is_block(cutter.finish(), b"b") && heap.requests() == requests
+    let are_taken = is_block(cutter.take(), 0, b"a\n") && cutter.take().is_none();
+    are_taken && is_block(cutter.finish(), 1, b"b") && heap.requests() == requests
 }
 
 /// Whether a file of two blocks comes in two pieces, of which the first finishes no block, and both blocks are given.
@@ -206,16 +184,14 @@ fn gives_line<A: Allocator + Copy>(cutter: &mut Cutter<A>, heap: &Refusing) -> b
     ensures { IsDrained cutter.new }
 {
     let was_refused = heap.has_refused();
-    let first = cutter.take_lines();
-    let is_refused = first.is_err() && !was_refused && heap.has_refused();
-    let given = if is_refused {
-        cutter.take_lines()
-    } else {
-        first
+    let given = match cutter.take_lines() {
+        Err(AllocError) if !was_refused && heap.has_refused() => cutter.take_lines(),
+        given => given,
     };
-    given.is_ok_and(|block| {
-        block.is_some_and(|block| block.number == 0 && block.bytes.as_slice() == b"a\n".as_slice())
-    })
+    match given {
+        Ok(block) => is_block(block, 0, b"a\n"),
+        Err(AllocError) => false,
+    }
 }
 
 /// Whether a line is given before its block is finished, and what stands behind it as the last block.
@@ -224,7 +200,5 @@ pub(crate) fn is_lined(heap: &Refusing) -> bool {
     if !is_taken(&mut cutter, heap, b"a\nb") || cutter.take().is_some() {
         return false;
     }
-    gives_line(&mut cutter, heap)
-        && cutter.finish().is_some_and(|block| block.number == 1
-            && block.bytes.as_slice() == b"b".as_slice())
+    gives_line(&mut cutter, heap) && is_block(cutter.finish(), 1, b"b")
 }

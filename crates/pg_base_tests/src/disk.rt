@@ -1,12 +1,11 @@
 //! The system's tree, over directories that a test makes, and over a runtime that stands in for the system.
-use crate::memory::{assert_walked, walked};
-use crate::rows::{cut, halves};
+use crate::memory::{is_walked_as, show_walk, texts};
+use crate::rows::halves;
 use pg_walk::{DiskTree, FileTree, LookFault, Scope};
 use refusing::Refusing;
 use std::alloc::{AllocError, Allocator, Global};
 use std::fs::{File, Metadata, OpenOptions};
 use std::io::{ErrorKind, Read};
-use std::process::Abort;
 use std::rt::Files;
 use std::{fs, io, process, thread};
 
@@ -15,15 +14,44 @@ const SMALL_STACK: usize = 0x10_0000;
 
 /// Makes a new directory, which is the test's own, and directories below it down to a level that is too deep, and one
 /// level more. Answers the path of the first.
-fn make_deep(rt: &HostRuntime) -> io::Result<String> {
+fn make_deep(rt: &HostRuntime) -> String {
     let number = process::id(rt.process());
-    let root = format!(in rt.alloc(); "/tmp/pg_walk-{number}")?;
-    let mut deepest = root.clone()?;
+    let mut root = String::new(rt.alloc());
+    let _ = write!(root, "/tmp/pg_walk-{number}");
+    let mut deepest = String::new(rt.alloc());
+    let _ = deepest.push_str(root.as_str());
     for _ in 0..258u32 {
-        deepest.push_str("/e")?;
+        let _ = deepest.push_str("/e");
     }
-    fs::create_dir_all(rt, deepest)?;
-    Ok(root)
+    let _ = fs::create_dir_all(rt, deepest);
+    root
+}
+
+/// Walks over an operand in the tree of a runtime, with all that is below it, and shows the items.
+fn show_below<R: Files + Drop>(
+    alloc: Global,
+    rt: R,
+    operand: &str,
+    out: &mut String,
+) -> Result<(), AllocError> {
+    let scope = Scope::all(alloc, true);
+    show_walk(
+        alloc,
+        &DiskTree::new(rt),
+        &texts(alloc, operand),
+        scope,
+        out,
+    )
+}
+
+/// The items of such a walk, or nothing where memory wants.
+fn walked<R: Files + Drop>(alloc: Global, rt: R, operand: &str) -> String {
+    let mut out = String::new(alloc);
+    let walked = show_below(alloc, rt, operand, &mut out);
+    if walked.is_err() {
+        out.clear();
+    }
+    out
 }
 
 /// Whether a walk over the root tells alone of the directory 257 levels below it.
@@ -37,39 +65,29 @@ fn is_walked_deep(got: &str, root: &str) -> bool {
 #[test]
 fn a_small_stack_holds_all_levels(rt: HostRuntime) {
     let alloc = rt.alloc();
-    let root = make_deep(&rt).expect(&rt, "directories");
+    let root = make_deep(&rt);
     let operand = root.clone().expect(&rt, "memory");
     let thread = thread::Builder::new()
         .stack_size(SMALL_STACK)
-        .spawn(&rt, move || {
-            walked(
-                alloc,
-                alloc,
-                &DiskTree::new(rt),
-                &[operand],
-                Scope::all(alloc, true),
-            )
-        });
-    let got = thread
-        .expect(&rt, "a thread")
-        .join(&rt)
-        .expect(&rt, "memory");
+        .spawn(&rt, move || walked(alloc, rt, operand.as_str()));
+    let got = thread.expect(&rt, "a thread").join(&rt);
     fs::remove_dir_all(&rt, root.as_str()).expect(&rt, "a directory");
     assert!(rt; is_walked_deep(got.as_str(), root.as_str()));
 }
 
-#[test]
-fn a_device_has_no_entries(rt: HostRuntime) {
-    let listed = DiskTree::new(&rt).entries(rt.alloc(), "/dev/null");
-    assert!(rt; matches!(listed, Err(LookFault::Failed)));
+/// Whether a device has no entries, and a directory is one by two paths and isn't one below it.
+fn tells_files_apart<T: FileTree>(alloc: Global, tree: &T) -> bool {
+    let listed = tree.entries(alloc, "/dev/null");
+    let root = tree.identity("/");
+    matches!(listed, Err(LookFault::Failed))
+        && root.is_ok()
+        && root == tree.identity("/dev/..")
+        && root != tree.identity("/dev")
 }
 
 #[test]
-fn a_directory_is_one_by_two_paths(rt: HostRuntime) {
-    let tree = DiskTree::new(&rt);
-    let root = tree.identity("/");
-    assert!(rt; root.is_ok() && root == tree.identity("/dev/.."));
-    assert!(rt; root != tree.identity("/dev"));
+fn devices_and_directories(rt: HostRuntime) {
+    assert!(rt; tells_files_apart(rt.alloc(), &DiskTree::new(&rt)));
 }
 
 /// A runtime that stands in for the system, with a directory `d/`.
@@ -185,49 +203,30 @@ b|?| 255 true d => d:CannotList
 b|?|a| 255 false locked => locked:CannotList
 b|?|a| 255 false full => out of memory";
 
-/// The stand-in of which a row tells.
-fn stand_in(rt: &impl Abort, names: &'static str, faults: &str) -> StandIn {
-    let (unknown, fails) = cut(rt, faults, " ");
-    StandIn {
+/// Whether a walk over a directory gives what a row wants. A row that can't be read has no answer.
+fn holds(alloc: Global, row: &'static str, out: &mut String) -> bool {
+    let (asked, want) = halves(row);
+    let (names, rest) = asked.split_once(' ').unwrap_or_default();
+    let (unknown, rest) = rest.split_once(' ').unwrap_or_default();
+    let (fails, operand) = rest.split_once(' ').unwrap_or_default();
+    let (Ok(unknown), "true" | "false") = (unknown.parse(), fails) else {
+        return false;
+    };
+    let directory = StandIn {
         names,
-        unknown: unknown.parse().expect(rt, "a byte"),
-        fails: match fails {
-            "true" => true,
-            "false" => false,
-            _ => panic!(rt; "whether the end can't be read"),
-        },
-    }
-}
-
-/// Walks over an operand in a stand-in's tree, and shows the items.
-fn walked_over<R: Files + Drop>(
-    alloc: Global,
-    rt: R,
-    operand: String,
-) -> Result<String, AllocError> {
-    walked(
-        alloc,
-        alloc,
-        &DiskTree::new(rt),
-        &[operand],
-        Scope::all(alloc, true),
-    )
-}
-
-/// A walk over a directory gives what a row wants.
-fn assert_names(rt: &impl Abort, alloc: Global, row: &'static str) {
-    let (asked, want) = halves(rt, row);
-    let (names, rest) = cut(rt, asked, " ");
-    let (faults, operand) = rest.rsplit_once(' ').expect(rt, "an operand");
-    let operand = String::from_str(alloc, operand).expect(rt, "memory");
-    let got = walked_over(alloc, stand_in(rt, names, faults), operand);
-    assert_walked(rt, got, want, row);
+        unknown,
+        fails: fails == "true",
+    };
+    let walked = show_below(alloc, directory, operand, out);
+    is_walked_as(walked, out, want)
 }
 
 #[test]
 fn names_that_are_not_utf8(rt: HostRuntime) {
     for row in NAMES.lines() {
-        assert_names(&rt, rt.alloc(), row);
+        let mut out = String::new(rt.alloc());
+        let is_right = holds(rt.alloc(), row, &mut out);
+        assert!(rt; is_right, "{out} of {row}");
     }
 }
 

@@ -5,7 +5,7 @@ ghost use Rattle.pg_match.specs.Machines.{Fits};
 ghost use Rattle.pg_lines.specs.Lines.{AreShort};
 ghost use Rattle.pg_lines.specs.Search.{terminator_of};
 
-use crate::rows::{Question, assert_rows, cut};
+use crate::rows::{Question, assert_rows, bytes_of, halves};
 use pg_lines::{
     Block, BlockResult, CutFault, Kind, PatternList, Query, QueryFault, QueryText, Scratch,
     search_block,
@@ -13,7 +13,6 @@ use pg_lines::{
 use pg_syntax::{FaultKind, ListFault, SyntaxFault};
 use refusing::Refusing;
 use std::alloc::{AllocError, Allocator, Global};
-use std::process::Abort;
 use std::sync::Arc;
 
 fn has(letters: &str, letter: u8) -> bool {
@@ -25,10 +24,12 @@ const LETTERS: &[u8] = b"EFbfioxwvz";
 
 /// Whether there are no letters but those of kinds and options.
 fn are_letters(letters: &str) -> bool {
-    letters
-        .as_bytes()
-        .iter()
-        .all(|letter| LETTERS.contains(letter))
+    for letter in letters.as_bytes() {
+        if !LETTERS.contains(letter) {
+            return false;
+        }
+    }
+    true
 }
 
 /// The one list of a query, by `f` one of a file.
@@ -120,97 +121,79 @@ fn search_for<A: Allocator + Copy>(
 
 /// Searches, each by the letters of its options, a pattern and a block; and how much is found: how many lines there
 /// are, runs of selected lines, and matched parts. Lines that aren't matched have no parts.
-const SEARCHES: [(&'static str, &'static [u8], &'static [u8], [usize; 3]); 10] = [
-    ("F", b"b", b"b\nx\nb\nx\nb\nx\nb\nx\nb", [9, 5, 0]),
-    ("Ev", b"x", b"b\nx\nb\nx\nb\nx\nb\nx\nb", [9, 5, 0]),
-    ("Fo", b"b", b"bbbbb\nx\nb", [3, 2, 6]),
-    ("Eo", b"b|c", b"bcbcb\nx\nb", [3, 2, 6]),
-    ("Fov", b"b", b"ab\nxyz\n", [2, 1, 0]),
-    ("Fov", b"", b"a\n", [1, 0, 0]),
-    ("Eov", b"b*", b"abb\n", [1, 0, 0]),
-    (
-        "Ff",
-        b"b\nbc\nd1\nd2\nd3\nd4\nd5\nd6\nd7\n",
-        b"a\nd7\nx\nabc\nd8",
-        [5, 2, 0],
-    ),
-    (
-        "Ffio",
-        b"BB\nbc\nd1\nd2\nd3\nd4\nd5\nd6\nd7\n",
-        b"bBB\nD7d6\nx\nABC\nd8",
-        [5, 2, 4],
-    ),
-    (
-        "Ffv",
-        b"bb\n\nd1\nd2\nd3\nd4\nd5\nd6\nd7\n",
-        b"bBB\nD7d6\nx\n",
-        [3, 0, 0],
-    ),
-];
+const SEARCHES: &str = "F b b%0Ax%0Ab%0Ax%0Ab%0Ax%0Ab%0Ax%0Ab => 9 5 0
+Ev x b%0Ax%0Ab%0Ax%0Ab%0Ax%0Ab%0Ax%0Ab => 9 5 0
+Fo b bbbbb%0Ax%0Ab => 3 2 6
+Eo b|c bcbcb%0Ax%0Ab => 3 2 6
+Fov b ab%0Axyz%0A => 2 1 0
+Fov  a%0A => 1 0 0
+Eov b* abb%0A => 1 0 0
+Ff b%0Abc%0Ad1%0Ad2%0Ad3%0Ad4%0Ad5%0Ad6%0Ad7%0A a%0Ad7%0Ax%0Aabc%0Ad8 => 5 2 0
+Ffio BB%0Abc%0Ad1%0Ad2%0Ad3%0Ad4%0Ad5%0Ad6%0Ad7%0A bBB%0AD7d6%0Ax%0AABC%0Ad8 => 5 2 4
+Ffv bb%0A%0Ad1%0Ad2%0Ad3%0Ad4%0Ad5%0Ad6%0Ad7%0A bBB%0AD7d6%0Ax%0A => 3 0 0";
 
 /// Whether a block has these bytes, and is block 5 of file 7.
 fn is_block<A: Allocator>(block: &Block<A>, bytes: &[u8]) -> bool {
     block.file == 7 && block.number == 5 && block.bytes.as_slice() == bytes
 }
 
-/// Whether a result is of a query and a block with these bytes, and finds so much.
-fn is_of<A: Allocator + Copy>(
+/// Shows how much a result finds, if it is of this query and a block with these bytes.
+fn show_found<A: Allocator + Copy>(
     found: &BlockResult<A>,
     query: &Query<A>,
     bytes: &[u8],
-    want: [usize; 3],
-) -> bool {
+    out: &mut String,
+) {
     let searched: &Query<A> = found.query();
-    is_block(found.block(), bytes)
-        && *searched == *query
-        && [found.lines(), found.runs().len(), found.parts().len()] == want
+    if *searched == *query && is_block(found.block(), bytes) {
+        let lines = found.lines();
+        let runs = found.runs().len();
+        let parts = found.parts().len();
+        let _ = write!(out, " {lines} {runs} {parts}");
+    }
 }
 
-/// Whether a search of a block of at most 100 bytes finds so much.
-fn is_found<A: Allocator + Copy>(
+/// Shows how much a search of a block of at most 100 bytes finds.
+fn show_search<A: Allocator + Copy>(
     alloc: A,
     letters: &str,
     pattern: &[u8],
     bytes: &[u8],
-    want: [usize; 3],
-) -> Result<bool, QueryFault>
+    out: &mut String,
+) -> Result<(), QueryFault>
     requires { length bytes.now ≤ 100 }
 {
     let query = compile(alloc, letters, pattern)?;
     let found = search_for(alloc, &query, bytes)?;
-    Ok(is_of(&found, &query, bytes, want))
+    show_found(&found, &query, bytes, out);
+    Ok(())
 }
 
-/// Whether a search finds so much, or wants memory where a request is refused.
-fn is_right(
-    heap: &Refusing,
-    letters: &str,
-    pattern: &[u8],
-    bytes: &[u8],
-    want: [usize; 3],
-) -> bool {
+/// Whether a search finds as much as a row says, or wants memory where a request is refused.
+fn is_right(alloc: Global, heap: &Refusing, row: &str) -> bool {
+    let (asked, want) = halves(row);
+    let (letters, texts) = asked.split_once(' ').unwrap_or_default();
+    let (pattern, bytes) = texts.split_once(' ').unwrap_or_default();
+    let pattern = bytes_of(alloc, pattern);
+    let bytes = bytes_of(alloc, bytes);
     if bytes.len() > 100 || !are_letters(letters) {
         return false;
     }
-    match is_found(heap, letters, pattern, bytes, want) {
-        Ok(is_found) => is_found,
+    let mut out = String::new(alloc);
+    match show_search(heap, letters, &pattern, &bytes, &mut out) {
+        Ok(()) => out.as_str() == want,
         Err(fault) => heap.has_refused() && fault == QueryFault::OutOfMemory,
     }
 }
 
 /// Whether each search finds what it should, or wants memory where a request is refused.
-pub(crate) fn are_found(heap: &Refusing) -> bool {
-    for (letters, pattern, text, want) in SEARCHES {
-        if !is_right(heap, letters, pattern, text, want) {
+pub(crate) fn are_found(alloc: Global, heap: &Refusing) -> bool {
+    for row in SEARCHES.lines() {
+        if !is_right(alloc, heap, row) {
             return false;
         }
     }
     true
-}
-
-/// A query with the options of these letters.
-fn query_of(rt: &impl Abort, alloc: Global, letters: &str, pattern: &[u8]) -> Arc<Query> {
-    compile(alloc, letters, pattern).expect(rt, "a query")
 }
 
 /// Two queries, each by its letters and a text, and whether they are the same, as are the texts that they are of.
@@ -227,11 +210,12 @@ F:ab Ff:ab => false
 Ff:ab Ff:ab => true
 Ff: Ff: => true";
 
-/// The query of letters and a text behind a colon.
-fn query_by(rt: &impl Abort, alloc: Global, asked: &str) -> Arc<Query> {
-    let (letters, text) = cut(rt, asked, ":");
-    assert!(rt; are_letters(letters), "letters of kinds and options");
-    query_of(rt, alloc, letters, text.as_bytes())
+/// The query of letters and a text, if all letters are those of kinds and options.
+fn query_by(alloc: Global, letters: &str, text: &[u8]) -> Option<Arc<Query>> {
+    if !are_letters(letters) {
+        return None;
+    }
+    compile(alloc, letters, text).ok()
 }
 
 /// Whether queries are the same, where their texts say so too.
@@ -243,42 +227,50 @@ fn are_same(one: &Query, other: &Query) -> &'static str {
     }
 }
 
-pub(crate) fn compared(rt: &impl Abort, alloc: Global, one: &str, other: &str) -> &'static str {
-    are_same(&query_by(rt, alloc, one), &query_by(rt, alloc, other))
+/// Shows whether two queries are the same.
+pub(crate) fn show_compared(alloc: Global, one: &str, other: &str, out: &mut String) {
+    let (one, text) = one.split_once(':').unwrap_or_default();
+    let Some(one) = query_by(alloc, one, text.as_bytes()) else {
+        return;
+    };
+    let (other, text) = other.split_once(':').unwrap_or_default();
+    let Some(other) = query_by(alloc, other, text.as_bytes()) else {
+        return;
+    };
+    let _ = out.push_str(are_same(&one, &other));
 }
 
-#[test]
-fn queries_are_compared_by_content(rt: HostRuntime) {
-    assert_rows(&rt, rt.alloc(), Question::SameQueries, QUERIES);
-}
+/// Queries by their letters and patterns, bytes, and whether a line of these may have a hit. The last four are of nine
+/// strings, which are too many to be looked for one by one.
+const MAY: &str = "E foo|bar[0-9] x%0Afo%0ABAR1%0A => false
+E foo|bar[0-9] x%0Aabar%0A => true
+Eo foo|bar[0-9] afoob => true
+Eiv foo|bar[0-9] fo%0Aba => false
+Eiv foo|bar[0-9] fo%0ABARx => true
+E [0-9] x%0A => true
+E [0-9]  => false
+Ei x* y => true
+Ff bb%0Abc%0Ad1%0Ad2%0Ad3%0Ad4%0Ad5%0Ad6%0Ad7%0A x%0Ad%0ABc%0Ad8 => false
+Ff bb%0Abc%0Ad1%0Ad2%0Ad3%0Ad4%0Ad5%0Ad6%0Ad7%0A x%0Ad%0Aabc%0Ad8 => true
+Ffi bb%0Abc%0Ad1%0Ad2%0Ad3%0Ad4%0Ad5%0Ad6%0Ad7%0A X%0ABC => true
+Ffi bb%0Abc%0Ad1%0Ad2%0Ad3%0Ad4%0Ad5%0Ad6%0Ad7%0A X%0AB%0AC => false";
 
-/// Queries by their letters and patterns, bytes, and whether a line of these may have a hit.
-const MAY: [(&'static str, &'static [u8], &'static [u8], bool); 12] = [
-    ("E", b"foo|bar[0-9]", b"x\nfo\nBAR1\n", false),
-    ("E", b"foo|bar[0-9]", b"x\nabar\n", true),
-    ("Eo", b"foo|bar[0-9]", b"afoob", true),
-    ("Eiv", b"foo|bar[0-9]", b"fo\nba", false),
-    ("Eiv", b"foo|bar[0-9]", b"fo\nBARx", true),
-    ("E", b"[0-9]", b"x\n", true),
-    ("E", b"[0-9]", b"", false),
-    ("Ei", b"x*", b"y", true),
-    ("Ff", NINE, b"x\nd\nBc\nd8", false),
-    ("Ff", NINE, b"x\nd\nabc\nd8", true),
-    ("Ffi", NINE, b"X\nBC", true),
-    ("Ffi", NINE, b"X\nB\nC", false),
-];
-
-/// Nine strings, which are too many to be looked for one by one.
-const NINE: &'static [u8] = b"bb\nbc\nd1\nd2\nd3\nd4\nd5\nd6\nd7\n";
-
-#[test]
-fn bytes_that_may_have_a_hit(rt: HostRuntime) {
-    for (letters, pattern, bytes, want) in MAY {
-        assert!(rt; are_letters(letters), "letters of kinds and options");
-        let query = query_of(&rt, rt.alloc(), letters, pattern);
-        let searched: &Query = &query;
-        assert!(rt; searched.may(rt.alloc(), bytes) == Ok(want), "{letters}");
+/// Shows whether a line of some bytes may have a hit of a query.
+pub(crate) fn show_may(alloc: Global, letters: &str, asked: &str, out: &mut String) {
+    let (pattern, bytes) = asked.split_once(' ').unwrap_or_default();
+    let Some(query) = query_by(alloc, letters, &bytes_of(alloc, pattern)) else {
+        return;
+    };
+    let searched: &Query = &query;
+    if let Ok(may) = searched.may(alloc, &bytes_of(alloc, bytes)) {
+        let _ = write!(out, "{may}");
     }
+}
+
+#[test]
+fn queries_and_what_may_have_a_hit(rt: HostRuntime) {
+    assert_rows(&rt, rt.alloc(), Question::SameQueries, QUERIES);
+    assert_rows(&rt, rt.alloc(), Question::MayHit, MAY);
 }
 
 /// A fault of the third pattern.

@@ -1,11 +1,9 @@
 //! Literals of expressions.
 use crate::machine::bounds_of;
-use crate::rows::{Question, assert_rows, bytes_of, show_bytes, show_text};
+use crate::rows::{Question, assert_rows, bytes_of, show_bytes};
 use pg_literal::Literal;
-use pg_match::Bounds;
 use pg_syntax::{Tree, parse_ere};
-use std::alloc::Global;
-use std::process::Abort;
+use std::alloc::{AllocError, Global};
 
 /// Bounds, with `fold-` before them where case is folded, extended expressions, which `;` parts, and their literals,
 /// with `only:` before those where each line that holds them has a hit.
@@ -150,61 +148,48 @@ any x(foo|bar);b;c;d;e;f;g;h;i => bar;foo;only:b;only:c;only:d;only:e;only:f;onl
 any x(foo|bar);a[0-9];zoo => bar;foo;only:a0;only:a1;only:a2;only:a3;only:a4;only:a5;only:a6;only:a7;only:a8;only:a9;only:zoo",
 ];
 
-/// The tree of an expression.
-fn tree_of(rt: &impl Abort, alloc: Global, pattern: &str, fold: bool) -> Tree {
-    parse_ere(alloc, &bytes_of(rt, alloc, pattern), fold).expect(rt, "an expression")
-}
-
-/// The trees of expressions.
-fn trees_of(rt: &impl Abort, alloc: Global, text: &str, fold: bool) -> Vec<Tree> {
+/// The trees of expressions, which `;` parts. One that has none is shown.
+fn trees_of(alloc: Global, text: &str, fold: bool, out: &mut String) -> Vec<Tree> {
     let mut trees = Vec::new(alloc);
     for pattern in text.split(';') {
-        let tree = tree_of(rt, alloc, pattern, fold);
-        trees.push(tree).expect(rt, "memory");
+        if let Ok(tree) = parse_ere(alloc, &bytes_of(alloc, pattern), fold) {
+            let _ = trees.push(tree);
+        } else {
+            let _ = out.push_str("no expression: ");
+        }
     }
     trees
 }
 
-/// The literals of expressions.
-pub(crate) fn literal_of(rt: &impl Abort, alloc: Global, kind: &str, text: &str) -> String {
-    match kind.strip_prefix("fold-") {
-        Some(bounds) => shown_literals(rt, alloc, bounds_of(rt, bounds), text, true),
-        None => shown_literals(rt, alloc, bounds_of(rt, kind), text, false),
+/// Shows the literals of expressions.
+pub(crate) fn show_literals(alloc: Global, kind: &str, text: &str, out: &mut String) {
+    let word = kind.strip_prefix("fold-");
+    let fold = word.is_some();
+    let Some(bounds) = bounds_of(word.unwrap_or(kind)) else {
+        return;
+    };
+    let trees = trees_of(alloc, text, fold, out);
+    match Literal::of(alloc, &trees, bounds, fold) {
+        Ok(literals) if literals.is_empty() => {
+            let _ = out.push_str("none");
+        }
+        Ok(literals) => show_all(&literals, out),
+        Err(AllocError) => {}
     }
 }
 
-/// The literals of expressions under bounds, where case may be folded.
-fn shown_literals(
-    rt: &impl Abort,
-    alloc: Global,
-    bounds: Bounds,
-    text: &str,
-    fold: bool,
-) -> String {
-    let trees = trees_of(rt, alloc, text, fold);
-    let literals = Literal::of(alloc, &trees, bounds, fold).expect(rt, "memory");
-    let mut out = String::new(alloc);
-    show_all(rt, &literals, &mut out);
-    out
-}
-
-fn show_all(rt: &impl Abort, literals: &[Literal], out: &mut String) {
-    if literals.is_empty() {
-        show_text(rt, "none", out);
-    }
+/// Shows literals, with a `;` between them.
+fn show_all(literals: &[Literal], out: &mut String) {
     for literal in literals {
-        show(rt, literal, out);
+        let mark = match (out.is_empty(), literal.is_enough) {
+            (true, true) => "only:",
+            (true, false) => "",
+            (false, true) => ";only:",
+            (false, false) => ";",
+        };
+        let _ = out.push_str(mark);
+        show_bytes(&literal.text, out);
     }
-}
-
-fn show(rt: &impl Abort, literal: &Literal, out: &mut String) {
-    if !out.is_empty() {
-        show_text(rt, ";", out);
-    }
-    if literal.is_enough {
-        show_text(rt, "only:", out);
-    }
-    show_bytes(rt, &literal.text, out);
 }
 
 #[test]

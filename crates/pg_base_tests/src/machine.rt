@@ -4,214 +4,171 @@ ghost use Rattle.pg_syntax.specs.Patterns.{IsProper};
 ghost use Rattle.pg_syntax.specs.Trees.{pattern};
 ghost use Rattle.pg_match.specs.Machines.{Fits};
 
-use crate::rows::{Question, assert_rows, cut, repeated};
+use crate::rows::{Question, assert_rows, repeated};
 use pg_match::laws::next_piece_is_one;
 use pg_match::{Bounds, BuildFault, Machine, Scratch};
 use pg_syntax::{Tree, fixed, parse_ere};
 use refusing::Refusing;
 use std::alloc::{AllocError, Allocator, Global};
-use std::process::Abort;
 
-/// A machine, and a scratch for it.
-#[derive(Drop)]
-struct Search {
-    machine: Machine,
-    scratch: Scratch,
-}
-
-pub(crate) fn bounds_of(rt: &impl Abort, word: &str) -> Bounds {
+/// The bounds of a word.
+pub(crate) fn bounds_of(word: &str) -> Option<Bounds> {
     match word {
-        "any" => Bounds::Any,
-        "word" => Bounds::Word,
-        "whole" => Bounds::Whole,
-        _ => panic!(rt; "bounds"),
+        "any" => Some(Bounds::Any),
+        "word" => Some(Bounds::Word),
+        "whole" => Some(Bounds::Whole),
+        _ => None,
     }
 }
 
-/// A machine of proper trees, and a scratch for it.
-fn search_of(rt: &impl Abort, alloc: Global, trees: &[Tree], bounds: Bounds) -> Search
-    requires { All IsProper (map pattern trees.now) }
-    ensures { Fits result.scratch result.machine }
-{
-    let machine = Machine::build(alloc, trees, bounds).expect(rt, "a machine");
-    let scratch = Scratch::new(alloc, &machine).expect(rt, "memory");
-    Search { machine, scratch }
-}
-
-/// A machine of one extended expression, and a scratch for it.
-fn machine(rt: &impl Abort, alloc: Global, text: &[u8], bounds: Bounds) -> Search
-    ensures { Fits result.scratch result.machine }
-{
-    let tree = parse_ere(alloc, text, false).expect(rt, "an expression");
-    search_of(rt, alloc, &[tree], bounds)
-}
-
-/// A machine, and a scratch for it, of the pattern that a word tells of: bounds of an extended expression, or `fixed`,
-/// or `none`.
-fn machine_of(rt: &impl Abort, alloc: Global, word: &str, text: &[u8]) -> Search
-    ensures { Fits result.scratch result.machine }
-{
-    match word {
-        "fixed" => fixed_string(rt, alloc, text),
-        "none" => search_of(rt, alloc, &[], Bounds::Any),
-        bounds => machine(rt, alloc, text, bounds_of(rt, bounds)),
-    }
-}
-
-/// A line in parts.
-fn line_of(rt: &impl Abort, alloc: Global, parts: &str) -> Vec<u8>
+/// A line in parts. One of more than 10,000 bytes becomes empty.
+fn line_of(alloc: Global, parts: &str) -> Vec<u8>
     ensures { length result.items ≤ 10000 }
 {
-    let line = repeated(rt, alloc, parts);
-    assert!(rt; line.len() <= 10_000);
+    let line = repeated(alloc, parts);
+    if line.len() > 10_000 {
+        return Vec::new(alloc);
+    }
     line
 }
 
 /// Shows whether a line is selected, and its first matched part, where the searches visit no more states than they
-/// may. The scratch is the machine's, and the line has at most 2^30 bytes.
-fn shown_visits(
-    alloc: Global,
-    search: &mut Search,
-    line: &[u8],
-    most: u128,
-) -> Result<String, AllocError>
-    requires fits { Fits search.old.scratch search.old.machine }
+/// may. The scratch is the machine's.
+fn show_found(machine: &Machine, scratch: &mut Scratch, line: &[u8], most: &str, out: &mut String)
+    requires fits { Fits scratch.old machine.now }
     requires short { length line.now ≤ 2 ^ 30 }
 {
-    let is_selected = search.machine.selects(&mut search.scratch, line);
-    let visits = search.scratch.visits();
-    let part = search.machine.next_piece(&mut search.scratch, line, 0);
-    if visits.max(search.scratch.visits()) > most {
-        return String::from_str(alloc, "too many visits");
-    }
-    format!(in alloc; "({is_selected}, {part:?})")
-}
-
-/// How many states a search of a line visits: whether it is selected, or its first matched part. The scratch is the
-/// machine's, and the line has at most 2^30 bytes.
-fn visits_of(search: &mut Search, line: &[u8], is_of_part: bool) -> u128
-    requires fits { Fits search.old.scratch search.old.machine }
-    requires short { length line.now ≤ 2 ^ 30 }
-    ensures fits { Fits search.new.scratch search.new.machine }
-{
-    if is_of_part {
-        search.machine.next_piece(&mut search.scratch, line, 0);
+    let is_selected = machine.selects(scratch, line);
+    let visits = scratch.visits();
+    let part = machine.next_piece(scratch, line, 0);
+    let _ = if visits.max(scratch.visits()) > most.parse().unwrap_or(0u128) {
+        out.push_str("too many visits")
     } else {
-        search.machine.selects(&mut search.scratch, line);
-    }
-    search.scratch.visits()
+        write!(out, "({is_selected}, {part:?})")
+    };
 }
 
-/// Shows how many states two searches of a line visit, one like the other, and two for its first matched part.
-fn counted(alloc: Global, search: &mut Search, line: &[u8]) -> Result<String, AllocError>
-    requires fits { Fits search.old.scratch search.old.machine }
+/// Shows how many states two searches of a line visit, one like the other, and two for its first matched part. The
+/// scratch is the machine's.
+fn show_counts(machine: &Machine, scratch: &mut Scratch, line: &[u8], out: &mut String)
+    requires fits { Fits scratch.old machine.now }
     requires short { length line.now ≤ 2 ^ 30 }
 {
-    let first = visits_of(search, line, false);
-    let again = visits_of(search, line, false);
-    let part = visits_of(search, line, true);
-    let part_again = visits_of(search, line, true);
-    format!(in alloc; "{first} {again} {part} {part_again}")
+    for is_of_part in [false, false, true, true] {
+        if is_of_part {
+            machine.next_piece(scratch, line, 0);
+        } else {
+            machine.selects(scratch, line);
+        }
+        let visits = scratch.visits();
+        let _ = write!(out, " {visits}");
+    }
 }
 
 /// The matched parts of a line. The scratch is the machine's, and the line has at most 2^30 bytes.
 fn parts_of(
     alloc: Global,
-    search: &mut Search,
+    machine: &Machine,
+    scratch: &mut Scratch,
     line: &[u8],
-) -> Result<Vec<(usize, usize)>, AllocError>
-    requires fits { Fits search.old.scratch search.old.machine }
+) -> Vec<(usize, usize)>
+    requires fits { Fits scratch.old machine.now }
     requires short { length line.now ≤ 2 ^ 30 }
-    ensures fits { Fits search.new.scratch search.new.machine }
+    ensures fits { Fits scratch.new machine.now }
 {
     let mut parts = Vec::new(alloc);
     let mut from = 0;
     for _ in 0..line.len() {
         let place = from.min(line.len());
-        match search.machine.next_piece(&mut search.scratch, line, place) {
-            Some(part) => {
-                parts.push(part)?;
-                from = part.1;
-            }
-            None => break,
-        }
+        let Some(part) = machine.next_piece(scratch, line, place) else {
+            break;
+        };
+        let _ = parts.push(part);
+        from = part.1;
     }
-    Ok(parts)
+    parts
 }
 
 /// Shows the matched parts of some lines. The scratch is the machine's.
-fn shown_parts(rt: &impl Abort, alloc: Global, search: &mut Search, lines: &str) -> String
-    requires fits { Fits search.old.scratch search.old.machine }
-    ensures fits { Fits search.new.scratch search.new.machine }
+fn show_parts(
+    alloc: Global,
+    machine: &Machine,
+    scratch: &mut Scratch,
+    lines: &str,
+    out: &mut String,
+)
+    requires fits { Fits scratch.old machine.now }
+    ensures fits { Fits scratch.new machine.now }
 {
-    let mut shown = String::new(alloc);
     for line in lines.split(' ') {
-        let line = line_of(rt, alloc, line);
-        let parts = parts_of(alloc, search, &line).expect(rt, "memory");
-        write!(shown, " {parts:?}").expect(rt, "memory");
+        let parts = parts_of(alloc, machine, scratch, &line_of(alloc, line));
+        let _ = write!(out, " {parts:?}");
     }
-    shown
 }
 
-/// The machine of a search, with a scratch that is made for matched parts.
-fn for_parts(rt: &impl Abort, alloc: Global, search: Search) -> Search
-    ensures { Fits result.scratch result.machine }
+/// Shows the matched parts of some lines. They are found twice with one scratch, and shown twice where they differ. The
+/// scratch is the machine's.
+fn show_parts_twice(
+    alloc: Global,
+    machine: &Machine,
+    scratch: &mut Scratch,
+    lines: &str,
+    out: &mut String,
+)
+    requires { Fits scratch.old machine.now }
 {
-    let Search {
-        machine,
-        scratch: _,
-    } = search;
-    let scratch = Scratch::with_parts(alloc, &machine).expect(rt, "memory");
-    Search { machine, scratch }
+    let mut first = String::new(alloc);
+    show_parts(alloc, machine, scratch, lines, &mut first);
+    show_parts(alloc, machine, scratch, lines, out);
+    if first != *out {
+        let _ = out.push_str(first.as_str());
+    }
 }
 
-/// Shows the matched parts of some lines, found twice with one scratch that is made for them.
-fn parted(rt: &impl Abort, alloc: Global, search: Search, lines: &str) -> String {
-    let mut search = for_parts(rt, alloc, search);
-    let first = shown_parts(rt, alloc, &mut search, lines);
-    let again = shown_parts(rt, alloc, &mut search, lines);
-    assert!(rt; first == again, "{first} and then {again}");
-    again
-}
-
-/// Shows what a search of a line visits, as a row asks.
-pub(crate) fn searched(rt: &impl Abort, alloc: Global, word: &str, asked: &str) -> String {
-    let (text, rest) = cut(rt, asked, " on ");
-    let search = machine_of(rt, alloc, word, &repeated(rt, alloc, text));
-    as_asked(rt, alloc, search, rest)
-}
-
-/// Shows what a search of a line visits, as the rest of a row asks. The scratch is the machine's.
-fn as_asked(rt: &impl Abort, alloc: Global, search: Search, rest: &str) -> String
-    requires { Fits search.scratch search.machine }
+/// Shows what searches of a line, or of lines, visit or find, as the rest of a row asks. The scratch is the machine's.
+fn show_asked(alloc: Global, machine: &Machine, scratch: &mut Scratch, rest: &str, out: &mut String)
+    requires { Fits scratch.old machine.now }
 {
     if let Some(lines) = rest.strip_suffix(" parted") {
-        parted(rt, alloc, search, lines)
-    } else if let Some(line) = rest.strip_suffix(" counted with parts") {
-        counted_in(rt, alloc, for_parts(rt, alloc, search), line)
-    } else if let Some(line) = rest.strip_suffix(" counted") {
-        counted_in(rt, alloc, search, line)
-    } else {
-        within(rt, alloc, search, rest)
+        show_parts_twice(alloc, machine, scratch, lines, out);
+    } else if let Some((line, most)) = rest.split_once(" within ") {
+        show_found(machine, scratch, &line_of(alloc, line), most, out);
+    } else if let Some((line, _)) = rest.split_once(" counted") {
+        show_counts(machine, scratch, &line_of(alloc, line), out);
     }
 }
 
-/// Shows how many states searches of a line visit. The scratch is the machine's.
-fn counted_in(rt: &impl Abort, alloc: Global, mut search: Search, line: &str) -> String
-    requires { Fits search.scratch search.machine }
+/// The same for a machine of proper trees, with a scratch that is made for parts where the row asks for these.
+fn show_machine(alloc: Global, trees: &[Tree], bounds: Bounds, rest: &str, out: &mut String)
+    requires { All IsProper (map pattern trees.now) }
 {
-    let line = line_of(rt, alloc, line);
-    counted(alloc, &mut search, &line).expect(rt, "memory")
+    let Ok(machine) = Machine::build(alloc, trees, bounds) else {
+        return;
+    };
+    let scratch = if rest.ends_with(" parted") || rest.ends_with(" with parts") {
+        Scratch::with_parts(alloc, &machine)
+    } else {
+        Scratch::new(alloc, &machine)
+    };
+    if let Ok(mut scratch) = scratch {
+        show_asked(alloc, &machine, &mut scratch, rest, out);
+    }
 }
 
-/// Shows what is found in a line, and whether no more states are visited than so many. The scratch is the machine's.
-fn within(rt: &impl Abort, alloc: Global, mut search: Search, asked: &str) -> String
-    requires { Fits search.scratch search.machine }
-{
-    let (line, most) = cut(rt, asked, " within ");
-    let most: u128 = most.parse().expect(rt, "a number");
-    let line = line_of(rt, alloc, line);
-    shown_visits(alloc, &mut search, &line, most).expect(rt, "memory")
+/// Shows what a search of a line visits or finds, as a row asks, whose word tells of the pattern: bounds of an extended
+/// expression, or `fixed`, or `none`.
+pub(crate) fn show_search(alloc: Global, word: &str, asked: &str, out: &mut String) {
+    let (text, rest) = asked.split_once(" on ").unwrap_or_default();
+    let text = repeated(alloc, text);
+    if word == "none" {
+        show_machine(alloc, &[], Bounds::Any, rest, out);
+    } else if word == "fixed" {
+        if let Ok(tree) = fixed(alloc, &text, false) {
+            show_machine(alloc, &[tree], Bounds::Whole, rest, out);
+        }
+    } else if let (Ok(tree), Some(bounds)) = (parse_ere(alloc, &text, false), bounds_of(word)) {
+        show_machine(alloc, &[tree], bounds, rest, out);
+    }
 }
 
 /// Bounds, an extended expression in parts, and a line in parts; whether it is selected, its first matched part, and
@@ -227,26 +184,16 @@ word :1 on :1 within 2 => (true, None)
 any ((((a{0}){255}){255}){255}){255}:1 on b:1 within 2 => (true, None)
 none :1 on a:1 within 2 => (false, None)";
 
-#[test]
-fn visits(rt: HostRuntime) {
-    assert_rows(&rt, rt.alloc(), Question::Visits, VISITS);
-    next_piece_is_one();
-}
-
 /// The same, and exactly how many states the first search visits, and the same search once more; then those for the
 /// first matched part. `a` begins in one state, and behind it are that one and the end of the match; a part has its own
-/// run alone. `a*b` begins in three states, which it has behind each `a` too, and behind `b` it also has the end. `aa` has
-/// one state at each place of its run. With a scratch that is made for parts that run is learned, and then it visits none.
+/// run alone. `a*b` begins in three states, which it has behind each `a` too, and behind `b` it also has the end. `aa`
+/// has one state at each place of its run. With a scratch that is made for parts that run is learned, and then it
+/// visits none.
 const COUNTS: &str = "any a:1 on a:1 counted => 3 0 2 2
 any a*b:1 on aab:1 counted => 13 0 10 10
 any a*b:1 on a:10000 counted => 12 0 0 0
 any aa:1 on xaa:1 counted => 7 0 3 3
 any aa:1 on xaa:1 counted with parts => 7 0 7 0";
-
-#[test]
-fn counts(rt: HostRuntime) {
-    assert_rows(&rt, rt.alloc(), Question::Visits, COUNTS);
-}
 
 /// The same of trees that are deep or large. No machine has more than 65,536 states.
 const DEEP: &str = "any a:1 *:4095 on baab:1 within 327680 => (true, Some((1, 3)))
@@ -260,11 +207,6 @@ any (:100 b:1 |a)*:100 on cabc:1 within 327680 => (true, Some((1, 3)))
 any (a|:100 b:1 )*:100 on cabc:1 within 327680 => (true, Some((1, 3)))
 any (a|b:100 c:1 ){0,1}:100 on cabbc:1 within 393216 => (true, Some((1, 2)))
 fixed a:4096 on a:4096 within 268500992 => (true, Some((0, 4096)))";
-
-#[test]
-fn deep_trees(rt: HostRuntime) {
-    assert_rows(&rt, rt.alloc(), Question::Visits, DEEP);
-}
 
 /// Bounds, an extended expression, and lines; the matched parts of each line. They are found twice, the second time by
 /// what is remembered.
@@ -281,16 +223,11 @@ word a|a-b:1 on -a-bc:1 -a-b:1 parted => [(1, 2)] [(1, 4)]
 whole a|a-b:1 on -a:1 a-b:1 parted => [] [(0, 3)]";
 
 #[test]
-fn parts(rt: HostRuntime) {
-    assert_rows(&rt, rt.alloc(), Question::Visits, PARTS);
-}
-
-/// A machine of a fixed string, and a scratch for it.
-fn fixed_string(rt: &impl Abort, alloc: Global, text: &[u8]) -> Search
-    ensures { Fits result.scratch result.machine }
-{
-    let tree = fixed(alloc, text, false).expect(rt, "a pattern");
-    search_of(rt, alloc, &[tree], Bounds::Whole)
+fn visits_counts_and_parts(rt: HostRuntime) {
+    for rows in [VISITS, COUNTS, DEEP, PARTS] {
+        assert_rows(&rt, rt.alloc(), Question::Visits, rows);
+    }
+    next_piece_is_one();
 }
 
 /// Whether a machine selects a line and finds its first part, and asks for no memory meanwhile. The scratch is the

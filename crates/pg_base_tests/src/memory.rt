@@ -1,100 +1,76 @@
 //! Walks over trees in memory.
-use crate::rows::{assert_text, cut, halves};
+use crate::rows::halves;
 use pg_walk::{
     FileKind, FileTree, Identity, Item, Listing, LookFault, MemTree, Node, Scope, Walker,
 };
 use refusing::Refusing;
 use std::alloc::{AllocError, Allocator, Global};
 use std::cell::Cell;
-use std::process::Abort;
 
-/// A directory.
-fn directory(rt: &impl Abort, alloc: Global, names: &[&str]) -> Node {
-    Node::directory(alloc, names).expect(rt, "memory")
-}
-
-/// A directory that has a name which can't be told.
-fn nameless(mut directory: Node) -> Node {
-    if let Some(listing) = &mut directory.listing {
-        listing.nameless = true;
-    }
-    directory
-}
-
-/// A link to a directory.
-fn link(mut directory: Node) -> Node {
-    directory.kind = Some(FileKind::Link);
-    directory
-}
-
-fn dead_link() -> Node {
-    Node {
-        kind: Some(FileKind::Link),
-        target: None,
-        listing: None,
-        identity: None,
-    }
-}
-
-/// What stands at a path, by a word of the trees below, and the names that are listed there.
-fn node_of(rt: &impl Abort, alloc: Global, kind: &str, names: &[&str]) -> Node {
-    match kind {
+/// What stands at a path, by a word of the trees below, and the names that are listed there. Nothing stands for another
+/// word.
+fn node_of(alloc: Global, kind: &str, names: &[&str]) -> Option<Node> {
+    let mut node = match kind {
         "file" => Node::new(FileKind::Regular),
         "device" => Node::new(FileKind::Other),
-        "directory" => directory(rt, alloc, names),
-        "nameless" => nameless(directory(rt, alloc, names)),
         "unlisted" => Node::new(FileKind::Directory),
-        "link-to-directory" => link(directory(rt, alloc, names)),
-        "link-to-itself" => Node::new(FileKind::Link),
-        "link-to-nothing" => dead_link(),
-        _ => panic!(rt; "what stands at a path"),
+        "link-to-itself" | "link-to-nothing" => Node::new(FileKind::Link),
+        "directory" | "nameless" | "link-to-directory" => Node::directory(alloc, names).ok()?,
+        _ => return None,
+    };
+    if kind.starts_with("link") {
+        node.kind = Some(FileKind::Link);
     }
+    if kind == "link-to-nothing" {
+        node.target = None;
+    }
+    if let Some(listing) = &mut node.listing {
+        listing.nameless = kind == "nameless";
+    }
+    Some(node)
+}
+
+/// Adds a node by a line: a path, a word for what stands there, behind a `=` the number of the file if that can be
+/// told, and the names that are listed there. Answers whether it can be read, and there is memory.
+fn add_node(alloc: Global, tree: &mut MemTree, line: &str) -> bool {
+    let (path, rest) = line.split_once(' ').unwrap_or_default();
+    let mut words = rest.split(' ');
+    let (kind, number) = told(words.next().unwrap_or_default());
+    let Ok(names) = words.collect::<Vec<&str>>(alloc) else {
+        return false;
+    };
+    let Some(mut node) = node_of(alloc, kind, names.as_slice()) else {
+        return false;
+    };
+    node.identity = number;
+    tree.add(path, node).is_ok()
 }
 
 /// The word for what stands at a path, and which file it is, by its number behind a `=`, if that can be told.
-fn told<'w>(rt: &impl Abort, word: &'w str) -> (&'w str, Option<Identity>) {
+fn told(word: &str) -> (&str, Option<Identity>) {
     match word.split_once('=') {
         Some((kind, number)) => {
-            let number = number.parse().expect(rt, "a number");
+            let number = number.parse().unwrap_or_default();
             (kind, Some(Identity { device: 0, number }))
         }
         None => (word, None),
     }
 }
 
-/// Adds a node by a line: a path, a word for what stands there, and the names that are listed there.
-fn add_node(rt: &impl Abort, alloc: Global, tree: &mut MemTree, line: &str) {
-    let mut words = line.split(' ');
-    let path = words.next().expect(rt, "a path");
-    let (kind, identity) = told(rt, words.next().expect(rt, "what stands there"));
-    let names: Vec<&str> = words.collect(alloc).expect(rt, "memory");
-    let mut node = node_of(rt, alloc, kind, names.as_slice());
-    node.identity = identity;
-    tree.add(path, node).expect(rt, "memory");
-}
-
-/// The tree of a text's lines.
-fn tree_of(rt: &impl Abort, alloc: Global, text: &str) -> MemTree {
-    let mut tree = MemTree::new(alloc);
-    for line in text.lines() {
-        add_node(rt, alloc, &mut tree, line);
-    }
-    tree
-}
-
 /// The words of a line.
-fn texts(rt: &impl Abort, alloc: Global, line: &str) -> Vec<String> {
+pub(crate) fn texts(alloc: Global, line: &str) -> Vec<String> {
     let mut texts = Vec::new(alloc);
     for word in line.split_whitespace() {
-        let text = String::from_str(alloc, word).expect(rt, "memory");
-        texts.push(text).expect(rt, "memory");
+        let mut text = String::new(alloc);
+        let _ = text.push_str(word);
+        let _ = texts.push(text);
     }
     texts
 }
 
 /// Shows a blank and the path of a file, or the path of a fault and its cause.
-fn show_item<A: Allocator>(item: &Item<A>, out: &mut String) -> Result<(), AllocError> {
-    match item {
+fn show_item<A: Allocator>(item: &Item<A>, out: &mut String) {
+    let _ = match item {
         Item::File(path) => {
             let path = path.as_str();
             write!(out, " {path}")
@@ -103,34 +79,42 @@ fn show_item<A: Allocator>(item: &Item<A>, out: &mut String) -> Result<(), Alloc
             let path = path.as_str();
             write!(out, " {path}:{cause:?}")
         }
-    }
-}
-
-/// Compares what is shown of a walk, or that it wants memory, with what a row wants.
-pub(crate) fn assert_walked(
-    rt: &impl Abort,
-    got: Result<String, AllocError>,
-    want: &str,
-    row: &str,
-) {
-    match got {
-        Ok(got) => assert_text(rt, got.as_str(), want, row),
-        Err(AllocError) => assert_text(rt, "out of memory", want, row),
-    }
+    };
 }
 
 /// Shows the items of a walk, which are at most 1,000.
-fn show_walk<T: FileTree, A: Allocator + Copy>(
+fn show_items<T: FileTree, A: Allocator + Copy>(
     mut walker: Walker<'_, T, A>,
     out: &mut String,
 ) -> Result<(), AllocError> {
     for _ in 0..1000u32 {
         match walker.next()? {
-            Some(item) => show_item(&item, out)?,
+            Some(item) => show_item(&item, out),
             None => break,
         }
     }
     Ok(())
+}
+
+/// Walks over operands with the memory of `heap`, and shows the items. What is shown is of use only where it is `Ok`.
+pub(crate) fn show_walk<T: FileTree, A: Allocator + Copy>(
+    heap: A,
+    tree: &T,
+    operands: &[String],
+    scope: Scope<A>,
+    out: &mut String,
+) -> Result<(), AllocError> {
+    let walker = Walker::new(heap, tree, operands, scope)?;
+    show_items(walker, out)
+}
+
+/// Compares what is shown of a walk, or that it wants memory, with what a row wants. Answers whether it is the same.
+pub(crate) fn is_walked_as(walked: Result<(), AllocError>, out: &mut String, want: &str) -> bool {
+    if walked.is_err() {
+        out.clear();
+        let _ = out.push_str("out of memory");
+    }
+    out.trim_start() == want.trim_start()
 }
 
 /// A scope of all that is below operands, with links followed there or not.
@@ -138,20 +122,6 @@ fn all_below(alloc: Global, follows: bool) -> Scope {
     let mut scope = Scope::all(alloc, true);
     scope.follows = follows;
     scope
-}
-
-/// Walks over operands with the memory of `heap`, and shows the items.
-pub(crate) fn walked<T: FileTree, A: Allocator + Copy>(
-    alloc: Global,
-    heap: A,
-    tree: &T,
-    operands: &[String],
-    scope: Scope<A>,
-) -> Result<String, AllocError> {
-    let mut out = String::new(alloc);
-    let walker = Walker::new(heap, tree, operands, scope)?;
-    show_walk(walker, &mut out)?;
-    Ok(out)
 }
 
 /// A tree of which one answer fails: the one that comes behind `passes` others.
@@ -352,72 +322,65 @@ full-follow-3 d => out of memory
 full-follow-4 d => out of memory
 full-follow-7 d => d/e/f";
 
-/// Walks over a tree of which the answer behind so many others fails.
-fn walk_failing(
+/// Walks over a tree of which the answer behind so many others fails, as `fail-2`, `fail-follow-2` or `full-2` says,
+/// and shows the items. Nothing is shown for another word.
+fn show_failing(
     alloc: Global,
     tree: &MemTree,
-    passes: u32,
-    fault: LookFault,
+    how: &str,
     operands: &[String],
-    follows: bool,
-) -> Result<String, AllocError> {
+    out: &mut String,
+) -> Result<(), AllocError> {
+    let (word, passes) = how.split_once('-').unwrap_or_default();
+    let answers = passes.strip_prefix("follow-");
+    let Ok(passes) = answers.unwrap_or(passes).parse() else {
+        return Ok(());
+    };
+    let fault = match word {
+        "fail" => LookFault::Failed,
+        "full" => LookFault::OutOfMemory,
+        _ => return Ok(()),
+    };
     let failing = Failing {
         tree,
         passes,
         fault,
         asked: Cell::new(0),
     };
-    walked(alloc, alloc, &failing, operands, all_below(alloc, follows))
+    let scope = all_below(alloc, answers.is_some());
+    show_walk(alloc, &failing, operands, scope, out)
 }
 
-/// The fault of an answer, by the word for it.
-fn fault_of(rt: &impl Abort, word: &str) -> LookFault {
-    match word {
-        "fail" => LookFault::Failed,
-        "full" => LookFault::OutOfMemory,
-        _ => panic!(rt; "how a tree is walked"),
-    }
-}
-
-/// Walks over a tree as a row asks.
-fn walk_as_asked(
-    rt: &impl Abort,
+/// Walks over a tree as a row asks, and shows the items.
+fn show_asked(
     alloc: Global,
     tree: &MemTree,
     asked: &str,
-) -> Result<String, AllocError> {
-    let (how, operands) = cut(rt, asked, " ");
-    let operands = texts(rt, alloc, operands);
-    match how {
-        "walk" => walked(alloc, alloc, tree, &operands, all_below(alloc, false)),
-        "follow" => walked(alloc, alloc, tree, &operands, all_below(alloc, true)),
-        "look" => walked(alloc, alloc, tree, &operands, Scope::all(alloc, false)),
-        how => {
-            let (word, passes) = cut(rt, how, "-");
-            let answers = passes.strip_prefix("follow-");
-            let passes = answers.unwrap_or(passes).parse();
-            let passes = passes.expect(rt, "a number of answers");
-            let fault = fault_of(rt, word);
-            walk_failing(alloc, tree, passes, fault, &operands, answers.is_some())
-        }
-    }
+    out: &mut String,
+) -> Result<(), AllocError> {
+    let (how, operands) = asked.split_once(' ').unwrap_or_default();
+    let operands = texts(alloc, operands);
+    let scope = match how {
+        "walk" => all_below(alloc, false),
+        "follow" => all_below(alloc, true),
+        "look" => Scope::all(alloc, false),
+        how => return show_failing(alloc, tree, how, &operands, out),
+    };
+    show_walk(alloc, tree, &operands, scope, out)
 }
 
-/// Compares what a walk gives, or that it wants memory, with what a row wants.
-fn assert_walk(rt: &impl Abort, alloc: Global, tree: &MemTree, row: &str) {
-    let (asked, want) = halves(rt, row);
-    let got = walk_as_asked(rt, alloc, tree, asked);
-    assert_walked(rt, got, want, row);
-}
-
-/// Adds a node, or walks, as a line says; behind an empty one another tree begins.
-fn walk_on(rt: &impl Abort, alloc: Global, tree: &mut MemTree, line: &str) {
+/// Adds a node, or walks, as a line says; behind an empty one another tree begins. Answers whether a walk gives what is
+/// wanted, and else whether the line can be read.
+fn walks_on(alloc: Global, tree: &mut MemTree, line: &str, out: &mut String) -> bool {
     if line.contains("=>") {
-        assert_walk(rt, alloc, tree, line);
+        let (asked, want) = halves(line);
+        let walked = show_asked(alloc, tree, asked, out);
+        is_walked_as(walked, out, want)
     } else if line.is_empty() {
         *tree = MemTree::new(alloc);
+        true
     } else {
-        add_node(rt, alloc, tree, line);
+        add_node(alloc, tree, line)
     }
 }
 
@@ -425,7 +388,9 @@ fn walk_on(rt: &impl Abort, alloc: Global, tree: &mut MemTree, line: &str) {
 fn walks(rt: HostRuntime) {
     let mut tree = MemTree::new(rt.alloc());
     for line in WALKS.lines() {
-        walk_on(&rt, rt.alloc(), &mut tree, line);
+        let mut out = String::new(rt.alloc());
+        let is_right = walks_on(rt.alloc(), &mut tree, line, &mut out);
+        assert!(rt; is_right, "{out} of {line}");
     }
 }
 
@@ -439,12 +404,22 @@ d/b unlisted";
 const ALLOWED: &str =
     "d/a:BadName d/a/x d/b:CannotList d/a:BadName d/a/x d/b:CannotList - gone:CannotOpen";
 
+/// A tree of a text's lines, as far as they can be read.
+fn tree_of(alloc: Global, text: &str) -> MemTree {
+    let mut tree = MemTree::new(alloc);
+    for line in text.lines() {
+        let _ = add_node(alloc, &mut tree, line);
+    }
+    tree
+}
+
 /// Whether a walk gives what it should, or wants memory where a request is refused.
-pub(crate) fn is_walked(rt: &impl Abort, alloc: Global, heap: &Refusing) -> bool {
-    let tree = tree_of(rt, alloc, REFUSED);
-    let operands = texts(rt, alloc, "d d - gone");
-    match walked(alloc, heap, &tree, &operands, Scope::all(heap, true)) {
-        Ok(shown) => !heap.has_refused() && shown.trim_start() == ALLOWED,
+pub(crate) fn is_walked(alloc: Global, heap: &Refusing) -> bool {
+    let tree = tree_of(alloc, REFUSED);
+    let operands = texts(alloc, "d d - gone");
+    let mut out = String::new(alloc);
+    match show_walk(heap, &tree, &operands, Scope::all(heap, true), &mut out) {
+        Ok(()) => !heap.has_refused() && out.trim_start() == ALLOWED,
         Err(AllocError) => heap.has_refused(),
     }
 }

@@ -33,8 +33,7 @@ fn is_refused_for_good(alloc: Global) -> bool {
 
 #[test]
 fn pushes_are_refused_once_or_for_good(rt: HostRuntime) {
-    assert!(rt; is_refused_once(rt.alloc()));
-    assert!(rt; is_refused_for_good(rt.alloc()));
+    assert!(rt; is_refused_once(rt.alloc()) && is_refused_for_good(rt.alloc()));
 }
 
 /// Makes two boxes.

@@ -2,11 +2,10 @@
 ghost use Rattle.std.specs.Prelude.{◌≡◌, ◌≤◌, length, IfOk};
 ghost use Rattle.std.specs.List.{All};
 
-use crate::rows::{Question, assert_rows, bytes_of, cut, show_text};
+use crate::rows::{Question, assert_rows, bytes_of};
 use pg_strings::{Budget, Outcome, StringSet};
 use refusing::Refusing;
 use std::alloc::{AllocError, Allocator, Global};
-use std::process::Abort;
 
 /// What is asked of strings, which `;` parts, and a text; and what a search by hand gives: for each place of the text
 /// the first place at or behind it at which a string stands, or the length of the longest string that stands there; or
@@ -51,15 +50,7 @@ fn set_of<A: Allocator + Copy>(alloc: A, text: &str) -> Result<StringSet<A>, All
     StringSet::new(alloc, strings)
 }
 
-/// Shows a blank and a place, or that there is none.
-fn show_place(rt: &impl Abort, out: &mut String, place: Option<usize>) {
-    let shown = match place {
-        Some(place) => write!(out, " {place}"),
-        None => out.push_str(" -"),
-    };
-    shown.expect(rt, "memory");
-}
-
+/// The first place at or behind `from` at which a string stands.
 fn first_place(set: &StringSet, text: &[u8], from: usize) -> Option<usize>
     requires { from ≤ length text.now }
 {
@@ -70,44 +61,40 @@ fn first_place(set: &StringSet, text: &[u8], from: usize) -> Option<usize>
 }
 
 /// Shows for each place of a text where the first string stands, or else how long the longest is that stands there.
-fn show_all(rt: &impl Abort, set: &StringSet, asks_first: bool, text: &[u8], out: &mut String) {
+fn show_each(set: &StringSet, asks_first: bool, text: &[u8], out: &mut String) {
     for place in 0..=text.len() {
         let found = if asks_first {
             first_place(set, text, place)
         } else {
             set.longest_at(text, place)
         };
-        show_place(rt, out, found);
+        let _ = match found {
+            Some(place) => write!(out, " {place}"),
+            None => out.push_str(" -"),
+        };
     }
 }
 
-/// Shows what is asked of a text by a word.
-fn show_answer(rt: &impl Abort, set: &StringSet, kind: &str, text: &[u8], out: &mut String) {
-    match kind {
-        "line" => show_line(rt, set.contains(text), out),
-        "first" => show_all(rt, set, true, text, out),
-        "longest" => show_all(rt, set, false, text, out),
-        _ => panic!(rt; "what is asked of strings"),
+/// Shows the answer to a row.
+pub(crate) fn show_places(alloc: Global, kind: &str, asked: &str, out: &mut String) {
+    let (strings, text) = asked.split_once(' ').unwrap_or_default();
+    let Ok(set) = set_of(alloc, strings) else {
+        return;
+    };
+    let text = bytes_of(alloc, text);
+    if kind == "line" {
+        let _ = out.push_str(if set.contains(&text) { "yes" } else { "no" });
+    } else if kind == "first" || kind == "longest" {
+        show_each(&set, kind == "first", &text, out);
     }
-}
-
-/// Shows whether a text is one of the strings.
-fn show_line(rt: &impl Abort, is_there: bool, out: &mut String) {
-    show_text(rt, if is_there { "yes" } else { "no" }, out);
-}
-
-/// The answer to a row.
-pub(crate) fn places_of(rt: &impl Abort, alloc: Global, kind: &str, asked: &str) -> String {
-    let (strings, text) = cut(rt, asked, " ");
-    let set = set_of(alloc, strings).expect(rt, "memory");
-    let mut out = String::new(alloc);
-    show_answer(rt, &set, kind, &bytes_of(rt, alloc, text), &mut out);
-    out
 }
 
 /// Whether a search with a budget of nothing gives up where the first string is to be compared.
-fn gives_up(set: &StringSet) -> bool {
-    set.find(b"bbbbab", 0, &mut Budget { left: 0 }) == Outcome::GaveUp(0)
+fn gives_up(alloc: Global) -> bool {
+    match set_of(alloc, "ba;bb") {
+        Ok(set) => set.find(b"bbbbab", 0, &mut Budget { left: 0 }) == Outcome::GaveUp(0),
+        Err(AllocError) => false,
+    }
 }
 
 /// Whether strings are prepared and found, or memory is wanted where a request is refused.
@@ -121,6 +108,5 @@ pub(crate) fn are_prepared(heap: &Refusing) -> bool {
 #[test]
 fn strings_are_found(rt: HostRuntime) {
     assert_rows(&rt, rt.alloc(), Question::Strings, ROWS);
-    let set = set_of(rt.alloc(), "ba;bb").expect(&rt, "memory");
-    assert!(&rt; gives_up(&set));
+    assert!(rt; gives_up(rt.alloc()));
 }

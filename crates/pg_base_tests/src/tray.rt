@@ -32,8 +32,8 @@ fn taken_and_left<R: Wait>(
 #[test]
 fn what_is_put_is_taken_or_left(rt: HostRuntime) {
     let (are_put, taken, left) = taken_and_left(&rt, rt.alloc()).expect(&rt, "memory");
-    assert!(rt; are_put && taken == [Some(7), None, Some(10)]);
-    assert!(rt; left == [Some(30), Some(11), Some(20), None]);
+    let are_left = left == [Some(30), Some(11), Some(20), None];
+    assert!(rt; are_put && taken == [Some(7), None, Some(10)] && are_left);
 }
 
 /// What a worker found, as its first, second and so on.
@@ -248,6 +248,7 @@ fn is_dropped<R: Wait>(rt: &R, alloc: Global, closes: bool) -> Result<bool, Allo
 
 #[test]
 fn values_that_are_left_are_dropped(rt: HostRuntime) {
-    assert!(rt; is_dropped(&rt, rt.alloc(), true).unwrap_or(false));
-    assert!(rt; is_dropped(&rt, rt.alloc(), false).unwrap_or(false));
+    let are_dropped = is_dropped(&rt, rt.alloc(), true) == Ok(true)
+        && is_dropped(&rt, rt.alloc(), false) == Ok(true);
+    assert!(rt; are_dropped);
 }

@@ -5,11 +5,10 @@ use std::time::{Clock, Duration};
 /// So many bytes are measured before a verdict.
 const MEASURED: u64 = 1_048_576;
 
-/// A search that takes more than a nanosecond a byte is slow: by several threads, each block needs memory of its own,
-/// and to clear it takes half as long.
+/// A search that takes more than a nanosecond a byte is slow: a faster one was seen to gain nothing by several threads.
 const BYTES_A_NANO: u64 = 1;
 
-/// By several threads a byte takes about so many times as long: memory is cleared for it, and others read beside.
+/// By several threads a byte was seen to take up to about so many times the processor time that it takes by one.
 const SPREAD_COST: u64 = 2;
 
 /// What a clock shows, if it can be read.

@@ -1,5 +1,0 @@
-use Rattle.pg_lines.specs.Cutter.{IsDrained}
-use Rattle.pg_base_tests.proofs.cutter.show_pieces.Given as goal
-
-abbrev pub invariant-loop-piece : goal.invariant-loop-piece
-invariant-loop-piece g l = record { drained : IsDrained l.cutter }
