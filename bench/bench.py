@@ -64,6 +64,7 @@ COMMON = """
 -F the
 -F e
 -nF water
+-bF water
 -cF the
 -FC3 water
 -Fw the
@@ -130,6 +131,13 @@ def cases(folder, megabytes):
     write(folder / "a", texts.near_misses(5))
     yield Case(["-F", "-c", "-f", "aab"], "a", ["-F", "-c", "-f", "aab"])
     yield from split("-cE (a*)*b\n-cE (a|aa)*[bc]\n-oE a{40}", "a")
+    write(folder / "ends", texts.late_hits(5))
+    for options in ("-c", "-o", "-cw"):
+        yield Case(["-F", options, "-f", "aab"], "ends", ["-F", options, "-f", "aab"])
+    write(folder / "alphabet", "".join(f"{letter}\n" for letter in texts.LETTERS).encode())
+    write(folder / "mixed", "\n".join(["e", "th", "in", *texts.known(words, 400)]).encode() + b"\n")
+    for name, options in (("alphabet", "-cw"), ("alphabet", "-o"), ("mixed", "-c"), ("mixed", "-o"), ("mixed", "-cw")):
+        yield Case(["-F", options, "-f", name], "prose", ["-F", options, "-f", name])
     write(folder / "letters", b"a" * 20_000 + b"\n")
     yield from split("-oE a*b|a", "letters")
     write(folder / "log", texts.log(20))

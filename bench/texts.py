@@ -79,6 +79,11 @@ def near_misses(megabytes):
     return (b"a" * 200 + b"\n") * (megabytes * MEGABYTE // 201)
 
 
+def late_hits(megabytes):
+    """The same lines with a `b` at the end of each."""
+    return (b"a" * 200 + b"b\n") * (megabytes * MEGABYTE // 202)
+
+
 def binary(megabytes):
     """The first megabytes of the programs of this machine, which have bytes of every kind and lines of any length."""
     parts, size = [], 0

@@ -57,6 +57,8 @@ ALONE = """\
 --color=always -H -n -C 1 -e x -e a row words
 --color=always -o -T -i -E WAT|FI words
 --color=always -c x row words
+-b -n -C 1 --group-separator=++ x row words
+-b -o -H -E WAT|FI|t words
 -R -n x tree row
 -F -f list -c words row
 -F -i -f list -o words
@@ -82,6 +84,7 @@ SPREAD = """\
 --always-spread --workers 2 --block 1 --round 2 -r -c x tree row
 --always-spread --workers 2 --block 1 --round 2 -r -c x sparse
 --always-spread --workers 2 --block 1 --round 2 --color=always -n -C 1 -E [wf][a-z]+ words row
+--always-spread --workers 2 --block 1 --round 2 -b -C 1 --group-separator= -E [wf][a-z]+ words row
 """
 
 

@@ -99,6 +99,8 @@ SPREAD = """\
 --color=always -n -E [a-d][aeiou][r-z]{2} large other
 --color=always -o -H -E [aeiou]{4} large
 --color=always -n -C 1 -E [xyz]{4} large other last
+-b -n -C 2 --group-separator=+++ -E [xyz]{4} large other last
+-b -o -E [aeiou]{4} large last
 -o -n -e [a-c][x-z] -e [x-z][a-c]$ last
 -c -e q[a-m] -e .z$ large other
 -n -x -E -e [a-z]{7}.[a-z]{7}.[a-z]{7} -e [xyz].* large last
