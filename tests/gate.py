@@ -1,22 +1,32 @@
 #!/usr/bin/env python3
-"""The gate: runs a command that ends with 'N passed, M failed', then compares the options with what names them, runs the
-rows, the runs by threads, those without memory and those over an input that stays open, looks up the wrong bodies that
-it doesn't try, and closes with such a line over all.
+"""The gate: has the toolchain prove all from nothing and run the tests, has each wrong body tried, and then compares the
+options with what names them, runs the rows, the runs by threads, those without memory and those over an input that
+stays open, and looks up the wrong bodies that it doesn't try. It closes with 'N passed, M failed' over all.
 
-The rows and the runs take the program that the command has built just now, also where the command has failed.
+Usage: tests/gate.py [RT]
+
+`rt ci` runs on a copy of the repository without its wrong bodies, since it would try them one after another; they are
+tried beside it by tests/refuse.py, several at once, each of which has to be refused by a message of its own. Each takes
+half of the processors, or of RT_JOBS. The rows and the runs take the program that `rt ci` has built just now, also
+where it has failed.
 """
 
 import os
 import re
+import resource
+import shutil
 import signal
 import subprocess
 import sys
+import tempfile
+import time
 from pathlib import Path
 
 HERE = Path(__file__).resolve().parent
-PROGRAM = HERE.parent / "crates/pargrep/out/pargrep"
+ROOT = HERE.parent
+PROGRAM = "crates/pargrep/out/pargrep"
 FIGURES = re.compile(r"([0-9]+) passed, ([0-9]+) failed")
-# What runs behind the command, each a script of this folder.
+# What runs behind the proofs, each a script of this folder.
 SCRIPTS = (
     ("the options", "options.py"),
     ("the list of wrong bodies", "wrong_bodies.py"),
@@ -33,13 +43,22 @@ def say(text):
     print(text, flush=True)
 
 
-def followed(command):
-    """Runs a command, shows its output as it comes, and answers the status and the last line."""
-    last = b""
+def started(command, folder=ROOT, jobs=0, **how):
+    """Starts a command in a folder, with so many jobs if a number is given; None where it can't be started."""
+    environment = {**os.environ, "RT_JOBS": str(jobs)} if jobs else None
     try:
-        process = subprocess.Popen(command, stdin=subprocess.DEVNULL, stdout=subprocess.PIPE, stderr=subprocess.STDOUT)
+        return subprocess.Popen(
+            command, cwd=folder, env=environment, stdin=subprocess.DEVNULL, stderr=subprocess.STDOUT, **how
+        )
     except OSError as fault:
         say(f"gate: {command[0]} can't be started: {fault.strerror}")
+        return None
+
+
+def followed(process):
+    """Shows the output of a command as it comes, and answers its status and its last line."""
+    last = b""
+    if process is None:
         return 127, ""
     try:
         for line in process.stdout:
@@ -53,9 +72,8 @@ def followed(command):
             process.wait()
 
 
-def figures_of(command, name):
+def figures(name, status, last):
     """What passed and failed. A command that doesn't tell it, or contradicts it by its status, has failed once more."""
-    status, last = followed(command)
     found = FIGURES.fullmatch(last)
     if not found:
         say(f"gate: the last line of {name} isn't 'N passed, M failed' (status {status})")
@@ -70,6 +88,43 @@ def figures_of(command, name):
     return passed, failed
 
 
+def figures_of(name, script, *words):
+    """What passed and failed in a script of this folder."""
+    command = [sys.executable, str(HERE / script), *words]
+    return figures(name, *followed(started(command, stdout=subprocess.PIPE)))
+
+
+def copied(folder):
+    """Copies the repository without what was made of it, and without its wrong bodies."""
+    left_out = shutil.ignore_patterns(".git", "out", "dist", "must-fail", "__pycache__")
+    shutil.copytree(ROOT, folder, ignore=left_out)
+    return folder
+
+
+def proved(rt, room, jobs):
+    """Has all proved from nothing and the tests run, and each wrong body tried beside that; answers what passed and
+    failed in both."""
+    copy = copied(Path(room) / "pargrep")
+    beside = max(1, jobs // 2)
+    with tempfile.TemporaryFile() as told:
+        trying = [sys.executable, str(HERE / "refuse.py"), "--gate", "--jobs", str(beside)]
+        refusing = started(trying, jobs=1, stdout=told)
+        try:
+            ci = figures("rt ci", *followed(started([rt, "ci"], copy, max(1, jobs - beside), stdout=subprocess.PIPE)))
+            status = refusing.wait() if refusing else 127
+        finally:
+            if refusing and refusing.poll() is None:
+                refusing.terminate()
+                refusing.wait()
+        told.seek(0)
+        lines = told.read().decode(errors="replace").rstrip().split("\n")
+    say("\n".join(lines))
+    (ROOT / PROGRAM).parent.mkdir(exist_ok=True)
+    if (copy / PROGRAM).is_file():
+        shutil.copy(copy / PROGRAM, ROOT / PROGRAM)
+    return [("rt ci", ci), ("the wrong bodies", figures("the wrong bodies", status, lines[-1]))]
+
+
 def free_memory():
     """The bytes that processes may still take, or 0 where the system doesn't tell."""
     try:
@@ -79,12 +134,12 @@ def free_memory():
     return 1024 * int(found[1]) if found else 0
 
 
-def one_proof_a_processor():
-    """Has the toolchain run one proof on each processor, where their memory is there. By itself it gives several
-    processors to one proof where no other waits, which takes two fifths more of their time for the same work."""
-    processors = len(os.sched_getaffinity(0))
-    if "RT_JOBS" not in os.environ and processors * MEMORY_OF_A_PROOF <= free_memory():
-        os.environ["RT_JOBS"] = str(processors)
+def jobs_at_once():
+    """How many proofs run at once: as many as there are processors, and memory for them, or what RT_JOBS says. By
+    itself the toolchain gives several processors to one proof, which takes two fifths more of their time."""
+    if os.environ.get("RT_JOBS", "").isdigit():
+        return max(1, int(os.environ["RT_JOBS"]))
+    return max(1, min(len(os.sched_getaffinity(0)), free_memory() // MEMORY_OF_A_PROOF))
 
 
 def keep_memory():
@@ -93,23 +148,30 @@ def keep_memory():
     os.environ.setdefault("MIMALLOC_PURGE_DELAY", "-1")
 
 
+def minutes(since):
+    """The minutes that were taken by now: of the processors, in user and system mode, and of the clock."""
+    used = resource.getrusage(resource.RUSAGE_CHILDREN)
+    return f"{(used.ru_utime + used.ru_stime) / 60:.0f} processor minutes, {(time.monotonic() - since) / 60:.0f} of wall"
+
+
 def main():
-    command = sys.argv[1:]
-    if not command:
-        say("usage: tests/gate.py COMMAND ..")
+    if len(sys.argv) > 2:
+        say("usage: tests/gate.py [RT]")
         return 2
+    rt = (sys.argv[1:] or ["rt"])[0]
+    os.environ["RT"] = rt
     signal.signal(signal.SIGTERM, lambda number, _: sys.exit(128 + number))
-    PROGRAM.unlink(missing_ok=True)
-    one_proof_a_processor()
+    since = time.monotonic()
+    (ROOT / PROGRAM).unlink(missing_ok=True)
     keep_memory()
-    name = " ".join(command)
-    ran = [(name, figures_of(command, name))]
-    ran += [(what, figures_of([sys.executable, str(HERE / script)], what)) for what, script in SCRIPTS]
-    edits = figures_of([sys.executable, str(HERE / "refuse.py"), "--read"], "the further wrong bodies")
-    parts = [*ran, ("the further wrong bodies, looked up", edits)]
-    for what, (passed, failed) in parts:
+    with tempfile.TemporaryDirectory(prefix="gate-") as room:
+        ran = proved(rt, room, jobs_at_once())
+    ran += [(what, figures_of(what, script)) for what, script in SCRIPTS]
+    looked_up = figures_of("the further wrong bodies", "refuse.py", "--read")
+    for what, (passed, failed) in [*ran, ("the further wrong bodies, looked up", looked_up)]:
         say(f"gate: {what}: {passed} passed, {failed} failed")
-    failed = sum(figures[1] for _, figures in parts)
+    say(f"gate: {minutes(since)}")
+    failed = looked_up[1] + sum(figures[1] for _, figures in ran)
     # An edit that is only looked up shows nothing of the program, so it is no check that has passed.
     say(f"{sum(figures[0] for _, figures in ran)} passed, {failed} failed")
     return 1 if failed else 0

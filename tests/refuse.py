@@ -1,24 +1,28 @@
 #!/usr/bin/env python3
-"""Tries wrong bodies in groups: `tests/refuse.py [--all] [--keep FOLDER] [--read] [NAME..]`
+"""Tries wrong bodies in groups: `tests/refuse.py [--gate | --all] [--jobs N] [--keep FOLDER] [--read] [NAME..]`
 
-An edit, `crates/CRATE/refused/NAME.edit`, turns a function into a wrong one, in the format of the edits of
-`must-fail/`. It may mend the proof of that function too, so that what refuses it is a promise, and not that an answer
-names what the function has no more. The edits of a crate that touch different functions are applied at once to a copy
-of the crate, which is checked once over what earlier checks of it proved. Callers of a wrong function see its contract
-alone, so each wrong function must be refused by a message of its own: an open goal on one of its lines, or an answer of
-its proof that doesn't fit its goal. A proof that only misses a name refuses nothing. An edit without a refusal of its
-own in the group is tried alone, as is one that touches anything but bodies: there any open goal counts.
+An edit, `crates/CRATE/must-fail/NAME.edit` or `crates/CRATE/refused/NAME.edit`, turns a function into a wrong one, in
+the toolchain's own format for such edits. It may mend the proof of that function too, so that what refuses it is a
+promise, and not that an answer names what the function has no more. The edits of a crate that touch different functions
+are applied at once to a copy of the crate, of which these functions are checked, over what earlier checks of it proved.
+Callers of a wrong function see its contract alone, so each wrong function must be refused by a message of its own: an
+open goal on one of its lines, or an answer of its proof that doesn't fit its goal. A proof that only misses a name
+refuses nothing. An edit that touches anything but bodies is in no group with others. For one without a refusal of its
+own the whole crate is checked, and any open goal counts.
 
-A NAME is a crate or an edit, `late-double-taken` or `pg_seq/late-double-taken`; none: all. With --all those of
-`must-fail/` are tried too, and with --keep what each check said is kept in FOLDER. The command of the toolchain is
-`rt`, or what RT names. A crate that was not proved yet is proved first; no other check of it may run meanwhile. The
-last line is `N refused, M not`; the status is 0 only where M is 0 and N is not.
+A NAME is a crate or an edit, `late-double-taken` or `pg_seq/late-double-taken`; none: all. Those of `refused/` are
+tried, with --gate those of `must-fail/`, and with --all both. So many checks run at once as --jobs says, one without
+it. With --keep what each check said is kept in FOLDER. The command of the toolchain is `rt`, or what RT names. The
+crates, and those that they are built over, are proved first where they weren't yet; no other check of them may run
+meanwhile. The last line is `N passed, M failed`; the status is 0 only where M is 0 and N is not.
 
 With --read nothing is checked: each edit is only looked up in the code, which tells those that a change has made stale.
-The last line is `N passed, M failed` then.
 """
 
 import argparse
+import contextlib
+import heapq
+import itertools
 import os
 import pathlib
 import re
@@ -27,6 +31,8 @@ import shutil
 import subprocess
 import sys
 import tempfile
+import threading
+from concurrent.futures import ThreadPoolExecutor
 from dataclasses import dataclass, field
 
 ROOT = pathlib.Path(__file__).resolve().parent.parent
@@ -64,6 +70,11 @@ class Function:
         """The function's path as it stands in those of its proof files, `cutter/Cutter/feed`."""
         module = self.file.removeprefix("src/").removesuffix(".rt").removesuffix("/mod")
         return "/".join(filter(None, ["" if module in ("lib", "main") else module, self.name]))
+
+    def shown(self):
+        """The end of the function's name as a check prints it. The methods of a type may stand in several files, and
+        are named by that of the type alone."""
+        return (self.name if "/" in self.name else self.path()).replace("/", "::")
 
 
 @dataclass
@@ -245,11 +256,51 @@ def crates_below(name, deps):
     return found
 
 
-def check(folder, *flags):
-    """Checks the crate in a folder over what it keeps there, and returns how that ended."""
-    words = [os.environ.get("RT", "rt"), "check", *flags]
-    how = {"stdin": subprocess.DEVNULL, "stdout": subprocess.PIPE, "stderr": subprocess.STDOUT, "errors": "replace"}
-    return subprocess.run(words, cwd=folder, **how)
+class Lanes:
+    """Lets so many checks run at once. Of those that wait the one with the least rank is next."""
+
+    def __init__(self, count):
+        self.free = count
+        self.waiting = []
+        self.numbers = itertools.count()
+        self.changed = threading.Condition()
+
+    @contextlib.contextmanager
+    def lane(self, rank):
+        ticket = (rank, next(self.numbers))
+        with self.changed:
+            heapq.heappush(self.waiting, ticket)
+            self.changed.wait_for(lambda: self.free and self.waiting[0] == ticket)
+            heapq.heappop(self.waiting)
+            self.free -= 1
+            self.changed.notify_all()
+        try:
+            yield
+        finally:
+            with self.changed:
+                self.free += 1
+                self.changed.notify_all()
+
+
+@dataclass(frozen=True)
+class Ended:
+    """How a command ended: its status, what it wrote, and the processor seconds that it took."""
+
+    status: int
+    output: str
+    seconds: float
+
+
+def toolchain(folder, *words):
+    """Runs a command of the toolchain on the crate in a folder, over what it keeps there. One job takes the least
+    processor time."""
+    command = [os.environ.get("RT", "rt"), *words, "--jobs", "1"]
+    with tempfile.TemporaryFile() as told:
+        process = subprocess.Popen(command, cwd=folder, stdin=subprocess.DEVNULL, stdout=told, stderr=subprocess.STDOUT)
+        _, status, used = os.wait4(process.pid, 0)
+        process.returncode = os.waitstatus_to_exitcode(status)
+        told.seek(0)
+        return Ended(process.returncode, told.read().decode(errors="replace"), used.ru_utime + used.ru_stime)
 
 
 def copy_repository(crate, room):
@@ -265,8 +316,9 @@ def copy_repository(crate, room):
                 shutil.copytree(folder / part, crate.room / "crates" / folder.name / part)
 
 
-def try_edits(crate, edits):
-    """Checks a fresh copy of the crate with the edits, over the proofs that the crate has."""
+def try_edits(crate, edits, is_whole):
+    """Checks a fresh copy of the crate with the edits, over the proofs that the crate has: the functions that they turn
+    alone, or the whole crate."""
     texts, _ = applied([pair for it in edits for pair in it.pairs], {}, crate.folder())
     for part in ["src", "proofs", "out"]:
         shutil.rmtree(crate.copy() / part, ignore_errors=True)
@@ -274,8 +326,8 @@ def try_edits(crate, edits):
             shutil.copytree(crate.folder() / part, crate.copy() / part)
     for file, text in texts.items():
         (crate.copy() / file).write_text(text, encoding="utf-8")
-    # One job takes the least processor time.
-    return Said(check(crate.copy(), "--jobs", "1").stdout)
+    turned = [] if is_whole else [f"--only={it.shown()}" for edit in edits for it in edit.functions]
+    return Said(toolchain(crate.copy(), "check", *turned))
 
 
 @dataclass(frozen=True)
@@ -310,10 +362,12 @@ class Message:
 class Said:
     """What a check said: its messages, and how it ended."""
 
-    def __init__(self, output):
+    def __init__(self, ended):
+        output = ended.output
         self.output = output
+        self.seconds = ended.seconds
         # The check came as far as a verdict.
-        self.has_verdict = bool(re.search(r"(?m)^logic=", output))
+        self.has_verdict = bool(re.search(r"(?m)^(logic|only)=", output))
         self.is_proved = bool(re.search(r"(?m)^logic=proved", output))
         # A message goes on in the indented lines below it.
         self.messages = [it for it in map(read_message, re.split(r"\n(?! )", output)) if it]
@@ -359,26 +413,20 @@ def verdict_alone(said):
     return True, f"refused: {found.shown()}"
 
 
-def try_group(crate, group, keep):
+def try_group(crate, group, checked):
     """Tries a group, and alone each edit without a refusal of its own; yields each edit with its verdict."""
-    said = try_edits(crate, group)
-    keep(crate, group, said)
-    if len(group) == 1:
-        yield group[0], *verdict_alone(said)
-        return
+    said = checked(crate, group, False) if all(it.functions for it in group) else None
     for edit in group:
-        found = said.refusal(edit.functions) if said.has_verdict else None
+        found = said.refusal(edit.functions) if said and said.has_verdict else None
         if found:
             yield edit, True, f"refused: {found.shown()}"
             continue
-        alone = try_edits(crate, [edit])
-        keep(crate, [edit], alone)
-        well, text = verdict_alone(alone)
-        yield edit, well, f"{text} (tried alone)"
+        well, text = verdict_alone(checked(crate, [edit], True))
+        yield edit, well, f"{text} (the whole crate was checked)"
 
 
-def try_crate(crate, edits, keep):
-    """Tries the edits of a crate; yields each with whether it was refused, and what to print of it."""
+def try_crate(crate, edits, checked):
+    """Tries the edits of a proved crate; yields each with whether it was refused, and what to print of it."""
     good = []
     for edit in edits:
         try:
@@ -386,19 +434,84 @@ def try_crate(crate, edits, keep):
             good.append(edit)
         except (BadEdit, OSError, UnicodeDecodeError) as error:
             yield edit, False, f"BAD EDIT: {error}"
-    own = check(crate.folder())
-    if own.returncode:
-        print(own.stdout, end="")
-        sys.exit(f"refuse: {crate.name} itself isn't proved: what the check said stands above")
     with tempfile.TemporaryDirectory(prefix="refuse-") as room:
         copy_repository(crate, room)
         for group in groups_of(good, crate.folder()):
-            yield from try_group(crate, group, keep)
+            yield from try_group(crate, group, checked)
+
+
+class Run:
+    """A run over the edits of some crates: each crate is proved once those below it are, and then its edits are tried,
+    as many checks at once as there are lanes."""
+
+    def __init__(self, crates, wanted, jobs, keep):
+        self.crates = crates
+        self.wanted = wanted
+        self.keep = keep
+        self.lanes = Lanes(jobs)
+        self.printing = threading.Lock()
+        self.proofs = {}
+        # The processor seconds of each check, by crate.
+        self.spent = {}
+
+    def say(self, text):
+        with self.printing:
+            print(text, flush=True)
+
+    def prove(self, crate):
+        """Proves a crate once those below it are proved, and answers whether it is."""
+        if not all(self.proofs[it].result() for it in crate.below):
+            return False
+        is_program = (crate.folder() / "src/main.rt").is_file()
+        above = sum(crate.name in it.below for it in self.crates.values())
+        with self.lanes.lane((0, -above)):
+            ended = toolchain(crate.folder(), "check" if is_program else "lib")
+        if ended.status:
+            self.say(f"{ended.output}refuse: {crate.name} itself isn't proved: what the check said stands above")
+        else:
+            self.say(f"{crate.name}: proved, {ended.seconds:.0f} processor seconds")
+        return ended.status == 0
+
+    def checked(self, crate, edits, is_whole):
+        """What a check of the crate with the edits says."""
+        with self.lanes.lane((1, 0)):
+            said = try_edits(crate, edits, is_whole)
+        with self.printing:
+            self.keep(crate, edits, said)
+            self.spent[crate.name] = [*self.spent.get(crate.name, []), said.seconds]
+        return said
+
+    def tried(self, crate, edits):
+        """Tries the edits of a crate once it is proved, and answers how many were refused."""
+        if not self.proofs[crate.name].result():
+            self.say(f"{crate.name}: {len(edits)} edits NOT TRIED, for it isn't proved")
+            return 0
+        refused = 0
+        for edit, well, text in try_crate(crate, edits, self.checked):
+            self.say(f"{edit.label()}: {text}")
+            refused += well
+        spent = self.spent.get(crate.name, [])
+        self.say(f"{crate.name}: {len(edits)} edits in {len(spent)} checks, {sum(spent):.0f} processor seconds")
+        return refused
+
+    def all_tried(self):
+        """Tries all edits, and answers how many were refused."""
+        needed = {it for name in self.wanted for it in [*self.crates[name].below, name]}
+        order = sorted(needed, key=lambda name: len(self.crates[name].below))
+        # A thread for each task, of which most wait for others: the lanes say how many checks run.
+        with ThreadPoolExecutor(len(order) + len(self.wanted)) as pool:
+            for name in order:
+                self.proofs[name] = pool.submit(self.prove, self.crates[name])
+            tried = [pool.submit(self.tried, self.crates[name], edits) for name, edits in self.wanted.items()]
+            return sum(it.result() for it in tried)
 
 
 def wanted_edits(names, folders):
     """The edits that the names mean, by crate."""
-    paths = [it for folder in folders for it in sorted(ROOT.glob(f"crates/*/{folder}/*.edit"))]
+    paths = [it for folder in folders for it in sorted(ROOT.glob(f"crates/*/{folder}/*")) if it.suffix != ".md"]
+    strays = [str(it.relative_to(ROOT)) for it in paths if it.suffix != ".edit"]
+    if strays:
+        sys.exit(f"refuse: no edit: {' '.join(strays)}")
     edits = sorted((Edit(it.parent.parent.name, it) for it in paths), key=lambda it: it.crate)
     unknown = [it for it in names if not any(it.removesuffix(".edit") in named(edit) for edit in edits)]
     if unknown:
@@ -446,27 +559,25 @@ def keeper(folder):
 
 def main():
     reader = argparse.ArgumentParser(description=__doc__, formatter_class=argparse.RawDescriptionHelpFormatter)
-    reader.add_argument("--all", action="store_true", help="the edits of must-fail/ too")
+    which = reader.add_mutually_exclusive_group()
+    which.add_argument("--gate", action="store_true", help="the edits of must-fail/ in place of those of refused/")
+    which.add_argument("--all", action="store_true", help="the edits of must-fail/ too")
+    reader.add_argument("--jobs", type=int, default=1, metavar="N", help="so many checks at once")
     reader.add_argument("--keep", metavar="FOLDER", help="keeps what each check said in FOLDER")
     reader.add_argument("--read", action="store_true", help="only looks the edits up in the code")
     reader.add_argument("names", nargs="*", metavar="NAME", help="a crate or an edit")
     words = reader.parse_args()
     crates = read_crates()
-    wanted = wanted_edits(words.names, ["refused", *["must-fail"] * words.all])
+    folders = ["must-fail"] if words.gate else ["refused", "must-fail"] if words.all else ["refused"]
+    wanted = wanted_edits(words.names, folders)
+    count = sum(map(len, wanted.values()))
     if words.read:
-        stale = sum(read_edits(crates[name], edits) for name, edits in wanted.items())
-        print(f"{sum(map(len, wanted.values())) - stale} passed, {stale} failed")
-        return 1 if stale else 0
-    refused = missed = 0
-    for name, edits in wanted.items():
-        before = processor_seconds()
-        for edit, well, text in try_crate(crates[name], edits, keeper(words.keep)):
-            print(f"{edit.label()}: {text}", flush=True)
-            refused, missed = refused + well, missed + (not well)
-        print(f"{name}: {len(edits)} edits, {processor_seconds() - before:.0f} processor seconds", flush=True)
-    print(f"{processor_seconds():.0f} processor seconds")
-    print(f"{refused} refused, {missed} not")
-    return 0 if refused and not missed else 1
+        refused = count - sum(read_edits(crates[name], edits) for name, edits in wanted.items())
+    else:
+        refused = Run(crates, wanted, max(1, words.jobs), keeper(words.keep)).all_tried()
+        print(f"refuse: {processor_seconds():.0f} processor seconds")
+    print(f"{refused} passed, {count - refused} failed")
+    return 0 if refused and refused == count else 1
 
 
 if __name__ == "__main__":
