@@ -14,8 +14,9 @@ use pg_match::Bounds;
 use pg_strings::{Budget, Outcome, StringSet};
 use std::alloc::Allocator;
 
-/// What the search of one line may spend on comparing strings, beyond what the bytes that are passed add.
-const ALLOWANCE: usize = 1_024;
+/// What the search of one line may spend on comparing strings, beyond what the bytes that are passed add. It is little,
+/// since a line in which comparing takes long spends it in vain before the automaton judges it.
+const ALLOWANCE: usize = 128;
 
 /// What the search for the next string of a line came to.
 #[derive(Clone, Copy)]
