@@ -24,10 +24,21 @@ first xyz abcxy => - - - - - -
 longest xyz abcxy => - - - - - -
 first q;qq;qqq qqqqq => 0 1 2 3 4 -
 longest q;qq;qqq qqqqq => 3 3 3 2 1 -
+first a;abcdefgh;xy zzabcdefghxyz => 2 2 2 10 10 10 10 10 10 10 10 - - -
+longest a;abcdefgh;xy zzabcdefghxyz => - - 8 - - - - - - - 2 - - -
+first yx;q;abcd xyzzzzzzzzyxq => 10 10 10 10 10 10 10 10 10 10 10 12 12 -
+longest yx;q;abcd xyzzzzzzzzyxq => - - - - - - - - - - 2 - 1 -
+longest a;ab;abc;abcd abcdabca => 4 - - - 3 - - 1 -
+first xq;abc abcx => 0 - - - -
+longest xq;abc abcx => 3 - - - -
 line ab;abc;bc abc => yes
 line ab;abc;bc ab => yes
 line ab;abc;bc abcd => no
 line ab;abc;bc b => no
+line a;ab;abcdef a => yes
+line a;ab;abcdef ab => yes
+line a;ab;abcdef abc => no
+line ba;abcdef ab => no
 line abcdefghij;abcdefgh abcdefghi => no
 line abcdefghij;abcdefgh abcdefghij => yes";
 
@@ -91,16 +102,26 @@ pub(crate) fn show_places(alloc: Global, kind: &str, asked: &str, out: &mut Stri
 
 /// Whether a search with a budget of nothing gives up where the first string is to be compared.
 fn gives_up(alloc: Global) -> bool {
-    match set_of(alloc, "ba;bb") {
+    match set_of(alloc, "bab;bbb") {
         Ok(set) => set.find(b"bbbbab", 0, &mut Budget { left: 0 }) == Outcome::GaveUp(0),
+        Err(AllocError) => false,
+    }
+}
+
+/// Whether a string of one byte leaves the others as easy to tell apart as they were: places that begin like them cost
+/// nothing.
+fn tells_apart(alloc: Global) -> bool {
+    match set_of(alloc, "q;baaa;bccc;bddd") {
+        Ok(set) => set.find(b"bzbzbzbzbzbzbzbzbzbz", 0, &mut Budget { left: 0 })
+            == Outcome::NotFound,
         Err(AllocError) => false,
     }
 }
 
 /// Whether strings are prepared and found, or memory is wanted where a request is refused.
 pub(crate) fn are_prepared(heap: &Refusing) -> bool {
-    match set_of(heap, "ab;b1;c") {
-        Ok(set) => set.contains(b"b1") && !set.contains(b"b"),
+    match set_of(heap, "ab;b1;c;b12") {
+        Ok(set) => set.contains(b"b1") && set.contains(b"b12") && !set.contains(b"b"),
         Err(_) => heap.has_refused(),
     }
 }
@@ -109,4 +130,5 @@ pub(crate) fn are_prepared(heap: &Refusing) -> bool {
 fn strings_are_found(rt: HostRuntime) {
     assert_rows(&rt, rt.alloc(), Question::Strings, ROWS);
     assert!(rt; gives_up(rt.alloc()));
+    assert!(rt; tells_apart(rt.alloc()));
 }

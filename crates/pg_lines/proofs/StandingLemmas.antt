@@ -16,9 +16,8 @@ use Rattle.pg_lines.specs.Strings.{IsStringHit, IsNextString, HasNoString, IsLon
 -- each string of a set has a byte
 pub are_some : {A : Type 0} (set : StringSet A) → All (λ s. 1 ≤ length s) (strings_of set)
 are_some set =
-    let some = set.weighs.some in
-    All-weaker (λ (s : List ℕ). set.width ≤ length s) (λ s. 1 ≤ length s) (λ s long. omega (arith, some, long))
-    (strings_of set) set.long
+    All-weaker (λ (s : List ℕ). (1 ≤ length s) × (3 ≤ length s → set.width ≤ length s)) (λ s. 1 ≤ length s)
+    (λ s long. long.0) (strings_of set) set.long
 
 -- a text that ends before a place stands in what is before it
 occurs_take : (xs s : List ℕ) (p stop : ℕ) → stop ≤ length xs → p + length s ≤ stop → OccursAt xs s p

@@ -81,6 +81,24 @@ window_parts xs w most =
     window_is xs ∙ (split xs 0 w (8 - w) w 8 (omega arith) (omega (arith, most))
     ∙ ap (λ v. worth xs 0 w + v) (shifted xs w (8 - w)))
 
+-- the first byte of a window
+pub window_single : (xs : List ℕ) → slice_index xs 0 < 256 → from_le_bytes w64 xs % 256 ≡ slice_index xs 0
+window_single xs low =
+    let parts = window_parts xs 1 (omega arith) in
+    let one = worth_more xs 0 0 in
+    let none = worth_zero xs 1 in
+    omega (arith, parts, one, none, low)
+
+-- and its first two
+pub window_pair : (xs : List ℕ) → slice_index xs 0 < 256 → slice_index xs 1 < 256
+    → from_le_bytes w64 xs % 65536 ≡ slice_index xs 0 + 256 * slice_index xs 1
+window_pair xs low low' =
+    let parts = window_parts xs 2 (omega arith) in
+    let one = worth_more xs 0 1 in
+    let two = worth_more xs 1 0 in
+    let none = worth_zero xs 2 in
+    omega (arith, parts, one, two, none, low, low')
+
 times : (a p r f t m : ℕ) → p * f ≡ t * m → (a + p * r) * f ≡ a * f + (r * t) * m
 times a p r f t m e =
     add-mul a (p * r) f

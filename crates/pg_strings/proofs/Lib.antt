@@ -3,3 +3,4 @@ pub mod ChainLemmas
 pub mod WalkLemmas
 pub mod PlaceLemmas
 pub mod LongestLemmas
+pub mod ShortLemmas

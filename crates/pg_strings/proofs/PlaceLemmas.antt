@@ -18,17 +18,19 @@ use Rattle.memchr.proofs.lemmas.MatchLemmas.{OccursAt-part, OccursAt-from_part}
 use Rattle.memchr.specs.Find.{OccursAt, Nowhere}
 use Rattle.pg_strings.specs.Keys.{items_of, key, home, Weighs, AreLong, AreFlagged}
 use Rattle.pg_strings.specs.Sets.{SomeStands}
+use Rattle.pg_strings.specs.Short.{SomeLongStands}
 use Rattle.pg_strings.proofs.KeyLemmas.{key_at_place}
 
--- where the key of a place isn't flagged, no string stands
+-- where the key of a place isn't flagged, no string of three bytes or more stands
 pub unflagged : (factor width : ℕ) (flags : List Bool) (strings : List (List ℕ)) (bytes : List ℕ) (place k : ℕ)
     → Weighs factor width → AreLong width strings → AreFlagged factor flags strings → k ≡ key factor (drop place bytes)
-    → slice_index_or flags k true ≡ false → SomeStands strings bytes place → ⊥
-unflagged factor width flags strings bytes place k weighs are_long are_flagged e none (i, string, less, is, occurs) =
-    let long : width ≤ length string = subst (λ t. width ≤ length t) is (are_long i string less) in
+    → slice_index_or flags k true ≡ false → SomeLongStands strings bytes place → ⊥
+unflagged factor width flags strings bytes place k weighs are_long are_flagged e none (i, string, less, is, there) =
+    let long : width ≤ length string =
+    subst (λ t. 3 ≤ length t → width ≤ length t) is (are_long i string less).1 there.0 in
     let flagged : slice_index_or flags (key factor string) true ≡ true =
     subst (λ t. slice_index_or flags (key factor t) true ≡ true) is (are_flagged i string less) in
-    let same : k ≡ key factor string = e ∙ key_at_place factor width bytes string place weighs long occurs in
+    let same : k ≡ key factor string = e ∙ key_at_place factor width bytes string place weighs long there.1 in
     let both : true ≡ false = sym flagged ∙ (ap (λ n. slice_index_or flags n true) (sym same) ∙ none) in
     cc
 

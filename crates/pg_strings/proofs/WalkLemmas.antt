@@ -112,14 +112,15 @@ walk_weaker P Q factor strings link h weaker walked = record {
   seen = λ i less low is. weaker (get_or strings i []) (walked.seen i less low is);
 }
 
--- at the end of the chain of a place, P holds of all strings that stand there
+-- at the end of the chain of a place, P holds of all strings of three bytes and more that stand there
 pub walk_ends : (P : List ℕ → Type 0) (factor width : ℕ) (strings : List (List ℕ)) (bytes : List ℕ) (place h : ℕ)
     → Weighs factor width → AreLong width strings → h ≡ key factor (drop place bytes) / 16
     → IsWalked P factor strings 0 h → (i : ℕ) (string : List ℕ) → i < length strings → get_or strings i string ≡ string
-    → OccursAt bytes string place → P string
-walk_ends P factor width strings bytes place h weighs are_long e walked i string less is occurs =
+    → 3 ≤ length string → OccursAt bytes string place → P string
+walk_ends P factor width strings bytes place h weighs are_long e walked i string less is three occurs =
     let at : get_or strings i [] ≡ string = get_or_default strings i [] string less ∙ is in
-    let long : width ≤ length string = subst (λ t. width ≤ length t) is (are_long i string less) in
+    let long : width ≤ length string =
+    subst (λ t. 3 ≤ length t → width ≤ length t) is (are_long i string less).1 three in
     let same : key factor (drop place bytes) ≡ key factor string =
     key_at_place factor width bytes string place weighs long occurs in
     subst P at (walked.seen i less (omega arith) (ap (λ t. home factor t) at ∙ sym (e ∙ ap (λ v. v / 16) same)))

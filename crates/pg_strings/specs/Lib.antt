@@ -1,3 +1,4 @@
 pub mod Keys
 pub mod Sets
+pub mod Short
 pub mod Outcomes

@@ -7,9 +7,10 @@ ghost use Rattle.pg_strings.specs.Outcomes.{strings_of};
 use crate::chains::Chains;
 use crate::key::{KEYS, SHARE, factor_of, last_key_at};
 use crate::set::StringSet;
+use crate::short::ShortStrings;
 use std::alloc::{AllocError, Allocator};
 
-/// The length of the shortest string, at most 8.
+/// The length of the shortest string of three bytes or more, at most 8.
 fn width_of<A: Allocator>(strings: &[Vec<u8, A>]) -> usize
     requires { All (λ string. 1 ≤ length string.items) strings.now }
     ensures range { (1 ≤ result) × (result ≤ 8) }
@@ -17,7 +18,9 @@ fn width_of<A: Allocator>(strings: &[Vec<u8, A>]) -> usize
 {
     let mut width = 8;
     for string in strings {
-        width = width.min(string.len());
+        if string.len() >= 3 {
+            width = width.min(string.len());
+        }
     }
     width
 }
@@ -46,8 +49,10 @@ impl<A: Allocator> StringSet<A> {
             flags[key] = true;
             chains.push(key / SHARE)?;
         }
+        let short = ShortStrings::new(alloc, strings.as_slice())?;
         Ok(StringSet {
             strings,
+            short,
             width,
             factor,
             flags,

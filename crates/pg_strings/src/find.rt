@@ -3,12 +3,14 @@ ghost use Rattle.std.specs.Prelude.{◌≡◌, ◌+◌, ◌≤◌, length, false
 ghost use Rattle.memchr.specs.Find.{Nowhere};
 ghost use Rattle.pg_strings.specs.Sets.{SomeStands, work};
 ghost use Rattle.pg_strings.specs.Outcomes.{strings_of, IsOutcome, IsWithinBudget, IsLook};
+ghost use Rattle.pg_strings.specs.Short.{AreTables, SomeLongStands};
 
 use crate::budget::Budget;
 use crate::compare::stands_within;
 use crate::key::{SHARE, key_at, last_key_at};
 use crate::outcome::{Look, Outcome};
 use crate::set::StringSet;
+use crate::short::ShortStrings;
 use std::alloc::Allocator;
 
 impl<A: Allocator> StringSet<A> {
@@ -46,6 +48,9 @@ impl<A: Allocator> StringSet<A> {
         ensures less { budget.new.left ≤ budget.old.left }
         ensures cost { budget.old.left ≤ budget.new.left + work (strings_of self.now) }
     {
+        if self.short_at(bytes, place) > 0 {
+            return Look::Stands;
+        }
         let key = last_key_at(self.factor, bytes, place);
         let mut link = self.chains.first[key / SHARE];
         while link > 0 {
@@ -60,22 +65,72 @@ impl<A: Allocator> StringSet<A> {
         Look::NoneStands
     }
 
-    /// Whether some string may stand at a place.
+    /// Whether some string of three bytes or more may stand at a place.
     #[inline(always)]
     fn is_flagged(&self, bytes: &[u8], place: usize) -> bool
         requires { place + 8 ≤ length bytes.now }
-        ensures { result ≡ false → ¬ SomeStands (strings_of self.now) bytes.now place }
+        ensures { result ≡ false → ¬ SomeLongStands (strings_of self.now) bytes.now place }
     {
         self.flags[key_at(self.factor, bytes, place)]
     }
 
+    /// Whether some string may stand at a place, where some strings are short.
+    #[inline(always)]
+    fn may_stand(&self, short: &ShortStrings<A>, bytes: &[u8], place: usize) -> bool
+        requires tables { AreTables short.now.singles.items short.now.pairs.items (strings_of self.now) }
+        requires place { place + 8 ≤ length bytes.now }
+        ensures { result ≡ false → ¬ SomeStands (strings_of self.now) bytes.now place }
+    {
+        self.is_flagged(bytes, place) | short.stands_at(bytes, place)
+    }
+
     /// The first place at or behind one at which some string may stand.
-    #[inline(never)]
+    #[inline(always)]
     fn skip(&self, bytes: &[u8], from: usize) -> usize
         requires { from ≤ length bytes.now }
         ensures low { from ≤ result }
         ensures high { result ≤ length bytes.now }
         ensures none { Nowhere (SomeStands (strings_of self.now) bytes.now) from result }
+    {
+        match &self.short {
+            Some(short) => self.skip_all(short, bytes, from),
+            None => self.skip_long(bytes, from),
+        }
+    }
+
+    /// The first place at or behind one at which some string may stand, where some strings are short.
+    #[inline(never)]
+    fn skip_all(&self, short: &ShortStrings<A>, bytes: &[u8], from: usize) -> usize
+        requires tables { AreTables short.now.singles.items short.now.pairs.items (strings_of self.now) }
+        requires from { from ≤ length bytes.now }
+        ensures low { from ≤ result }
+        ensures high { result ≤ length bytes.now }
+        ensures none { Nowhere (SomeStands (strings_of self.now) bytes.now) from result }
+    {
+        let mut place = from;
+        while bytes.len() - place >= 11 {
+            let one = self.may_stand(short, bytes, place);
+            let two = self.may_stand(short, bytes, place + 1);
+            let three = self.may_stand(short, bytes, place + 2);
+            let four = self.may_stand(short, bytes, place + 3);
+            if one | two | three | four {
+                break;
+            }
+            place += 4;
+        }
+        while bytes.len() - place >= 8 && !self.may_stand(short, bytes, place) {
+            place += 1;
+        }
+        place
+    }
+
+    /// The first place at or behind one at which some string of three bytes or more may stand.
+    #[inline(never)]
+    fn skip_long(&self, bytes: &[u8], from: usize) -> usize
+        requires { from ≤ length bytes.now }
+        ensures low { from ≤ result }
+        ensures high { result ≤ length bytes.now }
+        ensures none { Nowhere (SomeLongStands (strings_of self.now) bytes.now) from result }
     {
         let mut place = from;
         while bytes.len() - place >= 11 {

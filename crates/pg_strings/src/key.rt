@@ -30,8 +30,9 @@ pub(crate) fn factor_of(width: usize) -> u64
 }
 
 /// Eight bytes as a number.
-#[inline(always)]
-fn window(bytes: &[u8], at: usize) -> u64
+// With `inline(always)` callers that ask for its first bytes too would read the bytes one by one.
+#[inline]
+pub(crate) fn window(bytes: &[u8], at: usize) -> u64
     requires { at + 8 ≤ length bytes.now }
     ensures { result ≡ from_le_bytes w64 (drop at bytes.now) }
 {

@@ -2,6 +2,7 @@
 ghost use Rattle.std.specs.Prelude.{◌≡◌, ◌<◌, ◌≤◌, ◌↔◌, length, IsTrue, Contains};
 ghost use Rattle.memchr.specs.Find.{OccursAt};
 ghost use Rattle.pg_strings.specs.Outcomes.{strings_of, IsLongestAt};
+ghost use Rattle.pg_strings.specs.Short.{IsLongestShort};
 
 use crate::compare::stands;
 use crate::key::{SHARE, last_key_at};
@@ -24,14 +25,26 @@ fn longer(longest: usize, string: &[u8], bytes: &[u8], place: usize) -> usize
 }
 
 impl<A: Allocator> StringSet<A> {
+    /// The length of the longest string of one or two bytes that stands at a place, or 0 where none stands.
+    #[inline(always)]
+    pub(crate) fn short_at(&self, bytes: &[u8], place: usize) -> usize
+        requires { place ≤ length bytes.now }
+        ensures { IsLongestShort (strings_of self.now) bytes.now place result }
+    {
+        match &self.short {
+            Some(short) => short.longest_at(bytes, place),
+            None => 0,
+        }
+    }
+
     /// The length of the longest string that stands at a place, if any does.
     pub fn longest_at(&self, bytes: &[u8], place: usize) -> Option<usize>
         requires { place ≤ length bytes.now }
         ensures { IsLongestAt (strings_of self.now) bytes.now place result }
     {
+        let mut longest = self.short_at(bytes, place);
         let key = last_key_at(self.factor, bytes, place);
         let mut link = self.chains.first[key / SHARE];
-        let mut longest = 0;
         while link > 0 {
             longest = longer(longest, &self.strings[link - 1], bytes, place);
             link = self.chains.next[link - 1];

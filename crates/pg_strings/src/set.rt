@@ -1,21 +1,26 @@
 //! Many strings, prepared to be looked for together.
 ghost use Rattle.std.specs.Prelude.{◌≡◌, length, map};
 ghost use Rattle.pg_strings.specs.Keys.{AreChains, AreFlagged, AreLong, Weighs, home, items_of};
+ghost use Rattle.pg_strings.specs.Short.{KnowsShort};
 
 use crate::chains::Chains;
+use crate::short::ShortStrings;
 use std::alloc::{Allocator, Global};
 
 /// Strings, none of them empty, prepared so that the first place is found at which one stands.
 #[derive(Drop)]
 pub struct StringSet<A: Allocator = Global> {
     pub(crate) strings: Vec<Vec<u8, A>, A>,
-    /// How many bytes of each string its key depends on.
+    /// Those of one and two bytes, if there are any.
+    pub(crate) short: Option<ShortStrings<A>>,
+    /// How many bytes of a string its key depends on, of which each string of three bytes or more has as many.
     pub(crate) width: usize,
     /// What windows are multiplied by.
     pub(crate) factor: u64,
     /// For each key whether it is a string's.
     pub(crate) flags: Vec<bool, A>,
     pub(crate) chains: Chains<A>,
+    ghost knows_short: { KnowsShort short (map items_of strings.items) },
     ghost weighs: { Weighs factor width },
     ghost long: { AreLong width (map items_of strings.items) },
     ghost keys: { length flags.items ≡ 131072 },

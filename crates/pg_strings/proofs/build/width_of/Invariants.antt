@@ -6,5 +6,6 @@ abbrev pub invariant-loop-string : goal.invariant-loop-string
 invariant-loop-string g l = record {
   some : 1 ≤ l.width;
   most : l.width ≤ 8;
-  long : (k : ℕ) (d : Vec ℕ g.row.A.Denot) → k < l.string-index → l.width ≤ length (get_or l.strings k d).items;
+  long : (k : ℕ) (d : Vec ℕ g.row.A.Denot) → k < l.string-index → 3 ≤ length (get_or l.strings k d).items
+      → l.width ≤ length (get_or l.strings k d).items;
 }

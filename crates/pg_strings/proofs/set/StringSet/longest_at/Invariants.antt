@@ -1,5 +1,5 @@
 use Rattle.std.proofs.Common.{◌≡◌, ◌<◌, ◌≤◌, ◌/◌, length, map}
-use Rattle.std.specs.List.{Any}
+use Rattle.std.specs.List.{All, Any}
 use Rattle.memchr.specs.Find.{OccursAt}
 use Rattle.pg_strings.specs.Keys.{items_of}
 use Rattle.pg_strings.proofs.WalkLemmas.{IsWalked}
@@ -11,6 +11,8 @@ invariant-loop-link g l = record {
   walked : IsWalked (λ string. OccursAt l.bytes string l.place → length string ≤ l.longest) l.self.factor
       (map items_of l.self.strings.items) l.link (l.key / 16);
   stands : 0 < l.longest → Any (λ string. OccursAt l.bytes string l.place × (length string ≡ l.longest))
+      (map items_of l.self.strings.items);
+  short : All (λ string. OccursAt l.bytes string l.place → length string ≤ 2 → length string ≤ l.longest)
       (map items_of l.self.strings.items);
 }
 

@@ -6,6 +6,7 @@ use Rattle.pg_strings.specs.Keys.{items_of}
 use Rattle.pg_strings.proofs.WalkLemmas.{IsWalked, walk_first, walk_next, walk_ends, link_falls}
 use Rattle.pg_strings.proofs.WalkLemmas.{spent_more, spent_all}
 use Rattle.pg_strings.proofs.PlaceLemmas.{stands, string_at}
+use Rattle.pg_strings.proofs.ShortLemmas.{none_stands, short_stands}
 use Rattle.pg_strings.proofs.set.StringSet.look_at.Goals as goal
 
 pub loop-link-init : goal.loop-link-init
@@ -107,5 +108,13 @@ returns-clause-look g c =
     let test = c.loop-link-test.false in
     let end : c.loop-link.link ≡ 0 = omega (arith, test) in
     let walked = subst (λ link. IsWalked P set.factor strings link h) end c.loop-link.invariant.walked in
-    λ some. walk_ends P set.factor set.width strings c.args.bytes.now c.args.place h set.weighs set.long
-    (ap (λ k. k / 16) c.last_key_at-key.ensures.value) walked some.0 some.1 some.2 some.3 some.4 some.4
+    let test' = c.if-short_at-gt0.false in
+    none_stands set.width strings c.args.bytes.now c.args.place c.short_at.result set.long c.short_at.ensures
+    (omega (arith, test'))
+    (λ some. walk_ends P set.factor set.width strings c.args.bytes.now c.args.place h set.weighs set.long
+    (ap (λ k. k / 16) c.last_key_at-key.ensures.value) walked some.0 some.1 some.2 some.3 some.4.0 some.4.1 some.4.1)
+
+pub returns-then-short_at-gt0-clause-look : goal.returns-then-short_at-gt0-clause-look
+returns-then-short_at-gt0-clause-look g c =
+    short_stands (map items_of c.args.self.now.strings.items) c.args.bytes.now c.args.place c.short_at.result
+    c.short_at.ensures c.if-short_at-gt0.true

@@ -2,7 +2,7 @@ use Rattle.std.proofs.Common.{◌≤◌, length, ◌-◌, map}
 use Rattle.memchr.specs.Find.{Nowhere}
 use Rattle.pg_strings.specs.Keys.{items_of}
 use Rattle.pg_strings.specs.Sets.{SomeStands}
-use Rattle.pg_strings.proofs.set.StringSet.skip.Given as goal
+use Rattle.pg_strings.proofs.set.StringSet.skip_all.Given as goal
 
 abbrev pub invariant-loop-place : goal.invariant-loop-place
 invariant-loop-place g l = record {

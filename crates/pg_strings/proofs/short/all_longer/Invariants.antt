@@ -1,0 +1,7 @@
+use Rattle.std.proofs.Common.{ℕ, ◌≤◌, ◌<◌, length, get_or}
+use Rattle.std.proofs.Common.{Vec}
+use Rattle.pg_strings.proofs.short.all_longer.Given as goal
+
+abbrev pub invariant-loop-string : goal.invariant-loop-string
+invariant-loop-string g l =
+    (k : ℕ) (d : Vec ℕ g.row.A.Denot) → k < l.string-index → 3 ≤ length (get_or l.strings k d).items
