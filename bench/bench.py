@@ -136,7 +136,11 @@ def cases(folder, megabytes):
         yield Case(["-F", options, "-f", "aab"], "ends", ["-F", options, "-f", "aab"])
     write(folder / "alphabet", "".join(f"{letter}\n" for letter in texts.LETTERS).encode())
     write(folder / "mixed", "\n".join(["e", "th", "in", *texts.known(words, 400)]).encode() + b"\n")
-    for name, options in (("alphabet", "-cw"), ("alphabet", "-o"), ("mixed", "-c"), ("mixed", "-o"), ("mixed", "-cw")):
+    write(folder / "short", "\n".join(["of", "to", "in", "is", "it", *texts.known(words, 2000)]).encode() + b"\n")
+    write(folder / "alike", "\n".join(texts.alike(words, 300)).encode() + b"\n")
+    hard = [("alphabet", "-cw"), ("alphabet", "-o")]
+    hard += [(name, options) for name in ("mixed", "short", "alike") for options in ("-c", "-o", "-cw")]
+    for name, options in hard:
         yield Case(["-F", options, "-f", name], "prose", ["-F", options, "-f", name])
     write(folder / "letters", b"a" * 20_000 + b"\n")
     yield from split("-oE a*b|a", "letters")

@@ -52,6 +52,11 @@ def known(words, count):
     return words[3 :: len(words) // count][:count]
 
 
+def alike(words, count):
+    """So many strings that begin as the most frequent word does, and stand nowhere."""
+    return [words[0][:3] + word[-4:] + "Z" for word in words[:count]]
+
+
 def log(megabytes):
     """Lines of a web server's log, with addresses, methods and identifiers."""
     chance, lines, size = random.Random(5), [], 0
