@@ -27,6 +27,7 @@ longest q;qq;qqq qqqqq => 3 3 3 2 1 -
 first a;abcdefgh;xy zzabcdefghxyz => 2 2 2 10 10 10 10 10 10 10 10 - - -
 longest a;abcdefgh;xy zzabcdefghxyz => - - 8 - - - - - - - 2 - - -
 first yx;q;abcd xyzzzzzzzzyxq => 10 10 10 10 10 10 10 10 10 10 10 12 12 -
+first yx;q;abcd xyzzyxzzzzzzzzzzq => 4 4 4 4 4 16 16 16 16 16 16 16 16 16 16 16 16 -
 longest yx;q;abcd xyzzzzzzzzyxq => - - - - - - - - - - 2 - 1 -
 longest a;ab;abc;abcd abcdabca => 4 - - - 3 - - 1 -
 first xq;abc abcx => 0 - - - -
