@@ -5,10 +5,10 @@ stays open, and looks up the wrong bodies that it doesn't try. It closes with 'N
 
 Usage: tests/gate.py [RT]
 
-`rt ci` runs on a copy of the repository without its wrong bodies, since it would try them one after another; they are
-tried beside it by tests/refuse.py, several at once, each of which has to be refused by a message of its own. Each takes
-half of the processors, or of RT_JOBS. The rows and the runs take the program that `rt ci` has built just now, also
-where it has failed.
+`rt ci` runs on a copy of the repository without its wrong bodies but the program's, since it would try them one after
+another; they are tried beside it by tests/refuse.py, several at once, each of which has to be refused by a message of
+its own. Each takes half of the processors, or of RT_JOBS. The rows and the runs take the program that `rt ci` has built
+just now, also where it has failed.
 """
 
 import os
@@ -21,6 +21,8 @@ import sys
 import tempfile
 import time
 from pathlib import Path
+
+from refuse import is_program
 
 HERE = Path(__file__).resolve().parent
 ROOT = HERE.parent
@@ -95,9 +97,11 @@ def figures_of(name, script, *words):
 
 
 def copied(folder):
-    """Copies the repository without what was made of it, and without its wrong bodies."""
-    left_out = shutil.ignore_patterns(".git", "out", "dist", "must-fail", "__pycache__")
-    shutil.copytree(ROOT, folder, ignore=left_out)
+    """Copies the repository without what was made of it, and without the wrong bodies that tests/refuse.py tries."""
+    shutil.copytree(ROOT, folder, ignore=shutil.ignore_patterns(".git", "out", "dist", "__pycache__"))
+    for wrong_bodies in folder.glob("crates/*/must-fail"):
+        if not is_program(wrong_bodies.parent):
+            shutil.rmtree(wrong_bodies)
     return folder
 
 
