@@ -45,9 +45,9 @@ def say(text):
     print(text, flush=True)
 
 
-def started(command, folder=ROOT, jobs=0, **how):
-    """Starts a command in a folder, with so many jobs if a number is given; None where it can't be started."""
-    environment = {**os.environ, "RT_JOBS": str(jobs)} if jobs else None
+def started(command, folder=ROOT, more=None, **how):
+    """Starts a command in a folder, with more in its environment; None where it can't be started."""
+    environment = {**os.environ, **(more or {})}
     try:
         return subprocess.Popen(
             command, cwd=folder, env=environment, stdin=subprocess.DEVNULL, stderr=subprocess.STDOUT, **how
@@ -112,9 +112,11 @@ def proved(rt, room, jobs):
     beside = max(1, jobs // 2)
     with tempfile.TemporaryFile() as told:
         trying = [sys.executable, str(HERE / "refuse.py"), "--gate", "--jobs", str(beside)]
-        refusing = started(trying, jobs=1, stdout=told)
+        # What it copies goes with the room, however it ends.
+        refusing = started(trying, more={"TMPDIR": room}, stdout=told)
         try:
-            ci = figures("rt ci", *followed(started([rt, "ci"], copy, max(1, jobs - beside), stdout=subprocess.PIPE)))
+            lanes = {"RT_JOBS": str(max(1, jobs - beside))}
+            ci = figures("rt ci", *followed(started([rt, "ci"], copy, lanes, stdout=subprocess.PIPE)))
             status = refusing.wait() if refusing else 127
         finally:
             if refusing and refusing.poll() is None:

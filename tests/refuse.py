@@ -479,8 +479,7 @@ class Run:
 
     def checked(self, crate, edits, is_whole):
         """What a check of the crate with the edits says."""
-        with self.lanes.lane((1, 0)):
-            said = try_edits(crate, edits, is_whole)
+        said = try_edits(crate, edits, is_whole)
         with self.printing:
             self.keep(crate, edits, said)
             self.spent[crate.name] = [*self.spent.get(crate.name, []), said.seconds]
@@ -492,9 +491,11 @@ class Run:
             self.say(f"{crate.name}: {len(edits)} edits NOT TRIED, for it isn't proved")
             return 0
         refused = 0
-        for edit, well, text in try_crate(crate, edits, self.checked):
-            self.say(f"{edit.label()}: {text}")
-            refused += well
+        # The copy in which they are tried takes up to some 3 GB, so there are no more of them than lanes.
+        with self.lanes.lane((1, 0)):
+            for edit, well, text in try_crate(crate, edits, self.checked):
+                self.say(f"{edit.label()}: {text}")
+                refused += well
         spent = self.spent.get(crate.name, [])
         self.say(f"{crate.name}: {len(edits)} edits in {len(spent)} checks, {sum(spent):.0f} processor seconds")
         return refused
