@@ -24,9 +24,9 @@ all: toolchain ## Prove the program and the crates that it uses, and build it.
 help: ## List the targets.
 	@sed -n 's/^\([a-z-]*\):.*## \(.*\)/\1\t\2/p' $(MAKEFILE_LIST) | expand -t 16
 
-# `rt ci` proves every crate from nothing, runs the tests and builds the program, while tests/refuse.py tries the wrong
-# bodies under crates/*/must-fail; then the command lines in tests/rows are run on the program. The last line counts all.
-# The further wrong bodies under crates/*/refused are looked up in the code.
+# `rt ci` proves every crate from nothing, runs the tests and builds the program, tests/refuse.py tries the wrong bodies
+# under crates/*/must-fail over what it has built, and then the command lines in tests/rows are run on the program. The
+# last line counts all. The further wrong bodies under crates/*/refused are looked up in the code.
 check: toolchain ## The gate: prove all from nothing, try the wrong bodies, run all tests and rows.
 	@$(PYTHON) tests/gate.py $(RT)
 

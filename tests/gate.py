@@ -5,10 +5,10 @@ stays open, and looks up the wrong bodies that it doesn't try. It closes with 'N
 
 Usage: tests/gate.py [RT]
 
-`rt ci` runs on a copy of the repository without its wrong bodies but the program's, since it would try them one after
-another; they are tried beside it by tests/refuse.py, several at once, each of which has to be refused by a message of
-its own. Each takes half of the processors, or of RT_JOBS. The rows and the runs take the program that `rt ci` has built
-just now, also where it has failed.
+`rt ci` runs on a copy of the repository without its wrong bodies, since it would prove each crate once more for them
+and try one after another. tests/refuse.py tries them over the libraries that `rt ci` has built, several at once, each
+of which has to be refused by a message of its own. The rows and the runs take the program that `rt ci` has built just
+now, also where it has failed.
 """
 
 import os
@@ -21,8 +21,6 @@ import sys
 import tempfile
 import time
 from pathlib import Path
-
-from refuse import is_program
 
 HERE = Path(__file__).resolve().parent
 ROOT = HERE.parent
@@ -45,13 +43,11 @@ def say(text):
     print(text, flush=True)
 
 
-def started(command, folder=ROOT, more=None, **how):
-    """Starts a command in a folder, with more in its environment; None where it can't be started."""
-    environment = {**os.environ, **(more or {})}
+def started(command, folder):
+    """Starts a command in a folder; None where it can't be started."""
+    told = {"stdout": subprocess.PIPE, "stderr": subprocess.STDOUT}
     try:
-        return subprocess.Popen(
-            command, cwd=folder, env=environment, stdin=subprocess.DEVNULL, stderr=subprocess.STDOUT, **how
-        )
+        return subprocess.Popen(command, cwd=folder, stdin=subprocess.DEVNULL, **told)
     except OSError as fault:
         say(f"gate: {command[0]} can't be started: {fault.strerror}")
         return None
@@ -92,43 +88,32 @@ def figures(name, status, last):
 
 def figures_of(name, script, *words):
     """What passed and failed in a script of this folder."""
-    command = [sys.executable, str(HERE / script), *words]
-    return figures(name, *followed(started(command, stdout=subprocess.PIPE)))
+    return figures(name, *followed(started([sys.executable, str(HERE / script), *words], ROOT)))
 
 
 def copied(folder):
-    """Copies the repository without what was made of it, and without the wrong bodies that tests/refuse.py tries."""
-    shutil.copytree(ROOT, folder, ignore=shutil.ignore_patterns(".git", "out", "dist", "__pycache__"))
-    for wrong_bodies in folder.glob("crates/*/must-fail"):
-        if not is_program(wrong_bodies.parent):
-            shutil.rmtree(wrong_bodies)
+    """Copies the repository without what was made of it, and without its wrong bodies."""
+    left_out = shutil.ignore_patterns(".git", "out", "dist", "__pycache__", "must-fail", "refused")
+    shutil.copytree(ROOT, folder, ignore=left_out)
     return folder
 
 
 def proved(rt, room, jobs):
-    """Has all proved from nothing and the tests run, and each wrong body tried beside that; answers what passed and
+    """Has all proved from nothing and the tests run, and then each wrong body tried over that; answers what passed and
     failed in both."""
     copy = copied(Path(room) / "pargrep")
-    beside = max(1, jobs // 2)
-    with tempfile.TemporaryFile() as told:
-        trying = [sys.executable, str(HERE / "refuse.py"), "--gate", "--jobs", str(beside)]
-        # What it copies goes with the room, however it ends.
-        refusing = started(trying, more={"TMPDIR": room}, stdout=told)
-        try:
-            lanes = {"RT_JOBS": str(max(1, jobs - beside))}
-            ci = figures("rt ci", *followed(started([rt, "ci"], copy, lanes, stdout=subprocess.PIPE)))
-            status = refusing.wait() if refusing else 127
-        finally:
-            if refusing and refusing.poll() is None:
-                refusing.terminate()
-                refusing.wait()
-        told.seek(0)
-        lines = told.read().decode(errors="replace").rstrip().split("\n")
-    say("\n".join(lines))
+    os.environ["RT_JOBS"] = str(jobs)
+    ci = figures("rt ci", *followed(started([rt, "ci"], copy)))
     (ROOT / PROGRAM).parent.mkdir(exist_ok=True)
     if (copy / PROGRAM).is_file():
         shutil.copy(copy / PROGRAM, ROOT / PROGRAM)
-    return [("rt ci", ci), ("the wrong bodies", figures("the wrong bodies", status, lines[-1]))]
+    if ci[1]:
+        say("gate: the wrong bodies are not tried, for rt ci has failed")
+        return [("rt ci", ci), ("the wrong bodies", (0, 1))]
+    # What it copies goes with the room, however it ends.
+    os.environ["TMPDIR"] = room
+    words = ["--gate", "--jobs", str(jobs), "--over", str(copy)]
+    return [("rt ci", ci), ("the wrong bodies", figures_of("the wrong bodies", "refuse.py", *words))]
 
 
 def free_memory():
@@ -172,6 +157,7 @@ def main():
     keep_memory()
     with tempfile.TemporaryDirectory(prefix="gate-") as room:
         ran = proved(rt, room, jobs_at_once())
+        os.environ.pop("TMPDIR", None)
     ran += [(what, figures_of(what, script)) for what, script in SCRIPTS]
     looked_up = figures_of("the further wrong bodies", "refuse.py", "--read")
     for what, (passed, failed) in [*ran, ("the further wrong bodies, looked up", looked_up)]:

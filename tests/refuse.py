@@ -4,26 +4,26 @@
 An edit, `crates/CRATE/must-fail/NAME.edit` or `crates/CRATE/refused/NAME.edit`, turns a function into a wrong one, in
 the toolchain's own format for such edits. It may mend the proof of that function too, so that what refuses it is a
 promise, and not that an answer names what the function has no more. The edits of a crate that touch different functions
-are applied at once to a copy of the crate, of which these functions are checked, over what earlier checks of it proved.
-Callers of a wrong function see its contract alone, so each wrong function must be refused by a message of its own: an
-open goal on one of its lines, or an answer of its proof that doesn't fit its goal. A proof that only misses a name
-refuses nothing. An edit that touches anything but bodies is in no group with others. For one without a refusal of its
-own the whole crate is checked, and any open goal counts.
+are applied at once to a copy of the crate, of which these functions alone are checked. Callers of a wrong function see
+its contract alone, so each wrong function must be refused by a message of its own: an open goal on one of its lines, or
+an answer of its proof that doesn't fit its goal. A proof that only misses a name refuses nothing. An edit that touches
+anything but bodies is in no group with others. For one without a refusal of its own the whole crate is checked, and any
+open goal counts.
 
 A NAME is a crate or an edit, `late-double-taken` or `pg_seq/late-double-taken`; none: all. Those of `refused/` are
-tried, with --gate those of `must-fail/` of all crates but programs, and with --all both. `rt ci` tries a program's in
-less time, for it has only the statements of the libraries loaded. So many checks run at once as --jobs says, one without
-it. With --keep what each check said is kept in FOLDER. The command of the toolchain is `rt`, or what RT names. The
-crates, and those that they are built over, are proved first where they weren't yet; no other check of them may run
-meanwhile. The last line is `N passed, M failed`; the status is 0 only where M is 0 and N is not.
+tried, with --gate those of `must-fail/`, and with --all both. So many checks run at once as --jobs says, one without
+it. With --keep what each check said is kept in FOLDER. The command of the toolchain is `rt`, or what RT names.
+
+The edits are checked over the libraries that `rt ci` has built, which hold statements and no proofs. They are those of
+the folder that --over names, a copy of the repository in which `rt ci` has passed; without it `rt ci` is run on a copy
+of the crates that are wanted and of those below them. So the functions are known to be proved as they are. The last
+line is `N passed, M failed`; the status is 0 only where M is 0 and N is not.
 
 With --read nothing is checked: each edit is only looked up in the code, which tells those that a change has made stale.
 """
 
 import argparse
 import contextlib
-import heapq
-import itertools
 import os
 import pathlib
 import re
@@ -36,7 +36,11 @@ import threading
 from concurrent.futures import ThreadPoolExecutor
 from dataclasses import dataclass, field
 
-ROOT = pathlib.Path(__file__).resolve().parent.parent
+sys.path.append(str(pathlib.Path(__file__).resolve().parent.parent / "tools"))
+
+from crates import ROOT, copy_crates, read_crates  # noqa: E402
+
+RT = os.environ.get("RT", "rt")
 PARTS = ["src", "specs", "proofs"]
 # What a check says of a goal of a contract, or of a type's invariant, that stays open.
 OPEN_GOAL = re.compile(r"it is not proved that |`search` found no proof ")
@@ -225,69 +229,6 @@ def groups_of(edits, folder):
     return groups
 
 
-@dataclass
-class Crate:
-    """A crate: the repository's crates that it is built over, lowest first, and the copy in which it is checked."""
-
-    name: str
-    below: list
-    room: pathlib.Path = None
-
-    def folder(self):
-        return ROOT / "crates" / self.name
-
-    def copy(self):
-        return self.room / "crates" / self.name
-
-
-def read_crates():
-    """The crates of crates.txt with the crates of the repository that each is built over."""
-    deps = {}
-    for line in (ROOT / "crates.txt").read_text(encoding="utf-8").split("\n"):
-        head, colon, rest = line.partition("#")[0].partition(":")
-        if colon:
-            deps[head.split()[0]] = rest.split()
-    return {name: Crate(name, crates_below(name, deps)) for name in deps}
-
-
-def is_program(folder):
-    """Whether the crate in a folder is a program."""
-    return (folder / "src/main.rt").is_file()
-
-
-def crates_below(name, deps):
-    found = []
-    for dep in filter(deps.__contains__, deps[name]):
-        found += [it for it in [*crates_below(dep, deps), dep] if it not in found]
-    return found
-
-
-class Lanes:
-    """Lets so many checks run at once. Of those that wait the one with the least rank is next."""
-
-    def __init__(self, count):
-        self.free = count
-        self.waiting = []
-        self.numbers = itertools.count()
-        self.changed = threading.Condition()
-
-    @contextlib.contextmanager
-    def lane(self, rank):
-        ticket = (rank, next(self.numbers))
-        with self.changed:
-            heapq.heappush(self.waiting, ticket)
-            self.changed.wait_for(lambda: self.free and self.waiting[0] == ticket)
-            heapq.heappop(self.waiting)
-            self.free -= 1
-            self.changed.notify_all()
-        try:
-            yield
-        finally:
-            with self.changed:
-                self.free += 1
-                self.changed.notify_all()
-
-
 @dataclass(frozen=True)
 class Ended:
     """How a command ended: its status, what it wrote, and the processor seconds that it took."""
@@ -297,10 +238,8 @@ class Ended:
     seconds: float
 
 
-def toolchain(folder, *words):
-    """Runs a command of the toolchain on the crate in a folder, over what it keeps there. One job takes the least
-    processor time."""
-    command = [os.environ.get("RT", "rt"), *words, "--jobs", "1"]
+def ended(command, folder):
+    """Runs a command in a folder."""
     with tempfile.TemporaryFile() as told:
         process = subprocess.Popen(command, cwd=folder, stdin=subprocess.DEVNULL, stdout=told, stderr=subprocess.STDOUT)
         _, status, used = os.wait4(process.pid, 0)
@@ -309,31 +248,58 @@ def toolchain(folder, *words):
         return Ended(process.returncode, told.read().decode(errors="replace"), used.ru_utime + used.ru_stime)
 
 
-def copy_repository(crate, room):
-    """Copies the crate with its kept proofs and the crates below it, as built, into a folder of their own."""
-    crate.room = pathlib.Path(room)
-    for name in ["crates.txt", "HANDLES"]:
-        if (ROOT / name).is_file():
-            shutil.copy(ROOT / name, crate.room)
-    for folder in (ROOT / "crates").iterdir():
-        parts = [*PARTS, "out/rlib"] if folder.name in crate.below else PARTS
-        for part in parts:
-            if (folder / part).is_dir():
-                shutil.copytree(folder / part, crate.room / "crates" / folder.name / part)
+class Prover:
+    """The toolchain's prover, over the libraries of the repository that `rt ci` has built in a folder."""
+
+    def __init__(self, over):
+        self.over = over
+        # Its first page stands at the top of the toolchain's folder.
+        page = subprocess.run([RT, "doc"], stdout=subprocess.PIPE, check=True).stdout.decode().strip()
+        self.home = pathlib.Path(page).parent
+
+    def library(self, name):
+        return self.over / "crates" / name / "out/rlib" / f"{name}.rlib"
+
+    def words(self, crate):
+        """The command that checks a crate. One job takes the least processor time."""
+        words = [f"{self.home}/bin/rattle", "check", "--crate-name", crate.name, crate.root()]
+        for name in ["std", *crate.of_toolchain]:
+            words += ["--extern", f"{name}={self.home}/rlibs/{name}.rlib"]
+        for name in crate.uses:
+            words += ["--extern", f"{name}={self.library(name)}"]
+        for folder in [self.home / "rlibs", *[self.library(it).parent for it in crate.below]]:
+            words += ["-L", f"dependency={folder}"]
+        words += ["--antt-project", f"{self.home}/rattle/logic/antt-project.json"]
+        return [*words, "--logic-built", f"{self.home}/logic_built", "--jobs", "1"]
+
+    def check(self, crate, room, edits, is_whole):
+        """Checks a fresh copy of the crate with the edits: the functions that they turn alone, or the whole crate. What
+        was proved in the room before isn't proved again."""
+        texts, _ = applied([pair for it in edits for pair in it.pairs], {}, crate.folder())
+        for part in PARTS:
+            shutil.rmtree(room / part, ignore_errors=True)
+            if (crate.folder() / part).is_dir():
+                shutil.copytree(crate.folder() / part, room / part)
+        for file, text in texts.items():
+            (room / file).write_text(text, encoding="utf-8")
+        (room / "kept").mkdir(exist_ok=True)
+        turned = [] if is_whole else [f"--only={it.shown()}" for edit in edits for it in edit.functions]
+        return Said(ended([*self.words(crate), "--incremental", "kept", *turned], room))
 
 
-def try_edits(crate, edits, is_whole):
-    """Checks a fresh copy of the crate with the edits, over the proofs that the crate has: the functions that they turn
-    alone, or the whole crate."""
-    texts, _ = applied([pair for it in edits for pair in it.pairs], {}, crate.folder())
-    for part in ["src", "proofs", "out"]:
-        shutil.rmtree(crate.copy() / part, ignore_errors=True)
-        if (crate.folder() / part).is_dir():
-            shutil.copytree(crate.folder() / part, crate.copy() / part)
-    for file, text in texts.items():
-        (crate.copy() / file).write_text(text, encoding="utf-8")
-    turned = [] if is_whole else [f"--only={it.shown()}" for edit in edits for it in edit.functions]
-    return Said(toolchain(crate.copy(), "check", *turned))
+@contextlib.contextmanager
+def built(crates, wanted, jobs):
+    """Gives a folder in which `rt ci` has proved and built the wanted crates and those below them, for as long as it is
+    used."""
+    needed = {it for name in wanted for it in [name, *crates[name].below]}
+    with tempfile.TemporaryDirectory(prefix="refuse-") as room:
+        over = pathlib.Path(room)
+        copy_crates(needed, over)
+        os.environ["RT_JOBS"] = str(jobs)
+        ci = ended([RT, "ci"], over)
+        if ci.status:
+            sys.exit(f"{ci.output}refuse: the crates themselves aren't proved: what rt ci said stands above")
+        yield over
 
 
 @dataclass(frozen=True)
@@ -419,20 +385,20 @@ def verdict_alone(said):
     return True, f"refused: {found.shown()}"
 
 
-def try_group(crate, group, checked):
+def try_group(group, checked):
     """Tries a group, and alone each edit without a refusal of its own; yields each edit with its verdict."""
-    said = checked(crate, group, False) if all(it.functions for it in group) else None
+    said = checked(group, False) if all(it.functions for it in group) else None
     for edit in group:
         found = said.refusal(edit.functions) if said and said.has_verdict else None
         if found:
             yield edit, True, f"refused: {found.shown()}"
             continue
-        well, text = verdict_alone(checked(crate, [edit], True))
+        well, text = verdict_alone(checked([edit], True))
         yield edit, well, f"{text} (the whole crate was checked)"
 
 
 def try_crate(crate, edits, checked):
-    """Tries the edits of a proved crate; yields each with whether it was refused, and what to print of it."""
+    """Tries the edits of a crate; yields each with whether it was refused, and what to print of it."""
     good = []
     for edit in edits:
         try:
@@ -440,76 +406,47 @@ def try_crate(crate, edits, checked):
             good.append(edit)
         except (BadEdit, OSError, UnicodeDecodeError) as error:
             yield edit, False, f"BAD EDIT: {error}"
-    with tempfile.TemporaryDirectory(prefix="refuse-") as room:
-        copy_repository(crate, room)
-        for group in groups_of(good, crate.folder()):
-            yield from try_group(crate, group, checked)
+    for group in groups_of(good, crate.folder()):
+        yield from try_group(group, checked)
 
 
 class Run:
-    """A run over the edits of some crates: each crate is proved once those below it are, and then its edits are tried,
-    as many checks at once as there are lanes."""
+    """A run over the edits of some crates: those of one crate are tried one group after another, over what the groups
+    before have proved of it."""
 
-    def __init__(self, crates, wanted, jobs, keep):
+    def __init__(self, crates, prover, keep):
         self.crates = crates
-        self.wanted = wanted
+        self.prover = prover
         self.keep = keep
-        self.lanes = Lanes(jobs)
         self.printing = threading.Lock()
-        self.proofs = {}
-        # The processor seconds of each check, by crate.
-        self.spent = {}
 
     def say(self, text):
         with self.printing:
             print(text, flush=True)
 
-    def prove(self, crate):
-        """Proves a crate once those below it are proved, and answers whether it is."""
-        if not all(self.proofs[it].result() for it in crate.below):
-            return False
-        above = sum(crate.name in it.below for it in self.crates.values())
-        with self.lanes.lane((0, -above)):
-            ended = toolchain(crate.folder(), "check" if is_program(crate.folder()) else "lib")
-        if ended.status:
-            self.say(f"{ended.output}refuse: {crate.name} itself isn't proved: what the check said stands above")
-        else:
-            self.say(f"{crate.name}: proved, {ended.seconds:.0f} processor seconds")
-        return ended.status == 0
+    def tried(self, name, edits):
+        """Tries the edits of a crate, and answers how many were refused."""
+        crate, spent, refused = self.crates[name], [], 0
+        with tempfile.TemporaryDirectory(prefix="refuse-") as room:
 
-    def checked(self, crate, edits, is_whole):
-        """What a check of the crate with the edits says."""
-        said = try_edits(crate, edits, is_whole)
-        with self.printing:
-            self.keep(crate, edits, said)
-            self.spent[crate.name] = [*self.spent.get(crate.name, []), said.seconds]
-        return said
+            def checked(group, is_whole):
+                said = self.prover.check(crate, pathlib.Path(room), group, is_whole)
+                with self.printing:
+                    self.keep(crate, group, said)
+                spent.append(said.seconds)
+                return said
 
-    def tried(self, crate, edits):
-        """Tries the edits of a crate once it is proved, and answers how many were refused."""
-        if not self.proofs[crate.name].result():
-            self.say(f"{crate.name}: {len(edits)} edits NOT TRIED, for it isn't proved")
-            return 0
-        refused = 0
-        # The copy in which they are tried takes up to some 3 GB, so there are no more of them than lanes.
-        with self.lanes.lane((1, 0)):
-            for edit, well, text in try_crate(crate, edits, self.checked):
+            for edit, well, text in try_crate(crate, edits, checked):
                 self.say(f"{edit.label()}: {text}")
                 refused += well
-        spent = self.spent.get(crate.name, [])
-        self.say(f"{crate.name}: {len(edits)} edits in {len(spent)} checks, {sum(spent):.0f} processor seconds")
+        self.say(f"{name}: {len(edits)} edits in {len(spent)} checks, {sum(spent):.0f} processor seconds")
         return refused
 
-    def all_tried(self):
-        """Tries all edits, and answers how many were refused."""
-        needed = {it for name in self.wanted for it in [*self.crates[name].below, name]}
-        order = sorted(needed, key=lambda name: len(self.crates[name].below))
-        # A thread for each task, of which most wait for others: the lanes say how many checks run.
-        with ThreadPoolExecutor(len(order) + len(self.wanted)) as pool:
-            for name in order:
-                self.proofs[name] = pool.submit(self.prove, self.crates[name])
-            tried = [pool.submit(self.tried, self.crates[name], edits) for name, edits in self.wanted.items()]
-            return sum(it.result() for it in tried)
+    def all_tried(self, wanted, jobs):
+        """Tries all edits, so many checks at once, and answers how many were refused."""
+        with ThreadPoolExecutor(jobs) as pool:
+            most_first = sorted(wanted.items(), key=lambda it: -len(it[1]))
+            return sum(it.result() for it in [pool.submit(self.tried, *it) for it in most_first])
 
 
 def wanted_edits(names, folders):
@@ -566,9 +503,10 @@ def keeper(folder):
 def main():
     reader = argparse.ArgumentParser(description=__doc__, formatter_class=argparse.RawDescriptionHelpFormatter)
     which = reader.add_mutually_exclusive_group()
-    which.add_argument("--gate", action="store_true", help="the edits of must-fail/, but not those of programs")
+    which.add_argument("--gate", action="store_true", help="the edits of must-fail/")
     which.add_argument("--all", action="store_true", help="the edits of must-fail/ too")
     reader.add_argument("--jobs", type=int, default=1, metavar="N", help="so many checks at once")
+    reader.add_argument("--over", type=pathlib.Path, metavar="FOLDER", help="where `rt ci` has passed")
     reader.add_argument("--keep", metavar="FOLDER", help="keeps what each check said in FOLDER")
     reader.add_argument("--read", action="store_true", help="only looks the edits up in the code")
     reader.add_argument("names", nargs="*", metavar="NAME", help="a crate or an edit")
@@ -576,13 +514,13 @@ def main():
     crates = read_crates()
     folders = ["must-fail"] if words.gate else ["refused", "must-fail"] if words.all else ["refused"]
     wanted = wanted_edits(words.names, folders)
-    if words.gate:
-        wanted = {name: edits for name, edits in wanted.items() if not is_program(crates[name].folder())}
     count = sum(map(len, wanted.values()))
     if words.read:
         refused = count - sum(read_edits(crates[name], edits) for name, edits in wanted.items())
     else:
-        refused = Run(crates, wanted, max(1, words.jobs), keeper(words.keep)).all_tried()
+        jobs = max(1, words.jobs)
+        with contextlib.nullcontext(words.over) if words.over else built(crates, wanted, jobs) as over:
+            refused = Run(crates, Prover(over.absolute()), keeper(words.keep)).all_tried(wanted, jobs)
         print(f"refuse: {processor_seconds():.0f} processor seconds")
     print(f"{refused} passed, {count - refused} failed")
     return 0 if refused and refused == count else 1

@@ -1,104 +1,80 @@
 #!/usr/bin/env python3
-"""Proves the crates that the program uses, those that don't need one another side by side, and builds the program.
+"""Proves the crates that the program is built over, and builds the program.
 
 Usage: tools/build.py [RT]
 
-A line is printed for each crate as it is done. What is proved is kept in crates/*/out, so only what changed is proved
-again. The program is tried on one line at the end. RT_JOBS says how many crates are proved at once; without it there is
-one for each processor, and for each 4 GB of memory that are free.
+The toolchain proves them from nothing, those that don't need one another side by side, in a copy that goes when it is
+done, so that an interrupted build leaves nothing behind. A line is printed for each crate as it is proved. Some
+versions of the toolchain keep on the machine what they have proved, and then only what changed is proved again; where
+nothing changed since the program was built, nothing is done. RT_JOBS says how many proofs run at once; without it there
+are as many as there are processors and memory for.
 """
 
-import os
+import hashlib
+import re
+import shutil
 import subprocess
 import sys
 import tempfile
 import time
+from pathlib import Path
 
-ROOT = os.path.dirname(os.path.dirname(os.path.abspath(__file__)))
+from crates import ROOT, copy_crates, read_crates
+
 PROGRAM = "pargrep"
-MEMORY_OF_A_PROOF = 4 << 20  # in kB
+BUILT = ROOT / "crates" / PROGRAM / "out" / PROGRAM
+# What the program was built from, beside it.
+STAMP = BUILT.with_suffix(".sum")
+DONE = re.compile(r"rt: (\w+) (proved$|is kept)")
 
 
-def crates():
-    """The crates of crates.txt, each with the crates of the repository that it uses."""
-    uses = {}
-    with open(os.path.join(ROOT, "crates.txt"), encoding="ascii") as lines:
-        for line in lines:
-            line = line.split("#")[0].strip()
-            if line:
-                name, _, rest = line.partition(":")
-                uses[name.split()[0]] = rest.split()
-    return {name: [use for use in names if use in uses] for name, names in uses.items()}
+def sum_of(rt, folder):
+    """A sum of all that the toolchain reads in a folder, and of its version."""
+    found = hashlib.sha256(subprocess.run([rt, "version"], stdout=subprocess.PIPE, check=True).stdout)
+    for path in sorted(it for it in Path(folder).rglob("*") if it.is_file()):
+        found.update(f"{path.relative_to(folder)}\0".encode())
+        found.update(hashlib.sha256(path.read_bytes()).digest())
+    return found.hexdigest()
 
 
-def needed(uses, name, found):
-    """Adds a crate and all that it stands on, those first."""
-    if name not in found:
-        for use in uses[name]:
-            needed(uses, use, found)
-        found.append(name)
-    return found
+def proved(rt, folder, count):
+    """Has all in a folder proved and built; shows each crate as it is done."""
+    began, done, said = time.monotonic(), 0, []
+    with subprocess.Popen([rt, "ci"], cwd=folder, stdout=subprocess.PIPE, stderr=subprocess.STDOUT, text=True) as ci:
+        try:
+            for line in ci.stdout:
+                said.append(line)
+                found = DONE.match(line)
+                if found:
+                    done += 1
+                    word = "proved" if found[2] == "proved" else "proved before:"
+                    minutes = (time.monotonic() - began) / 60
+                    print(f"{word} {found[1]}, {done} of {count}, after {minutes:.1f} minutes", flush=True)
+        finally:
+            if ci.poll() is None and sys.exc_info()[0]:
+                ci.terminate()
+    if ci.returncode:
+        sys.stderr.write("".join(said))
+        sys.exit(f"pargrep: {PROGRAM} was not built; what went wrong stands above")
 
 
-def jobs():
-    """How many crates are proved at once."""
-    if "RT_JOBS" in os.environ:
-        return max(1, int(os.environ["RT_JOBS"]))
-    free = MEMORY_OF_A_PROOF
-    with open("/proc/meminfo", encoding="ascii") as lines:
-        for line in lines:
-            if line.startswith("MemAvailable:"):
-                free = int(line.split()[1])
-    return max(1, min(len(os.sched_getaffinity(0)), free // MEMORY_OF_A_PROOF))
-
-
-def begin(rt, name, log):
-    """Starts the proof of a crate. The program is run on one line."""
-    words = [rt, "run", "--", "-F", "ready", "-"] if name == PROGRAM else [rt, "lib"]
-    process = subprocess.Popen(
-        words, cwd=os.path.join(ROOT, "crates", name), stdin=subprocess.PIPE, stdout=log, stderr=subprocess.STDOUT
-    )
-    if name == PROGRAM:
-        process.stdin.write(b"ready\n")
-    process.stdin.close()
-    return process
-
-
-def build(rt, folder):
-    uses = crates()
-    wanted = needed(uses, PROGRAM, [])
-    done, running, began = [], {}, {}
-    limit = jobs()
-    try:
-        while len(done) < len(wanted):
-            for name in wanted:
-                if len(running) < limit and name not in began and all(use in done for use in uses[name]):
-                    began[name] = time.monotonic()
-                    with open(os.path.join(folder, name), "wb") as log:
-                        running[name] = begin(rt, name, log)
-            time.sleep(0.2)
-            for name in [name for name, process in running.items() if process.poll() is not None]:
-                status = running.pop(name).returncode
-                if status:
-                    with open(os.path.join(folder, name), encoding="utf-8", errors="replace") as log:
-                        sys.stderr.write(log.read())
-                    sys.exit(f"pargrep: {name} was not built; what went wrong stands above")
-                done.append(name)
-                took = time.monotonic() - began[name]
-                print(f"proved {name}, {len(done)} of {len(wanted)}, {took:.0f} s", flush=True)
-    finally:
-        for process in running.values():
-            process.terminate()
-
-
-def main():
-    rt = sys.argv[1] if len(sys.argv) > 1 else "rt"
-    with tempfile.TemporaryDirectory() as folder:
-        build(rt, folder)
+def build(rt):
+    names = [*read_crates()[PROGRAM].below, PROGRAM]
+    with tempfile.TemporaryDirectory(prefix="pargrep-") as folder:
+        copy_crates(names, folder)
+        now = sum_of(rt, folder)
+        if BUILT.is_file() and STAMP.is_file() and STAMP.read_text(encoding="ascii") == now:
+            return
+        print(f"pargrep: proving {len(names)} crates; README.md says how long that takes", flush=True)
+        proved(rt, folder, len(names))
+        BUILT.parent.mkdir(exist_ok=True)
+        STAMP.unlink(missing_ok=True)
+        shutil.copy(Path(folder) / "crates" / PROGRAM / "out" / PROGRAM, BUILT)
+        STAMP.write_text(now, encoding="ascii")
 
 
 if __name__ == "__main__":
     try:
-        main()
+        build(sys.argv[1] if len(sys.argv) > 1 else "rt")
     except KeyboardInterrupt:
         sys.exit(130)
