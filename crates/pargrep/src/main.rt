@@ -1,9 +1,9 @@
 //! Pargrep: prints the lines of files that patterns select.
 #![tactic(auto)]
 
+use pg_base::Out;
 use pg_command::{Call, Fault, report, run, words_of};
 use pg_files::{DiskStore, Listed};
-use pg_rows::Out;
 use pg_walk::DiskTree;
 use std::alloc::Global;
 use std::io::{BufWriter, IsTerminal};

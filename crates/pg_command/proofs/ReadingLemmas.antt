@@ -6,7 +6,7 @@ use Rattle.std.specs.Result.{IfErr, IsErr, IsErrAnd, OnOk}
 use Rattle.std.proofs.lemmas.Bool.{false≢true}
 use Rattle.pg_syntax.specs.Slices.{bytes_of}
 use Rattle.pg_syntax.proofs.ListLemmas.{texts-more, texts-whole}
-use Rattle.pg_rows.specs.Output.{Ended}
+use Rattle.pg_base.specs.Entries.{Ended}
 use Rattle.pg_files.specs.Given.{Given, File}
 use Rattle.pg_command.specs.Reading.{HasRead, StopsAt, FailsToReadAll}
 use Rattle.pg_command.specs.declared.fault.Fault.{Fault}

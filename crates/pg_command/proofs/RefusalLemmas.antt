@@ -4,7 +4,7 @@ use Rattle.std.specs.Result.{IsErr}
 use Rattle.std.specs.String.{string_bytes}
 use Rattle.pg_walk.specs.Answers.{Answers as Tree}
 use Rattle.pg_files.specs.Given.{Given}
-use Rattle.pg_rows.specs.Sink.{Stream}
+use Rattle.pg_base.specs.Sink.{Stream}
 use Rattle.std.specs.Prelude.{List}
 use Rattle.pg_words.specs.Asks.{Asks}
 use Rattle.pg_words.specs.Gives.{IsFault}

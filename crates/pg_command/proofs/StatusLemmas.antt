@@ -4,9 +4,10 @@ use Rattle.std.specs.List.{list_any}
 use Rattle.pg_lines.specs.Search.{Search}
 use Rattle.pg_rows.specs.declared.format.Format.{Format}
 use Rattle.pg_rows.specs.Modes.{is_quiet}
-use Rattle.pg_rows.specs.Output.{Entry, status, has_selected, is_bad}
+use Rattle.pg_base.specs.Entries.{Entry}
+use Rattle.pg_rows.specs.Output.{status, has_selected, is_bad}
 use Rattle.pg_files.specs.Given.{FilesPast, entries_given}
-use Rattle.pg_rows.specs.Sink.{Stream}
+use Rattle.pg_base.specs.Sink.{Stream}
 use Rattle.pg_run.specs.Outcome.{Finishes}
 use Rattle.pg_run.specs.declared.setup.Setup.{Setup}
 

@@ -2,7 +2,7 @@
 use Rattle.std.proofs.Common.{◌≡◌, true, false, List, ℕ, Result, Ok, Err, inl, inr, sym}
 use Rattle.std.proofs.lemmas.Bool.{false≢true}
 use Rattle.std.specs.Result.{is_err}
-use Rattle.pg_rows.specs.Sink.{Stream, WritesAll, WritesPart, WritesText}
+use Rattle.pg_base.specs.Sink.{Stream, WritesAll, WritesPart, WritesText}
 use Rattle.pg_command.specs.Told.{TellsText}
 
 -- a text was written, or a beginning of it

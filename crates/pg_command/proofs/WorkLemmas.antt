@@ -8,7 +8,7 @@ use Rattle.pg_walk.specs.declared.item.Item.{Item}
 use Rattle.pg_lines.specs.Search.{Search, SearchText}
 use Rattle.pg_files.specs.Given.{Given, names_in}
 use Rattle.pg_files.specs.Listed.{asked_for, file_paths, files_past, AreOpened, AreSpared, Sought, sought}
-use Rattle.pg_rows.specs.Sink.{Stream}
+use Rattle.pg_base.specs.Sink.{Stream}
 use Rattle.pg_run.specs.Outcome.{BreaksOff, Finishes}
 use Rattle.pg_run.specs.declared.fault.RunFault.{RunFault}
 use Rattle.pg_run.specs.declared.setup.Setup.{Setup}

@@ -10,7 +10,7 @@ use Rattle.pg_walk.specs.declared.tree.FileKind.{FileKind}
 use Rattle.pg_walk.specs.declared.tree.FileKind.TheVariants.{Regular, Directory, Link, Other}
 use Rattle.pg_files.specs.Given.{FilesPast, Given, names_in}
 use Rattle.pg_files.specs.Listed.{file_paths, files_past, AreOpened, AreSpared}
-use Rattle.pg_rows.specs.Sink.{Stream}
+use Rattle.pg_base.specs.Sink.{Stream}
 use Rattle.pg_run.specs.Outcome.{IsSearchFor, Finishes, BreaksOff}
 use Rattle.pg_run.specs.declared.fault.RunFault.{RunFault}
 use Rattle.pg_run.specs.declared.setup.Setup.{Setup}

@@ -1,8 +1,8 @@
 -- The files of patterns and those of globs, read one after the other.
 use Rattle.std.specs.Prelude.{◌≡◌, ℕ, ◌⊎◌, false, List, [], ◌∷◌, ◌++◌, map, Result, Ok, Err, Vec}
-use Rattle.pg_rows.specs.Output.{Ending, Ended, Failed, Left, is_failed}
-use Rattle.pg_walk.specs.declared.item.Cause.{Cause}
-use Rattle.pg_walk.specs.declared.item.Cause.TheVariants.{ReadFailed}
+use Rattle.pg_base.specs.Entries.{Ending, Ended, Failed, Left, is_failed}
+use Rattle.pg_base.specs.declared.cause.Cause.{Cause}
+use Rattle.pg_base.specs.declared.cause.Cause.TheVariants.{ReadFailed}
 use Rattle.pg_files.specs.Given.{Given, NoFile, File, is_output, shown_name, standard_input}
 use Rattle.pg_command.specs.declared.fault.Fault.{Fault}
 use Rattle.pg_command.specs.declared.fault.Fault.TheVariants.{NotText, Usage, Unreadable, Pattern, TooLarge}

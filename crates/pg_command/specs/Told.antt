@@ -3,7 +3,7 @@ use Rattle.std.specs.Prelude.{◌⊎◌, ℕ, List, ◌++◌, codes, Option, Som
 use Rattle.std.specs.Fmt.{decimal}
 use Rattle.pg_syntax.specs.FaultTexts.{kind_text}
 use Rattle.pg_syntax.specs.declared.fault.ListFault.{ListFault}
-use Rattle.pg_rows.specs.Sink.{Stream, WritesAll, WritesPart}
+use Rattle.pg_base.specs.Sink.{Stream, WritesAll, WritesPart}
 use Rattle.pg_run.specs.Told.{fault_line as file_line}
 use Rattle.pg_words.specs.Usage.{usage_text}
 use Rattle.pg_command.specs.Shown.{shown_lines, shown_text}

@@ -11,11 +11,10 @@ ghost use Rattle.pg_command.specs.declared.fault.Fault.TheVariants.{OutOfMemory}
 
 use crate::shown::{advice, blanks, byte_at, shown_text};
 use itoa::Buffer;
+use pg_base::{Cause, Sink};
 use pg_lines::{ListFault, QueryFault};
-use pg_rows::Sink;
 use pg_run::{RunFault, tell};
 use pg_syntax::SyntaxFault;
-use pg_walk::Cause;
 use pg_words::UsageFault;
 use std::alloc::{AllocError, AllocFailed, Global};
 

@@ -3,16 +3,16 @@ ghost use Rattle.std.specs.Prelude.{◌≡◌, ◌<◌, ◌∷◌, List, ℕ, ma
 ghost use Rattle.pg_syntax.specs.Memory.{patterns_of};
 ghost use Rattle.pg_syntax.specs.Slices.{bytes_of};
 ghost use Rattle.pg_lines.specs.Search.{ByLine};
-ghost use Rattle.pg_rows.specs.Output.{Ended, Left};
+ghost use Rattle.pg_base.specs.Entries.{Ended, Left};
 ghost use Rattle.pg_files.specs.Given.{Given, File};
 ghost use Rattle.pg_words.specs.Filters.{filter_said, filters_of};
 ghost use Rattle.pg_command.specs.Asked.{glob_file, glob_files};
 ghost use Rattle.pg_command.specs.Reading.{contents_of, FailsToReadAll, HasRead, ReadsOn, StopsAt};
 
 use crate::fault::Fault;
+use pg_base::Cause;
 use pg_files::{OpenFault, ReadFault, STANDARD_INPUT, Store, shown_name};
 use pg_lines::PatternList;
-use pg_walk::Cause;
 use pg_words::FileFilter;
 use std::alloc::{AllocError, Global};
 

@@ -7,7 +7,7 @@ use Rattle.std.specs.Option.{option_map}
 use Rattle.std.proofs.lemmas.Bool.{false≢true}
 use Rattle.std.proofs.lemmas.List.{reverse-append, map-append}
 use Rattle.std.proofs.Math.Logic.{∥∥₁_map}
-use Rattle.pg_rows.specs.Output.{Left}
+use Rattle.pg_base.specs.Entries.{Left}
 use Rattle.pg_walk.specs.Answers.{Answers, Text}
 use Rattle.pg_walk.specs.Scopes.{Scope}
 use Rattle.pg_walk.specs.Items.{Found, File as AFile, Fault, found, path_in}

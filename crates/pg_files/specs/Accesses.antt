@@ -1,6 +1,6 @@
 -- What was kept of the paths that were opened, as what they gave.
 use Rattle.std.specs.Prelude.{ℕ, Bool, if◌then◌else◌, List, [], ◌∷◌, map, reverse, Option, Some, None}
-use Rattle.pg_rows.specs.Output.{Left, Ended, Failed}
+use Rattle.pg_base.specs.Entries.{Left, Ended, Failed}
 use Rattle.pg_files.specs.Given.{Given, NoFile, File}
 use Rattle.pg_files.specs.declared.past.Access.{Access}
 use Rattle.pg_files.specs.declared.past.Reading.{Reading}

@@ -1,6 +1,6 @@
 -- What one question to files adds to what they gave.
 use Rattle.std.specs.Prelude.{◌≡◌, ℕ, zero, suc, ◌≤◌, true, false, List, ◌∷◌, [], length, take, Result, Ok, Err}
-use Rattle.pg_rows.specs.Output.{Left}
+use Rattle.pg_base.specs.Entries.{Left}
 use Rattle.pg_files.specs.Given.{Given, NoFile, File, FilesPast, gave_bytes, gave_end}
 use Rattle.pg_files.specs.declared.files.Step.{Step}
 use Rattle.pg_files.specs.declared.files.Step.TheVariants.{File as NextFile, Miss as NextMiss, Done as NextDone}

@@ -3,9 +3,9 @@ use Rattle.std.specs.Prelude.{◌≡◌, ℕ, nat_eq, ◌+◌, Bool, true, false
 use Rattle.std.specs.Prelude.{codes, reverse}
 use lib.Pointwise.{pointwise}
 use Rattle.pg_walk.specs.Items.{Found, path_in}
-use Rattle.pg_walk.specs.declared.item.Cause.{Cause}
-use Rattle.pg_walk.specs.declared.item.Cause.TheVariants.{IsOutput}
-use Rattle.pg_rows.specs.Output.{Entry, Missed, Read, Ending, Running, Ended, Failed, Left}
+use Rattle.pg_base.specs.declared.cause.Cause.{Cause}
+use Rattle.pg_base.specs.declared.cause.Cause.TheVariants.{IsOutput}
+use Rattle.pg_base.specs.Entries.{Entry, Missed, Read, Ending, Running, Ended, Failed, Left}
 
 -- a name that gives no file, and why; or a file with the bytes that its reads gave. A file whose end wasn't met and
 -- whose reading didn't fail is `Left`.

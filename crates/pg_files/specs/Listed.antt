@@ -6,8 +6,8 @@ use Rattle.pg_walk.specs.Answers.{Text}
 use Rattle.pg_walk.specs.Scopes.{Scope}
 use Rattle.pg_walk.specs.Items.{Found, File as AFile, Fault, found}
 use Rattle.pg_walk.specs.declared.item.Item.{Item}
-use Rattle.pg_walk.specs.declared.item.Cause.{Cause}
-use Rattle.pg_rows.specs.Output.{Left}
+use Rattle.pg_base.specs.declared.cause.Cause.{Cause}
+use Rattle.pg_base.specs.Entries.{Left}
 use Rattle.pg_files.specs.Given.{Given, NoFile, File, FilesPast, MaySpare, is_output, name_of, shown_name}
 use Rattle.pg_files.specs.declared.files.Step.{Step}
 use Rattle.pg_files.specs.declared.files.Step.TheVariants.{File as NextFile, Miss as NextMiss}

@@ -1,6 +1,6 @@
 -- What a store gives by paths. The newest stands first.
 use Rattle.std.specs.Prelude.{◌≡◌, ℕ, Bool, List, [], ◌∷◌, Result, Ok, Err}
-use Rattle.pg_rows.specs.Output.{Left}
+use Rattle.pg_base.specs.Entries.{Left}
 use Rattle.pg_files.specs.Given.{Given, NoFile, File, MaySpare}
 use Rattle.pg_files.specs.declared.store.OpenFault.{OpenFault}
 use Rattle.pg_files.specs.declared.store.OpenFault.TheVariants.{Refused, OutOfMemory}

@@ -3,7 +3,7 @@ ghost use Rattle.std.specs.Prelude.{◌≡◌, ◌<◌, ℕ, false, true, List, 
 ghost use Rattle.pg_files.specs.Given.{AllGiven, FilesPast, is_reading, newest_name};
 ghost use Rattle.pg_files.specs.Asking.{NextGives, ReadGives};
 
-use pg_walk::Cause;
+use pg_base::Cause;
 use std::alloc::AllocError;
 use thiserror::Error;
 

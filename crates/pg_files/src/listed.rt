@@ -10,7 +10,7 @@ ghost use Rattle.pg_files.specs.Listed.{asked_for, AreOpened, AreSpared, Reaches
 
 use crate::files::{Files, ReadFault, Step};
 use crate::store::{OpenFault, Store};
-use pg_rows::History;
+use pg_base::History;
 use pg_walk::{FileTree, Item, Scope, Walker, what_is_given};
 use std::alloc::{AllocError, Global};
 

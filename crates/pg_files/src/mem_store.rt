@@ -8,7 +8,8 @@ use crate::files::ReadFault;
 use crate::listed::Listed;
 use crate::past::StorePast;
 use crate::store::{OpenFault, Store};
-use pg_walk::{Cause, MemTree};
+use pg_base::Cause;
+use pg_walk::MemTree;
 use std::alloc::{AllocError, Global};
 
 /// What happens behind the bytes of a file.
@@ -147,7 +148,7 @@ impl MemStore {
 
 impl Store for MemStore {
     ghost use Rattle.std.specs.Prelude.{None, true};
-    ghost use Rattle.pg_walk.specs.declared.item.Cause.TheVariants.{CannotOpen};
+    ghost use Rattle.pg_base.specs.declared.cause.Cause.TheVariants.{CannotOpen};
     ghost use Rattle.pg_files.specs.declared.store.OpenFault.TheVariants.{Refused};
     ghost use Rattle.pg_files.specs.MemStore.{files, left, file_at, Takes};
 

@@ -2,10 +2,9 @@
 ghost use Rattle.std.specs.Prelude.{◌≡◌, List, [], ◌∷◌};
 ghost use Rattle.pg_files.specs.Given.{Given, NoFile, File, gave_bytes, gave_end};
 ghost use Rattle.pg_files.specs.Accesses.{ended, given_as};
-ghost use Rattle.pg_rows.specs.Output.{Left};
+ghost use Rattle.pg_base.specs.Entries.{Left};
 
-use pg_rows::History;
-use pg_walk::Cause;
+use pg_base::{Cause, History};
 use std::marker::Model;
 
 /// How far a path was read.

@@ -5,7 +5,7 @@ ghost use Rattle.pg_files.specs.Asking.{ReadGives};
 ghost use Rattle.pg_files.specs.Store.{Opens};
 
 use crate::files::ReadFault;
-use pg_walk::Cause;
+use pg_base::Cause;
 
 /// Why a path isn't opened.
 #[derive(Clone, Copy, Debug, PartialEq, Eq)]

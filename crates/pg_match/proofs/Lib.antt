@@ -18,4 +18,3 @@ pub mod PartLaws
 pub mod Examples
 pub mod PatternLemmas
 pub mod SizeLemmas
-pub mod HistorySteps

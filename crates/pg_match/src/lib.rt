@@ -22,7 +22,6 @@ mod dfa_cache;
 mod dfa_cursor;
 mod dfa_search;
 mod dfa_starts;
-mod history;
 pub mod laws;
 mod machine;
 mod nfa_search;

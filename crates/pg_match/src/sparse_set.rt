@@ -2,7 +2,7 @@
 ghost use Rattle.std.specs.Prelude.{◌≡◌, ◌<◌, ℕ, IfOk, IsTrue, length, take};
 ghost use Rattle.pg_match.specs.StateSets.{IsGood, Inserted, Counted, IsEmpty, mark};
 
-use crate::history::History;
+use pg_base::History;
 use std::alloc::{AllocError, Allocator, Global};
 
 /// A set of states, in the order in which they were added, with a mark for each.

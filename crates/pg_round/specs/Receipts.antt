@@ -6,7 +6,7 @@ use Rattle.pg_lines.specs.Blocks.{BlockData}
 use Rattle.pg_lines.specs.Search.{SearchText}
 use Rattle.pg_lines.specs.Searched.{Searched}
 use Rattle.pg_rows.specs.Output.{output}
-use Rattle.pg_rows.specs.Sink.{IsBeginning}
+use Rattle.pg_base.specs.Sink.{IsBeginning}
 use Rattle.pg_seq.specs.Plan.{entries_of}
 use Rattle.pg_seq.specs.History.{Past, Event, Arrived, plan, handed}
 use Rattle.pg_seq.specs.declared.answers.SinkFault.{SinkFault}

@@ -1,8 +1,8 @@
 //! What takes the results of a round.
 ghost use Rattle.std.specs.Prelude.{◌≡◌, ℕ, ◌<◌, ◌≤◌, ◌++◌, List, OnOk, IsErrOf};
 
+use pg_base::Sink;
 use pg_lines::BlockResult;
-use pg_rows::Sink;
 use pg_seq::{Arrival, Sequencer, SinkFault};
 use std::alloc::Allocator;
 

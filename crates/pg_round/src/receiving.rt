@@ -6,9 +6,9 @@ ghost use Rattle.pg_round.specs.Receipts.{IsSafe, HasReceived, HasBroken, HasDel
 
 use crate::collector::Collector;
 use crate::reader::Reader;
+use pg_base::Sink;
 use pg_board::{Delivered, TakePass, Tray};
 use pg_lines::BlockResult;
-use pg_rows::Sink;
 use pg_seq::SinkFault;
 use std::alloc::Allocator;
 use std::sync::Wait;

@@ -5,9 +5,9 @@ ghost use Rattle.std.specs.Arc.{arc_value};
 ghost use Rattle.pg_match.specs.Machines.{Fits};
 ghost use Rattle.pg_round.specs.Results.{HasShortLines};
 
+use pg_base::Sink;
 use pg_lines::{Block, BlockResult, Kind, PatternList, Query, QueryText, Scratch};
 use pg_round::{Collector, Gate, Reader};
-use pg_rows::Sink;
 use pg_seq::{Arrival, SinkFault};
 use std::alloc::{AllocError, Allocator};
 use std::sync::Arc;

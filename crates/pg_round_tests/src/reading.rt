@@ -3,8 +3,8 @@ ghost use Rattle.std.specs.Prelude.{◌≡◌, [], false};
 
 use crate::fixtures::PATIENCE;
 use crate::runs::{Outcome, operand, run_over, setup, sink, tree_of};
+use pg_base::MemSink;
 use pg_files::{Ending, Listed, MemStore, OpenFault, ReadFault, Store};
-use pg_rows::MemSink;
 use pg_run::{Gate, RunFault, Setup};
 use pg_walk::{MemTree, Scope};
 use std::alloc::Global;

@@ -5,9 +5,9 @@ ghost use Rattle.pg_match.specs.Machines.{Fits};
 ghost use Rattle.pg_round.specs.Results.{HasShortLines};
 
 use crate::fixtures::{Counting, Counts, Holding, Meeting, Stepping, blocks, query, scratches};
+use pg_base::MemSink;
 use pg_lines::{Block, Query, Scratch};
 use pg_round::{FreeGate, Gate, NothingToRead, Reader, RoundFault, search_round};
-use pg_seq::MemSink;
 use refusing::Refusing;
 use std::alloc::{AllocError, Allocator, Global};
 use std::sync::atomic::Ordering;

@@ -3,8 +3,9 @@ ghost use Rattle.std.specs.Prelude.{◌≡◌, ◌≤◌, [], false};
 ghost use Rattle.pg_files.specs.Given.{nothing_given};
 
 use crate::fixtures::{Counting, Meeting, PATIENCE, text};
+use pg_base::{MemSink, Sink, WriteError};
 use pg_files::{Ending, Files, Listed, MemFiles, MemStore};
-use pg_rows::{Format, MemSink, Mode, Separator, Sink, WriteError};
+use pg_rows::{Format, Mode, Separator};
 use pg_run::{FreeGate, Gate, RunFault, Setup, run};
 use pg_walk::{FileKind, MemTree, Node, Scope};
 use std::alloc::Global;
@@ -205,7 +206,7 @@ impl Drop for Watched<'_> {
 }
 
 impl<'n> Sink for Watched<'n> {
-    ghost use Rattle.pg_rows.specs.Sink.{Writes, Flushes};
+    ghost use Rattle.pg_base.specs.Sink.{Writes, Flushes};
 
     ghost stream = { λ s. s.inner.stream };
 

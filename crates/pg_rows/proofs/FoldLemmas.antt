@@ -12,7 +12,7 @@ use Rattle.pg_rows.specs.declared.format.Format.{Format}
 use Rattle.pg_rows.specs.Modes.{is_named}
 use Rattle.pg_rows.specs.Output.{name_end, name_mark, name_text, is_below, when, row, is_nothing, painted, line_rows}
 use Rattle.pg_rows.specs.Output.{piece_rows, count_row, name_row, size_of}
-use Rattle.pg_rows.specs.Sink.{IsBeginning}
+use Rattle.pg_base.specs.Sink.{IsBeginning}
 use Rattle.pg_rows.specs.Stretch.{prefix_text}
 use Rattle.pg_rows.specs.Trail.{Trail, no_lines, step, trail_of, added, run_rows, run, added_pieces, run_pieces}
 use Rattle.pg_rows.specs.Trail.{keeps, after_kept, after_context, after_other, kept_rows, context_rows, gap_row}

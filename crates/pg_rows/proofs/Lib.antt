@@ -10,9 +10,6 @@ pub mod StretchLemmas
 pub mod ProgressLemmas
 pub mod BlockLemmas
 pub mod SeparatorLemmas
-pub mod SinkLemmas
-pub mod HistorySteps
-pub mod WriteLemmas
 pub mod PlaceLemmas
 pub mod TextLemmas
 pub mod RowLemmas

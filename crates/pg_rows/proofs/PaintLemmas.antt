@@ -20,7 +20,7 @@ use Rattle.pg_lines.proofs.LineLemmas.{lines-append, terminated-lines}
 use Rattle.pg_rows.specs.declared.format.Format.{Format}
 use Rattle.pg_rows.specs.Colors.{in_color, painted_from, part_color}
 use Rattle.pg_rows.specs.Output.{painted, row, told_parts}
-use Rattle.pg_rows.specs.Sink.{Stream}
+use Rattle.pg_base.specs.Sink.{Stream}
 use Rattle.pg_rows.specs.Pieces.{told_of_lines}
 use Rattle.pg_rows.specs.Stretch.{AllSelected, marked_rows, plain}
 use Rattle.pg_rows.specs.Painting.{painted_bytes, AreAscending, IsTold, count_before}
@@ -28,7 +28,7 @@ use Rattle.pg_rows.proofs.FoldLemmas.{something, some_append}
 use Rattle.pg_rows.proofs.PieceLemmas.{Ascend, slice_in, told_ascend}
 use Rattle.pg_rows.proofs.PrintLemmas.{lines_apart}
 use Rattle.pg_rows.proofs.RunSteps.{KeptTexts, next_texts}
-use Rattle.pg_rows.proofs.WriteLemmas.{WritesAllBut, left_whole}
+use Rattle.pg_base.proofs.WriteLemmas.{WritesAllBut, left_whole}
 
 -- The parts of one line.
 

@@ -14,7 +14,7 @@ use Rattle.pg_lines.specs.declared.run.Run.{Run}
 use Rattle.pg_rows.specs.declared.format.Format.{Format}
 use Rattle.pg_rows.specs.declared.progress.Progress.{Progress}
 use Rattle.pg_rows.specs.Output.{is_below, painted}
-use Rattle.pg_rows.specs.Sink.{TakesPart}
+use Rattle.pg_base.specs.Sink.{TakesPart}
 use Rattle.pg_rows.specs.Trail.{run_rows}
 use Rattle.pg_rows.specs.Cursor.{Cursor}
 use Rattle.pg_rows.specs.Progress.{Passes, Keeps, kept_of}

@@ -8,7 +8,7 @@ use Rattle.std.proofs.lemmas.List.Concat.{flat_map-append}
 use Rattle.pg_lines.specs.Lines.{lines, terminated, AreWhole}
 use Rattle.pg_lines.proofs.LineLemmas.{terminated-lines, whole_append}
 use Rattle.pg_lines.proofs.LineLaws.{lines_are_lines}
-use Rattle.pg_rows.specs.Sink.{IsBeginning}
+use Rattle.pg_base.specs.Sink.{IsBeginning}
 
 pub whole_terminated : (end : ℕ) (ls : List (List ℕ)) → AreWhole end (terminated end ls)
 whole_terminated end [] = inl refl

@@ -7,7 +7,8 @@ use Rattle.pg_lines.specs.Selection.{selects}
 use Rattle.pg_rows.specs.declared.format.Format.{Format}
 use Rattle.pg_rows.specs.declared.format.Mode.{Mode}
 use Rattle.pg_rows.specs.Modes.{shows_rows, settles_at_first, is_quiet}
-use Rattle.pg_rows.specs.Output.{Entry, Missed, Read, is_running, is_below, is_shown, has_selected}
+use Rattle.pg_base.specs.Entries.{Entry, Missed, Read, is_running}
+use Rattle.pg_rows.specs.Output.{is_below, is_shown, has_selected}
 use Rattle.pg_rows.specs.Trail.{Trail}
 
 -- as many lines are selected as may be kept

@@ -6,7 +6,6 @@ pub mod Trail
 pub mod Stretch
 pub mod Progress
 pub mod Cursor
-pub mod Sink
 pub mod Printing
 pub mod Window
 pub mod Remembered

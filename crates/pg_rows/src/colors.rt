@@ -4,10 +4,10 @@ ghost use Rattle.pg_rows.specs.Colors.{escape, in_color, part_color};
 ghost use Rattle.pg_rows.specs.Output.{name_end, name_text};
 ghost use Rattle.pg_rows.specs.Painting.{code_of, count_before, painted_bytes, AreAscending};
 ghost use Rattle.pg_rows.specs.Stretch.{IsPartOf};
-ghost use Rattle.pg_rows.specs.Sink.{WritesText};
+ghost use Rattle.pg_base.specs.Sink.{WritesText};
 
 use crate::format::Format;
-use crate::sink::{Sink, WriteError, write_all};
+use pg_base::{Sink, WriteError, write_all};
 use pg_lines::Part;
 
 /// What stands in a color of its own.

@@ -4,7 +4,7 @@ ghost use Rattle.pg_lines.specs.Lines.{lines};
 ghost use Rattle.pg_lines.specs.Search.{Search};
 ghost use Rattle.pg_rows.specs.Output.{painted, row};
 ghost use Rattle.pg_rows.specs.Painting.{painted_bytes, AreAscending, IsTold};
-ghost use Rattle.pg_rows.specs.Sink.{WritesText};
+ghost use Rattle.pg_base.specs.Sink.{WritesText};
 ghost use Rattle.pg_rows.specs.Stretch.{marked_rows};
 
 use crate::colors::end_of_parts;
@@ -12,7 +12,7 @@ use crate::places::text_end;
 use crate::position::Position;
 use crate::printer::Printer;
 use crate::rows::{has_painted_text, write_lines, write_painted_text};
-use crate::sink::{Sink, WriteError};
+use pg_base::{Sink, WriteError};
 use pg_lines::Part;
 use std::alloc::Allocator;
 

@@ -4,13 +4,13 @@ ghost use Rattle.std.specs.Prelude.{length, vec_len, vec_capacity};
 ghost use Rattle.std.specs.Fmt.{decimal};
 ghost use Rattle.pg_rows.specs.Output.{when, name_mark, name_text, name_end, number_text, tab_before};
 ghost use Rattle.pg_rows.specs.Stretch.{prefix_text, plain_prefix_text};
-ghost use Rattle.pg_rows.specs.Sink.{WritesText};
+ghost use Rattle.pg_base.specs.Sink.{WritesText};
 
 use crate::colors::{Color, write_marked_name, write_text};
 use crate::format::Format;
 use crate::position::Position;
-use crate::sink::{Sink, WriteError, write_all};
 use itoa::Buffer;
+use pg_base::{Sink, WriteError, write_all};
 use std::alloc::{AllocError, Allocator, Global};
 use std::marker::Model;
 

@@ -7,15 +7,15 @@ ghost use Rattle.pg_rows.specs.Colors.{in_color, part_color};
 ghost use Rattle.pg_rows.specs.Output.{is_nothing, size_of, when, gap_text, name_end, name_mark, name_text, row};
 ghost use Rattle.pg_rows.specs.Painting.{painted_bytes, AreAscending};
 ghost use Rattle.pg_rows.specs.Stretch.{has_text, marked_rows, part_row, part_rows, plain, IsPartOf, no_part};
-ghost use Rattle.pg_rows.specs.Sink.{WritesText};
+ghost use Rattle.pg_base.specs.Sink.{WritesText};
 
 use crate::colors::{Color, write_both, write_marked_name, write_painted, write_text};
 use crate::format::Format;
 use crate::places::end_of_line;
 use crate::position::Position;
 use crate::prefix::Prefix;
-use crate::sink::{Sink, WriteError, write_all};
 use itoa::Buffer;
+use pg_base::{Sink, WriteError, write_all};
 use pg_lines::Part;
 use std::alloc::Allocator;
 

@@ -9,7 +9,8 @@ use Rattle.pg_lines.specs.Lines.{lines}
 use Rattle.pg_lines.specs.Selection.{selects}
 use Rattle.pg_rows.specs.Enough.{is_full, is_trailed, lines_suffice, file_suffices, is_enough}
 use Rattle.pg_rows.specs.Modes.{is_quiet, shows_rows, settles_at_first}
-use Rattle.pg_rows.specs.Output.{Entry, Missed, Read, is_below, is_running, has_selected}
+use Rattle.pg_base.specs.Entries.{Entry, Missed, Read, is_running}
+use Rattle.pg_rows.specs.Output.{is_below, has_selected}
 use Rattle.pg_rows.specs.declared.format.Format.{Format}
 use Rattle.pg_rows.specs.declared.format.Mode.{Mode}
 use Rattle.pg_rows.proofs.ModeLemmas.{settles_late_aloud}

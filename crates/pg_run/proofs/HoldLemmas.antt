@@ -13,7 +13,7 @@ use Rattle.pg_lines.specs.Blocks.{BlockData}
 use Rattle.pg_lines.specs.Searched.{Searched}
 use Rattle.pg_rows.specs.Output.{HasRoom, output, status}
 use Rattle.pg_rows.specs.Enough.{is_enough}
-use Rattle.pg_rows.specs.Sink.{Stream, IsBeginning}
+use Rattle.pg_base.specs.Sink.{Stream, IsBeginning}
 use Rattle.pg_seq.specs.declared.answers.Arrival.TheVariants.{Taken}
 use Rattle.pg_seq.specs.declared.answers.SinkFault.{SinkFault}
 use Rattle.pg_seq.specs.declared.answers.SinkFault.TheVariants.{WriteFailed, Failed}

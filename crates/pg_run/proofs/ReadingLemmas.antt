@@ -15,11 +15,12 @@ use Rattle.pg_lines.specs.declared.cutter.Cutter.{Cutter}
 use Rattle.pg_lines.specs.declared.cutter.CutFault.{CutFault}
 use Rattle.pg_lines.specs.declared.cutter.CutFault.TheVariants.{OutOfMemory as NoMemory, LineTooLong, FileTooLong}
 use Rattle.pg_lines.proofs.EarlyLemmas.{AllEnd, all_are_cutting}
-use Rattle.pg_walk.specs.declared.item.Cause.TheVariants.{ReadFailed}
-use Rattle.pg_rows.specs.Output.{Entry, Read, Ending, Running, Ended, Failed, Left, HasRoom, output, is_failed, when}
+use Rattle.pg_base.specs.declared.cause.Cause.TheVariants.{ReadFailed}
+use Rattle.pg_base.specs.Entries.{Entry, Read, Ending, Running, Ended, Failed, Left, is_failed}
+use Rattle.pg_rows.specs.Output.{HasRoom, output, when}
 use Rattle.pg_rows.specs.Enough.{is_enough}
-use Rattle.pg_rows.specs.Sink.{Stream, IsBeginning, TakesPart}
-use Rattle.pg_rows.proofs.SinkLemmas.{takes_longer}
+use Rattle.pg_base.specs.Sink.{Stream, IsBeginning, TakesPart}
+use Rattle.pg_base.proofs.SinkLemmas.{takes_longer}
 use Rattle.pg_seq.specs.Plan.{Step, Announces, Ends, entries_of}
 use Rattle.pg_seq.proofs.CursorLemmas.{joined_push}
 use Rattle.pg_files.specs.Given.{Given, NoFile, File, FilesPast, entries_given, files_given}

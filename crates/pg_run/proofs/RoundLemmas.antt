@@ -21,7 +21,7 @@ use Rattle.pg_seq.specs.Plan.{Step, Opens, Announces, Ends, Misses, IsShaped, Is
 use Rattle.pg_seq.specs.History.{Past, Event, Arrived, plan, plan_of, answer_after, arrival, is_taken, taken_of}
 use Rattle.pg_seq.specs.History.{taken_after}
 use Rattle.pg_seq.proofs.ArrivalLaws.{first_is_taken}
-use Rattle.pg_rows.specs.Sink.{Stream, IsBeginning}
+use Rattle.pg_base.specs.Sink.{Stream, IsBeginning}
 use Rattle.pg_seq.specs.Plan.{opened}
 use Rattle.pg_seq.specs.Standing.{Stands}
 use Rattle.pg_seq.proofs.BeginLemmas.{shape_of}

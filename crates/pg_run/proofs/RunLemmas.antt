@@ -9,17 +9,18 @@ use Rattle.std.proofs.lemmas.Bool.{false≢true}
 use Rattle.std.proofs.lemmas.List.{append-nil}
 use Rattle.pg_lines.specs.Search.{Search, SearchText, Pattern, AreTreesOf, search_of, terminator}
 use Rattle.pg_lines.specs.Cutter.{unfed, Stands as CutterStands}
-use Rattle.pg_walk.specs.declared.item.Cause.{Cause}
-use Rattle.pg_walk.specs.declared.item.Cause.TheVariants.{ReadFailed}
+use Rattle.pg_base.specs.declared.cause.Cause.{Cause}
+use Rattle.pg_base.specs.declared.cause.Cause.TheVariants.{ReadFailed}
 use Rattle.pg_rows.specs.declared.format.Format.{Format}
 use Rattle.pg_rows.specs.Modes.{is_quiet, rows_in}
 use Rattle.pg_rows.proofs.ModeLemmas.{nothing_in}
-use Rattle.pg_rows.specs.Output.{Entry, Missed, Read, Running, Ended, Failed, Left, output, status, when}
+use Rattle.pg_base.specs.Entries.{Entry, Missed, Read, Running, Ended, Failed, Left}
+use Rattle.pg_rows.specs.Output.{output, status, when}
 use Rattle.pg_rows.specs.Output.{has_selected}
 use Rattle.pg_rows.specs.Output.{file_rows, line_rows, piece_rows, is_nothing}
 use Rattle.pg_rows.specs.Enough.{is_enough, file_suffices}
-use Rattle.pg_rows.specs.Sink.{Stream, TakesPart, WritesAll, WritesPart}
-use Rattle.pg_rows.proofs.WriteLemmas.{wrote_none}
+use Rattle.pg_base.specs.Sink.{Stream, TakesPart, WritesAll, WritesPart}
+use Rattle.pg_base.proofs.WriteLemmas.{wrote_none}
 use Rattle.pg_seq.specs.Plan.{Step, Opens, Announces, Ends, Misses, IsShaped, is_open, entries_of, with_end}
 use Rattle.pg_seq.proofs.BeginLemmas.{begins_trans}
 use Rattle.pg_files.specs.Given.{Given, NoFile, File, FilesPast, entries_given, newest_name, nothing_given}

@@ -3,8 +3,8 @@ use Rattle.std.proofs.Common.{◌≡◌, ℕ, ◌+◌, ◌<◌, Bool, true, fals
 use Rattle.std.proofs.Common.{refl, sym, ap, ◌∙◌, append_assoc}
 use Rattle.std.proofs.lemmas.List.{append-nil, drop_more}
 use Rattle.std.specs.List.{flat_map}
-use Rattle.pg_rows.specs.Sink.{Stream, WritesAll, WritesPart}
-use Rattle.pg_rows.proofs.WriteLemmas.{WritesAllBut, left_less, left_part}
+use Rattle.pg_base.specs.Sink.{Stream, WritesAll, WritesPart}
+use Rattle.pg_base.proofs.WriteLemmas.{WritesAllBut, left_less, left_part}
 use Rattle.pg_files.specs.Given.{Given}
 use Rattle.pg_run.specs.Told.{fault_of, faults_of, told_of}
 

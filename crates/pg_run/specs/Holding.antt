@@ -6,7 +6,7 @@ use Rattle.pg_lines.specs.Search.{Search, terminator}
 use Rattle.pg_lines.specs.Blocks.{BlockData}
 use Rattle.pg_rows.specs.declared.format.Format.{Format}
 use Rattle.pg_rows.specs.Output.{output}
-use Rattle.pg_rows.specs.Sink.{Stream, IsBeginning, TakesPart}
+use Rattle.pg_base.specs.Sink.{Stream, IsBeginning, TakesPart}
 use Rattle.pg_seq.specs.Plan.{Step, MayFollow, opened, announced, entries_of}
 use Rattle.pg_seq.specs.History.{Past, Event, plan_of, taken_of, is_taken}
 use Rattle.pg_seq.specs.Standing.{Stands}

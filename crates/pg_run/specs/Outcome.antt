@@ -8,9 +8,9 @@ use Rattle.pg_lines.specs.Queries.{IsQueryFault}
 use Rattle.pg_lines.specs.declared.query.QueryFault.TheVariants.{OutOfMemory as NoMemoryForQuery}
 use Rattle.pg_rows.specs.declared.format.Format.{Format}
 use Rattle.pg_rows.specs.Modes.{is_quiet}
-use Rattle.pg_rows.specs.Output.{Entry, Missed, Read, Ending, Running, Ended, Failed, Left, is_running}
+use Rattle.pg_base.specs.Entries.{Entry, Missed, Read, Ending, Running, Ended, Failed, Left, is_running}
 use Rattle.pg_rows.specs.Output.{has_selected, output, status}
-use Rattle.pg_rows.specs.Sink.{Stream, TakesPart}
+use Rattle.pg_base.specs.Sink.{Stream, TakesPart}
 use Rattle.pg_seq.specs.Settled.{AreLeftRightly}
 use Rattle.pg_files.specs.Given.{AllGiven, FilesPast, nothing_given, entries_given, files_given}
 use Rattle.pg_run.specs.Lengths.{IsTooLong}

@@ -7,8 +7,9 @@ use Rattle.pg_lines.specs.Cutter.{Fed, Stands as CutterStands}
 use Rattle.pg_lines.specs.declared.cutter.CutFault.{CutFault}
 use Rattle.pg_lines.specs.declared.cutter.CutFault.TheVariants.{OutOfMemory as NoMemory, LineTooLong, FileTooLong}
 use Rattle.pg_rows.specs.Modes.{is_quiet}
-use Rattle.pg_rows.specs.Output.{Entry, Ending, Ended, Failed, Left, output}
-use Rattle.pg_rows.specs.Sink.{Stream, TakesPart}
+use Rattle.pg_base.specs.Entries.{Entry, Ending, Ended, Failed, Left}
+use Rattle.pg_rows.specs.Output.{output}
+use Rattle.pg_base.specs.Sink.{Stream, TakesPart}
 use Rattle.pg_seq.specs.Plan.{Step, Ends, is_open, opened, last_blocks, entries_of}
 use Rattle.pg_files.specs.Given.{Given, FilesPast, entries_given, files_given}
 use Rattle.pg_run.specs.Lengths.{IsTooLong}

@@ -1,9 +1,10 @@
 -- The lines that are told of files.
 use Rattle.std.specs.Prelude.{ℕ, Bool, not, List, [], ◌∷◌, ◌++◌, codes}
-use Rattle.pg_walk.specs.Causes.{cause_text}
-use Rattle.pg_walk.specs.declared.item.Cause.{Cause}
-use Rattle.pg_walk.specs.declared.item.Cause.TheVariants.{ReadFailed}
-use Rattle.pg_rows.specs.Output.{is_failed, when}
+use Rattle.pg_base.specs.Causes.{cause_text}
+use Rattle.pg_base.specs.declared.cause.Cause.{Cause}
+use Rattle.pg_base.specs.declared.cause.Cause.TheVariants.{ReadFailed}
+use Rattle.pg_base.specs.Entries.{is_failed}
+use Rattle.pg_rows.specs.Output.{when}
 use Rattle.pg_files.specs.Given.{Given, NoFile, File}
 
 abbrev pub fault_line : List ℕ → Cause → List ℕ

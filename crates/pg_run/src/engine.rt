@@ -10,9 +10,10 @@ ghost use Rattle.pg_run.specs.Endless.{is_endless};
 use crate::fault::RunFault;
 use crate::pace::{Pace, time};
 use crate::setup::Setup;
+use pg_base::{Sink, WriteError};
 use pg_lines::{Block, Cutter, Kind, Query, Scratch, search_block};
 use pg_round::{Gate, NothingToRead, Reader, search_round};
-use pg_rows::{Format, Sink, WriteError};
+use pg_rows::Format;
 use pg_seq::Sequencer;
 use std::alloc::{AllocError, Allocator, Global};
 use std::mem;
@@ -189,7 +190,7 @@ impl<A: Allocator + Copy> Engine<A> {
     ghost use Rattle.pg_lines.specs.Cutter.{Stands as CutterStands, IsDrained, unfed};
     ghost use Rattle.pg_rows.specs.Enough.{is_enough};
     ghost use Rattle.pg_seq.specs.Plan.{Step, Opens, Announces, Ends, Misses, entries_of, is_open};
-    ghost use Rattle.pg_rows.specs.Sink.{Stream};
+    ghost use Rattle.pg_base.specs.Sink.{Stream};
     ghost use Rattle.pg_run.specs.Holding.{Aim, Holds, IsReady, IsWritten, Broke, format_of};
 
     /// An engine that has no file yet.

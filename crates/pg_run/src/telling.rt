@@ -1,9 +1,9 @@
 //! What is told on standard error.
 ghost use Rattle.std.specs.Prelude.{◌≡◌, IfOk};
 ghost use Rattle.std.specs.List.{flat_map};
-ghost use Rattle.pg_rows.specs.Sink.{WritesText};
+ghost use Rattle.pg_base.specs.Sink.{WritesText};
 
-use pg_rows::{Sink, WriteError, write_all};
+use pg_base::{Sink, WriteError, write_all};
 use std::alloc::{AllocError, Allocator};
 
 /// Writes a text that is given in parts: in one write where there is memory for it, else part by part.

@@ -3,10 +3,11 @@ use Rattle.std.proofs.Common.{ℕ, Bool, true, false, cond, List, [], ◌∷◌,
 use Rattle.std.proofs.lemmas.List.{append-nil}
 use Rattle.pg_lines.specs.Search.{Search, terminator}
 use Rattle.pg_rows.specs.declared.format.Format.{Format}
-use Rattle.pg_rows.specs.Output.{Entry, HasRoom, output}
+use Rattle.pg_base.specs.Entries.{Entry}
+use Rattle.pg_rows.specs.Output.{HasRoom, output}
 use Rattle.pg_seq.specs.Plan.{Step, IsPlan, IsShaped, Begins, entries_of}
 use Rattle.pg_seq.specs.History.{Past, plan, taken_of, all_taken, front, front_after, handed_after, handed}
-use Rattle.pg_rows.specs.Sink.{IsBeginning}
+use Rattle.pg_base.specs.Sink.{IsBeginning}
 use Rattle.pg_seq.proofs.CursorLemmas.{plan_begins}
 
 pub begins_trans : (xs ys zs : List ℕ) → IsBeginning xs ys → IsBeginning ys zs → IsBeginning xs zs

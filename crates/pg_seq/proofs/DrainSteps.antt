@@ -14,7 +14,7 @@ use Rattle.pg_lines.proofs.CountLemmas.{few_lines}
 use Rattle.pg_rows.specs.declared.format.Format.{Format}
 use Rattle.pg_rows.specs.declared.printer.Printer.{Printer}
 use Rattle.pg_rows.specs.Output.{HasRoom, output}
-use Rattle.pg_rows.specs.Sink.{IsBeginning, TakesPart}
+use Rattle.pg_base.specs.Sink.{IsBeginning, TakesPart}
 use Rattle.pg_rows.proofs.SizeLemmas.{size_few}
 use Rattle.pg_rows.specs.Cursor.{Cursor}
 use Rattle.pg_rows.specs.Remembered.{Remembers, opened_as, behind_block, shown_rows, end_rows}

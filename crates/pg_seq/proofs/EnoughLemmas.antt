@@ -5,7 +5,8 @@ use Rattle.std.proofs.lemmas.Bool.{false≢true}
 use Rattle.pg_lines.specs.Search.{Search, terminator}
 use Rattle.pg_lines.specs.Lines.{lines}
 use Rattle.pg_rows.specs.declared.format.Format.{Format}
-use Rattle.pg_rows.specs.Output.{HasRoom, Entry, Missed, Read}
+use Rattle.pg_base.specs.Entries.{Entry, Missed, Read}
+use Rattle.pg_rows.specs.Output.{HasRoom}
 use Rattle.pg_rows.specs.Enough.{file_suffices, trail_suffices}
 use Rattle.pg_rows.proofs.EnoughLemmas.{suffice_by}
 use Rattle.pg_seq.specs.Plan.{Step, Opens, Announces, Ends, Misses, IsShaped, is_open, entries_of, with_end}

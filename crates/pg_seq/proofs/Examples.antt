@@ -14,7 +14,8 @@ use Rattle.pg_seq.specs.History.{Event, Planned, Arrived, answer_after, handed_a
 use Rattle.pg_seq.specs.declared.answers.Arrival.TheVariants.{Taken, Double, Stranger}
 use Rattle.pg_rows.specs.declared.format.Format.{Format}
 use Rattle.pg_rows.specs.declared.format.Mode.TheVariants.{Rows, Count, List as Names, ListOthers as Others, Quiet}
-use Rattle.pg_rows.specs.Output.{output, status, file_rows, Entry, Missed, Read, Ended}
+use Rattle.pg_base.specs.Entries.{Entry, Missed, Read, Ended}
+use Rattle.pg_rows.specs.Output.{output, status, file_rows}
 use Rattle.pg_rows.specs.Separator.{separator_of}
 
 -- the fixed string of one byte

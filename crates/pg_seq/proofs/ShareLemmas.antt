@@ -10,7 +10,8 @@ use Rattle.pg_lines.specs.Lines.{lines}
 use Rattle.pg_lines.specs.Selection.{selects}
 use Rattle.pg_rows.specs.declared.format.Format.{Format}
 use Rattle.pg_rows.specs.Modes.{end_row, is_quiet, shows_rows}
-use Rattle.pg_rows.specs.Output.{Entry, Missed, Read, is_running, is_bad, has_selected, has_separators, is_nothing}
+use Rattle.pg_base.specs.Entries.{Entry, Missed, Read, is_running}
+use Rattle.pg_rows.specs.Output.{is_bad, has_selected, has_separators, is_nothing}
 use Rattle.pg_rows.specs.Output.{count_row, file_rows, gap_text, line_rows, name_row, output, painted, piece_rows}
 use Rattle.pg_rows.specs.Output.{row, size_of, status, when}
 use Rattle.pg_rows.specs.Trail.{Trail, no_lines, step, keeps, after_kept, after_context, after_other, added}

@@ -22,7 +22,8 @@ use Rattle.pg_seq.specs.declared.assembler.Assembler.{Assembler}
 use Rattle.pg_rows.specs.declared.format.Format.{Format}
 use Rattle.pg_rows.specs.declared.printer.Printer.{Printer}
 use Rattle.pg_rows.specs.Modes.{is_quiet}
-use Rattle.pg_rows.specs.Output.{Entry, Missed, Read, Running, Ended, Failed, HasRoom, is_bad}
+use Rattle.pg_base.specs.Entries.{Entry, Missed, Read, Running, Ended, Failed}
+use Rattle.pg_rows.specs.Output.{HasRoom, is_bad}
 use Rattle.pg_rows.specs.Output.{has_selected}
 use Rattle.pg_rows.specs.Remembered.{Remembers}
 use Rattle.pg_seq.specs.Plan.{Step, Opens, Announces, Ends, Misses, IsShaped, IsNext, IsSmall, MayFollow, is_open}

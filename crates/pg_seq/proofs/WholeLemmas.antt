@@ -5,7 +5,8 @@ use Rattle.std.proofs.lemmas.Bool.{or_right}
 use Rattle.pg_lines.specs.Search.{Search, terminator}
 use Rattle.pg_lines.specs.Lines.{AreWhole}
 use Rattle.pg_rows.specs.declared.format.Format.{Format}
-use Rattle.pg_rows.specs.Output.{HasRoom, Entry, Missed, Read, Ending, Running, has_selected}
+use Rattle.pg_base.specs.Entries.{Entry, Missed, Read, Ending, Running}
+use Rattle.pg_rows.specs.Output.{HasRoom, has_selected}
 use Rattle.pg_seq.specs.Plan.{Step, Opens, Announces, Ends, Misses, IsShaped, last_blocks, entries_of, with_bytes}
 use Rattle.pg_seq.specs.Plan.{with_end}
 use Rattle.pg_seq.specs.History.{Past, plan, taken_of, all_taken, front, front_of, front_after}

@@ -4,7 +4,7 @@ use Rattle.std.specs.Prelude.{◌++◌, length}
 use Rattle.std.specs.List.{AllByRecursion}
 use Rattle.pg_lines.specs.Blocks.{BlockData, joined, EndsWith}
 use Rattle.pg_lines.specs.Lines.{lines}
-use Rattle.pg_rows.specs.Output.{Entry, Missed, Read, Running, Ended, Failed}
+use Rattle.pg_base.specs.Entries.{Entry, Missed, Read, Running, Ended, Failed}
 
 pub data Step : Type 0 where
   Opens : (name : List ℕ) → Step

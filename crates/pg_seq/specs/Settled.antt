@@ -5,7 +5,7 @@ use Rattle.pg_lines.specs.Search.{Search, terminator}
 use Rattle.pg_lines.specs.Lines.{lines, AreWhole}
 use Rattle.pg_lines.specs.Selection.{selects}
 use Rattle.pg_rows.specs.declared.format.Format.{Format}
-use Rattle.pg_rows.specs.Output.{Entry, Missed, Read, Ending, Running, Ended, Failed, Left, is_running, is_failed}
+use Rattle.pg_base.specs.Entries.{Entry, Missed, Read, Ending, Running, Ended, Failed, Left, is_running, is_failed}
 use Rattle.pg_rows.specs.Output.{file_rows, output, status}
 use Rattle.pg_rows.specs.Enough.{is_enough}
 

@@ -8,7 +8,7 @@ use Rattle.std.specs.Arc.{arc_value}
 use Rattle.pg_lines.specs.Search.{terminator, HasItsTrees}
 use Rattle.pg_rows.specs.Output.{HasRoom, is_bad, output}
 use Rattle.pg_rows.specs.Remembered.{Remembers}
-use Rattle.pg_rows.specs.Sink.{Stream, WritesAll, IsBeginning}
+use Rattle.pg_base.specs.Sink.{Stream, WritesAll, IsBeginning}
 use Rattle.pg_seq.specs.Plan.{Step, Opens, Announces, Ends, Misses, announced, IsPlan, MayFollow, is_open, entries_of}
 use Rattle.pg_seq.specs.History.{Past, plan, taken_of, is_taken, handed}
 use Rattle.pg_seq.specs.Cursor.{cursor_of}

@@ -4,8 +4,9 @@ ghost use Rattle.std.specs.Arc.{arc_value};
 
 use crate::answers::{Arrival, SinkFault};
 use crate::assembler::Assembler;
+use pg_base::Sink;
 use pg_lines::{Block, BlockResult, Query};
-use pg_rows::{Format, Sink};
+use pg_rows::Format;
 use std::alloc::{AllocError, Allocator, Global};
 use std::marker::Model;
 use std::sync::Arc;

@@ -2,9 +2,9 @@
 ghost use Rattle.std.specs.Prelude.{◌≤◌};
 
 use crate::formats::cut;
+use pg_base::MemSink;
 use pg_command::{Call, Fault, Told, command, report};
 use pg_files::{Ending, Listed, MemStore};
-use pg_rows::MemSink;
 use pg_walk::{FileKind, MemTree, Node};
 use pg_words::{Task, Words, read_words};
 use std::alloc::Global;

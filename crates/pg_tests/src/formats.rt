@@ -9,9 +9,10 @@ use crate::fixtures::{compile, query_of, search, text_of};
 use crate::planning::{
     announce_block, end_file, is_block, miss_name, new_sequencer, open_file, open_next,
 };
+use pg_base::MemSink;
 use pg_lines::{Block, BlockResult, Cutter, Kind, Query};
-use pg_rows::Separator;
-use pg_seq::{Arrival, Format, MemSink, Mode, Sequencer};
+use pg_rows::{Format, Mode, Separator};
+use pg_seq::{Arrival, Sequencer};
 use std::alloc::Global;
 use std::process::Abort;
 use std::sync::Arc;

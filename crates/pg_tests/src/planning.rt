@@ -5,7 +5,8 @@ ghost use Rattle.pg_rows.specs.Output.{HasRoom};
 ghost use Rattle.pg_tests.specs.Reading.{IsBlock, IsBetween, IsReading};
 
 use pg_lines::{Block, Query};
-use pg_seq::{Format, Sequencer};
+use pg_rows::Format;
+use pg_seq::Sequencer;
 use refusing::Refusing;
 use std::alloc::{AllocError, Allocator};
 use std::sync::Arc;

@@ -9,9 +9,10 @@ use crate::formats::cut;
 use crate::planning::{
     announce_block, end_file, ends_for_free, new_sequencer, open_file, open_next,
 };
+use pg_base::MemSink;
 use pg_lines::{BlockResult, Query};
-use pg_rows::Separator;
-use pg_seq::{Arrival, Format, MemSink, Sequencer, SinkFault};
+use pg_rows::{Format, Separator};
+use pg_seq::{Arrival, Sequencer, SinkFault};
 use refusing::Refusing;
 use std::alloc::{AllocError, Allocator, Global};
 use std::process::Abort;

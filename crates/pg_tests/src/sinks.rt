@@ -1,7 +1,7 @@
 //! Sinks over memory and over writers that fail.
 ghost use Rattle.std.specs.Prelude.{◌≤◌};
 
-use pg_seq::{History, MemSink, Out, Sink, WriteError, write_all};
+use pg_base::{History, MemSink, Out, Sink, WriteError, write_all};
 use std::alloc::Global;
 use std::io::{self, ErrorKind, Write};
 use std::mem::size_of;

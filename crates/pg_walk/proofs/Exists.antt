@@ -17,8 +17,8 @@ use Rattle.pg_walk.specs.Walks.{place_cmp, directory_gives, Ascending, ItemsOf, 
 use Rattle.pg_walk.specs.Descent.{EntryGives, InsideGives, OperandGives, Adds}
 use Rattle.pg_walk.specs.Left.{Spot, Operand, Entry, spot_gives, AreLeft, shown}
 use Rattle.pg_walk.specs.declared.tree.FileKind.TheVariants.{Regular, Directory, Link, Other}
-use Rattle.pg_walk.specs.declared.item.Cause.TheVariants.{CannotOpen, IsDirectory, CannotList, BadName, TooDeep}
-use Rattle.pg_walk.specs.declared.item.Cause.TheVariants.{InCircle}
+use Rattle.pg_base.specs.declared.cause.Cause.TheVariants.{CannotOpen, IsDirectory, CannotList, BadName, TooDeep}
+use Rattle.pg_base.specs.declared.cause.Cause.TheVariants.{InCircle}
 use Rattle.pg_walk.proofs.Lists.{contains_none, contains_more, contains_one, front_or_rest, all_none, all_from_contains}
 use Rattle.pg_walk.proofs.Lists.{bytes_same}
 use Rattle.pg_walk.proofs.Steps.{entry_leaf, entry_deep, entry_circle, entry_inside, inside_fails, some_bad, some_good}

@@ -8,5 +8,4 @@ pub mod Walks
 pub mod Within
 pub mod Descent
 pub mod MemTree
-pub mod Causes
 pub mod Left

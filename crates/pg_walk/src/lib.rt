@@ -11,7 +11,7 @@ mod tree;
 mod walker;
 
 pub use disk_tree::DiskTree;
-pub use item::{Cause, Item};
+pub use item::Item;
 pub use laws::{files_are_one, mem_tree_tells, what_is_given};
 pub use mem_tree::{MemTree, Node};
 pub use scope::{Devices, Scope};

@@ -16,9 +16,10 @@ ghost use Rattle.pg_walk.specs.Left.{Operand, Entry, HasGiven, MayGive, Unfolds,
 ghost use Rattle.pg_walk.specs.Left.{shown, spot_of, spots_in, spot_gives};
 
 use crate::circle::is_in_circle;
-use crate::item::{Cause, Item};
+use crate::item::Item;
 use crate::scope::{Scope, look};
 use crate::tree::{FileKind, FileTree, LookFault};
+use pg_base::Cause;
 use std::alloc::{AllocError, Allocator, Global};
 
 /// The deepest level below an operand whose directories are listed.

@@ -1,4 +1,4 @@
-use Rattle.pg_rows.specs.Sink.{Stream}
+use Rattle.pg_base.specs.Sink.{Stream}
 use Rattle.std.specs.List.{flat_map}
 use Rattle.pg_command.proofs.ToldLemmas.{tells_by}
 use Rattle.pg_command.proofs.fault.tell_parts.Goals as goal

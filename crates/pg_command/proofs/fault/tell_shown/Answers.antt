@@ -1,5 +1,5 @@
 use Rattle.std.proofs.Common.{List, ℕ, subst, ◌∙◌}
-use Rattle.pg_rows.specs.Sink.{Stream}
+use Rattle.pg_base.specs.Sink.{Stream}
 use Rattle.pg_command.specs.Told.{TellsText}
 use Rattle.pg_command.proofs.ShownLemmas.{lines_are}
 use Rattle.pg_command.proofs.fault.tell_shown.Goals as goal

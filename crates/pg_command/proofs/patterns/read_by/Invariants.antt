@@ -1,5 +1,5 @@
 use Rattle.std.proofs.Common.{◌≡◌, ◌∷◌, ◌-◌, ◌^◌, ◌<◌, ℕ, List, length}
-use Rattle.pg_rows.specs.Output.{Left}
+use Rattle.pg_base.specs.Entries.{Left}
 use Rattle.pg_files.specs.Given.{Given, File}
 use Rattle.pg_command.proofs.patterns.read_by.Given as goal
 

@@ -1,5 +1,5 @@
 use Rattle.std.proofs.Common.{◌∙◌, ◌∷◌, ap, inr, refl, subst, sym}
-use Rattle.pg_rows.specs.Output.{Left}
+use Rattle.pg_base.specs.Entries.{Left}
 use Rattle.pg_files.specs.Given.{File}
 use Rattle.pg_command.specs.Reading.{IsReadBy}
 use Rattle.std.proofs.lemmas.Result.{IfOk-from_err}

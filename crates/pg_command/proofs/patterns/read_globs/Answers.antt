@@ -1,5 +1,5 @@
 use Rattle.std.proofs.Common.{◌∙◌, ◌++◌, ◌∷◌, [], ap, inr, refl, subst, sym, option_map}
-use Rattle.pg_rows.specs.Output.{Ended}
+use Rattle.pg_base.specs.Entries.{Ended}
 use Rattle.pg_syntax.proofs.ListLemmas.{map-push}
 use Rattle.pg_words.specs.Filters.{filters_of}
 use Rattle.pg_command.specs.Asked.{glob_files}

@@ -1,5 +1,5 @@
 use Rattle.std.proofs.Common.{List, ℕ, refl, sym, ◌∙◌, subst}
-use Rattle.pg_rows.specs.Sink.{WritesAll, WritesPart}
+use Rattle.pg_base.specs.Sink.{WritesAll, WritesPart}
 use Rattle.pg_command.proofs.ToldLemmas.{part_at_err, all_at_ok}
 use Rattle.pg_command.proofs.program.show.Goals as goal
 

@@ -3,7 +3,7 @@ use Rattle.std.specs.String.{string_bytes}
 use Rattle.pg_syntax.specs.Slices.{bytes_of}
 use Rattle.pg_walk.specs.Scopes.{scope_of}
 use Rattle.pg_files.specs.Listed.{asked_for, files_past, sought}
-use Rattle.pg_rows.specs.Sink.{Stream}
+use Rattle.pg_base.specs.Sink.{Stream}
 use Rattle.pg_run.specs.Outcome.{BreaksOff, IsSearchFor}
 use Rattle.pg_command.specs.Asked.{asked_of, glob_files, input_name, scope_for, text_with}
 use Rattle.pg_words.specs.Filters.{filters_of}

@@ -1,5 +1,5 @@
 use Rattle.std.proofs.Common.{◌++◌}
-use Rattle.pg_rows.proofs.WriteLemmas.{part_of_first, writes_part, writes_then}
+use Rattle.pg_base.proofs.WriteLemmas.{part_of_first, writes_part, writes_then}
 use Rattle.pg_rows.proofs.colors.write_both.Goals as goal
 
 pub returns-in_err-write_all : goal.returns-in_err-write_all

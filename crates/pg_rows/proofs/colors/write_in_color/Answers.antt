@@ -1,8 +1,8 @@
 use Rattle.std.proofs.Common.{◌++◌, [], List, ℕ, ap, subst}
 use Rattle.pg_rows.specs.Colors.{escape}
 use Rattle.pg_rows.specs.Painting.{code_of}
-use Rattle.pg_rows.specs.Sink.{WritesAll, WritesPart}
-use Rattle.pg_rows.proofs.WriteLemmas.{part_of_first, writes_part, writes_then}
+use Rattle.pg_base.specs.Sink.{WritesAll, WritesPart}
+use Rattle.pg_base.proofs.WriteLemmas.{part_of_first, writes_part, writes_then}
 use Rattle.pg_rows.proofs.colors.write_in_color.Goals as goal
 
 pub returns-in_err-write_both : goal.returns-in_err-write_both

@@ -3,7 +3,7 @@ use Rattle.pg_rows.specs.Colors.{in_color, part_color}
 use Rattle.pg_rows.specs.Painting.{painted_bytes}
 use Rattle.pg_rows.specs.Stretch.{no_part}
 use Rattle.pg_rows.proofs.PaintLemmas.{painted_more}
-use Rattle.pg_rows.proofs.WriteLemmas.{writes_part, left_part}
+use Rattle.pg_base.proofs.WriteLemmas.{writes_part, left_part}
 use Rattle.pg_rows.proofs.colors.write_painted.Goals as goal
 
 pub returns-in_err-write_to_part : goal.returns-in_err-write_to_part

@@ -1,6 +1,6 @@
 use Rattle.std.proofs.Common.{drop}
 use Rattle.pg_rows.specs.Painting.{painted_bytes, AreAscending}
-use Rattle.pg_rows.proofs.WriteLemmas.{WritesAllBut}
+use Rattle.pg_base.proofs.WriteLemmas.{WritesAllBut}
 use Rattle.pg_rows.proofs.colors.write_painted.Given as goal
 
 -- the bytes from the place on, with the parts from the index on, are left to write

@@ -1,6 +1,6 @@
 use Rattle.std.proofs.Common.{◌++◌, true, List, ℕ, slice_range, ap}
 use Rattle.pg_rows.specs.Colors.{in_color, part_color}
-use Rattle.pg_rows.proofs.WriteLemmas.{part_of_first, writes_part, writes_then, writes_as}
+use Rattle.pg_base.proofs.WriteLemmas.{part_of_first, writes_part, writes_then, writes_as}
 use Rattle.pg_rows.proofs.colors.write_to_part.Goals as goal
 
 pub returns-in_err-write_all : goal.returns-in_err-write_all

@@ -2,8 +2,8 @@ use Rattle.std.proofs.Common.{◌++◌, List, ℕ, ap, ◌∙◌, subst}
 use Rattle.std.specs.Fmt.{decimal}
 use Rattle.pg_rows.specs.Colors.{in_color, number_color}
 use Rattle.pg_rows.specs.Output.{mark_text}
-use Rattle.pg_rows.specs.Sink.{WritesAll, WritesPart}
-use Rattle.pg_rows.proofs.WriteLemmas.{part_of_first, writes_part, writes_then}
+use Rattle.pg_base.specs.Sink.{WritesAll, WritesPart}
+use Rattle.pg_base.proofs.WriteLemmas.{part_of_first, writes_part, writes_then}
 use Rattle.pg_rows.proofs.prefix.write_marked_number.Goals as goal
 
 pub returns-in_err-write_text : goal.returns-in_err-write_text

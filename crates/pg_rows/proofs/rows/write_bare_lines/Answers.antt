@@ -1,8 +1,8 @@
 use Rattle.std.proofs.Common.{◌∷◌, [], ◌++◌, cond, sym, ap, ◌∙◌}
 use Rattle.pg_lines.specs.Lines.{lines, terminated}
-use Rattle.pg_rows.proofs.SinkLemmas.{takes_longer}
+use Rattle.pg_base.proofs.SinkLemmas.{takes_longer}
 use Rattle.pg_rows.proofs.TextLemmas.{begins_completed}
-use Rattle.pg_rows.proofs.WriteLemmas.{writes_part, writes_then, writes_as}
+use Rattle.pg_base.proofs.WriteLemmas.{writes_part, writes_then, writes_as}
 use Rattle.pg_rows.proofs.rows.write_bare_lines.Goals as goal
 
 pub returns-in_err-write_all : goal.returns-in_err-write_all

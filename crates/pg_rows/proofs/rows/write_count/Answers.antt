@@ -1,9 +1,9 @@
 use Rattle.std.proofs.Common.{◌++◌, ◌∷◌, [], List, ℕ, sym, ap, ◌∙◌, subst}
 use Rattle.std.specs.Fmt.{decimal}
 use Rattle.pg_rows.specs.Output.{name_end, name_text, when}
-use Rattle.pg_rows.specs.Sink.{WritesAll, WritesPart}
+use Rattle.pg_base.specs.Sink.{WritesAll, WritesPart}
 use Rattle.pg_rows.proofs.RowLemmas.{count_row_is}
-use Rattle.pg_rows.proofs.WriteLemmas.{part_of_first, writes_part, writes_then, writes_as}
+use Rattle.pg_base.proofs.WriteLemmas.{part_of_first, writes_part, writes_then, writes_as}
 use Rattle.pg_rows.proofs.rows.write_count.Goals as goal
 
 pub returns-then-not-format : goal.returns-then-not-format

@@ -5,11 +5,11 @@ use Rattle.std.proofs.lemmas.Bool.{cases_lt}
 use Rattle.std.proofs.lemmas.List.{drop_all, length-take-le}
 use Rattle.pg_lines.specs.Lines.{lines, AreWhole}
 use Rattle.pg_rows.specs.Output.{size_of}
-use Rattle.pg_rows.specs.Sink.{WritesAll, WritesPart}
+use Rattle.pg_base.specs.Sink.{WritesAll, WritesPart}
 use Rattle.pg_rows.specs.Stretch.{marked_rows, plain}
 use Rattle.pg_rows.proofs.RowLemmas.{marked_line}
 use Rattle.pg_rows.proofs.SizeLemmas.{size_whole}
-use Rattle.pg_rows.proofs.WriteLemmas.{writes_part, left_less, left_none, left_part, left_whole}
+use Rattle.pg_base.proofs.WriteLemmas.{writes_part, left_less, left_none, left_part, left_whole}
 use Rattle.pg_rows.proofs.rows.write_line_by_line.Goals as goal
 
 -- how many bytes the line has that stands between two places, or none follows it

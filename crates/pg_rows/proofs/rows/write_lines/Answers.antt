@@ -1,7 +1,7 @@
 use Rattle.pg_lines.specs.Lines.{lines, terminated}
 use Rattle.pg_rows.specs.Stretch.{marked_rows, plain}
 use Rattle.pg_rows.proofs.RowLemmas.{marked_plain}
-use Rattle.pg_rows.proofs.WriteLemmas.{writes_as}
+use Rattle.pg_base.proofs.WriteLemmas.{writes_as}
 use Rattle.pg_rows.proofs.rows.write_lines.Goals as goal
 
 pub returns-else-has_prefix-clause-writes : goal.returns-else-has_prefix-clause-writes

@@ -1,10 +1,10 @@
 use Rattle.std.proofs.Common.{ℕ, ◌+◌, ◌∙◌, List, drop, get_or, nat_lt, refl, ap, subst}
 use Rattle.std.proofs.lemmas.List.{drop_all}
 use Rattle.pg_rows.specs.Output.{when}
-use Rattle.pg_rows.specs.Sink.{WritesAll, WritesPart}
+use Rattle.pg_base.specs.Sink.{WritesAll, WritesPart}
 use Rattle.pg_rows.specs.Stretch.{part_row, part_rows, no_part}
 use Rattle.pg_rows.proofs.RowLemmas.{parts_more}
-use Rattle.pg_rows.proofs.WriteLemmas.{writes_part, left_less, left_none, left_part, left_whole}
+use Rattle.pg_base.proofs.WriteLemmas.{writes_part, left_less, left_none, left_part, left_whole}
 use Rattle.pg_rows.proofs.rows.write_parts.Goals as goal
 
 pub returns-in_err-write_part-clause-same : goal.returns-in_err-write_part-clause-same

@@ -1,6 +1,6 @@
 use Rattle.std.proofs.Common.{◌≡◌, drop}
 use Rattle.pg_rows.specs.Stretch.{part_rows}
-use Rattle.pg_rows.proofs.WriteLemmas.{WritesAllBut}
+use Rattle.pg_base.proofs.WriteLemmas.{WritesAllBut}
 use Rattle.pg_rows.proofs.rows.write_parts.Given as goal
 
 -- the rows of the parts from the index on are left to write

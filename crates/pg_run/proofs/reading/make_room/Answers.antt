@@ -1,6 +1,6 @@
 use Rattle.std.proofs.lemmas.Result.{MatchResult-weaker}
 use Rattle.std.proofs.Common.{ap, length, arith, refl}
-use Rattle.pg_rows.proofs.SinkLemmas.{on_ok}
+use Rattle.pg_base.proofs.SinkLemmas.{on_ok}
 use Rattle.pg_run.proofs.ReadingLemmas.{recut, nothing_read, rest_breaks}
 use Rattle.pg_run.proofs.reading.make_room.Goals as goal
 

@@ -1,7 +1,8 @@
 use Rattle.std.proofs.Common.{◌≡◌, ◌∙◌, Bool, false, true, ◌++◌, ap, sym}
 use Rattle.std.proofs.lemmas.Result.{IfOk-from_err}
-use Rattle.pg_walk.specs.declared.item.Cause.TheVariants.{ReadFailed}
-use Rattle.pg_rows.specs.Output.{is_failed, when}
+use Rattle.pg_base.specs.declared.cause.Cause.TheVariants.{ReadFailed}
+use Rattle.pg_base.specs.Entries.{is_failed}
+use Rattle.pg_rows.specs.Output.{when}
 use Rattle.pg_files.specs.Given.{newest_name}
 use Rattle.pg_run.specs.Told.{faults_of, fault_line}
 use Rattle.pg_run.specs.Reading.{Breaks, ending_after}

@@ -4,7 +4,7 @@ use Rattle.pg_lines.specs.Search.{SearchText, AreTreesOf}
 use Rattle.pg_lines.specs.Queries.{IsQueryFault}
 use Rattle.pg_lines.specs.declared.query.QueryFault.{QueryFault}
 use Rattle.pg_lines.specs.declared.query.QueryFault.TheVariants.{Syntax, TooLarge, OutOfMemory as NoMemoryForQuery}
-use Rattle.pg_rows.specs.Sink.{Stream}
+use Rattle.pg_base.specs.Sink.{Stream}
 use Rattle.pg_run.specs.declared.setup.Setup.{Setup}
 use Rattle.pg_run.specs.Faults.{fault_of_query}
 use Rattle.pg_run.specs.Outcome.{HasCause}

@@ -1,6 +1,6 @@
 use Rattle.std.proofs.Common.{◌≡◌, ◌∙◌, List, [], ◌∷◌, ◌++◌, ap, drop, refl, subst, sym}
-use Rattle.pg_walk.specs.declared.item.Cause.TheVariants.{ReadFailed}
-use Rattle.pg_rows.specs.Output.{Left}
+use Rattle.pg_base.specs.declared.cause.Cause.TheVariants.{ReadFailed}
+use Rattle.pg_base.specs.Entries.{Left}
 use Rattle.pg_files.specs.Given.{Given, File}
 use Rattle.pg_run.specs.Told.{fault_line, faults_of}
 use Rattle.pg_run.specs.Reading.{Stops}

@@ -1,11 +1,11 @@
 use Rattle.std.proofs.Common.{◌≡◌, ◌∙◌, ◌++◌, ℕ, Bool, false, List, [], ap, not, refl, subst, sym}
 use Rattle.std.specs.Prelude.{codes}
 use Rattle.pg_rows.specs.Output.{when}
-use Rattle.pg_rows.specs.Sink.{WritesAll, WritesPart}
-use Rattle.pg_walk.specs.Causes.{cause_text}
-use Rattle.pg_walk.specs.declared.item.Cause.{Cause}
+use Rattle.pg_base.specs.Sink.{WritesAll, WritesPart}
+use Rattle.pg_base.specs.Causes.{cause_text}
+use Rattle.pg_base.specs.declared.cause.Cause.{Cause}
 use Rattle.pg_run.specs.Told.{fault_line}
-use Rattle.pg_rows.proofs.WriteLemmas.{wrote_none, writes_as}
+use Rattle.pg_base.proofs.WriteLemmas.{wrote_none, writes_as}
 use Rattle.pg_run.proofs.running.tell_fault.Goals as goal
 
 -- five parts are the line that is told

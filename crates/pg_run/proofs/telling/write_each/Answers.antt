@@ -1,7 +1,7 @@
 use Rattle.std.proofs.Common.{ap}
 use Rattle.std.proofs.lemmas.List.{drop_all}
 use Rattle.std.specs.List.{flat_map}
-use Rattle.pg_rows.proofs.WriteLemmas.{writes_part, left_none, left_whole}
+use Rattle.pg_base.proofs.WriteLemmas.{writes_part, left_none, left_whole}
 use Rattle.pg_run.proofs.ToldLemmas.{left_of_parts, part_of_parts}
 use Rattle.pg_run.proofs.telling.write_each.Goals as goal
 

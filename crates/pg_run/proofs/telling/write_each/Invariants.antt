@@ -1,6 +1,6 @@
 use Rattle.std.proofs.Common.{drop}
 use Rattle.std.specs.List.{flat_map}
-use Rattle.pg_rows.proofs.WriteLemmas.{WritesAllBut}
+use Rattle.pg_base.proofs.WriteLemmas.{WritesAllBut}
 use Rattle.pg_run.proofs.telling.write_each.Given as goal
 
 -- the parts from the index on are left to write

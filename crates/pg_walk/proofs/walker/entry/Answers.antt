@@ -7,7 +7,7 @@ use Rattle.pg_walk.specs.Scopes.{Is, IsLeftOut, IsUntold, scope_of, sights}
 use Rattle.pg_walk.specs.Descent.{EntryGives, InsideGives}
 use Rattle.pg_walk.specs.Left.{spots_in}
 use Rattle.pg_walk.specs.declared.tree.FileKind.TheVariants.{Regular, Link, Other}
-use Rattle.pg_walk.specs.declared.item.Cause.TheVariants.{CannotOpen, TooDeep, InCircle}
+use Rattle.pg_base.specs.declared.cause.Cause.TheVariants.{CannotOpen, TooDeep, InCircle}
 use Rattle.pg_walk.proofs.Steps.{entry_leaf, entry_deep, entry_circle, entry_inside}
 use Rattle.pg_walk.proofs.Lefts.{unfolds_leaf, unfolds_as}
 use Rattle.pg_walk.proofs.WithinLemmas.{entry_leaf_within, entry_none_within}

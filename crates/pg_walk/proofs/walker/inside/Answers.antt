@@ -9,7 +9,7 @@ use Rattle.std.specs.List.{All}
 use Rattle.std.proofs.lemmas.List.Elements.{All-nil}
 use Rattle.pg_walk.specs.Within.{IsWithin}
 use Rattle.pg_walk.specs.Left.{Spot, Entry, spots_in, Unfolds, UnfoldsWithin}
-use Rattle.pg_walk.specs.declared.item.Cause.TheVariants.{CannotList, BadName}
+use Rattle.pg_base.specs.declared.cause.Cause.TheVariants.{CannotList, BadName}
 use Rattle.pg_walk.proofs.Steps.{inside_fails, some_bad, some_good}
 use Rattle.pg_walk.proofs.Lefts.{unfolds_leaf, unfolds_inside}
 use Rattle.pg_walk.proofs.WithinLemmas.{entry_leaf_within, inside_within}

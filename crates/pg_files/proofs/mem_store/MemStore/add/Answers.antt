@@ -1,6 +1,6 @@
 use Rattle.std.proofs.Common.{arith, refl}
 use Rattle.std.proofs.lemmas.Grind.{common_steps}
-use Rattle.pg_rows.proofs.SinkLemmas.{ok_of_err, on_err}
+use Rattle.pg_base.proofs.SinkLemmas.{ok_of_err, on_err}
 use Rattle.pg_files.proofs.MemStoreLemmas.{left_added}
 use Rattle.pg_files.proofs.mem_store.MemStore.add.Goals as goal
 

@@ -1,6 +1,6 @@
 use Rattle.pg_rows.specs.Stretch.{plain_prefix_text, prefix_text}
 use Rattle.pg_rows.proofs.RowLemmas.{plain_prefix}
-use Rattle.pg_rows.proofs.WriteLemmas.{writes_as}
+use Rattle.pg_base.proofs.WriteLemmas.{writes_as}
 use Rattle.pg_rows.proofs.prefix.Prefix.write.Goals as goal
 
 pub returns-else-format-clause-writes : goal.returns-else-format-clause-writes

@@ -1,7 +1,7 @@
 use Rattle.std.proofs.Common.{◌++◌, List, ℕ, ap, subst}
 use Rattle.pg_rows.specs.Output.{name_end, name_text, number_text, tab_before, when}
-use Rattle.pg_rows.specs.Sink.{WritesAll, WritesPart}
-use Rattle.pg_rows.proofs.WriteLemmas.{part_of_first, part_of_second, writes_part, writes_then, wrote_more}
+use Rattle.pg_base.specs.Sink.{WritesAll, WritesPart}
+use Rattle.pg_base.proofs.WriteLemmas.{part_of_first, part_of_second, writes_part, writes_then, wrote_more}
 use Rattle.pg_rows.proofs.prefix.Prefix.write_colored.Goals as goal
 
 pub returns-in_err-write_name : goal.returns-in_err-write_name

@@ -6,7 +6,7 @@ use Rattle.pg_lines.specs.BlockParts.{HasParts}
 use Rattle.pg_lines.specs.Blocks.{BlockData}
 use Rattle.pg_rows.specs.Pieces.{HasFound}
 use Rattle.pg_rows.specs.Remembered.{shown_rows}
-use Rattle.pg_rows.specs.Sink.{WritesText}
+use Rattle.pg_base.specs.Sink.{WritesText}
 use Rattle.pg_rows.proofs.printer.Printer.print.Goals as goal
 
 pub returns-clause-writes : goal.returns-clause-writes

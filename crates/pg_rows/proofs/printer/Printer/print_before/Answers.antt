@@ -2,7 +2,7 @@ use Rattle.std.proofs.Common.{◌++◌}
 use Rattle.pg_lines.specs.Lines.{lines}
 use Rattle.pg_rows.specs.Window.{held}
 use Rattle.pg_rows.specs.Printing.{gap_of, rows_of_leading}
-use Rattle.pg_rows.proofs.WriteLemmas.{part_of_first, writes_part, writes_then}
+use Rattle.pg_base.proofs.WriteLemmas.{part_of_first, writes_part, writes_then}
 use Rattle.pg_rows.proofs.printer.Printer.print_before.Goals as goal
 
 pub returns-in_err-print_gap-clause-writes : goal.returns-in_err-print_gap-clause-writes

@@ -6,7 +6,7 @@ use Rattle.pg_rows.specs.Trail.{run_pieces, run_rows}
 use Rattle.pg_rows.specs.Modes.{shows_rows}
 use Rattle.pg_rows.specs.Remembered.{shown_rows}
 use Rattle.pg_rows.proofs.PrinterSteps.{shown_pieces, shown_lines}
-use Rattle.pg_rows.proofs.WriteLemmas.{writes_as}
+use Rattle.pg_base.proofs.WriteLemmas.{writes_as}
 use Rattle.pg_rows.proofs.printer.Printer.print_found.Goals as goal
 
 pub returns-then-self-clause-writes : goal.returns-then-self-clause-writes

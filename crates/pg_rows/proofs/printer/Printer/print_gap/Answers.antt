@@ -1,7 +1,7 @@
 use Rattle.std.proofs.Common.{[], sym, ap, ◌∙◌}
 use Rattle.pg_rows.specs.Output.{gap_text, when}
 use Rattle.pg_rows.specs.Printing.{gap_of}
-use Rattle.pg_rows.proofs.WriteLemmas.{wrote_none, writes_as}
+use Rattle.pg_base.proofs.WriteLemmas.{wrote_none, writes_as}
 use Rattle.pg_rows.proofs.printer.Printer.print_gap.Goals as goal
 
 pub returns-then-has_gap : goal.returns-then-has_gap

@@ -4,7 +4,7 @@ use Rattle.pg_lines.specs.Lines.{lines}
 use Rattle.pg_rows.specs.Output.{painted}
 use Rattle.pg_rows.specs.Stretch.{marked_rows, plain}
 use Rattle.pg_rows.proofs.PaintLemmas.{plain_texts}
-use Rattle.pg_rows.proofs.WriteLemmas.{writes_as}
+use Rattle.pg_base.proofs.WriteLemmas.{writes_as}
 use Rattle.pg_rows.proofs.printer.Printer.print_kept.Goals as goal
 
 pub returns-clause-writes : goal.returns-clause-writes

@@ -5,13 +5,13 @@ use Rattle.std.proofs.lemmas.List.{take_rest}
 use Rattle.circular_buffer.specs.Buffer.{keep_last}
 use Rattle.pg_lines.specs.Lines.{lines, AreWhole}
 use Rattle.pg_rows.specs.Output.{size_of}
-use Rattle.pg_rows.specs.Sink.{WritesAll, WritesPart}
+use Rattle.pg_base.specs.Sink.{WritesAll, WritesPart}
 use Rattle.pg_rows.specs.Stretch.{marked_rows, plain}
 use Rattle.pg_rows.specs.Window.{held}
 use Rattle.pg_rows.specs.Printing.{leading, rows_of_leading}
 use Rattle.pg_rows.proofs.LeadLemmas.{leading_rows, no_leading, held_start, last_of_both}
 use Rattle.pg_rows.proofs.SizeLemmas.{size_append, size_whole, whole_drop}
-use Rattle.pg_rows.proofs.WriteLemmas.{wrote_none, part_of_first, writes_part, writes_then, writes_as}
+use Rattle.pg_base.proofs.WriteLemmas.{wrote_none, part_of_first, writes_part, writes_then, writes_as}
 use Rattle.pg_rows.proofs.printer.Printer.print_leading.Goals as goal
 
 pub returns-then-leading-eq0-clause-writes : goal.returns-then-leading-eq0-clause-writes

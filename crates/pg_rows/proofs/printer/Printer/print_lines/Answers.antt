@@ -7,14 +7,14 @@ use Rattle.pg_lines.specs.Search.{terminator}
 use Rattle.pg_lines.specs.Lines.{lines}
 use Rattle.pg_rows.specs.declared.printer.Printer.{Printer}
 use Rattle.pg_rows.specs.Output.{size_of}
-use Rattle.pg_rows.specs.Sink.{TakesPart}
+use Rattle.pg_base.specs.Sink.{TakesPart}
 use Rattle.pg_rows.specs.Trail.{run_rows}
 use Rattle.pg_rows.specs.Window.{held}
 use Rattle.pg_rows.specs.Printing.{rows_of_passed}
 use Rattle.pg_rows.proofs.PrintLemmas.{at_last}
 use Rattle.pg_rows.proofs.RunSteps.{failed_before}
 use Rattle.pg_rows.proofs.PrinterSteps.{behind_last, follows}
-use Rattle.pg_rows.proofs.WriteLemmas.{writes_part}
+use Rattle.pg_base.proofs.WriteLemmas.{writes_part}
 use Rattle.pg_rows.proofs.printer.Printer.print_lines.Goals as goal
 
 rises : (before middle after : ℕ) → middle ≡ before → middle < after → before < after

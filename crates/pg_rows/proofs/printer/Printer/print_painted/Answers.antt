@@ -3,10 +3,10 @@ use Rattle.pg_lines.specs.Lines.{lines}
 use Rattle.pg_rows.specs.declared.printer.Printer.{Printer}
 use Rattle.pg_rows.specs.Output.{painted, row}
 use Rattle.pg_rows.specs.Painting.{painted_bytes}
-use Rattle.pg_rows.specs.Sink.{WritesAll, WritesPart}
+use Rattle.pg_base.specs.Sink.{WritesAll, WritesPart}
 use Rattle.pg_rows.specs.Stretch.{marked_rows}
 use Rattle.pg_rows.proofs.PaintLemmas.{prints_line}
-use Rattle.pg_rows.proofs.WriteLemmas.{left_less, left_part, writes_part}
+use Rattle.pg_base.proofs.WriteLemmas.{left_less, left_part, writes_part}
 use Rattle.pg_rows.proofs.printer.Printer.print_painted.Goals as goal
 
 pub slice_bounds-own-end : goal.slice_bounds-own-end

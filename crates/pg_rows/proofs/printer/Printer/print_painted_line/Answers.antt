@@ -4,7 +4,7 @@ use Rattle.pg_rows.specs.Stretch.{prefix_text}
 use Rattle.pg_rows.specs.Painting.{painted_bytes}
 use Rattle.pg_rows.proofs.PaintLemmas.{painted_some}
 use Rattle.pg_rows.proofs.RowLemmas.{row_is}
-use Rattle.pg_rows.proofs.WriteLemmas.{part_of_first, writes_part, writes_then, writes_as}
+use Rattle.pg_base.proofs.WriteLemmas.{part_of_first, writes_part, writes_then, writes_as}
 use Rattle.pg_rows.proofs.printer.Printer.print_painted_line.Goals as goal
 
 pub returns-in_err-write-clause-writes : goal.returns-in_err-write-clause-writes

@@ -6,7 +6,7 @@ use Rattle.pg_rows.specs.Trail.{run_pieces}
 use Rattle.pg_rows.specs.Modes.{shows_rows}
 use Rattle.pg_rows.proofs.PieceLemmas.{found_lines_told, parts_fit}
 use Rattle.pg_rows.proofs.PrinterSteps.{pieces_same}
-use Rattle.pg_rows.proofs.WriteLemmas.{writes_part, writes_as}
+use Rattle.pg_base.proofs.WriteLemmas.{writes_part, writes_as}
 use Rattle.pg_rows.proofs.printer.Printer.print_parts.Goals as goal
 
 pub write_parts-requires-clause-within : goal.write_parts-requires-clause-within

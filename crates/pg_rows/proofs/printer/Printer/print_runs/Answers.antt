@@ -5,11 +5,11 @@ use Rattle.std.proofs.lemmas.List.{drop_all, length-take-le}
 use Rattle.pg_lines.specs.Search.{terminator}
 use Rattle.pg_lines.specs.Lines.{lines}
 use Rattle.pg_rows.specs.declared.printer.Printer.{Printer}
-use Rattle.pg_rows.specs.Sink.{WritesPart}
+use Rattle.pg_base.specs.Sink.{WritesPart}
 use Rattle.pg_rows.specs.Trail.{run_rows}
 use Rattle.pg_rows.specs.Window.{held}
 use Rattle.pg_rows.specs.Remembered.{Remembers, ComesLast}
-use Rattle.pg_rows.proofs.SinkLemmas.{on_err}
+use Rattle.pg_base.proofs.SinkLemmas.{on_err}
 use Rattle.pg_rows.proofs.BlockLemmas.{no_run}
 use Rattle.pg_rows.proofs.RunSteps.{IsBefore, failed_before}
 use Rattle.pg_rows.proofs.PrinterSteps.{before_all, can_step, IsStep, step_rows, stepped, comes_last}

@@ -5,13 +5,13 @@ use Rattle.circular_buffer.specs.Buffer.{keep_last}
 use Rattle.pg_lines.specs.Lines.{lines}
 use Rattle.pg_rows.specs.declared.printer.Printer.{Printer}
 use Rattle.pg_rows.specs.Output.{painted, size_of}
-use Rattle.pg_rows.specs.Sink.{WritesAll, WritesPart}
+use Rattle.pg_base.specs.Sink.{WritesAll, WritesPart}
 use Rattle.pg_rows.specs.Painting.{IsTold}
 use Rattle.pg_rows.specs.Printing.{leading, rows_of_passed, gap_of, rows_of_leading}
 use Rattle.pg_rows.specs.Stretch.{marked_rows}
 use Rattle.pg_rows.specs.Window.{held}
 use Rattle.pg_rows.proofs.PrinterSteps.{cut_bytes}
-use Rattle.pg_rows.proofs.WriteLemmas.{part_of_first, writes_part, writes_then, writes_as}
+use Rattle.pg_base.proofs.WriteLemmas.{part_of_first, writes_part, writes_then, writes_as}
 use Rattle.pg_rows.proofs.printer.Printer.print_step.Goals as goal
 
 -- where a run begins behind a gap

@@ -9,7 +9,7 @@ use Rattle.pg_rows.specs.Output.{context, size_of}
 use Rattle.pg_rows.specs.Window.{held, IsWindow}
 use Rattle.pg_rows.specs.Printing.{leading, rows_of_passed, rows_before}
 use Rattle.pg_rows.proofs.SizeLemmas.{whole_drop}
-use Rattle.pg_rows.proofs.WriteLemmas.{part_of_first, writes_part, writes_then, writes_as}
+use Rattle.pg_base.proofs.WriteLemmas.{part_of_first, writes_part, writes_then, writes_as}
 use Rattle.pg_rows.proofs.printer.Printer.print_unkept.Goals as goal
 
 pub returns-in_err-stop-clause-writes : goal.returns-in_err-stop-clause-writes

@@ -1,7 +1,7 @@
 use Rattle.std.proofs.Common.{◌++◌, ◌∷◌, [], nat_lt, sym, ap, ◌∙◌}
 use Rattle.pg_rows.specs.Modes.{is_named}
 use Rattle.pg_rows.specs.Output.{name_mark, name_text, when}
-use Rattle.pg_rows.proofs.WriteLemmas.{wrote_none, writes_as}
+use Rattle.pg_base.proofs.WriteLemmas.{wrote_none, writes_as}
 use Rattle.pg_rows.proofs.printer.Printer.write_listed_name.Goals as goal
 
 pub returns-then-is_named : goal.returns-then-is_named

@@ -3,7 +3,7 @@ use Rattle.pg_rows.specs.Output.{size_of}
 use Rattle.pg_rows.specs.Stretch.{marked_rows, plain}
 use Rattle.pg_rows.specs.Window.{tail_lines}
 use Rattle.pg_rows.proofs.SizeLemmas.{size_enough}
-use Rattle.pg_rows.proofs.WriteLemmas.{writes_as}
+use Rattle.pg_base.proofs.WriteLemmas.{writes_as}
 use Rattle.pg_rows.proofs.window.Tail.write_from.Goals as goal
 
 pub returns-clause-writes : goal.returns-clause-writes

@@ -4,12 +4,12 @@ use Rattle.std.proofs.Common.{refl, length-drop}
 use Rattle.std.specs.List.{AllByRecursion}
 use Rattle.circular_buffer.specs.Buffer.{keep_last}
 use Rattle.pg_rows.specs.declared.window.Tail.{Tail}
-use Rattle.pg_rows.specs.Sink.{WritesAll, WritesPart}
+use Rattle.pg_base.specs.Sink.{WritesAll, WritesPart}
 use Rattle.pg_rows.specs.Output.{size_of}
 use Rattle.pg_rows.specs.Stretch.{marked_rows, plain}
 use Rattle.pg_rows.specs.Window.{lines_in, tail_lines, held, IsTail}
 use Rattle.pg_rows.proofs.WindowLemmas.{shown_tails, shown_count, shown_size}
-use Rattle.pg_rows.proofs.WriteLemmas.{WritesAllBut, writes_part, left_whole, left_less, left_none, left_part}
+use Rattle.pg_base.proofs.WriteLemmas.{WritesAllBut, writes_part, left_whole, left_less, left_none, left_part}
 use Rattle.pg_rows.proofs.window.Window.write_last.Goals as goal
 
 pub loop-tail-init : goal.loop-tail-init

@@ -4,7 +4,7 @@ use Rattle.circular_buffer.specs.Buffer.{keep_last}
 use Rattle.pg_rows.specs.Output.{size_of}
 use Rattle.pg_rows.specs.Stretch.{marked_rows, plain}
 use Rattle.pg_rows.specs.Window.{lines_in, held, IsTail}
-use Rattle.pg_rows.proofs.WriteLemmas.{WritesAllBut}
+use Rattle.pg_base.proofs.WriteLemmas.{WritesAllBut}
 use Rattle.pg_rows.proofs.window.Window.write_last.Given as goal
 
 -- the rows of the tails to come are left to write, but for the lines that are still to be skipped

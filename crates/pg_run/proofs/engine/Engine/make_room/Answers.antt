@@ -1,6 +1,6 @@
 use Rattle.std.proofs.lemmas.Result.{MatchResult-weaker}
 use Rattle.std.proofs.Common.{ap, length, arith}
-use Rattle.pg_rows.proofs.SinkLemmas.{on_ok}
+use Rattle.pg_base.proofs.SinkLemmas.{on_ok}
 use Rattle.pg_run.proofs.engine.Engine.make_room.Goals as goal
 
 pub flush-requires-clause-holds : goal.flush-requires-clause-holds

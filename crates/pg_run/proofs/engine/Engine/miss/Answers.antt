@@ -1,4 +1,4 @@
-use Rattle.pg_rows.proofs.SinkLemmas.{on_ok}
+use Rattle.pg_base.proofs.SinkLemmas.{on_ok}
 use Rattle.pg_seq.specs.Plan.{Misses}
 use Rattle.pg_run.specs.Holding.{past_of, format_of}
 use Rattle.pg_run.proofs.HoldLemmas.{holds_step}

@@ -3,8 +3,8 @@ use Rattle.std.specs.Bool.{MatchBool}
 use Rattle.std.proofs.lemmas.List.{append-nil}
 use Rattle.std.proofs.lemmas.Result.{MatchResult-from_err}
 use Rattle.pg_rows.specs.Remembered.{end_rows}
-use Rattle.pg_rows.specs.Sink.{Stream, WritesAll, WritesPart}
-use Rattle.pg_rows.proofs.WriteLemmas.{wrote_none}
+use Rattle.pg_base.specs.Sink.{Stream, WritesAll, WritesPart}
+use Rattle.pg_base.proofs.WriteLemmas.{wrote_none}
 use Rattle.pg_seq.specs.History.{Past}
 use Rattle.pg_seq.specs.declared.assembler.Assembler.{Assembler}
 use Rattle.pg_seq.specs.Standing.{Stands, Advances, Rests, IsWritten}

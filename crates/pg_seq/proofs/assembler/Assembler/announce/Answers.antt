@@ -1,6 +1,6 @@
 use Rattle.std.proofs.Common.{refl}
 use Rattle.std.specs.Arc.{arc_value}
-use Rattle.pg_rows.proofs.SinkLemmas.{on_ok, on_err_too}
+use Rattle.pg_base.proofs.SinkLemmas.{on_ok, on_err_too}
 use Rattle.pg_seq.proofs.StandLemmas.{same_stands, announced_stands, has_room}
 use Rattle.pg_seq.proofs.assembler.Assembler.announce.Goals as goal
 

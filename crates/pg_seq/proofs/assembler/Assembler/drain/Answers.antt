@@ -3,7 +3,7 @@ use Rattle.std.proofs.Common.{append_assoc}
 use Rattle.std.specs.Bool.{MatchBool}
 use Rattle.std.proofs.lemmas.Bool.{false≢true}
 use Rattle.std.proofs.lemmas.List.{append-nil}
-use Rattle.pg_rows.proofs.WriteLemmas.{wrote_none, wrote_more}
+use Rattle.pg_base.proofs.WriteLemmas.{wrote_none, wrote_more}
 use Rattle.pg_seq.specs.History.{Past}
 use Rattle.pg_seq.specs.declared.assembler.Assembler.{Assembler}
 use Rattle.pg_seq.specs.Standing.{Stands, wrote}

@@ -1,5 +1,5 @@
 use Rattle.std.proofs.Common.{◌≡◌, ℕ, List, false}
-use Rattle.pg_rows.specs.Sink.{WritesAll}
+use Rattle.pg_base.specs.Sink.{WritesAll}
 use Rattle.pg_seq.specs.History.{Past}
 use Rattle.pg_seq.specs.Standing.{Stands, wrote, left}
 use Rattle.pg_seq.proofs.assembler.Assembler.drain.Given as goal

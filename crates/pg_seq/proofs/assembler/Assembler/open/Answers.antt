@@ -1,5 +1,5 @@
 use Rattle.std.proofs.Common.{◌∙◌, ◌++◌, [], ◌∷◌, ap, refl}
-use Rattle.pg_rows.proofs.SinkLemmas.{on_err}
+use Rattle.pg_base.proofs.SinkLemmas.{on_err}
 use Rattle.pg_seq.specs.declared.opening.Opening.{Opening}
 use Rattle.pg_seq.proofs.StandLemmas.{may_open, opened_stands, same_stands}
 use Rattle.pg_seq.proofs.assembler.Assembler.open.Goals as goal

@@ -1,0 +1,3 @@
+pub mod SinkLemmas
+pub mod HistorySteps
+pub mod WriteLemmas

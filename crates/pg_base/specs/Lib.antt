@@ -1,0 +1,3 @@
+pub mod Sink
+pub mod Causes
+pub mod Entries
