@@ -31,14 +31,6 @@ pub nothing_here : (m : Nfa) (l : List ℕ) (s : ℕ) → (MayBegin m.bounds l s
 nothing_here m l s refused = λ i j ge lt less inside run.
     let same : i ≡ s = omega arith in refused (subst (MayBegin m.bounds l) same run.0)
 
--- none begins before the next place either
-pub nothing_on : (m : Nfa) (l : List ℕ) (from p : ℕ) → NothingBefore m l from p → NothingBefore m l p (p + 1)
-    → NothingBefore m l from (p + 1)
-nothing_on m l from p before here = λ i j ge lt less inside run. elim (cases_lt i p) [
-  | inl early ↦ before i j ge early less inside run
-  | inr there ↦ here i j there lt less inside run
-]
-
 -- the best span from a later place on, where none begins before it
 pub best_behind : (m : Nfa) (l : List ℕ) (from start : ℕ) (best : Option (ℕ × ℕ)) → from ≤ start
     → NothingBefore m l from start

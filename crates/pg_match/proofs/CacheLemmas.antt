@@ -662,29 +662,9 @@ told_hit m mem state v b is s lt read one =
       ]
     ]
 
--- and where none does, there or behind it
-pub told_dead : (m : Nfa) (mem : Remembered) (state v b : ℕ) → IsMemoryOf m mem → IsAtRow mem state → b < 256
-    → v ≡ slice_index mem.steps (state + b) → v ≡ 2 → IsHopeless m b (In mem (state / 256))
-told_dead m mem state v b is s lt read two =
-    let cell : state + b ≡ 256 * (state / 256) + b = ap (λ u. u + b) s.row in
-    let here : v ≡ slice_index mem.steps (256 * (state / 256) + b) = read ∙ ap (slice_index mem.steps) cell in
-    elim (subst (Told m mem (state / 256) b) (sym here) (is.told (state / 256) b s.known lt)) [
-      | inl unknown ↦ absurd (unknown.2 two)
-      | inr rest ↦ elim rest [
-        | inl hit ↦ absurd (omega (arith, hit.0))
-        | inr more ↦ elim more [ inl dead ↦ dead.1 | inr go ↦ absurd (omega (arith, go.1, go.2)) ]
-      ]
-    ]
-
 -- the same of the set that was fetched
 pub hopeless_there : (m : Nfa) (b : ℕ) (S U : ℕ → Type 0) → Same U S → IsHopeless m b S → IsHopeless m b U
 hopeless_there m b S U same h = λ l from p lt s. h l from p lt (stands_at m l from p U S same s)
-
-pub finishes_dead : (m : Nfa) (b : ℕ) (S : ℕ → Type 0) → IsHopeless m b S → Finishes m b S false
-finishes_dead m b S h = λ l from p s byte end begun. (
-  λ yes. absurd (true≢false (sym yes)),
-  λ run. absurd (h l from p (omega (arith, end)) s byte run),
-)
 
 pub ended_so : (m : Nfa) (l : List ℕ) (from : ℕ) (S : ℕ → Type 0) (answer first : Bool) → IsRunnable m
     → Stands m l from (length l) S

@@ -358,12 +358,6 @@ found_here m l from p now best is a = go (may_end m.bounds l p) refl
       least = λ s ge le early run. absurd (not_from_Decides (may_end m.bounds l p) (end_decided m.bounds l p) e run.1);
     }
 
--- a mark that may still win is small
-pub limit_small : (t : List State) (l : List ℕ) (x : ℕ) (B E : ℕ → Type 0) (from p : ℕ) (best : Option (ℕ × ℕ))
-    → IsBest t l x B E from p best → p ≤ 2 ^ 31 → limit_of best < 2 ^ 32
-limit_small t l x B E from p None b short = omega arith
-limit_small t l x B E from p (Some s) b short = omega (arith, b.1, b.2)
-
 -- what a search keeps: the set of the position, and the best before it
 pub record Searching (m : Nfa) (l : List ℕ) (from p : ℕ) (s : Buffers) (best : Option (ℕ × ℕ)) : Type 0 where
   pub alive : Alive m.states l m.start (MayBegin m.bounds l) from (start_bound p) p s.current best

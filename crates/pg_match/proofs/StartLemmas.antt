@@ -55,15 +55,6 @@ module _ (t : List State) (seeds : List ℕ) (b : ℕ) (old : List ℕ) where
   abbrev Seed : ℕ → Option State
   Seed k = slice_get t (slice_index seeds k)
 
-  pub targeted_first : Targeted t seeds b old old 0
-  targeted_first = record {
-    longer = omega arith;
-    few = omega arith;
-    kept = λ j lt. refl;
-    from = λ j ge lt. absurd (omega arith);
-    all = λ i r lt. absurd (omega arith);
-  }
-
   pub targeted_over : (new : List ℕ) (k : ℕ) → Targeted t seeds b old new k → ((r : ℕ) → Reads (Seed k) b r → ⊥)
       → Targeted t seeds b old new (k + 1)
   targeted_over new k g none = record {
@@ -117,13 +108,6 @@ module _ (t : List State) (seeds : List ℕ) (b : ℕ) (old : List ℕ) where
 
 -- the targets of all bytes
 module _ (t : List State) (seeds : List ℕ) where
-  pub starts_first : (targets cuts : List ℕ) → StartsBelow t seeds targets cuts 0
-  starts_first targets cuts = record {
-    upto = λ b lt. absurd (omega arith);
-    from = λ b j lt. absurd (omega arith);
-    all = λ b k r lt. absurd (omega arith);
-  }
-
   pub starts_next : (old new cuts after : List ℕ) (n : ℕ) → StartsBelow t seeds old cuts n
       → slice_index cuts n ≡ length old → Targeted t seeds n old new (length seeds) → n + 1 < length cuts
       → after ≡ set cuts (n + 1) (length new) → StartsBelow t seeds new after (n + 1)
@@ -183,20 +167,6 @@ pub record Sowing (t : List State) (l : List ℕ) (i : ℕ) (seeds targets : Lis
   pub counted : Counted old new
 
 module _ (t : List State) (l : List ℕ) (i : ℕ) (seeds targets : List ℕ) (s : Members) (start first : ℕ) where
-  pub sowing_first : (k : ℕ) → k ≤ first → IsGood s → IsClosed t l (i + 1) s → IsOrdered s → AllBelow s start
-      → Sowing t l i seeds targets s s start first k
-  sowing_first k le good closed ordered below = record {
-    good = good;
-    size = refl;
-    closed = closed;
-    ordered = ordered;
-    below = below;
-    kept = λ q h. refl;
-    fresh = λ q z h. absurd (omega arith);
-    here = λ j ge lt. absurd (omega arith);
-    counted = refl;
-  }
-
   pub sowing_next : (u v : Members) (k : ℕ) → Sowing t l i seeds targets s u start first k
       → Reached t l (i + 1) u v (slice_index targets k) start
       → (n : ℕ) → n < length seeds → Edge (slice_get t (slice_index seeds n)) l i (slice_index targets k) (i + 1)
@@ -294,16 +264,6 @@ pub record Planting (t : List State) (seeds targets : List ℕ) (b : ℕ) (old n
   pub counted : Counted old new
 
 module _ (t : List State) (seeds targets : List ℕ) (b : ℕ) (s : Members) (first : ℕ) where
-  pub planting_first : (k : ℕ) → k ≤ first → IsGood s → Planting t seeds targets b s s first k
-  planting_first k le good = record {
-    good = good;
-    size = refl;
-    kept = λ r h. h;
-    fresh = λ r z h. absurd (omega arith);
-    here = λ j ge lt. absurd (omega arith);
-    counted = refl;
-  }
-
   pub planting_next : (u v : Members) (k : ℕ) → Planting t seeds targets b s u first k
       → Inserted u v (slice_index targets k) 1 → Counted u v
       → (n : ℕ) × (n < length seeds) × Reads (slice_get t (slice_index seeds n)) b (slice_index targets k)

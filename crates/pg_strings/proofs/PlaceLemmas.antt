@@ -53,10 +53,6 @@ nowhere_at P i none n low high =
     let e : n ≡ i = omega (arith, low, high) in
     λ h. none (subst P e h)
 
--- nothing is between a place and itself
-pub nowhere_empty : (P : ℕ → Type 0) (i : ℕ) → Nowhere P i i
-nowhere_empty P i n low high = absurd (omega (arith, low, high))
-
 -- the bytes from a place on begin with the string
 pub stands_is : (bytes string s : List ℕ) (place : ℕ) (r : Bool) → place ≤ length bytes → s ≡ drop place bytes
     → r ≡ pointwise (λ x y. x == y) string (take (length string) s) → IsTrue r ↔ OccursAt bytes string place

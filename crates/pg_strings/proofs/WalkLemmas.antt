@@ -152,7 +152,3 @@ spent_more f strings link before old left now some within low was cost =
 pub spent_all : (f : List ℕ → ℕ) (strings : List (List ℕ)) (link old now : ℕ)
     → old ≤ now + sum_by f (drop link strings) → old ≤ now + sum_by f strings
 spent_all f strings link old now was = omega (arith, sum_by-take-drop f strings link)
-
--- nothing was spent where nothing was looked at
-pub spent_none : (f : List ℕ → ℕ) (strings : List (List ℕ)) (link old : ℕ) → old ≤ old + sum_by f (drop link strings)
-spent_none f strings link old = omega arith

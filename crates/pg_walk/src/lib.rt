@@ -1,4 +1,9 @@
 //! Trees of files, and the files and faults that a walk over operands gives, in one order.
+//!
+//! A [`Walker`] goes over operands in a [`FileTree`], the system's ([`DiskTree`]) or one in memory ([`MemTree`]), and
+//! gives one [`Item`] after another: a file to be read, or a name that gives none with its cause. A directory's entries
+//! come in the order of their names' bytes, and a [`Scope`] says which of them are left out. It lists a directory when
+//! its turn comes, and holds no more than what waits on the way down.
 #![tactic(auto)]
 
 mod circle;
