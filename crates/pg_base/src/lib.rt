@@ -2,8 +2,8 @@
 //!
 //! A [`Sink`] takes the bytes of an output and tells contracts which it took and how often a write failed: [`MemSink`]
 //! is one over memory and [`Out`] one over a writer. A [`History`] is a list that contracts alone can read, so that
-//! values over the real world tell what happened to them and take no memory for it. A [`Cause`] says why a name gives no
-//! file. Nothing here knows of lines or expressions.
+//! values over the real world tell what happened to them and take no memory for it. A [`Cause`] says why a name gives
+//! no file. Nothing here knows of lines or expressions.
 #![tactic(auto)]
 
 mod cause;

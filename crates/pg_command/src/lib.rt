@@ -1,8 +1,8 @@
 //! The command: what the words of a command line ask for, over any files and streams.
 //!
-//! [`command`] reads the words, then the files of patterns and of globs, runs the search and answers its status; what it
-//! is given to read and to write may be the system's or lie in memory. It makes all texts that are told on standard error
-//! but those of `clap`.
+//! [`command`] reads the words, then the files of patterns and of globs, runs the search and answers its status; what
+//! it is given to read and to write may be the system's or lie in memory. It makes all texts that are told on standard
+//! error but those of `clap`.
 #![tactic(auto)]
 
 mod colors;

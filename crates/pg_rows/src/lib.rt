@@ -1,9 +1,9 @@
 //! The rows that a grep writes of a file.
 //!
-//! A [`Printer`] gets the results of a file's blocks in order and writes their rows to a sink: lines with their context,
-//! matched parts, counts or names, as a [`Format`] asks for them. [`Progress`] tells without writing whether what was
-//! read of a file is enough. How rows look is defined in `specs/Output.antt`, for whole files; laws tell that blocks
-//! give the same rows.
+//! A [`Printer`] gets the results of a file's blocks in order and writes their rows to a sink: lines with their
+//! context, matched parts, counts or names, as a [`Format`] asks for them. [`Progress`] tells without writing whether
+//! what was read of a file is enough. How rows look is defined in `specs/Output.antt`, for whole files; laws tell that
+//! blocks give the same rows.
 #![tactic(auto)]
 
 mod colors;

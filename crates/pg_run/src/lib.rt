@@ -1,8 +1,8 @@
 //! The run over any files: reads them, searches their blocks and writes the output.
 //!
-//! [`run`] compiles a query, asks its files one after another, reads each as far as that matters, has blocks searched at
-//! once or by rounds of several threads, and tells of names that give no file. Its contract says which bytes were written
-//! and which lines were told, also where it breaks off.
+//! [`run`] compiles a query, asks its files one after another, reads each as far as that matters, has blocks searched
+//! at once or by rounds of several threads, and tells of names that give no file. Its contract says which bytes were
+//! written and which lines were told, also where it breaks off.
 #![tactic(auto)]
 
 mod engine;

@@ -1,8 +1,8 @@
 //! Puts the results of blocks in order, and writes the output of a run.
 //!
 //! A [`Sequencer`] is told which files open and end and which blocks they have, and gets the blocks' results in any
-//! order, with doubles and strangers among them. It writes the rows of each block once all before it have come, and once
-//! alone. What it has written is grep's output for the lines before the first block that is missing.
+//! order, with doubles and strangers among them. It writes the rows of each block once all before it have come, and
+//! once alone. What it has written is grep's output for the lines before the first block that is missing.
 #![tactic(auto)]
 
 mod ahead;
