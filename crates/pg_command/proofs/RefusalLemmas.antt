@@ -11,7 +11,7 @@ use Rattle.pg_words.specs.Gives.{IsFault}
 use Rattle.pg_words.specs.declared.words.WordsFault.{WordsFault}
 use Rattle.pg_words.specs.declared.words.WordsFault.TheVariants.{Refused, OutOfMemory as NoMemoryForWords}
 use Rattle.pg_words.specs.declared.words.WordsFault.TheVariants.{Usage as UsageOfWords}
-use Rattle.pg_command.specs.Command.{Does, Refuses, TellsOfWords}
+use Rattle.pg_command.specs.Command.{Does, RefusesWords, TellsOfWords}
 use Rattle.pg_command.specs.Told.{line_of}
 use Rattle.pg_command.specs.declared.fault.Fault.TheVariants.{OutOfMemory}
 
@@ -19,7 +19,7 @@ pub refusal_told : {T : Type 0} (tells : Type 0) (tree : Tree) (terminal : Bool)
     (out err err' : Stream) (answer : Result ℕ T) (fault : WordsFault) (asked_for : Asks) → IsFault asked_for fault
     → TellsOfWords fault err err' → IsErr answer
     → Does tells tree terminal asked_for past past out out err err' answer
-    ⊎ Refuses (line_of OutOfMemory) past past out out err err' answer
+    ⊎ RefusesWords (line_of OutOfMemory) past past out out err err' answer
 refusal_told tells tree terminal past out err err' answer (Refused text) asked_for is told failed =
     inl (subst (λ (a : Asks). Does tells tree terminal a past past out out err err' answer) (sym is) (
       string_bytes text,

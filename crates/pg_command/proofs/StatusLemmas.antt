@@ -8,7 +8,7 @@ use Rattle.pg_base.specs.Entries.{Entry}
 use Rattle.pg_rows.specs.Output.{status, has_selected, is_bad}
 use Rattle.pg_files.specs.Given.{FilesPast, entries_given}
 use Rattle.pg_base.specs.Sink.{Stream}
-use Rattle.pg_run.specs.Outcome.{Finishes}
+use Rattle.pg_run.specs.Outcome.{RunFinishes}
 use Rattle.pg_run.specs.declared.setup.Setup.{Setup}
 
 chosen : (a b c : Bool) → (if a then 0 else (if b then 2 else (if c then 0 else 1))) ≤ 2
@@ -23,6 +23,6 @@ status_small q format entries =
     (list_any (has_selected q) entries)
 
 pub finishes_small : {q : Search} {setup : Setup} {finds : List (List ℕ) → Type 0} {past : FilesPast}
-    {out out' told told' : Stream} {answer : ℕ} → Finishes q setup finds past out out' told told' answer → answer ≤ 2
+    {out out' told told' : Stream} {answer : ℕ} → RunFinishes q setup finds past out out' told told' answer → answer ≤ 2
 finishes_small {q} {setup} {finds} {past} done =
     subst (λ n. n ≤ 2) (sym done.answered) (status_small q setup.format (entries_given past.given))

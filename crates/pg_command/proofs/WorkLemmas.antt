@@ -9,7 +9,7 @@ use Rattle.pg_lines.specs.Search.{Search, SearchText}
 use Rattle.pg_files.specs.Given.{Given, names_in}
 use Rattle.pg_files.specs.Listed.{asked_for, file_paths, files_past, AreOpened, AreSpared, Sought, sought}
 use Rattle.pg_base.specs.Sink.{Stream}
-use Rattle.pg_run.specs.Outcome.{BreaksOff, Finishes}
+use Rattle.pg_run.specs.Outcome.{BreaksOff, RunFinishes}
 use Rattle.pg_run.specs.declared.fault.RunFault.{RunFault}
 use Rattle.pg_run.specs.declared.setup.Setup.{Setup}
 use Rattle.pg_command.specs.Answers.{HasReadFor, IsSetup, MayBeNames, Work}
@@ -86,13 +86,13 @@ module _ {X : Type 0} (tells : X → Type 0) (answers : X → Tree) (tree : X) (
 
   pub finishes_so : (search : Search) (setup : Setup) (done : Bool) (asked_so : List Found) (past : List Given)
       (out out' told told' : Stream) (status : ℕ)
-      → Finishes search setup (λ names. (items : List Found)
+      → RunFinishes search setup (λ names. (items : List Found)
       × ∥ IsWalk (tells s.tree) (answers s.tree) s.operands s.scope items ∥₁ × (names ≡ names_in s.input_name items))
       (files_past s.input_name done asked_so past) out out' told told' status
-      → Finishes search setup (MayBeNames (tells tree) (answers tree) asked globs)
+      → RunFinishes search setup (MayBeNames (tells tree) (answers tree) asked globs)
       (files_past (input_name asked) done asked_so past) out out' told told' status
   finishes_so search setup done asked_so past out out' told told' status f =
-      let F : Sought X → Type 0 = λ q. Finishes search setup
+      let F : Sought X → Type 0 = λ q. RunFinishes search setup
       (λ names. (items : List Found)
       × ∥ IsWalk (tells q.tree) (answers q.tree) q.operands q.scope items ∥₁ × (names ≡ names_in q.input_name items))
       (files_past q.input_name done asked_so past) out out' told told' status in

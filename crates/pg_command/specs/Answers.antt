@@ -2,7 +2,7 @@
 use Rattle.std.specs.Prelude.{◌≡◌, ℕ, ◌^◌, ◌⊎◌, Bool, not, ◌&&◌, List, [], ◌∷◌, codes, length, drop, reverse}
 use Rattle.std.specs.Prelude.{Option, Some, None, Result, Ok, Err}
 use Rattle.pg_lines.specs.Search.{Search}
-use Rattle.pg_walk.specs.Answers.{Answers as Tree}
+use Rattle.pg_walk.specs.Answers.{AnswersSearch as Tree}
 use Rattle.pg_walk.specs.Items.{Found}
 use Rattle.pg_walk.specs.Places.{is_standard_input}
 use Rattle.pg_walk.specs.Left.{BeginsWalk, IsWalk}
@@ -11,7 +11,7 @@ use Rattle.pg_walk.specs.declared.tree.FileKind.TheVariants.{Regular, Directory,
 use Rattle.pg_files.specs.Given.{FilesPast, Given, names_in}
 use Rattle.pg_files.specs.Listed.{file_paths, files_past, AreOpened, AreSpared}
 use Rattle.pg_base.specs.Sink.{Stream}
-use Rattle.pg_run.specs.Outcome.{IsSearchFor, Finishes, BreaksOff}
+use Rattle.pg_run.specs.Outcome.{IsSearchFor, RunFinishes, BreaksOff}
 use Rattle.pg_run.specs.declared.fault.RunFault.{RunFault}
 use Rattle.pg_run.specs.declared.setup.Setup.{Setup}
 use Rattle.pg_command.specs.Asked.{Asked, glob_files, has_names, input_name, scope_for, spares_output, text_of_query}
@@ -91,7 +91,8 @@ pub record Succeeds (tells : Type 0) (tree : Tree) (asked : Asked) (past past' :
   pub search : Search
   pub is_search : IsSearchFor (text_of_query asked work.contents) search
   pub finishes :
-      Finishes search work.setup (MayBeNames tells tree asked work.globs) (given_for asked work.done work.items past')
+      RunFinishes search work.setup (MayBeNames tells tree asked work.globs) (given_for asked work.done work.items
+      past')
       out out' err err' status
 
 -- Some -f file couldn't be read, and nothing was written.
@@ -137,10 +138,10 @@ Fails tells tree asked past past' out out' err err' fault =
     ⊎ FailsInTheRun tells tree asked past past' out out' err err' fault))
 
 -- The status of a search that went through, or a fault was told behind the lines of files.
-abbrev pub Answers : {T : Type 0} → (tells : Type 0) → Tree → Asked → (past past' : List Given)
+abbrev pub AnswersSearch : {T : Type 0} → (tells : Type 0) → Tree → Asked → (past past' : List Given)
     → (out out' err err' : Stream) → Result ℕ T → Type 0
-Answers tells tree asked past past' out out' err err' (Ok status) =
+AnswersSearch tells tree asked past past' out out' err err' (Ok status) =
     Succeeds tells tree asked past past' out out' err err' status
-Answers tells tree asked past past' out out' err err' (Err _) =
+AnswersSearch tells tree asked past past' out out' err err' (Err _) =
     (fault : Fault) × (middle : Stream) × Fails tells tree asked past past' out out' err middle fault
     × TellsOfSearch asked.texts fault middle err'

@@ -3,21 +3,21 @@ use Rattle.std.specs.Prelude.{◌≡◌, ℕ, ◌<◌, ◌⊎◌, Bool, List, �
 use Rattle.std.specs.Result.{IsErr}
 use Rattle.std.specs.String.{string_bytes}
 use Rattle.pg_base.specs.Sink.{Stream, WritesAll, WritesPart}
-use Rattle.pg_walk.specs.Answers.{Answers as Tree}
+use Rattle.pg_walk.specs.Answers.{AnswersSearch as Tree}
 use Rattle.pg_files.specs.Given.{Given}
 use Rattle.pg_words.specs.declared.help.TheConstants.{HELP, VERSION}
 use Rattle.pg_words.specs.Asks.{Asks, AsksHelp, AsksSearch, AsksVersion, HasFault, IsRefused, asks}
 use Rattle.pg_words.specs.declared.words.WordsFault.{WordsFault}
 use Rattle.pg_words.specs.declared.words.WordsFault.TheVariants.{Refused, Usage as UsageOfWords}
 use Rattle.pg_words.specs.declared.words.WordsFault.TheVariants.{OutOfMemory as NoMemoryForWords}
-use Rattle.pg_command.specs.Answers.{Answers}
+use Rattle.pg_command.specs.Answers.{AnswersSearch}
 use Rattle.pg_command.specs.Asked.{asked_on}
-use Rattle.pg_command.specs.Told.{Tells, TellsText, line_of}
+use Rattle.pg_command.specs.Told.{TellsFault, TellsText, line_of}
 use Rattle.pg_command.specs.declared.fault.Fault.TheVariants.{OutOfMemory, Usage, WriteFailed}
 use Rattle.pg_command.specs.declared.search.Told.{Told}
 
 -- The words weren't taken: nothing was opened or written, and this was told.
-pub record Refuses {T : Type 0} (text : List ℕ) (past past' : List Given) (out out' err err' : Stream)
+pub record RefusesWords {T : Type 0} (text : List ℕ) (past past' : List Given) (out out' err err' : Stream)
     (answer : Result ℕ T) : Type 0 where
   pub fault : IsErr answer
   pub unopened : past' ≡ past
@@ -28,7 +28,7 @@ pub record Refuses {T : Type 0} (text : List ℕ) (past past' : List Given) (out
 abbrev pub IsShown : {T : Type 0} → List ℕ → (out out' err err' : Stream) → Result ℕ T → Type 0
 IsShown text out out' err err' (Ok status) =
     (status ≡ 0) × WritesAll text out out' × (err' ≡ err)
-IsShown text out out' err err' (Err _) = WritesPart text out out' × Tells WriteFailed err err'
+IsShown text out out' err err' (Err _) = WritesPart text out out' × TellsFault WriteFailed err err'
 
 -- a text about the program was asked for; nothing was opened
 pub record Shows {T : Type 0} (text : List ℕ) (past past' : List Given) (out out' err err' : Stream)
@@ -41,32 +41,33 @@ pub record Shows {T : Type 0} (text : List ℕ) (past past' : List Given) (out o
 abbrev pub Does : {T : Type 0} → (tells : Type 0) → Tree → (terminal : Bool) → Asks → (past past' : List Given)
     → (out out' err err' : Stream) → Result ℕ T → Type 0
 Does tells tree terminal (AsksSearch asked pace) past past' out out' err err' answer =
-    Answers tells tree (asked_on terminal asked) past past' out out' err err' answer
+    AnswersSearch tells tree (asked_on terminal asked) past past' out out' err err' answer
 Does tells tree terminal AsksHelp past past' out out' err err' answer =
     Shows HELP.now past past' out out' err err' answer
 Does tells tree terminal AsksVersion past past' out out' err err' answer =
     Shows VERSION.now past past' out out' err err' answer
 Does tells tree terminal (HasFault fault) past past' out out' err err' answer =
-    Refuses (line_of (Usage fault)) past past' out out' err err' answer
+    RefusesWords (line_of (Usage fault)) past past' out out' err err' answer
 Does tells tree terminal IsRefused past past' out out' err err' answer =
-    (text : List ℕ) × Refuses (codes "pargrep: " ++ text) past past' out out' err err' answer
+    (text : List ℕ) × RefusesWords (codes "pargrep: " ++ text) past past' out out' err err' answer
 
 -- What the words ask for was done, or memory was lacking before anything was.
 abbrev pub Commands : {T : Type 0} → (tells : Type 0) → Tree → (terminal : Bool) → (words : List (List ℕ))
     → (past past' : List Given) → (out out' err err' : Stream) → Result ℕ T → Type 0
 Commands tells tree terminal words past past' out out' err err' answer =
     Does tells tree terminal (asks words) past past' out out' err err' answer
-    ⊎ Refuses (line_of OutOfMemory) past past' out out' err err' answer
+    ⊎ RefusesWords (line_of OutOfMemory) past past' out out' err err' answer
 
 -- what is told of words that aren't taken
 abbrev pub TellsOfWords : WordsFault → Stream → Stream → Type 0
 TellsOfWords (Refused text) = TellsText (codes "pargrep: " ++ string_bytes text)
-TellsOfWords (UsageOfWords fault) = Tells (Usage fault)
-TellsOfWords NoMemoryForWords = Tells OutOfMemory
+TellsOfWords (UsageOfWords fault) = TellsFault (Usage fault)
+TellsOfWords NoMemoryForWords = TellsFault OutOfMemory
 
 -- The status of the command stands where all that was held back could be sent on; else that is told, and the status is
 -- 2, as after a fault that was told.
-pub record Runs (tells : Type 0) (tree : Tree) (terminal : Bool) (words : List (List ℕ)) (past past' : List Given)
+pub record RunsCommand (tells : Type 0) (tree : Tree) (terminal : Bool) (words : List (List ℕ)) (past past' : List
+    Given)
     (out out' err err' : Stream) (status : ℕ) : Type 0 where
   pub middle : Stream
   pub told : Stream
@@ -75,5 +76,5 @@ pub record Runs (tells : Type 0) (tree : Tree) (terminal : Bool) (words : List (
   pub taken : out'.taken ≡ middle.taken
   pub ended : MatchResult answer
       (λ before. ((status ≡ before) × (out'.failures ≡ middle.failures) × (err' ≡ told))
-      ⊎ ((status ≡ 2) × (middle.failures < out'.failures) × Tells WriteFailed told err'))
+      ⊎ ((status ≡ 2) × (middle.failures < out'.failures) × TellsFault WriteFailed told err'))
       (λ _. (status ≡ 2) × (err' ≡ told))

@@ -26,8 +26,8 @@ IsUnread path cause past past' =
     ⊎ ((cause ≡ ReadFailed) × (bytes : List ℕ) × (past' ≡ File path bytes Failed ∷ past))
 
 -- the path wasn't opened, or some of its file was read
-abbrev pub IsGivenUp : List ℕ → List Given → List Given → Type 0
-IsGivenUp path past past' =
+abbrev pub IsNotReadWhole : List ℕ → List Given → List Given → Type 0
+IsNotReadWhole path past past' =
     (past' ≡ past)
     ⊎ ((bytes : List ℕ) × (ending : Ending) × (is_failed ending ≡ false) × (past' ≡ File path bytes ending ∷ past))
 
@@ -37,16 +37,17 @@ IsReadBy path past (Ok _) bytes past' = past' ≡ File path bytes Ended ∷ past
 IsReadBy path past (Err _) bytes past' = past' ≡ File path bytes Failed ∷ past
 
 -- and so, or it was given up
-abbrev pub ReadsOn : {T E F : Type 0} → (path : List ℕ) → List Given → Result (Result T E) F → List ℕ → List Given
+abbrev pub IsReadOrGivenUp : {T E F : Type 0} → (path : List ℕ) → List Given → Result (Result T E) F → List ℕ
+    → List Given
     → Type 0
-ReadsOn path past (Ok end) bytes past' = IsReadBy path past end bytes past'
-ReadsOn path past (Err _) bytes past' = (got : List ℕ) × (past' ≡ File path got Left ∷ past)
+IsReadOrGivenUp path past (Ok end) bytes past' = IsReadBy path past end bytes past'
+IsReadOrGivenUp path past (Err _) bytes past' = (got : List ℕ) × (past' ≡ File path got Left ∷ past)
 
 -- a path wasn't read to its end, by a fault that has its cause; there --label isn't heeded
 abbrev pub StopsAt : List ℕ → List Given → List Given → Fault → Type 0
 StopsAt path past past' (Unreadable name cause) =
     (name.now ≡ shown_name standard_input path) × IsUnread path cause past past'
-StopsAt path past past' OutOfMemory = IsGivenUp path past past'
+StopsAt path past past' OutOfMemory = IsNotReadWhole path past past'
 StopsAt path past past' NotText = ⊥
 StopsAt path past past' (Usage fault) = ⊥
 StopsAt path past past' (Pattern fault) = ⊥

@@ -44,10 +44,10 @@ lines_of texts (Pattern fault) = lines_of_pattern (shown_text texts fault) fault
 lines_of texts fault = line_of fault
 
 -- it is about neither a file nor a pattern
-abbrev pub IsPlain : Fault → Type 0
-IsPlain (Unreadable name cause) = ⊥
-IsPlain (Pattern fault) = ⊥
-IsPlain fault = Unit {0}
+abbrev pub IsOfNoFile : Fault → Type 0
+IsOfNoFile (Unreadable name cause) = ⊥
+IsOfNoFile (Pattern fault) = ⊥
+IsOfNoFile fault = Unit {0}
 
 -- the text was written; or a beginning of it, and standard error failed
 abbrev pub TellsText : List ℕ → Stream → Stream → Type 0
@@ -58,5 +58,5 @@ abbrev pub TellsOfSearch : (texts : List (List ℕ)) → Fault → Stream → St
 TellsOfSearch texts fault = TellsText (lines_of texts fault)
 
 -- and so the fault's line
-abbrev pub Tells : Fault → Stream → Stream → Type 0
-Tells fault = TellsText (line_of fault)
+abbrev pub TellsFault : Fault → Stream → Stream → Type 0
+TellsFault fault = TellsText (line_of fault)

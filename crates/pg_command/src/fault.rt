@@ -5,7 +5,7 @@ ghost use Rattle.pg_syntax.specs.Slices.{bytes_of};
 ghost use Rattle.pg_run.specs.Told.{fault_line as file_line};
 ghost use Rattle.pg_command.specs.Causes.{fault_of_query, fault_of_run};
 ghost use Rattle.pg_command.specs.Shown.{shown_lines, shown_text};
-ghost use Rattle.pg_command.specs.Told.{IsPlain, Tells, TellsOfSearch, TellsText, line_of, lines_of_pattern};
+ghost use Rattle.pg_command.specs.Told.{IsOfNoFile, TellsFault, TellsOfSearch, TellsText, line_of, lines_of_pattern};
 ghost use Rattle.pg_command.specs.Told.{pattern_line, plain_line};
 ghost use Rattle.pg_command.specs.declared.fault.Fault.TheVariants.{OutOfMemory};
 
@@ -89,7 +89,7 @@ impl<'a> From<RunFault> for Fault<'a> {
 impl<'a> Fault<'a> {
     /// What its line says is wrong, where that is neither about a file nor about a pattern.
     fn text(self) -> &'static str
-        ensures { IsPlain self.entry → line_of self.entry ≡ plain_line result.now }
+        ensures { IsOfNoFile self.entry → line_of self.entry ≡ plain_line result.now }
     {
         match self {
             Fault::NotText => "an argument is not UTF-8",
@@ -108,7 +108,7 @@ impl<'a> Fault<'a> {
 /// program ends with.
 pub fn report<W: Sink>(alloc: Global, fault: Fault<'_>, err: &mut W) -> u8
     ensures status { result ≡ 2 }
-    ensures told { Tells fault.entry (W.stream err.old) (W.stream err.new) }
+    ensures told { TellsFault fault.entry (W.stream err.old) (W.stream err.new) }
 {
     match fault {
         Fault::Pattern(fault) => tell_pattern(alloc, fault, err),

@@ -7,7 +7,7 @@ ghost use Rattle.pg_base.specs.Entries.{Ended, Left};
 ghost use Rattle.pg_files.specs.Given.{Given, File};
 ghost use Rattle.pg_words.specs.Filters.{filter_said, filters_of};
 ghost use Rattle.pg_command.specs.Asked.{glob_file, glob_files};
-ghost use Rattle.pg_command.specs.Reading.{contents_of, FailsToReadAll, HasRead, ReadsOn, StopsAt};
+ghost use Rattle.pg_command.specs.Reading.{contents_of, FailsToReadAll, HasRead, IsReadOrGivenUp, StopsAt};
 
 use crate::fault::Fault;
 use pg_base::Cause;
@@ -111,7 +111,7 @@ fn read_to_end<S: Store>(
     store: &mut S,
 ) -> Result<Result<(), ReadFault>, AllocError>
     ensures { (path : List ℕ) → (past : List Given) → S.past store.old ≡ File path bytes.old.items Left ∷ past →
-        ReadsOn path past result bytes.new.items (S.past store.new) }
+        IsReadOrGivenUp path past result bytes.new.items (S.past store.new) }
 {
     let mut buffer = vec![in alloc; 0u8; READ_SIZE]?;
     read_by(&mut buffer, bytes, store)
@@ -125,7 +125,7 @@ fn read_by<S: Store>(
 ) -> Result<Result<(), ReadFault>, AllocError>
     requires { 0 < length buffer.old }
     ensures { (path : List ℕ) → (past : List Given) → S.past store.old ≡ File path bytes.old.items Left ∷ past →
-        ReadsOn path past result bytes.new.items (S.past store.new) }
+        IsReadOrGivenUp path past result bytes.new.items (S.past store.new) }
 {
     loop {
         let Ok(count) = store.read(buffer) else {

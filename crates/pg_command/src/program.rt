@@ -1,8 +1,8 @@
 //! The command, over any files and streams.
 ghost use Rattle.std.specs.Prelude.{◌≡◌, ◌≤◌, [], map, IfOk, IfErr, OnErr, IsErr};
 ghost use Rattle.std.specs.String.{string_bytes};
-ghost use Rattle.pg_command.specs.Command.{Commands, IsShown, Runs, TellsOfWords};
-ghost use Rattle.pg_command.specs.Told.{Tells};
+ghost use Rattle.pg_command.specs.Command.{Commands, IsShown, RunsCommand, TellsOfWords};
+ghost use Rattle.pg_command.specs.Told.{TellsFault};
 
 use crate::colors::request_on;
 use crate::fault::{FAULT_STATUS, Fault, report, tell_parts};
@@ -105,10 +105,10 @@ pub fn run<'t, R: Threads + Wait + Clock + Sync, T: FileTree, S: Store + Drop, W
     err: &mut E,
 ) -> u8
     requires { files.old.walk.asked.items ≡ [] }
-    ensures runs { IfOk call.entry (λ called. Runs (T.tells tree.now) (T.answers tree.now) called.terminal
+    ensures runs { IfOk call.entry (λ called. RunsCommand (T.tells tree.now) (T.answers tree.now) called.terminal
         (map string_bytes called.words.items) (S.past files.old.store) (S.past files.new.store)
         out.old.stream out.new.stream (E.stream err.old) (E.stream err.new) result) }
-    ensures told { IfErr call.entry (λ fault. (result ≡ 2) × Tells fault (E.stream err.old)
+    ensures told { IfErr call.entry (λ fault. (result ≡ 2) × TellsFault fault (E.stream err.old)
         (E.stream err.new)) }
     ensures unused { OnErr call.entry ((files.new ≡ files.old) × (out.new ≡ out.old)) }
     ensures small { result ≤ 2 }
@@ -131,7 +131,7 @@ fn run_call<'t, R: Threads + Wait + Clock + Sync, T: FileTree, S: Store + Drop, 
     err: &mut E,
 ) -> u8
     requires { files.old.walk.asked.items ≡ [] }
-    ensures runs { Runs (T.tells tree.now) (T.answers tree.now) call.now.terminal
+    ensures runs { RunsCommand (T.tells tree.now) (T.answers tree.now) call.now.terminal
         (map string_bytes call.now.words.items) (S.past files.old.store) (S.past files.new.store)
         out.old.stream out.new.stream (E.stream err.old) (E.stream err.new) result }
     ensures small { result ≤ 2 }

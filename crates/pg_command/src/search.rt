@@ -4,7 +4,7 @@ ghost use Rattle.std.specs.String.{string_bytes};
 ghost use Rattle.pg_syntax.specs.Slices.{bytes_of};
 ghost use Rattle.pg_walk.specs.Scopes.{scope_of};
 ghost use Rattle.pg_command.specs.Asked.{asked_of, has_names, input_name, scope_for, spares_output};
-ghost use Rattle.pg_command.specs.Answers.{Answers, Fails, IsSetup, Succeeds};
+ghost use Rattle.pg_command.specs.Answers.{AnswersSearch, Fails, IsSetup, Succeeds};
 ghost use Rattle.pg_command.specs.Reading.{contents_of};
 
 use crate::fault::{Fault, tell_of_search};
@@ -54,7 +54,7 @@ pub fn answer<'t, R: Threads + Wait + Clock + Sync, T: FileTree, S: Store + Drop
     err: &mut E,
 ) -> Result<u8, Told>
     requires { files.old.walk.asked.items ≡ [] }
-    ensures answers { Answers (T.tells tree.now) (T.answers tree.now) (asked_of request.now)
+    ensures answers { AnswersSearch (T.tells tree.now) (T.answers tree.now) (asked_of request.now)
         (S.past files.old.store) (S.past files.new.store) (W.stream out.old) (W.stream out.new)
         (E.stream err.old) (E.stream err.new) result }
     ensures small { IfOk result (λ status. status ≤ 2) }

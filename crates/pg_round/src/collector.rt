@@ -45,26 +45,26 @@ pub trait Collector<F> {
 
 impl<A: Allocator> Collector<BlockResult<A>> for Sequencer<A> {
     ghost use Rattle.pg_seq.specs.History.{Past, arrived, answer, handed};
-    ghost use Rattle.pg_seq.specs.Standing.{Stands, Drained, drained};
+    ghost use Rattle.pg_seq.specs.Standing.{IsAfter, Drained, drained};
     ghost use Rattle.pg_seq.specs.declared.answers.SinkFault.TheVariants.{WriteFailed};
     ghost use Rattle.pg_round.specs.Receipts.{IsSafe};
 
-    ghost stands = { λ s past. Stands s past };
+    ghost stands = { λ s past. IsAfter s past };
 
     ghost searched = { λ found. found };
 
     fn arrive(&mut self, found: BlockResult<A>) -> Arrival
-        ensures answer { (past : Past) → Stands self.old past → result ≡ answer past found }
-        ensures stands { (past : Past) → Stands self.old past → Stands self.new (arrived past found) }
+        ensures answer { (past : Past) → IsAfter self.old past → result ≡ answer past found }
+        ensures stands { (past : Past) → IsAfter self.old past → IsAfter self.new (arrived past found) }
     {
         self.arrive(found)
     }
 
     fn drain<W: Sink>(&mut self, out: &mut W) -> Result<(), SinkFault>
-        ensures drained { (past : Past) → Stands self.old past → (text : List ℕ)
+        ensures drained { (past : Past) → IsAfter self.old past → (text : List ℕ)
             × ((W.stream out.new).taken ≡ (W.stream out.old).taken ++ text)
-            × Drained result past text × Stands self.new (drained past text result) }
-        ensures safe { (past : Past) → Stands self.old past → IsSafe past (handed past) }
+            × Drained result past text × IsAfter self.new (drained past text result) }
+        ensures safe { (past : Past) → IsAfter self.old past → IsSafe past (handed past) }
         ensures cause { IsErrOf result WriteFailed → (W.stream out.old).failures < (W.stream out.new).failures }
         ensures no_failure { OnOk result ((W.stream out.new).failures ≡ (W.stream out.old).failures) }
         ensures never_falls { (W.stream out.old).failures ≤ (W.stream out.new).failures }

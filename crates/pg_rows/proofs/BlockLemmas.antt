@@ -16,7 +16,7 @@ use Rattle.pg_rows.specs.Output.{is_below}
 use Rattle.pg_rows.specs.Trail.{Trail, run}
 use Rattle.pg_rows.specs.Stretch.{AllSelected, AreUnkept}
 use Rattle.pg_lines.specs.Runs.{AreRuns}
-use Rattle.pg_rows.specs.Progress.{Tells, Passes, Keeps, kept_of}
+use Rattle.pg_rows.specs.Progress.{IsOfTrail, Passes, KeepsLines, kept_of}
 use Rattle.pg_rows.proofs.StretchLemmas.{run_append, unselected_unkept, full_unkept}
 use Rattle.pg_rows.proofs.PrintLemmas.{lines_apart}
 use Rattle.pg_rows.proofs.ProgressLemmas.{passes_tells, keeps_tells}
@@ -106,11 +106,11 @@ pub record IsReached (q : Search) (format : Format) (t : Trail) (ls : List (List
   pub rest : List (List ℕ)
   pub joins : ls ≡ front ++ rest
   pub remain : length rest ≡ left
-  pub told : Tells p format (run q format t front)
+  pub told : IsOfTrail p format (run q format t front)
   pub ahead : AreStretches q (length front) rest runs ⊎ (is_below p.kept format.limit ≡ false)
 
 pub reached_none : (q : Search) (format : Format) (t : Trail) (bytes : List ℕ) (left : ℕ) (runs : List Run)
-    (p : Progress) → AreRuns q 0 0 bytes runs → left ≡ length (lines (terminator q) bytes) → Tells p format t
+    (p : Progress) → AreRuns q 0 0 bytes runs → left ≡ length (lines (terminator q) bytes) → IsOfTrail p format t
     → IsReached q format t (lines (terminator q) bytes) left runs p
 reached_none q format t bytes left runs p are count told = record {
   front = [];
@@ -123,15 +123,15 @@ reached_none q format t bytes left runs p are count told = record {
 
 pass_rest : (q : Search) (format : Format) (t : Trail) (ls : List (List ℕ)) (left : ℕ) (runs : List Run)
     (p last : Progress) → (h : IsReached q format t ls left runs p) → AreUnkept q format (run q format t h.front) h.rest
-    → Passes p left last → Tells last format (run q format t ls)
+    → Passes p left last → IsOfTrail last format (run q format t ls)
 pass_rest q format t ls left runs p last h unkept passes =
-    let P : Trail → Type 0 = λ u. Tells last format u in
+    let P : Trail → Type 0 = λ u. IsOfTrail last format u in
     subst P (sym (ap (run q format t) h.joins ∙ run_append q format t h.front h.rest))
     (passes_tells p left last passes q format (run q format t h.front) h.rest h.remain unkept h.told)
 
 rest_full : (q : Search) (format : Format) (t : Trail) (ls : List (List ℕ)) (left : ℕ) (runs : List Run)
     (p last : Progress) → IsReached q format t ls left runs p → is_below p.kept format.limit ≡ false
-    → Passes p left last → Tells last format (run q format t ls)
+    → Passes p left last → IsOfTrail last format (run q format t ls)
 rest_full q format t ls left runs p last h full passes =
     let same : is_below (run q format t h.front).kept format.limit ≡ false =
     ap (λ k. is_below k format.limit) (sym h.told.kept) ∙ full in
@@ -139,11 +139,11 @@ rest_full q format t ls left runs p last h full passes =
 
 -- behind the last run
 pub reached_all : (q : Search) (format : Format) (t : Trail) (ls : List (List ℕ)) (left : ℕ) (p last : Progress)
-    → IsReached q format t ls left [] p → Passes p left last → Tells last format (run q format t ls)
+    → IsReached q format t ls left [] p → Passes p left last → IsOfTrail last format (run q format t ls)
 reached_all q format t ls left p last h passes = go h.ahead
   where
     go : AreStretches q (length h.front) h.rest [] ⊎ (is_below p.kept format.limit ≡ false)
-        → Tells last format (run q format t ls)
+        → IsOfTrail last format (run q format t ls)
     go (inl none) = pass_rest q format t ls left [] p last h
         (unselected_unkept q format (run q format t h.front) h.rest none) passes
     go (inr full) = rest_full q format t ls left [] p last h full passes
@@ -156,11 +156,11 @@ pub record IsRoom (format : Format) (total left : ℕ) (here : Run) (p : Progres
 -- at a run of which no line is kept
 pub reached_full : (q : Search) (format : Format) (t : Trail) (ls : List (List ℕ)) (total left gap : ℕ) (here : Run)
     (runs : List Run) (p last : Progress) → IsReached q format t ls left (here ∷ runs) p → total ≡ length ls
-    → IsRoom format total left here p gap 0 → Passes p left last → Tells last format (run q format t ls)
+    → IsRoom format total left here p gap 0 → Passes p left last → IsOfTrail last format (run q format t ls)
 reached_full q format t ls total left gap here runs p last h whole room passes = go h.ahead
   where
     go : AreStretches q (length h.front) h.rest (here ∷ runs) ⊎ (is_below p.kept format.limit ≡ false)
-        → Tells last format (run q format t ls)
+        → IsOfTrail last format (run q format t ls)
     go (inr full) = rest_full q format t ls left (here ∷ runs) p last h full passes
     go (inl s) =
         let n = s.0 in
@@ -179,9 +179,9 @@ reached_full q format t ls total left gap here runs p last h whole room passes =
 
 -- the numbers behind lines that are all kept, of which there is one
 keeps_some : (q : Search) (format : Format) (t : Trail) (ls : List (List ℕ)) (p : Progress) (count : ℕ)
-    (later : Progress) → Keeps p format count later → length ls ≡ count → 0 < count → AllSelected q true ls
-    → is_below (t.kept + (count - 1)) format.limit ≡ true → Tells p format t
-    → Tells later format (run q format t ls)
+    (later : Progress) → KeepsLines p format count later → length ls ≡ count → 0 < count → AllSelected q true ls
+    → is_below (t.kept + (count - 1)) format.limit ≡ true → IsOfTrail p format t
+    → IsOfTrail later format (run q format t ls)
 keeps_some q format t [] p count later keeps long some selected below told = absurd (omega arith)
 keeps_some q format t (l ∷ ls) p count later keeps long some selected below told =
     let less : t.kept + length ls ≡ t.kept + (count - 1) = omega arith in
@@ -200,7 +200,7 @@ regroup front gap taken others later = simp append_assoc
 pub reached_more : (q : Search) (format : Format) (t : Trail) (ls : List (List ℕ)) (total left gap count : ℕ)
     (here : Run) (runs : List Run) (p mid next : Progress) → IsReached q format t ls left (here ∷ runs) p
     → total ≡ length ls → IsRoom format total left here p gap count → 0 < count →
-    Passes p gap mid → Keeps mid format count next → IsReached q format t ls (left - (gap + count)) runs next
+    Passes p gap mid → KeepsLines mid format count next → IsReached q format t ls (left - (gap + count)) runs next
 reached_more q format t ls total left gap count here runs p mid next h whole room some passes keeps = go h.ahead
   where
     go : AreStretches q (length h.front) h.rest (here ∷ runs) ⊎ (is_below p.kept format.limit ≡ false)
@@ -229,15 +229,15 @@ reached_more q format t ls total left gap count here runs p mid next h whole roo
         let u = run q format t h.front in
         let v = run q format u n.gap in
         let unkept = unselected_unkept q format u n.gap n.gap_unselected in
-        let told_mid : Tells mid format v = passes_tells p gap mid passes q format u n.gap is_gap unkept h.told in
+        let told_mid : IsOfTrail mid format v = passes_tells p gap mid passes q format u n.gap is_gap unkept h.told in
         let same : p.kept + (count - 1) ≡ v.kept + (count - 1) =
         ap (λ k. k + (count - 1)) (sym passes.kept ∙ told_mid.kept) in
         let below : is_below (v.kept + (count - 1)) format.limit ≡ true = ap (λ k. is_below k format.limit) (sym same)
         ∙ kept_fits format.limit p.kept here.count (count - 1) (omega arith) in
         let selected = all_take (λ l. selects q l ≡ true) count n.text n.text_selected in
-        let told_next : Tells next format (run q format v taken) =
+        let told_next : IsOfTrail next format (run q format v taken) =
         keeps_some q format v taken mid count next keeps long some selected below told_mid in
-        let P : Trail → Type 0 = λ w. Tells next format w in
+        let P : Trail → Type 0 = λ w. IsOfTrail next format w in
         let whole_run : run q format v taken ≡ run q format t (h.front ++ (n.gap ++ taken)) =
         sym (run_append q format t h.front (n.gap ++ taken) ∙ run_append q format u n.gap taken) in
         let joins : ls ≡ (h.front ++ (n.gap ++ taken)) ++ (others ++ n.later) =

@@ -23,7 +23,7 @@ use Rattle.pg_rows.specs.Output.{painted, row, told_parts}
 use Rattle.pg_base.specs.Sink.{Stream}
 use Rattle.pg_rows.specs.Pieces.{told_of_lines}
 use Rattle.pg_rows.specs.Stretch.{AllSelected, marked_rows, plain}
-use Rattle.pg_rows.specs.Painting.{painted_bytes, AreAscending, IsTold, count_before}
+use Rattle.pg_rows.specs.Painting.{painted_bytes, AreAscending, AreToldParts, count_before}
 use Rattle.pg_rows.proofs.FoldLemmas.{something, some_append}
 use Rattle.pg_rows.proofs.PieceLemmas.{Ascend, slice_in, told_ascend}
 use Rattle.pg_rows.proofs.PrintLemmas.{lines_apart}
@@ -264,7 +264,7 @@ pub record AreToPrint (q : Search) (format : Format) (end : ℕ) (name : List �
       (lines end (drop at bytes))) before after
 
 pub none_printed : (q : Search) (format : Format) (end : ℕ) (name : List ℕ) (number offset : ℕ) (bytes : List ℕ)
-    (from line : ℕ) (parts : List Part) (before : Stream) → IsTold q true end bytes from line parts
+    (from line : ℕ) (parts : List Part) (before : Stream) → AreToldParts q true end bytes from line parts
     → AreToPrint q format end name number offset bytes from line parts from 0 0 before before
 none_printed q format end name number offset bytes from line parts before told =
     let ls = lines end (drop from bytes) in

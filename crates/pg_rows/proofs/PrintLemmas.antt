@@ -15,7 +15,7 @@ use Rattle.pg_rows.specs.declared.progress.Progress.{Progress}
 use Rattle.pg_rows.specs.Output.{context, gap_text, has_separators, painted, size_of, when, is_below}
 use Rattle.pg_rows.specs.Trail.{Trail, run, run_rows, gap_row, context_rows}
 use Rattle.pg_rows.specs.Cursor.{Cursor}
-use Rattle.pg_rows.specs.Progress.{Tells, Passes, Keeps}
+use Rattle.pg_rows.specs.Progress.{IsOfTrail, Passes, KeepsLines}
 use Rattle.pg_rows.specs.Stretch.{marked_rows, plain, AllSelected, AreUnkept}
 use Rattle.pg_rows.specs.Printing.{gap_of, leading, rows_of_kept, rows_of_passed, IsAt}
 use Rattle.pg_rows.proofs.FoldLemmas.{rows_append}
@@ -59,7 +59,7 @@ keep_none xs = drop_all (length xs - 0) xs (omega arith)
 
 -- The rows of a stretch, by the numbers.
 
-gap_is : (format : Format) (end : ℕ) (earlier : Bool) (p : Progress) (t : Trail) → Tells p format t
+gap_is : (format : Format) (end : ℕ) (earlier : Bool) (p : Progress) (t : Trail) → IsOfTrail p format t
     → gap_row format end earlier t ≡ gap_of format end earlier p
 gap_is format end earlier p t told =
     ap (λ s. when (has_separators format && cond t.some s earlier) (gap_text format end)) told.skipped
@@ -68,7 +68,7 @@ gap_is format end earlier p t told =
     (sym told.some)
 
 passed_part : (q : Search) (format : Format) (name : List ℕ) (earlier : Bool) (p : Progress) (t : Trail)
-    (ls : List (List ℕ)) → Tells p format t → AreUnkept q format t ls
+    (ls : List (List ℕ)) → IsOfTrail p format t → AreUnkept q format t ls
     → run_rows q format name earlier t ls ≡ rows_of_passed format (terminator q) name p t.offset ls
 passed_part q format name earlier p t ls told unkept =
     passed_rows q format name earlier t ls unkept
@@ -78,7 +78,8 @@ passed_part q format name earlier p t ls told unkept =
     (sym told.countdown))
 
 kept_part : (q : Search) (format : Format) (name : List ℕ) (earlier : Bool) (hidden : List (List ℕ)) (p : Progress)
-    (t : Trail) (l : List ℕ) (ls : List (List ℕ)) → Tells p format t → t.window ≡ keep_last (leading format p) hidden
+    (t : Trail) (l : List ℕ) (ls : List (List ℕ)) → IsOfTrail p format t → t.window
+    ≡ keep_last (leading format p) hidden
     → AllSelected q true (l ∷ ls) → is_below (t.kept + length ls) format.limit ≡ true
     → run_rows q format name earlier t (l ∷ ls) ≡ rows_of_kept format (terminator q) name earlier hidden p t.offset
     (painted q format) (l ∷ ls)
@@ -153,7 +154,7 @@ moves : (q : Search) (format : Format) (c : Cursor) (hidden hidden' : List (List
     (p later : Progress) (at seen : ℕ) (h : IsAt q format c hidden bytes before after p at seen)
     (front rest more : List ℕ) → drop at bytes ≡ front ++ rest → AreWhole (terminator q) front ⊎ (rest ≡ [])
     → run_rows q format c.name c.earlier h.trail (lines (terminator q) front) ≡ more
-    → Tells later format (run q format h.trail (lines (terminator q) front))
+    → IsOfTrail later format (run q format h.trail (lines (terminator q) front))
     → (run q format h.trail (lines (terminator q) front)).window ≡ keep_last (leading format later) hidden'
     → IsAt q format c hidden' bytes before (after ++ more) later (at + length front)
     (seen + length (lines (terminator q) front))
@@ -246,7 +247,7 @@ pub kept_step : (q : Search) (format : Format) (c : Cursor) (hidden hidden' : Li
     (front rest : List ℕ) → drop at bytes ≡ front ++ rest → AreWhole (terminator q) front ⊎ (rest ≡ [])
     → AllSelected q true (lines (terminator q) front) → 0 < length (lines (terminator q) front)
     → is_below (p.kept + (length (lines (terminator q) front) - 1)) format.limit ≡ true
-    → Keeps p format (length (lines (terminator q) front)) later
+    → KeepsLines p format (length (lines (terminator q) front)) later
     → IsAt q format c hidden' bytes before
     (after ++ rows_of_kept format (terminator q) c.name c.earlier hidden p (c.trail.offset + at) (painted q format)
     (lines (terminator q) front)) later
@@ -284,14 +285,14 @@ kept_step q format c hidden hidden' bytes before after p later at seen h front r
         (fits l ls below)
 
     told : (ls : List (List ℕ)) → AllSelected q true ls → 0 < length ls
-        → is_below (p.kept + (length ls - 1)) format.limit ≡ true → Keeps p format (length ls) later
-        → Tells later format (run q format h.trail ls)
+        → is_below (p.kept + (length ls - 1)) format.limit ≡ true → KeepsLines p format (length ls) later
+        → IsOfTrail later format (run q format h.trail ls)
     told [] selected some below keeps = absurd (omega (arith, some))
     told (l ∷ ls) selected some below keeps =
         keeps_tells p format (length (l ∷ ls)) later keeps q h.trail l ls refl selected (fits l ls below) h.tells
 
     window : (ls : List (List ℕ)) → AllSelected q true ls → 0 < length ls
-        → is_below (p.kept + (length ls - 1)) format.limit ≡ true → Keeps p format (length ls) later
+        → is_below (p.kept + (length ls - 1)) format.limit ≡ true → KeepsLines p format (length ls) later
         → (run q format h.trail ls).window ≡ keep_last (leading format later) hidden'
     window [] selected some below keeps = absurd (omega (arith, some))
     window (l ∷ ls) selected some below keeps =
@@ -304,7 +305,7 @@ kept_step q format c hidden hidden' bytes before after p later at seen h front r
 -- no row of the block was written yet
 pub at_first : (q : Search) (format : Format) (c : Cursor) (hidden : List (List ℕ)) (bytes taken : List ℕ)
     (p : Progress)
-    → Tells p format c.trail → c.trail.window ≡ keep_last (context format.before) hidden
+    → IsOfTrail p format c.trail → c.trail.window ≡ keep_last (context format.before) hidden
     → size_of c.trail.window ≤ c.trail.offset → IsAt q format c hidden bytes taken taken p 0 0
 at_first q format c hidden bytes taken p told window room =
     let a = ap (λ xs. length xs) window in
@@ -329,13 +330,13 @@ at_first q format c hidden bytes taken p told window room =
 pub at_last : (q : Search) (format : Format) (c : Cursor) (hidden : List (List ℕ)) (bytes before after : List ℕ)
     (p : Progress) (at seen : ℕ) → IsAt q format c hidden bytes before after p at seen → at ≡ length bytes
     → (after ≡ before ++ run_rows q format c.name c.earlier c.trail (lines (terminator q) bytes))
-    × Tells p format (run q format c.trail (lines (terminator q) bytes))
+    × IsOfTrail p format (run q format c.trail (lines (terminator q) bytes))
     × ((run q format c.trail (lines (terminator q) bytes)).window ≡ keep_last (leading format p) hidden)
 at_last q format c hidden bytes before after p at seen h last =
     let end = terminator q in
     let none : lines end (drop at bytes) ≡ [] = ap (lines end) (drop_all at bytes (omega arith)) in
     let same : h.trail ≡ run q format c.trail (lines end bytes) = sym (ap (run q format h.trail) none) ∙ h.later in
-    let P : Trail → Type 0 = λ t. Tells p format t in (
+    let P : Trail → Type 0 = λ t. IsOfTrail p format t in (
       h.taken ∙ ap (λ xs. before ++ xs) (sym (append-nil h.part)
           ∙ (sym (ap (λ ls. h.part ++ run_rows q format c.name c.earlier h.trail ls) none) ∙ h.rows)),
       subst P same h.tells,

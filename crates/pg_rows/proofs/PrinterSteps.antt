@@ -23,12 +23,12 @@ use Rattle.pg_rows.specs.Output.{context, is_below, painted, size_of}
 use Rattle.pg_rows.specs.Trail.{run_rows, run_pieces}
 use Rattle.pg_rows.specs.Stretch.{part_rows, AllSelected}
 use Rattle.pg_rows.specs.Pieces.{cut_at, told_of_lines, HasFound}
-use Rattle.pg_rows.specs.Painting.{count_before, IsTold}
+use Rattle.pg_rows.specs.Painting.{count_before, AreToldParts}
 use Rattle.pg_rows.specs.Cursor.{Cursor}
 use Rattle.pg_rows.specs.Window.{held, IsWindow}
-use Rattle.pg_rows.specs.Progress.{Passes, Keeps, kept_of}
+use Rattle.pg_rows.specs.Progress.{Passes, KeepsLines, kept_of}
 use Rattle.pg_rows.specs.Printing.{leading, rows_of_passed, rows_of_run, IsAt, ComesNext, EndsKept}
-use Rattle.pg_rows.specs.Remembered.{Remembers, HasLines, ComesLast, Follows, shows_lines, behind_block}
+use Rattle.pg_rows.specs.Remembered.{IsAtCursor, HasLines, ComesLast, IsRememberedBehind, shows_lines, behind_block}
 use Rattle.pg_rows.specs.Modes.{shows_rows}
 use Rattle.pg_rows.specs.Remembered.{shown_rows}
 use Rattle.pg_rows.proofs.StretchLemmas.{length_keep_last}
@@ -42,7 +42,7 @@ use Rattle.pg_rows.proofs.PaintLemmas.{AreLeft, run_own}
 
 -- the printer has written nothing of a block
 pub before_all : {A : Type 0} (s : Printer A) (q : Search) (format : Format) (c : Cursor) (bytes taken : List ℕ)
-    (runs : List Run) (total : ℕ) → Remembers s q format c → shows_lines format ≡ true → HasLines q bytes runs total
+    (runs : List Run) (total : ℕ) → IsAtCursor s q format c → shows_lines format ≡ true → HasLines q bytes runs total
     → IsBefore q format c (held (terminator q) s.window) bytes taken taken s.progress 0 0 runs
 before_all s q format c bytes taken runs total r shows has = record {
   here = at_first q format c (held (terminator q) s.window) bytes taken s.progress r.told (r.window shows) r.room;
@@ -70,7 +70,7 @@ pub record CanStep {A : Type 0} (s : Printer A) (bytes : List ℕ) (place : Plac
 
 pub can_step : {A : Type 0} (s : Printer A) (q : Search) (format : Format) (c : Cursor) (bytes before after : List ℕ)
     (place : Place) (runs : List Run) (index total count : ℕ)
-    → Remembers s q format c → HasLines q bytes runs total → IsBefore q format c (held (terminator q) s.window) bytes
+    → IsAtCursor s q format c → HasLines q bytes runs total → IsBefore q format c (held (terminator q) s.window) bytes
     before after place.progress place.at place.seen (drop index runs) → index < length runs
     → count ≡ kept_of s.format.limit place.progress.kept (get_or runs index no_run).count → (count ≡ 0 → ⊥)
     → CanStep s bytes place (get_or runs index no_run) count total
@@ -109,7 +109,7 @@ step_rows q format end name earlier window offset bytes at start place p passed 
     (offset + start) (painted q format) (lines end (slice_range bytes start place))
 
 step_same : {A : Type 0} (s : Printer A) (q : Search) (format : Format) (c : Cursor) (bytes : List ℕ)
-    (at start place : ℕ) (p passed : Progress) → Remembers s q format c →
+    (at start place : ℕ) (p passed : Progress) → IsAtCursor s q format c →
     step_rows q s.format s.end s.prefix s.earlier s.window s.offset bytes at start place p passed
     ≡ step_rows q format (terminator q) c.name c.earlier s.window c.trail.offset bytes at start place p passed
 step_same s q format c bytes at start place p passed r =
@@ -123,13 +123,13 @@ step_same s q format c bytes at start place p passed r =
 pub record IsStep {A : Type 0} (s : Printer A) (bytes : List ℕ) (place : Place) (here : Run) (count : ℕ)
     (passed : Progress) (next : Place) : Type 0 where
   pub passes : Passes place.progress (here.first - place.seen) passed
-  pub keeps : Keeps passed s.format count next.progress
+  pub keeps : KeepsLines passed s.format count next.progress
   pub ends : EndsKept s.end bytes here count next.at
   pub seen : next.seen ≡ here.first + count
 
 pub stepped : {A : Type 0} (s : Printer A) (q : Search) (format : Format) (c : Cursor) (bytes before after : List ℕ)
     (place next : Place) (passed : Progress) (runs : List Run) (index count : ℕ)
-    → Remembers s q format c → IsBefore q format c (held (terminator q) s.window) bytes
+    → IsAtCursor s q format c → IsBefore q format c (held (terminator q) s.window) bytes
     before after place.progress place.at place.seen (drop index runs) → index < length runs
     → count ≡ kept_of s.format.limit place.progress.kept (get_or runs index no_run).count → (count ≡ 0 → ⊥)
     → IsStep s bytes place (get_or runs index no_run) count passed next
@@ -148,7 +148,7 @@ stepped s q format c bytes before after place next passed runs index count r h b
     let is' = is ∙ ap (λ f. kept_of f.limit place.progress.kept here.count) r.format_is in
     let are = is_ahead q format c hidden bytes before after place.progress place.at place.seen count here more h' is'
     some in
-    let K : Format → Type 0 = λ f. Keeps passed f count next.progress in
+    let K : Format → Type 0 = λ f. KeepsLines passed f count next.progress in
     let E : ℕ → Type 0 = λ e. EndsKept e bytes here count next.at in
     let rows = step_rows q format (terminator q) c.name c.earlier s.window c.trail.offset bytes place.at here.span.start
     next.at place.progress passed in
@@ -168,7 +168,7 @@ stepped s q format c bytes before after place next passed runs index count r h b
 -- the lines before a run that are shown as its context have no more bytes than the file has before the run
 pub has_room : {A : Type 0} (s : Printer A) (q : Search) (format : Format) (c : Cursor) (bytes before after : List ℕ)
     (place : Place) (passed : Progress) (runs : List Run) (index count : ℕ)
-    → Remembers s q format c → IsBefore q format c (held (terminator q) s.window) bytes
+    → IsAtCursor s q format c → IsBefore q format c (held (terminator q) s.window) bytes
     before after place.progress place.at place.seen (drop index runs) → index < length runs
     → count ≡ kept_of s.format.limit place.progress.kept (get_or runs index no_run).count → (count ≡ 0 → ⊥)
     → Passes place.progress ((get_or runs index no_run).first - place.seen) passed
@@ -207,7 +207,7 @@ has_room s q format c bytes before after place passed runs index count r h below
 -- what a step takes of the parts
 pub record TakesParts {A : Type 0} (s : Printer A) (q : Search) (bytes : List ℕ) (parts : List Part)
     (place next : Place) (here : Run) : Type 0 where
-  pub told : IsTold q s.format.colored s.end (take next.at bytes) here.span.start here.first
+  pub told : AreToldParts q s.format.colored s.end (take next.at bytes) here.span.start here.first
       (slice_range parts place.used next.used)
   pub ordered : place.used ≤ next.used
   pub within : next.used ≤ length parts
@@ -222,7 +222,7 @@ cut_bytes bytes start place low =
 
 pub takes_parts : {A : Type 0} (s : Printer A) (q : Search) (format : Format) (c : Cursor)
     (bytes before after : List ℕ) (parts : List Part) (place next : Place) (runs : List Run) (index count : ℕ)
-    → Remembers s q format c → IsBefore q format c (held (terminator q) s.window) bytes
+    → IsAtCursor s q format c → IsBefore q format c (held (terminator q) s.window) bytes
     before after place.progress place.at place.seen (drop index runs) → index < length runs
     → count ≡ kept_of s.format.limit place.progress.kept (get_or runs index no_run).count → (count ≡ 0 → ⊥)
     → EndsKept s.end bytes (get_or runs index no_run) count next.at
@@ -308,7 +308,7 @@ comes_last s q format c bytes before after place runs h none fresh kept = record
 -- no line of the next run is kept
 pub stops : {A : Type 0} (s : Printer A) (q : Search) (format : Format) (c : Cursor) (bytes before after : List ℕ)
     (place : Place) (runs : List Run) (index count : ℕ)
-    → Remembers s q format c → IsBefore q format c (held (terminator q) s.window) bytes
+    → IsAtCursor s q format c → IsBefore q format c (held (terminator q) s.window) bytes
     before after place.progress place.at place.seen (drop index runs) → index < length runs
     → count ≡ kept_of s.format.limit place.progress.kept (get_or runs index no_run).count → count ≡ 0
     → is_below place.progress.kept format.limit ≡ false
@@ -344,7 +344,7 @@ ends_some end bytes here count at ends long few some = elim (cases_lt 0 at) [
 
 -- the lines behind the last one that is kept were passed
 pub behind_last : {A : Type 0} (s : Printer A) (q : Search) (format : Format) (c : Cursor) (bytes before after : List ℕ)
-    (place : Place) (last : Progress) (count : ℕ) → Remembers s q format c
+    (place : Place) (last : Progress) (count : ℕ) → IsAtCursor s q format c
     → ComesLast q format c (held (terminator q) s.window) bytes before after s.progress place
     → Passes place.progress count last → count ≡ length (lines s.end (drop place.at bytes)) →
     IsAt q format c
@@ -396,7 +396,7 @@ kept_window ctx behind hidden others is =
 
 -- where a block ends
 pub offset_follows : {A : Type 0} (s : Printer A) (q : Search) (format : Format) (c : Cursor) (bytes : List ℕ)
-    → Remembers s q format c
+    → IsAtCursor s q format c
     → s.offset + size_of (lines s.end bytes) ≡ (behind_block q format c bytes).trail.offset
 offset_follows s q format c bytes r =
     ap (λ e. s.offset + size_of (lines e bytes)) r.end_is
@@ -404,14 +404,14 @@ offset_follows s q format c bytes r =
     ∙ sym (run_offset q format c.trail (lines (terminator q) bytes)))
 
 pub follows : {A : Type 0} (s : Printer A) (q : Search) (format : Format) (c : Cursor) (bytes before after : List ℕ)
-    (place : Place) (last : Progress) (count stop left offset : ℕ) → Remembers s q format c
+    (place : Place) (last : Progress) (count stop left offset : ℕ) → IsAtCursor s q format c
     → shows_lines format ≡ true
     → ComesLast q format c (held (terminator q) s.window) bytes before after s.progress place
     → Passes place.progress count last → count ≡ length (lines s.end (drop place.at bytes))
     → lines s.end (drop stop (drop place.at bytes)) ≡ drop place.progress.countdown (lines s.end (drop place.at bytes))
     → stop ≤ length (drop place.at bytes) → left ≡ count - place.progress.countdown
     → offset ≡ s.offset + size_of (lines s.end bytes) →
-    Follows s q format (behind_block q format c bytes) bytes
+    IsRememberedBehind s q format (behind_block q format c bytes) bytes
     (record {
       progress = last;
       offset = offset;
@@ -486,7 +486,7 @@ shown_lines q format c bytes rows pieces =
 
 -- the rows of the parts, as the printer writes them
 pub pieces_same : {A : Type 0} (s : Printer A) (q : Search) (format : Format) (c : Cursor) (bytes : List ℕ)
-    (runs : List Run) (parts : List Part) (total cut : ℕ) → Remembers s q format c
+    (runs : List Run) (parts : List Part) (total cut : ℕ) → IsAtCursor s q format c
     → HasFound q bytes runs parts total
     → cut ≡ cut_at q s.format.limit s.progress.kept (lines (terminator q) bytes) →
     part_rows s.format s.end s.prefix (s.progress.number + 1) s.offset cut bytes parts

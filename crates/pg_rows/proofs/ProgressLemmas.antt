@@ -6,7 +6,7 @@ use Rattle.pg_rows.specs.declared.format.Format.{Format}
 use Rattle.pg_rows.specs.declared.progress.Progress.{Progress}
 use Rattle.pg_rows.specs.Output.{context}
 use Rattle.pg_rows.specs.Trail.{Trail, run}
-use Rattle.pg_rows.specs.Progress.{Tells, Passes, Keeps, TellsPassed, TellsKept}
+use Rattle.pg_rows.specs.Progress.{IsOfTrail, Passes, KeepsLines, TellsPassed, TellsKept}
 use Rattle.pg_rows.proofs.StretchLemmas.{passed_trail, kept_trail, length_keep_last}
 
 skipped_more : (before behind more : ℕ)
@@ -19,7 +19,7 @@ skipped_more before behind more = elim (cases_lt before behind) [
 ]
 
 -- the window holds no more than it may
-pub told_fits : (p : Progress) (format : Format) (t : Trail) → Tells p format t
+pub told_fits : (p : Progress) (format : Format) (t : Trail) → IsOfTrail p format t
     → length t.window ≤ context format.before
 told_fits p format t told = let e = told.window in omega arith
 
@@ -53,7 +53,7 @@ passes_tells p count later h q format t ls long unkept told =
     }
 
 -- behind lines that are all kept
-pub keeps_tells : (p : Progress) (format : Format) (count : ℕ) (later : Progress) → Keeps p format count later
+pub keeps_tells : (p : Progress) (format : Format) (count : ℕ) (later : Progress) → KeepsLines p format count later
     → TellsKept p format count later
 keeps_tells p format count later h q t l ls long selected below told =
     let before = context format.before in

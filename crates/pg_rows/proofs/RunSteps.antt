@@ -17,7 +17,7 @@ use Rattle.pg_rows.specs.Output.{is_below, painted}
 use Rattle.pg_base.specs.Sink.{TakesPart}
 use Rattle.pg_rows.specs.Trail.{run_rows}
 use Rattle.pg_rows.specs.Cursor.{Cursor}
-use Rattle.pg_rows.specs.Progress.{Passes, Keeps, kept_of}
+use Rattle.pg_rows.specs.Progress.{Passes, KeepsLines, kept_of}
 use Rattle.pg_rows.specs.Stretch.{AllSelected}
 use Rattle.pg_rows.specs.Printing.{rows_of_passed, rows_of_kept, IsAt, ComesNext, EndsKept}
 use Rattle.pg_rows.proofs.PrintLemmas.{behind_front, passed_step, kept_step}
@@ -145,7 +145,7 @@ gap_step q format c hidden bytes before after p passed at seen run h n texts pas
 pub run_step : (q : Search) (format : Format) (c : Cursor) (hidden : List (List ℕ)) (bytes before after : List ℕ)
     (p passed next : Progress) (at seen count place : ℕ) (run : Run) (runs : List Run)
     → IsAt q format c hidden bytes before after p at seen → AreRuns q at seen (drop at bytes) (run ∷ runs)
-    → Passes p (run.first - seen) passed → Keeps passed format count next
+    → Passes p (run.first - seen) passed → KeepsLines passed format count next
     → count ≡ kept_of format.limit p.kept run.count → 0 < count → EndsKept (terminator q) bytes run count place →
     IsBefore q format c hidden bytes before ((after
     ++ rows_of_passed format (terminator q) c.name p (c.trail.offset + at)
@@ -170,7 +170,7 @@ run_step q format c hidden bytes before after p passed next at seen count place 
     let same : p.kept + (count - 1) ≡ passed.kept + (length (lines end front) - 1) = omega (arith, passes.kept, long) in
     let below : is_below (passed.kept + (length (lines end front) - 1)) format.limit ≡ true =
     ap (λ k. is_below k format.limit) (sym same) ∙ kept_fits format.limit p.kept run.count (count - 1) (omega arith) in
-    let P : ℕ → Type 0 = λ k. Keeps passed format k next in
+    let P : ℕ → Type 0 = λ k. KeepsLines passed format k next in
     let h2 = kept_step q format c (hidden ++ drop p.countdown gap) hidden bytes before middle passed next run.span.start
     run.first (gap_step q format c hidden bytes before after p passed at seen run h n texts passes) front
     (drop place bytes)

@@ -36,7 +36,8 @@ count_before limit (p ∷ ps) = if nat_lt p.line limit then count_before limit p
 
 -- The lines of the bytes from a place on, which stand behind so many lines of the block, are selected, and where rows
 -- have colors these are their parts.
-pub record IsTold (q : Search) (colored : Bool) (end : ℕ) (bytes : List ℕ) (from line : ℕ) (parts : List Part) : Type 0
+pub record AreToldParts (q : Search) (colored : Bool) (end : ℕ) (bytes : List ℕ) (from line : ℕ) (parts : List Part) :
+    Type 0
   where
     pub end_is : end ≡ terminator q
     pub selected : AllSelected q true (lines end (drop from bytes))

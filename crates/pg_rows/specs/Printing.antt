@@ -10,7 +10,7 @@ use Rattle.pg_rows.specs.declared.progress.Progress.{Progress}
 use Rattle.pg_rows.specs.Output.{context, gap_text, has_separators, size_of, when}
 use Rattle.pg_rows.specs.Trail.{Trail, run, run_rows}
 use Rattle.pg_rows.specs.Cursor.{Cursor}
-use Rattle.pg_rows.specs.Progress.{Tells}
+use Rattle.pg_rows.specs.Progress.{IsOfTrail}
 use Rattle.pg_rows.specs.Stretch.{marked_rows, plain}
 
 -- whether a separator stands before the next kept line and its context
@@ -54,7 +54,7 @@ rows_of_passed format end name p offset ls =
 pub record IsAt (q : Search) (format : Format) (c : Cursor) (hidden : List (List ℕ)) (bytes : List ℕ)
     (before after : List ℕ) (p : Progress) (at seen : ℕ) : Type 0 where
   pub trail : Trail
-  pub tells : Tells p format trail
+  pub tells : IsOfTrail p format trail
   pub window : trail.window ≡ keep_last (leading format p) hidden
   pub within : at ≤ length bytes
   pub offset : (trail.offset ≡ c.trail.offset + at) ⊎ (drop at bytes ≡ [])

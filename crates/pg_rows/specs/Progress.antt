@@ -12,7 +12,7 @@ use Rattle.pg_rows.specs.Stretch.{AllSelected, AreUnkept}
 
 -- the numbers are those of the trail: of the lines behind the last shown one the window has the last ones, and lines
 -- are skipped where there are more
-pub record Tells (p : Progress) (format : Format) (t : Trail) : Type 0 where
+pub record IsOfTrail (p : Progress) (format : Format) (t : Trail) : Type 0 where
   pub number : p.number ≡ t.number
   pub kept : p.kept ≡ t.kept
   pub countdown : p.countdown ≡ t.countdown
@@ -29,7 +29,7 @@ pub record Passes (p : Progress) (count : ℕ) (later : Progress) : Type 0 where
   pub behind : later.behind ≡ p.behind + (count - p.countdown)
 
 -- the numbers behind some lines, at least one, that are all kept
-pub record Keeps (p : Progress) (format : Format) (count : ℕ) (later : Progress) : Type 0 where
+pub record KeepsLines (p : Progress) (format : Format) (count : ℕ) (later : Progress) : Type 0 where
   pub number : later.number ≡ p.number + count
   pub kept : later.kept ≡ p.kept + count
   pub countdown : later.countdown ≡ context format.after
@@ -43,23 +43,23 @@ kept_of (Some limit) kept count = min count (limit - kept)
 
 -- what is remembered of no lines
 abbrev pub TellsNone : Progress → Type 0
-TellsNone p = (format : Format) → Tells p format no_lines
+TellsNone p = (format : Format) → IsOfTrail p format no_lines
 
 -- what is remembered behind any lines of this number of which none is kept
 abbrev pub TellsPassed : Progress → ℕ → Progress → Type 0
 TellsPassed p count later =
     (q : Search) (format : Format) (t : Trail) (ls : List (List ℕ)) → length ls ≡ count → AreUnkept q format t ls
-    → Tells p format t → Tells later format (run q format t ls)
+    → IsOfTrail p format t → IsOfTrail later format (run q format t ls)
 
 -- what is remembered behind any lines of this number, at least one, that are selected and within the limit
 abbrev pub TellsKept : Progress → Format → ℕ → Progress → Type 0
 TellsKept p format count later =
     (q : Search) (t : Trail) (l : List ℕ) (ls : List (List ℕ)) → length (l ∷ ls) ≡ count → AllSelected q true (l ∷ ls)
     → is_below (t.kept + length ls) format.limit ≡ true
-    → Tells p format t → Tells later format (run q format t (l ∷ ls))
+    → IsOfTrail p format t → IsOfTrail later format (run q format t (l ∷ ls))
 
 -- what is remembered behind the lines of any block that has these runs of selected lines, and so many lines
 abbrev pub TellsBlock : Progress → Format → List Run → ℕ → Progress → Type 0
 TellsBlock p format runs count later =
     (q : Search) (t : Trail) (bytes : List ℕ) → AreRuns q 0 0 bytes runs → count ≡ length (lines (terminator q) bytes)
-    → Tells p format t → Tells later format (run q format t (lines (terminator q) bytes))
+    → IsOfTrail p format t → IsOfTrail later format (run q format t (lines (terminator q) bytes))

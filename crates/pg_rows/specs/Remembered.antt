@@ -16,7 +16,7 @@ use Rattle.pg_rows.specs.Modes.{rows_in}
 use Rattle.pg_rows.specs.Output.{context, is_below, size_of}
 use Rattle.pg_rows.specs.Trail.{no_lines, run}
 use Rattle.pg_rows.specs.Cursor.{Cursor, block_rows, counted, named}
-use Rattle.pg_rows.specs.Progress.{Tells}
+use Rattle.pg_rows.specs.Progress.{IsOfTrail}
 use Rattle.pg_rows.specs.Stretch.{AllSelected}
 use Rattle.pg_rows.specs.Printing.{IsAt}
 use Rattle.pg_rows.specs.Window.{held, IsWindow}
@@ -26,12 +26,12 @@ abbrev pub shows_lines : Format → Bool
 shows_lines format = shows_rows format.mode && not format.parts
 
 -- The printer, made for a query and a format, stands at this place of the output.
-pub record Remembers {A : Type 0} (p : Printer A) (q : Search) (format : Format) (c : Cursor) : Type 0 where
+pub record IsAtCursor {A : Type 0} (p : Printer A) (q : Search) (format : Format) (c : Cursor) : Type 0 where
   pub format_is : p.format ≡ format
   pub end_is : p.end ≡ terminator q
   pub earlier_is : p.earlier ≡ c.earlier
   pub name_is : p.prefix ≡ c.name
-  pub told : Tells p.progress format c.trail
+  pub told : IsOfTrail p.progress format c.trail
   pub offset : p.offset ≡ c.trail.offset
   pub room : size_of c.trail.window ≤ c.trail.offset
   pub holds : IsWindow (terminator q) p.window
@@ -72,9 +72,9 @@ end_rows format c = rows_in format.mode [] (counted format c) (named format c)
 
 -- The rows of a block were written: what is remembered behind it, and where its last lines stand that may still be
 -- shown. What was held before may still be shown too, where no line of the block was kept.
-pub record Follows {A : Type 0} (p : Printer A) (q : Search) (format : Format) (c : Cursor) (bytes : List ℕ)
+pub record IsRememberedBehind {A : Type 0} (p : Printer A) (q : Search) (format : Format) (c : Cursor) (bytes : List ℕ)
     (printed : Printed) : Type 0 where
-  pub told : Tells printed.progress format c.trail
+  pub told : IsOfTrail printed.progress format c.trail
   pub offset : printed.offset ≡ c.trail.offset
   pub within : printed.start ≤ length bytes
   pub count : printed.lines ≡ length (lines (terminator q) (drop printed.start bytes))

@@ -3,7 +3,7 @@ ghost use Rattle.std.specs.Prelude.{◌≡◌, ◌+◌, ◌-◌, ◌<◌, ◌≤
 ghost use Rattle.pg_lines.specs.Lines.{lines};
 ghost use Rattle.pg_lines.specs.Search.{Search};
 ghost use Rattle.pg_rows.specs.Output.{painted, row};
-ghost use Rattle.pg_rows.specs.Painting.{painted_bytes, AreAscending, IsTold};
+ghost use Rattle.pg_rows.specs.Painting.{painted_bytes, AreAscending, AreToldParts};
 ghost use Rattle.pg_base.specs.Sink.{WritesText};
 ghost use Rattle.pg_rows.specs.Stretch.{marked_rows};
 
@@ -57,9 +57,9 @@ impl<A: Allocator> Printer<A> {
         requires small { first.number + length (lines self.old.end (drop from bytes.now)) < 2 ^ 64 }
         requires placed { first.offset + length bytes.now < 2 ^ 64 }
         requires few { line + length (lines self.old.end (drop from bytes.now)) < 2 ^ 64 }
-        requires told { (q : Search) × IsTold q true self.old.end bytes.now from line parts.now }
+        requires told { (q : Search) × AreToldParts q true self.old.end bytes.now from line parts.now }
         ensures same { self.new ≡ self.old }
-        ensures writes { (q : Search) → IsTold q true self.old.end bytes.now from line parts.now →
+        ensures writes { (q : Search) → AreToldParts q true self.old.end bytes.now from line parts.now →
             WritesText (marked_rows self.old.format self.old.end self.old.prefix 58 (painted q self.old.format)
             first.number first.offset (lines self.old.end (drop from bytes.now)))
             (W.stream out.old) (W.stream out.new) result }
@@ -98,10 +98,11 @@ impl<A: Allocator> Printer<A> {
         requires small { first.number + length (lines self.old.end (drop from bytes.now)) < 2 ^ 64 }
         requires placed { first.offset + length bytes.now < 2 ^ 64 }
         requires few { line + length (lines self.old.end (drop from bytes.now)) < 2 ^ 64 }
-        requires told { (q : Search) × IsTold q self.old.format.colored self.old.end bytes.now from line parts.now }
+        requires told { (q : Search) × AreToldParts q self.old.format.colored self.old.end bytes.now from line
+            parts.now }
         ensures same { self.new ≡ self.old }
         ensures writes { (q : Search) →
-            IsTold q self.old.format.colored self.old.end bytes.now from line parts.now →
+            AreToldParts q self.old.format.colored self.old.end bytes.now from line parts.now →
             WritesText (marked_rows self.old.format self.old.end self.old.prefix 58 (painted q self.old.format)
             first.number first.offset (lines self.old.end (drop from bytes.now)))
             (W.stream out.old) (W.stream out.new) result }

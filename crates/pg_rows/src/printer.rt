@@ -112,16 +112,16 @@ impl<A: Allocator> Printer<A> {
     ghost use Rattle.pg_lines.specs.Searched.{lines_of};
     ghost use Rattle.pg_rows.specs.Pieces.{HasFound};
     ghost use Rattle.pg_rows.specs.Cursor.{Cursor, at_start};
-    ghost use Rattle.pg_rows.specs.Remembered.{Remembers, ComesLast, Follows, shows_lines, behind_block};
+    ghost use Rattle.pg_rows.specs.Remembered.{IsAtCursor, ComesLast, IsRememberedBehind, shows_lines, behind_block};
     ghost use Rattle.pg_rows.specs.Modes.{is_named};
     ghost use Rattle.pg_rows.specs.Remembered.{opened_as, end_rows, shown_rows};
     ghost use Rattle.pg_rows.specs.Trail.{run_rows, run_pieces};
     ghost use Rattle.pg_rows.specs.Window.{held, IsWindow};
     ghost use Rattle.circular_buffer.specs.Buffer.{keep_last};
-    ghost use Rattle.pg_rows.specs.Progress.{Passes, Keeps};
+    ghost use Rattle.pg_rows.specs.Progress.{Passes, KeepsLines};
     ghost use Rattle.pg_rows.specs.Printing.{ComesNext, EndsKept};
     ghost use Rattle.pg_rows.specs.Printing.{has_gap, gap_of, leading, rows_of_run, rows_before, rows_of_leading};
-    ghost use Rattle.pg_rows.specs.Painting.{IsTold, count_before};
+    ghost use Rattle.pg_rows.specs.Painting.{AreToldParts, count_before};
     ghost use Rattle.pg_rows.specs.Printing.{rows_of_passed};
 
     /// A printer to which nothing was given, for the rows of a query. It reserves the room of its window.
@@ -132,7 +132,7 @@ impl<A: Allocator> Printer<A> {
     pub fn new(alloc: A, query: &Query<A>, format: Format) -> Result<Printer<A>, AllocError>
     where
         A: Copy,
-        ensures { (q : Search) → q.text ≡ query.now.text → IfOk result (λ p. Remembers p q format at_start) }
+        ensures { (q : Search) → q.text ≡ query.now.text → IfOk result (λ p. IsAtCursor p q format at_start) }
     {
         let window = Window::new(alloc, usize::from(format.before.unwrap_or(0)))?;
         let prefix = Prefix::new(alloc, b"")?;
@@ -149,8 +149,8 @@ impl<A: Allocator> Printer<A> {
 
     /// Begins the next file. What was held of the one before is given up.
     pub fn open(&mut self, prefix: Prefix<A>)
-        ensures { (q : Search) (format : Format) (c : Cursor) → Remembers self.old q format c →
-            Remembers self.new q format (opened_as c prefix) }
+        ensures { (q : Search) (format : Format) (c : Cursor) → IsAtCursor self.old q format c →
+            IsAtCursor self.new q format (opened_as c prefix) }
     {
         self.earlier |= self.progress.shown;
         self.prefix = prefix;
@@ -169,13 +169,13 @@ impl<A: Allocator> Printer<A> {
     /// Goes on behind a block whose rows were written: the one that `print` was given last, with what it
     /// answered. The block is held as long as its last lines may still be shown.
     pub fn pass(&mut self, block: Arc<Block<A>, A>, printed: Printed)
-        requires { (q : Search) × (format : Format) × (c : Cursor) × Remembers self.old q format c
-            × Follows self.old q format (behind_block q format c (arc_value block).bytes)
+        requires { (q : Search) × (format : Format) × (c : Cursor) × IsAtCursor self.old q format c
+            × IsRememberedBehind self.old q format (behind_block q format c (arc_value block).bytes)
             (arc_value block).bytes printed }
-        ensures { (q : Search) (format : Format) (c : Cursor) → Remembers self.old q format c →
-            Follows self.old q format (behind_block q format c (arc_value block).bytes)
+        ensures { (q : Search) (format : Format) (c : Cursor) → IsAtCursor self.old q format c →
+            IsRememberedBehind self.old q format (behind_block q format c (arc_value block).bytes)
             (arc_value block).bytes printed →
-            Remembers self.new q format (behind_block q format c (arc_value block).bytes) }
+            IsAtCursor self.new q format (behind_block q format c (arc_value block).bytes) }
     {
         self.progress = printed.progress;
         self.offset = printed.offset;
@@ -191,7 +191,8 @@ impl<A: Allocator> Printer<A> {
     /// `WriteError` where a write failed. A beginning of the row was taken then.
     pub fn end<W: Sink>(&self, out: &mut W) -> Result<(), WriteError>
         ensures { (text : List ℕ) × WritesText text (W.stream out.old) (W.stream out.new) result
-            × ((q : Search) (format : Format) (c : Cursor) → Remembers self.now q format c → text ≡ end_rows format c) }
+            × ((q : Search) (format : Format) (c : Cursor) → IsAtCursor self.now q format c → text
+            ≡ end_rows format c) }
     {
         match self.format.mode {
             Mode::Count => write_count(out, &self.format, &self.prefix, self.progress.kept),
@@ -217,9 +218,9 @@ impl<A: Allocator> Printer<A> {
     fn passed(&self, bytes: &[u8], runs: &[Run], total: usize) -> Printed
         requires small { self.now.progress.number + total < 2 ^ 63 }
         requires placed { self.now.offset + length bytes.now < 2 ^ 63 }
-        ensures { (q : Search) (format : Format) (c : Cursor) → Remembers self.now q format c →
+        ensures { (q : Search) (format : Format) (c : Cursor) → IsAtCursor self.now q format c →
             shows_lines format ≡ false → HasLines q bytes.now runs.now total →
-            Follows self.now q format (behind_block q format c bytes.now) bytes.now result }
+            IsRememberedBehind self.now q format (behind_block q format c bytes.now) bytes.now result }
     {
         Printed {
             progress: self.progress.after(&self.format, runs, total as u64),
@@ -260,18 +261,19 @@ impl<A: Allocator> Printer<A> {
         parts: &[Part],
         total: usize,
     ) -> Result<Printed, WriteError>
-        requires stands { (q : Search) × (format : Format) × (c : Cursor) × Remembers self.old q format c
+        requires stands { (q : Search) × (format : Format) × (c : Cursor) × IsAtCursor self.old q format c
             × (format.parts ≡ true) × HasFound q bytes.now runs.now parts.now total }
         requires small { self.old.progress.number + total < 2 ^ 63 }
         requires placed { self.old.offset + length bytes.now < 2 ^ 63 }
         ensures same { self.new ≡ self.old }
-        ensures writes { (q : Search) (format : Format) (c : Cursor) → Remembers self.old q format c →
+        ensures writes { (q : Search) (format : Format) (c : Cursor) → IsAtCursor self.old q format c →
             format.parts ≡ true → HasFound q bytes.now runs.now parts.now total →
             WritesText (run_pieces q format c.name c.trail (lines (terminator q) bytes.now))
             (W.stream out.old) (W.stream out.new) result }
-        ensures follows { (q : Search) (format : Format) (c : Cursor) → Remembers self.old q format c →
+        ensures follows { (q : Search) (format : Format) (c : Cursor) → IsAtCursor self.old q format c →
             format.parts ≡ true → HasFound q bytes.now runs.now parts.now total →
-            IfOk result (λ printed. Follows self.old q format (behind_block q format c bytes.now) bytes.now printed) }
+            IfOk result (λ printed. IsRememberedBehind self.old q format (behind_block q format c bytes.now) bytes.now
+            printed) }
     {
         let cut = self.cut(runs, total);
         let first = Position {
@@ -301,17 +303,18 @@ impl<A: Allocator> Printer<A> {
         parts: &[Part],
         total: usize,
     ) -> Result<Printed, WriteError>
-        requires stands { (q : Search) × (format : Format) × (c : Cursor) × Remembers self.old q format c
+        requires stands { (q : Search) × (format : Format) × (c : Cursor) × IsAtCursor self.old q format c
             × HasFound q bytes.now runs.now parts.now total }
         requires small { self.old.progress.number + total < 2 ^ 63 }
         requires placed { self.old.offset + length bytes.now < 2 ^ 63 }
         ensures same { self.new ≡ self.old }
-        ensures writes { (q : Search) (format : Format) (c : Cursor) → Remembers self.old q format c →
+        ensures writes { (q : Search) (format : Format) (c : Cursor) → IsAtCursor self.old q format c →
             HasFound q bytes.now runs.now parts.now total →
             WritesText (shown_rows q format c bytes.now) (W.stream out.old) (W.stream out.new) result }
-        ensures follows { (q : Search) (format : Format) (c : Cursor) → Remembers self.old q format c →
+        ensures follows { (q : Search) (format : Format) (c : Cursor) → IsAtCursor self.old q format c →
             HasFound q bytes.now runs.now parts.now total →
-            IfOk result (λ printed. Follows self.old q format (behind_block q format c bytes.now) bytes.now printed) }
+            IfOk result (λ printed. IsRememberedBehind self.old q format (behind_block q format c bytes.now) bytes.now
+            printed) }
     {
         if !self.format.mode.shows_rows() {
             return Ok(self.passed(bytes, runs, total));
@@ -334,15 +337,15 @@ impl<A: Allocator> Printer<A> {
         out: &mut W,
         found: &BlockResult<A>,
     ) -> Result<Printed, WriteError>
-        requires { (q : Search) × (format : Format) × (c : Cursor) × Remembers self.old q format c × HasItsTrees q
+        requires { (q : Search) × (format : Format) × (c : Cursor) × IsAtCursor self.old q format c × HasItsTrees q
             × (found.now.query ≡ q.text) × (c.trail.number + length (lines_of found.now) < 2 ^ 63)
             × (c.trail.offset + length found.now.block.bytes < 2 ^ 63) }
         ensures same { self.new ≡ self.old }
-        ensures writes { (q : Search) (format : Format) (c : Cursor) → Remembers self.old q format c → HasItsTrees q →
+        ensures writes { (q : Search) (format : Format) (c : Cursor) → IsAtCursor self.old q format c → HasItsTrees q →
             found.now.query ≡ q.text → WritesText (shown_rows q format c found.now.block.bytes)
             (W.stream out.old) (W.stream out.new) result }
-        ensures follows { (q : Search) (format : Format) (c : Cursor) → Remembers self.old q format c → HasItsTrees q →
-            found.now.query ≡ q.text → IfOk result (λ printed. Follows self.old q format
+        ensures follows { (q : Search) (format : Format) (c : Cursor) → IsAtCursor self.old q format c → HasItsTrees q →
+            found.now.query ≡ q.text → IfOk result (λ printed. IsRememberedBehind self.old q format
             (behind_block q format c found.now.block.bytes) found.now.block.bytes printed) }
     {
         let block: &Block<A> = found.block();
@@ -594,7 +597,7 @@ impl<A: Allocator> Printer<A> {
         requires room { run.first + count < 2 ^ 64 }
         requires small { place.progress.number + ((run.first - place.seen) + count) < 2 ^ 63 }
         ensures passed { Passes place.progress (run.first - place.seen) result.passed }
-        ensures kept { Keeps result.passed self.now.format count result.place.progress }
+        ensures kept { KeepsLines result.passed self.now.format count result.place.progress }
         ensures ends { EndsKept self.now.end bytes.now run count result.place.at }
         ensures seen { result.place.seen ≡ run.first + count }
         ensures used { result.place.used ≡ (if self.now.format.colored
@@ -639,10 +642,12 @@ impl<A: Allocator> Printer<A> {
             ≤ self.old.offset + run.span.start }
         requires used { place.used ≤ next.place.used }
         requires parts { next.place.used ≤ length parts.now }
-        requires told { (q : Search) × IsTold q self.old.format.colored self.old.end (take next.place.at bytes.now)
+        requires told { (q : Search) × AreToldParts q self.old.format.colored self.old.end (take next.place.at
+            bytes.now)
             run.span.start run.first (slice_range parts.now place.used next.place.used) }
         ensures same { self.new ≡ self.old }
-        ensures writes { (q : Search) → IsTold q self.old.format.colored self.old.end (take next.place.at bytes.now)
+        ensures writes { (q : Search) → AreToldParts q self.old.format.colored self.old.end (take next.place.at
+            bytes.now)
             run.span.start run.first (slice_range parts.now place.used next.place.used) →
             WritesText (rows_of_run self.old.format self.old.end self.old.prefix self.old.earlier
             (held self.old.end self.old.window) place.progress next.passed (self.old.offset + place.at)
@@ -673,17 +678,17 @@ impl<A: Allocator> Printer<A> {
         parts: &[Part],
         total: usize,
     ) -> Result<Place, WriteError>
-        requires stands { (q : Search) × (format : Format) × (c : Cursor) × Remembers self.old q format c
+        requires stands { (q : Search) × (format : Format) × (c : Cursor) × IsAtCursor self.old q format c
             × (shows_lines format ≡ true) × HasFound q bytes.now runs.now parts.now total }
         requires small { self.old.progress.number + total < 2 ^ 63 }
         requires placed { self.old.offset + length bytes.now < 2 ^ 63 }
         ensures same { self.new ≡ self.old }
-        ensures comes { (q : Search) (format : Format) (c : Cursor) → Remembers self.old q format c →
+        ensures comes { (q : Search) (format : Format) (c : Cursor) → IsAtCursor self.old q format c →
             shows_lines format ≡ true → HasFound q bytes.now runs.now parts.now total →
             IfOk result (λ place. ComesLast q format c (held (terminator q) self.old.window) bytes.now
             (W.stream out.old).taken (W.stream out.new).taken self.old.progress place) }
         ensures number { IfOk result (λ place. place.progress.number ≡ self.old.progress.number + place.seen) }
-        ensures stops { (q : Search) (format : Format) (c : Cursor) → Remembers self.old q format c →
+        ensures stops { (q : Search) (format : Format) (c : Cursor) → IsAtCursor self.old q format c →
             shows_lines format ≡ true → HasFound q bytes.now runs.now parts.now total →
             OnErr result (WritesPart (run_rows q format c.name c.earlier c.trail (lines (terminator q) bytes.now))
             (W.stream out.old) (W.stream out.new)) }
@@ -716,18 +721,19 @@ impl<A: Allocator> Printer<A> {
         parts: &[Part],
         total: usize,
     ) -> Result<Printed, WriteError>
-        requires stands { (q : Search) × (format : Format) × (c : Cursor) × Remembers self.old q format c
+        requires stands { (q : Search) × (format : Format) × (c : Cursor) × IsAtCursor self.old q format c
             × (shows_lines format ≡ true) × HasFound q bytes.now runs.now parts.now total }
         requires small { self.old.progress.number + total < 2 ^ 63 }
         requires placed { self.old.offset + length bytes.now < 2 ^ 63 }
         ensures same { self.new ≡ self.old }
-        ensures writes { (q : Search) (format : Format) (c : Cursor) → Remembers self.old q format c →
+        ensures writes { (q : Search) (format : Format) (c : Cursor) → IsAtCursor self.old q format c →
             shows_lines format ≡ true → HasFound q bytes.now runs.now parts.now total →
             WritesText (run_rows q format c.name c.earlier c.trail (lines (terminator q) bytes.now))
             (W.stream out.old) (W.stream out.new) result }
-        ensures follows { (q : Search) (format : Format) (c : Cursor) → Remembers self.old q format c →
+        ensures follows { (q : Search) (format : Format) (c : Cursor) → IsAtCursor self.old q format c →
             shows_lines format ≡ true → HasFound q bytes.now runs.now parts.now total →
-            IfOk result (λ printed. Follows self.old q format (behind_block q format c bytes.now) bytes.now printed) }
+            IfOk result (λ printed. IsRememberedBehind self.old q format (behind_block q format c bytes.now) bytes.now
+            printed) }
     {
         let place = self.print_runs(out, bytes, runs, parts, total)?;
         let left = total - place.seen;

@@ -26,7 +26,7 @@ pub struct Progress {
 impl Progress {
     ghost use Rattle.pg_rows.specs.Trail.{Trail};
     ghost use Rattle.pg_rows.specs.Enough.{trail_suffices};
-    ghost use Rattle.pg_rows.specs.Progress.{Tells, Passes, Keeps, kept_of, TellsNone, TellsPassed, TellsKept};
+    ghost use Rattle.pg_rows.specs.Progress.{IsOfTrail, Passes, KeepsLines, kept_of, TellsNone, TellsPassed, TellsKept};
     ghost use Rattle.pg_rows.specs.Progress.{TellsBlock};
 
     /// What is remembered of no lines.
@@ -61,7 +61,7 @@ impl Progress {
     /// Takes `count` more lines, at least one, that are all kept. With those before them they are fewer than 2^63.
     pub fn keep(self, count: u64, format: &Format) -> Progress
         requires { self.number + count < 2 ^ 63 }
-        ensures fields { Keeps self format.now count result }
+        ensures fields { KeepsLines self format.now count result }
         ensures tells { TellsKept self format.now count result }
     {
         Progress {
@@ -95,7 +95,7 @@ impl Progress {
 
     /// Whether no line behind these changes what the file gives. Parts have no context.
     pub fn suffices(self, format: &Format) -> bool
-        ensures { (t : Trail) → Tells self format.now t → result ≡ trail_suffices format.now.mode format.now t }
+        ensures { (t : Trail) → IsOfTrail self format.now t → result ≡ trail_suffices format.now.mode format.now t }
     {
         if format.mode.settles_at_first() {
             return self.kept > 0;

@@ -20,8 +20,8 @@ use Rattle.pg_rows.proofs.FoldLemmas.{rows_begin, pieces_more, trail_is}
 use Rattle.pg_seq.proofs.BeginLemmas.{begins_trans}
 use Rattle.pg_rows.specs.Enough.{lines_suffice, is_enough}
 use Rattle.pg_seq.specs.Settled.{AreLeftRightly, GiveTheSame}
-use Rattle.pg_run.specs.Outcome.{MayBecome, GoesOn}
-use Rattle.pg_run.specs.Cover.{is_left, IsGivenUp, IsEntryOf, Covers, Follows}
+use Rattle.pg_run.specs.Outcome.{MayBecome, IsContinuation}
+use Rattle.pg_run.specs.Cover.{is_left, IsLeftFile, IsEntryOf, Covers, PlanFollows}
 use Rattle.pg_seq.proofs.LongerLemmas.{reason, rows_of_left, AreAlike, alike_same, alike_none, alike_more, alike_left}
 
 abbrev line_part : Search → Format → List ℕ → List (List ℕ) → Bool → List ℕ
@@ -40,7 +40,7 @@ enough_alike q format e es fs h = go e
         (is_running ending && lines_suffice format.mode q format (lines (terminator q) bytes))) h.selected
 
 given_up_alike : (q : Search) (format : Format) (name bytes : List ℕ) (g : Entry) (ps gs : List Entry)
-    → HasRoom format → IsGivenUp q format ps name bytes g → AreAlike q format ps gs
+    → HasRoom format → IsLeftFile q format ps name bytes g → AreAlike q format ps gs
     → AreAlike q format (Read name bytes Ended ∷ ps) (g ∷ gs)
 given_up_alike q format name bytes g ps gs room h like =
     let P : Entry → Type 0 = λ x. AreAlike q format (Read name bytes Ended ∷ ps) (x ∷ gs) in
@@ -63,7 +63,7 @@ covers_alike q format (Read name bytes Failed ∷ ps) (g ∷ gs) room h =
     alike_more q format (Read name bytes Failed) g ps gs h.0 (covers_alike q format ps gs room h.1)
 covers_alike q format (Read name bytes Ended ∷ ps) (g ∷ gs) room h = go (covers_alike q format ps gs room h.1) h.0
   where
-    go : AreAlike q format ps gs → (g ≡ Read name bytes Ended) ⊎ IsGivenUp q format ps name bytes g
+    go : AreAlike q format ps gs → (g ≡ Read name bytes Ended) ⊎ IsLeftFile q format ps name bytes g
         → AreAlike q format (Read name bytes Ended ∷ ps) (g ∷ gs)
     go like (inl e) = alike_more q format (Read name bytes Ended) g ps gs e like
     go like (inr u) = given_up_alike q format name bytes g ps gs room u like
@@ -91,7 +91,7 @@ covers_left q format (Read name bytes Failed ∷ ps) (g ∷ gs) room h =
     left_rightly q format g (Read name bytes Failed) gs h.0 (covers_left q format ps gs room h.1)
 covers_left q format (Read name bytes Ended ∷ ps) (g ∷ gs) room h = go (covers_left q format ps gs room h.1) h.0
   where
-    go : AreLeftRightly q format gs → (g ≡ Read name bytes Ended) ⊎ IsGivenUp q format ps name bytes g
+    go : AreLeftRightly q format gs → (g ≡ Read name bytes Ended) ⊎ IsLeftFile q format ps name bytes g
         → AreLeftRightly q format (g ∷ gs)
     go rightly (inl e) = left_rightly q format g (Read name bytes Ended) gs e rightly
     go rightly (inr u) = left_rightly q format g (Read name (bytes ++ u.rest) Left) gs u.is (
@@ -292,7 +292,7 @@ reading_goes q format name front rest Left ps gs room s seam like =
     whole (inr n) = absurd (false≢true (sym n.1))
 
 goes_on_by : (q : Search) (format : Format) (g : Entry) (gs files : List Entry) (text : List ℕ)
-    → Goes q format g gs text → GoesOn (g ∷ gs) files → IsBeginning text (output q format files)
+    → Goes q format g gs text → IsContinuation (g ∷ gs) files → IsBeginning text (output q format files)
 goes_on_by q format g gs files text h o =
     let P : List Entry → Type 0 = λ es. IsBeginning text (output q format es) in
     subst P (sym o.3) (begins_trans text (output q format (o.1 ∷ gs)) (output q format (o.0 ++ o.1 ∷ gs)) (h o.1 o.2)
@@ -300,7 +300,7 @@ goes_on_by q format g gs files text h o =
 
 -- when a run breaks off: the output of the plan begins the output of all that goes on from what was given
 pub follows_begins : (q : Search) (format : Format) (planned given files : List Entry) → HasRoom format
-    → Follows q format planned given → GoesOn given files → IsBeginning (output q format planned)
+    → PlanFollows q format planned given → IsContinuation given files → IsBeginning (output q format planned)
     (output q format files)
 follows_begins q format [] [] files room (inl h) o = begins_nil (output q format files)
 follows_begins q format [] (g ∷ gs) files room (inl h) o = absurd h
@@ -309,7 +309,7 @@ follows_begins q format (p ∷ ps) (g ∷ gs) files room (inl h) o =
     goes_on_by q format g gs files _ (covers_goes q format p g ps gs room h.0 (covers_alike q format ps gs room h.1)) o
 follows_begins q format planned given files room (inr r) o =
     let h = r.4 in
-    let P : List Entry → Type 0 = λ es. GoesOn es files in
+    let P : List Entry → Type 0 = λ es. IsContinuation es files in
     let Q : List Entry → Type 0 = λ es. IsBeginning (output q format es) (output q format files) in
     subst Q (sym h.planned_is) (goes_on_by q format (Read r.0 (r.1 ++ r.2) r.3) h.before files _
     (reading_goes q format r.0 r.1 r.2 r.3 h.earlier h.before room h.stopped h.seam

@@ -21,13 +21,13 @@ use Rattle.pg_seq.specs.Plan.{Step, Announces, MayFollow, IsShaped, IsPlan, anno
 use Rattle.pg_seq.specs.History.{Past, Planned, Arrived, start, planned, arrived, plan, taken_of, taken_after}
 use Rattle.pg_seq.specs.History.{is_taken, all_taken, answer, answer_after, front_of, front_after, handed, handed_after}
 use Rattle.pg_seq.specs.History.{IsComplete, status_of}
-use Rattle.pg_seq.specs.Standing.{Stands, Drained, drained}
+use Rattle.pg_seq.specs.Standing.{IsAfter, Drained, drained}
 use Rattle.pg_seq.proofs.ArrivalLaws.{first_is_taken}
 use Rattle.pg_seq.proofs.BeginLemmas.{begins_trans, shape_of}
 use Rattle.pg_seq.proofs.CursorLemmas.{plan_begins}
 use Rattle.pg_seq.proofs.FrontLemmas.{front_all}
 use Rattle.pg_seq.proofs.KeyLemmas.{next_not_taken}
-use Rattle.pg_run.specs.Holding.{Aim, Holds, May, Broke, IsWritten, past_of, format_of, output_of}
+use Rattle.pg_run.specs.Holding.{Aim, HasPlan, MayStep, BreaksOffInSearch, AllIsWritten, past_of, format_of, output_of}
 use Rattle.pg_run.specs.Holding.{waiting}
 use Rattle.pg_run.specs.declared.engine.Engine.{Engine}
 use Rattle.pg_run.specs.declared.fault.RunFault.{RunFault}
@@ -72,7 +72,7 @@ all_push keys bs b e =
 -- a new engine
 pub holds_new : {A : Type 0} (engine : Engine A) (aim : Aim) → (arc_value engine.query).text ≡ aim.query.text
     → engine.setup ≡ aim.setup → engine.files ≡ 0 → waiting engine ≡ []
-    → Stands engine.sequencer (start aim.query (format_of aim)) → Holds engine aim [] aim.out
+    → IsAfter engine.sequencer (start aim.query (format_of aim)) → HasPlan engine aim [] aim.out
 holds_new engine aim same set count none stands = record {
   same = same;
   set = set;
@@ -91,12 +91,12 @@ holds_new engine aim same set count none stands = record {
 
 -- All blocks were taken where none waits.
 all_blocks : {A : Type 0} {engine : Engine A} {aim : Aim} {steps : List Step} {out : Stream}
-    (h : Holds engine aim steps out) → waiting engine ≡ [] → announced steps ≡ h.taken
+    (h : HasPlan engine aim steps out) → waiting engine ≡ [] → announced steps ≡ h.taken
 all_blocks h none = h.blocks ∙ (ap (λ bs. h.taken ++ bs) none ∙ append-nil h.taken)
 
 -- What an engine holds.
 module _ {A : Type 0} {engine : Engine A} {aim : Aim} {steps : List Step} {out : Stream}
-    (h : Holds engine aim steps out) where
+    (h : HasPlan engine aim steps out) where
   abbrev past : Past
   past = past_of aim.query (format_of aim) h.events h.written
 
@@ -108,18 +108,18 @@ module _ {A : Type 0} {engine : Engine A} {aim : Aim} {steps : List Step} {out :
       let P : List Step → Type 0 = λ p. IsPlan (terminator aim.query) p in
       shape_of (terminator aim.query) steps (subst P h.planned h.stands.lawful)
 
-  pub may_past : (s : Step) → May aim steps s → MayFollow (terminator past.query) (plan past) s
+  pub may_past : (s : Step) → MayStep aim steps s → MayFollow (terminator past.query) (plan past) s
   may_past s m =
       let P : List Step → Type 0 = λ p. MayFollow (terminator aim.query) p s in
       subst P (sym h.planned) m
 
   -- what was written is a beginning of what one more step gives too
-  safe_step : (s : Step) → May aim steps s → IsBeginning h.written (output_of aim (s ∷ steps))
+  safe_step : (s : Step) → MayStep aim steps s → IsBeginning h.written (output_of aim (s ∷ steps))
   safe_step s m =
       begins_trans _ _ _ h.safe (plan_begins aim.query (format_of aim) room_of steps (s ∷ []) (m.0, shaped_of))
 
   -- what was held back was sent on
-  pub sent : (out' : Stream) → out'.taken ≡ out.taken → out'.failures ≡ out.failures → Holds engine aim steps out'
+  pub sent : (out' : Stream) → out'.taken ≡ out.taken → out'.failures ≡ out.failures → HasPlan engine aim steps out'
   sent out' taken calm = record {
     same = h.same;
     set = h.set;
@@ -137,7 +137,8 @@ module _ {A : Type 0} {engine : Engine A} {aim : Aim} {steps : List Step} {out :
   }
 
   -- or it couldn't be
-  pub unsent : (out' : Stream) → out'.taken ≡ out.taken → out.failures < out'.failures → Broke aim steps out' Sink
+  pub unsent : (out' : Stream) → out'.taken ≡ out.taken → out.failures < out'.failures
+      → BreaksOffInSearch aim steps out' Sink
   unsent out' taken rose = record {
     cause = omega (arith, rose, h.calm);
     part = (h.written, h.safe, taken ∙ h.got);
@@ -145,16 +146,17 @@ module _ {A : Type 0} {engine : Engine A} {aim : Aim} {steps : List Step} {out :
   }
 
   -- where memory is lacking
-  pub broke_now : Broke aim steps out OutOfMemory
+  pub broke_now : BreaksOffInSearch aim steps out OutOfMemory
   broke_now = record { cause = tt; part = (h.written, h.safe, h.got); calm = h.calm }
 
   -- or for one more step
-  pub broke_step : (s : Step) → May aim steps s → Broke aim (s ∷ steps) out OutOfMemory
+  pub broke_step : (s : Step) → MayStep aim steps s → BreaksOffInSearch aim (s ∷ steps) out OutOfMemory
   broke_step s m = record { cause = tt; part = (h.written, safe_step s m, h.got); calm = h.calm }
 
   -- what breaks off a plan breaks off one with a step more
-  pub broke_before : (s : Step) → May aim steps s → (out' : Stream) (fault : RunFault) → Broke aim steps out' fault
-      → Broke aim (s ∷ steps) out' fault
+  pub broke_before : (s : Step) → MayStep aim steps s → (out' : Stream) (fault : RunFault)
+      → BreaksOffInSearch aim steps out' fault
+      → BreaksOffInSearch aim (s ∷ steps) out' fault
   broke_before s m out' fault k = record {
     cause = k.cause;
     part = (
@@ -166,10 +168,11 @@ module _ {A : Type 0} {engine : Engine A} {aim : Aim} {steps : List Step} {out :
   }
 
   -- a step that gives no result
-  pub holds_step : (engine' : Engine A) (s : Step) → May aim steps s → (arc_value engine'.query).text ≡ aim.query.text
+  pub holds_step : (engine' : Engine A) (s : Step) → MayStep aim steps s → (arc_value engine'.query).text
+      ≡ aim.query.text
       → engine'.setup ≡ aim.setup → engine'.files ≡ opened (s ∷ steps)
-      → announced (s ∷ steps) ≡ h.taken ++ waiting engine' → Stands engine'.sequencer (planned past s)
-      → Holds engine' aim (s ∷ steps) out
+      → announced (s ∷ steps) ≡ h.taken ++ waiting engine' → IsAfter engine'.sequencer (planned past s)
+      → HasPlan engine' aim (s ∷ steps) out
   holds_step engine' s m same set count blocks stands = record {
     same = same;
     set = set;
@@ -187,17 +190,17 @@ module _ {A : Type 0} {engine : Engine A} {aim : Aim} {steps : List Step} {out :
   }
 
   -- the next block was announced, and waits
-  pub holds_waiting : (engine' : Engine A) (b : BlockData) → May aim steps (Announces b)
+  pub holds_waiting : (engine' : Engine A) (b : BlockData) → MayStep aim steps (Announces b)
       → (arc_value engine'.query).text ≡ aim.query.text → engine'.setup ≡ aim.setup → engine'.files ≡ opened steps
-      → waiting engine' ≡ waiting engine ++ b ∷ [] → Stands engine'.sequencer (planned past (Announces b))
-      → Holds engine' aim (Announces b ∷ steps) out
+      → waiting engine' ≡ waiting engine ++ b ∷ [] → IsAfter engine'.sequencer (planned past (Announces b))
+      → HasPlan engine' aim (Announces b ∷ steps) out
   holds_waiting engine' b m same set count more stands =
       holds_step engine' (Announces b) m same set count
       (ap (λ bs. bs ++ b ∷ []) h.blocks
       ∙ (append_assoc h.taken (waiting engine) (b ∷ []) ∙ ap (λ bs. h.taken ++ bs) (sym more))) stands
 
   -- the result of the block that was announced is taken
-  pub is_first : (b : BlockData) → May aim steps (Announces b) → (r : Searched)
+  pub is_first : (b : BlockData) → MayStep aim steps (Announces b) → (r : Searched)
       → r ≡ record { query = aim.query.text; block = b } → answer (planned past (Announces b)) r ≡ Taken
   is_first b m r is =
       let next = planned past (Announces b) in
@@ -215,10 +218,11 @@ module _ {A : Type 0} {engine : Engine A} {aim : Aim} {steps : List Step} {out :
       (first_is_taken next (record { query = aim.query.text; block = b }) (place, shaped) refl known new)
 
   -- the next block was announced, and its result kept
-  pub holds_block : (engine' : Engine A) (b : BlockData) (r : Searched) → May aim steps (Announces b)
+  pub holds_block : (engine' : Engine A) (b : BlockData) (r : Searched) → MayStep aim steps (Announces b)
       → (arc_value engine'.query).text ≡ aim.query.text → engine'.setup ≡ aim.setup → engine'.files ≡ opened steps
       → waiting engine ≡ [] → waiting engine' ≡ [] → r ≡ record { query = aim.query.text; block = b }
-      → Stands engine'.sequencer (arrived (planned past (Announces b)) r) → Holds engine' aim (Announces b ∷ steps) out
+      → IsAfter engine'.sequencer (arrived (planned past (Announces b)) r)
+      → HasPlan engine' aim (Announces b ∷ steps) out
   unfolding answer_after
   holds_block engine' b r m same set count none none' is stands =
       let next = planned past (Announces b) in
@@ -247,7 +251,7 @@ module _ {A : Type 0} {engine : Engine A} {aim : Aim} {steps : List Step} {out :
 
 -- What drains write, and what is answered, where no block waits.
 module _ {A : Type 0} {engine : Engine A} {aim : Aim} {steps : List Step} {out : Stream}
-    (h : Holds engine aim steps out) (none : waiting engine ≡ []) where
+    (h : HasPlan engine aim steps out) (none : waiting engine ≡ []) where
   abbrev calm_past : Past
   calm_past = past_of aim.query (format_of aim) h.events h.written
 
@@ -268,8 +272,8 @@ module _ {A : Type 0} {engine : Engine A} {aim : Aim} {steps : List Step} {out :
       → (arc_value engine'.query).text ≡ aim.query.text → engine'.setup ≡ aim.setup → engine'.files ≡ opened steps
       → waiting engine' ≡ [] → out'.taken ≡ out.taken ++ text → out'.failures ≡ out.failures
       → Drained (Ok tt) calm_past text
-      → Stands engine'.sequencer (drained calm_past text (Ok tt)) → Holds engine' aim steps out'
-      × IsWritten aim steps out'
+      → IsAfter engine'.sequencer (drained calm_past text (Ok tt)) → HasPlan engine' aim steps out'
+      × AllIsWritten aim steps out'
   holds_drained engine' text out' same set count none' more calm d stands =
       let all : h.written ++ text ≡ output_of aim steps = d.1 ∙ handed_is in
       let got : out'.taken ≡ aim.out.taken ++ (h.written ++ text) =
@@ -295,7 +299,8 @@ module _ {A : Type 0} {engine : Engine A} {aim : Aim} {steps : List Step} {out :
   -- a drain that fails
   pub broke_drained : (text : List ℕ) (out' : Stream) (fault : SinkFault) → out'.taken ≡ out.taken ++ text
       → Drained (Err fault) calm_past text
-      → (IsErrOf {T = Unit {0}} (Err fault) WriteFailed → out.failures < out'.failures) → Broke aim steps out' Sink
+      → (IsErrOf {T = Unit {0}} (Err fault) WriteFailed → out.failures < out'.failures)
+      → BreaksOffInSearch aim steps out' Sink
   broke_drained text out' WriteFailed more d cause =
       let P : List ℕ → Type 0 = λ xs. IsBeginning (h.written ++ text) xs in
       let rose : out.failures < out'.failures = cause refl in

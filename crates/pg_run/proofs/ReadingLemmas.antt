@@ -30,15 +30,17 @@ use Rattle.pg_run.specs.Lengths.{IsTooLong}
 use Rattle.pg_run.specs.Told.{faults_of, fault_line}
 use Rattle.pg_files.specs.Asking.{read_given}
 use Rattle.pg_run.specs.Faults.{fault_of_cut}
-use Rattle.pg_run.specs.Outcome.{GoesOn, GotWholeLines, IsOfAFile, NoneFailed}
-use Rattle.pg_run.specs.Cover.{is_left, IsReading}
-use Rattle.pg_run.specs.Holding.{Aim, Holds, May, Broke, SearchCause, IsWritten, IsWrittenFirst, format_of, output_of}
-use Rattle.pg_run.specs.Reading.{InFile, HasCut, IsLost, CutCause, MayEnd, Between, Breaks, IsSafe, ReadCause}
-use Rattle.pg_run.specs.Reading.{ReadsOn, ending_of, ending_after}
+use Rattle.pg_run.specs.Outcome.{IsContinuation, GotWholeLines, IsOfAFile, NoneFailed}
+use Rattle.pg_run.specs.Cover.{is_left, HasOpenFile}
+use Rattle.pg_run.specs.Holding.{Aim, HasPlan, MayStep, BreaksOffInSearch, SearchCause, AllIsWritten, IsWrittenFirst}
+use Rattle.pg_run.specs.Holding.{format_of, output_of}
+use Rattle.pg_run.specs.Reading.{IsInsideFile, HasCut, IsLost, CutCause, MayEndFile, IsBetweenFiles, BreaksOffInFile}
+use Rattle.pg_run.specs.Reading.{IsCommonBeginning, ReadCause}
+use Rattle.pg_run.specs.Reading.{HasReadOn, ending_of, ending_after}
 use Rattle.pg_run.specs.declared.engine.Engine.{Engine}
 use Rattle.pg_run.specs.declared.reader.FileReader.{FileReader}
-use Rattle.pg_run.specs.declared.reader.Came.{Came}
-use Rattle.pg_run.specs.declared.reader.Came.TheVariants.{More, End, Failure, Refused}
+use Rattle.pg_run.specs.declared.reader.ReadOutcome.{ReadOutcome}
+use Rattle.pg_run.specs.declared.reader.ReadOutcome.TheVariants.{More, End, Failure, Refused}
 use Rattle.pg_run.specs.declared.fault.RunFault.{RunFault}
 use Rattle.pg_run.specs.declared.fault.RunFault.TheVariants.{Query, OutOfMemory, Sink, TooManyFiles, TooLong}
 use Rattle.pg_seq.proofs.LongerLemmas.{alike_more}
@@ -126,8 +128,8 @@ same_behind (x ∷ xs) ys zs e = same_behind xs ys zs (ap (λ l. drop 1 l) e)
 
 pub safe_by : (aim : Aim) (steps : List Step) (given : List Given) (taken : List ℕ)
     → TakesPart (output_of aim steps) aim.out.taken taken
-    → ((files : List Entry) → GoesOn (entries_given given) files
-    → IsBeginning (output_of aim steps) (output aim.query (format_of aim) files)) → IsSafe aim given taken
+    → ((files : List Entry) → IsContinuation (entries_given given) files
+    → IsBeginning (output_of aim steps) (output aim.query (format_of aim) files)) → IsCommonBeginning aim given taken
 safe_by aim steps given taken part f = λ files on.
     takes_longer (output_of aim steps) (output aim.query (format_of aim) files) aim.out.taken taken part (f files on)
 
@@ -156,14 +158,14 @@ none_at_fault Sink aim out c f = f
 none_at_fault TooManyFiles aim out c f = c
 none_at_fault TooLong aim out c f = c
 
-pub takes_all : (aim : Aim) (steps : List Step) (out : Stream) → IsWritten aim steps out
+pub takes_all : (aim : Aim) (steps : List Step) (out : Stream) → AllIsWritten aim steps out
     → TakesPart (output_of aim steps) aim.out.taken out.taken
 takes_all aim steps out e = (output_of aim steps, ([], append-nil (output_of aim steps)), e)
 
 -- all of the plan was written, whose open file was left
 left_lines : (aim : Aim) (steps : List Step) (given : List Given) (name front rest : List ℕ) → HasRoom (format_of aim)
-    → IsReading aim.query (format_of aim) name front rest Left (entries_of steps) (entries_given given)
-    → (out : Stream) → IsWritten aim steps out
+    → HasOpenFile aim.query (format_of aim) name front rest Left (entries_of steps) (entries_given given)
+    → (out : Stream) → AllIsWritten aim steps out
     → GotWholeLines aim.query (format_of aim) (entries_given given) aim.out out
 left_lines aim steps given name front rest room r out e =
     let q = aim.query in
@@ -185,7 +187,7 @@ left_lines aim steps given name front rest room r out e =
 -- What was read and not cut.
 
 -- a file that can't go on was cut whole
-none_lost : (came : Came) (failed : Bool) (aim : Aim) (given : List Given) (lost : List ℕ)
+none_lost : (came : ReadOutcome) (failed : Bool) (aim : Aim) (given : List Given) (lost : List ℕ)
     → ending_after came ≡ ending_of failed → IsLost came aim given lost → lost ≡ []
 none_lost More failed aim given lost e h = h
 none_lost End failed aim given lost e h = h
@@ -227,7 +229,7 @@ module _ {A : Type 0} {reader : FileReader A} {aim : Aim} {given : List Given} {
       ∙ (append_assoc (joined h.fed.taken) (b.bytes ++ more) h.lost
       ∙ ap (λ xs. joined h.fed.taken ++ xs) (append_assoc b.bytes more h.lost))))
 
-  may_block : (b : BlockData) (more : List ℕ) → Gives h.fed b more → May aim steps (Announces b)
+  may_block : (b : BlockData) (more : List ℕ) → Gives h.fed b more → MayStep aim steps (Announces b)
   may_block b more g =
       let n = numbered_last h.fed.file 0 h.fed.taken b g.numbered in
       let S : List BlockData → Type 0 = λ bs. AllEnd end_of bs in
@@ -260,11 +262,11 @@ module _ {A : Type 0} {reader : FileReader A} {aim : Aim} {given : List Given} {
   Seam bytes more = AreWhole end_of bytes ⊎ ((more ≡ []) × (is_left ending ≡ false))
 
   reads_block : (b : BlockData) (more : List ℕ) → Gives h.fed b more → Seam b.bytes (behind more)
-      → IsReading aim.query (format_of aim) h.name (joined h.fed.taken ++ b.bytes) (behind more) ending
+      → HasOpenFile aim.query (format_of aim) h.name (joined h.fed.taken ++ b.bytes) (behind more) ending
       (entries_of (Announces b ∷ steps)) (entries_given given)
   reads_block b more g s =
       let R : List ℕ → Type 0 =
-      λ rest. IsReading aim.query (format_of aim) h.name (joined h.fed.taken) rest ending (entries_of steps)
+      λ rest. HasOpenFile aim.query (format_of aim) h.name (joined h.fed.taken) rest ending (entries_of steps)
       (entries_given given) in
       announces aim.query (format_of aim) h.name (joined h.fed.taken) b.bytes (behind more) ending (entries_of steps)
       (entries_given given) s (subst R (follows_block b more g) h.reads)
@@ -274,7 +276,7 @@ module _ {A : Type 0} {reader : FileReader A} {aim : Aim} {given : List Given} {
   whole_lines : (b : BlockData) → GivesLines h.fed b → AreWhole end_of b.bytes
   whole_lines b g = let W : ℕ → Type 0 = λ e. AreWhole e b.bytes in subst W h.ends g.2
 
-  pub next_may : (b : BlockData) → GivesLines h.fed b → May aim steps (Announces b)
+  pub next_may : (b : BlockData) → GivesLines h.fed b → MayStep aim steps (Announces b)
   next_may b g = may_block b g.0 g.1
 
   -- the plan has it
@@ -283,10 +285,10 @@ module _ {A : Type 0} {reader : FileReader A} {aim : Aim} {given : List Given} {
       → CutterStands reader'.cutter (record h.fed { taken = h.fed.taken ++ b ∷ []; early = early })
       → HasCut reader' aim given (Announces b ∷ steps)
   next_taken reader' b early same g cut =
-      let R : List ℕ → Came → Type 0 =
-      λ front came. IsReading aim.query (format_of aim) h.name front (behind g.0) (ending_after came)
+      let R : List ℕ → ReadOutcome → Type 0 =
+      λ front came. HasOpenFile aim.query (format_of aim) h.name front (behind g.0) (ending_after came)
       (entries_of (Announces b ∷ steps)) (entries_given given) in
-      let L : Came → Type 0 = λ came. IsLost came aim given h.lost in
+      let L : ReadOutcome → Type 0 = λ came. IsLost came aim given h.lost in
       record {
         fed = record h.fed { taken = h.fed.taken ++ b ∷ []; early = early };
         cut = cut;
@@ -314,10 +316,10 @@ module _ {A : Type 0} {reader : FileReader A} {aim : Aim} {given : List Given} {
       → CutterStands reader'.cutter (handed_out h.fed None) → HasCut reader' aim given steps
   none_taken reader' same cut =
       let F : List BlockData → Type 0 = λ bs. CutterStands reader'.cutter (record h.fed { taken = bs }) in
-      let R : Came → Type 0 =
-      λ came. IsReading aim.query (format_of aim) h.name (joined h.fed.taken) h.rest (ending_after came)
+      let R : ReadOutcome → Type 0 =
+      λ came. HasOpenFile aim.query (format_of aim) h.name (joined h.fed.taken) h.rest (ending_after came)
       (entries_of steps) (entries_given given) in
-      let L : Came → Type 0 = λ came. IsLost came aim given h.lost in
+      let L : ReadOutcome → Type 0 = λ came. IsLost came aim given h.lost in
       record {
         fed = h.fed;
         cut = subst F (append-nil h.fed.taken) cut;
@@ -348,7 +350,7 @@ module _ {A : Type 0} {reader : FileReader A} {aim : Aim} {given : List Given} {
 
   -- The last block.
 
-  pub last_may : (b : BlockData) → AreAllBlocks (handed_out h.fed (Some b)) → May aim steps (Announces b)
+  pub last_may : (b : BlockData) → AreAllBlocks (handed_out h.fed (Some b)) → MayStep aim steps (Announces b)
   last_may b all = may_block b [] (gives_last h.fed b all)
 
   -- what was told of the file, by how it stands
@@ -358,10 +360,10 @@ module _ {A : Type 0} {reader : FileReader A} {aim : Aim} {given : List Given} {
 
 -- The same, and the engine has the blocks that were taken.
 module _ {A : Type 0} {reader : FileReader A} {engine : Engine A} {aim : Aim} {given : List Given} {out : Stream}
-    (h : InFile reader engine aim given out) where
+    (h : IsInsideFile reader engine aim given out) where
   breaks_block : (b : BlockData) (more : List ℕ) (out' : Stream) (fault : RunFault) → Gives h.cuts.fed b more
-      → Seam h.cuts b.bytes (behind h.cuts more) → Broke aim (Announces b ∷ h.steps) out' fault
-      → Breaks aim given out' fault
+      → Seam h.cuts b.bytes (behind h.cuts more) → BreaksOffInSearch aim (Announces b ∷ h.steps) out' fault
+      → BreaksOffInFile aim given out' fault
   breaks_block b more out' fault g s k = record {
     cause = read_cause fault aim given out' k.cause;
     written = safe_by aim (Announces b ∷ h.steps) given out'.taken k.part (λ files on.
@@ -380,7 +382,7 @@ module _ {A : Type 0} {reader : FileReader A} {engine : Engine A} {aim : Aim} {g
 
   -- what was written is a beginning, whatever the reader reads on
   begins_still : (reader' : FileReader A) (given' : List Given) (out' : Stream) → HasCut reader' aim given' h.steps
-      → TakesPart (output_of aim h.steps) aim.out.taken out'.taken → IsSafe aim given' out'.taken
+      → TakesPart (output_of aim h.steps) aim.out.taken out'.taken → IsCommonBeginning aim given' out'.taken
   begins_still reader' given' out' c part = safe_by aim h.steps given' out'.taken part (λ files on.
       follows_begins aim.query (format_of aim) (entries_of h.steps) (entries_given given') files (room_of h.holds)
       (inr (c.name, joined c.fed.taken, c.rest, ending c, c.reads)) on)
@@ -388,7 +390,8 @@ module _ {A : Type 0} {reader : FileReader A} {engine : Engine A} {aim : Aim} {g
   -- A round was searched, beside which the file may have been read on.
 
   pub rest_breaks : (reader' : FileReader A) (given' : List Given) (out' : Stream) (fault : RunFault)
-      → HasCut reader' aim given' h.steps → Broke aim h.steps out' fault → Breaks aim given' out' fault
+      → HasCut reader' aim given' h.steps → BreaksOffInSearch aim h.steps out' fault
+      → BreaksOffInFile aim given' out' fault
   rest_breaks reader' given' out' fault c k = record {
     cause = read_cause fault aim given' out' k.cause;
     written = begins_still reader' given' out' c k.part;
@@ -399,7 +402,7 @@ module _ {A : Type 0} {reader : FileReader A} {engine : Engine A} {aim : Aim} {g
   -- The next block.
 
   pub next_breaks : (b : BlockData) (out' : Stream) (fault : RunFault) → GivesLines h.cuts.fed b
-      → Broke aim (Announces b ∷ h.steps) out' fault → Breaks aim given out' fault
+      → BreaksOffInSearch aim (Announces b ∷ h.steps) out' fault → BreaksOffInFile aim given out' fault
   next_breaks b out' fault g k = breaks_block b g.0 out' fault g.1 (inl (whole_lines h.cuts b g)) k
 
   -- The last block.
@@ -414,18 +417,18 @@ module _ {A : Type 0} {reader : FileReader A} {engine : Engine A} {aim : Aim} {g
   last_seam b failed e = inr (none_behind failed e, ap is_left e ∙ closed_left failed)
 
   pub last_breaks : (b : BlockData) (out' : Stream) (fault : RunFault) (failed : Bool) → IsAtEnd failed
-      → AreAllBlocks (handed_out h.cuts.fed (Some b)) → Broke aim (Announces b ∷ h.steps) out' fault
-      → Breaks aim given out' fault
+      → AreAllBlocks (handed_out h.cuts.fed (Some b)) → BreaksOffInSearch aim (Announces b ∷ h.steps) out' fault
+      → BreaksOffInFile aim given out' fault
   last_breaks b out' fault failed e all k =
       breaks_block b [] out' fault (gives_last h.cuts.fed b all) (last_seam b failed e) k
 
   pub last_searched : (engine' : Engine A) (b : BlockData) (out' : Stream) (failed : Bool) → IsAtEnd failed
-      → AreAllBlocks (handed_out h.cuts.fed (Some b)) → Holds engine' aim (Announces b ∷ h.steps) out'
-      → MayEnd engine' aim failed given out'
+      → AreAllBlocks (handed_out h.cuts.fed (Some b)) → HasPlan engine' aim (Announces b ∷ h.steps) out'
+      → MayEndFile engine' aim failed given out'
   last_searched engine' b out' failed e all k =
       let front = joined h.cuts.fed.taken ++ b.bytes in
       let R : List ℕ → Ending → Type 0 =
-      λ rest stands. IsReading aim.query (format_of aim) h.cuts.name front rest stands
+      λ rest stands. HasOpenFile aim.query (format_of aim) h.cuts.name front rest stands
       (entries_of (Announces b ∷ h.steps)) (entries_given given) in
       record {
         steps = Announces b ∷ h.steps;
@@ -441,7 +444,7 @@ module _ {A : Type 0} {reader : FileReader A} {engine : Engine A} {aim : Aim} {g
       }
 
   pub none_last : (failed : Bool) → IsAtEnd failed → AreAllBlocks (handed_out h.cuts.fed None)
-      → MayEnd engine aim failed given out
+      → MayEndFile engine aim failed given out
   none_last failed e all =
       let c = h.cuts in
       let f = c.fed in
@@ -452,7 +455,7 @@ module _ {A : Type 0} {reader : FileReader A} {engine : Engine A} {aim : Aim} {g
       sym (append-nil f.bytes) ∙ (ap (λ xs. f.bytes ++ xs) (sym (none_behind failed e)) ∙ c.whole) in
       let none : c.rest ≡ [] = same_behind (joined f.taken) c.rest [] (sym cut_whole ∙ same) in
       let R : List ℕ → Ending → Type 0 =
-      λ rest stands. IsReading aim.query (format_of aim) c.name (joined f.taken) rest stands (entries_of h.steps)
+      λ rest stands. HasOpenFile aim.query (format_of aim) c.name (joined f.taken) rest stands (entries_of h.steps)
       (entries_given given) in
       record {
         steps = h.steps;
@@ -465,13 +468,13 @@ module _ {A : Type 0} {reader : FileReader A} {engine : Engine A} {aim : Aim} {g
       }
 
   -- the cutter took no more
-  refused_breaks : (out' : Stream) (cut : CutFault) → reader.came ≡ Refused cut → IsWritten aim h.steps out'
-      → out'.failures ≡ aim.out.failures → Breaks aim given out' (fault_of_cut cut)
+  refused_breaks : (out' : Stream) (cut : CutFault) → reader.came ≡ Refused cut → AllIsWritten aim h.steps out'
+      → out'.failures ≡ aim.out.failures → BreaksOffInFile aim given out' (fault_of_cut cut)
   refused_breaks out' cut e w calm =
       let c = h.cuts in
-      let L : Came → Type 0 = λ came. IsLost came aim given c.lost in
-      let R : Came → Type 0 =
-      λ came. IsReading aim.query (format_of aim) c.name (joined c.fed.taken) c.rest (ending_after came)
+      let L : ReadOutcome → Type 0 = λ came. IsLost came aim given c.lost in
+      let R : ReadOutcome → Type 0 =
+      λ came. HasOpenFile aim.query (format_of aim) c.name (joined c.fed.taken) c.rest (ending_after came)
       (entries_of h.steps) (entries_given given) in
       record {
         cause = cut_cause cut aim given out' (subst L e c.cause);
@@ -484,25 +487,25 @@ module _ {A : Type 0} {reader : FileReader A} {engine : Engine A} {aim : Aim} {g
 
   -- what was cut was searched first
   pub refused_last : (out' : Stream) (cut : CutFault) (fault answer : RunFault) → reader.came ≡ Refused cut
-      → fault ≡ fault_of_cut cut → IsWrittenFirst aim h.steps out' fault answer → Breaks aim given out' answer
+      → fault ≡ fault_of_cut cut → IsWrittenFirst aim h.steps out' fault answer → BreaksOffInFile aim given out' answer
   refused_last out' cut fault answer e is (inl w) =
-      subst (Breaks aim given out') (sym (w.0 ∙ is)) (refused_breaks out' cut e w.1 w.2)
+      subst (BreaksOffInFile aim given out') (sym (w.0 ∙ is)) (refused_breaks out' cut e w.1 w.2)
   refused_last out' cut fault answer e is (inr k) = rest_breaks reader given out' answer h.cuts k
 
 -- A file that may be read further.
 module _ {A : Type 0} {reader : FileReader A} {aim : Aim} {given : List Given} {steps : List Step}
     (h : HasCut reader aim given steps) (more : reader.came ≡ More) where
-  open_yet : IsReading aim.query (format_of aim) h.name (joined h.fed.taken) h.rest Left (entries_of steps)
+  open_yet : HasOpenFile aim.query (format_of aim) h.name (joined h.fed.taken) h.rest Left (entries_of steps)
       (entries_given given)
   open_yet =
-      let R : Came → Type 0 =
-      λ came. IsReading aim.query (format_of aim) h.name (joined h.fed.taken) h.rest (ending_after came)
+      let R : ReadOutcome → Type 0 =
+      λ came. HasOpenFile aim.query (format_of aim) h.name (joined h.fed.taken) h.rest (ending_after came)
       (entries_of steps) (entries_given given) in
       subst R more h.reads
 
   cut_whole : h.fed.bytes ≡ joined h.fed.taken ++ h.rest
   cut_whole =
-      let L : Came → Type 0 = λ came. IsLost came aim given h.lost in
+      let L : ReadOutcome → Type 0 = λ came. IsLost came aim given h.lost in
       let none : h.lost ≡ [] = subst L more h.cause in
       sym (append-nil h.fed.bytes) ∙ (ap (λ xs. h.fed.bytes ++ xs) (sym none) ∙ h.whole)
 
@@ -510,11 +513,12 @@ module _ {A : Type 0} {reader : FileReader A} {aim : Aim} {given : List Given} {
   pub may_read : is_reading given ≡ true
   may_read = still_reading given h.name (joined h.fed.taken ++ h.rest) open_yet.before open_yet.given_is
 
-  reads_more : (piece : List ℕ) → IsReading aim.query (format_of aim) h.name (joined h.fed.taken) (h.rest ++ piece) Left
+  reads_more : (piece : List ℕ) → HasOpenFile aim.query (format_of aim) h.name (joined h.fed.taken) (h.rest ++ piece)
+      Left
       (entries_of steps) (entries_given (gave_bytes piece given))
   reads_more piece =
       let R : List Entry → Type 0 =
-      λ es. IsReading aim.query (format_of aim) h.name (joined h.fed.taken) (h.rest ++ piece) Left
+      λ es. HasOpenFile aim.query (format_of aim) h.name (joined h.fed.taken) (h.rest ++ piece) Left
       (entries_of steps) es in
       subst R (sym (bytes_given piece given))
       (reads aim.query (format_of aim) h.name (joined h.fed.taken) h.rest (entries_of steps) (entries_given given)
@@ -543,10 +547,10 @@ module _ {A : Type 0} {reader : FileReader A} {aim : Aim} {given : List Given} {
   pub piece_cut : (reader' : FileReader A) (piece : List ℕ) → reader'.came ≡ More
       → CutterStands reader'.cutter (fed_after h.fed piece) → HasCut reader' aim (gave_bytes piece given) steps
   piece_cut reader' piece came cut =
-      let R : Came → Type 0 =
-      λ came. IsReading aim.query (format_of aim) h.name (joined h.fed.taken) (h.rest ++ piece) (ending_after came)
+      let R : ReadOutcome → Type 0 =
+      λ came. HasOpenFile aim.query (format_of aim) h.name (joined h.fed.taken) (h.rest ++ piece) (ending_after came)
       (entries_of steps) (entries_given (gave_bytes piece given)) in
-      let L : Came → Type 0 = λ came. IsLost came aim (gave_bytes piece given) [] in
+      let L : ReadOutcome → Type 0 = λ came. IsLost came aim (gave_bytes piece given) [] in
       record {
         fed = fed_after h.fed piece;
         cut = cut;
@@ -572,10 +576,10 @@ module _ {A : Type 0} {reader : FileReader A} {aim : Aim} {given : List Given} {
       → (cut ≡ FileTooLong → 2 ^ 62 < length h.fed.bytes + length piece)
       → HasCut reader' aim (gave_bytes piece given) steps
   piece_refused reader' piece cut came stands line file =
-      let R : Came → Type 0 =
-      λ came. IsReading aim.query (format_of aim) h.name (joined h.fed.taken) (h.rest ++ piece) (ending_after came)
+      let R : ReadOutcome → Type 0 =
+      λ came. HasOpenFile aim.query (format_of aim) h.name (joined h.fed.taken) (h.rest ++ piece) (ending_after came)
       (entries_of steps) (entries_given (gave_bytes piece given)) in
-      let L : Came → Type 0 = λ came. IsLost came aim (gave_bytes piece given) piece in
+      let L : ReadOutcome → Type 0 = λ came. IsLost came aim (gave_bytes piece given) piece in
       record {
         fed = h.fed;
         cut = stands;
@@ -597,10 +601,10 @@ module _ {A : Type 0} {reader : FileReader A} {aim : Aim} {given : List Given} {
   pub file_unread : (reader' : FileReader A) → reader'.came ≡ Refused NoMemory → CutterStands reader'.cutter h.fed
       → HasCut reader' aim given steps
   file_unread reader' came stands =
-      let R : Came → Type 0 =
-      λ came. IsReading aim.query (format_of aim) h.name (joined h.fed.taken) h.rest (ending_after came)
+      let R : ReadOutcome → Type 0 =
+      λ came. HasOpenFile aim.query (format_of aim) h.name (joined h.fed.taken) h.rest (ending_after came)
       (entries_of steps) (entries_given given) in
-      let L : Came → Type 0 = λ came. IsLost came aim given h.lost in
+      let L : ReadOutcome → Type 0 = λ came. IsLost came aim given h.lost in
       record {
         fed = h.fed;
         cut = stands;
@@ -624,7 +628,7 @@ module _ {A : Type 0} {reader : FileReader A} {aim : Aim} {given : List Given} {
       → CutterStands reader'.cutter h.fed → HasCut reader' aim (gave_end failed given) steps
   file_stopped reader' failed stops none stands =
       let R : List Entry → Ending → Type 0 =
-      λ es ending. IsReading aim.query (format_of aim) h.name (joined h.fed.taken) h.rest ending
+      λ es ending. HasOpenFile aim.query (format_of aim) h.name (joined h.fed.taken) h.rest ending
       (entries_of steps) es in
       record {
         fed = h.fed;
@@ -650,7 +654,7 @@ module _ {A : Type 0} {reader : FileReader A} {aim : Aim} {given : List Given} {
 -- What one read came to.
 
 pub nothing_read : {A F L : Type 0} {past : F → FilesPast} {list : F → L} {reader : FileReader A} {files : F}
-    → ReadsOn past list reader files reader files
+    → HasReadOn past list reader files reader files
 nothing_read = record { done = refl; before = refl; same_list = refl; cuts = λ aim steps h. h }
 
 module _ {A F L : Type 0} {past : F → FilesPast} {list : F → L} {reader reader' : FileReader A} {files files' : F}
@@ -660,7 +664,7 @@ module _ {A F L : Type 0} {past : F → FilesPast} {list : F → L} {reader read
       → ending_after reader'.came ≡ ending_of failed
       → ((aim : Aim) → IsLost reader'.came aim (gave_end failed (past files).given) [])
       → ((fed : Fed) → CutterStands reader.cutter fed → CutterStands reader'.cutter fed)
-      → ReadsOn past list reader files reader' files'
+      → HasReadOn past list reader files reader' files'
   read_stopped failed is stops none stands = record {
     done = done;
     before = ap (λ gs. drop 1 gs) is ∙ end_before failed (past files).given;
@@ -675,7 +679,7 @@ module _ {A F L : Type 0} {past : F → FilesPast} {list : F → L} {reader read
   -- nothing, for want of memory
   pub read_unread : (past files').given ≡ (past files).given → reader'.came ≡ Refused NoMemory
       → ((fed : Fed) → CutterStands reader.cutter fed → CutterStands reader'.cutter fed)
-      → ReadsOn past list reader files reader' files'
+      → HasReadOn past list reader files reader' files'
   read_unread is came stands = record {
     done = done;
     before = ap (λ gs. drop 1 gs) is;
@@ -688,7 +692,7 @@ module _ {A F L : Type 0} {past : F → FilesPast} {list : F → L} {reader read
   -- bytes that are cut
   pub read_cut : (piece : List ℕ) → (past files').given ≡ gave_bytes piece (past files).given → reader'.came ≡ More
       → ((fed : Fed) → CutterStands reader.cutter fed → CutterStands reader'.cutter (fed_after fed piece))
-      → ReadsOn past list reader files reader' files'
+      → HasReadOn past list reader files reader' files'
   read_cut piece is came cut = record {
     done = done;
     before = ap (λ gs. drop 1 gs) is ∙ bytes_before piece (past files).given;
@@ -705,7 +709,7 @@ module _ {A F L : Type 0} {past : F → FilesPast} {list : F → L} {reader read
       → ((fed : Fed) → CutterStands reader.cutter fed → cut ≡ LineTooLong → HasLongLine (fed_after fed piece))
       → ((fed : Fed) → CutterStands reader.cutter fed → cut ≡ FileTooLong
       → 2 ^ 62 < length fed.bytes + length piece)
-      → ReadsOn past list reader files reader' files'
+      → HasReadOn past list reader files reader' files'
   read_refused piece cut is came stands line file = record {
     done = done;
     before = ap (λ gs. drop 1 gs) is ∙ bytes_before piece (past files).given;
@@ -718,8 +722,8 @@ module _ {A F L : Type 0} {past : F → FilesPast} {list : F → L} {reader read
 
 -- it may be left
 pub may_leave : {A : Type 0} {reader : FileReader A} {engine : Engine A} {aim : Aim} {given : List Given} {out : Stream}
-    (h : InFile reader engine aim given out) → reader.came ≡ More
-    → is_enough aim.query (format_of aim) (entries_of h.steps) ≡ true → MayEnd engine aim false given out
+    (h : IsInsideFile reader engine aim given out) → reader.came ≡ More
+    → is_enough aim.query (format_of aim) (entries_of h.steps) ≡ true → MayEndFile engine aim false given out
 may_leave {aim = aim} {given = given} h more e = record {
   steps = h.steps;
   holds = h.holds;
@@ -733,21 +737,21 @@ may_leave {aim = aim} {given = given} h more e = record {
 -- the file was read on
 pub read_on : {A F L : Type 0} {past : F → FilesPast} {list : F → L} {reader reader' : FileReader A}
     {files files' : F}
-    {engine : Engine A} {aim : Aim} {out : Stream} → InFile reader engine aim (past files).given out
-    → ReadsOn past list reader files reader' files' → InFile reader' engine aim (past files').given out
+    {engine : Engine A} {aim : Aim} {out : Stream} → IsInsideFile reader engine aim (past files).given out
+    → HasReadOn past list reader files reader' files' → IsInsideFile reader' engine aim (past files').given out
 read_on {aim = aim} h on = record { steps = h.steps; holds = h.holds; cuts = on.cuts aim h.steps h.cuts }
 
 -- memory went from the engine to the reader
 pub recycled : {A : Type 0} {reader : FileReader A} {engine : Engine A} {aim : Aim} {given : List Given} {out : Stream}
-    (h : InFile reader engine aim given out) (reader' : FileReader A) (engine' : Engine A)
-    → reader'.cutter ≡ reader.cutter → reader'.came ≡ reader.came → Holds engine' aim h.steps out
-    → InFile reader' engine' aim given out
+    (h : IsInsideFile reader engine aim given out) (reader' : FileReader A) (engine' : Engine A)
+    → reader'.cutter ≡ reader.cutter → reader'.came ≡ reader.came → HasPlan engine' aim h.steps out
+    → IsInsideFile reader' engine' aim given out
 recycled {aim = aim} {given = given} h reader' engine' cutter came holds =
     let cuts = h.cuts in
-    let R : Came → Type 0 =
-    λ came. IsReading aim.query (format_of aim) cuts.name (joined cuts.fed.taken) cuts.rest (ending_after came)
+    let R : ReadOutcome → Type 0 =
+    λ came. HasOpenFile aim.query (format_of aim) cuts.name (joined cuts.fed.taken) cuts.rest (ending_after came)
     (entries_of h.steps) (entries_given given) in
-    let L : Came → Type 0 = λ came. IsLost came aim given cuts.lost in
+    let L : ReadOutcome → Type 0 = λ came. IsLost came aim given cuts.lost in
     record {
       steps = h.steps;
       holds = holds;
@@ -771,8 +775,9 @@ recycled {aim = aim} {given = given} h reader' engine' cutter came holds =
 
 -- the blocks that wait were searched
 pub flushed : {A : Type 0} {reader : FileReader A} {engine : Engine A} {aim : Aim} {given : List Given} {out : Stream}
-    (h : InFile reader engine aim given out) (engine' : Engine A) (out' : Stream) → Holds engine' aim h.steps out'
-    → InFile reader engine' aim given out'
+    (h : IsInsideFile reader engine aim given out) (engine' : Engine A) (out' : Stream)
+    → HasPlan engine' aim h.steps out'
+    → IsInsideFile reader engine' aim given out'
 flushed h engine' out' k = record { steps = h.steps; holds = k; cuts = h.cuts }
 
 -- what is told of a file once it was read further
@@ -795,9 +800,9 @@ told_more {reader = reader} {reader' = reader'} {given = given} {given' = given'
 
 -- The file may end, and does.
 module _ {A : Type 0} {engine : Engine A} {aim : Aim} {given : List Given} {out : Stream} (failed : Bool)
-    (h : MayEnd engine aim failed given out) where
-  pub file_ended : (engine' : Engine A) (out' : Stream) → Holds engine' aim (Ends failed ∷ h.steps) out'
-      → Between engine' aim given out'
+    (h : MayEndFile engine aim failed given out) where
+  pub file_ended : (engine' : Engine A) (out' : Stream) → HasPlan engine' aim (Ends failed ∷ h.steps) out'
+      → IsBetweenFiles engine' aim given out'
   file_ended engine' out' k = record {
     steps = Ends failed ∷ h.steps;
     holds = k;
@@ -807,8 +812,8 @@ module _ {A : Type 0} {engine : Engine A} {aim : Aim} {given : List Given} {out 
   }
 
   -- its rows couldn't be written
-  pub ended_breaks : (out' : Stream) (fault : RunFault) → Broke aim (Ends failed ∷ h.steps) out' fault
-      → Breaks aim given out' fault
+  pub ended_breaks : (out' : Stream) (fault : RunFault) → BreaksOffInSearch aim (Ends failed ∷ h.steps) out' fault
+      → BreaksOffInFile aim given out' fault
   ended_breaks out' fault k = record {
     cause = read_cause fault aim given out' k.cause;
     written = safe_by aim (Ends failed ∷ h.steps) given out'.taken k.part (λ files on.

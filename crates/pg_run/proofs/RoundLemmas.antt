@@ -23,11 +23,12 @@ use Rattle.pg_seq.specs.History.{taken_after}
 use Rattle.pg_seq.proofs.ArrivalLaws.{first_is_taken}
 use Rattle.pg_base.specs.Sink.{Stream, IsBeginning}
 use Rattle.pg_seq.specs.Plan.{opened}
-use Rattle.pg_seq.specs.Standing.{Stands}
+use Rattle.pg_seq.specs.Standing.{IsAfter}
 use Rattle.pg_seq.proofs.BeginLemmas.{shape_of}
 use Rattle.pg_seq.proofs.StandLemmas.{all_push}
 use Rattle.pg_run.specs.Outcome.{NoneFailed}
-use Rattle.pg_run.specs.Holding.{Aim, Holds, IsWritten, Broke, SearchCause, past_of, format_of, output_of, waiting}
+use Rattle.pg_run.specs.Holding.{Aim, HasPlan, AllIsWritten, BreaksOffInSearch, SearchCause, past_of, format_of}
+use Rattle.pg_run.specs.Holding.{output_of, waiting}
 use Rattle.pg_round.specs.Results.{HasResult, HasAll, HasShortLines}
 use Rattle.pg_round.specs.Receipts.{arrivals, IsSafe, HasRound, HasFailed}
 use Rattle.pg_run.specs.declared.engine.Engine.{Engine}
@@ -78,12 +79,12 @@ module _ (past : Past) (r : Searched) (b : BlockData) (shaped : IsShaped (termin
   comes = taken_by (is_taken keys b) refl
 
 -- the result of this block is among these
-abbrev pub Came : SearchText → BlockData → List Searched → Type 0
-Came text b [] = ⊥
-Came text b (r ∷ rs) = (r ≡ record { query = text; block = b }) ⊎ Came text b rs
+abbrev pub ReadOutcome : SearchText → BlockData → List Searched → Type 0
+ReadOutcome text b [] = ⊥
+ReadOutcome text b (r ∷ rs) = (r ≡ record { query = text; block = b }) ⊎ ReadOutcome text b rs
 
 pub all_come : (past : Past) (rs : List Searched) (b : BlockData) → IsShaped (terminator past.query) (plan past)
-    → Contains (announced (plan past)) b → Came past.query.text b rs
+    → Contains (announced (plan past)) b → ReadOutcome past.query.text b rs
     → is_taken (taken_of past.query (arrivals rs past.events)) b ≡ true
 all_come past [] b shaped known came = absurd came
 all_come past (r ∷ rs) b shaped known came =
@@ -97,7 +98,7 @@ all_come past (r ∷ rs) b shaped known came =
 module _ {A : Type 0} where
   came_of : (text : SearchText) (blocks : List (Arc BlockData A)) (n : ℕ) (block : Arc BlockData A)
       → slice_get blocks n ≡ Some block → (rs : List Searched) → HasResult text blocks n rs
-      → Came text (arc_value block) rs
+      → ReadOutcome text (arc_value block) rs
   came_of text blocks n block at [] h = absurd h
   came_of text blocks n block at (r ∷ rs) h = elim h [
     | inl is ↦
@@ -182,7 +183,7 @@ all_later P [] ys h = h
 all_later P (x ∷ xs) ys h = all_later P xs ys h.1
 
 module _ {A : Type 0} {engine : Engine A} {aim : Aim} {steps : List Step} {out : Stream}
-    (h : Holds engine aim steps out) where
+    (h : HasPlan engine aim steps out) where
   abbrev past : Past
   past = past_of aim.query (format_of aim) h.events h.written
 
@@ -216,7 +217,7 @@ module _ {A : Type 0} {engine : Engine A} {aim : Aim} {steps : List Step} {out :
   module _ (engine' : Engine A) (out' : Stream) (same : (arc_value engine'.query).text ≡ aim.query.text)
       (set : engine'.setup ≡ aim.setup) (count : engine'.files ≡ opened steps) (none : waiting engine' ≡ [])
       (text : SearchText) (own : text ≡ aim.query.text)
-      (round : HasRound (Stands engine'.sequencer) past text engine.round.items out.taken out'.taken)
+      (round : HasRound (IsAfter engine'.sequencer) past text engine.round.items out.taken out'.taken)
       (calm : out'.failures ≡ out.failures) where
     abbrev rs : List Searched
     rs = round.0
@@ -227,7 +228,7 @@ module _ {A : Type 0} {engine : Engine A} {aim : Aim} {steps : List Step} {out :
     got_all : out'.taken ≡ aim.out.taken ++ (h.written ++ wrote)
     got_all = round.2.1.0 ∙ (ap (λ xs. xs ++ wrote) h.got ∙ append_assoc aim.out.taken h.written wrote)
 
-    holds_after : Holds engine' aim steps out'
+    holds_after : HasPlan engine' aim steps out'
     holds_after =
         let T : SearchText → Type 0 = λ t. HasAll t engine.round.items rs in
         let all = all_taken_after past engine.round.items h.taken rs
@@ -251,7 +252,7 @@ module _ {A : Type 0} {engine : Engine A} {aim : Aim} {steps : List Step} {out :
           calm = calm ∙ h.calm;
         }
 
-    pub round_done : Holds engine' aim steps out' × IsWritten aim steps out'
+    pub round_done : HasPlan engine' aim steps out' × AllIsWritten aim steps out'
     unfolding holds_after
     round_done = (
       holds_after,
@@ -262,7 +263,7 @@ module _ {A : Type 0} {engine : Engine A} {aim : Aim} {steps : List Step} {out :
   pub round_failed : (out' : Stream) (fault : RoundFault) → HasFailed past out.taken out'.taken
       → (IsErrOf {T = Unit {0}} (Err fault) RoundSink → out.failures < out'.failures)
       → (IsErrOf {T = Unit {0}} (Err fault) NoMemory → out'.failures ≡ out.failures)
-      → Broke aim steps out' (fault_of_round fault)
+      → BreaksOffInSearch aim steps out' (fault_of_round fault)
   round_failed out' fault f rose calm = record {
     cause = cause_of fault rose;
     calm = calm_of fault calm;

@@ -25,18 +25,19 @@ use Rattle.pg_seq.specs.Plan.{Step, Opens, Announces, Ends, Misses, IsShaped, is
 use Rattle.pg_seq.proofs.BeginLemmas.{begins_trans}
 use Rattle.pg_files.specs.Given.{Given, NoFile, File, FilesPast, entries_given, newest_name, nothing_given}
 use Rattle.pg_run.specs.Told.{faults_of, fault_of, fault_line, told_of}
-use Rattle.pg_run.specs.Outcome.{IsSearchFor, EndsAtSelected, Finishes, BreaksOff, HasCause, GotWholeLines}
+use Rattle.pg_run.specs.Outcome.{IsSearchFor, EndsAtSelected, RunFinishes, BreaksOff, HasCause, GotWholeLines}
 use Rattle.pg_run.specs.Outcome.{IsOfAFile}
-use Rattle.pg_run.specs.Holding.{Aim, Holds, Broke, IsWritten, IsWrittenFirst, format_of, output_of}
-use Rattle.pg_run.specs.Cover.{IsReading}
-use Rattle.pg_run.specs.Reading.{InFile, IsLost, Between, IsTold, Breaks, IsSafe, ReadCause, StopCause, Stops, IsDone}
-use Rattle.pg_run.specs.Reading.{AreReadRightly, StopsBehind, Went}
+use Rattle.pg_run.specs.Holding.{Aim, HasPlan, BreaksOffInSearch, AllIsWritten, IsWrittenFirst, format_of, output_of}
+use Rattle.pg_run.specs.Cover.{HasOpenFile}
+use Rattle.pg_run.specs.Reading.{IsInsideFile, IsLost, IsBetweenFiles, AllIsTold, BreaksOffInFile, IsCommonBeginning}
+use Rattle.pg_run.specs.Reading.{ReadCause, StopCause, BreaksOffTold, IsDone}
+use Rattle.pg_run.specs.Reading.{AreReadRightly, BreaksOffBehind, GaveOneAtMost}
 use Rattle.pg_seq.specs.Settled.{AreLeftRightly}
 use Rattle.pg_run.specs.Reading.{ending_after}
 use Rattle.pg_run.specs.declared.engine.Engine.{Engine}
 use Rattle.pg_run.specs.declared.reader.FileReader.{FileReader}
-use Rattle.pg_run.specs.declared.reader.Came.{Came}
-use Rattle.pg_run.specs.declared.reader.Came.TheVariants.{More}
+use Rattle.pg_run.specs.declared.reader.ReadOutcome.{ReadOutcome}
+use Rattle.pg_run.specs.declared.reader.ReadOutcome.TheVariants.{More}
 use Rattle.pg_run.specs.declared.setup.Setup.{Setup}
 use Rattle.pg_run.specs.declared.fault.RunFault.{RunFault}
 use Rattle.pg_run.specs.declared.fault.RunFault.TheVariants.{Query, OutOfMemory, Sink, TooManyFiles, TooLong}
@@ -54,8 +55,8 @@ more_told false given given' line e = e
 
 -- a text that was told behind what was told of what was given before
 pub told_by : (aim : Aim) (given given' : List Given) (told told' : Stream) (silent : Bool) (line : List ℕ)
-    → silent ≡ aim.setup.silent → IsTold aim given told → faults_of given' ≡ faults_of given ++ line
-    → WritesAll (when (not silent) line) told told' → IsTold aim given' told'
+    → silent ≡ aim.setup.silent → AllIsTold aim given told → faults_of given' ≡ faults_of given ++ line
+    → WritesAll (when (not silent) line) told told' → AllIsTold aim given' told'
 told_by aim given given' told told' silent line set t e w =
     let front = told_of aim.setup.silent given in
     let P : Bool → Type 0 = λ s. told'.taken ≡ told.taken ++ when (not s) line in
@@ -73,21 +74,21 @@ none_when true = refl
 none_when false = refl
 
 -- nothing is told of a file that goes on or ends
-pub told_same : (aim : Aim) (given given' : List Given) (told : Stream) → IsTold aim given told
-    → faults_of given' ≡ faults_of given ++ [] → IsTold aim given' told
+pub told_same : (aim : Aim) (given given' : List Given) (told : Stream) → AllIsTold aim given told
+    → faults_of given' ≡ faults_of given ++ [] → AllIsTold aim given' told
 told_same aim given given' told t e =
     let silent = aim.setup.silent in
     told_by aim given given' told told silent [] refl t e
     (subst (λ xs. WritesAll xs told told) (sym (none_when (not silent))) (wrote_none told))
 
-pub told_all : (aim : Aim) (given : List Given) (told : Stream) → IsTold aim given told
+pub told_all : (aim : Aim) (given : List Given) (told : Stream) → AllIsTold aim given told
     → TakesPart (told_of aim.setup.silent given) aim.told.taken told.taken
 told_all aim given told t =
     let text = told_of aim.setup.silent given in
     (text, ([], append-nil text), t.all)
 
 part_told : (aim : Aim) (given given' : List Given) (told told' : Stream) (silent : Bool) (line : List ℕ)
-    → silent ≡ aim.setup.silent → IsTold aim given told → faults_of given' ≡ faults_of given ++ line
+    → silent ≡ aim.setup.silent → AllIsTold aim given told → faults_of given' ≡ faults_of given ++ line
     → TakesPart (when (not silent) line) told.taken told'.taken
     → TakesPart (told_of aim.setup.silent given') aim.told.taken told'.taken
 part_told aim given given' told told' silent line set t e part =
@@ -104,7 +105,7 @@ part_told aim given given' told told' silent line set t e part =
     )
 
 -- what was told of what was given before is a beginning of what is told of more
-part_before : (aim : Aim) (given given' : List Given) (told : Stream) (line : List ℕ) → IsTold aim given told
+part_before : (aim : Aim) (given given' : List Given) (told : Stream) (line : List ℕ) → AllIsTold aim given told
     → faults_of given' ≡ faults_of given ++ line → TakesPart (told_of aim.setup.silent given') aim.told.taken told.taken
 part_before aim given given' told line t e =
     part_told aim given given' told told aim.setup.silent line refl t e
@@ -159,7 +160,8 @@ has_cause TooLong aim past out told c = c
 
 -- the reading of a file broke off
 pub stops_reading : (aim : Aim) (given given' : List Given) (out told : Stream) (fault : RunFault)
-    → Breaks aim given' out fault → IsTold aim given told → drop 1 given' ≡ given → Stops aim given' out told fault
+    → BreaksOffInFile aim given' out fault → AllIsTold aim given told → drop 1 given' ≡ given
+    → BreaksOffTold aim given' out told fault
 stops_reading aim given given' out told fault b t before =
     let grown = faults_grow given given' before in
     record {
@@ -172,9 +174,9 @@ stops_reading aim given given' out told fault b t before =
 
 -- a line couldn't be told
 pub stops_telling : (aim : Aim) (given given' : List Given) (out told told' : Stream) (silent : Bool) (line : List ℕ)
-    → silent ≡ aim.setup.silent → IsSafe aim given' out.taken → IsTold aim given told
+    → silent ≡ aim.setup.silent → IsCommonBeginning aim given' out.taken → AllIsTold aim given told
     → faults_of given' ≡ faults_of given ++ line → WritesPart (when (not silent) line) told told'
-    → Stops aim given' out told' Sink
+    → BreaksOffTold aim given' out told' Sink
 stops_telling aim given given' out told told' silent line set safe t e w = record {
   cause = inr (omega (arith, w.failure, t.calm));
   written = safe;
@@ -184,8 +186,8 @@ stops_telling aim given given' out told told' silent line set safe t e w = recor
 }
 
 -- memory is lacking
-pub stops_memory : (aim : Aim) (given : List Given) (out told : Stream) → IsSafe aim given out.taken
-    → out.failures ≡ aim.out.failures → IsTold aim given told → Stops aim given out told OutOfMemory
+pub stops_memory : (aim : Aim) (given : List Given) (out told : Stream) → IsCommonBeginning aim given out.taken
+    → out.failures ≡ aim.out.failures → AllIsTold aim given told → BreaksOffTold aim given out told OutOfMemory
 stops_memory aim given out told safe calm t = record {
   cause = tt;
   written = safe;
@@ -222,18 +224,18 @@ no_rows q format name earlier = ap (λ rows. rows_in format.mode rows [] []) (go
 
 -- Between files.
 module _ {A : Type 0} {engine : Engine A} {aim : Aim} {given : List Given} {out : Stream}
-    (h : Between engine aim given out) where
+    (h : IsBetweenFiles engine aim given out) where
   pub taken_part : TakesPart (output_of aim h.steps) aim.out.taken out.taken
   taken_part = (h.holds.written, h.holds.safe, h.holds.got)
 
-  pub between_safe : IsSafe aim given out.taken
+  pub between_safe : IsCommonBeginning aim given out.taken
   between_safe = safe_by aim h.steps given out.taken taken_part (λ files on.
       follows_begins aim.query (format_of aim) (entries_of h.steps) (entries_given given) files (room_of h.holds)
       (inl h.covers) on)
 
   -- a file was given, and is not opened yet
   pub unopened_safe : (name taken : List ℕ) → TakesPart (output_of aim h.steps) aim.out.taken taken
-      → IsSafe aim (File name [] Left ∷ given) taken
+      → IsCommonBeginning aim (File name [] Left ∷ given) taken
   unopened_safe name taken part =
       let es = entries_of h.steps in
       let more = Read name [] Running ∷ [] in
@@ -247,13 +249,14 @@ module _ {A : Type 0} {engine : Engine A} {aim : Aim} {given : List Given} {out 
       (room_of h.holds) (inr (name, [], [], Left, opens q format name es (entries_given given) h.covers)) on))
 
   -- what was written was sent on
-  pub rows_sent : (engine' : Engine A) (out' : Stream) → Holds engine' aim h.steps out' → Between engine' aim given out'
+  pub rows_sent : (engine' : Engine A) (out' : Stream) → HasPlan engine' aim h.steps out'
+      → IsBetweenFiles engine' aim given out'
   rows_sent engine' out' k =
       record { steps = h.steps; holds = k; closed = h.closed; number = h.number; covers = h.covers }
 
   -- a name was given that gives no file
   pub unmissed_safe : (name : List ℕ) (cause : Cause) (taken : List ℕ)
-      → TakesPart (output_of aim h.steps) aim.out.taken taken → IsSafe aim (NoFile name cause ∷ given) taken
+      → TakesPart (output_of aim h.steps) aim.out.taken taken → IsCommonBeginning aim (NoFile name cause ∷ given) taken
   unmissed_safe name cause taken part =
       safe_by aim h.steps (NoFile name cause ∷ given) taken part
       (λ files on.
@@ -263,8 +266,9 @@ module _ {A : Type 0} {engine : Engine A} {aim : Aim} {given : List Given} {out 
       (inl (misses aim.query (format_of aim) name (entries_of h.steps) (entries_given given) h.covers)) on)
 
   -- what was written before couldn't be sent on
-  pub unsent_breaks : (name : List ℕ) (cause : Cause) (out' : Stream) (fault : RunFault) → Broke aim h.steps out' fault
-      → Breaks aim (NoFile name cause ∷ given) out' fault
+  pub unsent_breaks : (name : List ℕ) (cause : Cause) (out' : Stream) (fault : RunFault)
+      → BreaksOffInSearch aim h.steps out' fault
+      → BreaksOffInFile aim (NoFile name cause ∷ given) out' fault
   unsent_breaks name cause out' fault k = record {
     cause = read_cause fault aim (NoFile name cause ∷ given) out' k.cause;
     written = unmissed_safe name cause out'.taken k.part;
@@ -273,8 +277,9 @@ module _ {A : Type 0} {engine : Engine A} {aim : Aim} {given : List Given} {out 
   }
 
   -- a name is missed
-  pub name_missed : (engine' : Engine A) (name : List ℕ) (cause : Cause) → Holds engine' aim (Misses name ∷ h.steps) out
-      → Between engine' aim (NoFile name cause ∷ given) out
+  pub name_missed : (engine' : Engine A) (name : List ℕ) (cause : Cause)
+      → HasPlan engine' aim (Misses name ∷ h.steps) out
+      → IsBetweenFiles engine' aim (NoFile name cause ∷ given) out
   name_missed engine' name cause k = record {
     steps = Misses name ∷ h.steps;
     holds = k;
@@ -286,13 +291,13 @@ module _ {A : Type 0} {engine : Engine A} {aim : Aim} {given : List Given} {out 
   -- a file is opened, and the reader begins with a cutter that was made for it
   pub file_opened : (reader : FileReader A) (engine' : Engine A) (name : List ℕ) → reader.came ≡ More
       → CutterStands reader.cutter (unfed (terminator aim.query) engine.files aim.setup.block aim.setup.line)
-      → Holds engine' aim (Opens name ∷ h.steps) out → InFile reader engine' aim (File name [] Left ∷ given) out
+      → HasPlan engine' aim (Opens name ∷ h.steps) out → IsInsideFile reader engine' aim (File name [] Left ∷ given) out
   file_opened reader engine' name more cut k =
       let fed = unfed (terminator aim.query) engine.files aim.setup.block aim.setup.line in
-      let R : Came → Type 0 =
-      λ came. IsReading aim.query (format_of aim) name [] [] (ending_after came) (entries_of (Opens name ∷ h.steps))
+      let R : ReadOutcome → Type 0 =
+      λ came. HasOpenFile aim.query (format_of aim) name [] [] (ending_after came) (entries_of (Opens name ∷ h.steps))
       (entries_given (File name [] Left ∷ given)) in
-      let L : Came → Type 0 = λ came. IsLost came aim (File name [] Left ∷ given) [] in
+      let L : ReadOutcome → Type 0 = λ came. IsLost came aim (File name [] Left ∷ given) [] in
       record {
         steps = Opens name ∷ h.steps;
         holds = k;
@@ -316,7 +321,7 @@ module _ {A : Type 0} {engine : Engine A} {aim : Aim} {given : List Given} {out 
         };
       }
 
-  unopened_lines : (out' : Stream) (name : List ℕ) → IsWritten aim h.steps out'
+  unopened_lines : (out' : Stream) (name : List ℕ) → AllIsWritten aim h.steps out'
       → GotWholeLines aim.query (format_of aim) (entries_given (File name [] Left ∷ given)) aim.out out'
   unopened_lines out' name w =
       let q = aim.query in
@@ -340,15 +345,16 @@ module _ {A : Type 0} {engine : Engine A} {aim : Aim} {given : List Given} {out 
 
   -- there is no number for it, and what was read before was searched first
   pub unnumbered : (out' : Stream) (name : List ℕ) (answer : RunFault) → 2 ^ 32 - 1 ≤ engine.files
-      → IsWrittenFirst aim h.steps out' TooManyFiles answer → Breaks aim (File name [] Left ∷ given) out' answer
+      → IsWrittenFirst aim h.steps out' TooManyFiles answer → BreaksOffInFile aim (File name [] Left ∷ given) out'
+      answer
   unnumbered out' name answer e (inl w) =
-      let many : Breaks aim (File name [] Left ∷ given) out' TooManyFiles = record {
+      let many : BreaksOffInFile aim (File name [] Left ∷ given) out' TooManyFiles = record {
         cause = omega (arith, e, h.holds.count, h.number);
         written = unopened_safe name out'.taken (takes_all aim h.steps out' w.1);
         lines = λ of. unopened_lines out' name w.1;
         calm = w.2;
       } in
-      subst (Breaks aim (File name [] Left ∷ given) out') (sym w.0) many
+      subst (BreaksOffInFile aim (File name [] Left ∷ given) out') (sym w.0) many
   unnumbered out' name answer e (inr k) = record {
     cause = read_cause answer aim (File name [] Left ∷ given) out' k.cause;
     written = unopened_safe name out'.taken k.part;
@@ -388,9 +394,9 @@ module _ {A : Type 0} {engine : Engine A} {aim : Aim} {given : List Given} {out 
 pub file_started : {A : Type 0} {reader : FileReader A} {engine : Engine A} {aim : Aim} {given : List Given}
     {out : Stream}
     (now : List Given) (name name' : List ℕ) → now ≡ File name [] Left ∷ given → name' ≡ newest_name now
-    → InFile reader engine aim (File name' [] Left ∷ given) out → InFile reader engine aim now out
+    → IsInsideFile reader engine aim (File name' [] Left ∷ given) out → IsInsideFile reader engine aim now out
 file_started {reader = reader} {engine = engine} {aim = aim} {given = given} {out = out} now name name' is named h =
-    let P : List Given → Type 0 = λ gs. InFile reader engine aim gs out in
+    let P : List Given → Type 0 = λ gs. IsInsideFile reader engine aim gs out in
     let same : name' ≡ name = named ∙ ap newest_name is in
     subst P (sym (is ∙ ap (λ n. File n [] Left ∷ given) (sym same))) h
 
@@ -403,15 +409,15 @@ ends_at aim (g ∷ given) before e h = ap (λ gs. list_any (has_selected aim.que
 
 -- A whole run.
 
-pub between_new : {A : Type 0} (engine : Engine A) (aim : Aim) → Holds engine aim [] aim.out
-    → Between engine aim [] aim.out
+pub between_new : {A : Type 0} (engine : Engine A) (aim : Aim) → HasPlan engine aim [] aim.out
+    → IsBetweenFiles engine aim [] aim.out
 between_new engine aim h = record { steps = []; holds = h; closed = refl; number = refl; covers = tt }
 
 none_told : (silent : Bool) → told_of silent [] ≡ []
 none_told true = refl
 none_told false = refl
 
-pub told_new : (aim : Aim) → IsTold aim [] aim.told
+pub told_new : (aim : Aim) → AllIsTold aim [] aim.told
 told_new aim = record {
   all = sym (append-nil aim.told.taken) ∙ ap (λ xs. aim.told.taken ++ xs) (sym (none_told aim.setup.silent));
   calm = refl;
@@ -439,10 +445,10 @@ rightly_left aim given left =
 
 -- files that were all read as far as was needed, and perhaps one more
 pub read_rightly : {A : Type 0} {engine : Engine A} {aim : Aim} {given : List Given} {out : Stream}
-    → (b : Between engine aim given out)
+    → (b : IsBetweenFiles engine aim given out)
     → (is_quiet (format_of aim).mode ≡ true → EndsAtSelected aim.query (entries_given given))
     → (is_quiet (format_of aim).mode ≡ true → list_any (has_selected aim.query) (entries_given given) ≡ false)
-    → (given' : List Given) → Went given given' → AreReadRightly aim given'
+    → (given' : List Given) → GaveOneAtMost given given' → AreReadRightly aim given'
 read_rightly {aim = aim} {given = given} b quiet none given' (inl e) =
     let left = covers_left aim.query (format_of aim) (entries_of b.steps) (entries_given given) (room_of b.holds)
     b.covers in
@@ -458,9 +464,9 @@ read_rightly {aim = aim} {given = given} b quiet none given' (inr e) =
 
 module _ {A : Type 0} {engine : Engine A} {aim : Aim} {finds : List (List ℕ) → Type 0} {past : FilesPast}
     {out told : Stream} (d : IsDone engine aim finds past out told) where
-  pub done_finishes : (out' : Stream) (answer : ℕ) → IsWritten aim d.rests.0.steps out'
+  pub done_finishes : (out' : Stream) (answer : ℕ) → AllIsWritten aim d.rests.0.steps out'
       → answer ≡ status aim.query (format_of aim) (entries_of d.rests.0.steps) → out'.failures ≡ aim.out.failures
-      → Finishes aim.query aim.setup finds past aim.out out' aim.told told answer
+      → RunFinishes aim.query aim.setup finds past aim.out out' aim.told told answer
   done_finishes out' answer written answered calm =
       let b = d.rests.0 in
       let room = room_of b.holds in
@@ -475,8 +481,8 @@ module _ {A : Type 0} {engine : Engine A} {aim : Aim} {finds : List (List ℕ) �
         no_failure = (calm, d.rests.1.calm);
       }
 
-  pub done_breaks : (out' : Stream) (fault : RunFault) → Broke aim d.rests.0.steps out' fault
-      → StopsBehind aim past.given out' told fault
+  pub done_breaks : (out' : Stream) (fault : RunFault) → BreaksOffInSearch aim d.rests.0.steps out' fault
+      → BreaksOffBehind aim past.given out' told fault
   done_breaks out' fault k =
       let b = d.rests.0 in
       let left = covers_left aim.query (format_of aim) (entries_of b.steps) (entries_given past.given)
@@ -501,7 +507,7 @@ pub breaks_off : (text : SearchText) (setup : Setup) (past : FilesPast) (out out
     (fault : RunFault)
     → (trees : List Pattern) × AreTreesOf text trees
     → ((trees : List Pattern) → AreTreesOf text trees
-    → StopsBehind (aim_for text trees setup out told) past.given out' told' fault)
+    → BreaksOffBehind (aim_for text trees setup out told) past.given out' told' fault)
     → BreaksOff text setup past out out' told told' fault
 breaks_off text setup past out out' told told' fault own stops =
     let s = (stops own.0 own.1).0 in
@@ -550,15 +556,15 @@ breaks_first text setup past out told fault new cause =
 -- a run is for the search that its text and trees make
 pub finishes_for : (r : Result ℕ RunFault) (text : SearchText) (setup : Setup) (finds : List (List ℕ) → Type 0)
     (past : FilesPast) (out out' told told' : Stream) (own : (trees : List Pattern) × AreTreesOf text trees)
-    → IfOk r (Finishes (search_of text own.0) setup finds past out out' told told')
-    → IfOk r (λ answer. (q : Search) × IsSearchFor text q × Finishes q setup finds past out out' told told' answer)
+    → IfOk r (RunFinishes (search_of text own.0) setup finds past out out' told told')
+    → IfOk r (λ answer. (q : Search) × IsSearchFor text q × RunFinishes q setup finds past out out' told told' answer)
 finishes_for (Ok answer) text setup finds past out out' told told' own f = (search_of text own.0, (refl, own.1), f)
 finishes_for (Err fault) text setup finds past out out' told told' own f = tt
 
 pub breaks_for : (r : Result ℕ RunFault) (text : SearchText) (setup : Setup) (past : FilesPast)
     (out out' told told' : Stream) (own : (trees : List Pattern) × AreTreesOf text trees)
     → ((trees : List Pattern) → AreTreesOf text trees
-    → IfErr r (StopsBehind (aim_for text trees setup out told) past.given out' told'))
+    → IfErr r (BreaksOffBehind (aim_for text trees setup out told) past.given out' told'))
     → IfErr r (BreaksOff text setup past out out' told told')
 breaks_for (Ok answer) text setup past out out' told told' own stops = tt
 breaks_for (Err fault) text setup past out out' told told' own stops =

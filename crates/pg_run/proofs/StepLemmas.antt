@@ -11,7 +11,7 @@ use Rattle.pg_base.specs.Entries.{Entry, Missed, Read, Ending, Running, Ended, F
 use Rattle.pg_seq.specs.Plan.{with_bytes, with_end}
 use Rattle.pg_rows.specs.Enough.{is_enough}
 use Rattle.pg_files.specs.Given.{Given, NoFile, File, entries_given, gave_bytes, gave_end}
-use Rattle.pg_run.specs.Cover.{is_left, IsEntryOf, Covers, IsReading}
+use Rattle.pg_run.specs.Cover.{is_left, IsEntryOf, Covers, HasOpenFile}
 
 append_none : (xs ys : List ℕ) → xs ++ ys ≡ [] → (xs ≡ []) × (ys ≡ [])
 append_none [] ys e = (refl, e)
@@ -31,7 +31,7 @@ closed_left false = refl
 module _ (q : Search) (format : Format) where
   -- a file was given, and is opened
   pub opens : (name : List ℕ) (planned given : List Entry) → Covers q format planned given
-      → IsReading q format name [] [] Left (Read name [] Running ∷ planned) (Read name [] Left ∷ given)
+      → HasOpenFile q format name [] [] Left (Read name [] Running ∷ planned) (Read name [] Left ∷ given)
   opens name planned given h = record {
     earlier = planned;
     before = given;
@@ -48,7 +48,7 @@ module _ (q : Search) (format : Format) where
   misses name planned given h = (refl, h)
 
   module _ (name front rest : List ℕ) (planned given : List Entry) where
-    pub left_whole : IsReading q format name front rest Left planned given → AreWhole (terminator q) front
+    pub left_whole : HasOpenFile q format name front rest Left planned given → AreWhole (terminator q) front
     left_whole h = go h.seam
       where
         go : AreWhole (terminator q) front ⊎ ((rest ≡ []) × (is_left Left ≡ false)) → AreWhole (terminator q) front
@@ -56,8 +56,8 @@ module _ (q : Search) (format : Format) where
         go (inr n) = absurd (false≢true (sym n.1))
 
     -- a read gives more
-    pub reads : (more : List ℕ) → IsReading q format name front rest Left planned given
-        → IsReading q format name front (rest ++ more) Left planned (with_bytes more given)
+    pub reads : (more : List ℕ) → HasOpenFile q format name front rest Left planned given
+        → HasOpenFile q format name front (rest ++ more) Left planned (with_bytes more given)
     reads more h = record {
       earlier = h.earlier;
       before = h.before;
@@ -70,8 +70,8 @@ module _ (q : Search) (format : Format) where
     }
 
     -- a read meets the end, or fails
-    pub read_ends : (failed : Bool) → IsReading q format name front rest Left planned given
-        → IsReading q format name front rest (closed_by failed) planned (with_end failed given)
+    pub read_ends : (failed : Bool) → HasOpenFile q format name front rest Left planned given
+        → HasOpenFile q format name front rest (closed_by failed) planned (with_end failed given)
     read_ends failed h = record {
       earlier = h.earlier;
       before = h.before;
@@ -83,7 +83,7 @@ module _ (q : Search) (format : Format) where
     }
 
     -- the file isn't read again, where that is enough
-    pub leaves : IsReading q format name front rest Left planned given → is_enough q format planned ≡ true
+    pub leaves : HasOpenFile q format name front rest Left planned given → is_enough q format planned ≡ true
         → Covers q format (with_end false planned) given
     leaves h e =
         let P : List Entry → Type 0 = λ ps. Covers q format (with_end false ps) given in
@@ -101,8 +101,8 @@ module _ (q : Search) (format : Format) where
   -- the next bytes are announced: whole lines, or what is left once the file can't go on
   pub announces : (name front block rest : List ℕ) (ending : Ending) (planned given : List Entry)
       → AreWhole (terminator q) block ⊎ ((rest ≡ []) × (is_left ending ≡ false))
-      → IsReading q format name front (block ++ rest) ending planned given
-      → IsReading q format name (front ++ block) rest ending (with_bytes block planned) given
+      → HasOpenFile q format name front (block ++ rest) ending planned given
+      → HasOpenFile q format name (front ++ block) rest ending (with_bytes block planned) given
   announces name front block rest ending planned given s h = record {
     earlier = h.earlier;
     before = h.before;
@@ -122,7 +122,7 @@ module _ (q : Search) (format : Format) where
 
   -- the file has ended, and all of it was announced
   pub ends : (name front : List ℕ) (failed : Bool) (planned given : List Entry)
-      → IsReading q format name front [] (closed_by failed) planned given
+      → HasOpenFile q format name front [] (closed_by failed) planned given
       → Covers q format (with_end failed planned) given
   ends name front failed planned given h =
       let P : List Entry → Type 0 = λ ps. Covers q format (with_end failed ps) given in

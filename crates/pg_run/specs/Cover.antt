@@ -13,7 +13,7 @@ is_left Failed = false
 is_left Left = true
 
 -- a file that was left: the plan has whole lines of it, which were enough, and ends it
-pub record IsGivenUp (q : Search) (format : Format) (before : List Entry) (name bytes : List ℕ) (given : Entry)
+pub record IsLeftFile (q : Search) (format : Format) (before : List Entry) (name bytes : List ℕ) (given : Entry)
     : Type 0 where
   pub rest : List ℕ
   pub is : given ≡ Read name (bytes ++ rest) Left
@@ -25,7 +25,7 @@ abbrev pub IsEntryOf : Search → Format → List Entry → Entry → Entry → 
 IsEntryOf q format before (Missed name) given = given ≡ Missed name
 IsEntryOf q format before (Read name bytes Running) given = ⊥
 IsEntryOf q format before (Read name bytes Ended) given =
-    (given ≡ Read name bytes Ended) ⊎ IsGivenUp q format before name bytes given
+    (given ≡ Read name bytes Ended) ⊎ IsLeftFile q format before name bytes given
 IsEntryOf q format before (Read name bytes Failed) given = given ≡ Read name bytes Failed
 IsEntryOf q format before (Read name bytes Left) given = ⊥
 
@@ -37,7 +37,7 @@ Covers q format (p ∷ ps) [] = ⊥
 Covers q format (p ∷ ps) (g ∷ gs) = IsEntryOf q format ps p g × Covers q format ps gs
 
 -- A file is open. The plan has the front of what its reads gave: whole lines, or all of it once the file can't go on.
-pub record IsReading (q : Search) (format : Format) (name front rest : List ℕ) (ending : Ending)
+pub record HasOpenFile (q : Search) (format : Format) (name front rest : List ℕ) (ending : Ending)
     (planned given : List Entry) : Type 0 where
   pub earlier : List Entry
   pub before : List Entry
@@ -48,8 +48,8 @@ pub record IsReading (q : Search) (format : Format) (name front rest : List ℕ)
   pub covers : Covers q format earlier before
 
 -- no file is open, or one is
-abbrev pub Follows : Search → Format → List Entry → List Entry → Type 0
-Follows q format planned given =
+abbrev pub PlanFollows : Search → Format → List Entry → List Entry → Type 0
+PlanFollows q format planned given =
     Covers q format planned given
     ⊎ ((name : List ℕ) × (front : List ℕ) × (rest : List ℕ) × (ending : Ending)
-    × IsReading q format name front rest ending planned given)
+    × HasOpenFile q format name front rest ending planned given)

@@ -9,7 +9,7 @@ use Rattle.pg_rows.specs.Output.{output}
 use Rattle.pg_base.specs.Sink.{Stream, IsBeginning, TakesPart}
 use Rattle.pg_seq.specs.Plan.{Step, MayFollow, opened, announced, entries_of}
 use Rattle.pg_seq.specs.History.{Past, Event, plan_of, taken_of, is_taken}
-use Rattle.pg_seq.specs.Standing.{Stands}
+use Rattle.pg_seq.specs.Standing.{IsAfter}
 use Rattle.pg_run.specs.Outcome.{NoneFailed}
 use Rattle.pg_run.specs.declared.engine.Engine.{Engine}
 use Rattle.pg_run.specs.declared.setup.Setup.{Setup}
@@ -39,18 +39,18 @@ format_of aim = aim.setup.format
 abbrev pub output_of : Aim → List Step → List ℕ
 output_of aim steps = output aim.query (format_of aim) (entries_of steps)
 
-abbrev pub May : Aim → List Step → Step → Type 0
-May aim steps step = MayFollow (terminator aim.query) steps step
+abbrev pub MayStep : Aim → List Step → Step → Type 0
+MayStep aim steps step = MayFollow (terminator aim.query) steps step
 
 -- The engine's sequencer has this plan. Of its blocks it took the first ones, and the others wait in the engine's
 -- round. The writer took a beginning of what the plan gives, and didn't fail.
-pub record Holds {A : Type 0} (engine : Engine A) (aim : Aim) (steps : List Step) (out : Stream) : Type 0 where
+pub record HasPlan {A : Type 0} (engine : Engine A) (aim : Aim) (steps : List Step) (out : Stream) : Type 0 where
   pub same : (arc_value engine.query).text ≡ aim.query.text
   pub set : engine.setup ≡ aim.setup
   pub count : engine.files ≡ opened steps
   pub events : List Event
   pub written : List ℕ
-  pub stands : Stands engine.sequencer (past_of aim.query (format_of aim) events written)
+  pub stands : IsAfter engine.sequencer (past_of aim.query (format_of aim) events written)
   pub planned : plan_of events ≡ steps
   pub taken : List BlockData
   pub blocks : announced steps ≡ taken ++ waiting engine
@@ -61,11 +61,11 @@ pub record Holds {A : Type 0} (engine : Engine A) (aim : Aim) (steps : List Step
 
 -- it is so, and the step may follow
 abbrev pub IsReady : {A : Type 0} → Engine A → Aim → List Step → Stream → Step → Type 0
-IsReady engine aim steps out step = Holds engine aim steps out × May aim steps step
+IsReady engine aim steps out step = HasPlan engine aim steps out × MayStep aim steps step
 
 -- the writer took all of what the plan gives
-abbrev pub IsWritten : Aim → List Step → Stream → Type 0
-IsWritten aim steps out = out.taken ≡ aim.out.taken ++ output_of aim steps
+abbrev pub AllIsWritten : Aim → List Step → Stream → Type 0
+AllIsWritten aim steps out = out.taken ≡ aim.out.taken ++ output_of aim steps
 
 -- why a search broke off
 abbrev pub SearchCause : RunFault → Aim → Stream → Type 0
@@ -76,7 +76,7 @@ SearchCause TooManyFiles aim out = ⊥
 SearchCause TooLong aim out = ⊥
 
 -- it broke off, and the writer took a beginning of what the plan gives
-pub record Broke (aim : Aim) (steps : List Step) (out : Stream) (fault : RunFault) : Type 0 where
+pub record BreaksOffInSearch (aim : Aim) (steps : List Step) (out : Stream) (fault : RunFault) : Type 0 where
   pub cause : SearchCause fault aim out
   pub part : TakesPart (output_of aim steps) aim.out.taken out.taken
   pub calm : NoneFailed fault aim.out out
@@ -84,4 +84,5 @@ pub record Broke (aim : Aim) (steps : List Step) (out : Stream) (fault : RunFaul
 -- all was written, no write failed and the fault is answered; or that broke off
 abbrev pub IsWrittenFirst : Aim → List Step → Stream → (fault answer : RunFault) → Type 0
 IsWrittenFirst aim steps out fault answer =
-    ((answer ≡ fault) × IsWritten aim steps out × (out.failures ≡ aim.out.failures)) ⊎ Broke aim steps out answer
+    ((answer ≡ fault) × AllIsWritten aim steps out × (out.failures ≡ aim.out.failures))
+    ⊎ BreaksOffInSearch aim steps out answer

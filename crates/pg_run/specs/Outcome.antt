@@ -37,7 +37,7 @@ EndsAtSelected q (last ∷ entries) = list_any (has_selected q) entries ≡ fals
 -- A run came to its end: its output is that of what files gave, and so are the fault lines and the status. All that was
 -- listed was given, with -q up to a file with a selected line, and each file was read to its end, but where some whole
 -- lines at its front were enough.
-pub record Finishes (q : Search) (setup : Setup) (finds : List (List ℕ) → Type 0) (past : FilesPast)
+pub record RunFinishes (q : Search) (setup : Setup) (finds : List (List ℕ) → Type 0) (past : FilesPast)
     (out out' told told' : Stream) (answer : ℕ) : Type 0 where
   pub written : out'.taken ≡ out.taken ++ output q setup.format (entries_given past.given)
   pub faults : told'.taken ≡ told.taken ++ told_of setup.silent past.given
@@ -57,9 +57,9 @@ MayBecome (Read name bytes Left) other =
     (more : List ℕ) × (ending : Ending) × (is_running ending ≡ false) × (other ≡ Read name (bytes ++ more) ending)
 
 -- one list of files goes on from another
-abbrev pub GoesOn : List Entry → List Entry → Type 0
-GoesOn [] files = Unit {0}
-GoesOn (last ∷ entries) files =
+abbrev pub IsContinuation : List Entry → List Entry → Type 0
+IsContinuation [] files = Unit {0}
+IsContinuation (last ∷ entries) files =
     (later : List Entry) × (other : Entry) × MayBecome last other × (files ≡ later ++ other ∷ entries)
 
 -- what happened, by the fault that says it
@@ -112,7 +112,7 @@ pub record BreaksOff (text : SearchText) (setup : Setup) (past : FilesPast) (out
     (fault : RunFault) : Type 0 where
   pub cause : HasCause fault text setup past out out' told told'
   pub written : (trees : List Pattern) → AreTreesOf text trees → (files : List Entry) →
-      GoesOn (entries_given past.given) files →
+      IsContinuation (entries_given past.given) files →
       TakesPart (output (search_of text trees) setup.format files) out.taken out'.taken
   pub lines : IsOfAFile fault → (trees : List Pattern) → AreTreesOf text trees →
       GotWholeLines (search_of text trees) setup.format (entries_given past.given) out out'

@@ -14,19 +14,19 @@ use Rattle.pg_seq.specs.Plan.{Step, Ends, is_open, opened, last_blocks, entries_
 use Rattle.pg_files.specs.Given.{Given, FilesPast, entries_given, files_given}
 use Rattle.pg_run.specs.Lengths.{IsTooLong}
 use Rattle.pg_run.specs.Told.{told_of}
-use Rattle.pg_run.specs.Outcome.{GoesOn, EndsAtSelected, AsksToTheEnd, GotWholeLines, IsOfAFile, NoneFailed}
+use Rattle.pg_run.specs.Outcome.{IsContinuation, EndsAtSelected, AsksToTheEnd, GotWholeLines, IsOfAFile, NoneFailed}
 use Rattle.pg_seq.specs.Settled.{AreLeftRightly}
-use Rattle.pg_run.specs.Cover.{Covers, IsReading}
-use Rattle.pg_run.specs.Holding.{Aim, Holds, format_of}
+use Rattle.pg_run.specs.Cover.{Covers, HasOpenFile}
+use Rattle.pg_run.specs.Holding.{Aim, HasPlan, format_of}
 use Rattle.pg_run.specs.declared.engine.Engine.{Engine}
 use Rattle.pg_run.specs.declared.fault.RunFault.{RunFault}
 use Rattle.pg_run.specs.declared.fault.RunFault.TheVariants.{Query, OutOfMemory, Sink, TooManyFiles, TooLong}
 use Rattle.pg_run.specs.declared.reader.FileReader.{FileReader}
-use Rattle.pg_run.specs.declared.reader.Came.{Came}
-use Rattle.pg_run.specs.declared.reader.Came.TheVariants.{More, End, Failure, Refused}
+use Rattle.pg_run.specs.declared.reader.ReadOutcome.{ReadOutcome}
+use Rattle.pg_run.specs.declared.reader.ReadOutcome.TheVariants.{More, End, Failure, Refused}
 
 -- how a file stands after a read
-abbrev pub ending_after : Came → Ending
+abbrev pub ending_after : ReadOutcome → Ending
 ending_after More = Left
 ending_after End = Ended
 ending_after Failure = Failed
@@ -39,7 +39,7 @@ CutCause LineTooLong aim given = IsTooLong (terminator aim.query) aim.setup.line
 CutCause FileTooLong aim given = IsTooLong (terminator aim.query) aim.setup.line given
 
 -- these bytes were read and not cut: there are some only where the cutter took no more
-abbrev pub IsLost : Came → Aim → List Given → List ℕ → Type 0
+abbrev pub IsLost : ReadOutcome → Aim → List Given → List ℕ → Type 0
 IsLost More aim given lost = lost ≡ []
 IsLost End aim given lost = lost ≡ []
 IsLost Failure aim given lost = lost ≡ []
@@ -62,18 +62,18 @@ pub record HasCut {A : Type 0} (reader : FileReader A) (aim : Aim) (given : List
   pub lost : List ℕ
   pub whole : fed.bytes ++ lost ≡ joined fed.taken ++ rest
   pub cause : IsLost reader.came aim given lost
-  pub reads : IsReading aim.query (format_of aim) name (joined fed.taken) rest (ending_after reader.came)
+  pub reads : HasOpenFile aim.query (format_of aim) name (joined fed.taken) rest (ending_after reader.came)
       (entries_of steps) (entries_given given)
 
 -- A file is open, and the engine has the blocks that were taken of it.
-pub record InFile {A : Type 0} (reader : FileReader A) (engine : Engine A) (aim : Aim) (given : List Given)
+pub record IsInsideFile {A : Type 0} (reader : FileReader A) (engine : Engine A) (aim : Aim) (given : List Given)
     (out : Stream) : Type 0 where
   pub steps : List Step
-  pub holds : Holds engine aim steps out
+  pub holds : HasPlan engine aim steps out
   pub cuts : HasCut reader aim given steps
 
 -- The reader read on: what was given before stands, and what was cut is cut.
-pub record ReadsOn {A F L : Type 0} (past : F → FilesPast) (list : F → L) (reader : FileReader A) (files : F)
+pub record HasReadOn {A F L : Type 0} (past : F → FilesPast) (list : F → L) (reader : FileReader A) (files : F)
     (reader' : FileReader A) (files' : F) : Type 0 where
   pub done : (past files').done ≡ (past files).done
   pub before : drop 1 (past files').given ≡ drop 1 (past files).given
@@ -82,37 +82,38 @@ pub record ReadsOn {A F L : Type 0} (past : F → FilesPast) (list : F → L) (r
       → HasCut reader' aim (past files').given steps
 
 -- A file is open, and once it has ended so the plan has all that is needed of what was given.
-pub record MayEnd {A : Type 0} (engine : Engine A) (aim : Aim) (failed : Bool) (given : List Given) (out : Stream)
+pub record MayEndFile {A : Type 0} (engine : Engine A) (aim : Aim) (failed : Bool) (given : List Given) (out : Stream)
     : Type 0 where
   pub steps : List Step
-  pub holds : Holds engine aim steps out
+  pub holds : HasPlan engine aim steps out
   pub running : is_open steps ≡ true
   pub number : opened steps ≡ files_given given
   pub covers : Covers aim.query (format_of aim) (entries_of (Ends failed ∷ steps)) (entries_given given)
 
 -- No file is open, and the plan has all that is needed of what was given.
-pub record Between {A : Type 0} (engine : Engine A) (aim : Aim) (given : List Given) (out : Stream) : Type 0 where
-  pub steps : List Step
-  pub holds : Holds engine aim steps out
-  pub closed : is_open steps ≡ false
-  pub number : opened steps ≡ files_given given
-  pub covers : Covers aim.query (format_of aim) (entries_of steps) (entries_given given)
+pub record IsBetweenFiles {A : Type 0} (engine : Engine A) (aim : Aim) (given : List Given) (out : Stream) : Type 0
+  where
+    pub steps : List Step
+    pub holds : HasPlan engine aim steps out
+    pub closed : is_open steps ≡ false
+    pub number : opened steps ≡ files_given given
+    pub covers : Covers aim.query (format_of aim) (entries_of steps) (entries_given given)
 
 -- all that was given was told, and nothing failed
-pub record IsTold (aim : Aim) (given : List Given) (told : Stream) : Type 0 where
+pub record AllIsTold (aim : Aim) (given : List Given) (told : Stream) : Type 0 where
   pub all : told.taken ≡ aim.told.taken ++ told_of aim.setup.silent given
   pub calm : told.failures ≡ aim.told.failures
 
 -- no file is open, and all was told
-abbrev pub Rests : {A : Type 0} → Engine A → Aim → List Given → (out told : Stream) → Type 0
-Rests engine aim given out told = Between engine aim given out × IsTold aim given told
+abbrev pub HasToldAll : {A : Type 0} → Engine A → Aim → List Given → (out told : Stream) → Type 0
+HasToldAll engine aim given out told = IsBetweenFiles engine aim given out × AllIsTold aim given told
 
 abbrev pub ending_of : Bool → Ending
 ending_of failed = if failed then Failed else Ended
 
 -- what the writer took is a beginning of the output of all that goes on from what was given
-abbrev pub IsSafe : Aim → List Given → List ℕ → Type 0
-IsSafe aim given taken = (files : List Entry) → GoesOn (entries_given given) files →
+abbrev pub IsCommonBeginning : Aim → List Given → List ℕ → Type 0
+IsCommonBeginning aim given taken = (files : List Entry) → IsContinuation (entries_given given) files →
     TakesPart (output aim.query (format_of aim) files) aim.out.taken taken
 
 -- why the reading of a file broke off
@@ -123,9 +124,10 @@ ReadCause Sink aim given out = aim.out.failures < out.failures
 ReadCause TooManyFiles aim given out = 2 ^ 32 - 1 < files_given given
 ReadCause TooLong aim given out = IsTooLong (terminator aim.query) aim.setup.line given
 
-pub record Breaks (aim : Aim) (given : List Given) (out : Stream) (fault : RunFault) : Type 0 where
+-- the reading of a file broke off, and the writer took a beginning of what any list of files gives that goes on
+pub record BreaksOffInFile (aim : Aim) (given : List Given) (out : Stream) (fault : RunFault) : Type 0 where
   pub cause : ReadCause fault aim given out
-  pub written : IsSafe aim given out.taken
+  pub written : IsCommonBeginning aim given out.taken
   pub lines : IsOfAFile fault → GotWholeLines aim.query (format_of aim) (entries_given given) aim.out out
   pub calm : NoneFailed fault aim.out out
 
@@ -138,9 +140,9 @@ StopCause TooManyFiles aim given out told = 2 ^ 32 - 1 < files_given given
 StopCause TooLong aim given out told = IsTooLong (terminator aim.query) aim.setup.line given
 
 -- it broke off, and both writers took beginnings
-pub record Stops (aim : Aim) (given : List Given) (out told : Stream) (fault : RunFault) : Type 0 where
+pub record BreaksOffTold (aim : Aim) (given : List Given) (out told : Stream) (fault : RunFault) : Type 0 where
   pub cause : StopCause fault aim given out told
-  pub written : IsSafe aim given out.taken
+  pub written : IsCommonBeginning aim given out.taken
   pub lines : IsOfAFile fault → GotWholeLines aim.query (format_of aim) (entries_given given) aim.out out
   pub faults : TakesPart (told_of aim.setup.silent given) aim.told.taken told.taken
   pub calm : NoneFailed fault aim.out out × NoneFailed fault aim.told told
@@ -151,21 +153,21 @@ pub record AreReadRightly (aim : Aim) (given : List Given) : Type 0 where
   pub quiet : is_quiet (format_of aim).mode ≡ true → EndsAtSelected aim.query (entries_given given)
 
 -- it broke off, behind files that were read as far as was needed
-abbrev pub StopsBehind : Aim → List Given → (out told : Stream) → RunFault → Type 0
-StopsBehind aim given out told fault = Stops aim given out told fault × AreReadRightly aim given
+abbrev pub BreaksOffBehind : Aim → List Given → (out told : Stream) → RunFault → Type 0
+BreaksOffBehind aim given out told fault = BreaksOffTold aim given out told fault × AreReadRightly aim given
 
 -- nothing more was given, or one more name or file
-abbrev pub Went : List Given → List Given → Type 0
-Went given given' = (given' ≡ given) ⊎ (drop 1 given' ≡ given)
+abbrev pub GaveOneAtMost : List Given → List Given → Type 0
+GaveOneAtMost given given' = (given' ≡ given) ⊎ (drop 1 given' ≡ given)
 
 -- one more name or file was given, or there is no more
-abbrev pub Goes : Bool → FilesPast → FilesPast → Type 0
-Goes true past past' = (drop 1 past'.given ≡ past.given) × (past'.done ≡ past.done)
-Goes false past past' = (past'.given ≡ past.given) × (past'.done ≡ true)
+abbrev pub GivesNext : Bool → FilesPast → FilesPast → Type 0
+GivesNext true past past' = (drop 1 past'.given ≡ past.given) × (past'.done ≡ past.done)
+GivesNext false past past' = (past'.given ≡ past.given) × (past'.done ≡ true)
 
 -- all that is needed was given, searched and told
 pub record IsDone {A : Type 0} (engine : Engine A) (aim : Aim) (finds : List (List ℕ) → Type 0) (past : FilesPast)
     (out told : Stream) : Type 0 where
-  pub rests : Rests engine aim past.given out told
+  pub rests : HasToldAll engine aim past.given out told
   pub asked : AsksToTheEnd aim.query aim.setup finds past
   pub quiet : is_quiet (format_of aim).mode ≡ true → EndsAtSelected aim.query (entries_given past.given)

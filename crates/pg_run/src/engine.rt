@@ -191,12 +191,12 @@ impl<A: Allocator + Copy> Engine<A> {
     ghost use Rattle.pg_rows.specs.Enough.{is_enough};
     ghost use Rattle.pg_seq.specs.Plan.{Step, Opens, Announces, Ends, Misses, entries_of, is_open};
     ghost use Rattle.pg_base.specs.Sink.{Stream};
-    ghost use Rattle.pg_run.specs.Holding.{Aim, Holds, IsReady, IsWritten, Broke, format_of};
+    ghost use Rattle.pg_run.specs.Holding.{Aim, HasPlan, IsReady, AllIsWritten, BreaksOffInSearch, format_of};
 
     /// An engine that has no file yet.
     pub(crate) fn new(alloc: A, query: Query<A>, setup: Setup) -> Result<Engine<A>, AllocError>
         ensures { IfOk result (λ engine. (aim : Aim) → HasItsTrees aim.query → aim.query.text ≡ query.text →
-            aim.setup ≡ setup → Holds engine aim [] aim.out) }
+            aim.setup ≡ setup → HasPlan engine aim [] aim.out) }
     {
         let query = Arc::new(alloc, query)?;
         let pace = Pace::new();
@@ -228,7 +228,7 @@ impl<A: Allocator + Copy> Engine<A> {
         ensures none { self.new.round.items ≡ [] }
         ensures ok { (aim : Aim) → (steps : List Step) → (out : Stream) →
             IsReady self.old aim steps out (Announces block) →
-            OnOk result (Holds self.new aim (Announces block ∷ steps) out) }
+            OnOk result (HasPlan self.new aim (Announces block ∷ steps) out) }
     {
         let block = Arc::new(self.alloc, block)?;
         let searched = Arc::try_clone(&block)?;
@@ -250,7 +250,7 @@ impl<A: Allocator + Copy> Engine<A> {
             × IsReady self.old aim steps out (Announces block) }
         ensures { (aim : Aim) → (steps : List Step) → (out : Stream) →
             IsReady self.old aim steps out (Announces block) →
-            OnOk result (Holds self.new aim (Announces block ∷ steps) out) }
+            OnOk result (HasPlan self.new aim (Announces block ∷ steps) out) }
     {
         if self.reserve.is_none() {
             self.reserve = Vec::with_capacity(self.alloc, RESERVE).ok();
@@ -267,10 +267,10 @@ impl<A: Allocator + Copy> Engine<A> {
         ensures kept { (self.new.spread ≡ self.old.spread) × (self.new.setup ≡ self.old.setup) }
         ensures none { self.new.round.items ≡ [] }
         ensures outcome { (aim : Aim) → (steps : List Step) →
-            Holds self.old aim steps (W.stream out.old) →
+            HasPlan self.old aim steps (W.stream out.old) →
             MatchResult result
-            (λ _. Holds self.new aim steps (W.stream out.new) × IsWritten aim steps (W.stream out.new))
-            (Broke aim steps (W.stream out.new)) }
+            (λ _. HasPlan self.new aim steps (W.stream out.new) × AllIsWritten aim steps (W.stream out.new))
+            (BreaksOffInSearch aim steps (W.stream out.new)) }
     {
         self.sequencer.drain(out)?;
         self.written = self.files;
@@ -280,9 +280,9 @@ impl<A: Allocator + Copy> Engine<A> {
     /// Has the writer send on the rows that it holds back, where that is due.
     pub(crate) fn send_on<W: Sink>(&self, is_due: bool, out: &mut W) -> Result<(), RunFault>
         ensures { (aim : Aim) → (steps : List Step) →
-            Holds self.now aim steps (W.stream out.old) →
-            MatchResult result (λ _. Holds self.now aim steps (W.stream out.new))
-            (Broke aim steps (W.stream out.new)) }
+            HasPlan self.now aim steps (W.stream out.old) →
+            MatchResult result (λ _. HasPlan self.now aim steps (W.stream out.new))
+            (BreaksOffInSearch aim steps (W.stream out.new)) }
     {
         if !is_due {
             return Ok(());
@@ -307,12 +307,12 @@ impl<A: Allocator + Copy> Engine<A> {
             × IsReady self.old aim steps (W.stream out.old) (Announces block) }
         ensures outcome { (aim : Aim) → (steps : List Step) →
             IsReady self.old aim steps (W.stream out.old) (Announces block) →
-            MatchResult result (λ _. Holds self.new aim (Announces block ∷ steps) (W.stream out.new))
-            (Broke aim (Announces block ∷ steps) (W.stream out.new)) }
+            MatchResult result (λ _. HasPlan self.new aim (Announces block ∷ steps) (W.stream out.new))
+            (BreaksOffInSearch aim (Announces block ∷ steps) (W.stream out.new)) }
         ensures written { (aim : Aim) → (steps : List Step) →
             IsReady self.old aim steps (W.stream out.old) (Announces block) →
             self.old.spread ≡ false →
-            OnOk result (IsWritten aim (Announces block ∷ steps) (W.stream out.new)) }
+            OnOk result (AllIsWritten aim (Announces block ∷ steps) (W.stream out.new)) }
     {
         if self.spread {
             self.add(block)?;
@@ -344,16 +344,16 @@ impl<A: Allocator + Copy> Engine<A> {
     pub(crate) fn take_spare(&mut self) -> Option<Vec<u8, A>>
         ensures kept { (self.new.spread ≡ self.old.spread) × (self.new.setup ≡ self.old.setup) }
         ensures round { self.new.round ≡ self.old.round }
-        ensures holds { (aim : Aim) → (steps : List Step) → (out : Stream) → Holds self.old aim steps out →
-            Holds self.new aim steps out }
+        ensures holds { (aim : Aim) → (steps : List Step) → (out : Stream) → HasPlan self.old aim steps out →
+            HasPlan self.new aim steps out }
     {
         self.spare.take()
     }
 
     /// Decides anew whether blocks are to wait for a round, unless some wait.
     pub(crate) fn choose(&mut self)
-        ensures holds { (aim : Aim) → (steps : List Step) → (out : Stream) → Holds self.old aim steps out →
-            Holds self.new aim steps out }
+        ensures holds { (aim : Aim) → (steps : List Step) → (out : Stream) → HasPlan self.old aim steps out →
+            HasPlan self.new aim steps out }
     {
         if self.round.is_empty() {
             self.spread = is_spread(&self.query, &self.setup, self.pace);
@@ -389,7 +389,7 @@ impl<A: Allocator + Copy> Engine<A> {
             × IsReady self.old aim steps out (Opens name.now) }
         ensures ok { (aim : Aim) → (steps : List Step) → (out : Stream) →
             IsReady self.old aim steps out (Opens name.now) →
-            OnOk result (Holds self.new aim (Opens name.now ∷ steps) out) }
+            OnOk result (HasPlan self.new aim (Opens name.now ∷ steps) out) }
         ensures cutter { (aim : Aim) → (steps : List Step) → (out : Stream) →
             IsReady self.old aim steps out (Opens name.now) → IfOk result (λ cutter. CutterStands cutter
             (unfed (terminator aim.query) self.old.files aim.setup.block aim.setup.line)) }
@@ -413,7 +413,7 @@ impl<A: Allocator + Copy> Engine<A> {
             × IsReady self.old aim steps out (Misses name.now) }
         ensures { (aim : Aim) → (steps : List Step) → (out : Stream) →
             IsReady self.old aim steps out (Misses name.now) →
-            OnOk result (Holds self.new aim (Misses name.now ∷ steps) out) }
+            OnOk result (HasPlan self.new aim (Misses name.now ∷ steps) out) }
     {
         self.sequencer.miss(name)
     }
@@ -422,7 +422,7 @@ impl<A: Allocator + Copy> Engine<A> {
     pub(crate) fn end(&mut self, failed: bool)
         requires { (aim : Aim) × (steps : List Step) × (out : Stream) × IsReady self.old aim steps out (Ends failed) }
         ensures { (aim : Aim) → (steps : List Step) → (out : Stream) → IsReady self.old aim steps out (Ends failed) →
-            Holds self.new aim (Ends failed ∷ steps) out }
+            HasPlan self.new aim (Ends failed ∷ steps) out }
     {
         self.sequencer.end(failed);
     }
@@ -441,7 +441,7 @@ impl<A: Allocator + Copy> Engine<A> {
 
     /// Whether enough was read.
     pub(crate) fn enough(&self) -> bool
-        ensures { (aim : Aim) → (steps : List Step) → (out : Stream) → Holds self.now aim steps out →
+        ensures { (aim : Aim) → (steps : List Step) → (out : Stream) → HasPlan self.now aim steps out →
             result ≡ is_enough aim.query (format_of aim) (entries_of steps) }
     {
         !self.spread && self.sequencer.enough()
@@ -452,7 +452,8 @@ impl<A: Allocator + Copy + Send + Sync> Engine<A> {
     ghost use Rattle.pg_lines.specs.Cutter.{Stands as CutterStands, IsDrained, unfed};
     ghost use Rattle.pg_rows.specs.Enough.{is_enough};
     ghost use Rattle.pg_seq.specs.Plan.{Step, Opens, Announces, Ends, Misses, entries_of, is_open};
-    ghost use Rattle.pg_run.specs.Holding.{Aim, Holds, IsReady, IsWritten, IsWrittenFirst, Broke, format_of};
+    ghost use Rattle.pg_run.specs.Holding.{Aim, HasPlan, IsReady, AllIsWritten, IsWrittenFirst, BreaksOffInSearch};
+    ghost use Rattle.pg_run.specs.Holding.{format_of};
 
     /// Searches the blocks that wait, by several threads where that pays, and writes all that may be written. Meanwhile
     /// the reader reads on.
@@ -472,16 +473,16 @@ impl<A: Allocator + Copy + Send + Sync> Engine<A> {
     ) -> Result<(), RunFault>
         requires ready { D.ready reader.old from.old }
         requires holds { (aim : Aim) × (steps : List Step)
-            × Holds self.old aim steps (W.stream out.old) }
+            × HasPlan self.old aim steps (W.stream out.old) }
         ensures ready { D.ready reader.new from.new }
         ensures read { (r : D) → (f : X) → D.reaches r f reader.old from.old → D.reaches r f reader.new from.new }
         ensures kept { (self.new.spread ≡ self.old.spread) × (self.new.setup ≡ self.old.setup) }
         ensures none { OnOk result (self.new.round.items ≡ []) }
         ensures outcome { (aim : Aim) → (steps : List Step) →
-            Holds self.old aim steps (W.stream out.old) →
+            HasPlan self.old aim steps (W.stream out.old) →
             MatchResult result
-            (λ _. Holds self.new aim steps (W.stream out.new) × IsWritten aim steps (W.stream out.new))
-            (Broke aim steps (W.stream out.new)) }
+            (λ _. HasPlan self.new aim steps (W.stream out.new) × AllIsWritten aim steps (W.stream out.new))
+            (BreaksOffInSearch aim steps (W.stream out.new)) }
     {
         self.reserve = None;
         let bytes = self.waiting();
@@ -522,14 +523,14 @@ impl<A: Allocator + Copy + Send + Sync> Engine<A> {
         out: &mut W,
     ) -> Result<(), RunFault>
         requires holds { (aim : Aim) × (steps : List Step)
-            × Holds self.old aim steps (W.stream out.old) }
+            × HasPlan self.old aim steps (W.stream out.old) }
         ensures kept { (self.new.spread ≡ self.old.spread) × (self.new.setup ≡ self.old.setup) }
         ensures none { OnOk result (self.new.round.items ≡ []) }
         ensures outcome { (aim : Aim) → (steps : List Step) →
-            Holds self.old aim steps (W.stream out.old) →
+            HasPlan self.old aim steps (W.stream out.old) →
             MatchResult result
-            (λ _. Holds self.new aim steps (W.stream out.new) × IsWritten aim steps (W.stream out.new))
-            (Broke aim steps (W.stream out.new)) }
+            (λ _. HasPlan self.new aim steps (W.stream out.new) × AllIsWritten aim steps (W.stream out.new))
+            (BreaksOffInSearch aim steps (W.stream out.new)) }
     {
         if self.round.is_empty() {
             return self.drain(out);
@@ -545,12 +546,12 @@ impl<A: Allocator + Copy + Send + Sync> Engine<A> {
         out: &mut W,
     ) -> Result<(), RunFault>
         requires holds { (aim : Aim) × (steps : List Step)
-            × Holds self.old aim steps (W.stream out.old) }
+            × HasPlan self.old aim steps (W.stream out.old) }
         ensures room { OnOk result (self.new.spread ≡ true → length self.new.round.items < self.new.setup.round) }
         ensures outcome { (aim : Aim) → (steps : List Step) →
-            Holds self.old aim steps (W.stream out.old) →
-            MatchResult result (λ _. Holds self.new aim steps (W.stream out.new))
-            (Broke aim steps (W.stream out.new)) }
+            HasPlan self.old aim steps (W.stream out.old) →
+            MatchResult result (λ _. HasPlan self.new aim steps (W.stream out.new))
+            (BreaksOffInSearch aim steps (W.stream out.new)) }
     {
         if !self.is_full() {
             return Ok(());
@@ -566,11 +567,11 @@ impl<A: Allocator + Copy + Send + Sync> Engine<A> {
         out: &mut W,
     ) -> Result<(), RunFault>
         requires holds { (aim : Aim) × (steps : List Step)
-            × Holds self.old aim steps (W.stream out.old) }
+            × HasPlan self.old aim steps (W.stream out.old) }
         ensures { (aim : Aim) → (steps : List Step) →
-            Holds self.old aim steps (W.stream out.old) →
-            MatchResult result (λ _. Holds self.new aim steps (W.stream out.new))
-            (Broke aim steps (W.stream out.new)) }
+            HasPlan self.old aim steps (W.stream out.old) →
+            MatchResult result (λ _. HasPlan self.new aim steps (W.stream out.new))
+            (BreaksOffInSearch aim steps (W.stream out.new)) }
     {
         if !self.has_waiting() {
             return Ok(());
@@ -587,11 +588,11 @@ impl<A: Allocator + Copy + Send + Sync> Engine<A> {
         out: &mut W,
     ) -> Result<(), RunFault>
         requires holds { (aim : Aim) × (steps : List Step)
-            × Holds self.old aim steps (W.stream out.old) }
+            × HasPlan self.old aim steps (W.stream out.old) }
         ensures { (aim : Aim) → (steps : List Step) →
-            Holds self.old aim steps (W.stream out.old) →
-            MatchResult result (λ _. Holds self.new aim steps (W.stream out.new))
-            (Broke aim steps (W.stream out.new)) }
+            HasPlan self.old aim steps (W.stream out.old) →
+            MatchResult result (λ _. HasPlan self.new aim steps (W.stream out.new))
+            (BreaksOffInSearch aim steps (W.stream out.new)) }
     {
         if self.has_waiting() && !self.has_many_empty() {
             return Ok(());
@@ -609,9 +610,9 @@ impl<A: Allocator + Copy + Send + Sync> Engine<A> {
         out: &mut W,
     ) -> RunFault
         requires holds { (aim : Aim) × (steps : List Step)
-            × Holds self.old aim steps (W.stream out.old) }
+            × HasPlan self.old aim steps (W.stream out.old) }
         ensures { (aim : Aim) → (steps : List Step) →
-            Holds self.old aim steps (W.stream out.old) →
+            HasPlan self.old aim steps (W.stream out.old) →
             IsWrittenFirst aim steps (W.stream out.new) fault result }
     {
         match self.flush(rt, gate, out) {
@@ -628,13 +629,13 @@ impl<A: Allocator + Copy + Send + Sync> Engine<A> {
         out: &mut W,
     ) -> Result<u8, RunFault>
         requires holds { (aim : Aim) × (steps : List Step)
-            × Holds self.old aim steps (W.stream out.old) × (is_open steps ≡ false) }
+            × HasPlan self.old aim steps (W.stream out.old) × (is_open steps ≡ false) }
         ensures { (aim : Aim) → (steps : List Step) →
-            Holds self.old aim steps (W.stream out.old) →
-            MatchResult result (λ answer. IsWritten aim steps (W.stream out.new)
+            HasPlan self.old aim steps (W.stream out.old) →
+            MatchResult result (λ answer. AllIsWritten aim steps (W.stream out.new)
             × (answer ≡ status aim.query (format_of aim) (entries_of steps))
             × ((W.stream out.new).failures ≡ aim.out.failures))
-            (Broke aim steps (W.stream out.new)) }
+            (BreaksOffInSearch aim steps (W.stream out.new)) }
     {
         self.flush(rt, gate, out)?;
         Ok(self.sequencer.status().unwrap())

@@ -11,7 +11,7 @@ use std::mem;
 
 /// What the last read came to.
 #[derive(Clone, Copy, PartialEq, Eq)]
-pub(crate) enum Came {
+pub(crate) enum ReadOutcome {
     /// More bytes, or nothing was read yet.
     More,
     /// The file's end.
@@ -38,7 +38,7 @@ pub(crate) struct FileReader<A: Allocator + Copy = Global> {
     pub(crate) cutter: Cutter<A>,
     /// The memory of a block that is done with, for the next one.
     spare: Option<Vec<u8, A>>,
-    pub(crate) came: Came,
+    pub(crate) came: ReadOutcome,
     /// So many more reads may be made beside a search.
     pub(crate) ahead: u32,
     /// What the first reads of each file are read into: it is cleared once a run, and the cutter's own room, which is
@@ -79,8 +79,8 @@ fn buffer_of<A: Allocator + Copy>(alloc: A, len: usize) -> Vec<u8, A> {
 impl<A: Allocator + Copy> FileReader<A> {
     ghost use Rattle.pg_seq.specs.Plan.{Step};
     ghost use Rattle.pg_run.specs.Holding.{Aim};
-    ghost use Rattle.pg_run.specs.Reading.{HasCut, ReadsOn};
-    ghost use Rattle.pg_run.specs.declared.reader.Came.TheVariants.{More};
+    ghost use Rattle.pg_run.specs.Reading.{HasCut, HasReadOn};
+    ghost use Rattle.pg_run.specs.declared.reader.ReadOutcome.TheVariants.{More};
 
     /// A reader of no file, for blocks of so many bytes.
     pub(crate) fn new(alloc: A, block: u32) -> FileReader<A> {
@@ -88,7 +88,7 @@ impl<A: Allocator + Copy> FileReader<A> {
             alloc,
             cutter: no_cutter(alloc),
             spare: None,
-            came: Came::End,
+            came: ReadOutcome::End,
             ahead: 0,
             buffer: buffer_of(alloc, (block as usize).saturating_add(LINE_ROOM)),
             copied_reads: 0,
@@ -111,7 +111,7 @@ impl<A: Allocator + Copy> FileReader<A> {
         ensures came { self.new.came ≡ More }
     {
         self.cutter = cutter;
-        self.came = Came::More;
+        self.came = ReadOutcome::More;
         self.copied_reads = COPIED_READS;
     }
 
@@ -137,18 +137,18 @@ impl<A: Allocator + Copy> FileReader<A> {
         requires room { 0 < vec_len self.old.buffer }
         requires more { self.old.came ≡ More }
         requires cut { (aim : Aim) × (steps : List Step) × HasCut self.old aim (F.past files.old).given steps }
-        ensures { ReadsOn F.past F.list self.old files.old self.new files.new }
+        ensures { HasReadOn F.past F.list self.old files.old self.new files.new }
     {
         let Ok(len) = files.read(self.buffer.as_mut_slice()) else {
-            self.came = Came::Failure;
+            self.came = ReadOutcome::Failure;
             return;
         };
         if len == 0 {
-            self.came = Came::End;
+            self.came = ReadOutcome::End;
             return;
         }
         if let Err(why) = self.cutter.feed(&self.buffer[..len]) {
-            self.came = Came::Refused(why);
+            self.came = ReadOutcome::Refused(why);
         }
     }
 
@@ -156,22 +156,22 @@ impl<A: Allocator + Copy> FileReader<A> {
     fn read_in_place<F: Files>(&mut self, files: &mut F)
         requires more { self.old.came ≡ More }
         requires cut { (aim : Aim) × (steps : List Step) × HasCut self.old aim (F.past files.old).given steps }
-        ensures { ReadsOn F.past F.list self.old files.old self.new files.new }
+        ensures { HasReadOn F.past F.list self.old files.old self.new files.new }
     {
         if self.make_room().is_err() {
-            self.came = Came::Refused(CutFault::OutOfMemory);
+            self.came = ReadOutcome::Refused(CutFault::OutOfMemory);
             return;
         }
         let Ok(count) = files.read(self.cutter.room()) else {
-            self.came = Came::Failure;
+            self.came = ReadOutcome::Failure;
             return;
         };
         if count == 0 {
-            self.came = Came::End;
+            self.came = ReadOutcome::End;
             return;
         }
         if let Err(fault) = self.cutter.fill(count) {
-            self.came = Came::Refused(fault);
+            self.came = ReadOutcome::Refused(fault);
         }
     }
 
@@ -179,7 +179,7 @@ impl<A: Allocator + Copy> FileReader<A> {
     pub(crate) fn read<F: Files>(&mut self, files: &mut F)
         requires more { self.old.came ≡ More }
         requires cut { (aim : Aim) × (steps : List Step) × HasCut self.old aim (F.past files.old).given steps }
-        ensures { ReadsOn F.past F.list self.old files.old self.new files.new }
+        ensures { HasReadOn F.past F.list self.old files.old self.new files.new }
     {
         if self.copied_reads == 0 || self.buffer.is_empty() {
             self.read_in_place(files);
@@ -232,14 +232,14 @@ impl<A: Allocator + Copy, F: Files> Reader<F> for FileReader<A> {
     ghost use Rattle.std.specs.Prelude.{List};
     ghost use Rattle.pg_seq.specs.Plan.{Step};
     ghost use Rattle.pg_run.specs.Holding.{Aim};
-    ghost use Rattle.pg_run.specs.Reading.{HasCut, ReadsOn};
+    ghost use Rattle.pg_run.specs.Reading.{HasCut, HasReadOn};
 
     ghost ready = { λ reader files. (aim : Aim) × (steps : List Step) × HasCut reader aim (F.past files).given steps };
 
-    ghost reaches = { λ reader files reader' files'. ReadsOn F.past F.list reader files reader' files' };
+    ghost reaches = { λ reader files reader' files'. HasReadOn F.past F.list reader files reader' files' };
 
     fn step(&mut self, files: &mut F) -> bool {
-        if self.ahead == 0 || self.came != Came::More {
+        if self.ahead == 0 || self.came != ReadOutcome::More {
             return false;
         }
         if self.make_room().is_err() {

@@ -7,12 +7,13 @@ ghost use Rattle.pg_files.specs.Given.{Given, newest_name};
 ghost use Rattle.pg_base.specs.Sink.{Stream};
 ghost use Rattle.pg_run.specs.Told.{faults_of, fault_line};
 ghost use Rattle.pg_run.specs.Holding.{Aim};
-ghost use Rattle.pg_run.specs.Reading.{InFile, MayEnd, Between, Breaks, ending_of, ending_after};
-ghost use Rattle.pg_run.specs.declared.reader.Came.TheVariants.{More};
+ghost use Rattle.pg_run.specs.Reading.{IsInsideFile, MayEndFile, IsBetweenFiles, BreaksOffInFile, ending_of};
+ghost use Rattle.pg_run.specs.Reading.{ending_after};
+ghost use Rattle.pg_run.specs.declared.reader.ReadOutcome.TheVariants.{More};
 
 use crate::engine::{Engine, is_endless};
 use crate::fault::RunFault;
-use crate::reader::{Came, FileReader};
+use crate::reader::{FileReader, ReadOutcome};
 use pg_base::Sink;
 use pg_files::Files;
 use pg_round::Gate;
@@ -37,16 +38,16 @@ fn make_room<
     files: &mut F,
     out: &mut W,
 ) -> Result<(), RunFault>
-    requires in_file { (aim : Aim) × InFile reader.old engine.old aim (F.past files.old).given
+    requires in_file { (aim : Aim) × IsInsideFile reader.old engine.old aim (F.past files.old).given
         (W.stream out.old) }
     ensures done { (F.past files.new).done ≡ (F.past files.old).done }
     ensures before { drop 1 (F.past files.new).given ≡ drop 1 (F.past files.old).given }
     ensures same_list { F.list files.new ≡ F.list files.old }
     ensures room { OnOk result (engine.new.spread ≡ true → length engine.new.round.items < engine.new.setup.round) }
     ensures outcome { (aim : Aim) →
-        InFile reader.old engine.old aim (F.past files.old).given (W.stream out.old) →
-        MatchResult result (λ _. InFile reader.new engine.new aim (F.past files.new).given
-        (W.stream out.new)) (Breaks aim (F.past files.new).given (W.stream out.new)) }
+        IsInsideFile reader.old engine.old aim (F.past files.old).given (W.stream out.old) →
+        MatchResult result (λ _. IsInsideFile reader.new engine.new aim (F.past files.new).given
+        (W.stream out.new)) (BreaksOffInFile aim (F.past files.new).given (W.stream out.new)) }
 {
     if !engine.is_full() {
         return Ok(());
@@ -75,7 +76,7 @@ fn search_ready<
     files: &mut F,
     out: &mut W,
 ) -> Result<(), RunFault>
-    requires in_file { (aim : Aim) × InFile reader.old engine.old aim (F.past files.old).given
+    requires in_file { (aim : Aim) × IsInsideFile reader.old engine.old aim (F.past files.old).given
         (W.stream out.old) }
     ensures done { (F.past files.new).done ≡ (F.past files.old).done }
     ensures before { drop 1 (F.past files.new).given ≡ drop 1 (F.past files.old).given }
@@ -83,9 +84,9 @@ fn search_ready<
     ensures drained { OnOk result (IsDrained reader.new.cutter) }
     ensures room { OnOk result (engine.new.spread ≡ true → length engine.new.round.items < engine.new.setup.round) }
     ensures outcome { (aim : Aim) →
-        InFile reader.old engine.old aim (F.past files.old).given (W.stream out.old) →
-        MatchResult result (λ _. InFile reader.new engine.new aim (F.past files.new).given
-        (W.stream out.new)) (Breaks aim (F.past files.new).given (W.stream out.new)) }
+        IsInsideFile reader.old engine.old aim (F.past files.old).given (W.stream out.old) →
+        MatchResult result (λ _. IsInsideFile reader.new engine.new aim (F.past files.new).given
+        (W.stream out.new)) (BreaksOffInFile aim (F.past files.new).given (W.stream out.new)) }
 {
     for _ in rt.forever() {
         make_room(rt, gate, reader, engine, files, out)?;
@@ -113,13 +114,13 @@ fn search_lines<
 ) -> Result<(), RunFault>
     requires drained { IsDrained reader.old.cutter }
     requires in_file { (aim : Aim) × (given : List Given)
-        × InFile reader.old engine.old aim given (W.stream out.old) }
+        × IsInsideFile reader.old engine.old aim given (W.stream out.old) }
     ensures came { reader.new.came ≡ reader.old.came }
     ensures drained { IsDrained reader.new.cutter }
     ensures outcome { (aim : Aim) → (given : List Given) →
-        InFile reader.old engine.old aim given (W.stream out.old) →
-        MatchResult result (λ _. InFile reader.new engine.new aim given (W.stream out.new))
-        (Breaks aim given (W.stream out.new)) }
+        IsInsideFile reader.old engine.old aim given (W.stream out.old) →
+        MatchResult result (λ _. IsInsideFile reader.new engine.new aim given (W.stream out.new))
+        (BreaksOffInFile aim given (W.stream out.new)) }
 {
     engine.make_room(rt, gate, out)?;
     match reader.take_lines() {
@@ -156,12 +157,12 @@ fn settle<
 ) -> Result<(), RunFault>
     requires drained { IsDrained reader.old.cutter }
     requires in_file { (aim : Aim) × (given : List Given)
-        × InFile reader.old engine.old aim given (W.stream out.old) }
+        × IsInsideFile reader.old engine.old aim given (W.stream out.old) }
     ensures came { reader.new.came ≡ reader.old.came }
     ensures outcome { (aim : Aim) → (given : List Given) →
-        InFile reader.old engine.old aim given (W.stream out.old) →
-        MatchResult result (λ _. InFile reader.new engine.new aim given (W.stream out.new))
-        (Breaks aim given (W.stream out.new)) }
+        IsInsideFile reader.old engine.old aim given (W.stream out.old) →
+        MatchResult result (λ _. IsInsideFile reader.new engine.new aim given (W.stream out.new))
+        (BreaksOffInFile aim given (W.stream out.new)) }
 {
     if engine.enough() || !is_due(reader, engine, files) {
         return Ok(());
@@ -177,7 +178,7 @@ fn settle<
 fn recycle<A: Allocator + Copy>(reader: &mut FileReader<A>, engine: &mut Engine<A>)
     ensures came { reader.new.came ≡ reader.old.came }
     ensures in_file { (aim : Aim) → (given : List Given) → (out : Stream) →
-        InFile reader.old engine.old aim given out → InFile reader.new engine.new aim given out }
+        IsInsideFile reader.old engine.old aim given out → IsInsideFile reader.new engine.new aim given out }
 {
     reader.give_back(engine.take_spare());
     engine.choose();
@@ -199,7 +200,7 @@ fn read_once<
     out: &mut W,
 ) -> Result<(), RunFault>
     requires more { reader.old.came ≡ More }
-    requires in_file { (aim : Aim) × InFile reader.old engine.old aim (F.past files.old).given
+    requires in_file { (aim : Aim) × IsInsideFile reader.old engine.old aim (F.past files.old).given
         (W.stream out.old) }
     ensures done { (F.past files.new).done ≡ (F.past files.old).done }
     ensures before { drop 1 (F.past files.new).given ≡ drop 1 (F.past files.old).given }
@@ -207,9 +208,9 @@ fn read_once<
     ensures drained { OnOk result (IsDrained reader.new.cutter) }
     ensures room { OnOk result (engine.new.spread ≡ true → length engine.new.round.items < engine.new.setup.round) }
     ensures outcome { (aim : Aim) →
-        InFile reader.old engine.old aim (F.past files.old).given (W.stream out.old) →
-        MatchResult result (λ _. InFile reader.new engine.new aim (F.past files.new).given
-        (W.stream out.new)) (Breaks aim (F.past files.new).given (W.stream out.new)) }
+        IsInsideFile reader.old engine.old aim (F.past files.old).given (W.stream out.old) →
+        MatchResult result (λ _. IsInsideFile reader.new engine.new aim (F.past files.new).given
+        (W.stream out.new)) (BreaksOffInFile aim (F.past files.new).given (W.stream out.new)) }
 {
     recycle(reader, engine);
     reader.read(files);
@@ -229,11 +230,11 @@ fn search_last<R: Clock, A: Allocator + Copy + Send + Sync, W: Sink, G: Gate>(
     requires ended { ending_after reader.old.came ≡ ending_of failed }
     requires room { engine.old.spread ≡ true → length engine.old.round.items < engine.old.setup.round }
     requires in_file { (aim : Aim) × (given : List Given) × IsDrained reader.old.cutter
-        × InFile reader.old engine.old aim given (W.stream out.old) }
+        × IsInsideFile reader.old engine.old aim given (W.stream out.old) }
     ensures { (aim : Aim) → (given : List Given) →
-        InFile reader.old engine.old aim given (W.stream out.old) →
-        MatchResult result (λ _. MayEnd engine.new aim failed given (W.stream out.new))
-        (Breaks aim given (W.stream out.new)) }
+        IsInsideFile reader.old engine.old aim given (W.stream out.old) →
+        MatchResult result (λ _. MayEndFile engine.new aim failed given (W.stream out.new))
+        (BreaksOffInFile aim given (W.stream out.new)) }
 {
     match reader.finish() {
         Some(block) => engine.search(rt, gate, block, out),
@@ -250,12 +251,12 @@ fn end_file<
     G: Gate + Sync,
 >(rt: &R, gate: &G, engine: &mut Engine<A>, failed: bool, out: &mut W) -> Result<bool, RunFault>
     requires may_end { (aim : Aim) × (given : List Given)
-        × MayEnd engine.old aim failed given (W.stream out.old) }
+        × MayEndFile engine.old aim failed given (W.stream out.old) }
     ensures failed { IfOk result (λ answer. answer ≡ failed) }
     ensures outcome { (aim : Aim) → (given : List Given) →
-        MayEnd engine.old aim failed given (W.stream out.old) →
-        MatchResult result (λ _. Between engine.new aim given (W.stream out.new))
-        (Breaks aim given (W.stream out.new)) }
+        MayEndFile engine.old aim failed given (W.stream out.old) →
+        MatchResult result (λ _. IsBetweenFiles engine.new aim given (W.stream out.new))
+        (BreaksOffInFile aim given (W.stream out.new)) }
 {
     engine.end(failed);
     engine.flush_ended(rt, gate, out)?;
@@ -281,12 +282,12 @@ fn finish_file<
     requires ended { ending_after reader.old.came ≡ ending_of failed }
     requires room { engine.old.spread ≡ true → length engine.old.round.items < engine.old.setup.round }
     requires in_file { (aim : Aim) × (given : List Given) × IsDrained reader.old.cutter
-        × InFile reader.old engine.old aim given (W.stream out.old) }
+        × IsInsideFile reader.old engine.old aim given (W.stream out.old) }
     ensures failed { IfOk result (λ answer. answer ≡ failed) }
     ensures outcome { (aim : Aim) → (given : List Given) →
-        InFile reader.old engine.old aim given (W.stream out.old) →
-        MatchResult result (λ _. Between engine.new aim given (W.stream out.new))
-        (Breaks aim given (W.stream out.new)) }
+        IsInsideFile reader.old engine.old aim given (W.stream out.old) →
+        MatchResult result (λ _. IsBetweenFiles engine.new aim given (W.stream out.new))
+        (BreaksOffInFile aim given (W.stream out.new)) }
 {
     search_last(rt, gate, reader, engine, failed, out)?;
     end_file(rt, gate, engine, failed, out)
@@ -310,7 +311,7 @@ pub(crate) fn read_file<
 ) -> Result<bool, RunFault>
     requires more { reader.old.came ≡ More }
     requires drained { IsDrained reader.old.cutter }
-    requires in_file { (aim : Aim) × InFile reader.old engine.old aim (F.past files.old).given
+    requires in_file { (aim : Aim) × IsInsideFile reader.old engine.old aim (F.past files.old).given
         (W.stream out.old) }
     ensures done { (F.past files.new).done ≡ (F.past files.old).done }
     ensures before { drop 1 (F.past files.new).given ≡ drop 1 (F.past files.old).given }
@@ -318,9 +319,9 @@ pub(crate) fn read_file<
     ensures told { IfOk result (λ failed. faults_of (F.past files.new).given ≡ faults_of (F.past files.old).given
         ++ when failed (fault_line (newest_name (F.past files.new).given) ReadFailed)) }
     ensures outcome { (aim : Aim) →
-        InFile reader.old engine.old aim (F.past files.old).given (W.stream out.old) →
-        MatchResult result (λ _. Between engine.new aim (F.past files.new).given (W.stream out.new))
-        (Breaks aim (F.past files.new).given (W.stream out.new)) }
+        IsInsideFile reader.old engine.old aim (F.past files.old).given (W.stream out.old) →
+        MatchResult result (λ _. IsBetweenFiles engine.new aim (F.past files.new).given (W.stream out.new))
+        (BreaksOffInFile aim (F.past files.new).given (W.stream out.new)) }
 {
     for _ in rt.forever() {
         settle(rt, gate, reader, engine, files, out)?;
@@ -329,10 +330,10 @@ pub(crate) fn read_file<
         }
         read_once(rt, gate, reader, engine, files, out)?;
         match reader.came {
-            Came::More => {}
-            Came::End => return finish_file(rt, gate, reader, engine, false, out),
-            Came::Failure => return finish_file(rt, gate, reader, engine, true, out),
-            Came::Refused(fault) => {
+            ReadOutcome::More => {}
+            ReadOutcome::End => return finish_file(rt, gate, reader, engine, false, out),
+            ReadOutcome::Failure => return finish_file(rt, gate, reader, engine, true, out),
+            ReadOutcome::Refused(fault) => {
                 let fault = RunFault::from(fault);
                 return Err(engine.break_off(rt, gate, fault, out));
             }

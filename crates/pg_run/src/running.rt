@@ -9,10 +9,11 @@ ghost use Rattle.pg_rows.specs.Output.{when};
 ghost use Rattle.pg_base.specs.Sink.{Stream, WritesText};
 ghost use Rattle.pg_files.specs.Given.{AllGiven, Given, NoFile, File, nothing_given};
 ghost use Rattle.pg_run.specs.Told.{fault_line};
-ghost use Rattle.pg_run.specs.Outcome.{IsSearchFor, Finishes, BreaksOff, HasCause};
-ghost use Rattle.pg_run.specs.Holding.{Aim, Holds};
-ghost use Rattle.pg_run.specs.Reading.{InFile, Between, Rests, Stops, StopsBehind, Goes, Went, IsDone};
-ghost use Rattle.pg_run.specs.declared.reader.Came.TheVariants.{More};
+ghost use Rattle.pg_run.specs.Outcome.{IsSearchFor, RunFinishes, BreaksOff, HasCause};
+ghost use Rattle.pg_run.specs.Holding.{Aim, HasPlan};
+ghost use Rattle.pg_run.specs.Reading.{IsInsideFile, IsBetweenFiles, HasToldAll, BreaksOffTold, BreaksOffBehind};
+ghost use Rattle.pg_run.specs.Reading.{GivesNext, GaveOneAtMost, IsDone};
+ghost use Rattle.pg_run.specs.declared.reader.ReadOutcome.TheVariants.{More};
 ghost use Rattle.pg_run.specs.declared.fault.RunFault.TheVariants.{Sink as SinkFailed};
 
 use crate::engine::Engine;
@@ -40,7 +41,7 @@ fn begin<A: Allocator + Copy + Send + Sync>(
     setup: Setup,
 ) -> Result<Engine<A>, RunFault>
     ensures holds { IfOk result (λ engine. (aim : Aim) → HasItsTrees aim.query → aim.query.text ≡ text →
-        aim.setup ≡ setup → Holds engine aim [] aim.out) }
+        aim.setup ≡ setup → HasPlan engine aim [] aim.out) }
     ensures trees { OnOk result ((trees : List Pattern) × AreTreesOf text trees) }
     ensures err { IfErr result (λ fault. (out : Stream) → (told : Stream) →
         HasCause fault text setup nothing_given out out told told) }
@@ -100,12 +101,12 @@ fn miss<A: Allocator + Copy + Send + Sync, W: Sink, E: Sink>(
     faults: &mut E,
 ) -> Result<(), RunFault>
     requires { (aim : Aim) × (given : List Given)
-        × Rests engine.old aim given (W.stream out.old) (E.stream faults.old) }
+        × HasToldAll engine.old aim given (W.stream out.old) (E.stream faults.old) }
     ensures { (aim : Aim) → (given : List Given) →
-        Rests engine.old aim given (W.stream out.old) (E.stream faults.old) →
-        MatchResult result (λ _. Rests engine.new aim (NoFile name.now cause ∷ given) (W.stream out.new)
+        HasToldAll engine.old aim given (W.stream out.old) (E.stream faults.old) →
+        MatchResult result (λ _. HasToldAll engine.new aim (NoFile name.now cause ∷ given) (W.stream out.new)
         (E.stream faults.new))
-        (Stops aim (NoFile name.now cause ∷ given) (W.stream out.new) (E.stream faults.new)) }
+        (BreaksOffTold aim (NoFile name.now cause ∷ given) (W.stream out.new) (E.stream faults.new)) }
 {
     engine.send_on(!engine.setup.silent, out)?;
     tell_fault(engine.alloc, engine.setup.silent, name, cause, faults)?;
@@ -120,11 +121,11 @@ fn open_file<A: Allocator + Copy>(
     name: &[u8],
 ) -> Result<(), AllocError>
     requires few { engine.old.files < 2 ^ 32 - 1 }
-    requires between { (aim : Aim) × (given : List Given) × (out : Stream) × Between engine.old aim given out }
+    requires between { (aim : Aim) × (given : List Given) × (out : Stream) × IsBetweenFiles engine.old aim given out }
     ensures more { OnOk result (reader.new.came ≡ More) }
     ensures drained { OnOk result (IsDrained reader.new.cutter) }
-    ensures ok { (aim : Aim) → (given : List Given) → (out : Stream) → Between engine.old aim given out →
-        OnOk result (InFile reader.new engine.new aim (File name.now [] Left ∷ given) out) }
+    ensures ok { (aim : Aim) → (given : List Given) → (out : Stream) → IsBetweenFiles engine.old aim given out →
+        OnOk result (IsInsideFile reader.new engine.new aim (File name.now [] Left ∷ given) out) }
 {
     let cutter = engine.open(name)?;
     reader.open(cutter);
@@ -150,16 +151,16 @@ fn one_file<
 ) -> Result<(), RunFault>
     requires rests { (aim : Aim) × (given : List Given) × (name : List ℕ)
         × ((F.past files.old).given ≡ File name [] Left ∷ given)
-        × Rests engine.old aim given (W.stream out.old) (E.stream faults.old) }
+        × HasToldAll engine.old aim given (W.stream out.old) (E.stream faults.old) }
     ensures done { (F.past files.new).done ≡ (F.past files.old).done }
     ensures before { drop 1 (F.past files.new).given ≡ drop 1 (F.past files.old).given }
     ensures same_list { F.list files.new ≡ F.list files.old }
     ensures outcome { (aim : Aim) → (given : List Given) → (name : List ℕ) →
         (F.past files.old).given ≡ File name [] Left ∷ given →
-        Rests engine.old aim given (W.stream out.old) (E.stream faults.old) →
-        MatchResult result (λ _. Rests engine.new aim (F.past files.new).given (W.stream out.new)
+        HasToldAll engine.old aim given (W.stream out.old) (E.stream faults.old) →
+        MatchResult result (λ _. HasToldAll engine.new aim (F.past files.new).given (W.stream out.new)
         (E.stream faults.new))
-        (Stops aim (F.past files.new).given (W.stream out.new) (E.stream faults.new)) }
+        (BreaksOffTold aim (F.past files.new).given (W.stream out.new) (E.stream faults.new)) }
 {
     if engine.files >= MOST_FILES {
         return Err(engine.break_off(rt, gate, RunFault::TooManyFiles, out));
@@ -197,18 +198,18 @@ fn take_next<
     faults: &mut E,
 ) -> Result<bool, RunFault>
     requires done { (F.past files.old).done ≡ false }
-    requires rests { (aim : Aim) × Rests engine.old aim (F.past files.old).given
+    requires rests { (aim : Aim) × HasToldAll engine.old aim (F.past files.old).given
         (W.stream out.old) (E.stream faults.old) }
-    ensures goes { IfOk result (λ more. Goes more (F.past files.old) (F.past files.new)) }
+    ensures goes { IfOk result (λ more. GivesNext more (F.past files.old) (F.past files.new)) }
     ensures all { IfOk result (λ more. more ≡ false
         → AllGiven (F.finds (F.list files.new)) (F.past files.new).given) }
-    ensures went { OnErr result (Went (F.past files.old).given (F.past files.new).given) }
+    ensures went { OnErr result (GaveOneAtMost (F.past files.old).given (F.past files.new).given) }
     ensures same_list { F.list files.new ≡ F.list files.old }
     ensures outcome { (aim : Aim) →
-        Rests engine.old aim (F.past files.old).given (W.stream out.old) (E.stream faults.old) →
-        MatchResult result (λ _. Rests engine.new aim (F.past files.new).given (W.stream out.new)
+        HasToldAll engine.old aim (F.past files.old).given (W.stream out.old) (E.stream faults.old) →
+        MatchResult result (λ _. HasToldAll engine.new aim (F.past files.new).given (W.stream out.new)
         (E.stream faults.new))
-        (Stops aim (F.past files.new).given (W.stream out.new) (E.stream faults.new)) }
+        (BreaksOffTold aim (F.past files.new).given (W.stream out.new) (E.stream faults.new)) }
 {
     match files.next()? {
         Step::Done => Ok(false),
@@ -241,12 +242,12 @@ fn all_files<
     faults: &mut E,
 ) -> Result<(), RunFault>
     requires new { F.past files.old ≡ nothing_given }
-    requires rests { (aim : Aim) × Rests engine.old aim [] (W.stream out.old) (E.stream faults.old) }
+    requires rests { (aim : Aim) × HasToldAll engine.old aim [] (W.stream out.old) (E.stream faults.old) }
     ensures same_list { F.list files.new ≡ F.list files.old }
-    ensures outcome { (aim : Aim) → Rests engine.old aim [] (W.stream out.old) (E.stream faults.old) →
+    ensures outcome { (aim : Aim) → HasToldAll engine.old aim [] (W.stream out.old) (E.stream faults.old) →
         MatchResult result (λ _. IsDone engine.new aim (F.finds (F.list files.new)) (F.past files.new)
         (W.stream out.new) (E.stream faults.new))
-        (StopsBehind aim (F.past files.new).given (W.stream out.new) (E.stream faults.new)) }
+        (BreaksOffBehind aim (F.past files.new).given (W.stream out.new) (E.stream faults.new)) }
 {
     for _ in rt.forever() {
         if engine.enough() {
@@ -276,12 +277,12 @@ fn search_files<
     faults: &mut E,
 ) -> Result<u8, RunFault>
     requires new { F.past files.old ≡ nothing_given }
-    requires rests { (aim : Aim) × Rests engine.old aim [] (W.stream out.old) (E.stream faults.old) }
+    requires rests { (aim : Aim) × HasToldAll engine.old aim [] (W.stream out.old) (E.stream faults.old) }
     ensures same_list { F.list files.new ≡ F.list files.old }
-    ensures outcome { (aim : Aim) → Rests engine.old aim [] (W.stream out.old) (E.stream faults.old) →
-        MatchResult result (Finishes aim.query aim.setup (F.finds (F.list files.new)) (F.past files.new)
+    ensures outcome { (aim : Aim) → HasToldAll engine.old aim [] (W.stream out.old) (E.stream faults.old) →
+        MatchResult result (RunFinishes aim.query aim.setup (F.finds (F.list files.new)) (F.past files.new)
         aim.out (W.stream out.new) aim.told (E.stream faults.new))
-        (StopsBehind aim (F.past files.new).given (W.stream out.new) (E.stream faults.new)) }
+        (BreaksOffBehind aim (F.past files.new).given (W.stream out.new) (E.stream faults.new)) }
 {
     let mut reader = FileReader::new(engine.alloc, engine.setup.block);
     all_files(rt, gate, engine, files, &mut reader, out, faults)?;
@@ -328,7 +329,7 @@ pub fn run<
 ) -> Result<u8, RunFault>
     requires { F.past files.old ≡ nothing_given }
     ensures ok { IfOk result (λ status. (q : Search) × IsSearchFor text q
-        × Finishes q setup (F.finds (F.list files.new)) (F.past files.new) (W.stream out.old)
+        × RunFinishes q setup (F.finds (F.list files.new)) (F.past files.new) (W.stream out.old)
         (W.stream out.new) (E.stream faults.old) (E.stream faults.new) status) }
     ensures err { IfErr result (BreaksOff text setup (F.past files.new) (W.stream out.old)
         (W.stream out.new) (E.stream faults.old) (E.stream faults.new)) }

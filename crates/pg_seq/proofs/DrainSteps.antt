@@ -17,7 +17,7 @@ use Rattle.pg_rows.specs.Output.{HasRoom, output}
 use Rattle.pg_base.specs.Sink.{IsBeginning, TakesPart}
 use Rattle.pg_rows.proofs.SizeLemmas.{size_few}
 use Rattle.pg_rows.specs.Cursor.{Cursor}
-use Rattle.pg_rows.specs.Remembered.{Remembers, opened_as, behind_block, shown_rows, end_rows}
+use Rattle.pg_rows.specs.Remembered.{IsAtCursor, opened_as, behind_block, shown_rows, end_rows}
 use Rattle.pg_seq.specs.declared.opening.Opening.{Opening}
 use Rattle.pg_seq.specs.declared.slot.Slot.{Slot}
 use Rattle.pg_seq.specs.declared.assembler.Assembler.{Assembler}
@@ -27,8 +27,8 @@ use Rattle.pg_seq.specs.History.{Past, plan, taken_of, is_taken, all_taken, fron
 use Rattle.pg_seq.specs.Cursor.{cursor_of, step_rows}
 use Rattle.pg_seq.specs.Coming.{behind, blocks_of, openings}
 use Rattle.pg_seq.specs.Slots.{slot_block, has_result, slot_selects, ready, IsResultOf}
-use Rattle.pg_seq.specs.Buffer.{Keeps, HandsOut, HasResult}
-use Rattle.pg_seq.specs.Standing.{Stands, IsWritten, wrote, opening_of, is_last_block, is_at_end}
+use Rattle.pg_seq.specs.Buffer.{SameButRoom, HandsOut, HasResult}
+use Rattle.pg_seq.specs.Standing.{IsAfter, HasWrittenAll, wrote, opening_of, is_last_block, is_at_end}
 use Rattle.pg_seq.proofs.FrontLemmas.{all_map, front_all, front_shaped}
 use Rattle.pg_seq.proofs.BeginLemmas.{begins_trans, shape_of}
 use Rattle.pg_seq.proofs.CursorLemmas.{cursor_is, output_step, open_rows, plan_begins}
@@ -70,7 +70,7 @@ few_bytes q format room done b lawful =
       ap length file.same,
     )
 
-module _ {A : Type 0} (s : Assembler A) (past : Past) (h : Stands s past) where
+module _ {A : Type 0} (s : Assembler A) (past : Past) (h : IsAfter s past) where
   abbrev q : Search
   q = past.query
 
@@ -197,7 +197,7 @@ module _ {A : Type 0} (s : Assembler A) (past : Past) (h : Stands s past) where
       (next_step (terminator q) s.buffer.handed done coming (h.writes.printing ∙ printing) shaped)
 
   -- where no file waits, all was written
-  pub none_waits : s.printing ≡ false → s.waiting.items ≡ [] → s.failed ≡ false → IsWritten past
+  pub none_waits : s.printing ≡ false → s.waiting.items ≡ [] → s.failed ≡ false → HasWrittenAll past
   none_waits idle none f =
       elim (next_file q past.format (terminator q) s.buffer.handed done coming (h.writes.printing ∙ idle) shaped) [
         | inl m ↦ h.writes.written f ∙ sym (stops_at_last m)
@@ -212,8 +212,8 @@ module _ {A : Type 0} (s : Assembler A) (past : Past) (h : Stands s past) where
   -- the next file was opened in the printer
   pub opened_next : (new : Assembler A) (next : Opening A) → s.printing ≡ false
       → s.waiting.items ≡ next ∷ new.waiting.items → IsAlike s new → new.printing ≡ true
-      → Keeps s.buffer new.buffer → new.failed ≡ s.failed
-      → Remembers new.printer q past.format (opened_as here next.prefix) → Stands new past
+      → SameButRoom s.buffer new.buffer → new.failed ≡ s.failed
+      → IsAtCursor new.printer q past.format (opened_as here next.prefix) → IsAfter new past
   opened_next new next idle waits a printing k f remembers =
       elim (next_file q past.format (terminator q) s.buffer.handed done coming (h.writes.printing ∙ idle) shaped) [
         | inl m ↦
@@ -224,7 +224,7 @@ module _ {A : Type 0} (s : Assembler A) (past : Past) (h : Stands s past) where
             ≡ (s.buffer.handed, o.name) ∷ openings s.buffer.handed o.later =
             sym (ap (map opening_of) waits) ∙ (h.writes.waiting ∙ o.waiting) in
             let name : next.prefix ≡ o.name = ap (λ p. p.1) (cons_head both) in
-            let R : Cursor → Type 0 = λ c. Remembers new.printer q past.format c in
+            let R : Cursor → Type 0 = λ c. IsAtCursor new.printer q past.format c in
             rested s new past past.written past.failed h a k (h.failed ∙ sym f) (record {
               done = Opens o.name ∷ o.misses;
               coming = o.later;
@@ -261,12 +261,12 @@ module _ {A : Type 0} (s : Assembler A) (past : Past) (h : Stands s past) where
   -- the row at the file's end was written
   pub ended_next : (new : Assembler A) → s.printing ≡ true → is_at_end s ≡ true → s.failed ≡ false
       → IsAlike s new → new.printing ≡ false → new.waiting.items ≡ s.waiting.items → new.printer ≡ s.printer
-      → Keeps s.buffer new.buffer → new.failed ≡ s.failed → Stands new (wrote past (end_rows past.format here))
+      → SameButRoom s.buffer new.buffer → new.failed ≡ s.failed → IsAfter new (wrote past (end_rows past.format here))
   ended_next new printing over f a stopped waiting printer k f' =
       let n = ends_next printing over in
       let step = Ends n.0 in
       let later = n.1 in
-      let P : Printer A → Type 0 = λ p. Remembers p q past.format here in
+      let P : Printer A → Type 0 = λ p. IsAtCursor p q past.format here in
       rested s new past (past.written ++ end_rows past.format here) past.failed h a k (h.failed ∙ sym f') (record {
         done = step ∷ done;
         coming = later;
@@ -322,7 +322,7 @@ module _ {A : Type 0} (s : Assembler A) (past : Past) (h : Stands s past) where
 
   -- where the next block's result hasn't come, all was written
   pub none_ready : s.printing ≡ true → is_at_end s ≡ false → s.failed ≡ false → ready s.buffer.slots.items ≡ 0
-      → IsWritten past
+      → HasWrittenAll past
   none_ready printing over f none = h.writes.written f ∙ sym (go (next_is printing))
     where
       unready : (slot : Slot A) (rest : List (Slot A)) → s.buffer.slots.items ≡ slot ∷ rest → has_result slot ≡ false
@@ -412,8 +412,8 @@ module _ {A : Type 0} (s : Assembler A) (past : Past) (h : Stands s past) where
   pub printed_next : (new : Assembler A) (slot : Slot A) (found : Searched) → s.printing ≡ true → is_at_end s ≡ false
       → s.failed ≡ false → slot.result ≡ Some found → HandsOut slot s.buffer new.buffer → IsAlike s new
       → new.printing ≡ s.printing → new.waiting.items ≡ s.waiting.items → new.failed ≡ s.failed
-      → Remembers new.printer q past.format (behind_block q past.format here (slot_block slot).bytes)
-      → Stands new (wrote past (shown_rows q past.format here found.block.bytes))
+      → IsAtCursor new.printer q past.format (behind_block q past.format here (slot_block slot).bytes)
+      → IsAfter new (wrote past (shown_rows q past.format here found.block.bytes))
   printed_next new slot found printing over f is o a printing' waiting failed' remembers =
       let n = block_next slot new.buffer.slots.items printing over o.slots in
       let step = Announces (slot_block slot) in

@@ -9,7 +9,7 @@ use Rattle.pg_lines.specs.Same.{same_text}
 use Rattle.pg_lines.specs.Blocks.{BlockData}
 use Rattle.pg_seq.specs.declared.answers.Arrival.{Arrival}
 use Rattle.pg_seq.specs.declared.answers.Arrival.TheVariants.{Taken, Double, Stranger}
-use Rattle.pg_seq.specs.Plan.{Step, Opens, Announces, Ends, Misses, IsShaped, IsNext}
+use Rattle.pg_seq.specs.Plan.{Step, Opens, Announces, Ends, Misses, IsShaped, IsNextOfFile}
 use Rattle.pg_seq.specs.Plan.{opened, announced, last_blocks}
 use Rattle.pg_seq.specs.History.{Event, Planned, Arrived, plan_of, taken_of, taken_after, arrival_at}
 use Rattle.pg_seq.specs.History.{is_block, is_taken}
@@ -132,6 +132,6 @@ none_taken p (key ∷ keys) b h file number =
 
 -- the next block was not taken
 pub next_not_taken : (end : ℕ) (q : Search) (events : List Event) (b : BlockData) → IsShaped end (plan_of events)
-    → IsNext end (plan_of events) b → is_taken (taken_of q events) b ≡ false
+    → IsNextOfFile end (plan_of events) b → is_taken (taken_of q events) b ≡ false
 next_not_taken end q events b h n =
     none_taken (plan_of events) (taken_of q events) b (keys_known end q events h) n.file n.number

@@ -17,7 +17,7 @@ use Rattle.pg_base.specs.Entries.{is_running, is_failed}
 use Rattle.pg_rows.specs.Output.{is_nothing, is_bad, has_selected}
 use Rattle.pg_rows.specs.Output.{file_rows, output}
 use Rattle.pg_rows.specs.Enough.{lines_suffice, is_enough}
-use Rattle.pg_seq.specs.Settled.{AreLeftRightly, AreLonger, GiveTheSame}
+use Rattle.pg_seq.specs.Settled.{AreLeftRightly, MayBeLonger, GiveTheSame}
 use Rattle.pg_seq.proofs.SettleLemmas.{suffice_settled}
 
 -- a line of whole lines stays selected
@@ -149,7 +149,7 @@ module _ (q : Search) (format : Format) where
       }
 
   longer_alike : (entries others : List Entry) → HasRoom format → AreLeftRightly q format entries
-      → AreLonger entries others → AreAlike entries others
+      → MayBeLonger entries others → AreAlike entries others
   longer_alike [] [] room h l = alike_none
   longer_alike [] (f ∷ fs) room h l = absurd l
   longer_alike (e ∷ es) [] room h l = absurd l
@@ -175,7 +175,7 @@ module _ (q : Search) (format : Format) where
       refl l.0.2 (sym l.0.3) (longer_alike es fs room h.1 l.1)))
 
   pub longer_same : (entries others : List Entry) → HasRoom format → AreLeftRightly q format entries
-      → AreLonger entries others → GiveTheSame q format entries others
+      → MayBeLonger entries others → GiveTheSame q format entries others
   longer_same entries others room h l = alike_same entries others (longer_alike entries others room h l)
 
   -- with -q, once a line is selected, nothing is written and the status is 0, whatever files follow

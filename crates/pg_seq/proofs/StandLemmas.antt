@@ -25,8 +25,8 @@ use Rattle.pg_rows.specs.Modes.{is_quiet}
 use Rattle.pg_base.specs.Entries.{Entry, Missed, Read, Running, Ended, Failed}
 use Rattle.pg_rows.specs.Output.{HasRoom, is_bad}
 use Rattle.pg_rows.specs.Output.{has_selected}
-use Rattle.pg_rows.specs.Remembered.{Remembers}
-use Rattle.pg_seq.specs.Plan.{Step, Opens, Announces, Ends, Misses, IsShaped, IsNext, IsSmall, MayFollow, is_open}
+use Rattle.pg_rows.specs.Remembered.{IsAtCursor}
+use Rattle.pg_seq.specs.Plan.{Step, Opens, Announces, Ends, Misses, IsShaped, IsNextOfFile, IsSmall, MayFollow, is_open}
 use Rattle.pg_seq.specs.Plan.{announced, last_blocks, entries_of, with_bytes, with_end}
 use Rattle.std.specs.Arc.{arc_value}
 use Rattle.std.specs.Prelude.{Result, Ok, Err, OnOk, OnErr}
@@ -38,8 +38,8 @@ use Rattle.pg_seq.specs.Cursor.{at_start, cursor_of}
 use Rattle.pg_seq.specs.Slots.{place_of, at_place, slot_block, has_result, arrival_among, with_result, IsResultOf}
 use Rattle.pg_seq.specs.Slots.{slot_selects, result_selects, ready}
 use Rattle.pg_seq.specs.Ahead.{block_selects}
-use Rattle.pg_seq.specs.Buffer.{Keeps, OpensFile, Pushes, Puts, IsArrival}
-use Rattle.pg_seq.specs.Standing.{Stands, Writes, starts_of, opening_of}
+use Rattle.pg_seq.specs.Buffer.{SameButRoom, OpensFile, Pushes, Puts, IsArrival}
+use Rattle.pg_seq.specs.Standing.{IsAfter, HasWritten, starts_of, opening_of}
 use Rattle.pg_seq.proofs.SlotLemmas.{all_behind, cond_pos}
 use Rattle.pg_seq.proofs.FrontLemmas.{front_all, front_taken, all_map, ready_all}
 use Rattle.pg_seq.proofs.ComingLemmas.{behind_push, openings_push, announced_behind, parts_same}
@@ -126,7 +126,7 @@ answer_other past r e =
 
 module _ {A : Type 0} where
   -- the slots of all announced blocks
-  abbrev pub all : {past : Past} (s : Assembler A) → Stands s past → List (Slot A)
+  abbrev pub all : {past : Past} (s : Assembler A) → IsAfter s past → List (Slot A)
   all s h = h.gone ++ s.buffer.slots.items
 
   -- the query, the format and what is told of the plan are the same
@@ -143,16 +143,17 @@ module _ {A : Type 0} where
     pub printer : new.printer ≡ s.printer
 
   -- the printer stands where it stood
-  still : (s new : Assembler A) (past : Past) (w : Writes s past) → new.printer ≡ s.printer
-      → Remembers new.printer past.query past.format (cursor_of past.query past.format w.done)
+  still : (s new : Assembler A) (past : Past) (w : HasWritten s past) → new.printer ≡ s.printer
+      → IsAtCursor new.printer past.query past.format (cursor_of past.query past.format w.done)
   still s new past w same =
-      let P : Printer A → Type 0 = λ p. Remembers p past.query past.format (cursor_of past.query past.format w.done) in
+      let P : Printer A → Type 0 = λ p. IsAtCursor p past.query past.format (cursor_of past.query past.format w.done) in
       subst P (sym same) w.cursor
 
   -- nothing more was written, or a write has failed
-  rested_writes : (s new : Assembler A) (past : Past) (written : List ℕ) (failed : Bool) → Writes s past → IsIdle s new
+  rested_writes : (s new : Assembler A) (past : Past) (written : List ℕ) (failed : Bool) → HasWritten s past
+      → IsIdle s new
       → new.waiting.items ≡ s.waiting.items → (new.failed ≡ false → written ≡ past.written × (s.failed ≡ false))
-      → Writes new (record past { written = written; failed = failed })
+      → HasWritten new (record past { written = written; failed = failed })
   rested_writes s new past written failed w i waiting f = record {
     done = w.done;
     coming = w.coming;
@@ -165,10 +166,10 @@ module _ {A : Type 0} where
   }
 
   -- one more step is to come
-  planned_writes : (s new : Assembler A) (past : Past) (step : Step) (w : Writes s past) → IsIdle s new
+  planned_writes : (s new : Assembler A) (past : Past) (step : Step) (w : HasWritten s past) → IsIdle s new
       → new.failed ≡ s.failed → (total : ℕ) → total ≡ s.buffer.handed + length (blocks_of w.coming)
       → map opening_of new.waiting.items ≡ map opening_of s.waiting.items ++ openings total (step ∷ [])
-      → Writes new (planned past step)
+      → HasWritten new (planned past step)
   planned_writes s new past step w i failed' total count waiting = record {
     done = w.done;
     coming = w.coming ++ step ∷ [];
@@ -188,18 +189,18 @@ module _ {A : Type 0} where
   all_later P [] ys h = h
   all_later P (x ∷ xs) ys h = all_later P xs ys h.1
 
-  pub held_results : (s : Assembler A) (past : Past) → Stands s past
+  pub held_results : (s : Assembler A) (past : Past) → IsAfter s past
       → AllByRecursion (IsResultOf past.query) s.buffer.slots.items
   held_results s past h = all_later (IsResultOf past.query) h.gone s.buffer.slots.items h.results
 
-  pub first_result : (s : Assembler A) (past : Past) (slot : Slot A) (later : List (Slot A)) → Stands s past
+  pub first_result : (s : Assembler A) (past : Past) (slot : Slot A) (later : List (Slot A)) → IsAfter s past
       → s.buffer.slots.items ≡ slot ∷ later → IsResultOf past.query slot
   first_result s past slot later h e =
       let P : List (Slot A) → Type 0 = λ xs. AllByRecursion (IsResultOf past.query) xs in
       (subst P e (held_results s past h)).0
 
   -- The blocks that were handed out, and those that weren't.
-  pub record Halves (s : Assembler A) (past : Past) (h : Stands s past) : Type 0 where
+  pub record Halves (s : Assembler A) (past : Past) (h : IsAfter s past) : Type 0 where
     pub before : announced h.writes.done ≡ map slot_block h.gone
     pub later : blocks_of h.writes.coming ≡ map slot_block s.buffer.slots.items
     pub taken_before : map (is_taken (taken_of past.query past.events)) (announced h.writes.done)
@@ -207,7 +208,7 @@ module _ {A : Type 0} where
     pub taken_later : map (is_taken (taken_of past.query past.events)) (blocks_of h.writes.coming)
         ≡ map has_result s.buffer.slots.items
 
-  pub halves : (s : Assembler A) (past : Past) (h : Stands s past) → Halves s past h
+  pub halves : (s : Assembler A) (past : Past) (h : IsAfter s past) → Halves s past h
   halves s past h =
       let w = h.writes in
       let t = is_taken (taken_of past.query past.events) in
@@ -234,15 +235,15 @@ module _ {A : Type 0} where
       }
 
   -- how many blocks are to come
-  pub held_count : (s : Assembler A) (past : Past) (h : Stands s past)
+  pub held_count : (s : Assembler A) (past : Past) (h : IsAfter s past)
       → length (blocks_of h.writes.coming) ≡ length s.buffer.slots.items
   held_count s past h = ap length (halves s past h).later ∙ length-map s.buffer.slots.items slot_block
 
   -- the same plan and the same results, whatever was written
-  pub rested : (s new : Assembler A) (past : Past) (written : List ℕ) (failed : Bool) → Stands s past → IsAlike s new
-      → Keeps s.buffer new.buffer → failed ≡ new.failed
-      → Writes new (record past { written = written; failed = failed })
-      → Stands new (record past { written = written; failed = failed })
+  pub rested : (s new : Assembler A) (past : Past) (written : List ℕ) (failed : Bool) → IsAfter s past → IsAlike s new
+      → SameButRoom s.buffer new.buffer → failed ≡ new.failed
+      → HasWritten new (record past { written = written; failed = failed })
+      → IsAfter new (record past { written = written; failed = failed })
   rested s new past written failed h a k f w =
       let same : all s h ≡ h.gone ++ new.buffer.slots.items = ap (λ xs. h.gone ++ xs) (sym k.slots) in
       let R : List (Slot A) → Type 0 = λ xs. AllByRecursion (IsResultOf past.query) xs in
@@ -266,26 +267,26 @@ module _ {A : Type 0} where
       }
 
   -- nothing happened
-  pub same_stands : (s new : Assembler A) (past : Past) → Stands s past → IsAlike s new → IsIdle s new
-      → new.waiting.items ≡ s.waiting.items → Keeps s.buffer new.buffer → new.failed ≡ s.failed → Stands new past
+  pub same_stands : (s new : Assembler A) (past : Past) → IsAfter s past → IsAlike s new → IsIdle s new
+      → new.waiting.items ≡ s.waiting.items → SameButRoom s.buffer new.buffer → new.failed ≡ s.failed → IsAfter new past
   same_stands s new past h a i waiting k f =
       rested s new past past.written past.failed h a k (h.failed ∙ sym f)
       (rested_writes s new past past.written past.failed h.writes i waiting (λ e. (refl, sym f ∙ e)))
 
   -- a write failed
-  pub failed_stands : (s new : Assembler A) (past : Past) (text : List ℕ) (failed : Bool) → Stands s past
-      → IsAlike s new → IsIdle s new → new.waiting.items ≡ s.waiting.items → Keeps s.buffer new.buffer
+  pub failed_stands : (s new : Assembler A) (past : Past) (text : List ℕ) (failed : Bool) → IsAfter s past
+      → IsAlike s new → IsIdle s new → new.waiting.items ≡ s.waiting.items → SameButRoom s.buffer new.buffer
       → new.failed ≡ true → failed ≡ true
-      → Stands new (record past { written = past.written ++ text; failed = failed })
+      → IsAfter new (record past { written = past.written ++ text; failed = failed })
   failed_stands s new past text failed h a i waiting k f g =
       rested s new past (past.written ++ text) failed h a k (g ∙ sym f)
       (rested_writes s new past (past.written ++ text) failed h.writes i waiting (λ e. absurd (false≢true (sym e ∙ f))))
 
   -- the file has ended
-  pub ended_stands : (s new : Assembler A) (past : Past) (failed : Bool) → is_open (plan past) ≡ true → Stands s past
+  pub ended_stands : (s new : Assembler A) (past : Past) (failed : Bool) → is_open (plan past) ≡ true → IsAfter s past
       → new.query ≡ s.query → new.format ≡ s.format → new.running ≡ false → new.bad ≡ (s.bad || failed)
-      → IsIdle s new → new.waiting.items ≡ s.waiting.items → Keeps s.buffer new.buffer → new.failed ≡ s.failed
-      → Stands new (planned past (Ends failed))
+      → IsIdle s new → new.waiting.items ≡ s.waiting.items → SameButRoom s.buffer new.buffer → new.failed ≡ s.failed
+      → IsAfter new (planned past (Ends failed))
   ended_stands s new past failed open' h query format running bad idle waiting k failed' =
       let f = (cursor_is past.query past.format h.room (plan past)
       (shape_of (terminator past.query) (plan past) h.lawful)).file open' in
@@ -313,10 +314,10 @@ module _ {A : Type 0} where
       }
 
   -- a name was missed
-  pub missed_stands : (s new : Assembler A) (past : Past) (name : List ℕ) → is_open (plan past) ≡ false → Stands s past
+  pub missed_stands : (s new : Assembler A) (past : Past) (name : List ℕ) → is_open (plan past) ≡ false → IsAfter s past
       → new.query ≡ s.query → new.format ≡ s.format → new.running ≡ s.running → new.bad ≡ true → IsIdle s new
-      → new.waiting.items ≡ s.waiting.items → Keeps s.buffer new.buffer → new.failed ≡ s.failed
-      → Stands new (planned past (Misses name))
+      → new.waiting.items ≡ s.waiting.items → SameButRoom s.buffer new.buffer → new.failed ≡ s.failed
+      → IsAfter new (planned past (Misses name))
   missed_stands s new past name closed h query format running bad idle waiting k failed' =
       let same : all s h ≡ h.gone ++ new.buffer.slots.items = ap (λ xs. h.gone ++ xs) (sym k.slots) in
       let R : List (Slot A) → Type 0 = λ xs. AllByRecursion (IsResultOf past.query) xs in
@@ -342,7 +343,7 @@ module _ {A : Type 0} where
 
   -- Announcing.
 
-  count_is : (s : Assembler A) (past : Past) → Stands s past
+  count_is : (s : Assembler A) (past : Past) → IsAfter s past
       → length (announced (plan past)) ≡ s.buffer.handed + length s.buffer.slots.items
   count_is s past h =
       ap length h.blocks
@@ -350,12 +351,12 @@ module _ {A : Type 0} where
       ∙ (length-append h.gone s.buffer.slots.items ∙ ap (λ n. n + length s.buffer.slots.items) h.given_up.count))
 
   -- there is room for one more block
-  pub has_room : (s : Assembler A) (past : Past) → Stands s past
+  pub has_room : (s : Assembler A) (past : Past) → IsAfter s past
       → s.buffer.handed + length s.buffer.slots.items < 2 ^ 94
   has_room s past h = omega (arith, count_is s past h, few_blocks (terminator past.query) (plan past) h.lawful)
 
   -- a file was opened
-  pub may_open : (s : Assembler A) (past other : Past) (name : List ℕ) → Stands s past → Stands s other
+  pub may_open : (s : Assembler A) (past other : Past) (name : List ℕ) → IsAfter s past → IsAfter s other
       → MayFollow (terminator other.query) (plan other) (Opens name)
       → MayFollow (terminator past.query) (plan past) (Opens name)
   may_open s past other name h i may = (
@@ -369,12 +370,12 @@ module _ {A : Type 0} where
     ),
   )
 
-  pub opened_stands : (s new : Assembler A) (past : Past) (name : List ℕ) → Stands s past
+  pub opened_stands : (s new : Assembler A) (past : Past) (name : List ℕ) → IsAfter s past
       → MayFollow (terminator past.query) (plan past) (Opens name) → new.query ≡ s.query → new.format ≡ s.format
       → new.running ≡ true → new.bad ≡ s.bad → IsIdle s new → (opening : Opening A)
       → new.waiting.items ≡ s.waiting.items ++ opening ∷ []
       → opening.start ≡ s.buffer.handed + length s.buffer.slots.items → opening.prefix ≡ name
-      → new.failed ≡ s.failed → OpensFile s.buffer new.buffer → Stands new (planned past (Opens name))
+      → new.failed ≡ s.failed → OpensFile s.buffer new.buffer → IsAfter new (planned past (Opens name))
   opened_stands s new past name h may query format running bad idle opening waiting start' prefix failed' o =
       let same : all s h ≡ h.gone ++ new.buffer.slots.items = ap (λ xs. h.gone ++ xs) (sym o.slots) in
       let R : List (Slot A) → Type 0 = λ xs. AllByRecursion (IsResultOf past.query) xs in
@@ -403,10 +404,11 @@ module _ {A : Type 0} where
             ++ (s.buffer.handed + length s.buffer.slots.items, name) ∷ []) prefix)));
       }
 
-  pub announced_stands : (s new : Assembler A) (past : Past) (b : BlockData) → Stands s past
-      → IsNext (terminator past.query) (plan past) b × IsSmall (terminator past.query) (plan past) b → IsAlike s new
+  pub announced_stands : (s new : Assembler A) (past : Past) (b : BlockData) → IsAfter s past
+      → IsNextOfFile (terminator past.query) (plan past) b × IsSmall (terminator past.query) (plan past) b
+      → IsAlike s new
       → IsIdle s new → new.waiting.items ≡ s.waiting.items → new.failed ≡ s.failed → Pushes b s.buffer new.buffer
-      → Stands new (planned past (Announces b))
+      → IsAfter new (planned past (Announces b))
   announced_stands s new past b h may a idle waiting failed' p =
       let n = may.0 in
       let old = all s h in
@@ -446,7 +448,7 @@ module _ {A : Type 0} where
       }
 
   -- all blocks were taken where all slots have their results
-  pub complete_is : (s : Assembler A) (past : Past) → Stands s past → s.running ≡ false
+  pub complete_is : (s : Assembler A) (past : Past) → IsAfter s past → s.running ≡ false
       → (list_all has_result s.buffer.slots.items ≡ true → IsComplete past)
       × (IsComplete past → list_all has_result s.buffer.slots.items ≡ true)
   unfolding front_after
@@ -471,7 +473,7 @@ module _ {A : Type 0} where
       ap (λ t. t || list_any (block_selects q) (map slot_block slots)) (slot_selected q (slot_block x) x.result b h.0)
       ∙ ap (λ t. slot_selects q x || t) (selected_slots q slots (omega arith) h.1)
 
-  pub status_is : (s : Assembler A) (past : Past) → Stands s past → IsComplete past
+  pub status_is : (s : Assembler A) (past : Past) → IsAfter s past → IsComplete past
       → (let selected = s.buffer.selected || list_any (slot_selects past.query) s.buffer.slots.items in
       status_of past ≡ cond (is_quiet s.format.mode && selected) 0 (cond s.bad 2 (cond selected 0 1)))
   status_is s past h complete =
@@ -493,7 +495,7 @@ module _ {A : Type 0} where
       (cond s.bad 2 (cond (s.buffer.selected || list_any (slot_selects past.query) slots) 0 1))) h.format)
 
   -- the slots have the marks of their blocks
-  marks : (s : Assembler A) (past : Past) (h : Stands s past)
+  marks : (s : Assembler A) (past : Past) (h : IsAfter s past)
       → map (is_taken (taken_of past.query past.events)) (map slot_block (all s h)) ≡ map has_result (all s h)
   marks s past h =
       let P : List BlockData → Type 0 = λ bs. map (is_taken (taken_of past.query past.events)) bs
@@ -501,7 +503,7 @@ module _ {A : Type 0} where
       subst P h.blocks h.taken
 
   -- the announced block of a file and number, by the slots
-  find_slot : (s : Assembler A) (past : Past) (h : Stands s past) (f k : ℕ)
+  find_slot : (s : Assembler A) (past : Past) (h : IsAfter s past) (f k : ℕ)
       → find (is_block f k) (announced (plan past))
       ≡ at_place (map slot_block (all s h)) (place_of s.buffer.starts.items (length (all s h)) f k)
   find_slot s past h f k =
@@ -513,7 +515,7 @@ module _ {A : Type 0} where
       ∙ ap (λ n. at_place (map slot_block slots) (place_of s.buffer.starts.items n f k)) (length-map slots slot_block)))
 
   -- it has the file and the number
-  block_named : (s : Assembler A) (past : Past) (h : Stands s past) (f k : ℕ) (x : BlockData)
+  block_named : (s : Assembler A) (past : Past) (h : IsAfter s past) (f k : ℕ) (x : BlockData)
       → at_place (map slot_block (all s h)) (place_of s.buffer.starts.items (length (all s h)) f k) ≡ Some x
       → (x.file ≡ f) × (x.number ≡ k)
   block_named s past h f k x e =
@@ -522,7 +524,7 @@ module _ {A : Type 0} where
       (eqb-true x.file f t.0, eqb-true x.number k t.1)
 
   -- by the slots an arrival is what it is by the history
-  answer_all : (s : Assembler A) (past : Past) (r : Searched) (h : Stands s past)
+  answer_all : (s : Assembler A) (past : Past) (r : Searched) (h : IsAfter s past)
       → same_text past.query.text r.query ≡ true
       → answer past r ≡ arrival_among s.buffer.starts.items (all s h) r.block
   unfolding answer_after
@@ -535,14 +537,14 @@ module _ {A : Type 0} where
       ∙ (ap (λ o. arrival_at o keys b) (find_slot s past h b.file b.number)
       ∙ at_slot keys b slots place (marks s past h) (block_named s past h b.file b.number))
 
-  pub answer_is : (s : Assembler A) (past : Past) (r : Searched) (a : Arrival) → Stands s past
+  pub answer_is : (s : Assembler A) (past : Past) (r : Searched) (a : Arrival) → IsAfter s past
       → same_text past.query.text r.query ≡ true → IsArrival s.buffer r.block a → a ≡ answer past r
   answer_is s past r a h same i = i h.gone h.given_up ∙ sym (answer_all s past r h same)
 
   -- An arrival that is not taken changes nothing.
 
-  same_keys : (s : Assembler A) (past : Past) (r : Searched) → Stands s past
-      → taken_of past.query (arrived past r).events ≡ taken_of past.query past.events → Stands s (arrived past r)
+  same_keys : (s : Assembler A) (past : Past) (r : Searched) → IsAfter s past
+      → taken_of past.query (arrived past r).events ≡ taken_of past.query past.events → IsAfter s (arrived past r)
   same_keys s past r h e =
       let T : List (ℕ × ℕ) → Type 0 = λ keys. map (is_taken keys) (announced (plan past)) ≡ map has_result (all s h) in
       record {
@@ -573,8 +575,8 @@ module _ {A : Type 0} where
         };
       }
 
-  pub kept_stands : (s : Assembler A) (past : Past) (r : Searched) (a : Arrival) → Stands s past → answer past r ≡ a
-      → (a ≡ Taken → ⊥) → Stands s (arrived past r)
+  pub kept_stands : (s : Assembler A) (past : Past) (r : Searched) (a : Arrival) → IsAfter s past → answer past r ≡ a
+      → (a ≡ Taken → ⊥) → IsAfter s (arrived past r)
   unfolding answer_after
   kept_stands s past r Taken h e ne = absurd (ne refl)
   kept_stands s past r Double h e ne =
@@ -582,9 +584,9 @@ module _ {A : Type 0} where
   kept_stands s past r Stranger h e ne =
       same_keys s past r h (ap (λ a. taken_after a r.block (taken_of past.query past.events)) e)
 
-  pub taken_stands : (s new : Assembler A) (past : Past) (r : Searched) → Stands s past → answer past r ≡ Taken
+  pub taken_stands : (s new : Assembler A) (past : Past) (r : Searched) → IsAfter s past → answer past r ≡ Taken
       → IsAlike s new → IsIdle s new → new.waiting.items ≡ s.waiting.items → new.failed ≡ s.failed
-      → Puts r s.buffer new.buffer → Stands new (arrived past r)
+      → Puts r s.buffer new.buffer → IsAfter new (arrived past r)
   unfolding answer_after
   taken_stands s new past r h is alike idle waiting failed' p =
       let old = all s h in
@@ -658,8 +660,8 @@ module _ {A : Type 0} where
   pub new_stands : (s : Assembler A) (q : Search) (format : Format) → q.text ≡ (arc_value s.query).text
       → HasItsTrees q → s.format ≡ format → HasRoom format → s.running ≡ false → s.bad ≡ false
       → s.buffer.starts.items ≡ [] → s.buffer.slots.items ≡ [] → s.buffer.handed ≡ 0 → s.buffer.selected ≡ false
-      → s.waiting.items ≡ [] → s.printing ≡ false → Remembers s.printer q format at_start → s.failed ≡ false
-      → Stands s (start q format)
+      → s.waiting.items ≡ [] → s.printing ≡ false → IsAtCursor s.printer q format at_start → s.failed ≡ false
+      → IsAfter s (start q format)
   new_stands s q format text trees format' room running bad starts slots handed' selected waiting printing remembers
       failed =
       record {
@@ -691,7 +693,8 @@ module _ {A : Type 0} where
       }
 
   -- after one past or another, by an answer
-  pub some_past : {T E : Type 0} (answer : Result T E) (s : Assembler A) (one other : Past) → OnOk answer (Stands s one)
-      → OnErr answer (Stands s other) → (past : Past) × Stands s past
+  pub some_past : {T E : Type 0} (answer : Result T E) (s : Assembler A) (one other : Past)
+      → OnOk answer (IsAfter s one)
+      → OnErr answer (IsAfter s other) → (past : Past) × IsAfter s past
   some_past (Ok x) s one other ok err = (one, ok)
   some_past (Err x) s one other ok err = (other, err)

@@ -6,7 +6,7 @@ use Rattle.pg_lines.specs.Lines.{lines}
 use Rattle.pg_lines.specs.Selection.{selects}
 use Rattle.pg_lines.specs.Blocks.{BlockData}
 use Rattle.pg_rows.specs.Output.{has_selected}
-use Rattle.pg_rows.specs.Progress.{Tells}
+use Rattle.pg_rows.specs.Progress.{IsOfTrail}
 use Rattle.pg_seq.specs.Plan.{Step, announced, is_open, entries_of}
 use Rattle.pg_seq.specs.History.{Past, plan, taken_of, all_taken, front_of}
 use Rattle.pg_seq.specs.Cursor.{cursor_of}
@@ -19,7 +19,7 @@ abbrev pub block_selects : Search → BlockData → Bool
 block_selects q b = list_any (selects q) (lines (terminator q) b.bytes)
 
 -- The steps that could be done so far, the newest first, and those behind them, the oldest first.
-pub record IsAhead {A : Type 0} (s : Assembler A) (past : Past) (a : Ahead) : Type 0 where
+pub record HasLookedAhead {A : Type 0} (s : Assembler A) (past : Past) (a : Ahead) : Type 0 where
   pub done : List Step
   pub coming : List Step
   pub split : plan past ≡ behind done coming
@@ -27,13 +27,13 @@ pub record IsAhead {A : Type 0} (s : Assembler A) (past : Past) (a : Ahead) : Ty
   pub count : length (announced done) ≡ s.buffer.handed + a.blocks
   pub inside : is_open done ≡ a.inside
   pub waiting : map opening_of (drop a.files s.waiting.items) ≡ openings (s.buffer.handed + a.blocks) coming
-  pub progress : Tells a.progress past.format (cursor_of past.query past.format done).trail
+  pub progress : IsOfTrail a.progress past.format (cursor_of past.query past.format done).trail
   pub selected : list_any (block_selects past.query) (announced done) ≡ a.selected
 
 -- no further step can be done: this is told of the files of the front
-pub record IsFront (past : Past) (a : Ahead) : Type 0 where
+pub record IsAtFront (past : Past) (a : Ahead) : Type 0 where
   pub inside : is_open (front_of past) ≡ a.inside
-  pub progress : Tells a.progress past.format (cursor_of past.query past.format (front_of past)).trail
+  pub progress : IsOfTrail a.progress past.format (cursor_of past.query past.format (front_of past)).trail
   pub selected : list_any (has_selected past.query) (entries_of (front_of past)) ≡ a.selected
 
 -- whether the blocks of the file came all, by the files and blocks behind

@@ -16,7 +16,7 @@ pub record AreGone {A : Type 0} (buffer : ReorderBuffer A) (gone : List (Slot A)
   pub results : AllByRecursion (λ slot. has_result slot ≡ true) gone
 
 -- nothing but the room has changed
-pub record Keeps {A : Type 0} (old new : ReorderBuffer A) : Type 0 where
+pub record SameButRoom {A : Type 0} (old new : ReorderBuffer A) : Type 0 where
   pub starts : new.starts.items ≡ old.starts.items
   pub slots : new.slots.items ≡ old.slots.items
   pub handed : new.handed ≡ old.handed

@@ -44,7 +44,7 @@ announced (Ends failed ∷ plan) = announced plan
 announced (Misses name ∷ plan) = announced plan
 
 -- the block is the open file's next: its number is the count of those before it, which end with the terminator
-pub record IsNext (end : ℕ) (plan : List Step) (block : BlockData) : Type 0 where
+pub record IsNextOfFile (end : ℕ) (plan : List Step) (block : BlockData) : Type 0 where
   pub running : is_open plan ≡ true
   pub file : block.file + 1 ≡ opened plan
   pub number : block.number ≡ length (last_blocks plan)
@@ -59,7 +59,7 @@ pub record IsSmall (end : ℕ) (plan : List Step) (block : BlockData) : Type 0 w
 -- the step may follow on the plan, as to its kind
 abbrev pub HasPlace : ℕ → List Step → Step → Type 0
 HasPlace end plan (Opens name) = is_open plan ≡ false
-HasPlace end plan (Announces block) = IsNext end plan block
+HasPlace end plan (Announces block) = IsNextOfFile end plan block
 HasPlace end plan (Ends failed) = is_open plan ≡ true
 HasPlace end plan (Misses name) = is_open plan ≡ false
 

@@ -46,11 +46,11 @@ IsLonger (Read name bytes Left) other = (more : List ℕ) × (ending : Ending) �
     × (is_failed ending ≡ false) × (other ≡ Read name (bytes ++ more) ending)
 
 -- the same files in the same order, of which those that were left may be longer
-abbrev pub AreLonger : List Entry → List Entry → Type 0
-AreLonger [] [] = Unit {0}
-AreLonger [] (other ∷ others) = ⊥
-AreLonger (entry ∷ entries) [] = ⊥
-AreLonger (entry ∷ entries) (other ∷ others) = IsLonger entry other × AreLonger entries others
+abbrev pub MayBeLonger : List Entry → List Entry → Type 0
+MayBeLonger [] [] = Unit {0}
+MayBeLonger [] (other ∷ others) = ⊥
+MayBeLonger (entry ∷ entries) [] = ⊥
+MayBeLonger (entry ∷ entries) (other ∷ others) = IsLonger entry other × MayBeLonger entries others
 
 -- grep writes the same for both lists of files, and ends with the same status
 pub record GiveTheSame (q : Search) (format : Format) (entries others : List Entry) : Type 0 where

@@ -7,7 +7,7 @@ use Rattle.std.specs.List.{AllByRecursion, list_any}
 use Rattle.std.specs.Arc.{arc_value}
 use Rattle.pg_lines.specs.Search.{terminator, HasItsTrees}
 use Rattle.pg_rows.specs.Output.{HasRoom, is_bad, output}
-use Rattle.pg_rows.specs.Remembered.{Remembers}
+use Rattle.pg_rows.specs.Remembered.{IsAtCursor}
 use Rattle.pg_base.specs.Sink.{Stream, WritesAll, IsBeginning}
 use Rattle.pg_seq.specs.Plan.{Step, Opens, Announces, Ends, Misses, announced, IsPlan, MayFollow, is_open, entries_of}
 use Rattle.pg_seq.specs.History.{Past, plan, taken_of, is_taken, handed}
@@ -34,18 +34,18 @@ opening_of opening = (opening.start, opening.prefix)
 
 -- What was written, and what is to come: the steps of the plan whose rows were written, the newest first, and those
 -- whose rows weren't, the oldest first.
-pub record Writes {A : Type 0} (s : Assembler A) (past : Past) : Type 0 where
+pub record HasWritten {A : Type 0} (s : Assembler A) (past : Past) : Type 0 where
   pub done : List Step
   pub coming : List Step
   pub split : plan past ≡ behind done coming
   pub count : length (announced done) ≡ s.buffer.handed
   pub printing : is_open done ≡ s.printing
   pub waiting : map opening_of s.waiting.items ≡ openings s.buffer.handed coming
-  pub cursor : Remembers s.printer past.query past.format (cursor_of past.query past.format done)
+  pub cursor : IsAtCursor s.printer past.query past.format (cursor_of past.query past.format done)
   pub written : s.failed ≡ false → past.written ≡ output past.query past.format (entries_of done)
 
 -- The sequencer stands after this, where these were the slots of the blocks that were handed out.
-pub record Stands {A : Type 0} (s : Assembler A) (past : Past) : Type 0 where
+pub record IsAfter {A : Type 0} (s : Assembler A) (past : Past) : Type 0 where
   pub gone : List (Slot A)
   pub given_up : AreGone s.buffer gone
   pub query : past.query.text ≡ (arc_value s.query).text
@@ -62,11 +62,11 @@ pub record Stands {A : Type 0} (s : Assembler A) (past : Past) : Type 0 where
   pub results : AllByRecursion (IsResultOf past.query) (gone ++ s.buffer.slots.items)
   pub failed : past.failed ≡ s.failed
   pub selected : s.buffer.selected ≡ list_any (slot_selects past.query) gone
-  pub writes : Writes s past
+  pub writes : HasWritten s past
 
 -- the sequencer stands after this, and the step may follow
 abbrev pub IsReadyFor : {A : Type 0} → Assembler A → Past → Step → Type 0
-IsReadyFor s past step = Stands s past × MayFollow (terminator past.query) (plan past) step
+IsReadyFor s past step = IsAfter s past × MayFollow (terminator past.query) (plan past) step
 
 -- what a drain did that wrote a text
 abbrev pub Drained : Result (Unit {0}) SinkFault → Past → List ℕ → Type 0
@@ -86,8 +86,8 @@ abbrev pub wrote : Past → List ℕ → Past
 wrote past text = record past { written = past.written ++ text }
 
 -- all that may be handed out was written
-abbrev pub IsWritten : Past → Type 0
-IsWritten past = past.written ≡ handed past
+abbrev pub HasWrittenAll : Past → Type 0
+HasWrittenAll past = past.written ≡ handed past
 
 -- the rows of the file that is printed were all written, by the next file that waits, or by the end of the plan
 abbrev pub is_last_block : {A : Type 0} → List (Opening A) → Bool → ℕ → ℕ → Bool
@@ -105,18 +105,18 @@ left s = 2 * length s.waiting.items + (if s.printing then 1 else 0) + length s.b
 pub record Advances {A : Type 0} (new : Assembler A) (past : Past) (before after : Stream) : Type 0 where
   pub rows : List ℕ
   pub got : WritesAll rows before after
-  pub stands : Stands new (wrote past rows)
+  pub stands : IsAfter new (wrote past rows)
 
 -- a beginning of the rows of the next step was written, and a write failed
-pub record Breaks {A : Type 0} (new : Assembler A) (past : Past) (before after : Stream) : Type 0 where
+pub record BreaksOffInStep {A : Type 0} (new : Assembler A) (past : Past) (before after : Stream) : Type 0 where
   pub rows : List ℕ
   pub got : after.taken ≡ before.taken ++ rows
   pub failure : before.failures < after.failures
   pub part : IsBeginning (past.written ++ rows) (handed past)
-  pub stands : Stands new past
+  pub stands : IsAfter new past
 
 -- no step may be handed out, and nothing changed
-pub record Rests {A : Type 0} (new : Assembler A) (past : Past) (before after : Stream) : Type 0 where
-  pub all : IsWritten past
+pub record HasNothingToDo {A : Type 0} (new : Assembler A) (past : Past) (before after : Stream) : Type 0 where
+  pub all : HasWrittenAll past
   pub same : after ≡ before
-  pub stands : Stands new past
+  pub stands : IsAfter new past

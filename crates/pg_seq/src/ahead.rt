@@ -21,12 +21,12 @@ pub(crate) struct Ahead {
 
 impl Ahead {
     ghost use Rattle.pg_rows.specs.Enough.{trail_suffices};
-    ghost use Rattle.pg_rows.specs.Progress.{Tells};
+    ghost use Rattle.pg_rows.specs.Progress.{IsOfTrail};
     ghost use Rattle.pg_rows.specs.Trail.{Trail};
 
     /// Whether enough was read.
     pub(crate) fn is_enough(self, format: &Format) -> bool
-        ensures { (t : Trail) → Tells self.progress format.now t →
+        ensures { (t : Trail) → IsOfTrail self.progress format.now t →
             result ≡ (if is_quiet format.now.mode then self.selected
             else (self.inside && trail_suffices format.now.mode format.now t)) }
     {

@@ -75,12 +75,12 @@ impl<A: Allocator> Assembler<A> {
     ghost use Rattle.pg_seq.specs.Plan.{Opens, Announces, Ends, Misses, MayFollow};
     ghost use Rattle.pg_seq.specs.History.{Past, start, planned, arrived, plan, answer, IsComplete, status_of};
     ghost use Rattle.pg_rows.specs.Output.{HasRoom};
-    ghost use Rattle.pg_seq.specs.Standing.{Stands, IsReadyFor, Drained, drained, is_at_end, left};
-    ghost use Rattle.pg_seq.specs.Standing.{Advances, Breaks, Rests, IsWritten};
+    ghost use Rattle.pg_seq.specs.Standing.{IsAfter, IsReadyFor, Drained, drained, is_at_end, left};
+    ghost use Rattle.pg_seq.specs.Standing.{Advances, BreaksOffInStep, HasNothingToDo, HasWrittenAll};
     ghost use Rattle.pg_rows.specs.Enough.{is_enough};
     ghost use Rattle.pg_seq.specs.Plan.{entries_of};
     ghost use Rattle.pg_seq.specs.History.{front_of};
-    ghost use Rattle.pg_seq.specs.Ahead.{IsAhead, IsFront, is_over, left_ahead};
+    ghost use Rattle.pg_seq.specs.Ahead.{HasLookedAhead, IsAtFront, is_over, left_ahead};
     ghost use Rattle.pg_seq.specs.declared.answers.Arrival.TheVariants.{Taken};
     ghost use Rattle.pg_seq.specs.declared.answers.SinkFault.TheVariants.{WriteFailed};
 
@@ -94,7 +94,7 @@ impl<A: Allocator> Assembler<A> {
         A: Copy,
         requires { HasRoom format }
         ensures { IfOk result (λ s. (trees : List Pattern) → AreTreesOf (arc_value query).text trees →
-            Stands s (start (search_of (arc_value query).text trees) format)) }
+            IsAfter s (start (search_of (arc_value query).text trees) format)) }
     {
         let printer = Printer::new(alloc, &query, format)?;
         Ok(Assembler {
@@ -116,9 +116,9 @@ impl<A: Allocator> Assembler<A> {
     where
         A: Copy,
         requires { (past : Past) × IsReadyFor self.old past (Opens name.now) }
-        ensures ok { (past : Past) → Stands self.old past →
-            OnOk result (Stands self.new (planned past (Opens name.now))) }
-        ensures err { (past : Past) → Stands self.old past → OnErr result (Stands self.new past) }
+        ensures ok { (past : Past) → IsAfter self.old past →
+            OnOk result (IsAfter self.new (planned past (Opens name.now))) }
+        ensures err { (past : Past) → IsAfter self.old past → OnErr result (IsAfter self.new past) }
     {
         let prefix = Prefix::new(self.alloc, name)?;
         self.waiting.reserve(1)?;
@@ -132,10 +132,10 @@ impl<A: Allocator> Assembler<A> {
     /// Announces the open file's next block. A refused request for memory is the only error, and changes nothing.
     pub(crate) fn announce(&mut self, block: Arc<Block<A>, A>) -> Result<(), AllocError>
         requires { (past : Past) × IsReadyFor self.old past (Announces (arc_value block)) }
-        ensures ok { (past : Past) → Stands self.old past →
+        ensures ok { (past : Past) → IsAfter self.old past →
             MayFollow (terminator past.query) (plan past) (Announces (arc_value block)) →
-            OnOk result (Stands self.new (planned past (Announces (arc_value block)))) }
-        ensures err { (past : Past) → Stands self.old past → OnErr result (Stands self.new past) }
+            OnOk result (IsAfter self.new (planned past (Announces (arc_value block)))) }
+        ensures err { (past : Past) → IsAfter self.old past → OnErr result (IsAfter self.new past) }
     {
         self.buffer.push(block)
     }
@@ -143,7 +143,7 @@ impl<A: Allocator> Assembler<A> {
     /// Ends the open file.
     pub(crate) fn end(&mut self, failed: bool)
         requires { (past : Past) × IsReadyFor self.old past (Ends failed) }
-        ensures { (past : Past) → Stands self.old past → Stands self.new (planned past (Ends failed)) }
+        ensures { (past : Past) → IsAfter self.old past → IsAfter self.new (planned past (Ends failed)) }
     {
         self.running = false;
         self.bad |= failed;
@@ -152,9 +152,9 @@ impl<A: Allocator> Assembler<A> {
     /// Notes a name that could not be opened or listed.
     pub(crate) fn miss(&mut self, name: &[u8]) -> Result<(), AllocError>
         requires { (past : Past) × IsReadyFor self.old past (Misses name.now) }
-        ensures ok { (past : Past) → Stands self.old past →
-            OnOk result (Stands self.new (planned past (Misses name.now))) }
-        ensures err { (past : Past) → Stands self.old past → OnErr result (Stands self.new past) }
+        ensures ok { (past : Past) → IsAfter self.old past →
+            OnOk result (IsAfter self.new (planned past (Misses name.now))) }
+        ensures err { (past : Past) → IsAfter self.old past → OnErr result (IsAfter self.new past) }
     {
         let _ = name;
         self.bad = true;
@@ -163,8 +163,8 @@ impl<A: Allocator> Assembler<A> {
 
     /// Takes a result. Only `Taken` changes anything.
     pub(crate) fn arrive(&mut self, found: BlockResult<A>) -> Arrival
-        ensures answer { (past : Past) → Stands self.old past → result ≡ answer past found }
-        ensures stands { (past : Past) → Stands self.old past → Stands self.new (arrived past found) }
+        ensures answer { (past : Past) → IsAfter self.old past → result ≡ answer past found }
+        ensures stands { (past : Past) → IsAfter self.old past → IsAfter self.new (arrived past found) }
     {
         match self.arrival_of(&found) {
             Arrival::Taken => {
@@ -178,16 +178,16 @@ impl<A: Allocator> Assembler<A> {
 
     /// Takes a result that is the first of its block.
     pub(crate) fn keep(&mut self, found: BlockResult<A>)
-        requires { (past : Past) × Stands self.old past × (answer past found ≡ Taken) }
-        ensures { (past : Past) → Stands self.old past → answer past found ≡ Taken →
-            Stands self.new (arrived past found) }
+        requires { (past : Past) × IsAfter self.old past × (answer past found ≡ Taken) }
+        ensures { (past : Past) → IsAfter self.old past → answer past found ≡ Taken →
+            IsAfter self.new (arrived past found) }
     {
         self.buffer.put(found);
     }
 
     /// What a result is.
     fn arrival_of(&self, found: &BlockResult<A>) -> Arrival
-        ensures { (past : Past) → Stands self.now past → result ≡ answer past found.now }
+        ensures { (past : Past) → IsAfter self.now past → result ≡ answer past found.now }
     {
         let query: &Query<A> = &self.query;
         let other: &Query<A> = found.query();
@@ -199,10 +199,10 @@ impl<A: Allocator> Assembler<A> {
 
     /// Writes all that may be handed out and was not yet written.
     pub(crate) fn drain<W: Sink>(&mut self, out: &mut W) -> Result<(), SinkFault>
-        requires { (past : Past) × Stands self.old past }
-        ensures drained { (past : Past) → Stands self.old past → (text : List ℕ)
+        requires { (past : Past) × IsAfter self.old past }
+        ensures drained { (past : Past) → IsAfter self.old past → (text : List ℕ)
             × ((W.stream out.new).taken ≡ (W.stream out.old).taken ++ text)
-            × Drained result past text × Stands self.new (drained past text result) }
+            × Drained result past text × IsAfter self.new (drained past text result) }
         ensures cause { IsErrOf result WriteFailed → (W.stream out.old).failures < (W.stream out.new).failures }
         ensures no_failure { OnOk result ((W.stream out.new).failures ≡ (W.stream out.old).failures) }
         ensures never_falls { (W.stream out.old).failures ≤ (W.stream out.new).failures }
@@ -224,11 +224,11 @@ impl<A: Allocator> Assembler<A> {
 
     /// Does the next step of the plan that may be done. `false` says that there is none.
     fn advance<W: Sink>(&mut self, out: &mut W) -> Result<bool, WriteError>
-        requires { (past : Past) × Stands self.old past }
-        ensures goes { (past : Past) → Stands self.old past → self.old.failed ≡ false → MatchResult result (λ more.
+        requires { (past : Past) × IsAfter self.old past }
+        ensures goes { (past : Past) → IsAfter self.old past → self.old.failed ≡ false → MatchResult result (λ more.
             MatchBool more (Advances self.new past (W.stream out.old) (W.stream out.new))
-            (Rests self.new past (W.stream out.old) (W.stream out.new)))
-            (λ _. Breaks self.new past (W.stream out.old) (W.stream out.new)) }
+            (HasNothingToDo self.new past (W.stream out.old) (W.stream out.new)))
+            (λ _. BreaksOffInStep self.new past (W.stream out.old) (W.stream out.new)) }
         ensures fewer { IfOk result (λ more. more ≡ true → left self.new < left self.old) }
         ensures same { self.new.failed ≡ self.old.failed }
     {
@@ -246,8 +246,8 @@ impl<A: Allocator> Assembler<A> {
     /// Opens the next file in the printer, where one waits.
     fn open_next(&mut self) -> bool
         requires { self.old.printing ≡ false }
-        ensures opened { (past : Past) → Stands self.old past → self.old.failed ≡ false →
-            MatchBool result (Stands self.new past) (IsWritten past × Stands self.new past) }
+        ensures opened { (past : Past) → IsAfter self.old past → self.old.failed ≡ false →
+            MatchBool result (IsAfter self.new past) (HasWrittenAll past × IsAfter self.new past) }
         ensures fewer { result ≡ true → left self.new < left self.old }
         ensures same { self.new.failed ≡ self.old.failed }
     {
@@ -272,12 +272,12 @@ impl<A: Allocator> Assembler<A> {
     /// Writes the rows of the next block of the file that the printer has opened, where its result has
     /// come.
     fn print_next<W: Sink>(&mut self, out: &mut W) -> Result<bool, WriteError>
-        requires stands { (past : Past) × Stands self.old past }
+        requires stands { (past : Past) × IsAfter self.old past }
         requires inside { (self.old.printing ≡ true) × (is_at_end self.old ≡ false) }
-        ensures goes { (past : Past) → Stands self.old past → self.old.failed ≡ false → MatchResult result (λ more.
+        ensures goes { (past : Past) → IsAfter self.old past → self.old.failed ≡ false → MatchResult result (λ more.
             MatchBool more (Advances self.new past (W.stream out.old) (W.stream out.new))
-            (Rests self.new past (W.stream out.old) (W.stream out.new)))
-            (λ _. Breaks self.new past (W.stream out.old) (W.stream out.new)) }
+            (HasNothingToDo self.new past (W.stream out.old) (W.stream out.new)))
+            (λ _. BreaksOffInStep self.new past (W.stream out.old) (W.stream out.new)) }
         ensures fewer { IfOk result (λ more. more ≡ true → left self.new < left self.old) }
         ensures same { self.new.failed ≡ self.old.failed }
     {
@@ -293,15 +293,15 @@ impl<A: Allocator> Assembler<A> {
 
     /// Whether no file is open and the result of every announced block was taken.
     pub(crate) fn complete(&self) -> bool
-        ensures { (past : Past) → Stands self.now past → IsTrue result ↔ IsComplete past }
+        ensures { (past : Past) → IsAfter self.now past → IsTrue result ↔ IsComplete past }
     {
         !self.running && self.buffer.has_all_results()
     }
 
     /// Whether enough was read, by the files that may be handed out.
     pub(crate) fn enough(&self) -> bool
-        requires { (past : Past) × Stands self.now past }
-        ensures { (past : Past) → Stands self.now past →
+        requires { (past : Past) × IsAfter self.now past }
+        ensures { (past : Past) → IsAfter self.now past →
             result ≡ is_enough past.query past.format (entries_of (front_of past)) }
     {
         let mut ahead = Ahead {
@@ -319,9 +319,9 @@ impl<A: Allocator> Assembler<A> {
 
     /// One step further, where it could be done.
     fn next_ahead(&self, ahead: Ahead) -> Option<Ahead>
-        requires { (past : Past) × Stands self.now past × IsAhead self.now past ahead }
-        ensures further { (past : Past) → Stands self.now past → IsAhead self.now past ahead →
-            MatchOption result (IsFront past ahead) (IsAhead self.now past) }
+        requires { (past : Past) × IsAfter self.now past × HasLookedAhead self.now past ahead }
+        ensures further { (past : Past) → IsAfter self.now past → HasLookedAhead self.now past ahead →
+            MatchOption result (IsAtFront past ahead) (HasLookedAhead self.now past) }
         ensures fewer { IfSome result (λ next. left_ahead self.now next < left_ahead self.now ahead) }
     {
         if !ahead.inside {
@@ -339,8 +339,8 @@ impl<A: Allocator> Assembler<A> {
     /// Opens the next file.
     fn file_ahead(&self, ahead: Ahead) -> Option<Ahead>
         requires { ahead.inside ≡ false }
-        ensures further { (past : Past) → Stands self.now past → IsAhead self.now past ahead →
-            MatchOption result (IsFront past ahead) (IsAhead self.now past) }
+        ensures further { (past : Past) → IsAfter self.now past → HasLookedAhead self.now past ahead →
+            MatchOption result (IsAtFront past ahead) (HasLookedAhead self.now past) }
         ensures fewer { IfSome result (λ next. left_ahead self.now next < left_ahead self.now ahead) }
     {
         if ahead.files >= self.waiting.len() {
@@ -366,10 +366,10 @@ impl<A: Allocator> Assembler<A> {
 
     /// Goes past the next block, where its result has come.
     fn block_ahead(&self, ahead: Ahead) -> Option<Ahead>
-        requires stands { (past : Past) × Stands self.now past × IsAhead self.now past ahead }
+        requires stands { (past : Past) × IsAfter self.now past × HasLookedAhead self.now past ahead }
         requires inside { (ahead.inside ≡ true) × (is_over self.now ahead ≡ false) }
-        ensures further { (past : Past) → Stands self.now past → IsAhead self.now past ahead →
-            MatchOption result (IsFront past ahead) (IsAhead self.now past) }
+        ensures further { (past : Past) → IsAfter self.now past → HasLookedAhead self.now past ahead →
+            MatchOption result (IsAtFront past ahead) (HasLookedAhead self.now past) }
         ensures fewer { IfSome result (λ next. left_ahead self.now next < left_ahead self.now ahead) }
     {
         let Some(found) = self.buffer.result_at(ahead.blocks) else {
@@ -386,7 +386,7 @@ impl<A: Allocator> Assembler<A> {
 
     /// The exit status, once all is complete.
     pub(crate) fn status(&self) -> Option<u8>
-        ensures { (past : Past) → Stands self.now past →
+        ensures { (past : Past) → IsAfter self.now past →
             MatchOption result (IsComplete past → ⊥) (λ status. IsComplete past × (status ≡ status_of past)) }
     {
         if !self.complete() {

@@ -12,7 +12,7 @@ ghost use Rattle.pg_rows.specs.Enough.{lines_suffice};
 ghost use Rattle.pg_seq.specs.Plan.{IsPlan, Begins, announced, entries_of};
 ghost use Rattle.pg_seq.specs.History.{Past, IsComplete, plan, handed, answer, is_taken, taken_of};
 ghost use Rattle.pg_base.specs.Sink.{IsBeginning};
-ghost use Rattle.pg_seq.specs.Settled.{IsSettled, AreLeftRightly, AreLonger, GiveTheSame};
+ghost use Rattle.pg_seq.specs.Settled.{IsSettled, AreLeftRightly, MayBeLonger, GiveTheSame};
 ghost use Rattle.pg_seq.specs.Shares.{joined_output, joined_status};
 ghost use Rattle.pg_seq.specs.declared.answers.Arrival.TheVariants.{Taken};
 
@@ -50,7 +50,7 @@ pub fn lines_that_suffice_settle()
 /// the format isn't 0.
 pub fn left_files_may_be_longer()
     ensures { (q : Search) (format : Format) (entries : List Entry) (others : List Entry) →
-        HasRoom format → AreLeftRightly q format entries → AreLonger entries others →
+        HasRoom format → AreLeftRightly q format entries → MayBeLonger entries others →
         GiveTheSame q format entries others }
 {}
 

@@ -74,7 +74,7 @@ fn place_in(starts: &[u128], total: u128, file: u32, number: u64) -> Option<u128
 impl<A: Allocator> ReorderBuffer<A> {
     ghost use Rattle.pg_lines.specs.Search.{Search, HasItsTrees};
     ghost use Rattle.pg_seq.specs.Slots.{IsResultOf, has_result, slot_selects, ready};
-    ghost use Rattle.pg_seq.specs.Buffer.{Keeps, OpensFile, Pushes, IsArrival, Puts, HandsOut, HasResult};
+    ghost use Rattle.pg_seq.specs.Buffer.{SameButRoom, OpensFile, Pushes, IsArrival, Puts, HandsOut, HasResult};
 
     /// A buffer without files and blocks.
     pub(crate) fn new(alloc: A) -> ReorderBuffer<A>
@@ -104,7 +104,7 @@ impl<A: Allocator> ReorderBuffer<A> {
     /// error, and changes nothing.
     pub(crate) fn open_file(&mut self) -> Result<(), AllocError>
         ensures ok { OnOk result (OpensFile self.old self.new) }
-        ensures err { OnErr result (Keeps self.old self.new) }
+        ensures err { OnErr result (SameButRoom self.old self.new) }
     {
         let start = self.announced();
         self.starts.push(start)?;
@@ -115,7 +115,7 @@ impl<A: Allocator> ReorderBuffer<A> {
     pub(crate) fn push(&mut self, block: Arc<Block<A>, A>) -> Result<(), AllocError>
         requires { self.old.handed + length self.old.slots.items < 2 ^ 94 }
         ensures ok { OnOk result (Pushes (arc_value block) self.old self.new) }
-        ensures err { OnErr result (Keeps self.old self.new) }
+        ensures err { OnErr result (SameButRoom self.old self.new) }
     {
         self.slots.push_back(Slot {
             block,

@@ -28,14 +28,14 @@ pub struct Sequencer<A: Allocator = Global> {
 
 impl<A: Allocator> Model for Sequencer<A> {
     ghost use Rattle.pg_seq.specs.History.{Past};
-    ghost use Rattle.pg_seq.specs.Standing.{Stands};
+    ghost use Rattle.pg_seq.specs.Standing.{IsAfter};
     ghost use Rattle.pg_seq.specs.declared.assembler.Assembler.{Assembler};
 
     ghost Value = { Assembler A };
 
     ghost view = { λ s. s.assembler };
 
-    ghost invariant = { λ s. (past : Past) × Stands s.assembler past };
+    ghost invariant = { λ s. (past : Past) × IsAfter s.assembler past };
 }
 
 impl<A: Allocator> Sequencer<A> {
@@ -45,7 +45,7 @@ impl<A: Allocator> Sequencer<A> {
     ghost use Rattle.pg_seq.specs.Plan.{Opens, Announces, Ends, Misses, MayFollow, entries_of};
     ghost use Rattle.pg_seq.specs.History.{Past, start, planned, arrived, plan, answer, front_of, IsComplete};
     ghost use Rattle.pg_seq.specs.History.{status_of};
-    ghost use Rattle.pg_seq.specs.Standing.{Stands, IsReadyFor, Drained, drained};
+    ghost use Rattle.pg_seq.specs.Standing.{IsAfter, IsReadyFor, Drained, drained};
     ghost use Rattle.pg_seq.specs.declared.answers.Arrival.TheVariants.{Taken};
     ghost use Rattle.pg_seq.specs.declared.answers.SinkFault.TheVariants.{WriteFailed};
 
@@ -62,7 +62,7 @@ impl<A: Allocator> Sequencer<A> {
         A: Copy,
         requires { HasRoom format }
         ensures { IfOk result (λ s. (trees : List Pattern) → AreTreesOf (arc_value query).text trees →
-            Stands s (start (search_of (arc_value query).text trees) format)) }
+            IsAfter s (start (search_of (arc_value query).text trees) format)) }
     {
         let compiled: &Query<A> = &query;
         // Its contract says that the patterns have trees.
@@ -79,9 +79,9 @@ impl<A: Allocator> Sequencer<A> {
     where
         A: Copy,
         requires { (past : Past) × IsReadyFor self.old past (Opens name.now) }
-        ensures ok { (past : Past) → Stands self.old past →
-            OnOk result (Stands self.new (planned past (Opens name.now))) }
-        ensures err { (past : Past) → Stands self.old past → OnErr result (Stands self.new past) }
+        ensures ok { (past : Past) → IsAfter self.old past →
+            OnOk result (IsAfter self.new (planned past (Opens name.now))) }
+        ensures err { (past : Past) → IsAfter self.old past → OnErr result (IsAfter self.new past) }
     {
         self.assembler.open(name)
     }
@@ -93,10 +93,10 @@ impl<A: Allocator> Sequencer<A> {
     /// file at most 2^62. A refused request for memory is the only error, and changes nothing.
     pub fn announce(&mut self, block: Arc<Block<A>, A>) -> Result<(), AllocError>
         requires { (past : Past) × IsReadyFor self.old past (Announces (arc_value block)) }
-        ensures ok { (past : Past) → Stands self.old past →
+        ensures ok { (past : Past) → IsAfter self.old past →
             MayFollow (terminator past.query) (plan past) (Announces (arc_value block)) →
-            OnOk result (Stands self.new (planned past (Announces (arc_value block)))) }
-        ensures err { (past : Past) → Stands self.old past → OnErr result (Stands self.new past) }
+            OnOk result (IsAfter self.new (planned past (Announces (arc_value block)))) }
+        ensures err { (past : Past) → IsAfter self.old past → OnErr result (IsAfter self.new past) }
     {
         self.assembler.announce(block)
     }
@@ -104,7 +104,7 @@ impl<A: Allocator> Sequencer<A> {
     /// Ends the open file, whose reading has failed or has come to its end. It takes no memory.
     pub fn end(&mut self, failed: bool)
         requires { (past : Past) × IsReadyFor self.old past (Ends failed) }
-        ensures { (past : Past) → Stands self.old past → Stands self.new (planned past (Ends failed)) }
+        ensures { (past : Past) → IsAfter self.old past → IsAfter self.new (planned past (Ends failed)) }
     {
         self.assembler.end(failed);
     }
@@ -114,9 +114,9 @@ impl<A: Allocator> Sequencer<A> {
     /// A refused request for memory is the only error, and changes nothing.
     pub fn miss(&mut self, name: &[u8]) -> Result<(), AllocError>
         requires { (past : Past) × IsReadyFor self.old past (Misses name.now) }
-        ensures ok { (past : Past) → Stands self.old past →
-            OnOk result (Stands self.new (planned past (Misses name.now))) }
-        ensures err { (past : Past) → Stands self.old past → OnErr result (Stands self.new past) }
+        ensures ok { (past : Past) → IsAfter self.old past →
+            OnOk result (IsAfter self.new (planned past (Misses name.now))) }
+        ensures err { (past : Past) → IsAfter self.old past → OnErr result (IsAfter self.new past) }
     {
         self.assembler.miss(name)
     }
@@ -125,8 +125,8 @@ impl<A: Allocator> Sequencer<A> {
     ///
     /// Queries and blocks are compared by content. It takes no memory.
     pub fn arrive(&mut self, found: BlockResult<A>) -> Arrival
-        ensures answer { (past : Past) → Stands self.old past → result ≡ answer past found }
-        ensures stands { (past : Past) → Stands self.old past → Stands self.new (arrived past found) }
+        ensures answer { (past : Past) → IsAfter self.old past → result ≡ answer past found }
+        ensures stands { (past : Past) → IsAfter self.old past → IsAfter self.new (arrived past found) }
     {
         self.assembler.arrive(found)
     }
@@ -134,9 +134,9 @@ impl<A: Allocator> Sequencer<A> {
     /// Takes a result whose arrival would be answered by `Taken`, as that of a block that was just
     /// announced and searched. Neither queries nor blocks are compared. It takes no memory.
     pub fn keep(&mut self, found: BlockResult<A>)
-        requires { (past : Past) × Stands self.old past × (answer past found ≡ Taken) }
-        ensures { (past : Past) → Stands self.old past → answer past found ≡ Taken →
-            Stands self.new (arrived past found) }
+        requires { (past : Past) × IsAfter self.old past × (answer past found ≡ Taken) }
+        ensures { (past : Past) → IsAfter self.old past → answer past found ≡ Taken →
+            IsAfter self.new (arrived past found) }
     {
         self.assembler.keep(found);
     }
@@ -149,9 +149,9 @@ impl<A: Allocator> Sequencer<A> {
     /// a beginning of what was due was written. `Failed` where an earlier call answered
     /// `WriteFailed`; nothing is written.
     pub fn drain<W: Sink>(&mut self, out: &mut W) -> Result<(), SinkFault>
-        ensures drained { (past : Past) → Stands self.old past → (text : List ℕ)
+        ensures drained { (past : Past) → IsAfter self.old past → (text : List ℕ)
             × ((W.stream out.new).taken ≡ (W.stream out.old).taken ++ text)
-            × Drained result past text × Stands self.new (drained past text result) }
+            × Drained result past text × IsAfter self.new (drained past text result) }
         ensures cause { IsErrOf result WriteFailed → (W.stream out.old).failures < (W.stream out.new).failures }
         ensures no_failure { OnOk result ((W.stream out.new).failures ≡ (W.stream out.old).failures) }
         ensures never_falls { (W.stream out.old).failures ≤ (W.stream out.new).failures }
@@ -161,7 +161,7 @@ impl<A: Allocator> Sequencer<A> {
 
     /// Whether no file is open and the result of every announced block was taken.
     pub fn complete(&self) -> bool
-        ensures { (past : Past) → Stands self.now past → IsTrue result ↔ IsComplete past }
+        ensures { (past : Past) → IsAfter self.now past → IsTrue result ↔ IsComplete past }
     {
         self.assembler.complete()
     }
@@ -172,7 +172,7 @@ impl<A: Allocator> Sequencer<A> {
     ///
     /// While results are missing the open file may be an earlier one than that of the plan.
     pub fn enough(&self) -> bool
-        ensures { (past : Past) → Stands self.now past →
+        ensures { (past : Past) → IsAfter self.now past →
             result ≡ is_enough past.query past.format (entries_of (front_of past)) }
     {
         self.assembler.enough()
@@ -182,7 +182,7 @@ impl<A: Allocator> Sequencer<A> {
     /// or a file whose reading failed, but with -q 0 where a line was selected; else 0 where a line was
     /// selected and 1 where none was.
     pub fn status(&self) -> Option<u8>
-        ensures { (past : Past) → Stands self.now past →
+        ensures { (past : Past) → IsAfter self.now past →
             MatchOption result (IsComplete past → ⊥) (λ status. IsComplete past × (status ≡ status_of past)) }
     {
         self.assembler.status()

@@ -10,7 +10,7 @@ use Rattle.pg_lines.specs.Search.{terminator}
 use Rattle.pg_lines.specs.Searched.{Searched}
 use Rattle.pg_seq.specs.Plan.{Opens, Announces, Ends, Misses, MayFollow, last_blocks}
 use Rattle.pg_seq.specs.History.{planned, arrived, plan}
-use Rattle.pg_seq.specs.Standing.{Stands}
+use Rattle.pg_seq.specs.Standing.{IsAfter}
 use Rattle.pg_seq.specs.declared.assembler.Assembler.{Assembler}
 use Rattle.pg_tests.specs.Reading.{IsBlock, IsBetween, IsReading}
 
@@ -80,7 +80,7 @@ all_push (x ∷ bs) b h e = (h.0, all_push bs b h.1 e)
 
 -- it was announced
 pub announced : {A : Type 0} (s s' : Assembler A) (f n : ℕ) (bytes : List ℕ) (b : BlockData) (r : IsReading s f n)
-    → IsBlock bytes → b ≡ block_of f n bytes → Stands s' (planned r.past (Announces b)) → IsReading s' f (n + 1)
+    → IsBlock bytes → b ≡ block_of f n bytes → IsAfter s' (planned r.past (Announces b)) → IsReading s' f (n + 1)
 announced s s' f n bytes b r block same h =
     let blocks = last_blocks (plan r.past) in
     let text : b.bytes ≡ bytes = ap (λ (x : BlockData). x.bytes) same in
@@ -102,7 +102,7 @@ announced s s' f n bytes b r block same h =
 
 -- a result arrived
 pub arrived_on : {A : Type 0} (s s' : Assembler A) (f n : ℕ) (found : Searched) (r : IsReading s f n)
-    → Stands s' (arrived r.past found) → IsReading s' f n
+    → IsAfter s' (arrived r.past found) → IsReading s' f n
 arrived_on s s' f n found r h = record {
   past = arrived r.past found;
   stands = h;
@@ -121,7 +121,7 @@ may_open s f name r few = (r.closed, omega (arith, r.number))
 
 -- it was opened
 pub opened_next : {A : Type 0} (s s' : Assembler A) (f : ℕ) (name : List ℕ) (r : IsBetween s f)
-    → Stands s' (planned r.past (Opens name)) → IsReading s' f 0
+    → IsAfter s' (planned r.past (Opens name)) → IsReading s' f 0
 opened_next s s' f name r h = record {
   past = planned r.past (Opens name);
   stands = h;
@@ -135,7 +135,7 @@ opened_next s s' f name r h = record {
 
 -- the open file has ended
 pub ended : {A : Type 0} (s s' : Assembler A) (f n : ℕ) (r : IsReading s f n)
-    → Stands s' (planned r.past (Ends false)) → IsBetween s' (f + 1)
+    → IsAfter s' (planned r.past (Ends false)) → IsBetween s' (f + 1)
 ended s s' f n r h = record {
   past = planned r.past (Ends false);
   stands = h;
@@ -146,7 +146,7 @@ ended s s' f n r h = record {
 
 -- a name was missed
 pub missed : {A : Type 0} (s s' : Assembler A) (f : ℕ) (name : List ℕ) (r : IsBetween s f)
-    → Stands s' (planned r.past (Misses name)) → IsBetween s' f
+    → IsAfter s' (planned r.past (Misses name)) → IsBetween s' f
 missed s s' f name r h = record {
   past = planned r.past (Misses name);
   stands = h;

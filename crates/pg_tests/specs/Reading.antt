@@ -5,7 +5,7 @@ use Rattle.pg_lines.specs.Blocks.{EndsWith, joined}
 use Rattle.pg_lines.specs.Search.{terminator}
 use Rattle.pg_seq.specs.Plan.{is_open, opened, last_blocks}
 use Rattle.pg_seq.specs.History.{Past, plan}
-use Rattle.pg_seq.specs.Standing.{Stands}
+use Rattle.pg_seq.specs.Standing.{IsAfter}
 use Rattle.pg_seq.specs.declared.assembler.Assembler.{Assembler}
 
 -- the bytes of a block: lines with their newlines, of at most 100 bytes together
@@ -16,7 +16,7 @@ pub record IsBlock (bytes : List ℕ) : Type 0 where
 -- Lines end with newlines, no file is open, and so many were opened.
 pub record IsBetween {A : Type 0} (s : Assembler A) (files : ℕ) : Type 0 where
   pub past : Past
-  pub stands : Stands s past
+  pub stands : IsAfter s past
   pub closed : is_open (plan past) ≡ false
   pub number : opened (plan past) ≡ files
   pub ends : terminator past.query ≡ 10
@@ -25,7 +25,7 @@ pub record IsBetween {A : Type 0} (s : Assembler A) (files : ℕ) : Type 0 where
 -- 100 bytes.
 pub record IsReading {A : Type 0} (s : Assembler A) (file count : ℕ) : Type 0 where
   pub past : Past
-  pub stands : Stands s past
+  pub stands : IsAfter s past
   pub running : is_open (plan past) ≡ true
   pub last : opened (plan past) ≡ file + 1
   pub ends : terminator past.query ≡ 10

@@ -8,7 +8,7 @@ use Rattle.pg_words.specs.Line.{table}
 use Rattle.pg_words.specs.declared.words.Task.{Task}
 use Rattle.pg_words.specs.declared.words.Task.TheVariants.{Search}
 use Rattle.pg_words.specs.declared.words.WordsFault.{WordsFault}
-use Rattle.pg_command.specs.Answers.{Answers}
+use Rattle.pg_command.specs.Answers.{AnswersSearch}
 use Rattle.pg_command.specs.Command.{Does}
 use Rattle.pg_command.proofs.RefusalLemmas.{refusal_told}
 use Rattle.pg_command.proofs.program.command.Goals as goal
@@ -35,7 +35,7 @@ returns-in-Ok-Search-clause-commands g c =
     (g.E.Sink.stream c.answer.new.err)
     c.answer.result)
     (sym asked_for) (subst
-    (λ (asked : Asked). Answers (g.T.FileTree.tells c.args.tree.now) (g.T.FileTree.answers c.args.tree.now) asked
+    (λ (asked : Asked). AnswersSearch (g.T.FileTree.tells c.args.tree.now) (g.T.FileTree.answers c.args.tree.now) asked
     (g.S.Store.past c.args.files.now.store) (g.S.Store.past c.answer.new.files.store)
     (g.W.Sink.stream c.args.out.now) (g.W.Sink.stream c.answer.new.out) (g.E.Sink.stream c.args.err.now)
     (g.E.Sink.stream c.answer.new.err)

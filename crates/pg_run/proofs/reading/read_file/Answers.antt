@@ -5,7 +5,7 @@ use Rattle.pg_base.specs.Entries.{is_failed}
 use Rattle.pg_rows.specs.Output.{when}
 use Rattle.pg_files.specs.Given.{newest_name}
 use Rattle.pg_run.specs.Told.{faults_of, fault_line}
-use Rattle.pg_run.specs.Reading.{Breaks, ending_after}
+use Rattle.pg_run.specs.Reading.{BreaksOffInFile, ending_after}
 use Rattle.pg_run.proofs.HoldLemmas.{fails_by}
 use Rattle.pg_run.proofs.ReadingLemmas.{may_leave, ok_by, told_more, refused_last}
 use Rattle.pg_run.proofs.reading.read_file.Goals as goal
@@ -73,7 +73,8 @@ returns-in_err-read_once-clause-told g c =
 pub returns-in_err-read_once-clause-outcome : goal.returns-in_err-read_once-clause-outcome
 returns-in_err-read_once-clause-outcome g c = λ aim start.
     let out' = g.W.Sink.stream c.read_once.new.out in
-    fails_by c.from_residual-in_err-read_once.result _ (Breaks aim (g.F.Files.past c.read_once.new.files).given out')
+    fails_by c.from_residual-in_err-read_once.result _ (BreaksOffInFile aim (g.F.Files.past
+    c.read_once.new.files).given out')
     c.in_err-read_once.field-0.0 c.from_residual-in_err-read_once.ensures.1
     (c.in_err-read_once.ensures.outcome aim (c.in_ok-settle.ensures.outcome aim _ (c.loop.invariant.reads aim start)))
 
@@ -230,5 +231,5 @@ returns-in_err-settle-clause-told g c = IfOk-from_err c.from_residual.result _ c
 pub returns-in_err-settle-clause-outcome : goal.returns-in_err-settle-clause-outcome
 returns-in_err-settle-clause-outcome g c = λ aim start.
     let out' = g.W.Sink.stream c.settle.new.out in
-    fails_by c.from_residual.result _ (Breaks aim _ out') c.in_err-settle.field-0.0 c.from_residual.ensures.1
+    fails_by c.from_residual.result _ (BreaksOffInFile aim _ out') c.in_err-settle.field-0.0 c.from_residual.ensures.1
     (c.in_err-settle.ensures.outcome aim _ (c.loop.invariant.reads aim start))

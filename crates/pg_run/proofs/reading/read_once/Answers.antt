@@ -1,5 +1,5 @@
 use Rattle.std.proofs.Common.{◌∙◌}
-use Rattle.pg_run.specs.Reading.{Breaks}
+use Rattle.pg_run.specs.Reading.{BreaksOffInFile}
 use Rattle.pg_run.proofs.HoldLemmas.{ok_of_err, fails_by}
 use Rattle.pg_run.proofs.ReadingLemmas.{read_on}
 use Rattle.pg_run.proofs.reading.read_once.Goals as goal
@@ -26,7 +26,7 @@ returns-in_err-search_ready-clause-outcome g c = λ aim start.
     let out = g.W.Sink.stream c.args.out.now in
     let h = c.recycle.ensures.in_file aim given out start in
     fails_by c.from_residual.result _
-    (Breaks aim (g.F.Files.past c.search_ready.new.files).given out') c.in_err-search_ready.field-0.0
+    (BreaksOffInFile aim (g.F.Files.past c.search_ready.new.files).given out') c.in_err-search_ready.field-0.0
     c.from_residual.ensures.1
     (c.in_err-search_ready.ensures.outcome aim (read_on h c.read.ensures))
 

@@ -1,6 +1,6 @@
 use Rattle.std.proofs.Common.{◌≡◌, drop}
 use Rattle.pg_run.specs.Holding.{Aim}
-use Rattle.pg_run.specs.Reading.{InFile}
+use Rattle.pg_run.specs.Reading.{IsInsideFile}
 use Rattle.pg_run.proofs.reading.search_ready.Given as goal
 
 abbrev pub invariant-loop : goal.invariant-loop
@@ -15,6 +15,6 @@ invariant-loop g l =
       done : past.done ≡ past'.done;
       before : drop 1 past.given ≡ drop 1 past'.given;
       same_list : g.F.Files.list l.files ≡ g.F.Files.list l.initial.files;
-      reads : (aim : Aim) → InFile l.initial.reader l.initial.engine aim past'.given start
-          → InFile l.reader l.engine aim past.given now;
+      reads : (aim : Aim) → IsInsideFile l.initial.reader l.initial.engine aim past'.given start
+          → IsInsideFile l.reader l.engine aim past.given now;
     }

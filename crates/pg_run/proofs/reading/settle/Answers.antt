@@ -1,4 +1,4 @@
-use Rattle.pg_run.specs.Reading.{Breaks}
+use Rattle.pg_run.specs.Reading.{BreaksOffInFile}
 use Rattle.pg_run.proofs.HoldLemmas.{fails_by}
 use Rattle.pg_run.proofs.ReadingLemmas.{flushed, rest_breaks}
 use Rattle.pg_run.proofs.reading.settle.Goals as goal
@@ -15,7 +15,8 @@ returns-in_err-search_lines-clause-came g c = c.in_err-search_lines.ensures.came
 pub returns-in_err-search_lines-clause-outcome : goal.returns-in_err-search_lines-clause-outcome
 returns-in_err-search_lines-clause-outcome g c = λ aim given h.
     let out' = g.W.Sink.stream c.search_lines.new.out in
-    fails_by c.from_residual.result _ (Breaks aim given out') c.in_err-search_lines.field-0.0 c.from_residual.ensures.1
+    fails_by c.from_residual.result _ (BreaksOffInFile aim given out') c.in_err-search_lines.field-0.0
+    c.from_residual.ensures.1
     (c.in_err-search_lines.ensures.outcome aim given h)
 
 pub flush_waiting-requires-clause-holds : goal.flush_waiting-requires-clause-holds
@@ -32,7 +33,7 @@ returns-in_err-flush_waiting-clause-outcome g c = λ aim given h.
     let out' = g.W.Sink.stream c.flush_waiting.new.out in
     let k = c.in_ok-search_lines.ensures.outcome aim given h in
     let fault = c.in_err-flush_waiting.field-0.0 in
-    fails_by c.from_residual-in_err-flush_waiting.result _ (Breaks aim given out') fault
+    fails_by c.from_residual-in_err-flush_waiting.result _ (BreaksOffInFile aim given out') fault
     c.from_residual-in_err-flush_waiting.ensures.1
     (rest_breaks k _ given out' fault k.cuts (c.in_err-flush_waiting.ensures aim k.steps k.holds))
 
@@ -45,7 +46,7 @@ returns-in_err-send_on-clause-outcome g c = λ aim given h.
     let k = c.in_ok-search_lines.ensures.outcome aim given h in
     let holds = c.in_ok-flush_waiting.ensures aim k.steps k.holds in
     let fault = c.in_err-send_on.field-0.0 in
-    fails_by c.from_residual-in_err-send_on.result _ (Breaks aim given out') fault
+    fails_by c.from_residual-in_err-send_on.result _ (BreaksOffInFile aim given out') fault
     c.from_residual-in_err-send_on.ensures.1
     (rest_breaks k _ given out' fault k.cuts (c.in_err-send_on.ensures aim k.steps holds))
 

@@ -1,7 +1,7 @@
 use Rattle.std.proofs.Common.{◌∙◌, Bool, List, inl, inr, sym, subst}
 use Rattle.pg_files.specs.Given.{Given, entries_given}
 use Rattle.pg_run.specs.Outcome.{EndsAtSelected}
-use Rattle.pg_run.specs.Reading.{Goes, StopsBehind}
+use Rattle.pg_run.specs.Reading.{GivesNext, BreaksOffBehind}
 use Rattle.pg_run.proofs.HoldLemmas.{fails_by}
 use Rattle.pg_run.proofs.RunLemmas.{between_enough, between_more, ends_at, read_rightly}
 use Rattle.pg_run.proofs.running.all_files.Goals as goal
@@ -31,7 +31,7 @@ returns-in_err-take_next-clause-outcome g c = λ aim start.
     let r = c.loop.invariant.rests aim start in
     let b = r.0.0 in
     let few = sym (c.enough.ensures aim b.steps _ b.holds) ∙ c.if-enough.false in
-    fails_by c.from_residual.result _ (StopsBehind aim (g.F.Files.past c.take_next.new.files).given out' told')
+    fails_by c.from_residual.result _ (BreaksOffBehind aim (g.F.Files.past c.take_next.new.files).given out' told')
     c.in_err-take_next.field-0.0 c.from_residual.ensures.1 (
       c.in_err-take_next.ensures.outcome aim r.0,
       read_rightly b r.1 (between_more b few)
@@ -41,7 +41,8 @@ returns-in_err-take_next-clause-outcome g c = λ aim start.
 pub returns-then-not-branch-clause-outcome : goal.returns-then-not-branch-clause-outcome
 returns-then-not-branch-clause-outcome g c = λ aim start.
     let r = c.loop.invariant.rests aim start in
-    let G : Bool → Type 0 = λ more. Goes more (g.F.Files.past c.loop.files) (g.F.Files.past c.take_next.new.files) in
+    let G : Bool → Type 0 = λ more. GivesNext more (g.F.Files.past c.loop.files) (g.F.Files.past c.take_next.new.files)
+    in
     let goes = subst G c.if-not-branch.true c.in_ok-take_next.ensures.goes in
     let Q : List Given → Type 0 = λ gs. EndsAtSelected aim.query (entries_given gs) in
     record {
@@ -56,7 +57,8 @@ loop-preserved g c =
     let ok = c.in_ok-take_next.ensures in
     let given = (g.F.Files.past c.loop.files).given in
     let given' = (g.F.Files.past c.take_next.new.files).given in
-    let G : Bool → Type 0 = λ more. Goes more (g.F.Files.past c.loop.files) (g.F.Files.past c.take_next.new.files) in
+    let G : Bool → Type 0 = λ more. GivesNext more (g.F.Files.past c.loop.files) (g.F.Files.past c.take_next.new.files)
+    in
     let goes = subst G c.if-not-branch.false ok.goes in
     record {
       can_next = tt;

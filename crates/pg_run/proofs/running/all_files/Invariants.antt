@@ -3,7 +3,7 @@ use Rattle.pg_rows.specs.Modes.{is_quiet}
 use Rattle.pg_files.specs.Given.{entries_given}
 use Rattle.pg_run.specs.Outcome.{EndsAtSelected}
 use Rattle.pg_run.specs.Holding.{Aim, format_of}
-use Rattle.pg_run.specs.Reading.{Rests}
+use Rattle.pg_run.specs.Reading.{HasToldAll}
 use Rattle.pg_run.proofs.running.all_files.Given as goal
 
 abbrev pub invariant-loop : goal.invariant-loop
@@ -18,6 +18,6 @@ invariant-loop g l =
       is_finite : (goal.iterator-loop g).is_finite l.iterator';
       done : past.done ≡ false;
       same_list : g.F.Files.list l.files ≡ g.F.Files.list l.initial.files;
-      rests : (aim : Aim) → Rests l.initial.engine aim [] out' told' → Rests l.engine aim past.given out told
+      rests : (aim : Aim) → HasToldAll l.initial.engine aim [] out' told' → HasToldAll l.engine aim past.given out told
           × (is_quiet (format_of aim).mode ≡ true → EndsAtSelected aim.query (entries_given past.given));
     }

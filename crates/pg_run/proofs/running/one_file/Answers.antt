@@ -3,7 +3,7 @@ use Rattle.pg_base.specs.declared.cause.Cause.TheVariants.{ReadFailed}
 use Rattle.pg_base.specs.Entries.{Left}
 use Rattle.pg_files.specs.Given.{Given, File}
 use Rattle.pg_run.specs.Told.{fault_line, faults_of}
-use Rattle.pg_run.specs.Reading.{Stops}
+use Rattle.pg_run.specs.Reading.{BreaksOffTold}
 use Rattle.pg_run.specs.declared.fault.RunFault.TheVariants.{OutOfMemory}
 use Rattle.pg_run.proofs.HoldLemmas.{fails_by}
 use Rattle.pg_run.proofs.RunLemmas.{told_by, told_same, told_failed, told_unfailed, stops_telling, stops_memory}
@@ -15,7 +15,7 @@ returns-then-engine-ge-MOST_FILES-clause-outcome g c = λ aim given name is rest
     let out' = g.W.Sink.stream c.break_off.new.out in
     let told = g.E.Sink.stream c.args.faults.now in
     let more = File name [] Left ∷ given in
-    let P : List Given → Type 0 = λ gs. Stops aim gs out' told c.break_off.result in
+    let P : List Given → Type 0 = λ gs. BreaksOffTold aim gs out' told c.break_off.result in
     subst P (sym is) (stops_reading aim given more out' told c.break_off.result
     (unnumbered rests.0 out' name c.break_off.result c.if-engine-ge-MOST_FILES.true
     (c.break_off.ensures aim rests.0.steps rests.0.holds)) rests.1 refl)
@@ -34,9 +34,9 @@ pub returns-in_err-open_file-clause-outcome : goal.returns-in_err-open_file-clau
 returns-in_err-open_file-clause-outcome g c = λ aim given name is rests.
     let out = g.W.Sink.stream c.args.out.now in
     let told = g.E.Sink.stream c.args.faults.now in
-    let P : List Given → Type 0 = λ gs. Stops aim gs out told OutOfMemory in
+    let P : List Given → Type 0 = λ gs. BreaksOffTold aim gs out told OutOfMemory in
     let more = File name [] Left ∷ given in
-    fails_by c.from_residual.result _ (Stops aim (g.F.Files.past c.args.files.now).given out told) OutOfMemory
+    fails_by c.from_residual.result _ (BreaksOffTold aim (g.F.Files.past c.args.files.now).given out told) OutOfMemory
     c.from_residual.ensures.1
     (subst P (sym is)
     (stops_memory aim more out told (unopened_safe rests.0 name out.taken (taken_part rests.0)) rests.0.holds.calm
@@ -61,7 +61,7 @@ returns-in_err-failed-clause-outcome g c = λ aim given name is rests.
     let given' = (g.F.Files.past c.read_file.new.files).given in
     let out' = g.W.Sink.stream c.read_file.new.out in
     let fault = c.in_err-failed.field-0.0 in
-    fails_by c.from_residual-in_err-failed.result _ (Stops aim given' out' told) fault
+    fails_by c.from_residual-in_err-failed.result _ (BreaksOffTold aim given' out' told) fault
     c.from_residual-in_err-failed.ensures.1
     (stops_reading aim given given' out' told fault (c.in_err-failed.ensures.outcome aim start) rests.1
     (c.in_err-failed.ensures.before ∙ ap (λ gs. drop 1 gs) is))
@@ -83,9 +83,10 @@ returns-in_err-tell_fault-clause-outcome g c = λ aim given name is rests.
     c.in_ok-failed.ensures.told c.if-failed.true c.name-then-failed.ensures in
     let set = ap (λ s. s.silent) after.holds.set in
     let err = c.in_err-tell_fault.ensures in
-    fails_by c.from_residual-in_err-tell_fault.result _ (Stops aim given' out' told') c.in_err-tell_fault.field-0.0
+    fails_by c.from_residual-in_err-tell_fault.result _ (BreaksOffTold aim given' out' told')
+    c.in_err-tell_fault.field-0.0
     c.from_residual-in_err-tell_fault.ensures.1
-    (subst (Stops aim given' out' told') (sym err.fault)
+    (subst (BreaksOffTold aim given' out' told') (sym err.fault)
     (stops_telling aim given given' out' told told' c.read_file.new.engine.setup.silent line set (between_safe after)
     rests.1 more err.writes.err))
 

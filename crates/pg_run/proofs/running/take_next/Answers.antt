@@ -1,7 +1,7 @@
 use Rattle.std.proofs.Common.{◌≡◌, ◌∙◌, List, ◌∷◌, ap, drop, inl, inr, subst, sym}
 use Rattle.pg_files.specs.Given.{Given, NoFile, FilesPast, newest_name}
 use Rattle.pg_files.specs.Asking.{NextGives}
-use Rattle.pg_run.specs.Reading.{Rests, Stops}
+use Rattle.pg_run.specs.Reading.{HasToldAll, BreaksOffTold}
 use Rattle.pg_files.specs.declared.files.Step.{Step}
 use Rattle.pg_run.specs.declared.fault.RunFault.TheVariants.{OutOfMemory}
 use Rattle.pg_run.proofs.HoldLemmas.{on_err_of, fails_by}
@@ -14,8 +14,8 @@ returns-in_err-next-clause-outcome g c = λ aim rests.
     let out = g.W.Sink.stream c.args.out.now in
     let told = g.E.Sink.stream c.args.faults.now in
     let given = (g.F.Files.past c.args.files.now).given in
-    let P : FilesPast → Type 0 = λ p. Stops aim p.given out told OutOfMemory in
-    fails_by c.from_residual.result _ (Stops aim (g.F.Files.past c.next.new.self).given out told) OutOfMemory
+    let P : FilesPast → Type 0 = λ p. BreaksOffTold aim p.given out told OutOfMemory in
+    fails_by c.from_residual.result _ (BreaksOffTold aim (g.F.Files.past c.next.new.self).given out told) OutOfMemory
     c.from_residual.ensures.1
     (subst P (sym c.in_err-next.ensures.err)
     (stops_memory aim given out told (between_safe rests.0) rests.0.holds.calm rests.1))
@@ -29,7 +29,7 @@ returns-in_ok-miss-in-Miss-clause-outcome g c = λ aim rests.
     let e = subst S c.in-Miss.is c.in_ok-next.ensures.ok in
     let is : (g.F.Files.past c.next.new.self).given ≡ NoFile e.0 c.in-Miss.cause ∷ given = ap (λ p. p.given) e.1 in
     let named : c.name.result.now ≡ e.0 = c.name.ensures ∙ ap newest_name is in
-    let P : List Given → Type 0 = λ gs. Rests c.miss.new.engine aim gs out told' in
+    let P : List Given → Type 0 = λ gs. HasToldAll c.miss.new.engine aim gs out told' in
     subst P (sym (is ∙ ap (λ n. NoFile n c.in-Miss.cause ∷ given) (sym named)))
     (c.in_ok-miss-in-Miss.ensures aim given rests)
 
@@ -47,7 +47,7 @@ returns-in_err-one_file-in-File-clause-outcome g c = λ aim rests.
     let S : Step → Type 0 = λ s. NextGives s (g.F.Files.past c.args.files.now) (g.F.Files.past c.next.new.self) in
     let e = subst S c.in-File.is c.in_ok-next.ensures.ok in
     fails_by c.from_residual-in_err-one_file-in-File.result _
-    (Stops aim (g.F.Files.past c.one_file.new.files).given out' told') c.in_err-one_file-in-File.field-0.0
+    (BreaksOffTold aim (g.F.Files.past c.one_file.new.files).given out' told') c.in_err-one_file-in-File.field-0.0
     c.from_residual-in_err-one_file-in-File.ensures.1
     (c.in_err-one_file-in-File.ensures.outcome aim (g.F.Files.past c.args.files.now).given e.0 (ap (λ p. p.given) e.1)
     rests)
@@ -101,7 +101,7 @@ returns-in-Done-clause-outcome g c = λ aim rests.
     let S : Step → Type 0 = λ s. NextGives s (g.F.Files.past c.args.files.now) (g.F.Files.past c.next.new.self) in
     let out = g.W.Sink.stream c.args.out.now in
     let told = g.E.Sink.stream c.args.faults.now in
-    let P : FilesPast → Type 0 = λ p. Rests c.args.engine.now aim p.given out told in
+    let P : FilesPast → Type 0 = λ p. HasToldAll c.args.engine.now aim p.given out told in
     subst P (sym (subst S c.in-Done.is c.in_ok-next.ensures.ok)) rests
 
 pub returns-in_ok-miss-in-Miss-clause-goes : goal.returns-in_ok-miss-in-Miss-clause-goes
@@ -127,8 +127,9 @@ returns-in_err-miss-in-Miss-clause-outcome g c = λ aim rests.
     let is : (g.F.Files.past c.next.new.self).given ≡ NoFile e.0 c.in-Miss.cause ∷ given = ap (λ p. p.given) e.1 in
     let named : c.name.result.now ≡ e.0 = c.name.ensures ∙ ap newest_name is in
     let fault = c.in_err-miss-in-Miss.field-0.0 in
-    let P : List Given → Type 0 = λ gs. Stops aim gs out told' fault in
-    fails_by c.from_residual-in_err-miss-in-Miss.result _ (Stops aim (g.F.Files.past c.next.new.self).given out told')
+    let P : List Given → Type 0 = λ gs. BreaksOffTold aim gs out told' fault in
+    fails_by c.from_residual-in_err-miss-in-Miss.result _ (BreaksOffTold aim (g.F.Files.past c.next.new.self).given out
+    told')
     fault c.from_residual-in_err-miss-in-Miss.ensures.1
     (subst P (sym (is ∙ ap (λ n. NoFile n c.in-Miss.cause ∷ given) (sym named)))
     (c.in_err-miss-in-Miss.ensures aim given rests))

@@ -1,7 +1,7 @@
 use Rattle.std.proofs.Common.{◌≡◌, ◌+◌, ◌-◌, ◌≤◌, true, length, drop}
 use Rattle.pg_lines.specs.Search.{Search}
 use Rattle.pg_lines.specs.Lines.{lines}
-use Rattle.pg_rows.specs.Painting.{IsTold}
+use Rattle.pg_rows.specs.Painting.{AreToldParts}
 use Rattle.pg_rows.proofs.PaintLemmas.{AreToPrint}
 use Rattle.pg_rows.proofs.printer.Printer.print_painted.Given as goal
 
@@ -13,7 +13,7 @@ invariant-loop-at g l = record {
   fits : l.used ≤ length l.parts;
   count : l.done + length (lines l.fn.self.end (drop l.at l.bytes))
       ≡ length (lines l.fn.self.end (drop l.fn.from l.bytes));
-  left : (q : Search) → IsTold q true l.fn.self.end l.bytes l.fn.from l.fn.line l.parts
+  left : (q : Search) → AreToldParts q true l.fn.self.end l.bytes l.fn.from l.fn.line l.parts
       → AreToPrint q l.fn.self.format l.fn.self.end l.fn.self.prefix l.fn.first.number l.fn.first.offset l.bytes
       l.fn.from l.fn.line l.parts
       l.at l.done l.used (g.W.Sink.stream l.fn.out) (g.W.Sink.stream l.out);

@@ -8,7 +8,7 @@ use Rattle.pg_rows.specs.declared.printer.Printer.{Printer}
 use Rattle.pg_base.specs.Sink.{WritesPart}
 use Rattle.pg_rows.specs.Trail.{run_rows}
 use Rattle.pg_rows.specs.Window.{held}
-use Rattle.pg_rows.specs.Remembered.{Remembers, ComesLast}
+use Rattle.pg_rows.specs.Remembered.{IsAtCursor, ComesLast}
 use Rattle.pg_base.proofs.SinkLemmas.{on_err}
 use Rattle.pg_rows.proofs.BlockLemmas.{no_run}
 use Rattle.pg_rows.proofs.RunSteps.{IsBefore, failed_before}
@@ -41,7 +41,7 @@ step-next-requires-clause-next g c =
     let w = c.requires.stands in
     let l = c.loop-run in
     let here = get_or c.args.runs.now l.run-index no_run in
-    let P : Printer g.row.A.Denot → Type 0 = λ s. Remembers s w.0 w.1 w.2 in
+    let P : Printer g.row.A.Denot → Type 0 = λ s. IsAtCursor s w.0 w.1 w.2 in
     let r = subst P (sym l.invariant.same) w.3 in
     let can = can_step l.self w.0 w.1 w.2 c.args.bytes.now (g.W.Sink.stream c.args.out.now).taken
     (g.W.Sink.stream l.out).taken
@@ -56,7 +56,7 @@ step-next-requires-clause-room g c =
     let w = c.requires.stands in
     let l = c.loop-run in
     let here = get_or c.args.runs.now l.run-index no_run in
-    let P : Printer g.row.A.Denot → Type 0 = λ s. Remembers s w.0 w.1 w.2 in
+    let P : Printer g.row.A.Denot → Type 0 = λ s. IsAtCursor s w.0 w.1 w.2 in
     let r = subst P (sym l.invariant.same) w.3 in
     let can = can_step l.self w.0 w.1 w.2 c.args.bytes.now (g.W.Sink.stream c.args.out.now).taken
     (g.W.Sink.stream l.out).taken
@@ -74,7 +74,7 @@ step-next-requires-clause-small g c =
     let w = c.requires.stands in
     let l = c.loop-run in
     let here = get_or c.args.runs.now l.run-index no_run in
-    let P : Printer g.row.A.Denot → Type 0 = λ s. Remembers s w.0 w.1 w.2 in
+    let P : Printer g.row.A.Denot → Type 0 = λ s. IsAtCursor s w.0 w.1 w.2 in
     let r = subst P (sym l.invariant.same) w.3 in
     let can = can_step l.self w.0 w.1 w.2 c.args.bytes.now (g.W.Sink.stream c.args.out.now).taken
     (g.W.Sink.stream l.out).taken
@@ -94,7 +94,7 @@ print_step-requires-clause-next g c =
     let w = c.requires.stands in
     let l = c.loop-run in
     let here = get_or c.args.runs.now l.run-index no_run in
-    let P : Printer g.row.A.Denot → Type 0 = λ s. Remembers s w.0 w.1 w.2 in
+    let P : Printer g.row.A.Denot → Type 0 = λ s. IsAtCursor s w.0 w.1 w.2 in
     let r = subst P (sym l.invariant.same) w.3 in
     let can = can_step l.self w.0 w.1 w.2 c.args.bytes.now (g.W.Sink.stream c.args.out.now).taken
     (g.W.Sink.stream l.out).taken
@@ -109,7 +109,7 @@ print_step-requires-clause-small g c =
     let w = c.requires.stands in
     let l = c.loop-run in
     let here = get_or c.args.runs.now l.run-index no_run in
-    let P : Printer g.row.A.Denot → Type 0 = λ s. Remembers s w.0 w.1 w.2 in
+    let P : Printer g.row.A.Denot → Type 0 = λ s. IsAtCursor s w.0 w.1 w.2 in
     let r = subst P (sym l.invariant.same) w.3 in
     let can = can_step l.self w.0 w.1 w.2 c.args.bytes.now (g.W.Sink.stream c.args.out.now).taken
     (g.W.Sink.stream l.out).taken
@@ -133,7 +133,7 @@ print_step-requires-clause-few g c =
     let w = c.requires.stands in
     let l = c.loop-run in
     let here = get_or c.args.runs.now l.run-index no_run in
-    let P : Printer g.row.A.Denot → Type 0 = λ s. Remembers s w.0 w.1 w.2 in
+    let P : Printer g.row.A.Denot → Type 0 = λ s. IsAtCursor s w.0 w.1 w.2 in
     let r = subst P (sym l.invariant.same) w.3 in
     let can = can_step l.self w.0 w.1 w.2 c.args.bytes.now (g.W.Sink.stream c.args.out.now).taken
     (g.W.Sink.stream l.out).taken
@@ -153,7 +153,7 @@ pub print_step-requires-clause-told : goal.print_step-requires-clause-told
 print_step-requires-clause-told g c =
     let w = c.requires.stands in
     let l = c.loop-run in
-    let P : Printer g.row.A.Denot → Type 0 = λ s. Remembers s w.0 w.1 w.2 in
+    let P : Printer g.row.A.Denot → Type 0 = λ s. IsAtCursor s w.0 w.1 w.2 in
     let r = subst P (sym l.invariant.same) w.3 in
     let takes = takes_parts l.self w.0 w.1 w.2 c.args.bytes.now (g.W.Sink.stream c.args.out.now).taken
     (g.W.Sink.stream l.out).taken c.args.parts.now l.place c.step-next.result.place c.args.runs.now l.run-index
@@ -166,7 +166,7 @@ pub print_step-requires-clause-used : goal.print_step-requires-clause-used
 print_step-requires-clause-used g c =
     let w = c.requires.stands in
     let l = c.loop-run in
-    let P : Printer g.row.A.Denot → Type 0 = λ s. Remembers s w.0 w.1 w.2 in
+    let P : Printer g.row.A.Denot → Type 0 = λ s. IsAtCursor s w.0 w.1 w.2 in
     let r = subst P (sym l.invariant.same) w.3 in
     let takes = takes_parts l.self w.0 w.1 w.2 c.args.bytes.now (g.W.Sink.stream c.args.out.now).taken
     (g.W.Sink.stream l.out).taken c.args.parts.now l.place c.step-next.result.place c.args.runs.now l.run-index
@@ -179,7 +179,7 @@ pub print_step-requires-clause-parts : goal.print_step-requires-clause-parts
 print_step-requires-clause-parts g c =
     let w = c.requires.stands in
     let l = c.loop-run in
-    let P : Printer g.row.A.Denot → Type 0 = λ s. Remembers s w.0 w.1 w.2 in
+    let P : Printer g.row.A.Denot → Type 0 = λ s. IsAtCursor s w.0 w.1 w.2 in
     let r = subst P (sym l.invariant.same) w.3 in
     let takes = takes_parts l.self w.0 w.1 w.2 c.args.bytes.now (g.W.Sink.stream c.args.out.now).taken
     (g.W.Sink.stream l.out).taken c.args.parts.now l.place c.step-next.result.place c.args.runs.now l.run-index
@@ -193,7 +193,7 @@ returns-then-count-eq0-clause-comes g c q format cur r shows has =
     let l = c.loop-run in
     let a = c.args in
     let start = (g.W.Sink.stream a.out.now).taken in
-    let P : Printer g.row.A.Denot → Type 0 = λ s. Remembers s q format cur in
+    let P : Printer g.row.A.Denot → Type 0 = λ s. IsAtCursor s q format cur in
     let r' = subst P (sym l.invariant.same) r in
     let h = l.invariant.comes q format cur r' shows has in
     let Q : Printer g.row.A.Denot → Type 0 = λ s. ComesLast q format cur (held (terminator q) s.window) a.bytes.now
@@ -210,7 +210,7 @@ returns-clause-comes g c q format cur r shows has =
     let l = c.loop-run in
     let a = c.args in
     let start = (g.W.Sink.stream a.out.now).taken in
-    let P : Printer g.row.A.Denot → Type 0 = λ s. Remembers s q format cur in
+    let P : Printer g.row.A.Denot → Type 0 = λ s. IsAtCursor s q format cur in
     let r' = subst P (sym l.invariant.same) r in
     let h = l.invariant.comes q format cur r' shows has in
     let Q : Printer g.row.A.Denot → Type 0 = λ s. ComesLast q format cur (held (terminator q) s.window) a.bytes.now
@@ -226,7 +226,7 @@ returns-in_err-print_step-clause-stops g c q format cur r shows has =
     let l = c.loop-run in
     let a = c.args in
     let start = (g.W.Sink.stream a.out.now).taken in
-    let P : Printer g.row.A.Denot → Type 0 = λ s. Remembers s q format cur in
+    let P : Printer g.row.A.Denot → Type 0 = λ s. IsAtCursor s q format cur in
     let r' = subst P (sym l.invariant.same) r in
     let h = l.invariant.comes q format cur r' shows has in
     let here = get_or a.runs.now l.run-index no_run in
@@ -264,7 +264,7 @@ loop-run-preserved g c =
     let w = c.requires.stands in
     let l = c.loop-run in
     let here = get_or c.args.runs.now l.run-index no_run in
-    let P : Printer g.row.A.Denot → Type 0 = λ s. Remembers s w.0 w.1 w.2 in
+    let P : Printer g.row.A.Denot → Type 0 = λ s. IsAtCursor s w.0 w.1 w.2 in
     let r = subst P (sym l.invariant.same) w.3 in
     let can = can_step l.self w.0 w.1 w.2 c.args.bytes.now (g.W.Sink.stream c.args.out.now).taken
     (g.W.Sink.stream l.out).taken
@@ -297,7 +297,7 @@ loop-run-preserved g c =
       comes = λ q format cur r0 shows has.
           let a = c.args in
           let start = (g.W.Sink.stream a.out.now).taken in
-          let R : Printer g.row.A.Denot → Type 0 = λ s. Remembers s q format cur in
+          let R : Printer g.row.A.Denot → Type 0 = λ s. IsAtCursor s q format cur in
           let r' = subst R c.in_ok-print_step.ensures.same r0 in
           let h = l.invariant.comes q format cur r' shows has in
           let next = c.step-next.result in
@@ -330,7 +330,7 @@ loop-run-preserved g c =
       left = λ q format cur r0 shows has colored.
           let a = c.args in
           let start = (g.W.Sink.stream a.out.now).taken in
-          let R : Printer g.row.A.Denot → Type 0 = λ s. Remembers s q format cur in
+          let R : Printer g.row.A.Denot → Type 0 = λ s. IsAtCursor s q format cur in
           let r' = subst R c.in_ok-print_step.ensures.same r0 in
           let h = l.invariant.comes q format cur r' shows has in
           let next = c.step-next.result in
@@ -345,7 +345,7 @@ pub print_step-requires-clause-room : goal.print_step-requires-clause-room
 print_step-requires-clause-room g c =
     let w = c.requires.stands in
     let l = c.loop-run in
-    let P : Printer g.row.A.Denot → Type 0 = λ s. Remembers s w.0 w.1 w.2 in
+    let P : Printer g.row.A.Denot → Type 0 = λ s. IsAtCursor s w.0 w.1 w.2 in
     let r = subst P (sym l.invariant.same) w.3 in
     has_room l.self w.0 w.1 w.2 c.args.bytes.now (g.W.Sink.stream c.args.out.now).taken (g.W.Sink.stream l.out).taken
     l.place c.step-next.result.passed c.args.runs.now l.run-index c.keeps-count.result r

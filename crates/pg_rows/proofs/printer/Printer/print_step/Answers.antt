@@ -6,7 +6,7 @@ use Rattle.pg_lines.specs.Lines.{lines}
 use Rattle.pg_rows.specs.declared.printer.Printer.{Printer}
 use Rattle.pg_rows.specs.Output.{painted, size_of}
 use Rattle.pg_base.specs.Sink.{WritesAll, WritesPart}
-use Rattle.pg_rows.specs.Painting.{IsTold}
+use Rattle.pg_rows.specs.Painting.{AreToldParts}
 use Rattle.pg_rows.specs.Printing.{leading, rows_of_passed, gap_of, rows_of_leading}
 use Rattle.pg_rows.specs.Stretch.{marked_rows}
 use Rattle.pg_rows.specs.Window.{held}
@@ -67,7 +67,8 @@ returns-clause-writes g c q told =
     let kept = drop a.run.span.start (take a.next.place.at a.bytes.now) in
     let rows : Printer g.row.A.Denot → List ℕ → List ℕ = λ p text. marked_rows p.format p.end p.prefix 58
     (painted q p.format) (a.next.passed.number + 1) (p.offset + a.run.span.start) (lines p.end text) in
-    let P : Printer g.row.A.Denot → Type 0 = λ p. IsTold q p.format.colored p.end (take a.next.place.at a.bytes.now)
+    let P : Printer g.row.A.Denot → Type 0 = λ p. AreToldParts q p.format.colored p.end (take a.next.place.at
+    a.bytes.now)
     a.run.span.start a.run.first (slice_range a.parts.now a.place.used a.next.place.used) in
     let shown : ℕ → List ℕ =
     λ o. passed ++ (hyphens ++ rows_of_leading s.format s.end s.prefix hidden a.next.passed o) in

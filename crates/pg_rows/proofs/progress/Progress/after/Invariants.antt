@@ -3,7 +3,7 @@ use Rattle.pg_lines.specs.Lines.{lines}
 use Rattle.pg_lines.specs.Search.{Search, terminator}
 use Rattle.pg_rows.specs.Trail.{Trail}
 use Rattle.pg_lines.specs.Runs.{AreRuns}
-use Rattle.pg_rows.specs.Progress.{Tells}
+use Rattle.pg_rows.specs.Progress.{IsOfTrail}
 use Rattle.pg_rows.proofs.BlockLemmas.{IsReached}
 use Rattle.pg_rows.proofs.progress.Progress.after.Given as goal
 
@@ -12,6 +12,6 @@ invariant-loop-run l = record {
   within : l.left ≤ l.lines;
   number : l.progress.number + l.left ≡ l.fn.self.number + l.lines;
   reached : (q : Search) (t : Trail) (bytes : List ℕ) → AreRuns q 0 0 bytes l.runs
-      → l.lines ≡ length (lines (terminator q) bytes) → Tells l.fn.self l.format t
+      → l.lines ≡ length (lines (terminator q) bytes) → IsOfTrail l.fn.self l.format t
       → IsReached q l.format t (lines (terminator q) bytes) l.left (drop l.run-index l.runs) l.progress;
 }

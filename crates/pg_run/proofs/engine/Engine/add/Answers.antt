@@ -5,7 +5,7 @@ use Rattle.pg_lines.specs.Search.{terminator}
 use Rattle.pg_lines.specs.Blocks.{BlockData}
 use Rattle.pg_seq.specs.Plan.{Announces, MayFollow}
 use Rattle.pg_seq.specs.History.{plan, planned}
-use Rattle.pg_seq.specs.Standing.{Stands}
+use Rattle.pg_seq.specs.Standing.{IsAfter}
 use Rattle.pg_run.specs.Holding.{past_of, format_of}
 use Rattle.pg_run.proofs.HoldLemmas.{may_past, ok_of_err, holds_waiting}
 use Rattle.pg_run.proofs.engine.Engine.add.Goals as goal
@@ -18,7 +18,7 @@ returns g c = λ aim steps out ready.
     let b : arc_value c.in_ok-block.block ≡ c.args.block = c.in_ok-block.ensures.ok in
     let same : arc_value c.in_ok-try_clone.field-0 ≡ c.args.block = c.in_ok-try_clone.ensures ∙ b in
     let F : BlockData → Type 0 = λ x. MayFollow (terminator aim.query) (plan past) (Announces x) in
-    let M : BlockData → Type 0 = λ x. Stands c.announce.new.self (planned past (Announces x)) in
+    let M : BlockData → Type 0 = λ x. IsAfter c.announce.new.self (planned past (Announces x)) in
     let may = subst F (sym same) (may_past h (Announces c.args.block) m) in
     let middle = subst M same (c.in_ok-announce.ensures.ok past h.stands may) in
     let old = c.args.self.now.round.items in

@@ -1,6 +1,6 @@
 use Rattle.std.proofs.Common.{ap, map, refl}
 use Rattle.std.specs.Arc.{arc_value}
-use Rattle.pg_run.specs.Holding.{Broke, past_of, format_of}
+use Rattle.pg_run.specs.Holding.{BreaksOffInSearch, past_of, format_of}
 use Rattle.pg_run.specs.declared.fault.RunFault.TheVariants.{Sink}
 use Rattle.pg_run.proofs.HoldLemmas.{holds_drained, broke_drained, fails_by}
 use Rattle.pg_run.proofs.engine.Engine.drain.Goals as goal
@@ -16,7 +16,7 @@ pub returns-in_err-drain-clause-outcome : goal.returns-in_err-drain-clause-outco
 returns-in_err-drain-clause-outcome g c = λ aim steps h.
     let d = c.in_err-drain.ensures.drained (past_of aim.query (format_of aim) h.events h.written) h.stands in
     let out' = g.W.Sink.stream c.drain.new.out in
-    fails_by c.from_residual.result _ (Broke aim steps out') Sink c.from_residual.ensures.1
+    fails_by c.from_residual.result _ (BreaksOffInSearch aim steps out') Sink c.from_residual.ensures.1
     (broke_drained h (ap (λ xs. map arc_value xs) c.requires.none) d.0 out' c.in_err-drain.field-0.0 d.1 d.2
     c.in_err-drain.ensures.cause)
 

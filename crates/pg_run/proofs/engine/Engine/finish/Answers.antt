@@ -2,7 +2,7 @@ use Rattle.std.proofs.Common.{◌≡◌, ◌∙◌, ap, map, subst, Option, ℕ}
 use Rattle.std.specs.Arc.{arc_value}
 use Rattle.std.specs.Option.{MatchOption}
 use Rattle.pg_seq.specs.History.{IsComplete, status_of}
-use Rattle.pg_run.specs.Holding.{Broke, past_of, format_of}
+use Rattle.pg_run.specs.Holding.{BreaksOffInSearch, past_of, format_of}
 use Rattle.pg_run.proofs.HoldLemmas.{complete_is, status_is, some_status, fails_by}
 use Rattle.pg_run.proofs.engine.Engine.finish.Goals as goal
 
@@ -31,7 +31,8 @@ pub returns-in_err-flush : goal.returns-in_err-flush
 returns-in_err-flush g c =
     λ aim steps h.
     let out' = g.W.Sink.stream c.flush.new.out in
-    fails_by c.from_residual.result _ (Broke aim steps out') c.in_err-flush.field-0.0 c.from_residual.ensures.1
+    fails_by c.from_residual.result _ (BreaksOffInSearch aim steps out') c.in_err-flush.field-0.0
+    c.from_residual.ensures.1
     (c.in_err-flush.ensures.outcome aim steps h)
 
 pub flush-requires-clause-holds : goal.flush-requires-clause-holds

@@ -3,7 +3,7 @@ use Rattle.std.specs.Arc.{arc_value}
 use Rattle.pg_lines.specs.Search.{SearchText, AreTreesOf, search_of}
 use Rattle.pg_rows.specs.declared.format.Format.{Format}
 use Rattle.pg_seq.specs.History.{start}
-use Rattle.pg_seq.specs.Standing.{Stands}
+use Rattle.pg_seq.specs.Standing.{IsAfter}
 use Rattle.pg_run.proofs.HoldLemmas.{holds_new}
 use Rattle.std.proofs.lemmas.Result.{IfOk-from_err}
 use Rattle.pg_run.proofs.engine.Engine.new.Goals as goal
@@ -16,8 +16,8 @@ returns g c = λ aim trees text set.
     ap (λ q. q.text) c.in_ok-try_clone.ensures ∙ own in
     let T : SearchText → Type 0 = λ t. AreTreesOf t aim.query.trees in
     let S : SearchText → Type 0 =
-    λ t. Stands c.in_ok-sequencer.sequencer (start (search_of t aim.query.trees) c.args.setup.format) in
-    let F : Format → Type 0 = λ f. Stands c.in_ok-sequencer.sequencer (start aim.query f) in
+    λ t. IsAfter c.in_ok-sequencer.sequencer (start (search_of t aim.query.trees) c.args.setup.format) in
+    let F : Format → Type 0 = λ f. IsAfter c.in_ok-sequencer.sequencer (start aim.query f) in
     let stands = subst S same (c.in_ok-sequencer.ensures aim.query.trees (subst T (sym same) trees)) in
     holds_new _ aim own (sym set) refl (ap (λ xs. map arc_value xs) c.new-4.ensures.items)
     (subst F (ap (λ s. s.format) (sym set)) stands)

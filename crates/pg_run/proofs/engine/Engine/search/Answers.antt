@@ -1,7 +1,7 @@
 use Rattle.std.proofs.Common.{◌∙◌, ◌∷◌, sym}
 use Rattle.std.proofs.lemmas.Bool.{false≢true}
 use Rattle.pg_seq.specs.Plan.{Announces}
-use Rattle.pg_run.specs.Holding.{Broke}
+use Rattle.pg_run.specs.Holding.{BreaksOffInSearch}
 use Rattle.pg_run.specs.declared.fault.RunFault.TheVariants.{OutOfMemory}
 use Rattle.pg_run.proofs.HoldLemmas.{broke_step, ok_of_err, fails_by}
 use Rattle.pg_run.proofs.engine.Engine.search.Goals as goal
@@ -9,14 +9,14 @@ use Rattle.pg_run.proofs.engine.Engine.search.Goals as goal
 pub returns-in_err-add-clause-outcome : goal.returns-in_err-add-clause-outcome
 returns-in_err-add-clause-outcome g c = λ aim steps ready.
     let out = g.W.Sink.stream c.args.out.now in
-    fails_by c.from_residual.result _ (Broke aim (Announces c.args.block ∷ steps) out) OutOfMemory
+    fails_by c.from_residual.result _ (BreaksOffInSearch aim (Announces c.args.block ∷ steps) out) OutOfMemory
     c.from_residual.ensures.1 (broke_step ready.0 (Announces c.args.block) ready.1)
 
 pub returns-in_err-kept-clause-outcome : goal.returns-in_err-kept-clause-outcome
 returns-in_err-kept-clause-outcome g c = λ aim steps ready.
     let out = g.W.Sink.stream c.args.out.now in
     fails_by c.from_residual-in_err-kept.result _
-    (Broke aim (Announces c.args.block ∷ steps) out) OutOfMemory c.from_residual-in_err-kept.ensures.1
+    (BreaksOffInSearch aim (Announces c.args.block ∷ steps) out) OutOfMemory c.from_residual-in_err-kept.ensures.1
     (broke_step ready.0 (Announces c.args.block) ready.1)
 
 pub returns-clause-written : goal.returns-clause-written
@@ -73,7 +73,7 @@ returns-in_err-drain-clause-outcome g c = λ aim steps ready.
     let out = g.W.Sink.stream c.args.out.now in
     let out' = g.W.Sink.stream c.drain.new.out in
     let next = Announces c.args.block ∷ steps in
-    fails_by c.from_residual-in_err-drain.result _ (Broke aim next out') c.in_err-drain.field-0.0
+    fails_by c.from_residual-in_err-drain.result _ (BreaksOffInSearch aim next out') c.in_err-drain.field-0.0
     c.from_residual-in_err-drain.ensures.1
     (c.in_err-drain.ensures.outcome aim next (c.in_ok-kept.ensures.ok aim steps out ready))
 

@@ -4,9 +4,9 @@ use Rattle.std.specs.Arc.{arc_value}
 use Rattle.std.specs.declared.sync.Arc.{Arc}
 use Rattle.pg_match.specs.Machines.{Room, Fits}
 use Rattle.pg_lines.specs.Blocks.{BlockData}
-use Rattle.pg_seq.specs.Standing.{Stands}
+use Rattle.pg_seq.specs.Standing.{IsAfter}
 use Rattle.pg_run.specs.Faults.{fault_of_round}
-use Rattle.pg_run.specs.Holding.{Broke, past_of, format_of}
+use Rattle.pg_run.specs.Holding.{BreaksOffInSearch, past_of, format_of}
 use Rattle.pg_round.specs.Results.{HasShortLines}
 use Rattle.pg_round.specs.Receipts.{HasRound}
 use Rattle.pg_run.specs.declared.fault.RunFault.TheVariants.{OutOfMemory}
@@ -24,14 +24,15 @@ search_round-requires-clause-short g c κs within =
 pub returns-in_err-equip-clause-outcome : goal.returns-in_err-equip-clause-outcome
 returns-in_err-equip-clause-outcome g c = λ aim steps h.
     let out = g.W.Sink.stream c.args.out.now in
-    fails_by c.from_residual.result _ (Broke aim steps out) OutOfMemory c.from_residual.ensures.1 (broke_now h)
+    fails_by c.from_residual.result _ (BreaksOffInSearch aim steps out) OutOfMemory c.from_residual.ensures.1
+    (broke_now h)
 
 pub returns-in_err-search_round-clause-outcome : goal.returns-in_err-search_round-clause-outcome
 returns-in_err-search_round-clause-outcome g c = λ aim steps h.
     let out' = g.W.Sink.stream c.search_round.new.out in
     let past = past_of aim.query (format_of aim) h.events h.written in
     let fault = c.in_err-search_round.field-0.0 in
-    fails_by c.from_residual-in_err-search_round.result _ (Broke aim steps out') (fault_of_round fault)
+    fails_by c.from_residual-in_err-search_round.result _ (BreaksOffInSearch aim steps out') (fault_of_round fault)
     c.from_residual-in_err-search_round.ensures.1
     (round_failed h out' fault (c.in_err-search_round.ensures.err past h.stands refl (safe_now h))
     (c.in_err-search_round.ensures.cause past h.stands refl (safe_now h)) c.in_err-search_round.ensures.memory)
@@ -43,7 +44,7 @@ returns-clause-outcome g c = λ aim steps h.
     let past = past_of aim.query (format_of aim) h.events h.written in
     let text = (arc_value c.args.self.now.query).text in
     let R : List (Arc BlockData g.row.A.Denot) → Type 0 =
-    λ xs. HasRound (Stands c.search_round.new.collector) past text xs
+    λ xs. HasRound (IsAfter c.search_round.new.collector) past text xs
     (g.W.Sink.stream c.args.out.now).taken (g.W.Sink.stream c.search_round.new.out).taken in
     round_done h _ out' h.same h.set h.count (ap (λ xs. map arc_value xs) c.clear.ensures.items) text h.same
     (subst R c.deref-2.ensures.value (c.in_ok-search_round.ensures.ok past h.stands refl (safe_now h)))

@@ -4,7 +4,7 @@ use Rattle.pg_lines.specs.Search.{terminator}
 use Rattle.pg_lines.specs.Blocks.{BlockData}
 use Rattle.pg_seq.specs.Plan.{Announces, MayFollow}
 use Rattle.pg_seq.specs.History.{plan, planned}
-use Rattle.pg_seq.specs.Standing.{Stands}
+use Rattle.pg_seq.specs.Standing.{IsAfter}
 use Rattle.pg_run.specs.Holding.{past_of, format_of}
 use Rattle.pg_run.proofs.HoldLemmas.{may_past, is_first, holds_block, ok_of_err}
 use Rattle.pg_run.proofs.engine.Engine.take.Goals as goal
@@ -18,7 +18,7 @@ keep-requires g c =
     let b : arc_value c.in_ok-block.block ≡ c.args.block = c.in_ok-block.ensures.ok in
     let same : arc_value c.in_ok-searched.searched ≡ c.args.block = c.in_ok-searched.ensures ∙ b in
     let F : BlockData → Type 0 = λ x. MayFollow (terminator aim.query) (plan past) (Announces x) in
-    let M : BlockData → Type 0 = λ x. Stands c.announce.new.self (planned past (Announces x)) in
+    let M : BlockData → Type 0 = λ x. IsAfter c.announce.new.self (planned past (Announces x)) in
     let may = subst F (sym b) (may_past h (Announces c.args.block) m) in (
       planned past (Announces c.args.block),
       subst M b (c.in_ok-announce.ensures.ok past h.stands may),
@@ -36,7 +36,7 @@ returns-clause-ok g c = λ aim steps out ready.
     let b : arc_value c.in_ok-block.block ≡ c.args.block = c.in_ok-block.ensures.ok in
     let same : arc_value c.in_ok-searched.searched ≡ c.args.block = c.in_ok-searched.ensures ∙ b in
     let F : BlockData → Type 0 = λ x. MayFollow (terminator aim.query) (plan past) (Announces x) in
-    let M : BlockData → Type 0 = λ x. Stands c.announce.new.self (planned past (Announces x)) in
+    let M : BlockData → Type 0 = λ x. IsAfter c.announce.new.self (planned past (Announces x)) in
     let may = subst F (sym b) (may_past h (Announces c.args.block) m) in
     let middle = subst M b (c.in_ok-announce.ensures.ok past h.stands may) in
     let found : c.in_ok-found.found ≡ record { query = aim.query.text; block = c.args.block } =

@@ -7,19 +7,19 @@ use Rattle.pg_base.specs.Sink.{Stream, WritesAll, WritesPart}
 use Rattle.pg_base.proofs.WriteLemmas.{wrote_none}
 use Rattle.pg_seq.specs.History.{Past}
 use Rattle.pg_seq.specs.declared.assembler.Assembler.{Assembler}
-use Rattle.pg_seq.specs.Standing.{Stands, Advances, Rests, IsWritten}
+use Rattle.pg_seq.specs.Standing.{IsAfter, Advances, HasNothingToDo, HasWrittenAll}
 use Rattle.pg_seq.proofs.DrainSteps.{here, ended_next, end_part}
 use Rattle.pg_seq.proofs.assembler.Assembler.advance.Goals as goal
 
 -- a file was opened in the printer, which writes nothing
 opened : {A : Type 0} (new : Assembler A) (past : Past) (out : Stream) (more : Bool)
-    → MatchBool more (Stands new past) (IsWritten past × Stands new past)
-    → MatchBool more (Advances new past out out) (Rests new past out out)
+    → MatchBool more (IsAfter new past) (HasWrittenAll past × IsAfter new past)
+    → MatchBool more (Advances new past out out) (HasNothingToDo new past out out)
 opened new past out true h = record {
   rows = [];
   got = wrote_none out;
   stands =
-      let P : List ℕ → Type 0 = λ w. Stands new (record past { written = w }) in
+      let P : List ℕ → Type 0 = λ w. IsAfter new (record past { written = w }) in
       subst P (sym (append-nil past.written)) h;
 }
 opened new past out false h = record { all = h.0; same = refl; stands = h.1 }

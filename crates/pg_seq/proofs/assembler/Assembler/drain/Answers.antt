@@ -6,7 +6,7 @@ use Rattle.std.proofs.lemmas.List.{append-nil}
 use Rattle.pg_base.proofs.WriteLemmas.{wrote_none, wrote_more}
 use Rattle.pg_seq.specs.History.{Past}
 use Rattle.pg_seq.specs.declared.assembler.Assembler.{Assembler}
-use Rattle.pg_seq.specs.Standing.{Stands, wrote}
+use Rattle.pg_seq.specs.Standing.{IsAfter, wrote}
 use Rattle.pg_seq.proofs.StandLemmas.{failed_stands}
 use Rattle.pg_seq.proofs.assembler.Assembler.drain.Goals as goal
 
@@ -28,16 +28,16 @@ is_false false P Q e h = h
 
 -- what was written so far, and one part more
 more_written : {A : Type 0} (s : Assembler A) (past : Past) (first more : List ℕ) (failed : Bool)
-    → Stands s (record past { written = (past.written ++ first) ++ more; failed = failed })
-    → Stands s (record past { written = past.written ++ (first ++ more); failed = failed })
+    → IsAfter s (record past { written = (past.written ++ first) ++ more; failed = failed })
+    → IsAfter s (record past { written = past.written ++ (first ++ more); failed = failed })
 more_written s past first more failed h =
-    let P : List ℕ → Type 0 = λ w. Stands s (record past { written = w; failed = failed }) in
+    let P : List ℕ → Type 0 = λ w. IsAfter s (record past { written = w; failed = failed }) in
     subst P (append_assoc past.written first more) h
 
 pub loop-self-init : goal.loop-self-init
 loop-self-init g c = record {
   drains = λ past h.
-      let P : List ℕ → Type 0 = λ w. Stands c.args.self.now (record past { written = w }) in
+      let P : List ℕ → Type 0 = λ w. IsAfter c.args.self.now (record past { written = w }) in
       ([], wrote_none (g.W.Sink.stream c.args.out.now), subst P (sym (append-nil past.written)) h);
   unfailed = c.if-self.false;
 }
@@ -72,7 +72,7 @@ returns-in-Ok-false-clause-drained g c = λ past h.
     let r = is_false c.in-Ok-false.field-0 _ _ c.in-Ok-false.field-0-test
     (c.in-Ok-false.ensures.goes (wrote past d.0) d.2 i.unfailed) in
     let P : Bool → Type 0 =
-    λ f. Stands c.advance.new.self (record past { written = past.written ++ d.0; failed = f }) in (
+    λ f. IsAfter c.advance.new.self (record past { written = past.written ++ d.0; failed = f }) in (
       d.0,
       ap (λ s. s.taken) r.same ∙ d.1.taken,
       (h.failed ∙ c.if-self.false, r.all),

@@ -1,13 +1,13 @@
 use Rattle.std.proofs.Common.{◌≡◌, ℕ, List, false}
 use Rattle.pg_base.specs.Sink.{WritesAll}
 use Rattle.pg_seq.specs.History.{Past}
-use Rattle.pg_seq.specs.Standing.{Stands, wrote, left}
+use Rattle.pg_seq.specs.Standing.{IsAfter, wrote, left}
 use Rattle.pg_seq.proofs.assembler.Assembler.drain.Given as goal
 
 abbrev pub invariant-loop-self : goal.invariant-loop-self
 invariant-loop-self g l = record {
-  drains : (past : Past) → Stands l.fn.self past → (text : List ℕ)
-      × WritesAll text (g.W.Sink.stream l.fn.out) (g.W.Sink.stream l.out) × Stands l.self (wrote past text);
+  drains : (past : Past) → IsAfter l.fn.self past → (text : List ℕ)
+      × WritesAll text (g.W.Sink.stream l.fn.out) (g.W.Sink.stream l.out) × IsAfter l.self (wrote past text);
   unfailed : l.self.failed ≡ false;
 }
 

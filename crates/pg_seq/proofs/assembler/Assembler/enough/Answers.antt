@@ -1,6 +1,6 @@
 use Rattle.std.proofs.Common.{◌∙◌, ◌&&◌, cond, ap, sym, subst, refl}
 use Rattle.pg_rows.specs.declared.format.Format.{Format}
-use Rattle.pg_rows.specs.Progress.{Tells}
+use Rattle.pg_rows.specs.Progress.{IsOfTrail}
 use Rattle.pg_rows.specs.Modes.{is_quiet}
 use Rattle.pg_rows.specs.Enough.{trail_suffices}
 use Rattle.pg_seq.specs.Cursor.{cursor_of}
@@ -18,7 +18,7 @@ returns g c = λ past h.
     let a = c.loop-next.ahead in
     let f = c.in_default.ensures.further past h (c.loop-next.invariant past h) in
     let trail = (cursor_of past.query past.format (front_of past)).trail in
-    let T : Format → Type 0 = λ x. Tells a.progress x trail in
+    let T : Format → Type 0 = λ x. IsOfTrail a.progress x trail in
     c.is_enough.ensures trail (subst T h.format f.progress)
     ∙ (ap (λ (x : Format). cond (is_quiet x.mode) a.selected (a.inside && trail_suffices x.mode x trail))
     (sym h.format)

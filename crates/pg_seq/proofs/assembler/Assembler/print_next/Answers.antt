@@ -2,7 +2,7 @@ use Rattle.std.proofs.Common.{◌≡◌, ◌∙◌, List, ◌∷◌, ap, sym, su
 use Rattle.std.proofs.lemmas.Result.{MatchResult-from_err}
 use Rattle.pg_lines.specs.Blocks.{BlockData}
 use Rattle.pg_rows.specs.declared.printer.Printer.{Printer}
-use Rattle.pg_rows.specs.Remembered.{Remembers, Follows, behind_block, shown_rows}
+use Rattle.pg_rows.specs.Remembered.{IsAtCursor, IsRememberedBehind, behind_block, shown_rows}
 use Rattle.pg_seq.specs.Slots.{slot_block}
 use Rattle.pg_seq.proofs.StandLemmas.{same_stands}
 use Rattle.pg_seq.proofs.DrainSteps.{here, none_ready, result_is, lines_fit, bytes_fit, printed_next}
@@ -61,12 +61,12 @@ pass-requires g c =
     let first : p.slot ≡ slot = heads (sym p.slots ∙ c.in-Some-pop_first.ensures.slots) in
     let r = result_is s past h p.slot p.later found p.slots p.result in
     let block : found.block ≡ slot_block slot = r.1 ∙ ap slot_block first in
-    let F : BlockData → Type 0 = λ b. Follows s.printer past.query past.format
+    let F : BlockData → Type 0 = λ b. IsRememberedBehind s.printer past.query past.format
     (behind_block past.query past.format (here s past h) b.bytes) b.bytes c.in_ok-printed.printed in
-    let G : Printer _ → Type 0 = λ x. Follows x past.query past.format
+    let G : Printer _ → Type 0 = λ x. IsRememberedBehind x past.query past.format
     (behind_block past.query past.format (here s past h) (slot_block slot).bytes) (slot_block slot).bytes
     c.in_ok-printed.printed in
-    let R : Printer _ → Type 0 = λ x. Remembers x past.query past.format (here s past h) in (
+    let R : Printer _ → Type 0 = λ x. IsAtCursor x past.query past.format (here s past h) in (
       past.query,
       past.format,
       here s past h,
@@ -88,12 +88,12 @@ returns-in-Some-pop_first-clause-goes g c = λ past h f.
     let first : p.slot ≡ slot = heads (sym p.slots ∙ o.slots) in
     let r = result_is s past h p.slot p.later found p.slots p.result in
     let block : found.block ≡ slot_block slot = r.1 ∙ ap slot_block first in
-    let F : BlockData → Type 0 = λ b. Follows s.printer past.query past.format
+    let F : BlockData → Type 0 = λ b. IsRememberedBehind s.printer past.query past.format
     (behind_block past.query past.format (here s past h) b.bytes) b.bytes c.in_ok-printed.printed in
-    let G : Printer _ → Type 0 = λ x. Follows x past.query past.format
+    let G : Printer _ → Type 0 = λ x. IsRememberedBehind x past.query past.format
     (behind_block past.query past.format (here s past h) (slot_block slot).bytes) (slot_block slot).bytes
     c.in_ok-printed.printed in
-    let R : Printer _ → Type 0 = λ x. Remembers x past.query past.format (here s past h) in
+    let R : Printer _ → Type 0 = λ x. IsAtCursor x past.query past.format (here s past h) in
     record {
       rows = shown_rows past.query past.format (here s past h) found.block.bytes;
       got = (c.in_ok-printed.ensures.writes past.query past.format (here s past h) h.writes.cursor h.trees r.0).ok;
