@@ -3,6 +3,7 @@ use Rattle.std.specs.Prelude.{ℕ, nat_lt, Bool, false, if◌then◌else◌, Lis
 use Rattle.std.specs.Fmt.{decimal}
 use Rattle.pg_lines.specs.Search.{Search, terminator}
 use Rattle.pg_lines.specs.Lines.{lines}
+use Rattle.pg_rows.specs.Marks.{colon, newline}
 use Rattle.pg_rows.specs.declared.format.Format.{Format}
 use Rattle.pg_rows.specs.Modes.{is_named}
 use Rattle.pg_rows.specs.Output.{name_end, name_mark, name_text, when}
@@ -29,8 +30,8 @@ block_rows q format c bytes =
 
 -- the rows at a file's end
 abbrev pub counted : Format → Cursor → List ℕ
-counted format c = when format.names (name_text format c.name ++ name_end format 58) ++ decimal c.trail.kept ++ 10 ∷ []
+counted format c = when format.names (name_text format c.name ++ name_end format colon) ++ decimal c.trail.kept ++ newline ∷ []
 
 abbrev pub named : Format → Cursor → List ℕ
 named format c =
-    when (is_named format.mode (nat_lt 0 c.trail.kept)) (name_text format c.name ++ name_mark format 10 ∷ [])
+    when (is_named format.mode (nat_lt 0 c.trail.kept)) (name_text format c.name ++ name_mark format newline ∷ [])

@@ -1,3 +1,4 @@
+pub mod Marks
 pub mod Modes
 pub mod Colors
 pub mod Separator

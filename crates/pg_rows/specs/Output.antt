@@ -8,6 +8,7 @@ use Rattle.std.specs.Fmt.{decimal}
 use Rattle.pg_lines.specs.Search.{Search, terminator}
 use Rattle.pg_lines.specs.Lines.{lines}
 use Rattle.pg_lines.specs.Selection.{selects, parts}
+use Rattle.pg_rows.specs.Marks.{colon, hyphen, newline, tab}
 use Rattle.pg_rows.specs.declared.format.Format.{Format}
 use Rattle.pg_rows.specs.Colors.{in_color, name_color, number_color, mark_color, part_color, painted_from}
 use Rattle.pg_rows.specs.Modes.{is_quiet, is_named, rows_in}
@@ -83,7 +84,7 @@ has_prefix format = (format.names || format.numbers) || format.offsets
 
 -- with -T a tab (9) stands before a text that isn't empty, where something else stands before it
 abbrev pub tab_before : Format → Bool → List ℕ
-tab_before format has_text = when (format.tabs && (has_prefix format && has_text)) (9 ∷ [])
+tab_before format has_text = when (format.tabs && (has_prefix format && has_text)) (tab ∷ [])
 
 -- a number in a row, and its mark
 abbrev pub number_text : Format → (mark number : ℕ) → List ℕ
@@ -118,7 +119,7 @@ separator format end shown earlier i =
 
 -- a colon marks a kept line, a hyphen its context
 abbrev pub mark_of : Bool → ℕ
-mark_of kept = if kept then 58 else 45
+mark_of kept = if kept then colon else hyphen
 
 -- the parts of a line that results of the query tell: none where the query isn't asked for them
 abbrev pub told_parts : Search → List ℕ → List (ℕ × ℕ)
@@ -141,7 +142,7 @@ line_rows q format name ls earlier =
 
 abbrev pub piece_rows : Search → Format → List ℕ → List (List ℕ) → List ℕ
 piece_rows q format name ls =
-    flat_map (λ i. flat_map (λ p. row format (terminator q) name (i + 1) (line_start ls i + p.0) 58
+    flat_map (λ i. flat_map (λ p. row format (terminator q) name (i + 1) (line_start ls i + p.0) colon
     (in_color format.colored part_color (slice_range (line_at ls i) p.0 p.1)))
     (told_parts q (line_at ls i)))
     (members (is_kept q format.limit ls) ls)
@@ -149,12 +150,12 @@ piece_rows q format name ls =
 -- the rows of -c, -l and -L, which end with a newline whatever the terminator, but for a name with a NUL behind it
 abbrev pub count_row : Search → Format → List ℕ → List (List ℕ) → List ℕ
 count_row q format name ls =
-    when format.names (name_text format name ++ name_end format 58)
-    ++ decimal (length (members (is_kept q format.limit ls) ls)) ++ 10 ∷ []
+    when format.names (name_text format name ++ name_end format colon)
+    ++ decimal (length (members (is_kept q format.limit ls) ls)) ++ newline ∷ []
 
 abbrev pub name_row : Search → Format → List ℕ → List (List ℕ) → List ℕ
 name_row q format name ls =
-    when (is_named format.mode (list_any (selects q) ls)) (name_text format name ++ name_mark format 10 ∷ [])
+    when (is_named format.mode (list_any (selects q) ls)) (name_text format name ++ name_mark format newline ∷ [])
 
 -- what one file gives; `earlier` says that the run has an earlier row
 unfoldable pub file_rows : Search → Format → List ℕ → List ℕ → Bool → Bool → List ℕ

@@ -5,6 +5,7 @@ use Rattle.circular_buffer.specs.Buffer.{keep_last}
 use Rattle.pg_lines.specs.Search.{Search, terminator}
 use Rattle.pg_lines.specs.Lines.{lines, AreWhole}
 use Rattle.pg_lines.specs.declared.run.Run.{Run}
+use Rattle.pg_rows.specs.Marks.{colon, hyphen}
 use Rattle.pg_rows.specs.declared.format.Format.{Format}
 use Rattle.pg_rows.specs.declared.progress.Progress.{Progress}
 use Rattle.pg_rows.specs.Output.{context, gap_text, has_separators, size_of, when}
@@ -28,7 +29,7 @@ leading format p = min (context format.before) p.behind
 -- the rows of the lines that are shown before the next kept one, which has this offset, of those that weren't shown
 abbrev pub rows_of_leading : Format → ℕ → List ℕ → List (List ℕ) → Progress → (offset : ℕ) → List ℕ
 rows_of_leading format end name hidden p offset =
-    marked_rows format end name 45 plain ((p.number + 1) - leading format p)
+    marked_rows format end name hyphen plain ((p.number + 1) - leading format p)
     (offset - size_of (keep_last (leading format p) hidden)) (keep_last (leading format p) hidden)
 
 -- what stands before the next kept line, behind these lines that weren't shown: the separator, and its context
@@ -42,12 +43,12 @@ abbrev pub rows_of_kept : Format → ℕ → List ℕ → Bool → List (List �
 rows_of_kept format end name earlier hidden p offset text ls =
     gap_of format end earlier p
     ++ (rows_of_leading format end name hidden p offset
-    ++ marked_rows format end name 58 text (p.number + 1) offset ls)
+    ++ marked_rows format end name colon text (p.number + 1) offset ls)
 
 -- the rows of lines of which none is kept, from this offset on: the first ones are trailing context
 abbrev pub rows_of_passed : Format → ℕ → List ℕ → Progress → (offset : ℕ) → List (List ℕ) → List ℕ
 rows_of_passed format end name p offset ls =
-    marked_rows format end name 45 plain (p.number + 1) offset (take p.countdown ls)
+    marked_rows format end name hyphen plain (p.number + 1) offset (take p.countdown ls)
 
 -- The printer has come to a place in a block, with these numbers, and behind these lines of earlier blocks that weren't
 -- shown. So far it has written the rows of the lines before the place, and the next line, if any, begins there.

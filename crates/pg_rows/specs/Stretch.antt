@@ -7,6 +7,7 @@ use Rattle.circular_buffer.specs.Buffer.{keep_last}
 use Rattle.pg_lines.specs.Search.{Search}
 use Rattle.pg_lines.specs.Selection.{selects}
 use Rattle.pg_lines.specs.declared.run.Part.{Part}
+use Rattle.pg_rows.specs.Marks.{colon}
 use Rattle.pg_rows.specs.declared.format.Format.{Format}
 use Rattle.pg_rows.specs.Colors.{in_color, part_color}
 use Rattle.pg_rows.specs.Output.{name_end, name_mark, name_text, number_text, context, is_nothing, when, row}
@@ -74,7 +75,7 @@ has_text ls = not (is_nothing (slice_index_or ls 0 []))
 -- the row of a part of some bytes, whose first line has this number and offset
 abbrev pub part_row : Format → ℕ → List ℕ → (number offset : ℕ) → List ℕ → Part → List ℕ
 part_row format end name number offset bytes part =
-    row format end name (number + part.line) (offset + part.span.start) 58
+    row format end name (number + part.line) (offset + part.span.start) colon
     (in_color format.colored part_color (slice_range bytes part.span.start part.span.end))
 
 -- the rows of the parts that stand in the first `cut` lines

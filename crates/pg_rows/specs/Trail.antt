@@ -5,6 +5,7 @@ use Rattle.std.specs.List.{fold, flat_map}
 use Rattle.circular_buffer.specs.Buffer.{keep_last}
 use Rattle.pg_lines.specs.Search.{Search, terminator}
 use Rattle.pg_lines.specs.Selection.{selects}
+use Rattle.pg_rows.specs.Marks.{colon, hyphen}
 use Rattle.pg_rows.specs.declared.format.Format.{Format}
 use Rattle.pg_rows.specs.Colors.{in_color, part_color}
 use Rattle.pg_rows.specs.Output.{is_below, context, size_of, when, row, gap_text, has_separators}
@@ -85,7 +86,7 @@ gap_row format end earlier t = when (has_separators format && (if t.some then t.
 abbrev pub context_rows : Format → ℕ → List ℕ → (number offset : ℕ) → List (List ℕ) → List ℕ
 context_rows format end name number offset [] = []
 context_rows format end name number offset (l ∷ ls) =
-    row format end name number offset 45 l
+    row format end name number offset hyphen l
     ++ context_rows format end name (number + 1) (offset + (length l + 1)) ls
 
 -- the rows that a kept line with this text adds: the window's and its own
@@ -93,14 +94,14 @@ abbrev pub kept_rows : Format → ℕ → List ℕ → Bool → Trail → List �
 kept_rows format end name earlier t text =
     gap_row format end earlier t
     ++ (context_rows format end name ((t.number + 1) - length t.window) (t.offset - size_of t.window) t.window
-    ++ row format end name (t.number + 1) t.offset 58 text)
+    ++ row format end name (t.number + 1) t.offset colon text)
 
 -- what a line adds, which has this text where it is kept
 abbrev pub added : Format → ℕ → List ℕ → Bool → Trail → Bool → (text l : List ℕ) → List ℕ
 added format end name earlier t selected text l =
     if keeps format t selected
     then kept_rows format end name earlier t text
-    else (when (nat_lt 0 t.countdown) (row format end name (t.number + 1) t.offset 45 l))
+    else (when (nat_lt 0 t.countdown) (row format end name (t.number + 1) t.offset hyphen l))
 
 -- the rows that many lines add
 abbrev pub run_rows : Search → Format → List ℕ → Bool → Trail → List (List ℕ) → List ℕ
@@ -112,7 +113,7 @@ run_rows q format name earlier t (l ∷ ls) =
 -- the rows of the matched parts of a line that is kept, with this number and offset
 abbrev pub pieces_in : Search → Format → List ℕ → (number offset : ℕ) → List ℕ → List ℕ
 pieces_in q format name number offset l =
-    flat_map (λ p. row format (terminator q) name number (offset + p.0) 58
+    flat_map (λ p. row format (terminator q) name number (offset + p.0) colon
     (in_color format.colored part_color (slice_range l p.0 p.1)))
     (told_parts q l)
 

@@ -2,6 +2,7 @@
 ghost use Rattle.std.specs.Prelude.{◌≡◌, ◌+◌, ◌-◌, ◌<◌, ◌≤◌, ◌^◌, OnOk, OnErr, length, drop, slice_range, true};
 ghost use Rattle.pg_lines.specs.Lines.{lines};
 ghost use Rattle.pg_lines.specs.Search.{Search};
+ghost use Rattle.pg_rows.specs.Marks.{colon};
 ghost use Rattle.pg_rows.specs.Output.{painted, row};
 ghost use Rattle.pg_rows.specs.Painting.{painted_bytes, AreAscending, AreToldParts};
 ghost use Rattle.pg_base.specs.Sink.{WritesText};
@@ -33,7 +34,7 @@ impl<A: Allocator> Printer<A> {
         requires within { to ≤ length bytes.now }
         requires ascend { AreAscending from to parts.now }
         ensures same { self.new ≡ self.old }
-        ensures writes { WritesText (row self.old.format self.old.end self.old.prefix at.number at.offset 58
+        ensures writes { WritesText (row self.old.format self.old.end self.old.prefix at.number at.offset colon
             (painted_bytes bytes.now from to parts.now)) (W.stream out.old) (W.stream out.new) result }
     {
         let has_text = has_painted_text(from, to, parts);
@@ -60,7 +61,7 @@ impl<A: Allocator> Printer<A> {
         requires told { (q : Search) × AreToldParts q true self.old.end bytes.now from line parts.now }
         ensures same { self.new ≡ self.old }
         ensures writes { (q : Search) → AreToldParts q true self.old.end bytes.now from line parts.now →
-            WritesText (marked_rows self.old.format self.old.end self.old.prefix 58 (painted q self.old.format)
+            WritesText (marked_rows self.old.format self.old.end self.old.prefix colon (painted q self.old.format)
             first.number first.offset (lines self.old.end (drop from bytes.now)))
             (W.stream out.old) (W.stream out.new) result }
     {
@@ -103,7 +104,7 @@ impl<A: Allocator> Printer<A> {
         ensures same { self.new ≡ self.old }
         ensures writes { (q : Search) →
             AreToldParts q self.old.format.colored self.old.end bytes.now from line parts.now →
-            WritesText (marked_rows self.old.format self.old.end self.old.prefix 58 (painted q self.old.format)
+            WritesText (marked_rows self.old.format self.old.end self.old.prefix colon (painted q self.old.format)
             first.number first.offset (lines self.old.end (drop from bytes.now)))
             (W.stream out.old) (W.stream out.new) result }
     {

@@ -5,6 +5,7 @@ ghost use Rattle.std.specs.Prelude.{slice_range, true, false, nat_lt, [], ◌∷
 ghost use Rattle.std.specs.Prelude.{Some};
 ghost use Rattle.std.specs.Arc.{arc_value};
 ghost use Rattle.pg_lines.specs.Search.{Search, terminator};
+ghost use Rattle.pg_rows.specs.Marks.{newline};
 ghost use Rattle.pg_rows.specs.Pieces.{cut_at};
 ghost use Rattle.pg_rows.specs.Remembered.{HasLines};
 ghost use Rattle.pg_rows.specs.Output.{name_mark, name_text, painted, size_of, when};
@@ -204,7 +205,7 @@ impl<A: Allocator> Printer<A> {
     /// Writes the file's name as a row, where the mode lists the file.
     fn write_listed_name<W: Sink>(&self, out: &mut W) -> Result<(), WriteError>
         ensures { WritesText (when (is_named self.now.format.mode (nat_lt 0 self.now.progress.kept))
-            (name_text self.now.format self.now.prefix ++ name_mark self.now.format 10 ∷ []))
+            (name_text self.now.format self.now.prefix ++ name_mark self.now.format newline ∷ []))
             (W.stream out.old) (W.stream out.new) result }
     {
         if self.format.mode.is_named(self.progress.kept > 0) {

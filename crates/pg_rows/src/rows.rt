@@ -3,6 +3,7 @@ ghost use Rattle.std.specs.Prelude.{◌≡◌, ◌+◌, ◌<◌, ◌≤◌, ◌^
 ghost use Rattle.std.specs.Prelude.{length, nat_lt, not, ◌||◌, ◌==◌, EachIndex, get_or};
 ghost use Rattle.std.specs.Fmt.{decimal};
 ghost use Rattle.pg_lines.specs.Lines.{lines, terminated};
+ghost use Rattle.pg_rows.specs.Marks.{colon, newline};
 ghost use Rattle.pg_rows.specs.Colors.{in_color, part_color};
 ghost use Rattle.pg_rows.specs.Output.{is_nothing, size_of, when, gap_text, name_end, name_mark, name_text, row};
 ghost use Rattle.pg_rows.specs.Painting.{painted_bytes, AreAscending};
@@ -278,7 +279,7 @@ pub(crate) fn write_count<W: Sink, A: Allocator>(
     count: u64,
 ) -> Result<(), WriteError>
     ensures { WritesText
-        (when format.now.names (name_text format.now prefix.now ++ name_end format.now 58) ++ decimal count ++ 10 ∷ [])
+        (when format.now.names (name_text format.now prefix.now ++ name_end format.now colon) ++ decimal count ++ newline ∷ [])
         (W.stream out.old) (W.stream out.new) result }
 {
     let mut digits = Buffer::new();
@@ -300,7 +301,7 @@ pub(crate) fn write_name<W: Sink, A: Allocator>(
     format: &Format,
     prefix: &Prefix<A>,
 ) -> Result<(), WriteError>
-    ensures { WritesText (name_text format.now prefix.now ++ name_mark format.now 10 ∷ [])
+    ensures { WritesText (name_text format.now prefix.now ++ name_mark format.now newline ∷ [])
         (W.stream out.old) (W.stream out.new) result }
 {
     write_text(out, format, Color::Name, prefix.name())?;

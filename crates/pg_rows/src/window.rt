@@ -5,6 +5,7 @@ ghost use Rattle.std.specs.Arc.{arc_value};
 ghost use Rattle.circular_buffer.specs.Buffer.{keep_last};
 ghost use Rattle.pg_base.specs.Sink.{WritesText};
 ghost use Rattle.pg_lines.specs.Lines.{lines};
+ghost use Rattle.pg_rows.specs.Marks.{hyphen};
 ghost use Rattle.pg_rows.specs.Output.{size_of};
 ghost use Rattle.pg_rows.specs.Stretch.{marked_rows, plain};
 ghost use Rattle.pg_rows.specs.Window.{lines_from, tail_lines, held, IsTail, IsWindow, GivesUp, HasRoomFor};
@@ -78,7 +79,7 @@ impl<A: Allocator> Tail<A> {
         requires placed { first.offset + size_of (drop skip (tail_lines end self.now)) < 2 ^ 64 }
         ensures same { prefix.new ≡ prefix.old }
         ensures writes { WritesText
-            (marked_rows format.now end prefix.old 45 plain first.number first.offset
+            (marked_rows format.now end prefix.old hyphen plain first.number first.offset
             (drop skip (tail_lines end self.now)))
             (W.stream out.old) (W.stream out.new) result }
         ensures size { IfOk result (λ size. size ≡ size_of (drop skip (tail_lines end self.now))) }
@@ -255,7 +256,7 @@ impl<A: Allocator> Window<A> {
         requires placed { first.offset + size_of (keep_last count (held end self.now)) < 2 ^ 64 }
         ensures same { prefix.new ≡ prefix.old }
         ensures writes { WritesText
-            (marked_rows format.now end prefix.old 45 plain first.number first.offset
+            (marked_rows format.now end prefix.old hyphen plain first.number first.offset
             (keep_last count (held end self.now)))
             (W.stream out.old) (W.stream out.new) result }
     {
