@@ -1,7 +1,8 @@
 #!/usr/bin/env python3
-"""The gate: has the toolchain prove all from nothing and run the tests, has each wrong body tried, and then compares the
-options with what names them, runs the rows, the runs by threads, those without memory and those over an input that
-stays open, and looks up the wrong bodies that it doesn't try. It closes with 'N passed, M failed' over all.
+"""The gate: has the toolchain prove all from nothing and run the tests, and each wrong body tried; then compares the
+options, the wrong bodies and the crates with the documents that list them, runs the rows, the runs by threads, those
+without memory and those over an input that stays open, and looks up the wrong bodies that it doesn't try. It closes
+with 'N passed, M failed' over all.
 
 Usage: tests/gate.py [RT]
 
@@ -30,6 +31,7 @@ FIGURES = re.compile(r"([0-9]+) passed, ([0-9]+) failed")
 SCRIPTS = (
     ("the options", "options.py"),
     ("the list of wrong bodies", "wrong_bodies.py"),
+    ("the map of crates", "crate_map.py"),
     ("the rows", "run_rows.py"),
     ("the runs by threads", "threads.py"),
     ("the runs without memory", "memory.py"),
