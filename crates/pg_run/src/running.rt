@@ -3,7 +3,7 @@ ghost use Rattle.std.specs.Prelude.{◌≡◌, ◌-◌, ◌^◌, ◌<◌, ◌∷
 ghost use Rattle.std.specs.Prelude.{IfOk, MatchResult, OnOk, IfErr, OnErr};
 ghost use Rattle.std.specs.List.{flat_map};
 ghost use Rattle.pg_lines.specs.Search.{Search, Pattern, AreTreesOf, HasItsTrees};
-ghost use Rattle.pg_lines.specs.Cutter.{IsDrained};
+ghost use Rattle.pg_blocks.specs.Cutter.{IsDrained};
 ghost use Rattle.pg_rows.specs.Output.{Left, when};
 ghost use Rattle.pg_rows.specs.Sink.{Stream, WritesText};
 ghost use Rattle.pg_files.specs.Given.{AllGiven, Given, NoFile, File, nothing_given};

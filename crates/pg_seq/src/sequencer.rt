@@ -4,7 +4,8 @@ ghost use Rattle.std.specs.Arc.{arc_value};
 
 use crate::answers::{Arrival, SinkFault};
 use crate::assembler::Assembler;
-use pg_lines::{Block, BlockResult, Query};
+use pg_blocks::Block;
+use pg_lines::{BlockResult, Query};
 use pg_rows::{Format, Sink};
 use std::alloc::{AllocError, Allocator, Global};
 use std::marker::Model;

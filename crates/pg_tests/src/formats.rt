@@ -9,7 +9,8 @@ use crate::fixtures::{compile, query_of, search, text_of};
 use crate::planning::{
     announce_block, end_file, is_block, miss_name, new_sequencer, open_file, open_next,
 };
-use pg_lines::{Block, BlockResult, Cutter, Kind, Query};
+use pg_blocks::{Block, Cutter};
+use pg_lines::{BlockResult, Kind, Query};
 use pg_rows::Separator;
 use pg_seq::{Arrival, Format, MemSink, Mode, Sequencer};
 use std::alloc::Global;
