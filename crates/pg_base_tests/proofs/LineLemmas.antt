@@ -1,7 +1,7 @@
 -- No line is longer than all bytes.
 use Rattle.std.proofs.Common.{ℕ, suc, ◌≤◌, ◌^◌, ◌==◌, true, false, cond, List, [], ◌∷◌, length, arith}
 use Rattle.std.specs.List.{AllByRecursion, onto_first}
-use Rattle.pg_lines.specs.Lines.{lines}
+use Rattle.pg_blocks.specs.Lines.{lines}
 
 abbrev AreShort : ℕ → List (List ℕ) → Type 0
 AreShort n ls = AllByRecursion (λ l. length l ≤ n) ls

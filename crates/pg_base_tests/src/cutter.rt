@@ -1,8 +1,8 @@
 //! Blocks of a file.
-ghost use Rattle.pg_lines.specs.Cutter.{IsDrained};
+ghost use Rattle.pg_blocks.specs.Cutter.{IsDrained};
 
 use crate::rows::{Question, assert_rows, bytes_of, show_bytes};
-use pg_lines::{Block, CutFault, Cutter};
+use pg_blocks::{Block, CutFault, Cutter};
 use refusing::Refusing;
 use std::alloc::{AllocError, Allocator, Global};
 

@@ -2,13 +2,13 @@
 ghost use Rattle.std.specs.Prelude.{◌≡◌, ◌≤◌, ◌<◌, length, IfOk};
 ghost use Rattle.std.specs.Arc.{arc_value};
 ghost use Rattle.pg_match.specs.Machines.{Fits};
-ghost use Rattle.pg_lines.specs.Lines.{AreShort};
+ghost use Rattle.pg_blocks.specs.Lines.{AreShort};
 ghost use Rattle.pg_lines.specs.Search.{terminator_of};
 
 use crate::rows::{Question, assert_rows, bytes_of, halves};
+use pg_blocks::{Block, CutFault};
 use pg_lines::{
-    Block, BlockResult, CutFault, Kind, PatternList, Query, QueryFault, QueryText, Scratch,
-    search_block,
+    BlockResult, Kind, PatternList, Query, QueryFault, QueryText, Scratch, search_block,
 };
 use pg_syntax::{FaultKind, ListFault, SyntaxFault};
 use refusing::Refusing;

@@ -6,7 +6,7 @@ use Rattle.std.proofs.Common.{length-append}
 use Rattle.std.specs.List.{AllByRecursion, Any}
 use Rattle.std.proofs.lemmas.List.{take-append-drop, drop-drop, drop_at, take_at, append-nil, length-take-le}
 use Rattle.pg_literal.specs.Literals.{Holds}
-use Rattle.pg_lines.specs.Lines.{lines, AreWhole, AreShort}
+use Rattle.pg_blocks.specs.Lines.{lines, AreWhole, AreShort}
 use Rattle.pg_lines.specs.Search.{SearchText, Search, Pattern, AreTreesOf, search_of, uninverted}
 use Rattle.pg_lines.specs.Search.{terminator_of, terminator}
 use Rattle.pg_lines.specs.Selection.{selects}
@@ -15,9 +15,9 @@ use Rattle.pg_lines.specs.Gathered.{IsNextLine}
 use Rattle.pg_lines.specs.Literals.{LiteralData, HoldsOne, AreLiterals}
 use Rattle.pg_lines.specs.Candidates.{AreWithout, IsFirstWith}
 use Rattle.pg_lines.specs.declared.needle.Candidate.{Candidate}
-use Rattle.pg_lines.specs.declared.span.Span.{Span}
+use Rattle.pg_blocks.specs.declared.span.Span.{Span}
 use Rattle.pg_lines.proofs.HitLemmas.{without_missed, held_hit}
-use Rattle.pg_lines.proofs.LineLemmas.{lines-append, whole_append}
+use Rattle.pg_blocks.proofs.LineLemmas.{lines-append, whole_append}
 use Rattle.pg_lines.proofs.RunLemmas.{line_found, line_unselected, line_passed, all_lines-append, all_back}
 
 all_more : (P Q : List ℕ → Type 0) (ls : List (List ℕ)) → ((l : List ℕ) → P l → Q l) → AllByRecursion P ls

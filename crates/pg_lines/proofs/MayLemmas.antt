@@ -11,7 +11,7 @@ use Rattle.pg_strings.specs.Outcomes.{strings_of}
 use Rattle.pg_literal.specs.Literals.{as_searched}
 use Rattle.pg_literal.specs.declared.literal.Literal.{Literal}
 use Rattle.pg_literal.proofs.FoldLemmas.{length_searched}
-use Rattle.pg_lines.specs.Lines.{lines}
+use Rattle.pg_blocks.specs.Lines.{lines}
 use Rattle.pg_lines.specs.Search.{SearchText, Pattern, AreTreesOf, search_of, uninverted, terminator_of}
 use Rattle.pg_lines.specs.Runs.{AllLines}
 use Rattle.pg_lines.specs.Literals.{LiteralData, data_of, flagged, set_literals, AreLiterals}

@@ -13,7 +13,7 @@ use Rattle.pg_match.specs.Hits.{HasNoNext, IsNext}
 use Rattle.pg_match.specs.Parts.{AreParts, none, more}
 use Rattle.pg_match.proofs.PartLaws.{parts_are_one}
 use Rattle.pg_match.proofs.TestLemmas.{hits_decided}
-use Rattle.pg_lines.specs.Lines.{lines, AreWhole, AreShort, terminated}
+use Rattle.pg_blocks.specs.Lines.{lines, AreWhole, AreShort, terminated}
 use Rattle.pg_lines.specs.Search.{SearchText, Search, Pattern, Bounds, AreTreesOf, search_of, terminator, bounds_of}
 use Rattle.pg_lines.specs.Selection.{selects, parts, has_hit}
 use Rattle.pg_lines.specs.Queries.{Compiled, IsCompiled}
@@ -23,8 +23,8 @@ use Rattle.pg_lines.specs.BlockParts.{part_at, parts_of_lines}
 use Rattle.pg_lines.specs.Gathered.{IsNextLine, IsGathered, parts_before}
 use Rattle.pg_lines.specs.declared.run.Run.{Run}
 use Rattle.pg_lines.specs.declared.run.Part.{Part}
-use Rattle.pg_lines.specs.declared.span.Span.{Span}
-use Rattle.pg_lines.proofs.LineLemmas.{lines-append, whole_append, terminated-lines, length-terminated-cons}
+use Rattle.pg_blocks.specs.declared.span.Span.{Span}
+use Rattle.pg_blocks.proofs.LineLemmas.{lines-append, whole_append, terminated-lines, length-terminated-cons}
 use Rattle.pg_lines.proofs.GatherLemmas.{passed, behind, before, passed_whole, passed_count, front_is_whole, joined}
 use Rattle.pg_lines.proofs.GatherLemmas.{line_text, front_length}
 use Rattle.pg_lines.proofs.RunLemmas.{lines_apart, all_back}

@@ -11,7 +11,7 @@ use Rattle.memchr.specs.Find.{OccursAt, Nowhere}
 use Rattle.pg_literal.specs.Literals.{as_searched, Holds}
 use Rattle.pg_literal.specs.Rows.{byte_as_searched}
 use Rattle.pg_literal.proofs.FoldLemmas.{length_searched, searched_append}
-use Rattle.pg_lines.specs.Lines.{lines, IsLine, AreWhole, AreShort, IsClear, Stops, terminated}
+use Rattle.pg_blocks.specs.Lines.{lines, IsLine, AreWhole, AreShort, IsClear, Stops, terminated}
 use Rattle.pg_lines.specs.Search.{Search, terminator}
 use Rattle.pg_lines.specs.Selection.{selects}
 use Rattle.pg_lines.specs.Runs.{AllLines, IsNextRun}
@@ -20,8 +20,8 @@ use Rattle.pg_lines.specs.Literals.{LiteralData, HoldsOne}
 use Rattle.pg_lines.specs.Candidates.{IsLineAt, IsFirstWith}
 use Rattle.pg_lines.specs.declared.needle.Candidate.{Candidate}
 use Rattle.pg_lines.specs.declared.run.Run.{Run}
-use Rattle.pg_lines.specs.declared.span.Span.{Span}
-use Rattle.pg_lines.proofs.LineLemmas.{made, around, lines-line, lines-alone, lines-append, whole_append}
+use Rattle.pg_blocks.specs.declared.span.Span.{Span}
+use Rattle.pg_blocks.proofs.LineLemmas.{made, around, lines-line, lines-alone, lines-append, whole_append}
 
 all_by_index : (P : List ℕ → Type 0) (ls : List (List ℕ)) → ((k : ℕ) → k < length ls → P (get_or ls k []))
     → AllByRecursion P ls

@@ -3,7 +3,7 @@ use Rattle.std.proofs.Common.{◌≡◌, ℕ, ◌+◌, ◌<◌, ◌≤◌, ◌^�
 use Rattle.std.proofs.Common.{slice_range, sym, ap, subst, arith}
 use Rattle.std.specs.List.{AllByRecursion}
 use Rattle.std.proofs.lemmas.List.{drop_all}
-use Rattle.pg_lines.specs.Lines.{lines, AreWhole, AreShort, IsClear}
+use Rattle.pg_blocks.specs.Lines.{lines, AreWhole, AreShort, IsClear}
 use Rattle.pg_lines.specs.Candidates.{IsLineAt}
 use Rattle.pg_lines.proofs.RunLemmas.{IsPassed, line_at}
 

@@ -6,7 +6,7 @@ use Rattle.pg_lines.specs.Literals.{AreLiterals}
 use Rattle.pg_lines.specs.Candidates.{AreNeedles, literals_sought}
 use Rattle.pg_lines.specs.declared.needles.Needles.{Needles}
 use Rattle.pg_lines.specs.declared.needles.Needles.TheVariants.{Few, Many, GivenUp, TooSlow}
-use Rattle.pg_lines.specs.declared.span.Span.{Span}
+use Rattle.pg_blocks.specs.declared.span.Span.{Span}
 use Rattle.pg_lines.proofs.LiteralLemmas.{no_literals}
 use Rattle.pg_lines.proofs.NeedleLemmas as N
 

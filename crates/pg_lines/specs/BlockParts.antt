@@ -1,6 +1,6 @@
 -- The matched parts of a block's selected lines, which -o shows.
 use Rattle.std.specs.Prelude.{◌≡◌, ℕ, ◌+◌, if◌then◌else◌, List, [], ◌∷◌, ◌++◌, length, map}
-use Rattle.pg_lines.specs.Lines.{lines}
+use Rattle.pg_blocks.specs.Lines.{lines}
 use Rattle.pg_lines.specs.Search.{SearchText, Search, Pattern, AreTreesOf, search_of, terminator}
 use Rattle.pg_lines.specs.Selection.{selects, parts}
 use Rattle.pg_lines.specs.declared.run.Part.{Part}

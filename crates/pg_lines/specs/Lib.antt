@@ -1,16 +1,11 @@
-pub mod Lines
 pub mod Search
 pub mod Queries
 pub mod Selection
 pub mod Literals
 pub mod Strings
-pub mod Blocks
 pub mod Runs
 pub mod BlockParts
 pub mod Gathered
 pub mod Candidates
 pub mod Searched
 pub mod Same
-pub mod Cutter
-pub mod Lending
-pub mod Long

@@ -6,7 +6,7 @@ use Rattle.pg_literal.specs.Literals as P
 use Rattle.pg_literal.specs.declared.literal.Literal.{Literal}
 use Rattle.pg_strings.specs.Outcomes.{strings_of}
 use Rattle.pg_lines.specs.declared.literal_set.LiteralSet.{LiteralSet}
-use Rattle.pg_lines.specs.Lines.{IsLine}
+use Rattle.pg_blocks.specs.Lines.{IsLine}
 use Rattle.pg_lines.specs.Search.{SearchText, Pattern, AreTreesOf, bounds_of, search_of, terminator_of}
 use Rattle.pg_lines.specs.Selection.{HasHit}
 

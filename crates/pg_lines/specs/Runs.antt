@@ -2,7 +2,7 @@
 use Rattle.std.specs.Prelude.{◌≡◌, ◌≢◌, ℕ, ◌+◌, ◌⊎◌, Bool, true, false}
 use Rattle.std.specs.Prelude.{List, [], ◌∷◌, ◌++◌, length}
 use Rattle.std.specs.List.{AllByRecursion}
-use Rattle.pg_lines.specs.Lines.{lines, AreWhole}
+use Rattle.pg_blocks.specs.Lines.{lines, AreWhole}
 use Rattle.pg_lines.specs.Search.{SearchText, Search, Pattern, AreTreesOf, search_of, terminator}
 use Rattle.pg_lines.specs.Selection.{selects}
 use Rattle.pg_lines.specs.declared.run.Run.{Run}

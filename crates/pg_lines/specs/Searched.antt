@@ -1,8 +1,8 @@
 -- A result as plain data. The query and the block determine which lines are selected.
 use Rattle.std.specs.Prelude.{ℕ, List}
-use Rattle.pg_lines.specs.Lines.{lines}
+use Rattle.pg_blocks.specs.Lines.{lines}
 use Rattle.pg_lines.specs.Search.{SearchText, terminator_of}
-use Rattle.pg_lines.specs.Blocks.{BlockData}
+use Rattle.pg_blocks.specs.Blocks.{BlockData}
 
 pub record Searched : Type 0 where
   pub query : SearchText

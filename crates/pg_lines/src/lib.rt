@@ -1,11 +1,11 @@
-//! Queries, blocks of lines, and the search of one block.
+//! Queries, and the search of one block.
+//!
+//! A [`Query`] is patterns with the options that say what they match, compiled: an automaton, and the literals of which
+//! each line with a hit holds one. [`search_block`] finds the selected lines of a block and their matched parts, by the
+//! literals where that is possible and by the automaton else; a [`BlockResult`] keeps them as runs of lines.
 #![tactic(auto)]
 
-mod block;
-mod count;
-mod cutter;
 mod laws;
-mod lines;
 mod literal_set;
 mod may;
 mod needle;
@@ -17,14 +17,9 @@ mod result;
 mod run;
 mod same;
 mod search;
-mod span;
 mod strings;
 
-pub use block::Block;
-pub use cutter::{CutFault, Cutter};
-pub use laws::{
-    blocks_keep_lines, cuts_are_one, lines_are_one, selection_is_decided, trees_are_one,
-};
+pub use laws::{selection_is_decided, trees_are_one};
 pub use pg_literal::Literal;
 pub use pg_match::{Bounds, Machine, Scratch};
 pub use pg_syntax::{Kind, ListFault, PatternList};
@@ -32,4 +27,3 @@ pub use query::{Query, QueryFault, QueryText};
 pub use result::BlockResult;
 pub use run::{Part, Run};
 pub use search::search_block;
-pub use span::Span;

@@ -6,10 +6,9 @@ ghost use Rattle.pg_lines.specs.Literals.{data_of};
 ghost use Rattle.pg_lines.specs.Candidates.{literal_of, IsAhead, StandsAt, IsBefore, IsNeedleList};
 ghost use Rattle.pg_lines.specs.Candidates.{AreWithout, IsFirstWith};
 
-use crate::lines::{begin_of_line, end_of_line};
 use crate::query::Query;
-use crate::span::Span;
 use memchr::memmem::Finder;
+use pg_blocks::{Span, begin_of_line, end_of_line};
 use pg_literal::Literal;
 use std::alloc::{AllocError, Allocator};
 

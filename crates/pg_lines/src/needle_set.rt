@@ -4,11 +4,10 @@ ghost use Rattle.pg_lines.specs.Search.{terminator_of};
 ghost use Rattle.pg_lines.specs.Literals.{set_literals};
 ghost use Rattle.pg_lines.specs.Candidates.{IsNeedleSet, IsNextCandidate};
 
-use crate::lines::{begin_of_line, end_of_line};
 use crate::literal_set::LiteralSet;
 use crate::needle::Candidate;
 use crate::query::Query;
-use crate::span::Span;
+use pg_blocks::{Span, begin_of_line, end_of_line};
 use pg_strings::{Budget, Outcome};
 use std::alloc::Allocator;
 

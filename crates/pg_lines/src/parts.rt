@@ -3,17 +3,16 @@ ghost use Rattle.std.specs.Prelude.{◌≡◌, ◌+◌, ◌<◌, ◌≤◌, ◌^
 ghost use Rattle.std.specs.Prelude.{if◌then◌else◌, slice_range, IfSome, MatchOption};
 ghost use Rattle.pg_match.specs.Hits.{HasNoNext, IsNext};
 ghost use Rattle.pg_match.specs.Machines.{Fits};
-ghost use Rattle.pg_lines.specs.Lines.{lines};
+ghost use Rattle.pg_blocks.specs.Lines.{lines};
 ghost use Rattle.pg_lines.specs.Search.{Pattern, AreTreesOf, bounds_of, search_of, terminator_of};
 ghost use Rattle.pg_lines.specs.Selection.{selects, parts};
 ghost use Rattle.pg_lines.specs.BlockParts.{part_at};
 ghost use Rattle.pg_lines.specs.Strings.{AreBlockStrings, JudgesLine};
 
-use crate::lines::text_of;
 use crate::query::Query;
 use crate::run::Part;
-use crate::span::Span;
 use crate::strings::{BlockStrings, NextString};
+use pg_blocks::{Span, text_of};
 use pg_match::Scratch;
 use std::alloc::{AllocError, Allocator};
 

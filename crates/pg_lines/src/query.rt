@@ -3,15 +3,15 @@ ghost use Rattle.std.specs.Prelude.{◌≡◌, ◌<◌, length, map, All, IfOk, 
 ghost use Rattle.pg_syntax.specs.Patterns.{IsProper};
 ghost use Rattle.pg_syntax.specs.Trees.{pattern};
 ghost use Rattle.pg_lines.specs.Search.{AreTreesOf, Fixed, bounds_of, patterns, terminator_of};
-ghost use Rattle.pg_lines.specs.Lines.{IsLine};
+ghost use Rattle.pg_blocks.specs.Lines.{IsLine};
 ghost use Rattle.pg_literal.specs.Literals.{as_searched};
 ghost use Rattle.pg_lines.specs.Literals.{AreLiterals, TellHeads, data_of};
 ghost use Rattle.pg_lines.specs.Strings.{IsSetOf};
 ghost use Rattle.pg_lines.specs.Queries.{IsCompiled, IsQueryFault};
 ghost use Rattle.pg_lines.specs.declared.query.QueryFault.TheVariants.{OutOfMemory};
 
-use crate::lines::NEWLINE;
 use crate::literal_set::{LiteralSet, few_of};
+use pg_blocks::NEWLINE;
 use pg_literal::Literal;
 use pg_match::{Bounds, BuildFault, Machine};
 use pg_syntax::{FaultKind, Kind, ListFault, PatternList, Tree, parse_list};

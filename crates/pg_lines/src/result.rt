@@ -2,9 +2,9 @@
 ghost use Rattle.std.specs.Prelude.{◌≡◌, length};
 ghost use Rattle.std.specs.Arc.{arc_value};
 
-use crate::block::Block;
 use crate::query::Query;
 use crate::run::{Found, Part, Run};
+use pg_blocks::Block;
 use std::alloc::{Allocator, Global};
 use std::marker::Model;
 use std::sync::Arc;

@@ -1,5 +1,5 @@
 //! What a search finds in a block.
-use crate::span::Span;
+use pg_blocks::Span;
 use std::alloc::Allocator;
 
 /// A run of selected lines of a block that are neighbours, with their terminators.

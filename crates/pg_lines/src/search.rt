@@ -4,7 +4,7 @@ ghost use Rattle.std.specs.Prelude.{length, map, drop, slice_range, true, false,
 ghost use Rattle.std.specs.Arc.{arc_value};
 ghost use Rattle.pg_literal.specs.Literals.{as_searched};
 ghost use Rattle.pg_match.specs.Machines.{Fits};
-ghost use Rattle.pg_lines.specs.Lines.{lines, IsLine, AreShort};
+ghost use Rattle.pg_blocks.specs.Lines.{lines, IsLine, AreShort};
 ghost use Rattle.pg_lines.specs.Search.{Search, Pattern, AreTreesOf, search_of};
 ghost use Rattle.pg_lines.specs.Search.{terminator, terminator_of, uninverted};
 ghost use Rattle.pg_lines.specs.Queries.{IsCompiled};
@@ -16,8 +16,6 @@ ghost use Rattle.pg_lines.specs.Runs.{AllLines, HasRuns};
 ghost use Rattle.pg_lines.specs.BlockParts.{HasParts};
 ghost use Rattle.pg_lines.specs.Gathered.{IsNextLine, IsGathered};
 
-use crate::block::Block;
-use crate::lines::{count_lines, line_end, text_of};
 use crate::literal_set::{LiteralSet, fixed_strings};
 use crate::needle_set::NextLine;
 use crate::needles::Needles;
@@ -25,8 +23,8 @@ use crate::parts::push_line_parts;
 use crate::query::Query;
 use crate::result::BlockResult;
 use crate::run::{Found, Run};
-use crate::span::Span;
 use crate::strings::{BlockStrings, NextString, only_head};
+use pg_blocks::{Block, Span, count_lines, line_end, text_of};
 use pg_literal::Literal;
 use pg_match::Scratch;
 use std::alloc::{AllocError, Allocator};

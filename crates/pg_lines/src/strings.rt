@@ -7,8 +7,8 @@ ghost use Rattle.pg_lines.specs.Literals.{TellHeads};
 ghost use Rattle.pg_lines.specs.Strings.{IsLongestHit, FindsString, FindsPart, IsHead, JudgesLine};
 
 use crate::query::Query;
-use crate::span::Span;
 use memchr::memmem::Finder;
+use pg_blocks::Span;
 use pg_literal::Literal;
 use pg_match::Bounds;
 use pg_strings::{Budget, Outcome, StringSet};

@@ -2,7 +2,7 @@
 use Rattle.std.proofs.Common.{◌≡◌, ℕ, ◌<◌, false, List, [], ◌∷◌, ◌++◌, refl, sym, ap, ◌∙◌, subst, append_assoc}
 use Rattle.std.proofs.Common.{append-nil, Result, Ok, Err, OnOk, OnErr, IsErrOf}
 use Rattle.std.specs.declared.sync.Arc.{Arc}
-use Rattle.pg_lines.specs.Blocks.{BlockData}
+use Rattle.pg_blocks.specs.Blocks.{BlockData}
 use Rattle.pg_lines.specs.Search.{SearchText}
 use Rattle.pg_lines.specs.Searched.{Searched}
 use Rattle.pg_rows.specs.Output.{output}

@@ -2,7 +2,7 @@
 use Rattle.std.specs.Prelude.{◌≡◌, ℕ, ◌<◌, false, List, [], ◌∷◌, ◌++◌, Result, OnOk, OnErr}
 use Rattle.std.specs.declared.sync.Arc.{Arc}
 use Rattle.pg_board.specs.Merge.{IsMerge}
-use Rattle.pg_lines.specs.Blocks.{BlockData}
+use Rattle.pg_blocks.specs.Blocks.{BlockData}
 use Rattle.pg_lines.specs.Search.{SearchText}
 use Rattle.pg_lines.specs.Searched.{Searched}
 use Rattle.pg_rows.specs.Output.{output}

@@ -2,8 +2,8 @@
 use Rattle.std.specs.Prelude.{◌≡◌, ◌⊎◌, ℕ, ◌<◌, List, [], ◌∷◌, length, slice_get, Some}
 use Rattle.std.specs.Arc.{arc_value}
 use Rattle.std.specs.declared.sync.Arc.{Arc}
-use Rattle.pg_lines.specs.Blocks.{BlockData}
-use Rattle.pg_lines.specs.Lines.{AreShort}
+use Rattle.pg_blocks.specs.Blocks.{BlockData}
+use Rattle.pg_blocks.specs.Lines.{AreShort}
 use Rattle.pg_lines.specs.Search.{SearchText, terminator_of}
 use Rattle.pg_lines.specs.Searched.{Searched}
 

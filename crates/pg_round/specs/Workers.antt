@@ -6,7 +6,7 @@ use Rattle.crossbeam_queue.specs.SegTies.{SegId}
 use Rattle.pg_board.specs.Board.{BoardView, SeatView}
 use Rattle.pg_board.specs.Tray.{PutView}
 use Rattle.pg_match.specs.Machines.{Fits}
-use Rattle.pg_lines.specs.Blocks.{BlockData}
+use Rattle.pg_blocks.specs.Blocks.{BlockData}
 use Rattle.pg_lines.specs.Queries.{Compiled}
 use Rattle.pg_lines.specs.Searched.{Searched}
 use Rattle.pg_round.specs.Results.{HasShortLines, IsResultOf, AreResultsOf}

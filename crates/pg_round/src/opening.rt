@@ -8,8 +8,9 @@ ghost use Rattle.pg_round.specs.Workers.{task, task_of, HasFinished};
 
 use crate::round::Round;
 use crate::worker::Worker;
+use pg_blocks::Block;
 use pg_board::{Board, PutPass, Seat, TakePass, Tray};
-use pg_lines::{Block, BlockResult, Query, Scratch};
+use pg_lines::{BlockResult, Query, Scratch};
 use std::alloc::{AllocError, Allocator};
 use std::sync::Arc;
 

@@ -1,8 +1,9 @@
 //! What all who search a round share.
 ghost use Rattle.std.specs.Prelude.{◌≡◌};
 
+use pg_blocks::Block;
 use pg_board::{Board, Tray};
-use pg_lines::{Block, BlockResult, Query};
+use pg_lines::{BlockResult, Query};
 use std::alloc::{AllocError, Allocator, Global};
 use std::sync::Arc;
 

@@ -6,7 +6,8 @@ ghost use Rattle.pg_match.specs.Machines.{Fits};
 ghost use Rattle.pg_round.specs.Results.{HasShortLines};
 
 use pg_base::Sink;
-use pg_lines::{Block, BlockResult, Kind, PatternList, Query, QueryText, Scratch};
+use pg_blocks::Block;
+use pg_lines::{BlockResult, Kind, PatternList, Query, QueryText, Scratch};
 use pg_round::{Collector, Gate, Reader};
 use pg_seq::{Arrival, SinkFault};
 use std::alloc::{AllocError, Allocator};

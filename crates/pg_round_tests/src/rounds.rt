@@ -6,7 +6,8 @@ ghost use Rattle.pg_round.specs.Results.{HasShortLines};
 
 use crate::fixtures::{Counting, Counts, Holding, Meeting, Stepping, blocks, query, scratches};
 use pg_base::MemSink;
-use pg_lines::{Block, Query, Scratch};
+use pg_blocks::Block;
+use pg_lines::{Query, Scratch};
 use pg_round::{FreeGate, Gate, NothingToRead, Reader, RoundFault, search_round};
 use refusing::Refusing;
 use std::alloc::{AllocError, Allocator, Global};

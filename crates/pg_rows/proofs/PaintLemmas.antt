@@ -11,12 +11,12 @@ use Rattle.std.proofs.lemmas.List.Folds.{drop_split}
 use Rattle.std.proofs.Math.Seq.{drop-append_seam}
 use Rattle.pg_lines.specs.Search.{Search, terminator}
 use Rattle.pg_lines.specs.Selection.{selects}
-use Rattle.pg_lines.specs.Lines.{lines, terminated, AreWhole}
+use Rattle.pg_blocks.specs.Lines.{lines, terminated, AreWhole}
 use Rattle.pg_lines.specs.Runs.{IsNextRun}
 use Rattle.pg_lines.specs.BlockParts.{part_at}
 use Rattle.pg_lines.specs.declared.run.Part.{Part}
 use Rattle.pg_lines.specs.declared.run.Run.{Run}
-use Rattle.pg_lines.proofs.LineLemmas.{lines-append, terminated-lines}
+use Rattle.pg_blocks.proofs.LineLemmas.{lines-append, terminated-lines}
 use Rattle.pg_rows.specs.declared.format.Format.{Format}
 use Rattle.pg_rows.specs.Colors.{in_color, painted_from, part_color}
 use Rattle.pg_rows.specs.Output.{painted, row, told_parts}

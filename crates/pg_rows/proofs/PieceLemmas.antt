@@ -14,12 +14,12 @@ use Rattle.pg_match.specs.Parts.{AreParts, none, more}
 use Rattle.pg_match.proofs.PartLaws.{parts_are_parts}
 use Rattle.pg_lines.specs.Search.{Search, terminator, bounds_of}
 use Rattle.pg_lines.specs.Selection.{selects, parts}
-use Rattle.pg_lines.specs.Lines.{lines, terminated}
+use Rattle.pg_blocks.specs.Lines.{lines, terminated}
 use Rattle.pg_lines.specs.BlockParts.{part_at, parts_of_lines}
 use Rattle.pg_lines.specs.Runs.{AreRuns}
 use Rattle.pg_lines.specs.declared.run.Run.{Run}
 use Rattle.pg_lines.specs.declared.run.Part.{Part}
-use Rattle.pg_lines.proofs.LineLaws.{lines_are_lines}
+use Rattle.pg_blocks.proofs.LineLaws.{lines_are_lines}
 use Rattle.pg_rows.specs.declared.format.Format.{Format}
 use Rattle.pg_rows.specs.Colors.{in_color, part_color}
 use Rattle.pg_rows.specs.Output.{is_below, row, told_parts, when}

@@ -8,8 +8,8 @@ use Rattle.circular_buffer.specs.Buffer.{keep_last}
 use Rattle.std.proofs.lemmas.List.{append-nil, drop-append-le, drop-drop, drop_all}
 use Rattle.std.proofs.Math.Seq.{drop-append_seam, take-nil}
 use Rattle.pg_lines.specs.Search.{Search, terminator}
-use Rattle.pg_lines.specs.Lines.{lines, AreWhole}
-use Rattle.pg_lines.proofs.LineLemmas.{lines-append}
+use Rattle.pg_blocks.specs.Lines.{lines, AreWhole}
+use Rattle.pg_blocks.proofs.LineLemmas.{lines-append}
 use Rattle.pg_rows.specs.declared.format.Format.{Format}
 use Rattle.pg_rows.specs.declared.progress.Progress.{Progress}
 use Rattle.pg_rows.specs.Output.{context, gap_text, has_separators, painted, size_of, when, is_below}

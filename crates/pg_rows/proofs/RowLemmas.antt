@@ -8,7 +8,7 @@ use Rattle.std.specs.List.{flat_map, filter}
 use Rattle.std.specs.Fmt.{decimal}
 use Rattle.std.proofs.lemmas.Bool.Decides.{nat_tests}
 use Rattle.std.proofs.lemmas.List.{append-nil, drop_more}
-use Rattle.pg_lines.specs.Lines.{terminated}
+use Rattle.pg_blocks.specs.Lines.{terminated}
 use Rattle.pg_rows.specs.declared.format.Format.{Format}
 use Rattle.pg_lines.specs.declared.run.Part.{Part}
 use Rattle.pg_rows.specs.Colors.{in_color, name_color, number_color, mark_color, part_color}

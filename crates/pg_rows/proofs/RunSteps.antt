@@ -8,7 +8,7 @@ use Rattle.std.proofs.lemmas.List.{take_at, length-take-le, append_cancel_left}
 use Rattle.std.proofs.lemmas.List.Folds.{drop_split}
 use Rattle.pg_lines.specs.Search.{Search, terminator}
 use Rattle.pg_lines.specs.Selection.{selects}
-use Rattle.pg_lines.specs.Lines.{lines, AreWhole}
+use Rattle.pg_blocks.specs.Lines.{lines, AreWhole}
 use Rattle.pg_lines.specs.Runs.{AreRuns, IsNextRun}
 use Rattle.pg_lines.specs.declared.run.Run.{Run}
 use Rattle.pg_rows.specs.declared.format.Format.{Format}

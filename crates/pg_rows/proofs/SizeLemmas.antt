@@ -7,8 +7,8 @@ use Rattle.circular_buffer.specs.Buffer.{keep_last}
 use Rattle.std.proofs.lemmas.List.{take-append-drop}
 use Rattle.pg_lines.specs.Search.{Search}
 use Rattle.pg_lines.specs.Selection.{selects}
-use Rattle.pg_lines.specs.Lines.{lines, terminated, AreWhole}
-use Rattle.pg_lines.proofs.LineLemmas.{terminated-lines}
+use Rattle.pg_blocks.specs.Lines.{lines, terminated, AreWhole}
+use Rattle.pg_blocks.proofs.LineLemmas.{terminated-lines}
 use Rattle.pg_rows.specs.declared.format.Format.{Format}
 use Rattle.pg_rows.specs.Output.{context, size_of}
 use Rattle.pg_rows.specs.Trail.{Trail, keeps, after_kept, after_context, after_other, with_offset, step, run}

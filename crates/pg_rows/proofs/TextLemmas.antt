@@ -5,9 +5,9 @@ use Rattle.std.proofs.Common.{sym, ap, ◌∙◌, subst, arith, append_assoc, le
 use Rattle.std.proofs.lemmas.Bool.{cases_eq}
 use Rattle.std.proofs.lemmas.List.{get_or_at, take_all, take_more, append-nil}
 use Rattle.std.proofs.lemmas.List.Concat.{flat_map-append}
-use Rattle.pg_lines.specs.Lines.{lines, terminated, AreWhole}
-use Rattle.pg_lines.proofs.LineLemmas.{terminated-lines, whole_append}
-use Rattle.pg_lines.proofs.LineLaws.{lines_are_lines}
+use Rattle.pg_blocks.specs.Lines.{lines, terminated, AreWhole}
+use Rattle.pg_blocks.proofs.LineLemmas.{terminated-lines, whole_append}
+use Rattle.pg_blocks.proofs.LineLaws.{lines_are_lines}
 use Rattle.pg_base.specs.Sink.{IsBeginning}
 
 pub whole_terminated : (end : ℕ) (ls : List (List ℕ)) → AreWhole end (terminated end ls)

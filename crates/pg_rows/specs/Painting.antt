@@ -2,7 +2,7 @@
 use Rattle.std.specs.Prelude.{◌≡◌, ℕ, ◌+◌, ◌≤◌, nat_lt, true, Bool, if◌then◌else◌, List, [], ◌∷◌, ◌++◌, drop}
 use Rattle.std.specs.Prelude.{slice_range}
 use Rattle.pg_lines.specs.Search.{Search, terminator}
-use Rattle.pg_lines.specs.Lines.{lines}
+use Rattle.pg_blocks.specs.Lines.{lines}
 use Rattle.pg_lines.specs.declared.run.Part.{Part}
 use Rattle.pg_rows.specs.declared.colors.Color.{Color}
 use Rattle.pg_rows.specs.declared.colors.Color.TheVariants.{Name, Number, Mark, Part as Matched}

@@ -2,8 +2,8 @@
 use Rattle.std.specs.Prelude.{◌≡◌, ℕ, ◌+◌, ◌<◌, ◌≤◌, ◌^◌, ◌⊎◌, List, [], ◌++◌, length, drop}
 use Rattle.std.specs.List.{AllByRecursion, flat_map}
 use Rattle.std.specs.Arc.{arc_value}
-use Rattle.pg_lines.specs.Blocks.{BlockData}
-use Rattle.pg_lines.specs.Lines.{lines}
+use Rattle.pg_blocks.specs.Blocks.{BlockData}
+use Rattle.pg_blocks.specs.Lines.{lines}
 use Rattle.pg_rows.specs.declared.window.Tail.{Tail}
 use Rattle.pg_rows.specs.declared.window.Window.{Window}
 

@@ -1,6 +1,6 @@
 //! The rows of kept lines.
 ghost use Rattle.std.specs.Prelude.{◌≡◌, ◌+◌, ◌-◌, ◌<◌, ◌≤◌, ◌^◌, OnOk, OnErr, length, drop, slice_range, true};
-ghost use Rattle.pg_lines.specs.Lines.{lines};
+ghost use Rattle.pg_blocks.specs.Lines.{lines};
 ghost use Rattle.pg_lines.specs.Search.{Search};
 ghost use Rattle.pg_rows.specs.Marks.{colon};
 ghost use Rattle.pg_rows.specs.Output.{painted, row};
@@ -9,11 +9,11 @@ ghost use Rattle.pg_base.specs.Sink.{WritesText};
 ghost use Rattle.pg_rows.specs.Stretch.{marked_rows};
 
 use crate::colors::end_of_parts;
-use crate::places::text_end;
 use crate::position::Position;
 use crate::printer::Printer;
 use crate::rows::{has_painted_text, write_lines, write_painted_text};
 use pg_base::{Sink, WriteError};
+use pg_blocks::line_end;
 use pg_lines::Part;
 use std::alloc::Allocator;
 
@@ -69,7 +69,7 @@ impl<A: Allocator> Printer<A> {
         let mut done = 0;
         let mut used = 0;
         while at < bytes.len() {
-            let stop = text_end(self.end, bytes, at);
+            let stop = line_end(self.end, bytes, at);
             let next = end_of_parts(parts, used, line + done + 1);
             let own = &parts[used..next];
             let place = Position {

@@ -2,7 +2,7 @@
 ghost use Rattle.std.specs.Prelude.{◌≡◌, ◌++◌, ℕ, Bool, true, false, List, []};
 ghost use Rattle.std.specs.List.{Contains};
 ghost use Rattle.pg_lines.specs.Search.{Search, terminator};
-ghost use Rattle.pg_lines.specs.Lines.{AreWhole, lines};
+ghost use Rattle.pg_blocks.specs.Lines.{AreWhole, lines};
 ghost use Rattle.pg_rows.specs.declared.format.Format.{Format};
 ghost use Rattle.pg_rows.specs.declared.format.Mode.{Mode};
 ghost use Rattle.pg_rows.specs.Colors.{without_escapes};

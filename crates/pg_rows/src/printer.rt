@@ -9,7 +9,7 @@ ghost use Rattle.pg_rows.specs.Marks.{newline};
 ghost use Rattle.pg_rows.specs.Pieces.{cut_at};
 ghost use Rattle.pg_rows.specs.Remembered.{HasLines};
 ghost use Rattle.pg_rows.specs.Output.{name_mark, name_text, painted, size_of, when};
-ghost use Rattle.pg_lines.specs.Lines.{lines, AreWhole};
+ghost use Rattle.pg_blocks.specs.Lines.{lines, AreWhole};
 ghost use Rattle.pg_base.specs.Sink.{WritesText, WritesPart};
 
 use crate::colors::end_of_parts;
@@ -21,7 +21,8 @@ use crate::progress::Progress;
 use crate::rows::{size_of_lines, write_count, write_gap, write_lines, write_name, write_parts};
 use crate::window::Window;
 use pg_base::{Sink, WriteError};
-use pg_lines::{Block, BlockResult, Part, Query, Run};
+use pg_blocks::Block;
+use pg_lines::{BlockResult, Part, Query, Run};
 use std::alloc::{AllocError, Allocator, Global};
 use std::sync::Arc;
 

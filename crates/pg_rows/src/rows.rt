@@ -2,7 +2,7 @@
 ghost use Rattle.std.specs.Prelude.{◌≡◌, ◌+◌, ◌<◌, ◌≤◌, ◌^◌, ◌++◌, [], ◌∷◌, OnOk, OnErr, if◌then◌else◌};
 ghost use Rattle.std.specs.Prelude.{length, nat_lt, not, ◌||◌, ◌==◌, EachIndex, get_or};
 ghost use Rattle.std.specs.Fmt.{decimal};
-ghost use Rattle.pg_lines.specs.Lines.{lines, terminated};
+ghost use Rattle.pg_blocks.specs.Lines.{lines, terminated};
 ghost use Rattle.pg_rows.specs.Marks.{colon, newline};
 ghost use Rattle.pg_rows.specs.Colors.{in_color, part_color};
 ghost use Rattle.pg_rows.specs.Output.{is_nothing, size_of, when, gap_text, name_end, name_mark, name_text, row};
@@ -12,11 +12,11 @@ ghost use Rattle.pg_base.specs.Sink.{WritesText};
 
 use crate::colors::{Color, write_both, write_marked_name, write_painted, write_text};
 use crate::format::Format;
-use crate::places::end_of_line;
 use crate::position::Position;
 use crate::prefix::Prefix;
 use itoa::Buffer;
 use pg_base::{Sink, WriteError, write_all};
+use pg_blocks::end_of_line;
 use pg_lines::Part;
 use std::alloc::Allocator;
 

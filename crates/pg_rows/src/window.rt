@@ -4,7 +4,7 @@ ghost use Rattle.std.specs.Prelude.{drop, IfOk, OnOk, OnErr, if◌then◌else◌
 ghost use Rattle.std.specs.Arc.{arc_value};
 ghost use Rattle.circular_buffer.specs.Buffer.{keep_last};
 ghost use Rattle.pg_base.specs.Sink.{WritesText};
-ghost use Rattle.pg_lines.specs.Lines.{lines};
+ghost use Rattle.pg_blocks.specs.Lines.{lines};
 ghost use Rattle.pg_rows.specs.Marks.{hyphen};
 ghost use Rattle.pg_rows.specs.Output.{size_of};
 ghost use Rattle.pg_rows.specs.Stretch.{marked_rows, plain};
@@ -17,7 +17,7 @@ use crate::prefix::Prefix;
 use crate::rows::{size_of_lines, write_lines};
 use circular_buffer::HeapCircularBuffer;
 use pg_base::{Sink, WriteError};
-use pg_lines::Block;
+use pg_blocks::Block;
 use std::alloc::{AllocError, Allocator, Global};
 use std::sync::Arc;
 

@@ -4,13 +4,13 @@ use Rattle.std.proofs.Common.{length, refl, sym, ap, ◌∙◌, subst, arith, ap
 use Rattle.std.specs.List.{AllByRecursion, Any}
 use Rattle.std.proofs.lemmas.List.{append-nil}
 use Rattle.std.proofs.lemmas.List.Concat.{flat_map-append}
-use Rattle.pg_lines.specs.Lines.{lines, AreShort, AreWhole}
-use Rattle.pg_lines.specs.Blocks.{BlockData, joined, EndsWith, AreNumbered}
-use Rattle.pg_lines.specs.Cutter.{Fed, handed as handed_out, Stands as CutterStands, IsNextBlock, AreAllBlocks}
-use Rattle.pg_lines.specs.Cutter.{HasLinesLeft, held}
-use Rattle.pg_lines.specs.declared.cutter.Cutter.{Cutter}
-use Rattle.pg_lines.proofs.LineLemmas.{lines-append, whole_append}
-use Rattle.pg_lines.proofs.EarlyLemmas.{AllEnd, fed_end, fed_whole, all_are_cutting}
+use Rattle.pg_blocks.specs.Lines.{lines, AreShort, AreWhole}
+use Rattle.pg_blocks.specs.Blocks.{BlockData, joined, EndsWith, AreNumbered}
+use Rattle.pg_blocks.specs.Cutter.{Fed, handed as handed_out, Stands as CutterStands, IsNextBlock, AreAllBlocks}
+use Rattle.pg_blocks.specs.Cutter.{HasLinesLeft, held}
+use Rattle.pg_blocks.specs.declared.cutter.Cutter.{Cutter}
+use Rattle.pg_blocks.proofs.LineLemmas.{lines-append, whole_append}
+use Rattle.pg_blocks.proofs.EarlyLemmas.{AllEnd, fed_end, fed_whole, all_are_cutting}
 
 -- bytes that end with the terminator, or that nothing follows
 abbrev pub IsApart : ℕ → List ℕ → List ℕ → Type 0

@@ -4,8 +4,8 @@ use Rattle.std.proofs.Common.{refl, sym, ap, ◌∙◌, subst, append_assoc}
 use Rattle.std.proofs.lemmas.Bool.{false≢true}
 use Rattle.std.proofs.lemmas.List.{append-nil}
 use Rattle.pg_lines.specs.Search.{Search, terminator}
-use Rattle.pg_lines.specs.Lines.{lines, AreWhole}
-use Rattle.pg_lines.proofs.LineLemmas.{lines-append}
+use Rattle.pg_blocks.specs.Lines.{lines, AreWhole}
+use Rattle.pg_blocks.proofs.LineLemmas.{lines-append}
 use Rattle.pg_rows.specs.declared.format.Format.{Format}
 use Rattle.pg_rows.specs.declared.format.Mode.{Mode}
 use Rattle.pg_base.specs.Entries.{Entry, Missed, Read, Ending, Running, Ended, Failed, Left, is_running}

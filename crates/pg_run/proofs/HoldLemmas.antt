@@ -9,7 +9,7 @@ use Rattle.std.proofs.lemmas.Bool.{eq-eqb, false≢true}
 use Rattle.std.proofs.lemmas.List.{append-nil, get_or_at, length_push}
 use Rattle.std.proofs.lemmas.List.Folds.{list_all-append}
 use Rattle.pg_lines.specs.Search.{terminator}
-use Rattle.pg_lines.specs.Blocks.{BlockData}
+use Rattle.pg_blocks.specs.Blocks.{BlockData}
 use Rattle.pg_lines.specs.Searched.{Searched}
 use Rattle.pg_rows.specs.Output.{HasRoom, output, status}
 use Rattle.pg_rows.specs.Enough.{is_enough}

@@ -7,14 +7,13 @@ use Rattle.std.specs.List.{Any}
 use Rattle.std.specs.Result.{IfOk}
 use Rattle.std.proofs.lemmas.List.{append-nil}
 use Rattle.pg_lines.specs.Search.{terminator}
-use Rattle.pg_lines.specs.Lines.{lines, AreShort, AreWhole}
-use Rattle.pg_lines.specs.Blocks.{BlockData, joined}
-use Rattle.pg_lines.specs.Cutter.{fed as fed_after, handed as handed_out, Stands as CutterStands}
-use Rattle.pg_lines.specs.Cutter.{Fed, IsDrained, AreAllBlocks, HasLongLine}
-use Rattle.pg_lines.specs.declared.cutter.Cutter.{Cutter}
-use Rattle.pg_lines.specs.declared.cutter.CutFault.{CutFault}
-use Rattle.pg_lines.specs.declared.cutter.CutFault.TheVariants.{OutOfMemory as NoMemory, LineTooLong, FileTooLong}
-use Rattle.pg_lines.proofs.EarlyLemmas.{AllEnd, all_are_cutting}
+use Rattle.pg_blocks.specs.Lines.{lines, AreShort, AreWhole}
+use Rattle.pg_blocks.specs.Blocks.{BlockData, joined}
+use Rattle.pg_blocks.specs.Cutter.{fed as fed_after, handed as handed_out, Stands as CutterStands, Fed, IsDrained, AreAllBlocks, HasLongLine}
+use Rattle.pg_blocks.specs.declared.cutter.Cutter.{Cutter}
+use Rattle.pg_blocks.specs.declared.cutter.CutFault.{CutFault}
+use Rattle.pg_blocks.specs.declared.cutter.CutFault.TheVariants.{OutOfMemory as NoMemory, LineTooLong, FileTooLong}
+use Rattle.pg_blocks.proofs.EarlyLemmas.{AllEnd, all_are_cutting}
 use Rattle.pg_base.specs.declared.cause.Cause.TheVariants.{ReadFailed}
 use Rattle.pg_base.specs.Entries.{Entry, Read, Ending, Running, Ended, Failed, Left, is_failed}
 use Rattle.pg_rows.specs.Output.{HasRoom, output, when}

@@ -8,7 +8,7 @@ use Rattle.std.specs.Result.{IfOk, IfErr}
 use Rattle.std.proofs.lemmas.Bool.{false≢true}
 use Rattle.std.proofs.lemmas.List.{append-nil}
 use Rattle.pg_lines.specs.Search.{Search, SearchText, Pattern, AreTreesOf, search_of, terminator}
-use Rattle.pg_lines.specs.Cutter.{unfed, Stands as CutterStands}
+use Rattle.pg_blocks.specs.Cutter.{unfed, Stands as CutterStands}
 use Rattle.pg_base.specs.declared.cause.Cause.{Cause}
 use Rattle.pg_base.specs.declared.cause.Cause.TheVariants.{ReadFailed}
 use Rattle.pg_rows.specs.declared.format.Format.{Format}

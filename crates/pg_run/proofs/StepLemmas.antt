@@ -4,8 +4,8 @@ use Rattle.std.proofs.Common.{subst, append_assoc}
 use Rattle.std.proofs.lemmas.Bool.{false≢true}
 use Rattle.std.proofs.lemmas.List.{append-nil}
 use Rattle.pg_lines.specs.Search.{Search, terminator}
-use Rattle.pg_lines.specs.Lines.{AreWhole}
-use Rattle.pg_lines.proofs.LineLemmas.{whole_append}
+use Rattle.pg_blocks.specs.Lines.{AreWhole}
+use Rattle.pg_blocks.proofs.LineLemmas.{whole_append}
 use Rattle.pg_rows.specs.declared.format.Format.{Format}
 use Rattle.pg_base.specs.Entries.{Entry, Missed, Read, Ending, Running, Ended, Failed, Left, is_running}
 use Rattle.pg_seq.specs.Plan.{with_bytes, with_end}

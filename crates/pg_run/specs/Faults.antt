@@ -1,6 +1,6 @@
 -- Faults of the parts as faults of a run.
-use Rattle.pg_lines.specs.declared.cutter.CutFault.{CutFault}
-use Rattle.pg_lines.specs.declared.cutter.CutFault.TheVariants.{OutOfMemory as NoMemoryToCut, LineTooLong, FileTooLong}
+use Rattle.pg_blocks.specs.declared.cutter.CutFault.{CutFault}
+use Rattle.pg_blocks.specs.declared.cutter.CutFault.TheVariants.{OutOfMemory as NoMemoryToCut, LineTooLong, FileTooLong}
 use Rattle.pg_lines.specs.declared.query.QueryFault.{QueryFault}
 use Rattle.pg_lines.specs.declared.query.QueryFault.TheVariants.{Syntax, TooLarge, OutOfMemory as NoMemoryForQuery}
 use Rattle.pg_run.specs.declared.fault.RunFault.{RunFault}

@@ -1,7 +1,7 @@
 -- How long lines and files may be.
 use Rattle.std.specs.Prelude.{◌⊎◌, ℕ, ◌<◌, ◌^◌, List, [], ◌∷◌, length}
 use Rattle.std.specs.List.{Any}
-use Rattle.pg_lines.specs.Lines.{lines}
+use Rattle.pg_blocks.specs.Lines.{lines}
 use Rattle.pg_files.specs.Given.{Given, NoFile, File}
 
 -- The newest file has a line of more than `longest` bytes, by the byte that ends lines, or more than 2^62 bytes.

@@ -3,7 +3,7 @@ use Rattle.std.specs.Prelude.{◌≡◌, ◌⊎◌, ℕ, ◌<◌, ◌-◌, ◌^�
 use Rattle.std.specs.List.{list_any}
 use Rattle.pg_lines.specs.Search.{Search, SearchText, Pattern, AreTreesOf, HasItsTrees}
 use Rattle.pg_lines.specs.Search.{search_of, terminator, terminator_of}
-use Rattle.pg_lines.specs.Lines.{AreWhole}
+use Rattle.pg_blocks.specs.Lines.{AreWhole}
 use Rattle.pg_lines.specs.Queries.{IsQueryFault}
 use Rattle.pg_lines.specs.declared.query.QueryFault.TheVariants.{OutOfMemory as NoMemoryForQuery}
 use Rattle.pg_rows.specs.declared.format.Format.{Format}

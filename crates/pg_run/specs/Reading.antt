@@ -2,10 +2,10 @@
 use Rattle.std.specs.Prelude.{◌≡◌, ◌⊎◌, ℕ, ◌+◌, ◌-◌, ◌<◌, ◌^◌, Bool, true, false, if◌then◌else◌, List, [], ◌∷◌, ◌++◌}
 use Rattle.std.specs.Prelude.{drop}
 use Rattle.pg_lines.specs.Search.{terminator}
-use Rattle.pg_lines.specs.Blocks.{joined}
-use Rattle.pg_lines.specs.Cutter.{Fed, Stands as CutterStands}
-use Rattle.pg_lines.specs.declared.cutter.CutFault.{CutFault}
-use Rattle.pg_lines.specs.declared.cutter.CutFault.TheVariants.{OutOfMemory as NoMemory, LineTooLong, FileTooLong}
+use Rattle.pg_blocks.specs.Blocks.{joined}
+use Rattle.pg_blocks.specs.Cutter.{Fed, Stands as CutterStands}
+use Rattle.pg_blocks.specs.declared.cutter.CutFault.{CutFault}
+use Rattle.pg_blocks.specs.declared.cutter.CutFault.TheVariants.{OutOfMemory as NoMemory, LineTooLong, FileTooLong}
 use Rattle.pg_rows.specs.Modes.{is_quiet}
 use Rattle.pg_base.specs.Entries.{Entry, Ending, Ended, Failed, Left}
 use Rattle.pg_rows.specs.Output.{output}

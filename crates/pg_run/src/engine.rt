@@ -11,7 +11,8 @@ use crate::fault::RunFault;
 use crate::pace::{Pace, time};
 use crate::setup::Setup;
 use pg_base::{Sink, WriteError};
-use pg_lines::{Block, Cutter, Kind, Query, Scratch, search_block};
+use pg_blocks::{Block, Cutter};
+use pg_lines::{Kind, Query, Scratch, search_block};
 use pg_round::{Gate, NothingToRead, Reader, search_round};
 use pg_rows::Format;
 use pg_seq::Sequencer;
@@ -187,7 +188,7 @@ fn memory_of<A: Allocator>(block: Arc<Block<A>, A>) -> Option<Vec<u8, A>> {
 }
 
 impl<A: Allocator + Copy> Engine<A> {
-    ghost use Rattle.pg_lines.specs.Cutter.{Stands as CutterStands, IsDrained, unfed};
+    ghost use Rattle.pg_blocks.specs.Cutter.{Stands as CutterStands, IsDrained, unfed};
     ghost use Rattle.pg_rows.specs.Enough.{is_enough};
     ghost use Rattle.pg_seq.specs.Plan.{Step, Opens, Announces, Ends, Misses, entries_of, is_open};
     ghost use Rattle.pg_base.specs.Sink.{Stream};
@@ -449,7 +450,7 @@ impl<A: Allocator + Copy> Engine<A> {
 }
 
 impl<A: Allocator + Copy + Send + Sync> Engine<A> {
-    ghost use Rattle.pg_lines.specs.Cutter.{Stands as CutterStands, IsDrained, unfed};
+    ghost use Rattle.pg_blocks.specs.Cutter.{Stands as CutterStands, IsDrained, unfed};
     ghost use Rattle.pg_rows.specs.Enough.{is_enough};
     ghost use Rattle.pg_seq.specs.Plan.{Step, Opens, Announces, Ends, Misses, entries_of, is_open};
     ghost use Rattle.pg_run.specs.Holding.{Aim, HasPlan, IsReady, AllIsWritten, IsWrittenFirst, BreaksOffInSearch};

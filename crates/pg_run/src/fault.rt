@@ -3,7 +3,8 @@ ghost use Rattle.std.specs.Prelude.{◌≡◌};
 ghost use Rattle.pg_run.specs.Faults.{fault_of_cut, fault_of_query, fault_of_round};
 ghost use Rattle.pg_run.specs.declared.fault.RunFault.TheVariants.{OutOfMemory, Sink};
 
-use pg_lines::{CutFault, QueryFault};
+use pg_blocks::CutFault;
+use pg_lines::QueryFault;
 use pg_round::RoundFault;
 use pg_seq::SinkFault;
 use std::alloc::AllocError;

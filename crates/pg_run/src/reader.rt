@@ -1,10 +1,10 @@
 //! Reads the open file, and cuts what comes into blocks.
 ghost use Rattle.std.specs.Prelude.{◌≡◌, ◌<◌, List, vec_len, length, IfSome, IfNone, OnOk};
-ghost use Rattle.pg_lines.specs.Cutter.{Stands as CutterStands, Fed, IsDrained, IsNextBlock, AreAllBlocks, handed};
-ghost use Rattle.pg_lines.specs.Cutter.{Keeps, room_of, handed_early, HasLinesLeft};
+ghost use Rattle.pg_blocks.specs.Cutter.{Stands as CutterStands, Fed, IsDrained, IsNextBlock, AreAllBlocks, handed};
+ghost use Rattle.pg_blocks.specs.Cutter.{Keeps, room_of, handed_early, HasLinesLeft};
 
+use pg_blocks::{Block, CutFault, Cutter};
 use pg_files::Files;
-use pg_lines::{Block, CutFault, Cutter};
 use pg_round::Reader;
 use std::alloc::{AllocError, Allocator, Global};
 use std::mem;

@@ -1,6 +1,6 @@
 //! Reads one file, as far as that is needed.
 ghost use Rattle.std.specs.Prelude.{◌≡◌, ◌<◌, ◌++◌, List, true, false, length, drop, IfOk, MatchResult, OnOk};
-ghost use Rattle.pg_lines.specs.Cutter.{IsDrained};
+ghost use Rattle.pg_blocks.specs.Cutter.{IsDrained};
 ghost use Rattle.pg_rows.specs.Output.{when};
 ghost use Rattle.pg_base.specs.declared.cause.Cause.TheVariants.{ReadFailed};
 ghost use Rattle.pg_files.specs.Given.{Given, newest_name};

@@ -8,9 +8,9 @@ use Rattle.std.proofs.lemmas.Bool.{false≢true, and_from}
 use Rattle.std.proofs.lemmas.List.{length-map, length-drop, map-append, drop-map, drop-drop, length_push}
 use Rattle.std.proofs.lemmas.List.Folds.{list_any-append}
 use Rattle.pg_lines.specs.Search.{Search, terminator, terminator_of}
-use Rattle.pg_lines.specs.Lines.{lines}
+use Rattle.pg_blocks.specs.Lines.{lines}
 use Rattle.pg_lines.specs.Searched.{Searched, lines_of}
-use Rattle.pg_lines.specs.Blocks.{BlockData}
+use Rattle.pg_blocks.specs.Blocks.{BlockData}
 use Rattle.pg_lines.specs.Runs.{AreRuns, HasRuns}
 use Rattle.pg_lines.specs.declared.run.Run.{Run}
 use Rattle.pg_rows.specs.declared.progress.Progress.{Progress}

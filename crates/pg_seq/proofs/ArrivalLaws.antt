@@ -10,7 +10,7 @@ use Rattle.std.proofs.lemmas.Slice.Eq.{bytes_eq-Decides}
 use Rattle.pg_lines.specs.Search.{terminator}
 use Rattle.pg_lines.specs.Same.{same_text, text_equal}
 use Rattle.pg_lines.specs.Searched.{Searched}
-use Rattle.pg_lines.specs.Blocks.{BlockData}
+use Rattle.pg_blocks.specs.Blocks.{BlockData}
 use Rattle.pg_seq.specs.declared.answers.Arrival.TheVariants.{Taken, Double, Stranger}
 use Rattle.pg_seq.specs.Plan.{Step, Opens, Announces, Ends, Misses, IsShaped, opened, announced, last_blocks}
 use Rattle.pg_seq.specs.History.{Past, plan, answer, answer_after, arrival_at, is_block, is_taken, taken_of, if_same}

@@ -6,9 +6,9 @@ use Rattle.std.proofs.lemmas.Bool.{false≢true}
 use Rattle.std.proofs.lemmas.List.{append-nil}
 use Rattle.std.proofs.lemmas.List.Concat.{flat_map-append}
 use Rattle.pg_lines.specs.Search.{Search, terminator}
-use Rattle.pg_lines.specs.Lines.{lines}
-use Rattle.pg_lines.specs.Blocks.{BlockData, EndsWith, joined}
-use Rattle.pg_lines.proofs.LineLemmas.{lines-append}
+use Rattle.pg_blocks.specs.Lines.{lines}
+use Rattle.pg_blocks.specs.Blocks.{BlockData, EndsWith, joined}
+use Rattle.pg_blocks.proofs.LineLemmas.{lines-append}
 use Rattle.pg_rows.specs.declared.format.Format.{Format}
 use Rattle.pg_rows.specs.declared.format.Mode.{Mode}
 use Rattle.pg_rows.specs.Modes.{shows_rows, end_row, rows_in}

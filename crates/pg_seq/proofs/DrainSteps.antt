@@ -7,10 +7,10 @@ use Rattle.std.proofs.lemmas.Bool.{false≢true, and_from}
 use Rattle.std.proofs.lemmas.List.{length_push}
 use Rattle.std.proofs.lemmas.List.Folds.{list_any-append}
 use Rattle.pg_lines.specs.Search.{Search, terminator, terminator_of}
-use Rattle.pg_lines.specs.Lines.{lines}
+use Rattle.pg_blocks.specs.Lines.{lines}
 use Rattle.pg_lines.specs.Searched.{Searched, lines_of}
-use Rattle.pg_lines.specs.Blocks.{BlockData}
-use Rattle.pg_lines.proofs.CountLemmas.{few_lines}
+use Rattle.pg_blocks.specs.Blocks.{BlockData}
+use Rattle.pg_blocks.proofs.CountLemmas.{few_lines}
 use Rattle.pg_rows.specs.declared.format.Format.{Format}
 use Rattle.pg_rows.specs.declared.printer.Printer.{Printer}
 use Rattle.pg_rows.specs.Output.{HasRoom, output}

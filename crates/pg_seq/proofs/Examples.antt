@@ -6,7 +6,7 @@ use Rattle.pg_match.specs.Tests.{has_hit}
 use Rattle.pg_match.specs.Parts.{parts_from}
 use Rattle.pg_lines.specs.Search.{SearchText, Search, Split, Fixed, search_of}
 use Rattle.std.specs.Fmt.{digits}
-use Rattle.pg_lines.specs.Blocks.{BlockData}
+use Rattle.pg_blocks.specs.Blocks.{BlockData}
 use Rattle.pg_lines.specs.Searched.{Searched}
 use Rattle.pg_lines.specs.Same.{same_text}
 use Rattle.pg_seq.specs.Plan.{Opens, Announces, Ends}

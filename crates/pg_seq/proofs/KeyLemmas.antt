@@ -6,7 +6,7 @@ use Rattle.std.proofs.lemmas.Bool.{ne_eqb, cases_eq, and_left, and_right, and_pa
 use Rattle.std.proofs.lemmas.List.{length_push}
 use Rattle.pg_lines.specs.Search.{Search}
 use Rattle.pg_lines.specs.Same.{same_text}
-use Rattle.pg_lines.specs.Blocks.{BlockData}
+use Rattle.pg_blocks.specs.Blocks.{BlockData}
 use Rattle.pg_seq.specs.declared.answers.Arrival.{Arrival}
 use Rattle.pg_seq.specs.declared.answers.Arrival.TheVariants.{Taken, Double, Stranger}
 use Rattle.pg_seq.specs.Plan.{Step, Opens, Announces, Ends, Misses, IsShaped, IsNextOfFile}

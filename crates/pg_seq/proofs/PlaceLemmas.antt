@@ -6,7 +6,7 @@ use Rattle.std.specs.Option.{option_or}
 use Rattle.std.proofs.lemmas.Bool.{eq-eqb, lt-ltb, le-ltb, cases_lt, cases_eq, and_left, and_right, and_from}
 use Rattle.std.proofs.lemmas.List.{get_or_append_left, get_or_push, get_or_past, get_or_default, length_push}
 use Rattle.std.proofs.lemmas.List.Folds.{find-append}
-use Rattle.pg_lines.specs.Blocks.{BlockData}
+use Rattle.pg_blocks.specs.Blocks.{BlockData}
 use Rattle.pg_seq.specs.Plan.{Step, Opens, Announces, Ends, Misses, IsShaped, opened, announced, last_blocks}
 use Rattle.pg_seq.specs.History.{is_block}
 use Rattle.pg_seq.specs.Slots.{place_of, at_place}

@@ -6,12 +6,12 @@ use Rattle.std.specs.List.{AllByRecursion, list_any}
 use Rattle.std.proofs.lemmas.Bool.{lt-ltb, ne_eqb}
 use Rattle.std.proofs.lemmas.List.Folds.{list_any-append}
 use Rattle.pg_lines.specs.Search.{SearchText, Search, HasItsTrees, terminator}
-use Rattle.pg_lines.specs.Lines.{lines}
+use Rattle.pg_blocks.specs.Lines.{lines}
 use Rattle.pg_lines.specs.Selection.{selects}
 use Rattle.pg_lines.specs.Runs.{AreRuns, HasRuns}
 use Rattle.pg_lines.specs.declared.run.Run.{Run}
 use Rattle.pg_lines.proofs.RunLemmas.{lines_apart}
-use Rattle.pg_lines.proofs.LineLemmas.{some_line}
+use Rattle.pg_blocks.proofs.LineLemmas.{some_line}
 
 pub runs_of : (q : Search) (text : SearchText) (bytes : List ℕ) (runs : List Run) → HasItsTrees q → text ≡ q.text
     → HasRuns text bytes runs → AreRuns q 0 0 bytes runs

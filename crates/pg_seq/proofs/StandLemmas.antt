@@ -8,12 +8,12 @@ use Rattle.std.proofs.lemmas.Bool.{false≢true, cases_Bool, eqb-true, and_parts
 use Rattle.std.proofs.lemmas.List.{append-nil, length-map, map-append, map_push}
 use Rattle.std.proofs.lemmas.List.Folds.{list_any-append}
 use Rattle.pg_lines.specs.Search.{Search, HasItsTrees, terminator}
-use Rattle.pg_lines.specs.Lines.{lines}
+use Rattle.pg_blocks.specs.Lines.{lines}
 use Rattle.pg_lines.specs.Selection.{selects}
 use Rattle.pg_lines.specs.Same.{same_text, text_equal}
 use Rattle.pg_lines.specs.Searched.{Searched}
-use Rattle.pg_lines.specs.Blocks.{BlockData, joined}
-use Rattle.pg_lines.proofs.LineLemmas.{lines-append}
+use Rattle.pg_blocks.specs.Blocks.{BlockData, joined}
+use Rattle.pg_blocks.proofs.LineLemmas.{lines-append}
 use Rattle.pg_seq.specs.declared.answers.Arrival.{Arrival}
 use Rattle.pg_seq.specs.declared.answers.Arrival.TheVariants.{Taken, Double, Stranger}
 use Rattle.pg_seq.specs.declared.slot.Slot.{Slot}

@@ -2,8 +2,8 @@
 use Rattle.std.specs.Prelude.{◌≡◌, ◌≢◌, ℕ, ◌+◌, ◌-◌, ◌<◌, ◌≤◌, ◌^◌, Bool, true, false, if◌then◌else◌, List, [], ◌∷◌}
 use Rattle.std.specs.Prelude.{◌++◌, length}
 use Rattle.std.specs.List.{AllByRecursion}
-use Rattle.pg_lines.specs.Blocks.{BlockData, joined, EndsWith}
-use Rattle.pg_lines.specs.Lines.{lines}
+use Rattle.pg_blocks.specs.Blocks.{BlockData, joined, EndsWith}
+use Rattle.pg_blocks.specs.Lines.{lines}
 use Rattle.pg_base.specs.Entries.{Entry, Missed, Read, Running, Ended, Failed}
 
 pub data Step : Type 0 where

@@ -7,7 +7,8 @@ ghost use Rattle.pg_seq.specs.Slots.{place_of};
 
 use crate::answers::Arrival;
 use crate::slot::Slot;
-use pg_lines::{Block, BlockResult};
+use pg_blocks::Block;
+use pg_lines::BlockResult;
 use std::alloc::{AllocError, Allocator, Global};
 use std::collections::VecDeque;
 use std::sync::Arc;

@@ -3,7 +3,8 @@ ghost use Rattle.std.specs.Prelude.{◌≡◌};
 ghost use Rattle.pg_seq.specs.Slots.{TellsSelected, slot_arrival};
 
 use crate::answers::Arrival;
-use pg_lines::{Block, BlockResult};
+use pg_blocks::Block;
+use pg_lines::BlockResult;
 use std::alloc::{Allocator, Global};
 use std::sync::Arc;
 

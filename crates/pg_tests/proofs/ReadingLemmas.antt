@@ -4,8 +4,8 @@ use Rattle.std.proofs.Common.{refl, ap, sym, subst, ◌∙◌, lit≤, arith}
 use Rattle.std.specs.List.{AllByRecursion, onto_first}
 use Rattle.std.proofs.lemmas.List.{length-append, length_push}
 use Rattle.std.proofs.lemmas.List.Concat.{flat_map-append}
-use Rattle.pg_lines.specs.Lines.{lines}
-use Rattle.pg_lines.specs.Blocks.{BlockData, joined, EndsWith}
+use Rattle.pg_blocks.specs.Lines.{lines}
+use Rattle.pg_blocks.specs.Blocks.{BlockData, joined, EndsWith}
 use Rattle.pg_lines.specs.Search.{terminator}
 use Rattle.pg_lines.specs.Searched.{Searched}
 use Rattle.pg_seq.specs.Plan.{Opens, Announces, Ends, Misses, MayFollow, last_blocks}

@@ -1,6 +1,7 @@
 //! Memory that is refused while a file is cut and searched.
 use crate::fixtures::{SPARED, query_of, search, text_of};
-use pg_lines::{Block, CutFault, Cutter, Kind, Query, QueryFault};
+use pg_blocks::{Block, CutFault, Cutter};
+use pg_lines::{Kind, Query, QueryFault};
 use refusing::Refusing;
 use std::alloc::{AllocError, Allocator, Global};
 use std::process::Abort;

@@ -2,7 +2,8 @@
 ghost use Rattle.std.specs.Prelude.{◌≡◌, ◌≤◌, IfOk, false, length};
 ghost use Rattle.std.specs.Arc.{arc_value};
 
-use pg_lines::{Block, BlockResult, Kind, PatternList, Query, QueryText, Scratch, search_block};
+use pg_blocks::Block;
+use pg_lines::{BlockResult, Kind, PatternList, Query, QueryText, Scratch, search_block};
 use pg_rows::{Format, Mode};
 use std::alloc::{AllocError, Allocator};
 use std::sync::Arc;

@@ -10,7 +10,8 @@ use crate::planning::{
     announce_block, end_file, is_block, miss_name, new_sequencer, open_file, open_next,
 };
 use pg_base::MemSink;
-use pg_lines::{Block, BlockResult, Cutter, Kind, Query};
+use pg_blocks::{Block, Cutter};
+use pg_lines::{BlockResult, Kind, Query};
 use pg_rows::{Format, Mode, Separator};
 use pg_seq::{Arrival, Sequencer};
 use std::alloc::Global;

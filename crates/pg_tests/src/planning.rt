@@ -4,7 +4,8 @@ ghost use Rattle.std.specs.Arc.{arc_value};
 ghost use Rattle.pg_rows.specs.Output.{HasRoom};
 ghost use Rattle.pg_tests.specs.Reading.{IsBlock, IsBetween, IsReading};
 
-use pg_lines::{Block, Query};
+use pg_blocks::Block;
+use pg_lines::Query;
 use pg_rows::Format;
 use pg_seq::Sequencer;
 use refusing::Refusing;

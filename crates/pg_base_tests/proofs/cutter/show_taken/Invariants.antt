@@ -1,4 +1,4 @@
-use Rattle.pg_lines.specs.Cutter.{waiting}
+use Rattle.pg_blocks.specs.Cutter.{waiting}
 use Rattle.pg_base_tests.proofs.cutter.show_taken.Given as goal
 
 abbrev pub decreases-loop-block : goal.decreases-loop-block

@@ -1,6 +1,6 @@
 use Rattle.std.proofs.Common.{List, ℕ, sym, subst}
 use Rattle.std.specs.Arc.{arc_value}
-use Rattle.pg_lines.specs.Lines.{AreShort}
+use Rattle.pg_blocks.specs.Lines.{AreShort}
 use Rattle.pg_lines.specs.Search.{terminator_of}
 use Rattle.pg_base_tests.proofs.LineLemmas.{lines_short}
 use Rattle.pg_base_tests.proofs.lines.search_for.Goals as goal

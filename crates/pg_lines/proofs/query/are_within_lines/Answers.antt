@@ -1,6 +1,6 @@
 use Rattle.std.proofs.Common.{subst, sym, ◌∙◌, arith}
 use Rattle.std.proofs.lemmas.List.Elements.{AllWithin-more, AllWithin-upto, All-from_all_within, at_read}
-use Rattle.pg_lines.specs.Lines.{IsLine}
+use Rattle.pg_blocks.specs.Lines.{IsLine}
 use Rattle.pg_literal.specs.declared.literal.Literal.{Literal}
 use Rattle.pg_lines.proofs.PatternLemmas.{not_found}
 use Rattle.pg_lines.proofs.query.are_within_lines.Goals as goal

@@ -1,5 +1,5 @@
 use Rattle.std.specs.List.{AllWithin}
-use Rattle.pg_lines.specs.Lines.{IsLine}
+use Rattle.pg_blocks.specs.Lines.{IsLine}
 use Rattle.pg_lines.proofs.query.are_within_lines.Given as goal
 
 abbrev pub invariant-loop-literal : goal.invariant-loop-literal

@@ -7,7 +7,7 @@ use Rattle.pg_syntax.specs.Trees.{pattern}
 use Rattle.pg_literal.specs.Literals as P
 use Rattle.pg_literal.specs.declared.literal.Literal.{Literal}
 use Rattle.pg_lines.specs.Literals.{AreLiterals, data_of}
-use Rattle.pg_lines.specs.Lines.{IsLine}
+use Rattle.pg_blocks.specs.Lines.{IsLine}
 use Rattle.pg_syntax.specs.Grammar.{Spells}
 use Rattle.pg_syntax.specs.ListResults.{AreSpelled}
 use Rattle.pg_literal.specs.Literals.{as_searched}

@@ -3,7 +3,7 @@ use Rattle.std.specs.Option.{IfSome, IfNone}
 use Rattle.pg_lines.specs.Search.{search_of, uninverted, terminator_of}
 use Rattle.pg_lines.specs.Selection.{selects}
 use Rattle.pg_lines.specs.Candidates.{literals_sought}
-use Rattle.pg_lines.specs.declared.span.Span.{Span}
+use Rattle.pg_blocks.specs.declared.span.Span.{Span}
 use Rattle.pg_lines.proofs.CandidateLemmas.{skipped_all, skipped_some, skipped_more, missed_without}
 use Rattle.pg_lines.proofs.CandidateLemmas.{first_selected, first_enough, first_short, found_text}
 use Rattle.pg_lines.proofs.JudgeLemmas.{judges_front}

@@ -1,6 +1,6 @@
 use Rattle.std.proofs.Common.{List, ◌-◌, ◌≤◌, false, length, drop, take}
 use Rattle.pg_match.specs.Machines.{Fits}
-use Rattle.pg_lines.specs.Lines.{AreShort}
+use Rattle.pg_blocks.specs.Lines.{AreShort}
 use Rattle.pg_lines.specs.Search.{Pattern, AreTreesOf, search_of, uninverted, terminator_of}
 use Rattle.pg_lines.specs.Runs.{AllLines}
 use Rattle.pg_lines.proofs.RunLemmas.{IsPassed}

@@ -3,7 +3,7 @@ use Rattle.std.proofs.Common.{◌≡◌, ◌+◌, ◌-◌, ℕ, Bool, false, Lis
 use Rattle.std.proofs.Common.{subst, arith}
 use Rattle.std.proofs.Common.{refl}
 use Rattle.std.proofs.lemmas.List.{take_rest}
-use Rattle.pg_lines.specs.Lines.{lines, AreShort}
+use Rattle.pg_blocks.specs.Lines.{lines, AreShort}
 use Rattle.pg_lines.specs.Search.{SearchText, Pattern, search_of, uninverted, terminator_of}
 use Rattle.pg_lines.specs.Selection.{parts}
 use Rattle.pg_lines.specs.Runs.{AllLines, AreRuns}
@@ -12,7 +12,7 @@ use Rattle.pg_lines.specs.Gathered.{IsNextLine, IsGathered}
 use Rattle.pg_lines.specs.Candidates.{AreNeedles}
 use Rattle.pg_lines.specs.declared.run.Run.{Run}
 use Rattle.pg_lines.specs.declared.run.Part.{Part}
-use Rattle.pg_lines.specs.declared.span.Span.{Span}
+use Rattle.pg_blocks.specs.declared.span.Span.{Span}
 use Rattle.pg_lines.proofs.GatherLemmas.{gathered_none, gathered_all, all_counted}
 use Rattle.pg_lines.proofs.PartLemmas.{line_one, line_short, parts_with_line, parts_of_all, parts_before_none}
 use Rattle.pg_lines.proofs.RunLemmas.{short_behind}

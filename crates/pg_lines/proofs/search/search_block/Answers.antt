@@ -1,10 +1,10 @@
 use Rattle.std.proofs.lemmas.Result.{IfOk-from_err}
 use Rattle.std.proofs.Common.{◌∙◌, List, ℕ, length, ap, sym, subst}
 use Rattle.std.specs.Arc.{arc_value}
-use Rattle.pg_lines.specs.Blocks.{BlockData}
+use Rattle.pg_blocks.specs.Blocks.{BlockData}
 use Rattle.pg_lines.specs.Queries.{Compiled}
 use Rattle.pg_lines.specs.Search.{SearchText, terminator_of}
-use Rattle.pg_lines.specs.Lines.{lines, AreShort}
+use Rattle.pg_blocks.specs.Lines.{lines, AreShort}
 use Rattle.pg_match.specs.Machines.{Fits}
 use Rattle.pg_lines.specs.Runs.{HasRuns}
 use Rattle.pg_lines.specs.BlockParts.{HasParts}

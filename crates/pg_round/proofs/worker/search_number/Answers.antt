@@ -1,8 +1,8 @@
 use Rattle.std.proofs.Common.{◌<◌, length, ap, ◌∙◌, subst, sym, arith}
 use Rattle.std.specs.Arc.{arc_value}
 use Rattle.std.proofs.lemmas.Result.{IfOk-from_err, IfOk-weaker}
-use Rattle.pg_lines.specs.Blocks.{BlockData}
-use Rattle.pg_lines.specs.Lines.{AreShort}
+use Rattle.pg_blocks.specs.Blocks.{BlockData}
+use Rattle.pg_blocks.specs.Lines.{AreShort}
 use Rattle.pg_lines.specs.Search.{SearchText, terminator_of}
 use Rattle.pg_lines.specs.Searched.{Searched}
 use Rattle.pg_round.proofs.ListLemmas.{get_at}

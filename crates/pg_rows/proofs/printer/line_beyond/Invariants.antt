@@ -1,6 +1,6 @@
 use Rattle.std.proofs.Common.{◌≡◌, ℕ, ◌-◌, List, drop}
 use Rattle.pg_lines.specs.Search.{Search, terminator}
-use Rattle.pg_lines.specs.Lines.{lines}
+use Rattle.pg_blocks.specs.Lines.{lines}
 use Rattle.pg_rows.specs.Remembered.{HasLines}
 use Rattle.pg_rows.proofs.PieceLemmas.{IsCutBehind}
 use Rattle.pg_rows.proofs.printer.line_beyond.Given as goal

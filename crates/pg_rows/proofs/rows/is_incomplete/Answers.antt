@@ -1,7 +1,7 @@
 use Rattle.std.proofs.Common.{◌≡◌, ◌++◌, ◌∷◌, ◌-◌, ◌<◌, [], ℕ, Bool, true, false, not, nat_eq, cond, List, length}
 use Rattle.std.proofs.Common.{get_or, sym, ◌∙◌, arith, refl}
 use Rattle.std.proofs.lemmas.Bool.{eqb-true, eqb-false}
-use Rattle.pg_lines.specs.Lines.{lines, terminated}
+use Rattle.pg_blocks.specs.Lines.{lines, terminated}
 use Rattle.pg_rows.proofs.TextLemmas.{whole_by_last, incomplete_by_last}
 use Rattle.pg_rows.proofs.rows.is_incomplete.Goals as goal
 

@@ -1,5 +1,5 @@
 use Rattle.std.proofs.Common.{◌++◌, ◌∷◌, [], cond, length, sym, ap, ◌∙◌, length-append}
-use Rattle.pg_lines.specs.Lines.{lines}
+use Rattle.pg_blocks.specs.Lines.{lines}
 use Rattle.pg_rows.proofs.SizeLemmas.{size_terminated}
 use Rattle.pg_rows.proofs.rows.size_of_lines.Goals as goal
 

@@ -1,5 +1,5 @@
 use Rattle.std.proofs.Common.{◌∷◌, [], ◌++◌, cond, sym, ap, ◌∙◌}
-use Rattle.pg_lines.specs.Lines.{lines, terminated}
+use Rattle.pg_blocks.specs.Lines.{lines, terminated}
 use Rattle.pg_base.proofs.SinkLemmas.{takes_longer}
 use Rattle.pg_rows.proofs.TextLemmas.{begins_completed}
 use Rattle.pg_base.proofs.WriteLemmas.{writes_part, writes_then, writes_as}

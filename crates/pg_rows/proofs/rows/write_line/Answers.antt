@@ -1,5 +1,5 @@
 use Rattle.std.proofs.Common.{◌++◌, sym, ap, ◌∙◌}
-use Rattle.pg_lines.specs.Lines.{lines, terminated}
+use Rattle.pg_blocks.specs.Lines.{lines, terminated}
 use Rattle.pg_rows.specs.Stretch.{marked_rows, plain, prefix_text}
 use Rattle.pg_rows.proofs.RowLemmas.{marked_one}
 use Rattle.pg_base.proofs.WriteLemmas.{part_of_first, writes_part, writes_then, writes_as}

@@ -3,7 +3,7 @@ use Rattle.std.proofs.Common.{subst}
 use Rattle.std.proofs.Common.{arith, length-append, length-drop, refl}
 use Rattle.std.proofs.lemmas.Bool.{cases_lt}
 use Rattle.std.proofs.lemmas.List.{drop_all, length-take-le}
-use Rattle.pg_lines.specs.Lines.{lines, AreWhole}
+use Rattle.pg_blocks.specs.Lines.{lines, AreWhole}
 use Rattle.pg_rows.specs.Output.{size_of}
 use Rattle.pg_base.specs.Sink.{WritesAll, WritesPart}
 use Rattle.pg_rows.specs.Stretch.{marked_rows, plain}
@@ -33,10 +33,12 @@ returns-in_err-write_line-clause-writes g c =
     let rows = λ (n o : ℕ) (ls : List (List ℕ)). marked_rows a.format.now a.end a.prefix.now a.mark plain n o ls in
     let first = lines a.end (slice_range a.text.now from next) in
     let later = lines a.end (drop next a.text.now) in
-    let size = line_size a.end a.text.now from next c.end_of_line-next.ensures.low c.end_of_line-next.ensures.high
+    let low = c.end_of_line-next.ensures.low c.loop-start-test.true in
+    let one = c.end_of_line-next.ensures.one c.loop-start-test.true in
+    let size = line_size a.end a.text.now from next low c.end_of_line-next.ensures.high
     c.end_of_line-next.ensures.whole in
     let parted = marked_line a.format.now a.end a.prefix.now a.mark plain at.number at.offset (next - from)
-    (lines a.end (drop from a.text.now)) first later c.end_of_line-next.ensures.one size
+    (lines a.end (drop from a.text.now)) first later one size
     c.end_of_line-next.ensures.apart in
     let before = g.W.Sink.stream a.out.now in
     let middle = g.W.Sink.stream c.loop-start.out in
@@ -60,12 +62,14 @@ loop-start-preserved g c =
     let first = lines a.end (slice_range a.text.now from next) in
     let later = lines a.end (drop next a.text.now) in
     let all = lines a.end (drop from a.text.now) in
-    let size = line_size a.end a.text.now from next c.end_of_line-next.ensures.low c.end_of_line-next.ensures.high
+    let low = c.end_of_line-next.ensures.low c.loop-start-test.true in
+    let one = c.end_of_line-next.ensures.one c.loop-start-test.true in
+    let size = line_size a.end a.text.now from next low c.end_of_line-next.ensures.high
     c.end_of_line-next.ensures.whole in
     let parted = marked_line a.format.now a.end a.prefix.now a.mark plain at.number at.offset (next - from) all first
-    later c.end_of_line-next.ensures.one size c.end_of_line-next.ensures.apart in
+    later one size c.end_of_line-next.ensures.apart in
     let counted : length all ≡ 1 + length later = ap length c.end_of_line-next.ensures.apart
-    ∙ (length-append first later ∙ ap (λ n. n + length later) c.end_of_line-next.ensures.one) in
+    ∙ (length-append first later ∙ ap (λ n. n + length later) one) in
     let before = g.W.Sink.stream a.out.now in
     let middle = g.W.Sink.stream c.loop-start.out in
     let after = g.W.Sink.stream c.write_line.new.out in
@@ -74,7 +78,6 @@ loop-start-preserved g c =
     let whole = rows a.first.number a.first.offset (lines a.end a.text.now) in
     let small = c.loop-start.invariant.small in
     let place = c.loop-start.invariant.place in
-    let low = c.end_of_line-next.ensures.low in
     record {
       within = c.end_of_line-next.ensures.high;
       small = omega (arith, counted, small);
@@ -102,7 +105,7 @@ pub overflow_add-at-in-loop-start : goal.overflow_add-at-in-loop-start
 overflow_add-at-in-loop-start g c =
     let place = c.loop-start.invariant.place in
     let placed = c.requires.placed in
-    let low = c.end_of_line-next.ensures.low in
+    let low = c.end_of_line-next.ensures.low c.loop-start-test.true in
     let high = c.end_of_line-next.ensures.high in
     omega arith
 

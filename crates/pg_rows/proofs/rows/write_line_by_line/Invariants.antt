@@ -1,5 +1,5 @@
 use Rattle.std.proofs.Common.{◌≡◌, ◌+◌, ◌-◌, ◌<◌, ◌≤◌, ◌^◌, length, drop}
-use Rattle.pg_lines.specs.Lines.{lines}
+use Rattle.pg_blocks.specs.Lines.{lines}
 use Rattle.pg_rows.specs.Stretch.{marked_rows, plain}
 use Rattle.pg_base.proofs.WriteLemmas.{WritesAllBut}
 use Rattle.pg_rows.proofs.rows.write_line_by_line.Given as goal

@@ -1,4 +1,4 @@
-use Rattle.pg_lines.specs.Lines.{lines, terminated}
+use Rattle.pg_blocks.specs.Lines.{lines, terminated}
 use Rattle.pg_rows.specs.Stretch.{marked_rows, plain}
 use Rattle.pg_rows.proofs.RowLemmas.{marked_plain}
 use Rattle.pg_base.proofs.WriteLemmas.{writes_as}

@@ -1,5 +1,5 @@
 use Rattle.std.proofs.Common.{◌≡◌, drop}
-use Rattle.pg_lines.specs.Cutter.{IsDrained}
+use Rattle.pg_blocks.specs.Cutter.{IsDrained}
 use Rattle.pg_run.specs.Holding.{Aim}
 use Rattle.pg_run.specs.Reading.{IsInsideFile}
 use Rattle.pg_run.specs.declared.reader.ReadOutcome.TheVariants.{More}

@@ -1,4 +1,4 @@
-use Rattle.pg_lines.specs.Cutter.{waiting}
+use Rattle.pg_blocks.specs.Cutter.{waiting}
 use Rattle.pg_tests.proofs.formats.cut_file.Given as goal
 
 abbrev pub decreases-loop-block : goal.decreases-loop-block

@@ -2,7 +2,7 @@ use Rattle.std.proofs.Common.{◌-◌, List, length, take, drop, sym, ap, ◌∙
 use Rattle.std.specs.List.{All}
 use Rattle.std.proofs.lemmas.Bool.{eqb-false}
 use Rattle.std.proofs.lemmas.List.{take_rest}
-use Rattle.pg_lines.specs.Lines.{IsLine}
+use Rattle.pg_blocks.specs.Lines.{IsLine}
 use Rattle.pg_lines.specs.Literals.{LiteralData}
 use Rattle.pg_lines.specs.Search.{terminator_of}
 use Rattle.pg_lines.proofs.NeedleLemmas.{nowhere_further, next_found, plain_end, needles_moved}
@@ -32,7 +32,7 @@ returns-clause-within g c =
     let line = next_found text.fold bytes moved.searched.now at moved.needles.items is c.requires.at
     c.advance.ensures.ahead E c.terminator-end.result rest c.in-Some.first c.begin_of_line.result c.end_of_line.result
     c.terminator-end.ensures (take_rest bytes at) (plain_end text text.fold) alone c.advance.ensures.behind
-    c.in-Some.ensures.stands c.in-Some.ensures.least begin.low begin.clear begin.whole c.end_of_line.ensures
+    c.in-Some.ensures.stands c.in-Some.ensures.least begin.low begin.clear begin.whole c.end_of_line.ensures.stops
     (omega (arith, ne)) in
     (omega arith, line.1, line.2)
 
@@ -52,7 +52,7 @@ returns-clause-some g c =
     let line = next_found text.fold bytes moved.searched.now at moved.needles.items is c.requires.at
     c.advance.ensures.ahead E c.terminator-end.result rest c.in-Some.first c.begin_of_line.result c.end_of_line.result
     c.terminator-end.ensures (take_rest bytes at) (plain_end text text.fold) alone c.advance.ensures.behind
-    c.in-Some.ensures.stands c.in-Some.ensures.least begin.low begin.clear begin.whole c.end_of_line.ensures
+    c.in-Some.ensures.stands c.in-Some.ensures.least begin.low begin.clear begin.whole c.end_of_line.ensures.stops
     (omega (arith, ne)) in
     line.0
 

@@ -1,9 +1,9 @@
 use Rattle.std.proofs.Common.{List, ℕ, length, ap, ◌∙◌, subst}
 use Rattle.pg_lines.specs.Search.{SearchText, terminator_of}
-use Rattle.pg_lines.specs.Lines.{lines}
+use Rattle.pg_blocks.specs.Lines.{lines}
 use Rattle.pg_lines.specs.Runs.{HasRuns}
 use Rattle.pg_lines.specs.BlockParts.{HasParts}
-use Rattle.pg_lines.specs.Blocks.{BlockData}
+use Rattle.pg_blocks.specs.Blocks.{BlockData}
 use Rattle.pg_rows.specs.Pieces.{HasFound}
 use Rattle.pg_rows.specs.Remembered.{shown_rows}
 use Rattle.pg_base.specs.Sink.{WritesText}

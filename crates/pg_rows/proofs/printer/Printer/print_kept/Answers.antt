@@ -1,6 +1,6 @@
 use Rattle.std.proofs.Common.{ℕ, ◌-◌, List, length, take, drop, ap, ◌∙◌}
 use Rattle.std.proofs.lemmas.List.{take_rest}
-use Rattle.pg_lines.specs.Lines.{lines}
+use Rattle.pg_blocks.specs.Lines.{lines}
 use Rattle.pg_rows.specs.Output.{painted}
 use Rattle.pg_rows.specs.Stretch.{marked_rows, plain}
 use Rattle.pg_rows.proofs.PaintLemmas.{plain_texts}

@@ -1,5 +1,5 @@
 use Rattle.std.proofs.Common.{◌≡◌, ℕ, ◌+◌, ◌-◌, List, ◌∷◌, length, drop, slice_range, subst, ap, ◌∙◌, arith}
-use Rattle.pg_lines.specs.Lines.{lines}
+use Rattle.pg_blocks.specs.Lines.{lines}
 use Rattle.pg_rows.specs.declared.printer.Printer.{Printer}
 use Rattle.pg_rows.specs.Output.{painted, row}
 use Rattle.pg_rows.specs.Painting.{painted_bytes}
@@ -14,18 +14,18 @@ slice_bounds-own-end g c =
     let a = c.args in
     let s = a.self.now in
     let l = c.loop-at in
-    let stop = c.text_end-stop.result in
+    let stop = c.line_end-stop.result in
     let next = c.end_of_parts-next.result in
     let P : Printer g.row.A.Denot → Type 0 = λ p. lines p.end (drop l.at a.bytes.now)
     ≡ slice_range a.bytes.now l.at stop ∷ lines p.end (drop (stop + 1) a.bytes.now) in
-    let is = subst P l.invariant.same c.text_end-stop.ensures.line in
+    let is = subst P l.invariant.same c.line_end-stop.ensures.line in
     let w = c.requires.told in
     let h = prints_line w.0 s.format s.end s.prefix a.first.number a.first.offset a.bytes.now a.from a.line
     a.parts.now l.at stop l.done
     l.used
     next (g.W.Sink.stream a.out.now) (g.W.Sink.stream l.out) (l.invariant.left w.0 w.1) l.invariant.begun
     c.requires.colored
-    l.invariant.fits c.text_end-stop.ensures.low c.text_end-stop.ensures.high is c.end_of_parts-next.ensures in
+    l.invariant.fits c.line_end-stop.ensures.low c.line_end-stop.ensures.high is c.end_of_parts-next.ensures in
     let within = h.within in
     let ordered = h.ordered in
     omega arith
@@ -35,18 +35,18 @@ print_painted_line-requires-clause-ascend g c =
     let a = c.args in
     let s = a.self.now in
     let l = c.loop-at in
-    let stop = c.text_end-stop.result in
+    let stop = c.line_end-stop.result in
     let next = c.end_of_parts-next.result in
     let P : Printer g.row.A.Denot → Type 0 = λ p. lines p.end (drop l.at a.bytes.now)
     ≡ slice_range a.bytes.now l.at stop ∷ lines p.end (drop (stop + 1) a.bytes.now) in
-    let is = subst P l.invariant.same c.text_end-stop.ensures.line in
+    let is = subst P l.invariant.same c.line_end-stop.ensures.line in
     let w = c.requires.told in
     let h = prints_line w.0 s.format s.end s.prefix a.first.number a.first.offset a.bytes.now a.from a.line
     a.parts.now l.at stop l.done
     l.used
     next (g.W.Sink.stream a.out.now) (g.W.Sink.stream l.out) (l.invariant.left w.0 w.1) l.invariant.begun
     c.requires.colored
-    l.invariant.fits c.text_end-stop.ensures.low c.text_end-stop.ensures.high is c.end_of_parts-next.ensures in
+    l.invariant.fits c.line_end-stop.ensures.low c.line_end-stop.ensures.high is c.end_of_parts-next.ensures in
     h.ascend
 
 pub returns-in_err-print_painted_line-clause-writes : goal.returns-in_err-print_painted_line-clause-writes
@@ -54,16 +54,16 @@ returns-in_err-print_painted_line-clause-writes g c q told =
     let a = c.args in
     let s = a.self.now in
     let l = c.loop-at in
-    let stop = c.text_end-stop.result in
+    let stop = c.line_end-stop.result in
     let next = c.end_of_parts-next.result in
     let P : Printer g.row.A.Denot → Type 0 = λ p. lines p.end (drop l.at a.bytes.now)
     ≡ slice_range a.bytes.now l.at stop ∷ lines p.end (drop (stop + 1) a.bytes.now) in
-    let is = subst P l.invariant.same c.text_end-stop.ensures.line in
+    let is = subst P l.invariant.same c.line_end-stop.ensures.line in
     let left = l.invariant.left q told in
     let h = prints_line q s.format s.end s.prefix a.first.number a.first.offset a.bytes.now a.from a.line a.parts.now
     l.at stop l.done l.used
     next (g.W.Sink.stream a.out.now) (g.W.Sink.stream l.out) left l.invariant.begun c.requires.colored
-    l.invariant.fits c.text_end-stop.ensures.low c.text_end-stop.ensures.high is c.end_of_parts-next.ensures in
+    l.invariant.fits c.line_end-stop.ensures.low c.line_end-stop.ensures.high is c.end_of_parts-next.ensures in
     let whole = marked_rows s.format s.end s.prefix 58 (painted q s.format) a.first.number a.first.offset
     (lines s.end (drop a.from a.bytes.now)) in
     let rest = marked_rows s.format s.end s.prefix 58 (painted q s.format) (a.first.number + l.done)
@@ -85,23 +85,23 @@ loop-at-preserved g c =
     let a = c.args in
     let s = a.self.now in
     let l = c.loop-at in
-    let stop = c.text_end-stop.result in
+    let stop = c.line_end-stop.result in
     let next = c.end_of_parts-next.result in
     let P : Printer g.row.A.Denot → Type 0 = λ p. lines p.end (drop l.at a.bytes.now)
     ≡ slice_range a.bytes.now l.at stop ∷ lines p.end (drop (stop + 1) a.bytes.now) in
-    let is = subst P l.invariant.same c.text_end-stop.ensures.line in
+    let is = subst P l.invariant.same c.line_end-stop.ensures.line in
     let w = c.requires.told in
     let h = prints_line w.0 s.format s.end s.prefix a.first.number a.first.offset a.bytes.now a.from a.line
     a.parts.now l.at stop l.done
     l.used
     next (g.W.Sink.stream a.out.now) (g.W.Sink.stream l.out) (l.invariant.left w.0 w.1) l.invariant.begun
     c.requires.colored
-    l.invariant.fits c.text_end-stop.ensures.low c.text_end-stop.ensures.high is c.end_of_parts-next.ensures in
+    l.invariant.fits c.line_end-stop.ensures.low c.line_end-stop.ensures.high is c.end_of_parts-next.ensures in
     let count = l.invariant.count in
     let long = ap (λ xs. length xs) is in
     record {
       same = c.in_ok-print_painted_line.ensures.same ∙ l.invariant.same;
-      begun = let begun = l.invariant.begun in let low = c.text_end-stop.ensures.low in omega arith;
+      begun = let begun = l.invariant.begun in let low = c.line_end-stop.ensures.low in omega arith;
       fits = h.within;
       count = omega arith;
       left = λ q told.
@@ -110,7 +110,7 @@ loop-at-preserved g c =
           a.parts.now l.at stop
           l.done l.used
           next (g.W.Sink.stream a.out.now) (g.W.Sink.stream l.out) left l.invariant.begun c.requires.colored
-          l.invariant.fits c.text_end-stop.ensures.low c.text_end-stop.ensures.high is c.end_of_parts-next.ensures in
+          l.invariant.fits c.line_end-stop.ensures.low c.line_end-stop.ensures.high is c.end_of_parts-next.ensures in
           let whole = marked_rows s.format s.end s.prefix 58 (painted q s.format) a.first.number a.first.offset
           (lines s.end (drop a.from a.bytes.now)) in
           let rest = marked_rows s.format s.end s.prefix 58 (painted q s.format) (a.first.number + l.done)

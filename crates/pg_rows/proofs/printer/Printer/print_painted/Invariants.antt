@@ -1,6 +1,6 @@
 use Rattle.std.proofs.Common.{◌≡◌, ◌+◌, ◌-◌, ◌≤◌, true, length, drop}
 use Rattle.pg_lines.specs.Search.{Search}
-use Rattle.pg_lines.specs.Lines.{lines}
+use Rattle.pg_blocks.specs.Lines.{lines}
 use Rattle.pg_rows.specs.Painting.{AreToldParts}
 use Rattle.pg_rows.proofs.PaintLemmas.{AreToPrint}
 use Rattle.pg_rows.proofs.printer.Printer.print_painted.Given as goal

@@ -1,7 +1,7 @@
 use Rattle.std.proofs.Common.{not, ap}
 use Rattle.std.proofs.lemmas.Bool.{and_right}
 use Rattle.pg_lines.specs.Search.{terminator}
-use Rattle.pg_lines.specs.Lines.{lines}
+use Rattle.pg_blocks.specs.Lines.{lines}
 use Rattle.pg_rows.specs.Trail.{run_pieces}
 use Rattle.pg_rows.specs.Modes.{shows_rows}
 use Rattle.pg_rows.proofs.PieceLemmas.{found_lines_told, parts_fit}

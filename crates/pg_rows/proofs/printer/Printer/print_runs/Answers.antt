@@ -3,7 +3,7 @@ use Rattle.std.proofs.Common.{slice_range}
 use Rattle.std.proofs.Common.{refl, sym, ap, ◌∙◌, subst, arith}
 use Rattle.std.proofs.lemmas.List.{drop_all, length-take-le}
 use Rattle.pg_lines.specs.Search.{terminator}
-use Rattle.pg_lines.specs.Lines.{lines}
+use Rattle.pg_blocks.specs.Lines.{lines}
 use Rattle.pg_rows.specs.declared.printer.Printer.{Printer}
 use Rattle.pg_base.specs.Sink.{WritesPart}
 use Rattle.pg_rows.specs.Trail.{run_rows}

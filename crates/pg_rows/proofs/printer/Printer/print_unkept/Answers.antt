@@ -2,7 +2,7 @@ use Rattle.std.proofs.Common.{◌≡◌, ℕ, ◌+◌, ◌-◌, ◌≤◌, ◌++
 use Rattle.std.proofs.Common.{length, take, drop, min, arith}
 use Rattle.std.proofs.Common.{sym, ap, ◌∙◌, subst, length-drop}
 use Rattle.std.proofs.lemmas.List.{take_rest}
-use Rattle.pg_lines.specs.Lines.{lines, AreWhole}
+use Rattle.pg_blocks.specs.Lines.{lines, AreWhole}
 use Rattle.pg_rows.specs.declared.printer.Printer.{Printer}
 use Rattle.circular_buffer.specs.Buffer.{keep_last}
 use Rattle.pg_rows.specs.Output.{context, size_of}

@@ -1,5 +1,5 @@
 use Rattle.std.proofs.Common.{◌≡◌, ℕ, ◌+◌, ◌≤◌, List, length, drop}
-use Rattle.pg_lines.specs.Lines.{lines}
+use Rattle.pg_blocks.specs.Lines.{lines}
 use Rattle.pg_lines.specs.Search.{Search, terminator}
 use Rattle.pg_rows.specs.Trail.{Trail}
 use Rattle.pg_lines.specs.Runs.{AreRuns}

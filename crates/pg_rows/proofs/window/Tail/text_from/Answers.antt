@@ -1,6 +1,6 @@
 use Rattle.std.proofs.Common.{drop, length, sym, ap, ◌∙◌, arith}
 use Rattle.std.proofs.lemmas.List.{take_rest, drop_all}
-use Rattle.pg_lines.specs.Lines.{lines}
+use Rattle.pg_blocks.specs.Lines.{lines}
 use Rattle.pg_rows.specs.Window.{tail_lines}
 use Rattle.pg_rows.proofs.window.Tail.text_from.Goals as goal
 

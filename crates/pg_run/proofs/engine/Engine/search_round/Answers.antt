@@ -3,7 +3,7 @@ use Rattle.std.specs.List.{All}
 use Rattle.std.specs.Arc.{arc_value}
 use Rattle.std.specs.declared.sync.Arc.{Arc}
 use Rattle.pg_match.specs.Machines.{Room, Fits}
-use Rattle.pg_lines.specs.Blocks.{BlockData}
+use Rattle.pg_blocks.specs.Blocks.{BlockData}
 use Rattle.pg_seq.specs.Standing.{IsAfter}
 use Rattle.pg_run.specs.Faults.{fault_of_round}
 use Rattle.pg_run.specs.Holding.{BreaksOffInSearch, past_of, format_of}

@@ -1,7 +1,7 @@
 use Rattle.std.proofs.Common.{◌≡◌, ◌∙◌, Err, true, false, length, take, ap, sym, refl}
-use Rattle.pg_lines.specs.Cutter.{room_of}
-use Rattle.pg_lines.specs.Lending.{with_room}
-use Rattle.pg_lines.proofs.RoomLemmas.{written_room}
+use Rattle.pg_blocks.specs.Cutter.{room_of}
+use Rattle.pg_blocks.specs.Lending.{with_room}
+use Rattle.pg_blocks.proofs.RoomLemmas.{written_room}
 use Rattle.pg_files.specs.Given.{gave_bytes}
 use Rattle.pg_run.proofs.ReadingLemmas.{read_some, read_none, read_stopped, read_cut, read_refused, read_unread}
 use Rattle.pg_run.proofs.reader.FileReader.read_in_place.Goals as goal

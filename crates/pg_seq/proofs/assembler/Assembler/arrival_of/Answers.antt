@@ -2,7 +2,7 @@ use Rattle.std.proofs.Common.{◌≡◌, ◌∙◌, ap, sym, subst, Bool, true, 
 use Rattle.pg_lines.specs.Search.{SearchText}
 use Rattle.pg_lines.specs.Queries.{Compiled}
 use Rattle.pg_lines.specs.Same.{same_text}
-use Rattle.pg_lines.specs.Blocks.{BlockData}
+use Rattle.pg_blocks.specs.Blocks.{BlockData}
 use Rattle.pg_seq.specs.Buffer.{IsArrival}
 use Rattle.pg_seq.proofs.StandLemmas.{answer_is, answer_other}
 use Rattle.pg_seq.proofs.assembler.Assembler.arrival_of.Goals as goal

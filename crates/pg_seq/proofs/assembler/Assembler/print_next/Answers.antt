@@ -1,6 +1,6 @@
 use Rattle.std.proofs.Common.{◌≡◌, ◌∙◌, List, ◌∷◌, ap, sym, subst, refl}
 use Rattle.std.proofs.lemmas.Result.{MatchResult-from_err}
-use Rattle.pg_lines.specs.Blocks.{BlockData}
+use Rattle.pg_blocks.specs.Blocks.{BlockData}
 use Rattle.pg_rows.specs.declared.printer.Printer.{Printer}
 use Rattle.pg_rows.specs.Remembered.{IsAtCursor, IsRememberedBehind, behind_block, shown_rows}
 use Rattle.pg_seq.specs.Slots.{slot_block}

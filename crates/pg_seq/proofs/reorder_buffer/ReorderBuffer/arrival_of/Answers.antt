@@ -1,6 +1,6 @@
 use Rattle.std.proofs.Common.{◌-◌, ◌∙◌, ◌++◌, None, Some, ap, sym, arith, length-append, ◌≡◌, ◌+◌, ℕ, List, length}
 use Rattle.std.proofs.lemmas.Option.{slice_get_past}
-use Rattle.pg_lines.specs.Blocks.{BlockData}
+use Rattle.pg_blocks.specs.Blocks.{BlockData}
 use Rattle.pg_seq.specs.Slots.{arrival_at_slot}
 use Rattle.pg_seq.proofs.ArriveLemmas.{arrival_by, gone_double, slot_behind}
 use Rattle.pg_seq.proofs.reorder_buffer.ReorderBuffer.arrival_of.Goals as goal

@@ -1,6 +1,6 @@
 use Rattle.std.proofs.Common.{◌≡◌, ◌∙◌, ◌-◌, ap, refl, arith, length-append}
 use Rattle.std.proofs.Math.ListN.{length-set}
-use Rattle.pg_lines.specs.Blocks.{BlockData}
+use Rattle.pg_blocks.specs.Blocks.{BlockData}
 use Rattle.pg_seq.specs.declared.slot.Slot.{Slot}
 use Rattle.pg_seq.proofs.ArriveLemmas.{with_behind, with_past, place_same, no_place}
 use Rattle.pg_seq.proofs.reorder_buffer.ReorderBuffer.put.Goals as goal

@@ -1,0 +1,15 @@
+pub mod LineLemmas
+pub mod PlaceLemmas
+pub mod LineLaws
+pub mod CountLemmas
+pub mod LaneLemmas
+pub mod CutLemmas
+pub mod CutLaws
+pub mod CutExists
+pub mod LongLemmas
+pub mod EarlyLemmas
+pub mod CutterLemmas
+pub mod BufferLemmas
+pub mod RoomLemmas
+pub mod FaultLemmas
+pub mod Examples

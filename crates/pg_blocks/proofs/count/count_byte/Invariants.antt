@@ -1,0 +1,12 @@
+use Rattle.std.proofs.Common.{◌≡◌, ◌==◌, ◌-◌, ◌≤◌, length, take}
+use Rattle.std.specs.List.{count_by}
+use Rattle.pg_blocks.proofs.count.count_byte.Given as goal
+
+abbrev pub invariant-loop-at : goal.invariant-loop-at
+invariant-loop-at l = record {
+  within : l.at ≤ length l.bytes;
+  counted : l.count ≡ count_by (λ b. b == l.byte) (take l.at l.bytes);
+}
+
+abbrev pub decreases-loop-at : goal.decreases-loop-at
+decreases-loop-at l = length l.bytes - l.at

@@ -1,0 +1,103 @@
+-- What a cutter was fed and what it has handed out.
+use Rattle.std.specs.Prelude.{◌≡◌, ℕ, ◌<◌, Option, Some, None, List, [], ◌∷◌, ◌++◌, length, take, drop}
+use Rattle.std.specs.List.{Any}
+use Rattle.std.specs.Option.{option_to_list}
+use Rattle.pg_blocks.specs.Lines.{lines, IsLine}
+use Rattle.pg_blocks.specs.Blocks.{BlockData, joined, EndsWith, Cuts, IsCut, CutsBehind, AreNumbered}
+use Rattle.pg_blocks.specs.Long.{open_from}
+use Rattle.pg_blocks.specs.declared.cutter.Cutter.{Cutter}
+
+-- the terminator, what `new` was given, the bytes fed at Ok one after another, the blocks handed out, and those of them
+-- up to the newest one that was handed out early
+pub record Fed : Type 0 where
+  pub end : ℕ
+  pub file : ℕ
+  pub size : ℕ
+  pub longest : ℕ
+  pub bytes : List ℕ
+  pub taken : List BlockData
+  pub early : List BlockData
+
+-- a new cutter's
+abbrev pub unfed : ℕ → ℕ → ℕ → ℕ → Fed
+unfed end file size longest =
+    record { end = end; file = file; size = size; longest = longest; bytes = []; taken = []; early = [] }
+
+abbrev pub fed : Fed → List ℕ → Fed
+fed past piece = record past { bytes = past.bytes ++ piece }
+
+abbrev pub handed : Fed → Option BlockData → Fed
+handed past block = record past { taken = past.taken ++ option_to_list block }
+
+-- the block, if there is one, was handed out early
+abbrev pub handed_early : Fed → Option BlockData → Fed
+handed_early past None = past
+handed_early past (Some block) =
+    record past { taken = past.taken ++ block ∷ []; early = past.taken ++ block ∷ [] }
+
+-- these are the early blocks and the finished ones of the bytes behind them, and that is left
+abbrev pub CutsFed : Fed → List BlockData → List ℕ → Type 0
+CutsFed past blocks rest =
+    CutsBehind past.early past.end past.bytes blocks (λ bytes later. Cuts past.end past.size bytes later rest)
+
+-- the blocks handed out are all finished blocks of the bytes, but for the early ones
+abbrev pub HasNoneLeft : Fed → Type 0
+HasNoneLeft past = (rest : List ℕ) × CutsFed past past.taken rest
+
+-- the blocks handed out and this one are the first blocks of the file, whatever comes behind its bytes
+pub record IsNextBlock (past : Fed) (block : BlockData) : Type 0 where
+  pub numbered : AreNumbered past.file 0 (past.taken ++ block ∷ [])
+  pub cut : (later : List BlockData) × (rest : List ℕ) × CutsFed past (past.taken ++ block ∷ later) rest
+
+-- the blocks handed out are all blocks of the file
+pub record AreAllBlocks (past : Fed) : Type 0 where
+  pub numbered : AreNumbered past.file 0 past.taken
+  pub cut : CutsBehind past.early past.end past.bytes past.taken (IsCut past.end past.size)
+
+-- behind the blocks handed out no line ends
+abbrev pub HasNoLineLeft : Fed → Type 0
+HasNoLineLeft past = (rest : List ℕ) × (past.bytes ≡ joined past.taken ++ rest) × IsLine past.end rest
+
+-- the block has the next number, and all whole lines behind the blocks handed out
+pub record HasLinesLeft (past : Fed) (block : BlockData) : Type 0 where
+  pub numbered : AreNumbered past.file 0 (past.taken ++ block ∷ [])
+  pub ends : EndsWith past.end block.bytes
+  pub none : HasNoLineLeft (handed_early past (Some block))
+
+-- a line would be too long
+abbrev pub HasLongLine : Fed → Type 0
+HasLongLine past = Any (λ line. past.longest < length line) (lines past.end past.bytes)
+
+-- the bytes of the open block
+abbrev pub held : {A : Type 0} → Cutter A → List ℕ
+held cutter = take cutter.filled cutter.rest.items
+
+-- what the room behind them holds
+abbrev pub room_of : {A : Type 0} → Cutter A → List ℕ
+room_of cutter = drop cutter.filled cutter.rest.items
+
+-- The cutter stands after this.
+pub record Stands {A : Type 0} (cutter : Cutter A) (past : Fed) : Type 0 where
+  pub terminator : past.end ≡ cutter.end
+  pub file : past.file ≡ cutter.file
+  pub size : past.size ≡ cutter.size
+  pub longest : past.longest ≡ cutter.longest
+  pub cut : CutsFed past (past.taken ++ cutter.ready.items) (held cutter)
+  pub numbered : AreNumbered past.file 0 (past.taken ++ cutter.ready.items)
+  pub next : cutter.number ≡ length (past.taken ++ cutter.ready.items)
+  pub total : cutter.total ≡ length past.bytes
+  pub short : HasLongLine past → ⊥
+  pub line : cutter.line ≡ open_from past.end 0 past.bytes
+
+-- no finished block is held
+abbrev pub IsDrained : {A : Type 0} → Cutter A → Type 0
+IsDrained cutter = cutter.ready.items ≡ []
+
+-- how many finished blocks are held
+abbrev pub waiting : {A : Type 0} → Cutter A → ℕ
+waiting cutter = length cutter.ready.items
+
+-- every past that stood stands, and a drained cutter is drained
+pub record Keeps {A : Type 0} (old new : Cutter A) : Type 0 where
+  pub stands : (past : Fed) → Stands old past → Stands new past
+  pub drained : IsDrained old → IsDrained new
