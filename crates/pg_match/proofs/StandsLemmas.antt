@@ -211,6 +211,32 @@ module _ (m : Nfa) (l : List ℕ) where
           )
         ]
 
+    -- where a byte leads to a set that is spent, no match ends before the byte or behind it
+    pub no_run_behind : IsRunnable m → (HitBefore m b S → ⊥) → IsSpent m U → HasRun m l from → ⊥
+    no_run_behind is_m missed spent (i, j, ge, le, within, run) = elim (cases_lt j p) [
+      | inl before ↦ s.none i j ge le before run
+      | inr past ↦ elim (cases_lt p i) [
+        | inl new ↦
+            let inside : (i ≡ 0 → ⊥) = (λ e. absurd (omega (arith, e, new))) in
+            elim spent.later [
+              | inl here ↦ quiet_run m l U g.still spent.quiet run.2.0 m.start i j inside here run.2.1
+              | inr whole ↦ inside (begins_whole m.bounds l i whole run.0)
+            ]
+        | inr old ↦
+            let c = s.complete i run.2.0 j ge old run.0 run.2.1 past in
+            elim (cases_lt p j) [
+              | inl further ↦
+                  let x = crosses c.1 c.0 j c.2 c.3 (omega (arith, further)) in
+                  quiet_run m l U g.still spent.quiet x.1 x.0 (p + 1) j (λ e. absurd (omega (arith, e))) x.2 x.3
+              | inr near ↦
+                  let same : j ≡ p = omega (arith, near, past) in
+                  let there = subst (λ v. Runs m.states l c.1 c.0 p v) same c.3 in
+                  let end = subst (MayEnd m.bounds l) same run.1 in
+                  missed (ends_here p S (s.closed lt) is_m c.1 c.0 c.2 there, ended m.bounds l p b is lt end)
+            ]
+      ]
+    ]
+
     pub stands_next : from ≤ p + 1 → IsRunnable m → (HitBefore m b S → ⊥) → Stands m l from (p + 1) U
     stands_next begun_here is_m missed = record {
       sound = λ r h. elim (g.comes r h) [
