@@ -9,6 +9,7 @@ use Rattle.pg_lines.specs.Search.{Search, terminator}
 use Rattle.pg_blocks.specs.Lines.{lines}
 use Rattle.pg_lines.specs.Selection.{selects, parts}
 use Rattle.pg_rows.specs.Marks.{colon, hyphen, newline, tab}
+use Rattle.pg_base.specs.Entries.{Entry, Missed, Read, is_running, is_failed}
 use Rattle.pg_rows.specs.declared.format.Format.{Format}
 use Rattle.pg_rows.specs.Colors.{in_color, name_color, number_color, mark_color, part_color, painted_from}
 use Rattle.pg_rows.specs.Modes.{is_quiet, is_named, rows_in}
