@@ -42,7 +42,7 @@ check-workers: all ## Compare outputs by 1, 2, 3, 4 and 64 workers, over 20,000 
 check-parallel: all ## Compare one run with shares of its files, joined by GNU parallel; it says what it needs.
 	@$(PYTHON) tests/check_parallel.py
 
-# Run it before a change to a function that one of them turns. `make refuse edits="pg_seq pg_lines/long-line-taken"`
+# Run it before a change to a function that one of them turns. `make refuse edits="pg_seq pg_blocks/long-line-taken"`
 # tries some.
 refuse: toolchain ## Try the wrong bodies under crates/*/refused, which the gate only looks up.
 	@RT="$(RT)" $(PYTHON) tests/refuse.py $(edits)

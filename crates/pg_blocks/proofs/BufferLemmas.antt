@@ -30,6 +30,17 @@ back_is v n ws h fits =
     ∙ (take-append-le (length all) all rest (omega arith) ∙ (take-length all ∙ all-is)) in
     ap (drop n) kept ∙ (ap (λ k. drop k (take n xs ++ ws)) (sym front) ∙ drop-append_seam (take n xs) ws)
 
+-- what was put behind the first ones is what stands there, and they stay
+pub put_behind : {T E : Type 0} (r : Result T E) (n : ℕ) (xs ys zs : List ℕ) → length xs ≡ n
+    → zs ≡ cond (is_ok r) (xs ++ ys) xs → (take n zs ≡ xs) × (n ≤ length zs) × OnOk r (drop n zs ≡ ys)
+put_behind (Ok x) n xs ys zs size is = (
+  ap (take n) is ∙ (ap (λ k. take k (xs ++ ys)) (sym size) ∙ take-append_seam xs ys),
+  omega (arith, size, ap length is, length-append xs ys),
+  ap (drop n) is ∙ (ap (λ k. drop k (xs ++ ys)) (sym size) ∙ drop-append_seam xs ys),
+)
+put_behind (Err e) n xs ys zs size is =
+    (ap (take n) is ∙ take_all n xs (omega (arith, size)), omega (arith, size, ap length is), tt)
+
 -- what stood first stays where the length grew
 pub front_grown : (b : Bool) (n m : ℕ) (xs ys zs : List ℕ) → n ≤ length xs → length xs ≤ m
     → ys ≡ cond b (take m xs ++ zs) xs → take n ys ≡ take n xs

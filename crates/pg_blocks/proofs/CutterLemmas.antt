@@ -1,6 +1,6 @@
 -- A cutter's past.
 use Rattle.std.proofs.Common.{◌-◌, ◌<◌, ◌≤◌}
-use Rattle.std.proofs.Common.{◌≡◌, ◌≢◌, ℕ, ◌+◌, inl, inr, false, ◌||◌, cond, Option, Some, None, List, [], ◌∷◌, ◌++◌}
+use Rattle.std.proofs.Common.{◌≡◌, ◌≢◌, ℕ, ◌+◌, inl, inr, false, ◌||◌, Option, Some, None, List, [], ◌∷◌, ◌++◌}
 use Rattle.std.proofs.Common.{length, take, drop, refl, sym, ap, ◌∙◌, subst, arith, append_assoc, length-append}
 use Rattle.std.proofs.Common.{Decides}
 use Rattle.std.specs.Option.{IfSome, option_to_list}
@@ -17,7 +17,7 @@ use Rattle.pg_blocks.specs.declared.cutter.Cutter.{Cutter}
 use Rattle.pg_blocks.proofs.CutLemmas.{numbered_front, numbered_more, numbered_append}
 use Rattle.pg_blocks.proofs.EarlyLemmas.{AllEnd, fed_whole, fed_end, fed_further, fed_last, fed_no_last}
 use Rattle.pg_blocks.proofs.EarlyLemmas.{all_end, line_unfinished, blocks_open}
-use Rattle.pg_blocks.proofs.LongLemmas.{long_decides, long_append, open_append, chosen_some}
+use Rattle.pg_blocks.proofs.LongLemmas.{long_decides, long_append, open_append}
 use Rattle.pg_blocks.proofs.LongLemmas.{open_cut, open_none}
 
 pub next_block : {A : Type 0} (cutter : Cutter A) (past : Fed) (b : BlockData) (rest : List BlockData)
@@ -91,12 +91,9 @@ piece_decides cutter past piece s =
     (λ e. d.0 (same ∙ e), λ h. sym same ∙ d.1 h)
 
 -- a piece after which no line is too long
-pub no_long : {A : Type 0} (cutter : Cutter A) (past : Fed) (piece : List ℕ) (line : ℕ) → Stands cutter past
-    → Some line
-    ≡ cond (has_long cutter.end cutter.longest cutter.line piece) None (Some (open_from cutter.end cutter.line piece))
-    → HasLongLine (fed past piece) → ⊥
-no_long cutter past piece line s e h =
-    false≢true (sym (chosen_some _ _ line e).0 ∙ (piece_decides cutter past piece s).1 h)
+pub no_long : {A : Type 0} (cutter : Cutter A) (past : Fed) (piece : List ℕ) → Stands cutter past
+    → has_long cutter.end cutter.longest cutter.line piece ≡ false → HasLongLine (fed past piece) → ⊥
+no_long cutter past piece s short h = false≢true (sym short ∙ (piece_decides cutter past piece s).1 h)
 
 -- after a piece, from whose blocks the cutter has the new ones
 pub fed_stands : {A : Type 0} (old new : Cutter A) (past : Fed) (piece left : List ℕ) (count : ℕ)

@@ -1,6 +1,8 @@
 -- Why a piece isn't taken, and what a file's numbers are then.
-use Rattle.std.proofs.Common.{◌≡◌, ℕ, ◌+◌, ◌-◌, ◌<◌, ◌≤◌, ◌^◌, List, length, drop, length-drop, arith}
+use Rattle.std.proofs.Common.{◌≡◌, ℕ, ◌+◌, ◌-◌, ◌<◌, ◌≤◌, ◌^◌, ◌↔◌, List, length, take, drop, length-drop, arith, subst}
 use Rattle.std.proofs.Common.{Result, Ok, Err}
+use Rattle.std.proofs.lemmas.List.{length-take-le}
+use Rattle.std.specs.Prelude.{IsErrOf, IsErrAnd}
 use Rattle.pg_blocks.specs.declared.cutter.CutFault.{CutFault}
 use Rattle.pg_blocks.specs.declared.cutter.CutFault.TheVariants.{OutOfMemory, LineTooLong, FileTooLong}
 
@@ -22,6 +24,28 @@ pub memory_not_line : {T : Type 0} {r : Result T CutFault} {f : CutFault} → r 
     → r ≡ Err LineTooLong → ⊥
 memory_not_line is out e = cc
 
+-- a fault that is handed on is told alike
+pub fault_told : {T U P : Type 0} {fault : CutFault} (r : Result U CutFault) (e : CutFault) → IsErrAnd r (λ x. x ≡ e)
+    → ◌≡◌ {A = Result T CutFault} (Err e) (Err fault) ↔ P → IsErrOf r fault ↔ P
+fault_told (Ok x) e h told = absurd h
+fault_told {T} {U} {P} {fault} (Err x) e h told = (
+  λ is.
+      let same : ◌≡◌ {A = Result T CutFault} (Err e) (Err fault) = cc in
+      told.0 same,
+  λ p.
+      let same : ◌≡◌ {A = Result T CutFault} (Err e) (Err fault) = told.1 p in
+      cc,
+)
+
+-- and one that a test found not to come isn't told
+pub none_told : {T U P : Type 0} {x : T} {fault : CutFault} (r : Result U CutFault)
+    → ◌≡◌ {A = Result T CutFault} (Ok x) (Err fault) ↔ P → (IsErrOf r fault → ⊥) → IsErrOf r fault ↔ P
+none_told r told never = (λ is. absurd (never is), λ p. absurd (taken_not_refused (told.1 p)))
+
+-- what is told of bytes is told of the same ones
+pub told_of : {R : Type 0} {xs ys : List ℕ} (Q : List ℕ → Type 0) → xs ≡ ys → R ↔ Q xs → R ↔ Q ys
+told_of {R} Q e h = subst (λ zs. R ↔ Q zs) e h
+
 -- where the file would be too long
 pub file_over : {total past size count : ℕ} → total ≡ past → size ≡ count → 2 ^ 62 - total < count
     → 2 ^ 62 < past + size
@@ -38,10 +62,14 @@ not_over fits over = omega arith
 pub total_fits : {total count : ℕ} → total ≤ 2 ^ 62 → count ≤ 2 ^ 62 - total → total + count ≤ 2 ^ 62
 total_fits few fits = omega arith
 
+pub room_fits : (total count : ℕ) (room : List ℕ) → count ≤ length room
+    → total + length (take count room) ≤ 2 ^ 62 → total + count ≤ 2 ^ 62
+room_fits total count room within fits = omega (arith, length-take-le count room within, fits)
+
 -- the numbers of a piece's blocks
-pub numbers_fit : (number filled : ℕ) {total count : ℕ} → number + filled ≤ total → total ≤ 2 ^ 62
-    → count ≤ 2 ^ 62 - total → number + count < 2 ^ 63
-numbers_fit number filled numbers few fits = omega arith
+pub numbers_fit : (number filled count : ℕ) {total : ℕ} → number + filled ≤ total → total + count ≤ 2 ^ 62
+    → number + count < 2 ^ 63
+numbers_fit number filled count numbers fits = omega arith
 
 pub numbers_more : (number filled blocks left count : ℕ) {total : ℕ} → number + filled ≤ total
     → blocks + left ≤ filled + count → (number + blocks) + left ≤ total + count

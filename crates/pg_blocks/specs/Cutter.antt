@@ -1,10 +1,10 @@
 -- What a cutter was fed and what it has handed out.
-use Rattle.std.specs.Prelude.{◌≡◌, ℕ, ◌<◌, Option, Some, None, List, [], ◌∷◌, ◌++◌, length, take, drop}
+use Rattle.std.specs.Prelude.{◌≡◌, ℕ, ◌+◌, ◌<◌, ◌≤◌, ◌^◌, false, Option, Some, None, List, [], ◌∷◌, ◌++◌, length, take, drop}
 use Rattle.std.specs.List.{Any}
 use Rattle.std.specs.Option.{option_to_list}
 use Rattle.pg_blocks.specs.Lines.{lines, IsLine}
 use Rattle.pg_blocks.specs.Blocks.{BlockData, joined, EndsWith, Cuts, IsCut, CutsBehind, AreNumbered}
-use Rattle.pg_blocks.specs.Long.{open_from}
+use Rattle.pg_blocks.specs.Long.{has_long, open_from}
 use Rattle.pg_blocks.specs.declared.cutter.Cutter.{Cutter}
 
 -- the terminator, what `new` was given, the bytes fed at Ok one after another, the blocks handed out, and those of them
@@ -88,6 +88,13 @@ pub record Stands {A : Type 0} (cutter : Cutter A) (past : Fed) : Type 0 where
   pub total : cutter.total ≡ length past.bytes
   pub short : HasLongLine past → ⊥
   pub line : cutter.line ≡ open_from past.end 0 past.bytes
+
+-- with this piece behind its bytes the file is not too long, nor is a line of it, and its open line has this length
+pub record GoesOn {A : Type 0} (cutter : Cutter A) (piece : List ℕ) (n : ℕ) : Type 0 where
+  pub fits : cutter.total + length piece ≤ 2 ^ 62
+  pub within : n ≤ cutter.longest
+  pub short : has_long cutter.end cutter.longest cutter.line piece ≡ false
+  pub behind : n ≡ open_from cutter.end cutter.line piece
 
 -- no finished block is held
 abbrev pub IsDrained : {A : Type 0} → Cutter A → Type 0

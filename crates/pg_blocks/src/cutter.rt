@@ -102,16 +102,6 @@ fn cut_all<A: Allocator + Copy>(
     Ok((blocks, at))
 }
 
-/// Room for a block of a size, at most 2^24, that begins with these bytes.
-fn block_room<A: Allocator>(alloc: A, size: u32, bytes: &[u8]) -> Result<Vec<u8, A>, AllocError>
-    requires { size ≤ 2 ^ 24 }
-    ensures { IfOk result (λ block. block.items ≡ bytes.now) }
-{
-    let mut block = Vec::with_capacity(alloc, size as usize + LINE_ROOM)?;
-    block.extend_from_slice(bytes)?;
-    Ok(block)
-}
-
 /// The length of the line that is open behind a piece, unless a line is too long. The one that is open before it,
 /// of length `line`, isn't. It looks at each byte.
 fn line_by_byte(line: u32, longest: u32, end: u8, piece: &[u8]) -> Option<u32>
@@ -173,64 +163,6 @@ fn hand_over<A: Allocator + Copy>(
         bytes: mem::replace(rest, left),
     });
     ready.append(blocks).unwrap();
-}
-
-/// Cuts the blocks off that a piece finishes behind `rest`, and leaves there what is behind them.
-/// The first `len` bytes of the piece finish the first of them, whose size is as `Cutter::new` has it. An `Err` leaves
-/// both lists as they were.
-fn cut_off<A: Allocator + Copy>(
-    alloc: A,
-    cutting: Cutting,
-    number: u64,
-    rest: &mut Vec<u8, A>,
-    ready: &mut VecDeque<Block<A>, A>,
-    piece: &[u8],
-    len: usize,
-) -> Result<u64, AllocError>
-    requires size { (0 < cutting.size) × (cutting.size ≤ 2 ^ 24) }
-    requires number { number + length piece.now < 2 ^ 63 }
-    requires len { (0 < len) × (len ≤ length piece.now) }
-    requires finished { IsFinished cutting.end cutting.size (rest.old.items ++ take len piece.now) }
-    ensures ok { IfOk result (CutsOff cutting.end cutting.size cutting.file number (rest.old.items ++ piece.now)
-        ready.old.items ready.new.items rest.new.items) }
-    ensures few { IfOk result (λ count. count + length rest.new.items ≤ length rest.old.items + length piece.now) }
-    ensures err { OnErr result ((rest.new.items ≡ rest.old.items) × (ready.new.items ≡ ready.old.items)) }
-{
-    let (mut blocks, at) = cut_all(alloc, cutting, number + 1, &piece[len..])?;
-    let left = block_room(alloc, cutting.size, &piece[len + at..])?;
-    let count = blocks.len() as u64 + 1;
-    ready.reserve(blocks.len() + 1)?;
-    rest.extend_from_slice(&piece[..len])?;
-    hand_over(cutting.file, number, rest, left, ready, &mut blocks);
-    Ok(count)
-}
-
-/// Cuts the blocks off that a piece finishes behind `rest`, and leaves there what is behind them.
-/// No block is finished in `rest`, and sizes are as `Cutter::new` has them. The answer is their count. An `Err` leaves
-/// both lists as they were.
-fn cut_behind<A: Allocator + Copy>(
-    alloc: A,
-    cutting: Cutting,
-    number: u64,
-    rest: &mut Vec<u8, A>,
-    ready: &mut VecDeque<Block<A>, A>,
-    piece: &[u8],
-) -> Result<u64, AllocError>
-    requires size { (0 < cutting.size) × (cutting.size ≤ 2 ^ 24) }
-    requires number { number + length piece.now < 2 ^ 63 }
-    requires unfinished { IsUnfinished cutting.end cutting.size rest.old.items }
-    ensures ok { IfOk result (CutsOff cutting.end cutting.size cutting.file number (rest.old.items ++ piece.now)
-        ready.old.items ready.new.items rest.new.items) }
-    ensures few { IfOk result (λ count. count + length rest.new.items ≤ length rest.old.items + length piece.now) }
-    ensures err { OnErr result ((rest.new.items ≡ rest.old.items) × (ready.new.items ≡ ready.old.items)) }
-{
-    match first_cut(rest.as_slice(), cutting.size, cutting.end, piece) {
-        Some(len) => cut_off(alloc, cutting, number, rest, ready, piece, len),
-        None => {
-            rest.extend_from_slice(piece)?;
-            Ok(0)
-        }
-    }
 }
 
 /// How many bytes the buffer of an open block is to have, where it has `len` and the block has `filled` of them: at
@@ -418,7 +350,7 @@ impl<A: Allocator + Copy> Drop for Cutter<A> {
 impl<A: Allocator + Copy> Cutter<A> {
     ghost use Rattle.std.specs.Borrow.{sem};
     ghost use Rattle.pg_blocks.specs.Cutter.{Fed, Stands, IsDrained, unfed, fed, handed, HasNoneLeft, IsNextBlock};
-    ghost use Rattle.pg_blocks.specs.Cutter.{AreAllBlocks, HasLongLine, waiting, room_of, Keeps};
+    ghost use Rattle.pg_blocks.specs.Cutter.{AreAllBlocks, HasLongLine, GoesOn, waiting, room_of, Keeps};
     ghost use Rattle.pg_blocks.specs.Cutter.{handed_early, HasLinesLeft, HasNoLineLeft};
     ghost use Rattle.pg_blocks.specs.Lending.{LendsRoom};
     ghost use Rattle.pg_blocks.specs.declared.cutter.CutFault.TheVariants.{LineTooLong, FileTooLong};
@@ -465,29 +397,73 @@ impl<A: Allocator + Copy> Cutter<A> {
             IsErrOf result LineTooLong
             ↔ ((length past.bytes + length piece.now ≤ 2 ^ 62) × HasLongLine (fed past piece.now)) }
     {
+        let line = self.line_behind(piece)?;
+        self.write_room(piece)?;
+        self.take_in(piece.len(), line)?;
+        Ok(())
+    }
+
+    /// The length of the line that is open behind a piece that may come next.
+    ///
+    /// # Errors
+    ///
+    /// `FileTooLong` and `LineTooLong` as `feed` has them.
+    fn line_behind(&self, piece: &[u8]) -> Result<u32, CutFault>
+        ensures ok { IfOk result (λ n. GoesOn self.now piece.now n) }
+        ensures file { (past : Fed) → Stands self.now past →
+            IsErrOf result FileTooLong ↔ (2 ^ 62 < length past.bytes + length piece.now) }
+        ensures line { (past : Fed) → Stands self.now past →
+            IsErrOf result LineTooLong
+            ↔ ((length past.bytes + length piece.now ≤ 2 ^ 62) × HasLongLine (fed past piece.now)) }
+    {
         if piece.len() as u64 > MAX_FILE - self.total {
             return Err(CutFault::FileTooLong);
         }
-        let Some(line) = line_after(self.line, self.longest, self.end, piece) else {
-            return Err(CutFault::LineTooLong);
-        };
+        match line_after(self.line, self.longest, self.end, piece) {
+            Some(line) => Ok(line),
+            None => Err(CutFault::LineTooLong),
+        }
+    }
+
+    /// Has the room behind the open block hold a piece and nothing else. An `Err` may change what the room holds, and
+    /// nothing else.
+    fn write_room(&mut self, piece: &[u8]) -> Result<(), AllocError>
+        ensures room { OnOk result (room_of self.new ≡ piece.now) }
+        ensures keeps { Keeps self.old self.new }
+        ensures goes_on { (n : ℕ) → GoesOn self.old piece.now n → GoesOn self.new piece.now n }
+    {
+        self.rest.truncate(self.filled);
+        self.rest.extend_from_slice(piece)
+    }
+
+    /// Takes the first `count` bytes of the room as the next bytes of the file, behind which a line of length `line`
+    /// is open. An `Err` changes nothing, and the bytes still stand in the room.
+    fn take_in(&mut self, count: usize, line: u32) -> Result<(), AllocError>
+        requires within { count ≤ length (room_of self.old) }
+        requires goes_on { GoesOn self.old (take count (room_of self.old)) line }
+        ensures ok { (past : Fed) → Stands self.old past →
+            OnOk result (Stands self.new (fed past (take count (room_of self.old)))) }
+        ensures err { OnErr result (Keeps self.old self.new) }
+        ensures same { OnErr result (room_of self.new ≡ room_of self.old) }
+    {
         let cutting = Cutting {
             file: self.file,
             size: self.size,
             end: self.end,
         };
-        self.rest.truncate(self.filled);
-        let count = cut_behind(
+        let (blocks, filled) = cut_filled(
             self.alloc,
             cutting,
             self.number,
             &mut self.rest,
+            &mut self.spare,
             &mut self.ready,
-            piece,
+            self.filled,
+            count,
         )?;
-        self.filled = self.rest.len();
-        self.number += count;
-        self.total += piece.len() as u64;
+        self.filled = filled;
+        self.number += blocks;
+        self.total += count as u64;
         self.line = line;
         Ok(())
     }
@@ -551,32 +527,8 @@ impl<A: Allocator + Copy> Cutter<A> {
             × HasLongLine (fed past (take count (room_of self.old)))) }
         ensures same { OnErr result (room_of self.new ≡ room_of self.old) }
     {
-        if count as u64 > MAX_FILE - self.total {
-            return Err(CutFault::FileTooLong);
-        }
-        let piece = &self.rest[self.filled..self.filled + count];
-        let Some(line) = line_after(self.line, self.longest, self.end, piece) else {
-            return Err(CutFault::LineTooLong);
-        };
-        let cutting = Cutting {
-            file: self.file,
-            size: self.size,
-            end: self.end,
-        };
-        let (blocks, filled) = cut_filled(
-            self.alloc,
-            cutting,
-            self.number,
-            &mut self.rest,
-            &mut self.spare,
-            &mut self.ready,
-            self.filled,
-            count,
-        )?;
-        self.filled = filled;
-        self.number += blocks;
-        self.total += count as u64;
-        self.line = line;
+        let line = self.line_behind(&self.rest[self.filled..self.filled + count])?;
+        self.take_in(count, line)?;
         Ok(())
     }
 
