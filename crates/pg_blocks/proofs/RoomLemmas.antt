@@ -4,16 +4,16 @@ use Rattle.std.proofs.Common.{Result, Ok, Err}
 use Rattle.std.specs.Prelude.{OnErr}
 use Rattle.std.proofs.Props.{props}
 use Rattle.pg_blocks.specs.Blocks.{BlockData, AreNumbered, IsUnfinished}
-use Rattle.pg_blocks.specs.Cutter.{Fed, CutsFed, Stands, Keeps, held, room_of}
+use Rattle.pg_blocks.specs.Cutter.{Fed, CutsFed, IsCutterAfter, KeepsCutter, held, room_of}
 use Rattle.pg_blocks.specs.Lending.{front_stays, with_room}
 use Rattle.pg_blocks.specs.declared.cutter.Cutter.{Cutter}
 use Rattle.pg_blocks.proofs.BufferLemmas.{back_is}
 
 -- a cutter with the same open block that is the same but for its room
-pub held_stays : {A : Type 0} (old new : Cutter A) (past : Fed) → Stands old past
+pub held_stays : {A : Type 0} (old new : Cutter A) (past : Fed) → IsCutterAfter old past
     → new.file ≡ old.file → new.size ≡ old.size → new.longest ≡ old.longest → new.end ≡ old.end
     → new.number ≡ old.number → new.total ≡ old.total → new.line ≡ old.line
-    → new.ready.items ≡ old.ready.items → held new ≡ held old → Stands new past
+    → new.ready.items ≡ old.ready.items → held new ≡ held old → IsCutterAfter new past
 held_stays old new past s file size longest end number total line ready same =
     let C : List BlockData → Type 0 = λ bs. CutsFed past (past.taken ++ bs) (held old) in
     let D : List ℕ → Type 0 = λ xs. CutsFed past (past.taken ++ new.ready.items) xs in
@@ -50,7 +50,7 @@ same_facts c rest f g =
 
 -- a cutter whose room was written
 pub written_room : {A : Type 0} (c : Cutter A) (bytes : List ℕ) → length bytes ≡ length (room_of c)
-    → Keeps c (with_room c bytes) × (room_of (with_room c bytes) ≡ bytes)
+    → KeepsCutter c (with_room c bytes) × (room_of (with_room c bytes) ≡ bytes)
 written_room c bytes fits =
     let same = front_stays c.rest c.filled bytes c.within in (
       record {

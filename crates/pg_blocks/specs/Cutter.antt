@@ -1,5 +1,6 @@
 -- What a cutter was fed and what it has handed out.
-use Rattle.std.specs.Prelude.{◌≡◌, ℕ, ◌+◌, ◌<◌, ◌≤◌, ◌^◌, false, Option, Some, None, List, [], ◌∷◌, ◌++◌, length, take, drop}
+use Rattle.std.specs.Prelude.{◌≡◌, ℕ, ◌+◌, ◌<◌, ◌≤◌, ◌^◌, false, Option, Some, None, List, [], ◌∷◌, ◌++◌, length, take}
+use Rattle.std.specs.Prelude.{drop}
 use Rattle.std.specs.List.{Any}
 use Rattle.std.specs.Option.{option_to_list}
 use Rattle.pg_blocks.specs.Lines.{lines, IsLine}
@@ -77,7 +78,7 @@ abbrev pub room_of : {A : Type 0} → Cutter A → List ℕ
 room_of cutter = drop cutter.filled cutter.rest.items
 
 -- The cutter stands after this.
-pub record Stands {A : Type 0} (cutter : Cutter A) (past : Fed) : Type 0 where
+pub record IsCutterAfter {A : Type 0} (cutter : Cutter A) (past : Fed) : Type 0 where
   pub terminator : past.end ≡ cutter.end
   pub file : past.file ≡ cutter.file
   pub size : past.size ≡ cutter.size
@@ -90,7 +91,7 @@ pub record Stands {A : Type 0} (cutter : Cutter A) (past : Fed) : Type 0 where
   pub line : cutter.line ≡ open_from past.end 0 past.bytes
 
 -- with this piece behind its bytes the file is not too long, nor is a line of it, and its open line has this length
-pub record GoesOn {A : Type 0} (cutter : Cutter A) (piece : List ℕ) (n : ℕ) : Type 0 where
+pub record FitsBehind {A : Type 0} (cutter : Cutter A) (piece : List ℕ) (n : ℕ) : Type 0 where
   pub fits : cutter.total + length piece ≤ 2 ^ 62
   pub within : n ≤ cutter.longest
   pub short : has_long cutter.end cutter.longest cutter.line piece ≡ false
@@ -105,6 +106,6 @@ abbrev pub waiting : {A : Type 0} → Cutter A → ℕ
 waiting cutter = length cutter.ready.items
 
 -- every past that stood stands, and a drained cutter is drained
-pub record Keeps {A : Type 0} (old new : Cutter A) : Type 0 where
-  pub stands : (past : Fed) → Stands old past → Stands new past
+pub record KeepsCutter {A : Type 0} (old new : Cutter A) : Type 0 where
+  pub stands : (past : Fed) → IsCutterAfter old past → IsCutterAfter new past
   pub drained : IsDrained old → IsDrained new

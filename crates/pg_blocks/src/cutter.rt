@@ -349,8 +349,9 @@ impl<A: Allocator + Copy> Drop for Cutter<A> {
 
 impl<A: Allocator + Copy> Cutter<A> {
     ghost use Rattle.std.specs.Borrow.{sem};
-    ghost use Rattle.pg_blocks.specs.Cutter.{Fed, Stands, IsDrained, unfed, fed, handed, HasNoneLeft, IsNextBlock};
-    ghost use Rattle.pg_blocks.specs.Cutter.{AreAllBlocks, HasLongLine, GoesOn, waiting, room_of, Keeps};
+    ghost use Rattle.pg_blocks.specs.Cutter.{Fed, IsCutterAfter, IsDrained, unfed, fed, handed, HasNoneLeft};
+    ghost use Rattle.pg_blocks.specs.Cutter.{IsNextBlock};
+    ghost use Rattle.pg_blocks.specs.Cutter.{AreAllBlocks, HasLongLine, FitsBehind, waiting, room_of, KeepsCutter};
     ghost use Rattle.pg_blocks.specs.Cutter.{handed_early, HasLinesLeft, HasNoLineLeft};
     ghost use Rattle.pg_blocks.specs.Lending.{LendsRoom};
     ghost use Rattle.pg_blocks.specs.declared.cutter.CutFault.TheVariants.{LineTooLong, FileTooLong};
@@ -363,7 +364,7 @@ impl<A: Allocator + Copy> Cutter<A> {
     pub fn new(alloc: A, file: u32, size: u32, longest: u32, end: u8) -> Cutter<A>
         requires size { (1 ≤ size) × (size ≤ 2 ^ 24) }
         requires longest { (1 ≤ longest) × (longest ≤ 2 ^ 30) }
-        ensures stands { Stands result (unfed end file size longest) }
+        ensures stands { IsCutterAfter result (unfed end file size longest) }
         ensures drained { IsDrained result }
     {
         Cutter {
@@ -389,11 +390,12 @@ impl<A: Allocator + Copy> Cutter<A> {
     /// where a line of the bytes so far would be too long. `OutOfMemory` comes where neither holds
     /// and a request for memory was refused.
     pub fn feed(&mut self, piece: &[u8]) -> Result<(), CutFault>
-        ensures ok { (past : Fed) → Stands self.old past → OnOk result (Stands self.new (fed past piece.now)) }
-        ensures err { (past : Fed) → Stands self.old past → OnErr result (Stands self.new past) }
-        ensures file { (past : Fed) → Stands self.old past →
+        ensures ok { (past : Fed) → IsCutterAfter self.old past
+            → OnOk result (IsCutterAfter self.new (fed past piece.now)) }
+        ensures err { (past : Fed) → IsCutterAfter self.old past → OnErr result (IsCutterAfter self.new past) }
+        ensures file { (past : Fed) → IsCutterAfter self.old past →
             IsErrOf result FileTooLong ↔ (2 ^ 62 < length past.bytes + length piece.now) }
-        ensures line { (past : Fed) → Stands self.old past →
+        ensures line { (past : Fed) → IsCutterAfter self.old past →
             IsErrOf result LineTooLong
             ↔ ((length past.bytes + length piece.now ≤ 2 ^ 62) × HasLongLine (fed past piece.now)) }
     {
@@ -409,10 +411,10 @@ impl<A: Allocator + Copy> Cutter<A> {
     ///
     /// `FileTooLong` and `LineTooLong` as `feed` has them.
     fn line_behind(&self, piece: &[u8]) -> Result<u32, CutFault>
-        ensures ok { IfOk result (λ n. GoesOn self.now piece.now n) }
-        ensures file { (past : Fed) → Stands self.now past →
+        ensures ok { IfOk result (λ n. FitsBehind self.now piece.now n) }
+        ensures file { (past : Fed) → IsCutterAfter self.now past →
             IsErrOf result FileTooLong ↔ (2 ^ 62 < length past.bytes + length piece.now) }
-        ensures line { (past : Fed) → Stands self.now past →
+        ensures line { (past : Fed) → IsCutterAfter self.now past →
             IsErrOf result LineTooLong
             ↔ ((length past.bytes + length piece.now ≤ 2 ^ 62) × HasLongLine (fed past piece.now)) }
     {
@@ -429,8 +431,8 @@ impl<A: Allocator + Copy> Cutter<A> {
     /// nothing else.
     fn write_room(&mut self, piece: &[u8]) -> Result<(), AllocError>
         ensures room { OnOk result (room_of self.new ≡ piece.now) }
-        ensures keeps { Keeps self.old self.new }
-        ensures goes_on { (n : ℕ) → GoesOn self.old piece.now n → GoesOn self.new piece.now n }
+        ensures keeps { KeepsCutter self.old self.new }
+        ensures goes_on { (n : ℕ) → FitsBehind self.old piece.now n → FitsBehind self.new piece.now n }
     {
         self.rest.truncate(self.filled);
         self.rest.extend_from_slice(piece)
@@ -440,10 +442,10 @@ impl<A: Allocator + Copy> Cutter<A> {
     /// is open. An `Err` changes nothing, and the bytes still stand in the room.
     fn take_in(&mut self, count: usize, line: u32) -> Result<(), AllocError>
         requires within { count ≤ length (room_of self.old) }
-        requires goes_on { GoesOn self.old (take count (room_of self.old)) line }
-        ensures ok { (past : Fed) → Stands self.old past →
-            OnOk result (Stands self.new (fed past (take count (room_of self.old)))) }
-        ensures err { OnErr result (Keeps self.old self.new) }
+        requires goes_on { FitsBehind self.old (take count (room_of self.old)) line }
+        ensures ok { (past : Fed) → IsCutterAfter self.old past →
+            OnOk result (IsCutterAfter self.new (fed past (take count (room_of self.old)))) }
+        ensures err { OnErr result (KeepsCutter self.old self.new) }
         ensures same { OnErr result (room_of self.new ≡ room_of self.old) }
     {
         let cutting = Cutting {
@@ -476,7 +478,7 @@ impl<A: Allocator + Copy> Cutter<A> {
     /// `AllocError` where a request for memory was refused.
     pub fn make_room(&mut self) -> Result<(), AllocError>
         ensures some { OnOk result (0 < length (room_of self.new)) }
-        ensures keeps { Keeps self.old self.new }
+        ensures keeps { KeepsCutter self.old self.new }
     {
         self.take_spare();
         let is_first = self.number == 0;
@@ -489,7 +491,7 @@ impl<A: Allocator + Copy> Cutter<A> {
 
     /// Takes the spare buffer for a block of which nothing came yet, where it is the longer one.
     fn take_spare(&mut self)
-        ensures { Keeps self.old self.new }
+        ensures { KeepsCutter self.old self.new }
     {
         if self.filled == 0 && self.rest.len() < self.spare.len() {
             self.rest = mem::replace(&mut self.spare, Vec::new(self.alloc));
@@ -515,13 +517,13 @@ impl<A: Allocator + Copy> Cutter<A> {
     /// and a request for memory was refused.
     pub fn fill(&mut self, count: usize) -> Result<(), CutFault>
         requires { count ≤ length (room_of self.old) }
-        ensures ok { (past : Fed) → Stands self.old past →
-            OnOk result (Stands self.new (fed past (take count (room_of self.old)))) }
-        ensures err { (past : Fed) → Stands self.old past → OnErr result (Stands self.new past) }
-        ensures file { (past : Fed) → Stands self.old past →
+        ensures ok { (past : Fed) → IsCutterAfter self.old past →
+            OnOk result (IsCutterAfter self.new (fed past (take count (room_of self.old)))) }
+        ensures err { (past : Fed) → IsCutterAfter self.old past → OnErr result (IsCutterAfter self.new past) }
+        ensures file { (past : Fed) → IsCutterAfter self.old past →
             IsErrOf result FileTooLong
             ↔ (2 ^ 62 < length past.bytes + length (take count (room_of self.old))) }
-        ensures line { (past : Fed) → Stands self.old past →
+        ensures line { (past : Fed) → IsCutterAfter self.old past →
             IsErrOf result LineTooLong
             ↔ ((length past.bytes + length (take count (room_of self.old)) ≤ 2 ^ 62)
             × HasLongLine (fed past (take count (room_of self.old)))) }
@@ -535,7 +537,7 @@ impl<A: Allocator + Copy> Cutter<A> {
     /// Takes the memory of a block that is done with, for the room of a later one. Of two such the longer one is kept,
     /// and what is far longer than a block is freed.
     pub fn give_back(&mut self, memory: Vec<u8, A>)
-        ensures keeps { Keeps self.old self.new }
+        ensures keeps { KeepsCutter self.old self.new }
         ensures waiting { waiting self.new ≡ waiting self.old }
         ensures room { room_of self.new ≡ room_of self.old }
     {
@@ -547,9 +549,10 @@ impl<A: Allocator + Copy> Cutter<A> {
 
     /// The next finished block. `None` comes only where no finished block is left.
     pub fn take(&mut self) -> Option<Block<A>>
-        ensures stands { (past : Fed) → Stands self.old past → Stands self.new (handed past result) }
-        ensures next { IfSome result (λ block. (past : Fed) → Stands self.old past → IsNextBlock past block) }
-        ensures none { IfNone result (IsDrained self.new × ((past : Fed) → Stands self.old past → HasNoneLeft past)) }
+        ensures stands { (past : Fed) → IsCutterAfter self.old past → IsCutterAfter self.new (handed past result) }
+        ensures next { IfSome result (λ block. (past : Fed) → IsCutterAfter self.old past → IsNextBlock past block) }
+        ensures none { IfNone result (IsDrained self.new × ((past : Fed) → IsCutterAfter self.old past
+            → HasNoneLeft past)) }
         ensures fewer { IfSome result (λ _. waiting self.new < waiting self.old) }
     {
         self.ready.pop_front()
@@ -564,14 +567,14 @@ impl<A: Allocator + Copy> Cutter<A> {
     /// `AllocError` where a request for memory was refused.
     pub fn take_lines(&mut self) -> Result<Option<Block<A>>, AllocError>
         requires { IsDrained self.old }
-        ensures stands { (past : Fed) → Stands self.old past →
-            IfOk result (λ block. Stands self.new (handed_early past block)) }
-        ensures some { (past : Fed) → Stands self.old past →
+        ensures stands { (past : Fed) → IsCutterAfter self.old past →
+            IfOk result (λ block. IsCutterAfter self.new (handed_early past block)) }
+        ensures some { (past : Fed) → IsCutterAfter self.old past →
             IfOk result (λ block. IfSome block (λ block. HasLinesLeft past block)) }
-        ensures none { (past : Fed) → Stands self.old past →
+        ensures none { (past : Fed) → IsCutterAfter self.old past →
             IfOk result (λ block. IfNone block (HasNoLineLeft past)) }
         ensures drained { IsDrained self.new }
-        ensures err { OnErr result (Keeps self.old self.new) }
+        ensures err { OnErr result (KeepsCutter self.old self.new) }
         ensures same { OnErr result (room_of self.new ≡ room_of self.old) }
     {
         let open = self.line as usize;
@@ -599,7 +602,7 @@ impl<A: Allocator + Copy> Cutter<A> {
     /// `feed`.
     pub fn finish(self) -> Option<Block<A>>
         requires { IsDrained self }
-        ensures { (past : Fed) → Stands self past → AreAllBlocks (handed past result) }
+        ensures { (past : Fed) → IsCutterAfter self past → AreAllBlocks (handed past result) }
     {
         let Cutter {
             alloc: _,

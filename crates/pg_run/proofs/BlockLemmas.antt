@@ -6,7 +6,7 @@ use Rattle.std.proofs.lemmas.List.{append-nil}
 use Rattle.std.proofs.lemmas.List.Concat.{flat_map-append}
 use Rattle.pg_blocks.specs.Lines.{lines, AreShort, AreWhole}
 use Rattle.pg_blocks.specs.Blocks.{BlockData, joined, EndsWith, AreNumbered}
-use Rattle.pg_blocks.specs.Cutter.{Fed, handed as handed_out, Stands as CutterStands, IsNextBlock, AreAllBlocks}
+use Rattle.pg_blocks.specs.Cutter.{Fed, handed as handed_out, IsCutterAfter, IsNextBlock, AreAllBlocks}
 use Rattle.pg_blocks.specs.Cutter.{HasLinesLeft, held}
 use Rattle.pg_blocks.specs.declared.cutter.Cutter.{Cutter}
 use Rattle.pg_blocks.proofs.LineLemmas.{lines-append, whole_append}
@@ -32,7 +32,7 @@ all_apart : {X : Type 0} (P : X → Type 0) (xs ys : List X) → AllByRecursion 
 all_apart P [] ys h = (tt, h)
 all_apart P (x ∷ xs) ys h = let r = all_apart P xs ys h.1 in ((h.0, r.0), r.1)
 
-pub given_end : {A : Type 0} (cutter : Cutter A) (f : Fed) (end : ℕ) → CutterStands cutter f → f.end ≡ end
+pub given_end : {A : Type 0} (cutter : Cutter A) (f : Fed) (end : ℕ) → IsCutterAfter cutter f → f.end ≡ end
     → AllEnd end f.taken
 given_end cutter f end s ends =
     let all = fed_end f (f.taken ++ cutter.ready.items) (held cutter) s.cut in
@@ -116,7 +116,7 @@ all_short longest (l ∷ ls) h few = (
   all_short longest ls (λ a. h (suc a.0, a.1, omega (arith, a.2), a.3, a.4)) few,
 )
 
-pub short_part : {A : Type 0} (cutter : Cutter A) (f : Fed) (b : BlockData) (more : List ℕ) → CutterStands cutter f
+pub short_part : {A : Type 0} (cutter : Cutter A) (f : Fed) (b : BlockData) (more : List ℕ) → IsCutterAfter cutter f
     → f.longest ≤ 2 ^ 30 → Gives f b more → AreShort f.end b.bytes
 short_part cutter f b more s few gives =
     let end = f.end in

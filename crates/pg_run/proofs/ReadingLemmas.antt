@@ -9,7 +9,8 @@ use Rattle.std.proofs.lemmas.List.{append-nil}
 use Rattle.pg_lines.specs.Search.{terminator}
 use Rattle.pg_blocks.specs.Lines.{lines, AreShort, AreWhole}
 use Rattle.pg_blocks.specs.Blocks.{BlockData, joined}
-use Rattle.pg_blocks.specs.Cutter.{fed as fed_after, handed as handed_out, Stands as CutterStands, Fed, IsDrained, AreAllBlocks, HasLongLine}
+use Rattle.pg_blocks.specs.Cutter.{fed as fed_after, handed as handed_out, IsCutterAfter, Fed}
+use Rattle.pg_blocks.specs.Cutter.{IsDrained, AreAllBlocks, HasLongLine}
 use Rattle.pg_blocks.specs.declared.cutter.Cutter.{Cutter}
 use Rattle.pg_blocks.specs.declared.cutter.CutFault.{CutFault}
 use Rattle.pg_blocks.specs.declared.cutter.CutFault.TheVariants.{OutOfMemory as NoMemory, LineTooLong, FileTooLong}
@@ -200,9 +201,9 @@ cut_cause NoMemory aim given out c = tt
 cut_cause LineTooLong aim given out c = c
 cut_cause FileTooLong aim given out c = c
 
-pub stands_by : {A : Type 0} {cutter cutter' : Cutter A} (past : Fed) → cutter' ≡ cutter → CutterStands cutter past
-    → CutterStands cutter' past
-stands_by {A = A} past e h = let S : Cutter A → Type 0 = λ c. CutterStands c past in subst S (sym e) h
+pub stands_by : {A : Type 0} {cutter cutter' : Cutter A} (past : Fed) → cutter' ≡ cutter → IsCutterAfter cutter past
+    → IsCutterAfter cutter' past
+stands_by {A = A} past e h = let S : Cutter A → Type 0 = λ c. IsCutterAfter c past in subst S (sym e) h
 
 pub drained_by : {A : Type 0} {cutter cutter' : Cutter A} → cutter' ≡ cutter → IsDrained cutter → IsDrained cutter'
 drained_by {A = A} e h = let D : Cutter A → Type 0 = λ c. IsDrained c in subst D (sym e) h
@@ -281,7 +282,7 @@ module _ {A : Type 0} {reader : FileReader A} {aim : Aim} {given : List Given} {
   -- the plan has it
   pub next_taken : (reader' : FileReader A) (b : BlockData) (early : List BlockData) → reader'.came ≡ reader.came
       → GivesLines h.fed b
-      → CutterStands reader'.cutter (record h.fed { taken = h.fed.taken ++ b ∷ []; early = early })
+      → IsCutterAfter reader'.cutter (record h.fed { taken = h.fed.taken ++ b ∷ []; early = early })
       → HasCut reader' aim given (Announces b ∷ steps)
   next_taken reader' b early same g cut =
       let R : List ℕ → ReadOutcome → Type 0 =
@@ -312,9 +313,9 @@ module _ {A : Type 0} {reader : FileReader A} {aim : Aim} {given : List Given} {
       }
 
   pub none_taken : (reader' : FileReader A) → reader'.came ≡ reader.came
-      → CutterStands reader'.cutter (handed_out h.fed None) → HasCut reader' aim given steps
+      → IsCutterAfter reader'.cutter (handed_out h.fed None) → HasCut reader' aim given steps
   none_taken reader' same cut =
-      let F : List BlockData → Type 0 = λ bs. CutterStands reader'.cutter (record h.fed { taken = bs }) in
+      let F : List BlockData → Type 0 = λ bs. IsCutterAfter reader'.cutter (record h.fed { taken = bs }) in
       let R : ReadOutcome → Type 0 =
       λ came. HasOpenFile aim.query (format_of aim) h.name (joined h.fed.taken) h.rest (ending_after came)
       (entries_of steps) (entries_given given) in
@@ -337,10 +338,10 @@ module _ {A : Type 0} {reader : FileReader A} {aim : Aim} {given : List Given} {
       }
 
   -- nothing was read or taken
-  pub recut_by : (reader' : FileReader A) → CutterStands reader'.cutter h.fed → reader'.came ≡ reader.came
+  pub recut_by : (reader' : FileReader A) → IsCutterAfter reader'.cutter h.fed → reader'.came ≡ reader.came
       → HasCut reader' aim given steps
   recut_by reader' stands came =
-      let F : List BlockData → Type 0 = λ bs. CutterStands reader'.cutter (record h.fed { taken = bs }) in
+      let F : List BlockData → Type 0 = λ bs. IsCutterAfter reader'.cutter (record h.fed { taken = bs }) in
       none_taken reader' came (subst F (sym (append-nil h.fed.taken)) stands)
 
   pub recut : (reader' : FileReader A) → reader'.cutter ≡ reader.cutter → reader'.came ≡ reader.came
@@ -544,7 +545,7 @@ module _ {A : Type 0} {reader : FileReader A} {aim : Aim} {given : List Given} {
 
   -- it gave more, which was cut
   pub piece_cut : (reader' : FileReader A) (piece : List ℕ) → reader'.came ≡ More
-      → CutterStands reader'.cutter (fed_after h.fed piece) → HasCut reader' aim (gave_bytes piece given) steps
+      → IsCutterAfter reader'.cutter (fed_after h.fed piece) → HasCut reader' aim (gave_bytes piece given) steps
   piece_cut reader' piece came cut =
       let R : ReadOutcome → Type 0 =
       λ came. HasOpenFile aim.query (format_of aim) h.name (joined h.fed.taken) (h.rest ++ piece) (ending_after came)
@@ -571,7 +572,7 @@ module _ {A : Type 0} {reader : FileReader A} {aim : Aim} {given : List Given} {
 
   -- or wasn't
   pub piece_refused : (reader' : FileReader A) (piece : List ℕ) (cut : CutFault) → reader'.came ≡ Refused cut
-      → CutterStands reader'.cutter h.fed → (cut ≡ LineTooLong → HasLongLine (fed_after h.fed piece))
+      → IsCutterAfter reader'.cutter h.fed → (cut ≡ LineTooLong → HasLongLine (fed_after h.fed piece))
       → (cut ≡ FileTooLong → 2 ^ 62 < length h.fed.bytes + length piece)
       → HasCut reader' aim (gave_bytes piece given) steps
   piece_refused reader' piece cut came stands line file =
@@ -597,7 +598,7 @@ module _ {A : Type 0} {reader : FileReader A} {aim : Aim} {given : List Given} {
       }
 
   -- it wasn't read, for want of memory
-  pub file_unread : (reader' : FileReader A) → reader'.came ≡ Refused NoMemory → CutterStands reader'.cutter h.fed
+  pub file_unread : (reader' : FileReader A) → reader'.came ≡ Refused NoMemory → IsCutterAfter reader'.cutter h.fed
       → HasCut reader' aim given steps
   file_unread reader' came stands =
       let R : ReadOutcome → Type 0 =
@@ -624,7 +625,7 @@ module _ {A : Type 0} {reader : FileReader A} {aim : Aim} {given : List Given} {
   -- it met the end, or failed
   pub file_stopped : (reader' : FileReader A) (failed : Bool) → ending_after reader'.came ≡ ending_of failed
       → ((lost : List ℕ) → lost ≡ [] → IsLost reader'.came aim (gave_end failed given) lost)
-      → CutterStands reader'.cutter h.fed → HasCut reader' aim (gave_end failed given) steps
+      → IsCutterAfter reader'.cutter h.fed → HasCut reader' aim (gave_end failed given) steps
   file_stopped reader' failed stops none stands =
       let R : List Entry → Ending → Type 0 =
       λ es ending. HasOpenFile aim.query (format_of aim) h.name (joined h.fed.taken) h.rest ending
@@ -662,7 +663,7 @@ module _ {A F L : Type 0} {past : F → FilesPast} {list : F → L} {reader read
   pub read_stopped : (failed : Bool) → (past files').given ≡ gave_end failed (past files).given
       → ending_after reader'.came ≡ ending_of failed
       → ((aim : Aim) → IsLost reader'.came aim (gave_end failed (past files).given) [])
-      → ((fed : Fed) → CutterStands reader.cutter fed → CutterStands reader'.cutter fed)
+      → ((fed : Fed) → IsCutterAfter reader.cutter fed → IsCutterAfter reader'.cutter fed)
       → HasReadOn past list reader files reader' files'
   read_stopped failed is stops none stands = record {
     done = done;
@@ -677,7 +678,7 @@ module _ {A F L : Type 0} {past : F → FilesPast} {list : F → L} {reader read
 
   -- nothing, for want of memory
   pub read_unread : (past files').given ≡ (past files).given → reader'.came ≡ Refused NoMemory
-      → ((fed : Fed) → CutterStands reader.cutter fed → CutterStands reader'.cutter fed)
+      → ((fed : Fed) → IsCutterAfter reader.cutter fed → IsCutterAfter reader'.cutter fed)
       → HasReadOn past list reader files reader' files'
   read_unread is came stands = record {
     done = done;
@@ -690,7 +691,7 @@ module _ {A F L : Type 0} {past : F → FilesPast} {list : F → L} {reader read
 
   -- bytes that are cut
   pub read_cut : (piece : List ℕ) → (past files').given ≡ gave_bytes piece (past files).given → reader'.came ≡ More
-      → ((fed : Fed) → CutterStands reader.cutter fed → CutterStands reader'.cutter (fed_after fed piece))
+      → ((fed : Fed) → IsCutterAfter reader.cutter fed → IsCutterAfter reader'.cutter (fed_after fed piece))
       → HasReadOn past list reader files reader' files'
   read_cut piece is came cut = record {
     done = done;
@@ -704,9 +705,9 @@ module _ {A F L : Type 0} {past : F → FilesPast} {list : F → L} {reader read
   -- bytes that the cutter doesn't take
   pub read_refused : (piece : List ℕ) (cut : CutFault) → (past files').given ≡ gave_bytes piece (past files).given
       → reader'.came ≡ Refused cut
-      → ((fed : Fed) → CutterStands reader.cutter fed → CutterStands reader'.cutter fed)
-      → ((fed : Fed) → CutterStands reader.cutter fed → cut ≡ LineTooLong → HasLongLine (fed_after fed piece))
-      → ((fed : Fed) → CutterStands reader.cutter fed → cut ≡ FileTooLong
+      → ((fed : Fed) → IsCutterAfter reader.cutter fed → IsCutterAfter reader'.cutter fed)
+      → ((fed : Fed) → IsCutterAfter reader.cutter fed → cut ≡ LineTooLong → HasLongLine (fed_after fed piece))
+      → ((fed : Fed) → IsCutterAfter reader.cutter fed → cut ≡ FileTooLong
       → 2 ^ 62 < length fed.bytes + length piece)
       → HasReadOn past list reader files reader' files'
   read_refused piece cut is came stands line file = record {

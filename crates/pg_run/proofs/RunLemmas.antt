@@ -8,7 +8,7 @@ use Rattle.std.specs.Result.{IfOk, IfErr}
 use Rattle.std.proofs.lemmas.Bool.{false≢true}
 use Rattle.std.proofs.lemmas.List.{append-nil}
 use Rattle.pg_lines.specs.Search.{Search, SearchText, Pattern, AreTreesOf, search_of, terminator}
-use Rattle.pg_blocks.specs.Cutter.{unfed, Stands as CutterStands}
+use Rattle.pg_blocks.specs.Cutter.{unfed, IsCutterAfter}
 use Rattle.pg_base.specs.declared.cause.Cause.{Cause}
 use Rattle.pg_base.specs.declared.cause.Cause.TheVariants.{ReadFailed}
 use Rattle.pg_rows.specs.declared.format.Format.{Format}
@@ -290,7 +290,7 @@ module _ {A : Type 0} {engine : Engine A} {aim : Aim} {given : List Given} {out 
 
   -- a file is opened, and the reader begins with a cutter that was made for it
   pub file_opened : (reader : FileReader A) (engine' : Engine A) (name : List ℕ) → reader.came ≡ More
-      → CutterStands reader.cutter (unfed (terminator aim.query) engine.files aim.setup.block aim.setup.line)
+      → IsCutterAfter reader.cutter (unfed (terminator aim.query) engine.files aim.setup.block aim.setup.line)
       → HasPlan engine' aim (Opens name ∷ h.steps) out → IsInsideFile reader engine' aim (File name [] Left ∷ given) out
   file_opened reader engine' name more cut k =
       let fed = unfed (terminator aim.query) engine.files aim.setup.block aim.setup.line in

@@ -3,7 +3,7 @@ use Rattle.std.specs.Prelude.{◌≡◌, ◌⊎◌, ℕ, ◌+◌, ◌-◌, ◌<�
 use Rattle.std.specs.Prelude.{drop}
 use Rattle.pg_lines.specs.Search.{terminator}
 use Rattle.pg_blocks.specs.Blocks.{joined}
-use Rattle.pg_blocks.specs.Cutter.{Fed, Stands as CutterStands}
+use Rattle.pg_blocks.specs.Cutter.{Fed, IsCutterAfter}
 use Rattle.pg_blocks.specs.declared.cutter.CutFault.{CutFault}
 use Rattle.pg_blocks.specs.declared.cutter.CutFault.TheVariants.{OutOfMemory as NoMemory, LineTooLong, FileTooLong}
 use Rattle.pg_rows.specs.Modes.{is_quiet}
@@ -50,7 +50,7 @@ IsLost (Refused fault) aim given lost = CutCause fault aim given
 pub record HasCut {A : Type 0} (reader : FileReader A) (aim : Aim) (given : List Given)
     (steps : List Step) : Type 0 where
   pub fed : Fed
-  pub cut : CutterStands reader.cutter fed
+  pub cut : IsCutterAfter reader.cutter fed
   pub ends : fed.end ≡ terminator aim.query
   pub longest : fed.longest ≡ aim.setup.line
   pub running : is_open steps ≡ true

@@ -188,7 +188,7 @@ fn memory_of<A: Allocator>(block: Arc<Block<A>, A>) -> Option<Vec<u8, A>> {
 }
 
 impl<A: Allocator + Copy> Engine<A> {
-    ghost use Rattle.pg_blocks.specs.Cutter.{Stands as CutterStands, IsDrained, unfed};
+    ghost use Rattle.pg_blocks.specs.Cutter.{IsCutterAfter, IsDrained, unfed};
     ghost use Rattle.pg_rows.specs.Enough.{is_enough};
     ghost use Rattle.pg_seq.specs.Plan.{Step, Opens, Announces, Ends, Misses, entries_of, is_open};
     ghost use Rattle.pg_base.specs.Sink.{Stream};
@@ -392,7 +392,7 @@ impl<A: Allocator + Copy> Engine<A> {
             IsReady self.old aim steps out (Opens name.now) →
             OnOk result (HasPlan self.new aim (Opens name.now ∷ steps) out) }
         ensures cutter { (aim : Aim) → (steps : List Step) → (out : Stream) →
-            IsReady self.old aim steps out (Opens name.now) → IfOk result (λ cutter. CutterStands cutter
+            IsReady self.old aim steps out (Opens name.now) → IfOk result (λ cutter. IsCutterAfter cutter
             (unfed (terminator aim.query) self.old.files aim.setup.block aim.setup.line)) }
         ensures drained { IfOk result (λ cutter. IsDrained cutter) }
     {
@@ -450,7 +450,7 @@ impl<A: Allocator + Copy> Engine<A> {
 }
 
 impl<A: Allocator + Copy + Send + Sync> Engine<A> {
-    ghost use Rattle.pg_blocks.specs.Cutter.{Stands as CutterStands, IsDrained, unfed};
+    ghost use Rattle.pg_blocks.specs.Cutter.{IsCutterAfter, IsDrained, unfed};
     ghost use Rattle.pg_rows.specs.Enough.{is_enough};
     ghost use Rattle.pg_seq.specs.Plan.{Step, Opens, Announces, Ends, Misses, entries_of, is_open};
     ghost use Rattle.pg_run.specs.Holding.{Aim, HasPlan, IsReady, AllIsWritten, IsWrittenFirst, BreaksOffInSearch};

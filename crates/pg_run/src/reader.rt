@@ -1,7 +1,8 @@
 //! Reads the open file, and cuts what comes into blocks.
 ghost use Rattle.std.specs.Prelude.{◌≡◌, ◌<◌, List, vec_len, length, IfSome, IfNone, OnOk};
-ghost use Rattle.pg_blocks.specs.Cutter.{Stands as CutterStands, Fed, IsDrained, IsNextBlock, AreAllBlocks, handed};
-ghost use Rattle.pg_blocks.specs.Cutter.{Keeps, room_of, handed_early, HasLinesLeft};
+ghost use Rattle.pg_blocks.specs.Cutter.{IsCutterAfter, Fed, IsDrained, IsNextBlock, AreAllBlocks};
+ghost use Rattle.pg_blocks.specs.Cutter.{handed};
+ghost use Rattle.pg_blocks.specs.Cutter.{KeepsCutter, room_of, handed_early, HasLinesLeft};
 
 use pg_blocks::{Block, CutFault, Cutter};
 use pg_files::Files;
@@ -124,7 +125,7 @@ impl<A: Allocator + Copy> FileReader<A> {
     fn make_room(&mut self) -> Result<(), AllocError>
         ensures came { self.new.came ≡ self.old.came }
         ensures some { OnOk result (0 < length (room_of self.new.cutter)) }
-        ensures keeps { Keeps self.old.cutter self.new.cutter }
+        ensures keeps { KeepsCutter self.old.cutter self.new.cutter }
     {
         if let Some(memory) = self.spare.take() {
             self.cutter.give_back(memory);
@@ -192,10 +193,10 @@ impl<A: Allocator + Copy> FileReader<A> {
     /// The next block that is cut.
     pub(crate) fn take(&mut self) -> Option<Block<A>>
         ensures came { self.new.came ≡ self.old.came }
-        ensures stands { (past : Fed) → CutterStands self.old.cutter past →
-            CutterStands self.new.cutter (handed past result) }
+        ensures stands { (past : Fed) → IsCutterAfter self.old.cutter past →
+            IsCutterAfter self.new.cutter (handed past result) }
         ensures next { IfSome result (λ block.
-            (past : Fed) → CutterStands self.old.cutter past → IsNextBlock past block) }
+            (past : Fed) → IsCutterAfter self.old.cutter past → IsNextBlock past block) }
         ensures none { IfNone result (IsDrained self.new.cutter) }
     {
         self.cutter.take()
@@ -207,10 +208,10 @@ impl<A: Allocator + Copy> FileReader<A> {
         requires { IsDrained self.old.cutter }
         ensures came { self.new.came ≡ self.old.came }
         ensures drained { IsDrained self.new.cutter }
-        ensures stands { (past : Fed) → CutterStands self.old.cutter past →
-            CutterStands self.new.cutter (handed_early past result) }
+        ensures stands { (past : Fed) → IsCutterAfter self.old.cutter past →
+            IsCutterAfter self.new.cutter (handed_early past result) }
         ensures lines { IfSome result (λ block.
-            (past : Fed) → CutterStands self.old.cutter past → HasLinesLeft past block) }
+            (past : Fed) → IsCutterAfter self.old.cutter past → HasLinesLeft past block) }
     {
         match self.cutter.take_lines() {
             Ok(block) => block,
@@ -221,7 +222,7 @@ impl<A: Allocator + Copy> FileReader<A> {
     /// The last block of a file that can't go on. `take` has answered `None` since the last read.
     pub(crate) fn finish(&mut self) -> Option<Block<A>>
         requires { IsDrained self.old.cutter }
-        ensures { (past : Fed) → CutterStands self.old.cutter past → AreAllBlocks (handed past result) }
+        ensures { (past : Fed) → IsCutterAfter self.old.cutter past → AreAllBlocks (handed past result) }
     {
         let cutter = mem::replace(&mut self.cutter, no_cutter(self.alloc));
         cutter.finish()

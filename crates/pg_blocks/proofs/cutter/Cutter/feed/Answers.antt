@@ -1,7 +1,7 @@
 use Rattle.std.proofs.Common.{◌≡◌, ◌∙◌, List, ℕ, length, take, subst, sym, ap, arith}
 use Rattle.std.proofs.Math.Seq.{take-length}
 use Rattle.std.proofs.lemmas.Result.{err_from_is_err_and, IfOk-from_err}
-use Rattle.pg_blocks.specs.Cutter.{Stands, fed, room_of, GoesOn}
+use Rattle.pg_blocks.specs.Cutter.{IsCutterAfter, fed, room_of, FitsBehind}
 use Rattle.pg_blocks.proofs.RoomLemmas.{on_err}
 use Rattle.pg_blocks.proofs.FaultLemmas.{fault_told, none_told, memory_not_file, memory_not_line, taken_not_refused}
 use Rattle.pg_blocks.proofs.cutter.Cutter.feed.Goals as goal
@@ -78,7 +78,7 @@ take_in-requires-clause-goes_on g c =
     let piece = c.args.piece.now in
     let all : take (length piece) (room_of mid) ≡ piece =
     ap (take (length piece)) c.in_ok-write_room.ensures.room ∙ take-length piece in
-    let P : List ℕ → Type 0 = λ xs. GoesOn mid xs c.in_ok-line.line in
+    let P : List ℕ → Type 0 = λ xs. FitsBehind mid xs c.in_ok-line.line in
     subst P (sym all) (c.in_ok-write_room.ensures.goes_on c.in_ok-line.line c.in_ok-line.ensures.ok)
 
 pub returns-clause-ok : goal.returns-clause-ok
@@ -87,7 +87,7 @@ returns-clause-ok g c = λ past s.
     let piece = c.args.piece.now in
     let all : take (length piece) (room_of mid) ≡ piece =
     ap (take (length piece)) c.in_ok-write_room.ensures.room ∙ take-length piece in
-    let P : List ℕ → Type 0 = λ xs. Stands c.take_in.new.self (fed past xs) in
+    let P : List ℕ → Type 0 = λ xs. IsCutterAfter c.take_in.new.self (fed past xs) in
     subst P all (c.in_ok-take_in.ensures.ok past (c.in_ok-write_room.ensures.keeps.stands past s))
 
 pub returns-clause-err : goal.returns-clause-err

@@ -1,6 +1,6 @@
 use Rattle.std.proofs.Common.{◌≤◌, ◌+◌, ◌^◌, ◌<◌, List, ℕ, length, subst, refl, arith}
 use Rattle.std.proofs.lemmas.Result.{err_from_is_err_and, IfOk-from_err}
-use Rattle.pg_blocks.specs.Cutter.{Fed, fed, GoesOn, HasLongLine}
+use Rattle.pg_blocks.specs.Cutter.{Fed, fed, FitsBehind, HasLongLine}
 use Rattle.pg_blocks.proofs.BufferLemmas.{piece_is}
 use Rattle.pg_blocks.proofs.RoomLemmas.{on_err}
 use Rattle.pg_blocks.proofs.FaultLemmas.{fault_told, none_told, memory_not_file, memory_not_line, taken_not_refused}
@@ -77,7 +77,7 @@ pub take_in-requires-clause-goes_on : goal.take_in-requires-clause-goes_on
 take_in-requires-clause-goes_on g c =
     let self = c.args.self.now in
     let is = piece_is self.filled c.args.count self.rest.items c.deref.result.now c.deref.ensures.value in
-    let P : List ℕ → Type 0 = λ xs. GoesOn self xs c.in_ok-line.line in
+    let P : List ℕ → Type 0 = λ xs. FitsBehind self xs c.in_ok-line.line in
     subst P is c.in_ok-line.ensures.ok
 
 pub returns-clause-ok : goal.returns-clause-ok
