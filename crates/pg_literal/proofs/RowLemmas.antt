@@ -163,6 +163,46 @@ module _ (fold : Bool) where
     abbrev Stands : List ℕ → Type 0
     Stands text = OccursAt searched (reverse text) i
 
+    -- a set in front of a row that becomes these texts
+    stands_longer : StandsAt line (set ∷ row) i → Any (λ text. OccursAt searched text i)
+        (map reverse (longer_texts choices texts))
+    stands_longer o =
+        let c = o.0.0 in
+        let b = byte_as_searched fold c in
+        let is = searched_byte fold line i c o.0.1 in
+        let among = (are c).0 o.0.2 in
+        let some = any-unmap (λ text. OccursAt searched text (i + 1)) reverse texts ((product line (i + 1)).0 o.1) in
+        let text = some.1 in
+        let here : Stands (text ++ b ∷ []) =
+        subst (λ t. OccursAt searched t i) (sym {a = reverse (text ++ b ∷ [])} (reverse-append text (b ∷ [])))
+        (occurs_more searched (reverse text) b i is some.4) in
+        any-map (λ t. OccursAt searched t i) reverse (longer_texts choices texts)
+        (any_flat Stands (λ t. map (λ b. t ++ b ∷ []) choices) texts (
+          some.0,
+          text,
+          some.2,
+          some.3,
+          any-map Stands (λ b. text ++ b ∷ []) choices (among.0, b, among.1, among.2, here),
+        ))
+
+    -- and the other way round
+    longer_stands : Any (λ text. OccursAt searched text i) (map reverse (longer_texts choices texts))
+        → StandsAt line (set ∷ row) i
+    longer_stands h =
+        let among = of_flat Stands (λ t. map (λ b. t ++ b ∷ []) choices) texts
+        (any-unmap (λ t. OccursAt searched t i) reverse (longer_texts choices texts) h) in
+        let text = among.1 in
+        let one = any-unmap Stands (λ b. text ++ b ∷ []) choices among.4 in
+        let b = one.1 in
+        let o = subst (λ t. OccursAt searched t i) (reverse-append text (b ∷ [])) one.4 in
+        let byte = byte_of_searched fold line i b (occurs_first searched (reverse text) b i o) in
+        let choice : Contains choices (byte_as_searched fold byte.0) =
+        subst (Contains choices) (sym byte.2) (one.0, one.2, one.3) in
+        let behind = occurs_behind searched (reverse text) b i o in
+        let rest = any-map (λ t. OccursAt searched t (i + 1)) reverse texts
+        (among.0, text, among.2, among.3, behind) in
+        ((byte.0, byte.1, (are byte.0).1 choice), (product line (i + 1)).1 rest)
+
   pub product_more : (set : Bytes) (choices : List ℕ) → AreChoices fold set choices → (row : List Bytes)
       (texts : List (List ℕ)) → AreProduct fold row (map reverse texts)
       → AreProduct fold (set ∷ row) (map reverse (longer_texts choices texts))
