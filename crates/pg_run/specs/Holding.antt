@@ -1,6 +1,7 @@
 -- How an engine holds its sequencer between two calls.
-use Rattle.std.specs.Prelude.{◌≡◌, ◌⊎◌, ℕ, ◌<◌, true, false, List, ◌++◌, map}
+use Rattle.std.specs.Prelude.{◌≡◌, ◌⊎◌, ℕ, ◌<◌, true, false, List, ◌∷◌, ◌++◌, map, Result}
 use Rattle.std.specs.List.{list_all}
+use Rattle.std.specs.Result.{MatchResult, OnOk}
 use Rattle.std.specs.Arc.{arc_value}
 use Rattle.pg_lines.specs.Search.{Search, terminator}
 use Rattle.pg_blocks.specs.Blocks.{BlockData}
@@ -63,6 +64,24 @@ pub record HasPlan {A : Type 0} (engine : Engine A) (aim : Aim) (steps : List St
 abbrev pub IsReady : {A : Type 0} → Engine A → Aim → List Step → Stream → Step → Type 0
 IsReady engine aim steps out step = HasPlan engine aim steps out × MayStep aim steps step
 
+-- for some run it has some plan
+abbrev pub HasSomePlan : {A : Type 0} → Engine A → Stream → Type 0
+HasSomePlan engine out = (aim : Aim) × (steps : List Step) × HasPlan engine aim steps out
+
+-- for some run the step may follow on its plan
+abbrev pub MayTakeStep : {A : Type 0} → Engine A → Step → Type 0
+MayTakeStep engine step = (aim : Aim) × (steps : List Step) × (out : Stream) × IsReady engine aim steps out step
+
+-- at Ok the step was added to each plan on which it may follow
+abbrev pub TakesStep : {A T E : Type 0} → (old new : Engine A) → Step → Result T E → Type 0
+TakesStep old new step result = (aim : Aim) → (steps : List Step) → (out : Stream) → IsReady old aim steps out step
+    → OnOk result (HasPlan new aim (step ∷ steps) out)
+
+-- each plan that it had it has still
+abbrev pub PlansStay : {A : Type 0} → (old new : Engine A) → Type 0
+PlansStay old new = (aim : Aim) → (steps : List Step) → (out : Stream) → HasPlan old aim steps out
+    → HasPlan new aim steps out
+
 -- the writer took all of what the plan gives
 abbrev pub AllIsWritten : Aim → List Step → Stream → Type 0
 AllIsWritten aim steps out = out.taken ≡ aim.out.taken ++ output_of aim steps
@@ -80,6 +99,17 @@ pub record BreaksOffInSearch (aim : Aim) (steps : List Step) (out : Stream) (fau
   pub cause : SearchCause fault aim out
   pub part : TakesPart (output_of aim steps) aim.out.taken out.taken
   pub calm : NoneFailed fault aim.out out
+
+-- each plan that it had it has at Ok still; at Err the search broke off
+abbrev pub KeepsPlan : {A T : Type 0} → (old new : Engine A) → (before after : Stream) → Result T RunFault → Type 0
+KeepsPlan old new before after result = (aim : Aim) → (steps : List Step) → HasPlan old aim steps before
+    → MatchResult result (λ _. HasPlan new aim steps after) (BreaksOffInSearch aim steps after)
+
+-- and all that it gives is written then
+abbrev pub WritesPlan : {A T : Type 0} → (old new : Engine A) → (before after : Stream) → Result T RunFault → Type 0
+WritesPlan old new before after result = (aim : Aim) → (steps : List Step) → HasPlan old aim steps before
+    → MatchResult result (λ _. HasPlan new aim steps after × AllIsWritten aim steps after)
+    (BreaksOffInSearch aim steps after)
 
 -- all was written, no write failed and the fault is answered; or that broke off
 abbrev pub IsWrittenFirst : Aim → List Step → Stream → (fault answer : RunFault) → Type 0

@@ -72,6 +72,14 @@ pub record IsInsideFile {A : Type 0} (reader : FileReader A) (engine : Engine A)
   pub holds : HasPlan engine aim steps out
   pub cuts : HasCut reader aim given steps
 
+-- for some run it is so
+abbrev pub IsInSomeFile : {A : Type 0} → FileReader A → Engine A → List Given → Stream → Type 0
+IsInSomeFile reader engine given out = (aim : Aim) × IsInsideFile reader engine aim given out
+
+-- for some run and whatever was given it is so
+abbrev pub IsReadingSomeFile : {A : Type 0} → FileReader A → Engine A → Stream → Type 0
+IsReadingSomeFile reader engine out = (aim : Aim) × (given : List Given) × IsInsideFile reader engine aim given out
+
 -- The reader read on: what was given before stands, and what was cut is cut.
 pub record HasReadOn {A F L : Type 0} (past : F → FilesPast) (list : F → L) (reader : FileReader A) (files : F)
     (reader' : FileReader A) (files' : F) : Type 0 where

@@ -192,6 +192,7 @@ impl<A: Allocator + Copy> Engine<A> {
     ghost use Rattle.pg_rows.specs.Enough.{is_enough};
     ghost use Rattle.pg_seq.specs.Plan.{Step, Opens, Announces, Ends, Misses, entries_of, is_open};
     ghost use Rattle.pg_base.specs.Sink.{Stream};
+    ghost use Rattle.pg_run.specs.Holding.{KeepsPlan, MayTakeStep, PlansStay, TakesStep, WritesPlan};
     ghost use Rattle.pg_run.specs.Holding.{Aim, HasPlan, IsReady, AllIsWritten, BreaksOffInSearch, format_of};
 
     /// An engine that has no file yet.
@@ -224,12 +225,9 @@ impl<A: Allocator + Copy> Engine<A> {
     /// Searches the open file's next block, and gives the sequencer its result. No block waits. Answers the block.
     fn take<G: Gate>(&mut self, gate: &G, block: Block<A>) -> Result<Arc<Block<A>, A>, AllocError>
         requires at_once { self.old.spread ≡ false }
-        requires ready { (aim : Aim) × (steps : List Step) × (out : Stream)
-            × IsReady self.old aim steps out (Announces block) }
+        requires ready { MayTakeStep self.old (Announces block) }
         ensures none { self.new.round.items ≡ [] }
-        ensures ok { (aim : Aim) → (steps : List Step) → (out : Stream) →
-            IsReady self.old aim steps out (Announces block) →
-            OnOk result (HasPlan self.new aim (Announces block ∷ steps) out) }
+        ensures ok { TakesStep self.old self.new (Announces block) result }
     {
         let block = Arc::new(self.alloc, block)?;
         let searched = Arc::try_clone(&block)?;
@@ -247,11 +245,8 @@ impl<A: Allocator + Copy> Engine<A> {
     fn add(&mut self, block: Block<A>) -> Result<(), AllocError>
         requires spread { self.old.spread ≡ true }
         requires room { length self.old.round.items < self.old.setup.round }
-        requires ready { (aim : Aim) × (steps : List Step) × (out : Stream)
-            × IsReady self.old aim steps out (Announces block) }
-        ensures { (aim : Aim) → (steps : List Step) → (out : Stream) →
-            IsReady self.old aim steps out (Announces block) →
-            OnOk result (HasPlan self.new aim (Announces block ∷ steps) out) }
+        requires ready { MayTakeStep self.old (Announces block) }
+        ensures { TakesStep self.old self.new (Announces block) result }
     {
         if self.reserve.is_none() {
             self.reserve = Vec::with_capacity(self.alloc, RESERVE).ok();
@@ -267,11 +262,7 @@ impl<A: Allocator + Copy> Engine<A> {
         requires none { self.old.round.items ≡ [] }
         ensures kept { (self.new.spread ≡ self.old.spread) × (self.new.setup ≡ self.old.setup) }
         ensures none { self.new.round.items ≡ [] }
-        ensures outcome { (aim : Aim) → (steps : List Step) →
-            HasPlan self.old aim steps (W.stream out.old) →
-            MatchResult result
-            (λ _. HasPlan self.new aim steps (W.stream out.new) × AllIsWritten aim steps (W.stream out.new))
-            (BreaksOffInSearch aim steps (W.stream out.new)) }
+        ensures outcome { WritesPlan self.old self.new (W.stream out.old) (W.stream out.new) result }
     {
         self.sequencer.drain(out)?;
         self.written = self.files;
@@ -280,10 +271,7 @@ impl<A: Allocator + Copy> Engine<A> {
 
     /// Has the writer send on the rows that it holds back, where that is due.
     pub(crate) fn send_on<W: Sink>(&self, is_due: bool, out: &mut W) -> Result<(), RunFault>
-        ensures { (aim : Aim) → (steps : List Step) →
-            HasPlan self.now aim steps (W.stream out.old) →
-            MatchResult result (λ _. HasPlan self.now aim steps (W.stream out.new))
-            (BreaksOffInSearch aim steps (W.stream out.new)) }
+        ensures { KeepsPlan self.now self.now (W.stream out.old) (W.stream out.new) result }
     {
         if !is_due {
             return Ok(());
@@ -345,16 +333,14 @@ impl<A: Allocator + Copy> Engine<A> {
     pub(crate) fn take_spare(&mut self) -> Option<Vec<u8, A>>
         ensures kept { (self.new.spread ≡ self.old.spread) × (self.new.setup ≡ self.old.setup) }
         ensures round { self.new.round ≡ self.old.round }
-        ensures holds { (aim : Aim) → (steps : List Step) → (out : Stream) → HasPlan self.old aim steps out →
-            HasPlan self.new aim steps out }
+        ensures holds { PlansStay self.old self.new }
     {
         self.spare.take()
     }
 
     /// Decides anew whether blocks are to wait for a round, unless some wait.
     pub(crate) fn choose(&mut self)
-        ensures holds { (aim : Aim) → (steps : List Step) → (out : Stream) → HasPlan self.old aim steps out →
-            HasPlan self.new aim steps out }
+        ensures holds { PlansStay self.old self.new }
     {
         if self.round.is_empty() {
             self.spread = is_spread(&self.query, &self.setup, self.pace);
@@ -386,11 +372,8 @@ impl<A: Allocator + Copy> Engine<A> {
     /// Opens a file, and answers the cutter for it. At most 2^32 - 2 files were opened before.
     pub(crate) fn open(&mut self, name: &[u8]) -> Result<Cutter<A>, AllocError>
         requires few { self.old.files < 2 ^ 32 - 1 }
-        requires ready { (aim : Aim) × (steps : List Step) × (out : Stream)
-            × IsReady self.old aim steps out (Opens name.now) }
-        ensures ok { (aim : Aim) → (steps : List Step) → (out : Stream) →
-            IsReady self.old aim steps out (Opens name.now) →
-            OnOk result (HasPlan self.new aim (Opens name.now ∷ steps) out) }
+        requires ready { MayTakeStep self.old (Opens name.now) }
+        ensures ok { TakesStep self.old self.new (Opens name.now) result }
         ensures cutter { (aim : Aim) → (steps : List Step) → (out : Stream) →
             IsReady self.old aim steps out (Opens name.now) → IfOk result (λ cutter. IsCutterAfter cutter
             (unfed (terminator aim.query) self.old.files aim.setup.block aim.setup.line)) }
@@ -410,18 +393,15 @@ impl<A: Allocator + Copy> Engine<A> {
 
     /// Notes a name that gives no file.
     pub(crate) fn miss(&mut self, name: &[u8]) -> Result<(), AllocError>
-        requires { (aim : Aim) × (steps : List Step) × (out : Stream)
-            × IsReady self.old aim steps out (Misses name.now) }
-        ensures { (aim : Aim) → (steps : List Step) → (out : Stream) →
-            IsReady self.old aim steps out (Misses name.now) →
-            OnOk result (HasPlan self.new aim (Misses name.now ∷ steps) out) }
+        requires { MayTakeStep self.old (Misses name.now) }
+        ensures { TakesStep self.old self.new (Misses name.now) result }
     {
         self.sequencer.miss(name)
     }
 
     /// Ends the open file.
     pub(crate) fn end(&mut self, failed: bool)
-        requires { (aim : Aim) × (steps : List Step) × (out : Stream) × IsReady self.old aim steps out (Ends failed) }
+        requires { MayTakeStep self.old (Ends failed) }
         ensures { (aim : Aim) → (steps : List Step) → (out : Stream) → IsReady self.old aim steps out (Ends failed) →
             HasPlan self.new aim (Ends failed ∷ steps) out }
     {
@@ -453,6 +433,7 @@ impl<A: Allocator + Copy + Send + Sync> Engine<A> {
     ghost use Rattle.pg_blocks.specs.Cutter.{IsCutterAfter, IsDrained, unfed};
     ghost use Rattle.pg_rows.specs.Enough.{is_enough};
     ghost use Rattle.pg_seq.specs.Plan.{Step, Opens, Announces, Ends, Misses, entries_of, is_open};
+    ghost use Rattle.pg_run.specs.Holding.{HasSomePlan, KeepsPlan, WritesPlan};
     ghost use Rattle.pg_run.specs.Holding.{Aim, HasPlan, IsReady, AllIsWritten, IsWrittenFirst, BreaksOffInSearch};
     ghost use Rattle.pg_run.specs.Holding.{format_of};
 
@@ -473,17 +454,12 @@ impl<A: Allocator + Copy + Send + Sync> Engine<A> {
         out: &mut W,
     ) -> Result<(), RunFault>
         requires ready { D.ready reader.old from.old }
-        requires holds { (aim : Aim) × (steps : List Step)
-            × HasPlan self.old aim steps (W.stream out.old) }
+        requires holds { HasSomePlan self.old (W.stream out.old) }
         ensures ready { D.ready reader.new from.new }
         ensures read { (r : D) → (f : X) → D.reaches r f reader.old from.old → D.reaches r f reader.new from.new }
         ensures kept { (self.new.spread ≡ self.old.spread) × (self.new.setup ≡ self.old.setup) }
         ensures none { OnOk result (self.new.round.items ≡ []) }
-        ensures outcome { (aim : Aim) → (steps : List Step) →
-            HasPlan self.old aim steps (W.stream out.old) →
-            MatchResult result
-            (λ _. HasPlan self.new aim steps (W.stream out.new) × AllIsWritten aim steps (W.stream out.new))
-            (BreaksOffInSearch aim steps (W.stream out.new)) }
+        ensures outcome { WritesPlan self.old self.new (W.stream out.old) (W.stream out.new) result }
     {
         self.reserve = None;
         let bytes = self.waiting();
@@ -523,15 +499,10 @@ impl<A: Allocator + Copy + Send + Sync> Engine<A> {
         gate: &G,
         out: &mut W,
     ) -> Result<(), RunFault>
-        requires holds { (aim : Aim) × (steps : List Step)
-            × HasPlan self.old aim steps (W.stream out.old) }
+        requires holds { HasSomePlan self.old (W.stream out.old) }
         ensures kept { (self.new.spread ≡ self.old.spread) × (self.new.setup ≡ self.old.setup) }
         ensures none { OnOk result (self.new.round.items ≡ []) }
-        ensures outcome { (aim : Aim) → (steps : List Step) →
-            HasPlan self.old aim steps (W.stream out.old) →
-            MatchResult result
-            (λ _. HasPlan self.new aim steps (W.stream out.new) × AllIsWritten aim steps (W.stream out.new))
-            (BreaksOffInSearch aim steps (W.stream out.new)) }
+        ensures outcome { WritesPlan self.old self.new (W.stream out.old) (W.stream out.new) result }
     {
         if self.round.is_empty() {
             return self.drain(out);
@@ -546,13 +517,9 @@ impl<A: Allocator + Copy + Send + Sync> Engine<A> {
         gate: &G,
         out: &mut W,
     ) -> Result<(), RunFault>
-        requires holds { (aim : Aim) × (steps : List Step)
-            × HasPlan self.old aim steps (W.stream out.old) }
+        requires holds { HasSomePlan self.old (W.stream out.old) }
         ensures room { OnOk result (self.new.spread ≡ true → length self.new.round.items < self.new.setup.round) }
-        ensures outcome { (aim : Aim) → (steps : List Step) →
-            HasPlan self.old aim steps (W.stream out.old) →
-            MatchResult result (λ _. HasPlan self.new aim steps (W.stream out.new))
-            (BreaksOffInSearch aim steps (W.stream out.new)) }
+        ensures outcome { KeepsPlan self.old self.new (W.stream out.old) (W.stream out.new) result }
     {
         if !self.is_full() {
             return Ok(());
@@ -567,12 +534,8 @@ impl<A: Allocator + Copy + Send + Sync> Engine<A> {
         gate: &G,
         out: &mut W,
     ) -> Result<(), RunFault>
-        requires holds { (aim : Aim) × (steps : List Step)
-            × HasPlan self.old aim steps (W.stream out.old) }
-        ensures { (aim : Aim) → (steps : List Step) →
-            HasPlan self.old aim steps (W.stream out.old) →
-            MatchResult result (λ _. HasPlan self.new aim steps (W.stream out.new))
-            (BreaksOffInSearch aim steps (W.stream out.new)) }
+        requires holds { HasSomePlan self.old (W.stream out.old) }
+        ensures { KeepsPlan self.old self.new (W.stream out.old) (W.stream out.new) result }
     {
         if !self.has_waiting() {
             return Ok(());
@@ -588,12 +551,8 @@ impl<A: Allocator + Copy + Send + Sync> Engine<A> {
         gate: &G,
         out: &mut W,
     ) -> Result<(), RunFault>
-        requires holds { (aim : Aim) × (steps : List Step)
-            × HasPlan self.old aim steps (W.stream out.old) }
-        ensures { (aim : Aim) → (steps : List Step) →
-            HasPlan self.old aim steps (W.stream out.old) →
-            MatchResult result (λ _. HasPlan self.new aim steps (W.stream out.new))
-            (BreaksOffInSearch aim steps (W.stream out.new)) }
+        requires holds { HasSomePlan self.old (W.stream out.old) }
+        ensures { KeepsPlan self.old self.new (W.stream out.old) (W.stream out.new) result }
     {
         if self.has_waiting() && !self.has_many_empty() {
             return Ok(());
@@ -610,8 +569,7 @@ impl<A: Allocator + Copy + Send + Sync> Engine<A> {
         fault: RunFault,
         out: &mut W,
     ) -> RunFault
-        requires holds { (aim : Aim) × (steps : List Step)
-            × HasPlan self.old aim steps (W.stream out.old) }
+        requires holds { HasSomePlan self.old (W.stream out.old) }
         ensures { (aim : Aim) → (steps : List Step) →
             HasPlan self.old aim steps (W.stream out.old) →
             IsWrittenFirst aim steps (W.stream out.new) fault result }

@@ -7,6 +7,7 @@ ghost use Rattle.pg_files.specs.Given.{Given, newest_name};
 ghost use Rattle.pg_base.specs.Sink.{Stream};
 ghost use Rattle.pg_run.specs.Told.{faults_of, fault_line};
 ghost use Rattle.pg_run.specs.Holding.{Aim};
+ghost use Rattle.pg_run.specs.Reading.{IsInSomeFile, IsReadingSomeFile};
 ghost use Rattle.pg_run.specs.Reading.{IsInsideFile, MayEndFile, IsBetweenFiles, BreaksOffInFile, ending_of};
 ghost use Rattle.pg_run.specs.Reading.{ending_after};
 ghost use Rattle.pg_run.specs.declared.reader.ReadOutcome.TheVariants.{More};
@@ -38,8 +39,7 @@ fn make_room<
     files: &mut F,
     out: &mut W,
 ) -> Result<(), RunFault>
-    requires in_file { (aim : Aim) × IsInsideFile reader.old engine.old aim (F.past files.old).given
-        (W.stream out.old) }
+    requires in_file { IsInSomeFile reader.old engine.old (F.past files.old).given (W.stream out.old) }
     ensures done { (F.past files.new).done ≡ (F.past files.old).done }
     ensures before { drop 1 (F.past files.new).given ≡ drop 1 (F.past files.old).given }
     ensures same_list { F.list files.new ≡ F.list files.old }
@@ -76,8 +76,7 @@ fn search_ready<
     files: &mut F,
     out: &mut W,
 ) -> Result<(), RunFault>
-    requires in_file { (aim : Aim) × IsInsideFile reader.old engine.old aim (F.past files.old).given
-        (W.stream out.old) }
+    requires in_file { IsInSomeFile reader.old engine.old (F.past files.old).given (W.stream out.old) }
     ensures done { (F.past files.new).done ≡ (F.past files.old).done }
     ensures before { drop 1 (F.past files.new).given ≡ drop 1 (F.past files.old).given }
     ensures same_list { F.list files.new ≡ F.list files.old }
@@ -113,8 +112,7 @@ fn search_lines<
     out: &mut W,
 ) -> Result<(), RunFault>
     requires drained { IsDrained reader.old.cutter }
-    requires in_file { (aim : Aim) × (given : List Given)
-        × IsInsideFile reader.old engine.old aim given (W.stream out.old) }
+    requires in_file { IsReadingSomeFile reader.old engine.old (W.stream out.old) }
     ensures came { reader.new.came ≡ reader.old.came }
     ensures drained { IsDrained reader.new.cutter }
     ensures outcome { (aim : Aim) → (given : List Given) →
@@ -156,8 +154,7 @@ fn settle<
     out: &mut W,
 ) -> Result<(), RunFault>
     requires drained { IsDrained reader.old.cutter }
-    requires in_file { (aim : Aim) × (given : List Given)
-        × IsInsideFile reader.old engine.old aim given (W.stream out.old) }
+    requires in_file { IsReadingSomeFile reader.old engine.old (W.stream out.old) }
     ensures came { reader.new.came ≡ reader.old.came }
     ensures outcome { (aim : Aim) → (given : List Given) →
         IsInsideFile reader.old engine.old aim given (W.stream out.old) →
@@ -200,8 +197,7 @@ fn read_once<
     out: &mut W,
 ) -> Result<(), RunFault>
     requires more { reader.old.came ≡ More }
-    requires in_file { (aim : Aim) × IsInsideFile reader.old engine.old aim (F.past files.old).given
-        (W.stream out.old) }
+    requires in_file { IsInSomeFile reader.old engine.old (F.past files.old).given (W.stream out.old) }
     ensures done { (F.past files.new).done ≡ (F.past files.old).done }
     ensures before { drop 1 (F.past files.new).given ≡ drop 1 (F.past files.old).given }
     ensures same_list { F.list files.new ≡ F.list files.old }
@@ -311,8 +307,7 @@ pub(crate) fn read_file<
 ) -> Result<bool, RunFault>
     requires more { reader.old.came ≡ More }
     requires drained { IsDrained reader.old.cutter }
-    requires in_file { (aim : Aim) × IsInsideFile reader.old engine.old aim (F.past files.old).given
-        (W.stream out.old) }
+    requires in_file { IsInSomeFile reader.old engine.old (F.past files.old).given (W.stream out.old) }
     ensures done { (F.past files.new).done ≡ (F.past files.old).done }
     ensures before { drop 1 (F.past files.new).given ≡ drop 1 (F.past files.old).given }
     ensures same_list { F.list files.new ≡ F.list files.old }
