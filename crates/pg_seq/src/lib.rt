@@ -8,6 +8,7 @@
 mod ahead;
 mod answers;
 mod assembler;
+mod file_starts;
 mod laws;
 mod opening;
 mod reorder_buffer;
