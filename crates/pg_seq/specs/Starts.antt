@@ -22,7 +22,8 @@ abbrev pub IsFromNought : List Progression → ℕ → Type 0
 IsFromNought [] files = files ≡ 0
 IsFromNought (p ∷ later) files = p.first ≡ 0
 
--- The progressions are those of so many files: each begins at one of them, in the files' order. Each start has 128 bits.
+-- The progressions are those of so many files: each begins at one of them, in the files' order, and each start has 128
+-- bits.
 pub record Cover (ps : List Progression) (files : ℕ) : Type 0 where
   pub from_nought : IsFromNought ps files
   pub within : All (λ p. p.first < files) ps

@@ -1,6 +1,6 @@
 //! Results that wait for those of the blocks before them.
 ghost use Rattle.std.specs.Prelude.{◌≡◌, ◌+◌, ◌<◌, ◌≤◌, ◌^◌, ◌||◌, ◌==◌, [], false, OnOk, OnErr, MatchOption};
-ghost use Rattle.std.specs.Prelude.{length, get_or, drop};
+ghost use Rattle.std.specs.Prelude.{length, drop};
 ghost use Rattle.std.specs.List.{AllByRecursion, list_all, list_any};
 ghost use Rattle.std.specs.Arc.{arc_value};
 ghost use Rattle.pg_seq.specs.Slots.{place_of};
