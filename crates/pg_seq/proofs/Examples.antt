@@ -16,6 +16,7 @@ use Rattle.pg_rows.specs.declared.format.Format.{Format}
 use Rattle.pg_rows.specs.declared.format.Mode.TheVariants.{Rows, Count, List as Names, ListOthers as Others, Quiet}
 use Rattle.pg_rows.specs.Output.{output, status, file_rows, Entry, Missed, Read, Ended}
 use Rattle.pg_rows.specs.Separator.{separator_of}
+use Rattle.pg_seq.specs.Starts.{starts_by}
 
 -- the fixed string of one byte
 abbrev text_of : ℕ → SearchText
@@ -254,3 +255,11 @@ last_one = refl
 all_handed : handed_after (query 120) plain (Arrived (result 120 1 (codes "xb\n")) ∷ after_zero) ≡ codes "xa\nxb\nxc\n"
 unfolding handed_after front_after has_hit file_rows digits same_text
 all_handed = refl
+
+-- four files that start a block apart, and behind them three that start two apart, are two entries
+starts_of_seven : starts_by (record { start = 0; step = 1; first = 0 } ∷ record { start = 5; step = 2; first = 4 } ∷ [])
+    7 ≡ 0 ∷ 1 ∷ 2 ∷ 3 ∷ 5 ∷ 7 ∷ 9 ∷ []
+starts_of_seven = refl
+
+starts_of_empty_files : starts_by (record { start = 3; step = 0; first = 0 } ∷ []) 3 ≡ 3 ∷ 3 ∷ 3 ∷ []
+starts_of_empty_files = refl

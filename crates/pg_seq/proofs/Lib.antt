@@ -5,6 +5,7 @@ pub mod SlotLemmas
 pub mod SelectLemmas
 pub mod FrontLemmas
 pub mod ArrivalLaws
+pub mod StartLemmas
 pub mod KeyLemmas
 pub mod PlaceLemmas
 pub mod CountLemmas

@@ -1,11 +1,13 @@
 -- Where a file's block stands among all blocks of a plan.
-use Rattle.std.proofs.Common.{◌≡◌, ℕ, zero, suc, ◌+◌, ◌<◌, ◌≤◌, inl, inr, true, cond, eqb, nat_lt, Option, Some, None}
-use Rattle.std.proofs.Common.{List, [], ◌∷◌, ◌++◌, length, get_or, slice_get, refl, sym, ap, ◌∙◌, subst, arith}
+use Rattle.std.proofs.Common.{◌≡◌, ℕ, zero, suc, ◌+◌, ◌-◌, ◌<◌, ◌≤◌, inl, inr, true, cond, eqb, nat_lt}
+use Rattle.std.proofs.Common.{Option, Some, None, List, [], ◌∷◌, ◌++◌, length, get_or, slice_get}
+use Rattle.std.proofs.Common.{refl, sym, ap, ◌∙◌, subst, arith}
 use Rattle.std.specs.List.{find}
-use Rattle.std.specs.Option.{option_or}
+use Rattle.std.specs.Option.{option_or, unwrap_or}
 use Rattle.std.proofs.lemmas.Bool.{eq-eqb, lt-ltb, le-ltb, cases_lt, cases_eq, and_left, and_right, and_from}
 use Rattle.std.proofs.lemmas.List.{get_or_append_left, get_or_push, get_or_past, get_or_default, length_push}
 use Rattle.std.proofs.lemmas.List.Folds.{find-append}
+use Rattle.std.proofs.lemmas.Option.{get_or_from_slice_get, unwrap_or-slice_get, slice_get_within}
 use Rattle.pg_lines.specs.Blocks.{BlockData}
 use Rattle.pg_seq.specs.Plan.{Step, Opens, Announces, Ends, Misses, IsShaped, opened, announced, last_blocks}
 use Rattle.pg_seq.specs.History.{is_block}
@@ -66,6 +68,24 @@ module _ (starts : List ℕ) (total f k : ℕ) where
       → place_of starts total f k ≡ Some (get_or starts f 0 + k)
   some_place file number = ap (λ t. cond t (Some (get_or starts f 0 + k)) None) (and_from (nat_lt f (length starts)) _
       (lt-ltb f (length starts) file) (lt-ltb (get_or starts f 0 + k) (get_or starts (f + 1) total) number))
+
+-- what the starts of a file and of the next one tell of a block's place
+module _ (starts : List ℕ) (total f k start stop : ℕ) (is : Some start ≡ slice_get starts f)
+    (end : stop ≡ unwrap_or (slice_get starts (f + 1)) total) where
+  start_is : get_or starts f 0 ≡ start
+  start_is = get_or_from_slice_get starts f start 0 (sym is)
+
+  stop_is : stop ≡ get_or starts (f + 1) total
+  stop_is = end ∙ unwrap_or-slice_get starts (f + 1) total
+
+  pub place_within : k < stop - start → Some (start + k) ≡ place_of starts total f k
+  place_within h =
+      let within = slice_get_within starts f start (sym is) in
+      ap (λ n. Some (n + k)) (sym start_is)
+      ∙ sym (some_place starts total f k within (omega (arith, start_is, stop_is)))
+
+  pub no_place_within : stop - start ≤ k → None ≡ place_of starts total f k
+  no_place_within h = sym (none_number starts total f k (omega (arith, start_is, stop_is)))
 
 -- a file that was just opened has no block
 place_open : (starts : List ℕ) (total f k : ℕ) → place_of (starts ++ total ∷ []) total f k ≡ place_of starts total f k

@@ -502,18 +502,18 @@ module _ {A : Type 0} where
   -- the announced block of a file and number, by the slots
   find_slot : (s : Assembler A) (past : Past) (h : Stands s past) (f k : ℕ)
       → find (is_block f k) (announced (plan past))
-      ≡ at_place (map slot_block (all s h)) (place_of s.buffer.starts.items (length (all s h)) f k)
+      ≡ at_place (map slot_block (all s h)) (place_of s.buffer.starts (length (all s h)) f k)
   find_slot s past h f k =
       let bs = announced (plan past) in
       let slots = all s h in
       find_place (terminator past.query) (plan past) (shape_of (terminator past.query) (plan past) h.lawful) f k
       ∙ (ap (λ xs. at_place bs (place_of xs (length bs) f k)) (sym h.starts)
-      ∙ (ap (λ xs. at_place xs (place_of s.buffer.starts.items (length xs) f k)) h.blocks
-      ∙ ap (λ n. at_place (map slot_block slots) (place_of s.buffer.starts.items n f k)) (length-map slots slot_block)))
+      ∙ (ap (λ xs. at_place xs (place_of s.buffer.starts (length xs) f k)) h.blocks
+      ∙ ap (λ n. at_place (map slot_block slots) (place_of s.buffer.starts n f k)) (length-map slots slot_block)))
 
   -- it has the file and the number
   block_named : (s : Assembler A) (past : Past) (h : Stands s past) (f k : ℕ) (x : BlockData)
-      → at_place (map slot_block (all s h)) (place_of s.buffer.starts.items (length (all s h)) f k) ≡ Some x
+      → at_place (map slot_block (all s h)) (place_of s.buffer.starts (length (all s h)) f k) ≡ Some x
       → (x.file ≡ f) × (x.number ≡ k)
   block_named s past h f k x e =
       let t = and_parts (eqb x.file f) (eqb x.number k)
@@ -523,13 +523,13 @@ module _ {A : Type 0} where
   -- by the slots an arrival is what it is by the history
   answer_all : (s : Assembler A) (past : Past) (r : Searched) (h : Stands s past)
       → same_text past.query.text r.query ≡ true
-      → answer past r ≡ arrival_among s.buffer.starts.items (all s h) r.block
+      → answer past r ≡ arrival_among s.buffer.starts (all s h) r.block
   unfolding answer_after
   answer_all s past r h same =
       let keys = taken_of past.query past.events in
       let slots = all s h in
       let b = r.block in
-      let place = place_of s.buffer.starts.items (length slots) b.file b.number in
+      let place = place_of s.buffer.starts (length slots) b.file b.number in
       ap (λ t. cond t (arrival_at (find (is_block b.file b.number) (announced (plan past))) keys b) Stranger) same
       ∙ (ap (λ o. arrival_at o keys b) (find_slot s past h b.file b.number)
       ∙ at_slot keys b slots place (marks s past h) (block_named s past h b.file b.number))
@@ -596,11 +596,11 @@ module _ {A : Type 0} where
             let found = find (is_block b.file b.number) (announced (plan past)) in
             absurd (stranger_taken (sym (ap (λ t. cond t (arrival_at found keys b) Stranger) e) ∙ is))
       ] in
-      let t : IsTaken s.buffer.starts.items old b =
-      taken_means s.buffer.starts.items old b (sym (answer_all s past r h known_query) ∙ is) in
+      let t : IsTaken s.buffer.starts old b =
+      taken_means s.buffer.starts old b (sym (answer_all s past r h known_query) ∙ is) in
       let k = t.place in
       let known = slot_block t.slot in
-      let here : at_place (map slot_block old) (place_of s.buffer.starts.items (length old) b.file b.number)
+      let here : at_place (map slot_block old) (place_of s.buffer.starts (length old) b.file b.number)
       ≡ Some known =
       ap (at_place (map slot_block old)) t.is ∙ block_at old k t.slot t.at in
       let n = block_named s past h b.file b.number known here in
@@ -656,7 +656,7 @@ module _ {A : Type 0} where
   -- nothing happened yet
   pub new_stands : (s : Assembler A) (q : Search) (format : Format) → q.text ≡ (arc_value s.query).text
       → HasItsTrees q → s.format ≡ format → HasRoom format → s.running ≡ false → s.bad ≡ false
-      → s.buffer.starts.items ≡ [] → s.buffer.slots.items ≡ [] → s.buffer.handed ≡ 0 → s.buffer.selected ≡ false
+      → s.buffer.starts ≡ [] → s.buffer.slots.items ≡ [] → s.buffer.handed ≡ 0 → s.buffer.selected ≡ false
       → s.waiting.items ≡ [] → s.printing ≡ false → Remembers s.printer q format at_start → s.failed ≡ false
       → Stands s (start q format)
   new_stands s q format text trees format' room running bad starts slots handed' selected waiting printing remembers

@@ -17,14 +17,14 @@ pub record AreGone {A : Type 0} (buffer : ReorderBuffer A) (gone : List (Slot A)
 
 -- nothing but the room has changed
 pub record Keeps {A : Type 0} (old new : ReorderBuffer A) : Type 0 where
-  pub starts : new.starts.items ≡ old.starts.items
+  pub starts : new.starts ≡ old.starts
   pub slots : new.slots.items ≡ old.slots.items
   pub handed : new.handed ≡ old.handed
   pub selected : new.selected ≡ old.selected
 
 -- a file comes that starts behind all announced blocks
 pub record OpensFile {A : Type 0} (old new : ReorderBuffer A) : Type 0 where
-  pub starts : new.starts.items ≡ old.starts.items ++ (old.handed + length old.slots.items) ∷ []
+  pub starts : new.starts ≡ old.starts ++ (old.handed + length old.slots.items) ∷ []
   pub slots : new.slots.items ≡ old.slots.items
   pub handed : new.handed ≡ old.handed
   pub selected : new.selected ≡ old.selected
@@ -34,7 +34,7 @@ pub record Pushes {A : Type 0} (block : BlockData) (old new : ReorderBuffer A) :
   pub slot : Slot A
   pub is : slot_block slot ≡ block
   pub empty : slot.result ≡ None
-  pub starts : new.starts.items ≡ old.starts.items
+  pub starts : new.starts ≡ old.starts
   pub slots : new.slots.items ≡ old.slots.items ++ slot ∷ []
   pub handed : new.handed ≡ old.handed
   pub selected : new.selected ≡ old.selected
@@ -43,20 +43,20 @@ pub record Pushes {A : Type 0} (block : BlockData) (old new : ReorderBuffer A) :
 abbrev pub IsArrival : {A : Type 0} → ReorderBuffer A → BlockData → Arrival → Type 0
 IsArrival {A} buffer block arrival =
     (gone : List (Slot A)) → AreGone buffer gone →
-    arrival ≡ arrival_among buffer.starts.items (gone ++ buffer.slots.items) block
+    arrival ≡ arrival_among buffer.starts (gone ++ buffer.slots.items) block
 
 -- a result stands at its block's place
 pub record Puts {A : Type 0} (found : Searched) (old new : ReorderBuffer A) : Type 0 where
-  pub starts : new.starts.items ≡ old.starts.items
+  pub starts : new.starts ≡ old.starts
   pub slots : (gone : List (Slot A)) (k : ℕ) → length gone ≡ old.handed → old.handed ≤ k →
-      place_of old.starts.items (length (gone ++ old.slots.items)) found.block.file found.block.number ≡ Some k →
+      place_of old.starts (length (gone ++ old.slots.items)) found.block.file found.block.number ≡ Some k →
       gone ++ new.slots.items ≡ with_result (gone ++ old.slots.items) k found
   pub handed : new.handed ≡ old.handed
   pub selected : new.selected ≡ old.selected
 
 -- The first block was given up. Of what is selected this speaks for the query whose result it has.
 pub record HandsOut {A : Type 0} (slot : Slot A) (old new : ReorderBuffer A) : Type 0 where
-  pub starts : new.starts.items ≡ old.starts.items
+  pub starts : new.starts ≡ old.starts
   pub slots : old.slots.items ≡ slot ∷ new.slots.items
   pub handed : new.handed ≡ old.handed + 1
   pub selected : (q : Search) → HasItsTrees q → IsResultOf q slot →

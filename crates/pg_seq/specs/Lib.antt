@@ -2,6 +2,7 @@ pub mod Plan
 pub mod History
 pub mod Cursor
 pub mod Coming
+pub mod Starts
 pub mod Slots
 pub mod Buffer
 pub mod Standing

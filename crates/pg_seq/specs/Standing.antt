@@ -55,7 +55,7 @@ pub record Stands {A : Type 0} (s : Assembler A) (past : Past) : Type 0 where
   pub lawful : IsPlan (terminator past.query) (plan past)
   pub running : is_open (plan past) ≡ s.running
   pub bad : list_any is_bad (entries_of (plan past)) ≡ s.bad
-  pub starts : s.buffer.starts.items ≡ starts_of (plan past)
+  pub starts : s.buffer.starts ≡ starts_of (plan past)
   pub blocks : announced (plan past) ≡ map slot_block (gone ++ s.buffer.slots.items)
   pub taken : map (is_taken (taken_of past.query past.events)) (announced (plan past))
       ≡ map has_result (gone ++ s.buffer.slots.items)

@@ -4,6 +4,7 @@
 mod ahead;
 mod answers;
 mod assembler;
+mod file_starts;
 mod laws;
 mod opening;
 mod reorder_buffer;

@@ -1,11 +1,12 @@
 //! Results that wait for those of the blocks before them.
 ghost use Rattle.std.specs.Prelude.{◌≡◌, ◌+◌, ◌<◌, ◌≤◌, ◌^◌, ◌||◌, ◌==◌, [], false, OnOk, OnErr, MatchOption};
-ghost use Rattle.std.specs.Prelude.{length, get_or, drop};
+ghost use Rattle.std.specs.Prelude.{length, drop};
 ghost use Rattle.std.specs.List.{AllByRecursion, list_all, list_any};
 ghost use Rattle.std.specs.Arc.{arc_value};
 ghost use Rattle.pg_seq.specs.Slots.{place_of};
 
 use crate::answers::Arrival;
+use crate::file_starts::FileStarts;
 use crate::slot::Slot;
 use pg_lines::{Block, BlockResult};
 use std::alloc::{AllocError, Allocator, Global};
@@ -21,7 +22,7 @@ use std::sync::Arc;
 /// all files.
 pub(crate) struct ReorderBuffer<A: Allocator = Global> {
     /// How many blocks were announced before each file that was opened, in the files' order.
-    starts: Vec<u128, A>,
+    starts: FileStarts<A>,
     slots: VecDeque<Slot<A>, A>,
     /// How many blocks were handed out. They stand before the slots.
     handed: u128,
@@ -41,29 +42,19 @@ impl<A: Allocator> Drop for ReorderBuffer<A> {
     }
 }
 
-/// Where the file behind a file starts among all announced blocks, or how many blocks there are.
-fn stop_of(starts: &[u128], total: u128, file: usize) -> u128
-    requires { file < length starts.now }
-    ensures { result ≡ get_or starts.now (file + 1) total }
-{
-    if file + 1 < starts.len() {
-        starts[file + 1]
-    } else {
-        total
-    }
-}
-
 /// Where a file's block stands among all announced blocks, by the files' starts and the number of
 /// all blocks.
-fn place_in(starts: &[u128], total: u128, file: u32, number: u64) -> Option<u128>
+fn place_in<A: Allocator>(
+    starts: &FileStarts<A>,
+    total: u128,
+    file: u32,
+    number: u64,
+) -> Option<u128>
     ensures { result ≡ place_of starts.now total file number }
 {
     let file = file as usize;
-    if file >= starts.len() {
-        return None;
-    }
-    let start = starts[file];
-    let stop = stop_of(starts, total, file);
+    let start = starts.get(file)?;
+    let stop = starts.get(file + 1).unwrap_or(total);
     if u128::from(number) < stop.saturating_sub(start) {
         Some(start + u128::from(number))
     } else {
@@ -80,13 +71,13 @@ impl<A: Allocator> ReorderBuffer<A> {
     pub(crate) fn new(alloc: A) -> ReorderBuffer<A>
     where
         A: Copy,
-        ensures starts { result.starts.items ≡ [] }
+        ensures starts { result.starts ≡ [] }
         ensures slots { result.slots.items ≡ [] }
         ensures handed { result.handed ≡ 0 }
         ensures selected { result.selected ≡ false }
     {
         ReorderBuffer {
-            starts: Vec::new(alloc),
+            starts: FileStarts::new(alloc),
             slots: VecDeque::new(alloc),
             handed: 0,
             selected: false,
@@ -103,6 +94,7 @@ impl<A: Allocator> ReorderBuffer<A> {
     /// The next file starts behind all announced blocks. A refused request for memory is the only
     /// error, and changes nothing.
     pub(crate) fn open_file(&mut self) -> Result<(), AllocError>
+        requires { length self.old.starts < 2 ^ 32 }
         ensures ok { OnOk result (OpensFile self.old self.new) }
         ensures err { OnErr result (Keeps self.old self.new) }
     {
@@ -126,9 +118,9 @@ impl<A: Allocator> ReorderBuffer<A> {
 
     /// Where a file's block stands among all announced blocks.
     fn place_of(&self, file: u32, number: u64) -> Option<u128>
-        ensures { result ≡ place_of self.now.starts.items (self.now.handed + length self.now.slots.items) file number }
+        ensures { result ≡ place_of self.now.starts (self.now.handed + length self.now.slots.items) file number }
     {
-        place_in(self.starts.as_slice(), self.announced(), file, number)
+        place_in(&self.starts, self.announced(), file, number)
     }
 
     /// What a block of the sequencer's query is.

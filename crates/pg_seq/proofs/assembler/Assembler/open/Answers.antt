@@ -1,8 +1,17 @@
-use Rattle.std.proofs.Common.{◌∙◌, ◌++◌, [], ◌∷◌, ap, refl}
+use Rattle.std.proofs.Common.{◌∙◌, ◌++◌, [], ◌∷◌, length, ap, refl, arith}
 use Rattle.pg_rows.proofs.SinkLemmas.{on_err}
 use Rattle.pg_seq.specs.declared.opening.Opening.{Opening}
+use Rattle.pg_seq.specs.History.{plan}
+use Rattle.pg_seq.proofs.PlaceLemmas.{starts_length}
 use Rattle.pg_seq.proofs.StandLemmas.{may_open, opened_stands, same_stands}
 use Rattle.pg_seq.proofs.assembler.Assembler.open.Goals as goal
+
+pub open_file-requires : goal.open_file-requires
+open_file-requires g c =
+    let first = c.requires.1 in
+    let long = ap length first.0.starts ∙ starts_length (plan c.requires.0) in
+    let few = first.1.1 in
+    omega arith
 
 pub returns-in_err-reserve-clause-err : goal.returns-in_err-reserve-clause-err
 returns-in_err-reserve-clause-err g c = λ past h.

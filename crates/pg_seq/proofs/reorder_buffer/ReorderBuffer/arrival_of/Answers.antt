@@ -11,7 +11,7 @@ all_of gone slots n e = sym (length-append gone slots ∙ ap (λ m. m + length s
 pub returns-in_default : goal.returns-in_default
 returns-in_default g c = λ gone are.
     let s = c.args.self.now in
-    arrival_by s.starts.items (gone ++ s.slots.items) _ _ _ c.args.block.now None c.in_default.ensures
+    arrival_by s.starts (gone ++ s.slots.items) _ _ _ c.args.block.now None c.in_default.ensures
     (all_of gone s.slots.items _ are.count)
     (ap (λ (b : BlockData). b.file) c.block.view_is) (ap (λ (b : BlockData). b.number) c.block.view_is)
 
@@ -20,7 +20,7 @@ returns-then-place-self g c = λ gone are.
     let s = c.args.self.now in
     gone_double gone s.slots.items c.in-Some.place c.args.block.now are.results
     (omega (arith, c.if-place-self.true, are.count))
-    ∙ arrival_by s.starts.items (gone ++ s.slots.items) _ _ _ c.args.block.now (Some c.in-Some.place) c.in-Some.ensures
+    ∙ arrival_by s.starts (gone ++ s.slots.items) _ _ _ c.args.block.now (Some c.in-Some.place) c.in-Some.ensures
     (all_of gone s.slots.items _ are.count)
     (ap (λ (b : BlockData). b.file) c.block.view_is) (ap (λ (b : BlockData). b.number) c.block.view_is)
 
@@ -41,7 +41,7 @@ returns-then-at-len g c = λ gone are.
       c.len.ensures,
       s.slots.ok.0,
     ))))
-    ∙ arrival_by s.starts.items (gone ++ s.slots.items) _ _ _ b (Some c.in-Some.place) c.in-Some.ensures
+    ∙ arrival_by s.starts (gone ++ s.slots.items) _ _ _ b (Some c.in-Some.place) c.in-Some.ensures
     (all_of gone s.slots.items _ are.count)
     (ap (λ (b : BlockData). b.file) c.block.view_is) (ap (λ (b : BlockData). b.number) c.block.view_is)
 
@@ -56,7 +56,7 @@ returns g c = λ gone are.
     ∙ (ap (λ o. arrival_at_slot o b) (slot_behind gone s.slots.items (c.in-Some.place - s.handed) c.in-Some.place
     c.index.result.now (omega (arith, are.count, c.if-place-self.false))
     (omega (arith, c.if-at-len.false, c.len.ensures, s.slots.ok.0)) c.index.ensures)
-    ∙ arrival_by s.starts.items (gone ++ s.slots.items) _ _ _ b (Some c.in-Some.place) c.in-Some.ensures
+    ∙ arrival_by s.starts (gone ++ s.slots.items) _ _ _ b (Some c.in-Some.place) c.in-Some.ensures
     (all_of gone s.slots.items _ are.count)
     (ap (λ (b : BlockData). b.file) c.block.view_is) (ap (λ (b : BlockData). b.number) c.block.view_is))
 

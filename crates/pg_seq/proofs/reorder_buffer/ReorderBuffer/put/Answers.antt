@@ -16,7 +16,7 @@ returns-then-at-len g c =
     record {
       starts = refl;
       slots = λ gone k count behind is.
-          let same : place ≡ k = place_same s.starts.items _ _ _ _ _ _ place k c.in-Some.ensures
+          let same : place ≡ k = place_same s.starts _ _ _ _ _ _ place k c.in-Some.ensures
           (omega (arith, length-append gone s.slots.items, count)) file number is in
           with_behind gone s.slots.items (place - s.handed) k c.index_mut.result.now c.args.found
           (omega (arith, same, count, c.if-place-self.false)) (omega (arith, c.if-at-len.true, c.len.ensures))
@@ -36,7 +36,7 @@ returns-else-at-len g c =
     record {
       starts = refl;
       slots = λ gone k count behind is.
-          let same : place ≡ k = place_same s.starts.items _ _ _ _ _ _ place k c.in-Some.ensures
+          let same : place ≡ k = place_same s.starts _ _ _ _ _ _ place k c.in-Some.ensures
           (omega (arith, length-append gone s.slots.items, count)) file number is in
           with_past _ k c.args.found
           (omega (arith, same, count, c.if-at-len.false, c.len.ensures, behind, length-append gone s.slots.items));
@@ -50,7 +50,7 @@ returns-in_default g c =
     let block = c.block-2.view_is ∙ (c.deref-block.ensures ∙ c.block.ensures) in
     record {
       starts = refl;
-      slots = λ gone k count behind is. absurd (no_place s.starts.items _ _ _ _ _ _ k c.in_default.ensures
+      slots = λ gone k count behind is. absurd (no_place s.starts _ _ _ _ _ _ k c.in_default.ensures
           (omega (arith, length-append gone s.slots.items, count)) (ap (λ (b : BlockData). b.file) block)
           (ap (λ (b : BlockData). b.number) block) is);
       handed = refl;
@@ -64,7 +64,7 @@ returns-then-place-self g c =
     record {
       starts = refl;
       slots = λ gone k count behind is.
-          let same : c.in-Some.place ≡ k = place_same s.starts.items _ _ _ _ _ _ c.in-Some.place k c.in-Some.ensures
+          let same : c.in-Some.place ≡ k = place_same s.starts _ _ _ _ _ _ c.in-Some.place k c.in-Some.ensures
           (omega (arith, length-append gone s.slots.items, count)) (ap (λ (b : BlockData). b.file) block)
           (ap (λ (b : BlockData). b.number) block) is in
           absurd (omega (arith, same, behind, c.if-place-self.true));
