@@ -3,7 +3,7 @@ use Rattle.std.specs.Prelude.{◌≡◌, ℕ, ◌<◌, ◌⊎◌, Bool, List, �
 use Rattle.std.specs.Result.{IsErr}
 use Rattle.std.specs.String.{string_bytes}
 use Rattle.pg_base.specs.Sink.{Stream, WritesAll, WritesPart}
-use Rattle.pg_walk.specs.Answers.{AnswersSearch as Tree}
+use Rattle.pg_walk.specs.Answers.{Answers as Tree}
 use Rattle.pg_files.specs.Given.{Given}
 use Rattle.pg_words.specs.declared.help.TheConstants.{HELP, VERSION}
 use Rattle.pg_words.specs.Asks.{Asks, AsksHelp, AsksSearch, AsksVersion, HasFault, IsRefused, asks}
