@@ -30,7 +30,8 @@ block_rows q format c bytes =
 
 -- the rows at a file's end
 abbrev pub counted : Format → Cursor → List ℕ
-counted format c = when format.names (name_text format c.name ++ name_end format colon) ++ decimal c.trail.kept ++ newline ∷ []
+counted format c =
+    when format.names (name_text format c.name ++ name_end format colon) ++ decimal c.trail.kept ++ newline ∷ []
 
 abbrev pub named : Format → Cursor → List ℕ
 named format c =

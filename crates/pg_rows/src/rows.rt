@@ -279,7 +279,8 @@ pub(crate) fn write_count<W: Sink, A: Allocator>(
     count: u64,
 ) -> Result<(), WriteError>
     ensures { WritesText
-        (when format.now.names (name_text format.now prefix.now ++ name_end format.now colon) ++ decimal count ++ newline ∷ [])
+        (when format.now.names (name_text format.now prefix.now ++ name_end format.now colon)
+        ++ decimal count ++ newline ∷ [])
         (W.stream out.old) (W.stream out.new) result }
 {
     let mut digits = Buffer::new();

@@ -311,7 +311,8 @@ module _ {A : Type 0} (s : Assembler A) (past : Past) (h : IsAfter s past) (a : 
 
         is : (found.query ≡ q.text) × (found.block ≡ slot_block r.slot)
         is =
-            let P : Option Searched → Type 0 = λ o. IfSome o (λ x. (x.query ≡ q.text) × (x.block ≡ slot_block r.slot)) in
+            let P : Option Searched → Type 0 =
+            λ o. IfSome o (λ x. (x.query ≡ q.text) × (x.block ≡ slot_block r.slot)) in
             subst P r.result result
 
         go : NextStep coming (is_over s a) → HasBlock found
@@ -370,7 +371,8 @@ module _ {A : Type 0} (s : Assembler A) (past : Past) (h : IsAfter s past) (a : 
               ∙ ap (λ x. length (lines (terminator q) x.bytes)) w.same)) i.progress;
           selected = list_any-append (block_selects q) (announced done) (w.block ∷ [])
               ∙ (ap (λ t. t || (block_selects q w.block || false)) i.selected
-              ∙ (ap (λ t. a.selected || t) (or_none (block_selects q w.block) ∙ sym (some_runs q w.block.bytes runs are))
+              ∙ (ap (λ t. a.selected || t)
+              (or_none (block_selects q w.block) ∙ sym (some_runs q w.block.bytes runs are))
               ∙ sym selected));
         }
       where

@@ -1,16 +1,16 @@
 -- How a sequencer stands after what happened to it.
 use Rattle.std.specs.Prelude.{◌≡◌, ℕ, ◌+◌, ◌*◌, ◌<◌, ◌==◌, Bool, true, false, not, ◌&&◌, ◌||◌, if◌then◌else◌}
-use Rattle.std.specs.Prelude.{Result, Ok}
-use Rattle.std.specs.Prelude.{Err}
+use Rattle.std.specs.Prelude.{Result, Ok, Err}
 use Rattle.std.specs.Prelude.{List, [], ◌∷◌, ◌++◌, map, length}
 use Rattle.std.specs.List.{AllByRecursion, list_any}
+use Rattle.std.specs.Result.{OnOk, OnErr}
 use Rattle.std.specs.Arc.{arc_value}
 use Rattle.pg_lines.specs.Search.{terminator, HasItsTrees}
 use Rattle.pg_rows.specs.Output.{HasRoom, is_bad, output}
 use Rattle.pg_rows.specs.Remembered.{IsAtCursor}
 use Rattle.pg_base.specs.Sink.{Stream, WritesAll, IsBeginning}
 use Rattle.pg_seq.specs.Plan.{Step, Opens, Announces, Ends, Misses, announced, IsPlan, MayFollow, is_open, entries_of}
-use Rattle.pg_seq.specs.History.{Past, plan, taken_of, is_taken, handed}
+use Rattle.pg_seq.specs.History.{Past, plan, planned, taken_of, is_taken, handed}
 use Rattle.pg_seq.specs.Cursor.{cursor_of}
 use Rattle.pg_seq.specs.Coming.{behind, openings}
 use Rattle.pg_seq.specs.Slots.{slot_block, has_result, slot_selects, IsResultOf}
@@ -68,6 +68,18 @@ pub record IsAfter {A : Type 0} (s : Assembler A) (past : Past) : Type 0 where
 abbrev pub IsReadyFor : {A : Type 0} → Assembler A → Past → Step → Type 0
 IsReadyFor s past step = IsAfter s past × MayFollow (terminator past.query) (plan past) step
 
+-- for some past it may
+abbrev pub MayPlan : {A : Type 0} → Assembler A → Step → Type 0
+MayPlan s step = (past : Past) × IsReadyFor s past step
+
+-- at Ok the step is planned behind each past after which it stood
+abbrev pub PlansAtOk : {A T E : Type 0} → (old new : Assembler A) → Step → Result T E → Type 0
+PlansAtOk old new step result = (past : Past) → IsAfter old past → OnOk result (IsAfter new (planned past step))
+
+-- at Err it stands after each past after which it stood
+abbrev pub StaysAtErr : {A T E : Type 0} → (old new : Assembler A) → Result T E → Type 0
+StaysAtErr old new result = (past : Past) → IsAfter old past → OnErr result (IsAfter new past)
+
 -- what a drain did that wrote a text
 abbrev pub Drained : Result (Unit {0}) SinkFault → Past → List ℕ → Type 0
 Drained (Ok u) past text = (past.failed ≡ false) × (past.written ++ text ≡ handed past)
@@ -80,6 +92,13 @@ fails (Err fault) = true
 
 abbrev pub drained : Past → List ℕ → Result (Unit {0}) SinkFault → Past
 drained past text result = record past { written = past.written ++ text; failed = past.failed || fails result }
+
+-- a drain did so, behind each past after which it stood
+abbrev pub Drains : {A : Type 0} → (old new : Assembler A) → (before after : Stream) → Result (Unit {0}) SinkFault
+    → Type 0
+Drains old new before after result = (past : Past) → IsAfter old past →
+    (text : List ℕ) × (after.taken ≡ before.taken ++ text) × Drained result past text
+    × IsAfter new (drained past text result)
 
 -- more was written
 abbrev pub wrote : Past → List ℕ → Past

@@ -76,7 +76,7 @@ impl<A: Allocator> Assembler<A> {
     ghost use Rattle.pg_seq.specs.Plan.{Opens, Announces, Ends, Misses, MayFollow};
     ghost use Rattle.pg_seq.specs.History.{Past, start, planned, arrived, plan, answer, IsComplete, status_of};
     ghost use Rattle.pg_rows.specs.Output.{HasRoom};
-    ghost use Rattle.pg_seq.specs.Standing.{IsAfter, IsReadyFor, Drained, drained, is_at_end, left};
+    ghost use Rattle.pg_seq.specs.Standing.{IsAfter, Drains, MayPlan, PlansAtOk, StaysAtErr, is_at_end, left};
     ghost use Rattle.pg_seq.specs.Standing.{Advances, BreaksOffInStep, HasNothingToDo, HasWrittenAll};
     ghost use Rattle.pg_rows.specs.Enough.{is_enough};
     ghost use Rattle.pg_seq.specs.Plan.{entries_of};
@@ -116,10 +116,9 @@ impl<A: Allocator> Assembler<A> {
     pub(crate) fn open(&mut self, name: &[u8]) -> Result<(), AllocError>
     where
         A: Copy,
-        requires { (past : Past) × IsReadyFor self.old past (Opens name.now) }
-        ensures ok { (past : Past) → IsAfter self.old past →
-            OnOk result (IsAfter self.new (planned past (Opens name.now))) }
-        ensures err { (past : Past) → IsAfter self.old past → OnErr result (IsAfter self.new past) }
+        requires { MayPlan self.old (Opens name.now) }
+        ensures ok { PlansAtOk self.old self.new (Opens name.now) result }
+        ensures err { StaysAtErr self.old self.new result }
     {
         let prefix = Prefix::new(self.alloc, name)?;
         self.waiting.reserve(1)?;
@@ -132,18 +131,18 @@ impl<A: Allocator> Assembler<A> {
 
     /// Announces the open file's next block. A refused request for memory is the only error, and changes nothing.
     pub(crate) fn announce(&mut self, block: Arc<Block<A>, A>) -> Result<(), AllocError>
-        requires { (past : Past) × IsReadyFor self.old past (Announces (arc_value block)) }
+        requires { MayPlan self.old (Announces (arc_value block)) }
         ensures ok { (past : Past) → IsAfter self.old past →
             MayFollow (terminator past.query) (plan past) (Announces (arc_value block)) →
             OnOk result (IsAfter self.new (planned past (Announces (arc_value block)))) }
-        ensures err { (past : Past) → IsAfter self.old past → OnErr result (IsAfter self.new past) }
+        ensures err { StaysAtErr self.old self.new result }
     {
         self.buffer.push(block)
     }
 
     /// Ends the open file.
     pub(crate) fn end(&mut self, failed: bool)
-        requires { (past : Past) × IsReadyFor self.old past (Ends failed) }
+        requires { MayPlan self.old (Ends failed) }
         ensures { (past : Past) → IsAfter self.old past → IsAfter self.new (planned past (Ends failed)) }
     {
         self.running = false;
@@ -152,10 +151,9 @@ impl<A: Allocator> Assembler<A> {
 
     /// Notes a name that could not be opened or listed.
     pub(crate) fn miss(&mut self, name: &[u8]) -> Result<(), AllocError>
-        requires { (past : Past) × IsReadyFor self.old past (Misses name.now) }
-        ensures ok { (past : Past) → IsAfter self.old past →
-            OnOk result (IsAfter self.new (planned past (Misses name.now))) }
-        ensures err { (past : Past) → IsAfter self.old past → OnErr result (IsAfter self.new past) }
+        requires { MayPlan self.old (Misses name.now) }
+        ensures ok { PlansAtOk self.old self.new (Misses name.now) result }
+        ensures err { StaysAtErr self.old self.new result }
     {
         let _ = name;
         self.bad = true;
@@ -201,9 +199,7 @@ impl<A: Allocator> Assembler<A> {
     /// Writes all that may be handed out and was not yet written.
     pub(crate) fn drain<W: Sink>(&mut self, out: &mut W) -> Result<(), SinkFault>
         requires { (past : Past) × IsAfter self.old past }
-        ensures drained { (past : Past) → IsAfter self.old past → (text : List ℕ)
-            × ((W.stream out.new).taken ≡ (W.stream out.old).taken ++ text)
-            × Drained result past text × IsAfter self.new (drained past text result) }
+        ensures drained { Drains self.old self.new (W.stream out.old) (W.stream out.new) result }
         ensures cause { IsErrOf result WriteFailed → (W.stream out.old).failures < (W.stream out.new).failures }
         ensures no_failure { OnOk result ((W.stream out.new).failures ≡ (W.stream out.old).failures) }
         ensures never_falls { (W.stream out.old).failures ≤ (W.stream out.new).failures }

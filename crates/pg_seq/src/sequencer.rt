@@ -46,7 +46,7 @@ impl<A: Allocator> Sequencer<A> {
     ghost use Rattle.pg_seq.specs.Plan.{Opens, Announces, Ends, Misses, MayFollow, entries_of};
     ghost use Rattle.pg_seq.specs.History.{Past, start, planned, arrived, plan, answer, front_of, IsComplete};
     ghost use Rattle.pg_seq.specs.History.{status_of};
-    ghost use Rattle.pg_seq.specs.Standing.{IsAfter, IsReadyFor, Drained, drained};
+    ghost use Rattle.pg_seq.specs.Standing.{IsAfter, Drains, MayPlan, PlansAtOk, StaysAtErr};
     ghost use Rattle.pg_seq.specs.declared.answers.Arrival.TheVariants.{Taken};
     ghost use Rattle.pg_seq.specs.declared.answers.SinkFault.TheVariants.{WriteFailed};
 
@@ -79,10 +79,9 @@ impl<A: Allocator> Sequencer<A> {
     pub fn open(&mut self, name: &[u8]) -> Result<(), AllocError>
     where
         A: Copy,
-        requires { (past : Past) × IsReadyFor self.old past (Opens name.now) }
-        ensures ok { (past : Past) → IsAfter self.old past →
-            OnOk result (IsAfter self.new (planned past (Opens name.now))) }
-        ensures err { (past : Past) → IsAfter self.old past → OnErr result (IsAfter self.new past) }
+        requires { MayPlan self.old (Opens name.now) }
+        ensures ok { PlansAtOk self.old self.new (Opens name.now) result }
+        ensures err { StaysAtErr self.old self.new result }
     {
         self.assembler.open(name)
     }
@@ -93,18 +92,18 @@ impl<A: Allocator> Sequencer<A> {
     /// empty; the blocks before it end in the terminator; its lines have at most 2^30 bytes, and the
     /// file at most 2^62. A refused request for memory is the only error, and changes nothing.
     pub fn announce(&mut self, block: Arc<Block<A>, A>) -> Result<(), AllocError>
-        requires { (past : Past) × IsReadyFor self.old past (Announces (arc_value block)) }
+        requires { MayPlan self.old (Announces (arc_value block)) }
         ensures ok { (past : Past) → IsAfter self.old past →
             MayFollow (terminator past.query) (plan past) (Announces (arc_value block)) →
             OnOk result (IsAfter self.new (planned past (Announces (arc_value block)))) }
-        ensures err { (past : Past) → IsAfter self.old past → OnErr result (IsAfter self.new past) }
+        ensures err { StaysAtErr self.old self.new result }
     {
         self.assembler.announce(block)
     }
 
     /// Ends the open file, whose reading has failed or has come to its end. It takes no memory.
     pub fn end(&mut self, failed: bool)
-        requires { (past : Past) × IsReadyFor self.old past (Ends failed) }
+        requires { MayPlan self.old (Ends failed) }
         ensures { (past : Past) → IsAfter self.old past → IsAfter self.new (planned past (Ends failed)) }
     {
         self.assembler.end(failed);
@@ -114,10 +113,9 @@ impl<A: Allocator> Sequencer<A> {
     ///
     /// A refused request for memory is the only error, and changes nothing.
     pub fn miss(&mut self, name: &[u8]) -> Result<(), AllocError>
-        requires { (past : Past) × IsReadyFor self.old past (Misses name.now) }
-        ensures ok { (past : Past) → IsAfter self.old past →
-            OnOk result (IsAfter self.new (planned past (Misses name.now))) }
-        ensures err { (past : Past) → IsAfter self.old past → OnErr result (IsAfter self.new past) }
+        requires { MayPlan self.old (Misses name.now) }
+        ensures ok { PlansAtOk self.old self.new (Misses name.now) result }
+        ensures err { StaysAtErr self.old self.new result }
     {
         self.assembler.miss(name)
     }
@@ -150,9 +148,7 @@ impl<A: Allocator> Sequencer<A> {
     /// a beginning of what was due was written. `Failed` where an earlier call answered
     /// `WriteFailed`; nothing is written.
     pub fn drain<W: Sink>(&mut self, out: &mut W) -> Result<(), SinkFault>
-        ensures drained { (past : Past) → IsAfter self.old past → (text : List ℕ)
-            × ((W.stream out.new).taken ≡ (W.stream out.old).taken ++ text)
-            × Drained result past text × IsAfter self.new (drained past text result) }
+        ensures drained { Drains self.old self.new (W.stream out.old) (W.stream out.new) result }
         ensures cause { IsErrOf result WriteFailed → (W.stream out.old).failures < (W.stream out.new).failures }
         ensures no_failure { OnOk result ((W.stream out.new).failures ≡ (W.stream out.old).failures) }
         ensures never_falls { (W.stream out.old).failures ≤ (W.stream out.new).failures }

@@ -23,7 +23,8 @@ returns-in-Found-clause-next g c =
     let line = line_of_first text.fold bytes c.args.self.now.searched.now at (strings_of set.strings) set.is_enough
     c.requires.needles.searched some E c.terminator-end.result rest c.in-Found.place c.begin_of_line.result
     c.end_of_line.result c.terminator-end.ensures (take_rest bytes at) (plain_end text text.fold)
-    c.requires.needles.literals.lines outcome.0 outcome.1 begin.low begin.clear begin.whole c.end_of_line.ensures.stops in
+    c.requires.needles.literals.lines outcome.0 outcome.1 begin.low begin.clear begin.whole
+    c.end_of_line.ensures.stops in
     (omega arith, line.1, line.2, line.0)
 
 pub returns-in-NotFound-clause-next : goal.returns-in-NotFound-clause-next
