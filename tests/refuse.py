@@ -136,14 +136,29 @@ def type_name(text):
     return re.sub(r"<.*", "", text.strip().lstrip("&")).split("::")[-1].strip()
 
 
+def split_arguments(text):
+    """The arguments of a type, as they stand between its outermost brackets."""
+    found, depth = [""], 0
+    for letter in text:
+        depth += {"<": 1, "(": 1, ">": -1, ")": -1}.get(letter, 0)
+        if letter == "," and depth == 0:
+            found.append("")
+        else:
+            found[-1] += letter
+    return [it.strip() for it in found if it.strip()]
+
+
 def impl_name(header):
-    """How a check names an impl: that of `Sink for Out` is `OutSink`, of `From<A> for B` it is `BFromA`."""
-    header = re.sub(r"^impl(<(?:[^<>]|<[^<>]*>)*>)?\s*", "", header).removesuffix("{").strip()
-    made, _, on = header.partition(" for ")
+    """How a check names an impl: that of `Sink for Out` is `OutSink`, of `From<A> for B` it is `BFromA`. What the impl
+    itself is generic in has no part in it."""
+    generics = re.match(r"impl(<(?:[^<>]|<[^<>]*>)*>)?\s*", header)
+    own = {re.split(r"[\s:]", it)[0] for it in split_arguments((generics[1] or "<>")[1:-1])}
+    made, _, on = header[generics.end() :].removesuffix("{").strip().partition(" for ")
     if not on:
         return type_name(made)
-    of = re.fullmatch(r"From<(.*)>", made.strip())
-    return type_name(on) + type_name(made) + (type_name(of[1]) if of else "")
+    of = re.fullmatch(r"[\w:]+<(.*)>", made.strip())
+    arguments = [it for it in split_arguments(of[1]) if it not in own] if of else []
+    return type_name(on) + type_name(made) + "".join(map(type_name, arguments))
 
 
 def functions_of(file, text):
@@ -318,9 +333,11 @@ class Message:
             return self.file == function.file and function.first <= self.line <= function.last
         folder = self.file.split("/")[1:-1]
         path = function.path().split("/")
-        # A cycle of calls is proved as one, in a folder with a `+`, where goals begin with a function's name.
+        # A cycle of calls is proved as one, in a folder with a `+`, where goals begin with a function's name. In that of
+        # a function that calls itself alone they don't.
         if any(it.startswith("+") for it in folder):
-            return folder[0] == path[0] and self.text.startswith(f"`{path[-1]}-")
+            alone = r"|returns|loop-|invariant_of" if f"+{path[-1]}" in folder else ""
+            return folder[0] == path[0] and bool(re.match(rf"`(?:{re.escape(path[-1])}-{alone})", self.text))
         # A closure has a folder below that of its function, in one named `fn`.
         if "fn" in folder:
             return [it for it in folder if it != "fn"][: len(path)] == path
