@@ -55,7 +55,7 @@ def proved(rt, folder, count):
                 ci.terminate()
     if ci.returncode:
         sys.stderr.write("".join(said))
-        sys.exit(f"pargrep: {PROGRAM} was not built; what went wrong stands above")
+        sys.exit("pargrep: it was not built; what went wrong stands above")
 
 
 def build(rt):
