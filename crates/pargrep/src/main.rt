@@ -3,8 +3,8 @@
 
 use pg_base::Out;
 use pg_command::{Call, Fault, report, run, words_of};
-use pg_files::{DiskStore, Listed};
-use pg_walk::DiskTree;
+use pg_files::Listed;
+use pg_prefetch::{PrefetchStore, PrefetchTree};
 use std::alloc::Global;
 use std::io::{BufWriter, IsTerminal};
 use std::process::ExitCode;
@@ -22,8 +22,8 @@ fn main(rt: HostRuntime) -> ExitCode {
         return ExitCode::from(report(alloc, Fault::OutOfMemory, &mut err));
     };
     let call = words_of(&rt).map(|words| Call { words, terminal });
-    let tree = DiskTree::new(&rt);
-    let mut files = Listed::new(alloc, &tree, DiskStore::new(&rt));
+    let tree = PrefetchTree::new(rt, alloc);
+    let mut files = Listed::new(alloc, &tree, PrefetchStore::new(rt, &tree));
     let mut out = Out::new(buffered);
     ExitCode::from(run(&rt, alloc, call, &tree, &mut files, &mut out, &mut err))
 }

@@ -10,7 +10,7 @@ use crate::search::{Told, answer};
 use crate::words::Call;
 use pg_base::{Out, Sink, write_all};
 use pg_files::{Listed, Store};
-use pg_walk::FileTree;
+use pg_walk::Prefetch;
 use pg_words::{HELP, Task, VERSION, Words, WordsFault, read_words};
 use std::alloc::Global;
 use std::io::Write;
@@ -28,7 +28,7 @@ use std::time::Clock;
 pub fn command<
     't,
     R: Threads + Wait + Clock + Sync,
-    T: FileTree,
+    T: Prefetch<Helper: Send + Sync> + Send + Sync,
     S: Store + Drop,
     W: Sink,
     E: Sink,
@@ -95,7 +95,14 @@ fn show<W: Sink, E: Sink>(alloc: Global, text: &str, out: &mut W, err: &mut E) -
 /// Runs the command over the words of a call, or tells why they can't be had. Nothing was asked of `files` yet. The
 /// answer is the exit status of the program: that of the command, or 2 where there are no words or what
 /// standard output held back can't be sent on, which is part of success.
-pub fn run<'t, R: Threads + Wait + Clock + Sync, T: FileTree, S: Store + Drop, W: Write, E: Sink>(
+pub fn run<
+    't,
+    R: Threads + Wait + Clock + Sync,
+    T: Prefetch<Helper: Send + Sync> + Send + Sync,
+    S: Store + Drop,
+    W: Write,
+    E: Sink,
+>(
     rt: &R,
     alloc: Global,
     call: Result<Call, Fault<'_>>,
@@ -121,7 +128,14 @@ pub fn run<'t, R: Threads + Wait + Clock + Sync, T: FileTree, S: Store + Drop, W
 
 /// Runs the command and sends on what standard output holds back. Nothing was asked of `files` yet. The
 /// answer is the exit status.
-fn run_call<'t, R: Threads + Wait + Clock + Sync, T: FileTree, S: Store + Drop, W: Write, E: Sink>(
+fn run_call<
+    't,
+    R: Threads + Wait + Clock + Sync,
+    T: Prefetch<Helper: Send + Sync> + Send + Sync,
+    S: Store + Drop,
+    W: Write,
+    E: Sink,
+>(
     rt: &R,
     alloc: Global,
     call: &Call,

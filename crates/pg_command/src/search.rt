@@ -15,16 +15,20 @@ use crate::scope::read_scope;
 use pg_base::Sink;
 use pg_files::{Listed, STANDARD_INPUT, Store};
 use pg_rows::{Format, Mode};
-use pg_run::{FreeGate, Setup, run};
-use pg_walk::FileTree;
+use pg_run::{FreeGate, Setup, has_room_for, run};
+use pg_walk::{Prefetch, start_helper};
 use pg_words::{Naming, Request};
 use std::alloc::{AllocError, Global};
 use std::sync::Wait;
+use std::thread;
 use std::thread::Threads;
 use std::time::Clock;
 
 /// The longest line that is searched, in bytes.
 const LONGEST_LINE: u32 = 1_073_741_824;
+
+/// More threads that look ahead were seen to gain nothing.
+const MOST_HELPERS: u32 = 3;
 
 /// A fault was told, and the status is 2.
 #[derive(Clone, Copy, Debug, PartialEq, Eq)]
@@ -44,7 +48,14 @@ pub struct Told;
 /// `Told` where a fault ended the search, whose lines went to `err`: that of the first -f file that can't be read, then
 /// that of the first file of globs, then that of the patterns, the first of them that has one, or of their size, and
 /// then those that end a run. `out` got a beginning of its output then.
-pub fn answer<'t, R: Threads + Wait + Clock + Sync, T: FileTree, S: Store + Drop, W: Sink, E: Sink>(
+pub fn answer<
+    't,
+    R: Threads + Wait + Clock + Sync,
+    T: Prefetch<Helper: Send + Sync> + Send + Sync,
+    S: Store + Drop,
+    W: Sink,
+    E: Sink,
+>(
     rt: &R,
     alloc: Global,
     request: &Request<'_>,
@@ -70,7 +81,15 @@ pub fn answer<'t, R: Threads + Wait + Clock + Sync, T: FileTree, S: Store + Drop
 
 /// Reads the files of patterns and those of globs, and searches the files that a walk over the operands gives. Nothing
 /// was asked of `files` yet.
-fn search<'a, 't, R: Threads + Wait + Clock + Sync, T: FileTree, S: Store + Drop, W: Sink, E: Sink>(
+fn search<
+    'a,
+    't,
+    R: Threads + Wait + Clock + Sync,
+    T: Prefetch<Helper: Send + Sync> + Send + Sync,
+    S: Store + Drop,
+    W: Sink,
+    E: Sink,
+>(
     rt: &R,
     alloc: Global,
     request: &Request<'a>,
@@ -91,13 +110,14 @@ fn search<'a, 't, R: Threads + Wait + Clock + Sync, T: FileTree, S: Store + Drop
     let lists = read_patterns(alloc, request.pattern_files.as_slice(), &mut files.store)?;
     let globs = read_globs(alloc, request.filters.as_slice(), &mut files.store)?;
     let text = text_of(alloc, request, lists)?;
-    let setup = list_files(alloc, request, globs.as_slice(), tree, files)?;
+    let setup = list_files(rt, alloc, request, globs.as_slice(), tree, files)?;
     Ok(run(rt, alloc, text, setup, files, out, err, &FreeGate)?)
 }
 
 /// Has a walk over the operands listed, and says how that is searched, where the files of globs have these contents. No
 /// directory is listed yet.
-fn list_files<'t, T: FileTree, S: Store + Drop>(
+fn list_files<'t, R: Threads, T: Prefetch<Helper: Send + Sync> + Send + Sync, S: Store + Drop>(
+    rt: &R,
     alloc: Global,
     request: &Request<'_>,
     globs: &[Vec<u8>],
@@ -116,10 +136,47 @@ fn list_files<'t, T: FileTree, S: Store + Drop>(
     let directory = is_directory(tree, request.files.as_slice())?;
     let operands = operands_of(alloc, request.files.as_slice())?;
     let scope = read_scope(alloc, request, globs)?;
+    prefetch(rt, alloc, request, globs, tree)?;
     let spares = spares_output(request.format.mode);
     let name = String::from_str(alloc, input_name(request))?;
     files.list(alloc, tree, operands.as_slice(), scope, spares, name)?;
     Ok(setup_of(request, directory))
+}
+
+/// How many threads may look ahead in the trees that a request asks for: none where blocks are searched one at a time.
+fn helpers_for<R: Threads>(rt: &R, request: &Request<'_>) -> u32 {
+    if !request.recursive || request.round == 1 {
+        return 0;
+    }
+    let others = match thread::available_parallelism(rt) {
+        Ok(count) => (count.get() - 1).min(MOST_HELPERS as usize) as u32,
+        Err(_) => 1,
+    };
+    others.min(request.workers)
+}
+
+/// Has other threads look ahead in the trees that a request asks for. Those that can't be made are done without.
+fn prefetch<R: Threads, T: Prefetch<Helper: Send + Sync> + Send + Sync>(
+    rt: &R,
+    alloc: Global,
+    request: &Request<'_>,
+    globs: &[Vec<u8>],
+    tree: &T,
+) -> Result<(), AllocError> {
+    let helpers = helpers_for(rt, request);
+    if helpers == 0 || !has_room_for(alloc, helpers) {
+        return Ok(());
+    }
+    tree.expect(read_scope(alloc, request, globs)?);
+    for _ in 0..helpers {
+        let Some(helper) = tree.helper() else {
+            break;
+        };
+        if !start_helper(rt, helper) {
+            break;
+        }
+    }
+    Ok(())
 }
 
 /// What standard input is called.

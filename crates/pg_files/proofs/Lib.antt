@@ -1,2 +1,3 @@
-pub mod ListedLemmas
 mod MemStoreLemmas
+pub mod ListedLemmas
+pub mod WholeFileLemmas

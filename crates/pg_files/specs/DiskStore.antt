@@ -1,9 +1,9 @@
 -- What a store of the system's files shows.
-use Rattle.std.specs.Prelude.{ℕ, nat_eq, List, Option, None, codes, if◌then◌else◌}
+use Rattle.std.specs.Prelude.{ℕ, nat_eq, List, Option, None, Some, codes, drop, if◌then◌else◌}
 use lib.Pointwise.{pointwise}
 use Rattle.pg_files.specs.Given.{Given}
 use Rattle.pg_files.specs.declared.disk_store.Source.{Source}
-use Rattle.pg_files.specs.declared.disk_store.Source.TheVariants.{Closed, Standard, Open}
+use Rattle.pg_files.specs.declared.disk_store.Source.TheVariants.{Closed, Standard, Open, Whole}
 
 -- what is read: nothing, standard input, or a file
 pub data Opened : Type 0 where
@@ -25,9 +25,11 @@ abbrev pub opened : {I F : Type 0} → Source I F → Opened
 opened Closed = Nothing
 opened (Standard input) = StandardInput
 opened (Open file) = AFile
+opened (Whole file given) = AFile
 
 -- what a source has left, by what its readers have left
 abbrev pub left_of : {I F : Type 0} → (I → Option (List ℕ)) → (F → Option (List ℕ)) → Source I F → Option (List ℕ)
 left_of of_input of_file Closed = None
 left_of of_input of_file (Standard input) = of_input input
 left_of of_input of_file (Open file) = of_file file
+left_of of_input of_file (Whole file given) = Some (drop given file.bytes.items)

@@ -7,6 +7,7 @@ ghost use Rattle.pg_files.specs.Store.{Opens};
 use crate::files::ReadFault;
 use crate::past::StorePast;
 use crate::store::{OpenFault, Store};
+use crate::whole_file::WholeFile;
 use pg_base::Cause;
 use pg_walk::Identity;
 use std::fs::{Metadata, OpenFile};
@@ -21,10 +22,12 @@ enum Source<I: Read + Drop, F: Read + OpenFile + Drop> {
     Closed,
     Standard(I),
     Open(F),
+    /// One that was read ahead, of whose bytes so many were given.
+    Whole(WholeFile, usize),
 }
 
 /// What tells a regular file from all others. Other things have none.
-fn regular_id(metadata: io::Result<Metadata>) -> Option<Identity> {
+pub(crate) fn regular_id(metadata: io::Result<Metadata>) -> Option<Identity> {
     let metadata = metadata.ok()?;
     if metadata.is_file() {
         Some(Identity {
@@ -61,7 +64,8 @@ impl<R: Files + Input + Drop> Model for DiskStore<R> {
 }
 
 impl<R: Files + Input + Drop> DiskStore<R> {
-    ghost use Rattle.pg_files.specs.DiskStore.{Nothing};
+    ghost use Rattle.std.specs.Prelude.{Some, OnErr};
+    ghost use Rattle.pg_files.specs.DiskStore.{Nothing, AFile};
     ghost use Rattle.pg_files.specs.Given.{NoFile};
     ghost use Rattle.pg_files.specs.declared.store.OpenFault.TheVariants.{Refused};
 
@@ -82,6 +86,31 @@ impl<R: Files + Input + Drop> DiskStore<R> {
     /// Whether this is the file that standard output goes to.
     fn is_output(&self, id: Option<Identity>) -> bool {
         self.output.is_some() && self.output == id
+    }
+
+    /// Makes a file that was opened and read ahead the one that `read` gives, as [`Store::open`] does.
+    ///
+    /// # Errors
+    ///
+    /// `Refused` where `spares_output` is true and this is the file that the output goes to. None is open then.
+    pub fn open_whole(
+        &mut self,
+        path: &str,
+        spares_output: bool,
+        file: WholeFile,
+    ) -> Result<(), OpenFault>
+        ensures opens { Opens spares_output path.now self.old.past self.new.past result }
+        ensures reads { OnOk result (self.new.reads ≡ AFile) }
+        ensures left { OnOk result (self.new.left ≡ Some file.bytes.items) }
+        ensures closed { OnErr result (self.new.reads ≡ Nothing) }
+    {
+        if spares_output && self.is_output(Some(file.id)) {
+            return Err(self.refuse(path, Cause::IsOutput));
+        }
+        self.waits = false;
+        self.source = Source::Whole(file, 0);
+        self.past.open(path);
+        Ok(())
     }
 
     /// Notes that a path gives no file. None is open then.
@@ -153,6 +182,7 @@ impl<R: Files + Input + Drop> Store for DiskStore<R> {
             }
             Source::Standard(input) => input.read(into),
             Source::Open(file) => file.read(into),
+            Source::Whole(file, given) => Ok(file.read(given, into)),
         };
         match read {
             Ok(0) => {

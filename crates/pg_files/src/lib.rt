@@ -11,6 +11,7 @@ mod listed;
 mod mem_store;
 mod past;
 mod store;
+mod whole_file;
 
 pub use disk_store::DiskStore;
 pub use files::{Files, ReadFault, Step};
@@ -18,3 +19,4 @@ pub use listed::{Listed, STANDARD_INPUT, Walked, shown_name};
 pub use mem_store::{Ending, MemFiles, MemStore};
 pub use past::StorePast;
 pub use store::{OpenFault, Store};
+pub use whole_file::WholeFile;

@@ -9,6 +9,7 @@ ghost use Rattle.pg_run.specs.Endless.{is_endless};
 
 use crate::fault::RunFault;
 use crate::pace::{Pace, time};
+use crate::room::has_room_for;
 use crate::setup::Setup;
 use pg_base::{Sink, WriteError};
 use pg_blocks::{Block, Cutter};
@@ -30,9 +31,6 @@ const RARE: usize = 2;
 
 /// So many bytes are held in reserve while blocks wait for their round.
 const RESERVE: usize = 524_288;
-
-/// What a thread may take of the address space: its stack, and the first part of a heap of its own.
-const THREAD_ROOM: usize = 75_497_472;
 
 /// So many files more than blocks may wait for their rows to be written.
 const MOST_EMPTY: usize = 1_024;
@@ -171,12 +169,6 @@ fn equip<A: Allocator + Copy>(
         }
     }
     Ok(())
-}
-
-/// Whether so many threads may take what a thread takes. The memory isn't touched, and given back at once.
-fn has_room_for<A: Allocator>(alloc: A, threads: u32) -> bool {
-    let room = (threads as usize).saturating_mul(THREAD_ROOM);
-    Vec::<u8, A>::with_capacity(alloc, room).is_ok()
 }
 
 /// The memory of a block, where nothing else holds it.

@@ -1,6 +1,6 @@
 //! What a walk is asked for.
 ghost use Rattle.std.specs.Prelude.{◌≡◌, IfOk, None, true, false, []};
-ghost use Rattle.pg_walk.specs.Scopes.{are_read, are_skipped, is_left_out, may_leave_out, scope_of, seen_as, sights};
+ghost use Rattle.pg_walk.specs.Scopes.{are_read, are_skipped, gives_regular_file, is_left_out, may_leave_out, scope_of, seen_as, sights};
 ghost use Rattle.pg_walk.specs.Scopes.{TellsSight};
 ghost use Rattle.pg_walk.specs.declared.scope.Devices.TheVariants.{ReadOperands};
 
@@ -107,6 +107,13 @@ impl<A: Allocator> Scope<A> {
             FileKind::Other => self.devices.are_skipped() || self.files.leaves_out(operand, path),
             FileKind::Regular | FileKind::Link => self.files.leaves_out(operand, path),
         }
+    }
+
+    /// Whether an entry of a kind gives a regular file at its path.
+    pub fn reads_entry(&self, path: &str, kind: FileKind) -> bool
+        ensures { result ≡ gives_regular_file (scope_of self.now) path.now kind }
+    {
+        kind == FileKind::Regular && !self.leaves_out(false, path, kind)
     }
 
     /// As what something of a kind is seen: a device that is read wherever it stands as a regular file.

@@ -26,7 +26,11 @@ use std::alloc::{AllocError, Allocator, Global};
 const DEEPEST: u32 = 256;
 
 /// The path of an entry of a directory.
-fn entry_path<A: Allocator>(alloc: A, directory: &str, name: &str) -> Result<String<A>, AllocError>
+pub fn entry_path<A: Allocator>(
+    alloc: A,
+    directory: &str,
+    name: &str,
+) -> Result<String<A>, AllocError>
     ensures { IfOk result (λ path. string_bytes path ≡ child directory.now name.now) }
 {
     let room = directory.len().saturating_add(name.len()).saturating_add(1);

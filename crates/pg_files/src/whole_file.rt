@@ -1,0 +1,85 @@
+//! Small files that are opened and read before their turn comes.
+ghost use Rattle.std.specs.Prelude.{◌≡◌, ◌≤◌, ◌<◌, ◌++◌, [], IfSome, drop, length, take};
+
+use crate::disk_store::regular_id;
+use pg_walk::Identity;
+use std::alloc::{Allocator, Global};
+use std::fs;
+use std::fs::OpenFile;
+use std::io::Read;
+use std::rt::Files;
+
+/// A longer file isn't read ahead, in bytes.
+const LONGEST: u64 = 32_768;
+
+/// A regular file that was opened, read to its end and closed again.
+pub struct WholeFile<A: Allocator = Global> {
+    /// Which file it is.
+    pub(crate) id: Identity,
+    /// All its bytes.
+    pub(crate) bytes: Vec<u8, A>,
+}
+
+impl<A: Allocator> Drop for WholeFile<A> {
+    fn drop(self) {
+        let WholeFile { id: _, bytes: _ } = self;
+    }
+}
+
+/// Reads a file to its end, in one read and one that finds the end, if it has at most so many bytes.
+fn read_whole<A: Allocator + Copy, F: Read>(
+    alloc: A,
+    file: &mut F,
+    most: usize,
+) -> Option<Vec<u8, A>>
+    ensures { IfSome result (λ bytes. IfSome (F.remaining file.old) (λ left. left ≡ bytes.items)) }
+{
+    let mut bytes = Vec::new(alloc);
+    bytes.resize(most.saturating_add(1), 0).ok()?;
+    let count = file.read(bytes.as_mut_slice()).ok()?;
+    if count > most {
+        return None;
+    }
+    let behind = file.read(&mut bytes.as_mut_slice()[count..]).ok()?;
+    if behind > 0 {
+        return None;
+    }
+    bytes.truncate(count);
+    Some(bytes)
+}
+
+impl<A: Allocator> WholeFile<A> {
+    /// Gives the next bytes, where so many were given. It gives none at the end, or where there is no room.
+    pub(crate) fn read(&self, given: &mut usize, into: &mut [u8]) -> usize
+        ensures consumes { drop given.old self.now.bytes.items
+            ≡ take result into.new ++ drop given.new self.now.bytes.items }
+        ensures end { result ≡ 0 → 0 < length into.old → drop given.new self.now.bytes.items ≡ [] }
+        ensures size { (length into.new ≡ length into.old) × (result ≤ length into.old) }
+    {
+        let bytes = self.bytes.as_slice();
+        if *given >= bytes.len() {
+            return 0;
+        }
+        let left = &bytes[*given..];
+        let count = left.len().min(into.len());
+        into[..count].copy_from_slice(&left[..count]);
+        *given += count;
+        count
+    }
+}
+
+impl<A: Allocator + Copy> WholeFile<A> {
+    /// The file that the system opens for a path, if it is a regular one of at most 32 KiB that can be read now, and
+    /// there is memory for it.
+    pub fn open<R: Files>(rt: &R, alloc: A, path: &str) -> Option<WholeFile<A>> {
+        let mut file = fs::open(rt, path).ok()?;
+        let metadata = file.metadata();
+        let len = metadata.as_ref().ok()?.len();
+        let id = regular_id(metadata)?;
+        if len > LONGEST {
+            return None;
+        }
+        let bytes = read_whole(alloc, &mut file, len as usize)?;
+        Some(WholeFile { id, bytes })
+    }
+}

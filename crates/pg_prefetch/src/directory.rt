@@ -1,0 +1,209 @@
+//! A directory whose entries are looked at before their turn comes.
+
+use crate::found::Found;
+use crate::names::Names;
+use pg_walk::{Scope, entry_path};
+use std::alloc::{AllocError, Global};
+use std::rt::Files;
+use std::sync::atomic::{AtomicUsize, Ordering};
+use std::sync::{Mutex, Wait};
+
+/// At most so many entries are looked at from the one whose turn it is on.
+pub(crate) const WINDOW: usize = 64;
+
+/// A thread wakes for no fewer entries.
+const WORTH_WAKING: usize = 8;
+
+/// So many bytes, between what different threads write, keep them from sharing a line of the processor's cache.
+const LINE: usize = 64;
+
+/// Room for what was found out about an entry.
+struct Slot {
+    /// One more than the entry that it holds, or 0.
+    holds: AtomicUsize,
+    found: Mutex<Option<Found>>,
+}
+
+impl Drop for Slot {
+    fn drop(self) {
+        let Slot { holds: _, found: _ } = self;
+    }
+}
+
+impl Slot {
+    fn new() -> Slot {
+        Slot {
+            holds: AtomicUsize::new(0),
+            found: Mutex::new(None),
+        }
+    }
+
+    fn put<R: Wait>(&self, rt: &R, entry: usize, found: Option<Found>) {
+        let mut guard = self.found.lock(rt);
+        *guard = found;
+        self.holds.store(entry.saturating_add(1), Ordering::SeqCst);
+    }
+
+    /// What was found out about an entry, if that is what it holds.
+    fn take<R: Wait>(&self, rt: &R, entry: usize) -> Option<Option<Found>> {
+        if self.holds.load(Ordering::SeqCst) != entry.saturating_add(1) {
+            return None;
+        }
+        let mut guard = self.found.lock(rt);
+        if self.holds.load(Ordering::SeqCst) == entry.saturating_add(1) {
+            Some(guard.take())
+        } else {
+            None
+        }
+    }
+}
+
+/// A directory that a walk is inside of, with its entries in the order in which they are asked for.
+pub(crate) struct Directory {
+    path: String,
+    names: Names,
+    /// The entry whose turn it is.
+    turn: AtomicUsize,
+    between: [u8; LINE],
+    /// The first entry that no thread has begun to look at.
+    next: AtomicUsize,
+    /// What was found out about entry k stands in slot k modulo their number.
+    slots: Vec<Slot>,
+}
+
+impl Drop for Directory {
+    fn drop(self) {
+        let Directory {
+            path: _,
+            names: _,
+            turn: _,
+            between: _,
+            next: _,
+            slots: _,
+        } = self;
+    }
+}
+
+impl Directory {
+    /// A directory with these entries, of which at most so many are looked at ahead, and none was yet.
+    pub(crate) fn new(
+        alloc: Global,
+        path: &str,
+        names: Names,
+        window: usize,
+    ) -> Result<Directory, AllocError> {
+        let mut slots = Vec::new(alloc);
+        for _ in 0..names.len().min(window) {
+            slots.push(Slot::new())?;
+        }
+        Ok(Directory {
+            path: String::from_str(alloc, path)?,
+            names,
+            turn: AtomicUsize::new(0),
+            between: [0; LINE],
+            next: AtomicUsize::new(0),
+            slots,
+        })
+    }
+
+    /// The entry whose turn it is.
+    pub(crate) fn turn(&self) -> usize {
+        self.turn.load(Ordering::SeqCst)
+    }
+
+    /// Whether all entries had their turn.
+    pub(crate) fn is_over(&self) -> bool {
+        self.turn() >= self.names.len()
+    }
+
+    /// Whether this is the path of an entry.
+    pub(crate) fn is_path_of(&self, entry: usize, path: &str) -> bool {
+        let Some(name) = self.names.get(entry) else {
+            return false;
+        };
+        let Some(below) = path.as_bytes().strip_prefix(self.path.as_bytes()) else {
+            return false;
+        };
+        below.strip_prefix(b"/").unwrap_or(below) == name.as_bytes()
+    }
+
+    /// The turn of the next entry comes.
+    pub(crate) fn go_on(&self) {
+        self.turn.fetch_add(1, Ordering::SeqCst);
+    }
+
+    /// Whether it is worth it that a sleeping thread looks at entries: few of those that may be looked at ahead were, and
+    /// so many are left that it wakes in time.
+    pub(crate) fn is_worth_waking(&self) -> bool {
+        let next = self.next.load(Ordering::SeqCst);
+        let has_time = next.saturating_add(WORTH_WAKING) <= self.names.len();
+        has_time && next < self.turn().saturating_add(self.slots.len() / 2)
+    }
+
+    /// Takes it on to look at an entry, which no other thread does then. It fails where one does already.
+    pub(crate) fn claim(&self, entry: usize) -> bool {
+        let next = entry.saturating_add(1);
+        self.next
+            .compare_exchange(entry, next, Ordering::SeqCst, Ordering::SeqCst)
+            .is_ok()
+    }
+
+    /// The next entry that may be looked at, if there is one.
+    fn next_entry(&self) -> Option<usize> {
+        let next = self.next.load(Ordering::SeqCst);
+        let end = self.turn().saturating_add(self.slots.len());
+        if next < self.names.len().min(end) {
+            Some(next)
+        } else {
+            None
+        }
+    }
+
+    /// Looks at the next entry that may be looked at. The answer is whether there was one.
+    pub(crate) fn prefetch_next<R: Files + Wait + Copy + Drop>(
+        &self,
+        rt: R,
+        alloc: Global,
+        scope: &Scope,
+    ) -> bool {
+        let Some(entry) = self.next_entry() else {
+            return false;
+        };
+        if self.claim(entry) {
+            let found = self.look_at(rt, alloc, scope, entry);
+            self.put(&rt, entry, found);
+        }
+        true
+    }
+
+    fn look_at<R: Files + Drop>(
+        &self,
+        rt: R,
+        alloc: Global,
+        scope: &Scope,
+        entry: usize,
+    ) -> Option<Found> {
+        let path = entry_path(alloc, self.path.as_str(), self.names.get(entry)?).ok()?;
+        Found::at(rt, alloc, scope, path.as_str())
+    }
+
+    fn slot(&self, entry: usize) -> Option<&Slot> {
+        let number = entry.checked_rem(self.slots.len())?;
+        self.slots.get(number)
+    }
+
+    /// Keeps what was found out about an entry, unless its turn is over.
+    fn put<R: Wait>(&self, rt: &R, entry: usize, found: Option<Found>) {
+        if entry < self.turn() {
+            return;
+        }
+        if let Some(slot) = self.slot(entry) {
+            slot.put(rt, entry, found);
+        }
+    }
+
+    /// What was found out about an entry, once a thread has looked at it.
+    pub(crate) fn take<R: Wait>(&self, rt: &R, entry: usize) -> Option<Option<Found>> {
+        self.slot(entry)?.take(rt, entry)
+    }
+}

@@ -1,0 +1,194 @@
+//! What the thread that asks knows of the entries that are looked at ahead.
+
+use crate::directory::{Directory, WINDOW};
+use crate::found::{Content, Found};
+use crate::helper::PrefetchHelper;
+use crate::names::Names;
+use crate::shared::Shared;
+use pg_files::WholeFile;
+use pg_walk::{FileKind, Scope};
+use std::alloc::{AllocError, Global};
+use std::mem;
+use std::rt::Files;
+use std::sync::{Arc, Wait};
+
+/// Entries further down are not looked at ahead, for each level holds up to a window of files.
+const DEEPEST: usize = 16;
+
+/// So often it is asked whether another thread is done with an entry, which takes some 10 microseconds.
+const PATIENCE: u32 = 10_000;
+
+/// For a directory of no fewer entries all threads wake.
+const WORTH_WAKING_ALL: usize = 32;
+
+/// The directories that a walk is inside of, and what was found ahead.
+pub(crate) struct Prefetcher {
+    pub(crate) alloc: Global,
+    /// What is shared with the threads that look ahead, where a walk is expected.
+    shared: Option<Arc<Shared>>,
+    /// From the operand down.
+    directories: Vec<Arc<Directory>>,
+    /// What was read of the last entry that was found, until it is asked for.
+    content: Content,
+}
+
+impl Drop for Prefetcher {
+    fn drop(self) {
+        let Prefetcher {
+            alloc: _,
+            shared: _,
+            directories: _,
+            content: _,
+        } = self;
+    }
+}
+
+impl Prefetcher {
+    /// Nothing is looked at.
+    pub(crate) fn new(alloc: Global) -> Prefetcher {
+        Prefetcher {
+            alloc,
+            shared: None,
+            directories: Vec::new(alloc),
+            content: Content::Unread,
+        }
+    }
+
+    /// A walk follows that is asked for this.
+    pub(crate) fn expect(&mut self, scope: Scope) {
+        self.directories = Vec::new(self.alloc);
+        self.shared = Arc::new(self.alloc, Shared::new(scope)).ok();
+    }
+
+    /// Whether a walk is expected.
+    pub(crate) fn expects_walk(&self) -> bool {
+        self.shared.is_some()
+    }
+
+    /// A helper for the expected walk, whose threads reach the system by `rt`.
+    pub(crate) fn helper<R>(&self, rt: R) -> Option<PrefetchHelper<R>>
+    where
+        R: Files + Wait + Copy + Drop,
+    {
+        let shared = Arc::try_clone(self.shared.as_ref()?).ok()?;
+        Some(PrefetchHelper::new(rt, self.alloc, shared))
+    }
+
+    /// The entries of a directory, in the order in which they will be asked for, are looked at from now on.
+    ///
+    /// # Errors
+    ///
+    /// `AllocError` where a request for memory was refused. They aren't looked at then.
+    pub(crate) fn enter<R: Wait>(
+        &mut self,
+        rt: &R,
+        path: &str,
+        names: Names,
+    ) -> Result<(), AllocError> {
+        let Some(shared) = &self.shared else {
+            return Ok(());
+        };
+        let window = if self.directories.len() < DEEPEST {
+            WINDOW
+        } else {
+            0
+        };
+        let is_large = names.len() >= WORTH_WAKING_ALL;
+        let directory = Arc::new(self.alloc, Directory::new(self.alloc, path, names, window)?)?;
+        self.directories.push(Arc::try_clone(&directory)?)?;
+        let is_worth_waking = directory.is_worth_waking();
+        shared.look_into(rt, Some(directory));
+        if is_worth_waking {
+            shared.wake(is_large);
+        }
+        Ok(())
+    }
+
+    /// Leaves the directories whose entries all had their turn.
+    fn leave<R: Wait>(&mut self, rt: &R) {
+        let mut left = false;
+        for _ in 0..self.directories.len() {
+            if !self.directories.last().is_some_and(|it| it.is_over()) {
+                break;
+            }
+            self.directories.pop();
+            left = true;
+        }
+        if left {
+            self.look_into_last(rt);
+        }
+    }
+
+    fn look_into_last<R: Wait>(&self, rt: &R) {
+        if let Some(shared) = &self.shared {
+            let directory = self
+                .directories
+                .last()
+                .and_then(|it| Arc::try_clone(it).ok());
+            shared.look_into(rt, directory);
+        }
+    }
+
+    /// What stands at a path, if it is an entry that was looked at ahead. What was read of it is kept.
+    pub(crate) fn find<R: Wait>(&mut self, rt: &R, path: &str) -> Option<FileKind> {
+        self.leave(rt);
+        self.content = Content::Unread;
+        let directory = self.directories.last()?;
+        let entry = directory.turn();
+        if !directory.is_path_of(entry, path) {
+            return None;
+        }
+        let found = wait_for(rt, directory, entry);
+        directory.go_on();
+        if directory.is_worth_waking() {
+            if let Some(shared) = &self.shared {
+                shared.wake(false);
+            }
+        }
+        let (kind, content) = found?.into_parts();
+        self.content = content;
+        Some(kind)
+    }
+
+    /// What was read at a path, if it is that of the last entry that was found.
+    fn take_content(&mut self, path: &str) -> Option<Content> {
+        let content = mem::replace(&mut self.content, Content::Unread);
+        let directory = self.directories.last()?;
+        let entry = directory.turn().checked_sub(1)?;
+        if directory.is_path_of(entry, path) {
+            Some(content)
+        } else {
+            None
+        }
+    }
+
+    /// The file at a path, if it was read ahead.
+    pub(crate) fn take_file(&mut self, path: &str) -> Option<WholeFile> {
+        match self.take_content(path)? {
+            Content::File(file) => Some(file),
+            Content::Unread | Content::Directory(_) => None,
+        }
+    }
+
+    /// The names in the directory at a path, if it was listed ahead.
+    pub(crate) fn take_names(&mut self, path: &str) -> Option<Names> {
+        match self.take_content(path)? {
+            Content::Directory(names) => Some(names),
+            Content::Unread | Content::File(_) => None,
+        }
+    }
+}
+
+/// What another thread has found out about an entry whose turn has come. It is waited for only as long as that thread
+/// is at it, and not for long.
+fn wait_for<R: Wait>(rt: &R, directory: &Directory, entry: usize) -> Option<Found> {
+    if directory.claim(entry) {
+        return None;
+    }
+    for _ in 0..PATIENCE {
+        if let Some(found) = directory.take(rt, entry) {
+            return found;
+        }
+    }
+    None
+}
