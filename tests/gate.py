@@ -1,7 +1,7 @@
 #!/usr/bin/env python3
 """The gate: has the toolchain prove all from nothing and run the tests, and each wrong body tried; then compares the
-options, the wrong bodies and the crates with the documents that list them, runs the rows, the runs by threads, those
-without memory and those over an input that stays open, and looks up the wrong bodies that it doesn't try. It closes
+options, the wrong bodies and the crates with the documents that list them, runs the rows, the runs by threads, over
+trees, without memory and over an input that stays open, and looks up the wrong bodies that it doesn't try. It closes
 with 'N passed, M failed' over all.
 
 Usage: tests/gate.py [RT]
@@ -34,6 +34,7 @@ SCRIPTS = (
     ("the map of crates", "crate_map.py"),
     ("the rows", "run_rows.py"),
     ("the runs by threads", "threads.py"),
+    ("the runs over trees", "trees.py"),
     ("the runs without memory", "memory.py"),
     ("the runs over an open input", "live.py"),
 )

@@ -1,12 +1,12 @@
 #!/usr/bin/env python3
 """Refuses the program each request for memory in turn: `tests/memory.py [--program PATH]`
 
-A small library (tests/refuse_memory.c) is built with `cc` and loaded into the program. For each command line of ALONE
-and SPREAD the first request is refused, then the second, and so on until a run makes no more of them, while the words
-are read too; and once more with all requests from that one on. Whatever is refused, the program has to end by itself
-with what it gives otherwise, or with the line `pargrep: out of memory` behind a beginning of it, and status 2. Where
-threads search, the first is also not started, then the second, and so on, and nothing may change. The last line is
-`N passed, M failed`; where there is no `cc` it passes, and a line says so.
+A small library (tests/refuse_memory.c) is built with `cc` and loaded into the program. For each command line of ALONE,
+SPREAD and AHEAD the first request is refused, then the second, and so on until a run makes no more of them, while the
+words are read too; and once more with all requests from that one on. Whatever is refused, the program has to end by
+itself with what it gives otherwise, or with the line `pargrep: out of memory` behind a beginning of it, and status 2.
+Where threads search or read ahead, the first is also not started, then the second, and so on, and nothing may change.
+The last line is `N passed, M failed`; where there is no `cc` it passes, and a line says so.
 """
 
 import os
@@ -39,14 +39,14 @@ ALONE = """\
 -h -n -B 1 -A 2 -F x row words
 -E (a row
 -e ok -e 'a\\{' row
--r -n x tree
--r -l x tree missing row
--r -c x sparse
--r -L x sparse missing empty
--r --include=[af] --exclude-dir=c/ x tree row
--r --exclude=*[!o]w --inc row -n -T -A 1 --no-group-sep x tree row
--r -n --exclude-from=patterns --exclude-from missing x tree row
--r -n --exclude-from=patterns -D skip x tree row
+--round 1 -r -n x tree
+--round 1 -r -l x tree missing row
+--round 1 -r -c x sparse
+--round 1 -r -L x sparse missing empty
+--round 1 -r --include=[af] --exclude-dir=c/ x tree row
+--round 1 -r --exclude=*[!o]w --inc row -n -T -A 1 --no-group-sep x tree row
+--round 1 -r -n --exclude-from=patterns --exclude-from missing x tree row
+--round 1 -r -n --exclude-from=patterns -D skip x tree row
 -d skip -c --label=in x tree - row
 -e x -e a -e e row words
 -i -F WATER words
@@ -59,7 +59,7 @@ ALONE = """\
 --color=always -c x row words
 -b -n -C 1 --group-separator=++ x row words
 -b -o -H -E WAT|FI|t words
--R -n x tree row
+--round 1 -R -n x tree row
 -F -f list -c words row
 -F -i -f list -o words
 -w -x -z -c x row
@@ -81,10 +81,19 @@ SPREAD = """\
 --always-spread --workers 2 --block 1 --round 3 -n -C 1 x row
 --always-spread --workers 3 --block 1 --round 4 -o -n -E [wf][a-z]+ words row
 --always-spread --workers 2 --block 1 --round 2 -v -n x row words
---always-spread --workers 2 --block 1 --round 2 -r -c x tree row
---always-spread --workers 2 --block 1 --round 2 -r -c x sparse
 --always-spread --workers 2 --block 1 --round 2 --color=always -n -C 1 -E [wf][a-z]+ words row
 --always-spread --workers 2 --block 1 --round 2 -b -C 1 --group-separator= -E [wf][a-z]+ words row
+"""
+
+# Threads read ahead. How many requests are made hangs on which of them comes first to an entry.
+AHEAD = """\
+-r -n x tree
+-r -l x tree missing row
+-r -L x sparse missing empty
+-r --include=[af] --exclude-dir=c/ x tree row
+-R -n x tree row
+--always-spread --workers 2 --block 1 --round 2 -r -c x tree row
+--always-spread --workers 2 --block 1 --round 2 -r -c x sparse
 """
 
 
@@ -170,26 +179,26 @@ def tell(line, key, number, found):
     print(f"{line}: {key}={number}: {texts}", flush=True)
 
 
-def refused(runs, line, key, whole):
+def refused(runs, line, key, whole, varies):
     """The faults of a line whose requests are refused in turn, and how often the answer was that there is no memory.
-    A run in which nothing was refused shows nothing."""
+    A run in which nothing was refused shows nothing, and is a fault unless their number varies."""
     faults, told, most = 0, 0, max(whole.asked[0], 1)
     with ThreadPoolExecutor(os.cpu_count()) as pool:
         for number, found in enumerate(pool.map(lambda at: runs.run(line, key, at), range(1, most + 1)), 1):
             told += found.error.endswith(OUT_OF_MEMORY)
-            if not found.was_refused() or not is_right(found, whole):
+            if not (varies or found.was_refused()) or not is_right(found, whole):
                 faults += 1
                 tell(line, key, number, found)
     return faults, told
 
 
-def unthreaded(runs, line, whole):
+def unthreaded(runs, line, whole, varies):
     """The faults of a line whose threads aren't started in turn."""
     faults = 0
     for number in range(1, whole.asked[1] + 1):
         found = runs.run(line, "REFUSE_THREAD", number)
         is_same = (found.status, found.output, found.error) == (whole.status, whole.output, whole.error)
-        if not found.was_refused() or not is_same:
+        if not (varies or found.was_refused()) or not is_same:
             faults += 1
             tell(line, "REFUSE_THREAD", number, found)
     return faults
@@ -202,18 +211,18 @@ def is_usable(whole, is_threaded):
     return 0 < whole.asked[0] <= MOST and is_threaded == (whole.asked[1] > 0)
 
 
-def check(runs, line, is_threaded):
-    """Whether a line has no fault."""
+def check(runs, line, is_threaded, varies):
+    """Whether a line has no fault. `varies` says that so does the number of its requests."""
     whole = runs.whole(line)
     if not is_usable(whole, is_threaded):
         tell(line, "nothing refused", 0, whole)
         return False
-    once, told = refused(runs, line, "REFUSE_REQUEST", whole)
-    lasting, told_lasting = refused(runs, line, "REFUSE_REQUESTS_FROM", whole)
+    once, told = refused(runs, line, "REFUSE_REQUEST", whole, varies)
+    lasting, told_lasting = refused(runs, line, "REFUSE_REQUESTS_FROM", whole, varies)
     are_told = told > 0 and told_lasting > 0
     if not are_told:
         print(f"{line}: of {whole.asked[0]} refused requests none was told", flush=True)
-    return once + lasting + unthreaded(runs, line, whole) == 0 and are_told
+    return once + lasting + unthreaded(runs, line, whole, varies) == 0 and are_told
 
 
 def build(folder):
@@ -244,8 +253,9 @@ def main():
             print("memory: the library that refuses requests can't be built\n0 passed, 1 failed")
             return 1
         runs = Runs(program, library, folder, reports)
-        lines = [*((line, False) for line in ALONE.splitlines()), *((line, True) for line in SPREAD.splitlines())]
-        passed = sum(check(runs, line, is_threaded) for line, is_threaded in lines)
+        kinds = ((ALONE, False, False), (SPREAD, True, False), (AHEAD, True, True))
+        lines = [(line, *kind) for text, *kind in kinds for line in text.splitlines()]
+        passed = sum(check(runs, line, is_threaded, varies) for line, is_threaded, varies in lines)
     print(f"{passed} passed, {len(lines) - passed} failed")
     return 0 if passed == len(lines) else 1
 

@@ -147,9 +147,9 @@ class Watch:
         return self.most
 
 
-def answer(command, folder, is_watched=False):
+def answer(command, folder, is_watched=False, output=subprocess.PIPE):
     """The status, standard output and standard error of a command, and how many threads were seen at once."""
-    streams = {"stdin": subprocess.DEVNULL, "stdout": subprocess.PIPE, "stderr": subprocess.PIPE}
+    streams = {"stdin": subprocess.DEVNULL, "stdout": output, "stderr": subprocess.PIPE}
     with subprocess.Popen(command, cwd=folder, env=ENVIRONMENT, **streams) as run:
         watch = Watch(run) if is_watched else None
         try:
