@@ -1,14 +1,17 @@
 #!/usr/bin/env python3
-"""Times pargrep beside GNU grep and ripgrep: bench/bench.py PROGRAM [--megabytes N] [--rounds N] [--only WORD]
+"""Times pargrep beside GNU grep and ripgrep:
+    bench/bench.py PROGRAM [--megabytes N] [--rounds N] [--only WORD] [--busy]
 
 Each program searches the same text in turn, so many rounds, and of each the least wall time counts, and the processor
 time of that run. What pargrep writes has to be what GNU grep writes, byte for byte (in a tree, in the order of lines).
 `one` is pargrep by one thread (`--round 1`, by which each block is searched where it was read), `four` by at most four
 beside the one that reads; ripgrep (`rg`) runs by one thread and by four. Times are in milliseconds, and the last column
-is pargrep's to GNU grep's, by one thread and by four. Nothing of this is in the gate.
+is pargrep's to GNU grep's, by one thread and by four. With --busy each processor also runs an endless loop meanwhile.
+Nothing of this is in the gate.
 """
 
 import argparse
+import contextlib
 import math
 import os
 import shutil
@@ -243,6 +246,18 @@ class Bench:
         return least
 
 
+@contextlib.contextmanager
+def busy_processors(count):
+    """So many endless loops run as long as this is open."""
+    loops = [subprocess.Popen([sys.executable, "-c", "while True: pass"]) for _ in range(count)]
+    try:
+        yield
+    finally:
+        for loop in loops:
+            loop.kill()
+            loop.wait()
+
+
 def load():
     return Path("/proc/loadavg").read_text().split()[0]
 
@@ -265,6 +280,7 @@ def main():
     parser.add_argument("--megabytes", type=int, default=128, help="how long the text of common words is")
     parser.add_argument("--rounds", type=int, default=5)
     parser.add_argument("--only", help="the cases in whose line this stands")
+    parser.add_argument("--busy", action="store_true", help="run an endless loop on each processor meanwhile")
     given = parser.parse_args()
     program = str(Path(given.program).resolve())
     ratios = {"one": [], "four": []}
@@ -272,7 +288,8 @@ def main():
     print("brackets processor time where it is more.\n")
     print("| Search | GNU grep | rg, one | rg, four | one | four | ratio |")
     print("|---|---|---|---|---|---|---|")
-    with tempfile.TemporaryDirectory(prefix="pargrep-bench-") as room:
+    loops = os.cpu_count() if given.busy else 0
+    with tempfile.TemporaryDirectory(prefix="pargrep-bench-") as room, busy_processors(loops):
         bench = Bench(program, Path(room), given.rounds)
         for case in cases(Path(room), given.megabytes):
             if given.only and given.only not in case.label():
