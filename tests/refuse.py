@@ -333,8 +333,8 @@ class Message:
             return self.file == function.file and function.first <= self.line <= function.last
         folder = self.file.split("/")[1:-1]
         path = function.path().split("/")
-        # A cycle of calls is proved as one, in a folder with a `+`, where goals begin with a function's name. In that of
-        # a function that calls itself alone they don't.
+        # A cycle of calls is proved as one, in a folder with a `+`, where goals begin with a function's name. In that
+        # of a function that calls itself alone they don't.
         if any(it.startswith("+") for it in folder):
             alone = r"|returns|loop-|invariant_of" if f"+{path[-1]}" in folder else ""
             return folder[0] == path[0] and bool(re.match(rf"`(?:{re.escape(path[-1])}-{alone})", self.text))

@@ -10,7 +10,6 @@ seen for the lines of SPREAD, and for those of ALONE the first one and no other.
 one either. The last line is `N passed, M failed`.
 """
 
-import argparse
 import os
 import random
 import shlex
@@ -22,7 +21,8 @@ import threading
 from pathlib import Path
 from string import ascii_lowercase
 
-PROGRAM = Path(__file__).resolve().parent.parent / "crates/pargrep/out/pargrep"
+import built
+
 ENVIRONMENT = {"LC_ALL": "C", "PATH": os.environ.get("PATH", os.defpath)}
 SEED = 1
 
@@ -202,33 +202,43 @@ def faults_of(program, words, folder, is_spread):
     return faults
 
 
-def program_faults(program):
-    if not os.access(program, os.X_OK):
-        return f"there is no program at {program}; make builds it"
-    if not shutil.which("grep"):
-        return "there is no grep to compare with"
-    return "there is no /proc to count threads in" if not os.path.isdir("/proc/self/task") else None
+def watched_program(description):
+    """The program, where there is a grep to compare it with and a /proc to count its threads in; else None, with a line
+    that counts as a failure."""
+    program = built.program(description)
+    fault = None if shutil.which("grep") else "there is no grep to compare with"
+    if not os.path.isdir("/proc/self/task"):
+        fault = "there is no /proc to count threads in"
+    if program and fault:
+        print(f"{fault}\n0 passed, 1 failed")
+    return None if fault else program
+
+
+def tell(faults_by_case):
+    """Prints the faults of each case and how many cases have none; the answer is the status."""
+    passed, failed = 0, 0
+    for case, faults in faults_by_case:
+        passed, failed = passed + (not faults), failed + bool(faults)
+        for fault in faults:
+            print(f"{case}: {fault}", flush=True)
+    print(f"{passed} passed, {failed} failed")
+    return 1 if failed else 0
+
+
+def cases(program, folder):
+    """Each line, and its faults."""
+    for lines, is_spread in ((ALONE, False), (EITHER, None), (SPREAD, True)):
+        for line in lines.splitlines():
+            yield line, faults_of(program, shlex.split(line), folder, is_spread)
 
 
 def main():
-    parser = argparse.ArgumentParser(description="Compares what the program writes by several threads.")
-    parser.add_argument("--program", default=PROGRAM)
-    program = str(Path(parser.parse_args().program).resolve())
-    fault = program_faults(program)
-    if fault:
-        print(f"{fault}\n0 passed, 1 failed")
+    program = watched_program("Compares what the program writes by several threads.")
+    if program is None:
         return 1
-    passed, failed = 0, 0
     with tempfile.TemporaryDirectory(prefix="pargrep-threads-") as folder:
         make(Path(folder))
-        for lines, is_spread in ((ALONE, False), (EITHER, None), (SPREAD, True)):
-            for line in lines.splitlines():
-                faults = faults_of(program, shlex.split(line), folder, is_spread)
-                passed, failed = passed + (not faults), failed + bool(faults)
-                for fault in faults:
-                    print(f"{line}: {fault}", flush=True)
-    print(f"{passed} passed, {failed} failed")
-    return 1 if failed else 0
+        return tell(cases(program, folder))
 
 
 if __name__ == "__main__":

@@ -10,7 +10,6 @@ lines are sorted as ours are. A run with helpers has to show other threads, and 
 `N passed, M failed`.
 """
 
-import argparse
 import os
 import random
 import shlex
@@ -18,7 +17,7 @@ import sys
 import tempfile
 from pathlib import Path
 
-from threads import PROGRAM, answer, program_faults, without_own
+from threads import answer, tell, watched_program, without_own
 
 SEED = 2
 RUNS = 12
@@ -129,7 +128,7 @@ def sorted_lines(found):
 
 
 def faults_of(program, words, folder, is_like_grep):
-    """What is not as it has to be of a line."""
+    """What is not as it has to be of a line, and how many threads were seen at once."""
     faults, most = [], 0
     alone, beside = answer([program, *words, "--round", "1"], folder, is_watched=True)
     if beside > 1:
@@ -152,37 +151,31 @@ def into_own_tree(program, folder, words):
     path = folder / "sizes" / "output"
     with open(path, "wb") as output:
         found, _ = answer([program, *words, "-rn", "b", "sizes"], folder, output=output)
-    told = path.read_bytes()
+    written = path.read_bytes()
     path.unlink()
-    return found[0], told, found[2]
+    return found[0], written, found[2]
+
+
+def cases(program, folder):
+    """Each line, and its faults; then what holds of all runs."""
+    most = 0
+    for lines, is_like_grep in ((LIKE_GREP, True), (OWN, False)):
+        for line in lines.splitlines():
+            faults, seen = faults_of(program, shlex.split(line), folder, is_like_grep)
+            most = max(most, seen)
+            yield line, faults
+    outputs = {into_own_tree(program, folder, words) for words in (["--round", "1"], [], [])}
+    yield "output into the tree", [] if len(outputs) == 1 else ["with helpers something else comes than by one thread"]
+    yield "helpers", [] if most > 1 else ["none were seen in any run"]
 
 
 def main():
-    parser = argparse.ArgumentParser(description="Compares what the program writes of trees with helpers and without.")
-    parser.add_argument("--program", default=PROGRAM)
-    program = str(Path(parser.parse_args().program).resolve())
-    fault = program_faults(program)
-    if fault:
-        print(f"{fault}\n0 passed, 1 failed")
+    program = watched_program("Compares what the program writes of trees with helpers and without.")
+    if program is None:
         return 1
-    passed, failed, most = 0, 0, 0
     with tempfile.TemporaryDirectory(prefix="pargrep-trees-") as folder:
         make(Path(folder))
-        folder = Path(folder) / "all"
-        for lines, is_like_grep in ((LIKE_GREP, True), (OWN, False)):
-            for line in lines.splitlines():
-                faults, seen = faults_of(program, shlex.split(line), folder, is_like_grep)
-                most = max(most, seen)
-                passed, failed = passed + (not faults), failed + bool(faults)
-                for fault in faults:
-                    print(f"{line}: {fault}", flush=True)
-        outputs = [into_own_tree(program, folder, words) for words in (["--round", "1"], [], [])]
-    for what, is_right in (("output into the tree", len(set(outputs)) == 1), ("helpers seen", most > 1)):
-        passed, failed = passed + is_right, failed + (not is_right)
-        if not is_right:
-            print(f"{what}: no", flush=True)
-    print(f"{passed} passed, {failed} failed")
-    return 1 if failed else 0
+        return tell(cases(program, Path(folder) / "all"))
 
 
 if __name__ == "__main__":

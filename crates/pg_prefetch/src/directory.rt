@@ -132,8 +132,8 @@ impl Directory {
         self.turn.fetch_add(1, Ordering::SeqCst);
     }
 
-    /// Whether it is worth it that a sleeping thread looks at entries: few of those that may be looked at ahead were, and
-    /// so many are left that it wakes in time.
+    /// Whether a sleeping thread is worth waking: few of the entries that may be looked at ahead were, and so many are
+    /// left that it wakes in time.
     pub(crate) fn is_worth_waking(&self) -> bool {
         let next = self.next.load(Ordering::SeqCst);
         let has_time = next.saturating_add(WORTH_WAKING) <= self.names.len();

@@ -13,8 +13,8 @@ pub trait Helper: Drop {
     fn help(self);
 }
 
-/// A tree that may look at entries, and open their files, before the turn of these comes. What a tree answers that tells
-/// its answers doesn't hang on it.
+/// A tree that may look at entries, and read what is there, before their turn comes. What a tree answers that tells its
+/// answers doesn't hang on it.
 pub trait Prefetch: FileTree {
     /// What another thread may do for a walk.
     type Helper: Helper + 'static;

@@ -1,7 +1,7 @@
 //! What a walk is asked for.
 ghost use Rattle.std.specs.Prelude.{◌≡◌, IfOk, None, true, false, []};
-ghost use Rattle.pg_walk.specs.Scopes.{are_read, are_skipped, gives_regular_file, is_left_out, may_leave_out, scope_of, seen_as, sights};
-ghost use Rattle.pg_walk.specs.Scopes.{TellsSight};
+ghost use Rattle.pg_walk.specs.Scopes.{are_read, are_skipped, gives_regular_file, is_left_out, may_leave_out, scope_of};
+ghost use Rattle.pg_walk.specs.Scopes.{seen_as, sights, TellsSight};
 ghost use Rattle.pg_walk.specs.declared.scope.Devices.TheVariants.{ReadOperands};
 
 use crate::tree::{FileKind, FileTree, LookFault};
