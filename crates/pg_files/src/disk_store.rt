@@ -88,7 +88,7 @@ impl<R: Files + Input + Drop> DiskStore<R> {
         self.output.is_some() && self.output == id
     }
 
-    /// Makes a file that was opened and read ahead the one that `read` gives, as [`Store::open`] does.
+    /// Makes a file that was opened under a path and read ahead the one that `read` gives, as [`Store::open`] does.
     ///
     /// # Errors
     ///
@@ -99,6 +99,7 @@ impl<R: Files + Input + Drop> DiskStore<R> {
         spares_output: bool,
         file: WholeFile,
     ) -> Result<(), OpenFault>
+        requires { file.path.items ≡ path.now }
         ensures opens { Opens spares_output path.now self.old.past self.new.past result }
         ensures reads { OnOk result (self.new.reads ≡ AFile) }
         ensures left { OnOk result (self.new.left ≡ Some file.bytes.items) }

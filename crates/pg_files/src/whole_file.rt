@@ -2,6 +2,7 @@
 ghost use Rattle.std.specs.Prelude.{◌≡◌, ◌≤◌, ◌<◌, ◌++◌, [], IfSome, drop, length, take};
 
 use crate::disk_store::regular_id;
+use pg_base::History;
 use pg_walk::Identity;
 use std::alloc::{Allocator, Global};
 use std::fs;
@@ -14,6 +15,8 @@ const LONGEST: u64 = 32_768;
 
 /// A regular file that was opened, read to its end and closed again.
 pub struct WholeFile<A: Allocator = Global> {
+    /// The path that it was opened under. This takes no memory.
+    pub path: History<u8>,
     /// Which file it is.
     pub(crate) id: Identity,
     /// All its bytes.
@@ -22,7 +25,11 @@ pub struct WholeFile<A: Allocator = Global> {
 
 impl<A: Allocator> Drop for WholeFile<A> {
     fn drop(self) {
-        let WholeFile { id: _, bytes: _ } = self;
+        let WholeFile {
+            path: _,
+            id: _,
+            bytes: _,
+        } = self;
     }
 }
 
@@ -71,7 +78,9 @@ impl<A: Allocator> WholeFile<A> {
 impl<A: Allocator + Copy> WholeFile<A> {
     /// The file that the system opens for a path, if it is a regular one of at most 32 KiB that can be read now, and
     /// there is memory for it.
-    pub fn open<R: Files>(rt: &R, alloc: A, path: &str) -> Option<WholeFile<A>> {
+    pub fn open<R: Files>(rt: &R, alloc: A, path: &str) -> Option<WholeFile<A>>
+        ensures { IfSome result (λ file. file.path.items ≡ path.now) }
+    {
         let mut file = fs::open(rt, path).ok()?;
         let metadata = file.metadata();
         let len = metadata.as_ref().ok()?.len();
@@ -80,6 +89,12 @@ impl<A: Allocator + Copy> WholeFile<A> {
             return None;
         }
         let bytes = read_whole(alloc, &mut file, len as usize)?;
-        Some(WholeFile { id, bytes })
+        let mut opened = History::new();
+        opened.extend(path.as_bytes());
+        Some(WholeFile {
+            path: opened,
+            id,
+            bytes,
+        })
     }
 }

@@ -1,7 +1,6 @@
 //! A directory whose entries are looked at before their turn comes.
 
 use crate::found::Found;
-use crate::names::Names;
 use pg_walk::{Scope, entry_path};
 use std::alloc::{AllocError, Global};
 use std::rt::Files;
@@ -61,7 +60,7 @@ impl Slot {
 /// A directory that a walk is inside of, with its entries in the order in which they are asked for.
 pub(crate) struct Directory {
     path: String,
-    names: Names,
+    names: Vec<String>,
     /// The entry whose turn it is.
     turn: AtomicUsize,
     between: [u8; LINE],
@@ -89,7 +88,7 @@ impl Directory {
     pub(crate) fn new(
         alloc: Global,
         path: &str,
-        names: Names,
+        names: Vec<String>,
         window: usize,
     ) -> Result<Directory, AllocError> {
         let mut slots = Vec::new(alloc);
@@ -183,8 +182,9 @@ impl Directory {
         scope: &Scope,
         entry: usize,
     ) -> Option<Found> {
-        let path = entry_path(alloc, self.path.as_str(), self.names.get(entry)?).ok()?;
-        Found::at(rt, alloc, scope, path.as_str())
+        let name = self.names.get(entry)?;
+        let path = entry_path(alloc, self.path.as_str(), name.as_str()).ok()?;
+        Found::at(rt, alloc, scope, path)
     }
 
     fn slot(&self, entry: usize) -> Option<&Slot> {

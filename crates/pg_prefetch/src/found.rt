@@ -1,77 +1,108 @@
 //! What is found out about an entry before its turn comes.
+ghost use Rattle.std.specs.Prelude.{◌≡◌, Some, IfSome};
+ghost use Rattle.std.specs.String.{string_bytes};
 
-use crate::names::Names;
 use pg_files::WholeFile;
-use pg_walk::{DiskTree, FileKind, FileTree, Scope};
+use pg_walk::{DiskTree, FileKind, FileTree, Listing, LookFault, Scope};
 use std::alloc::Global;
 use std::rt::Files;
 
-/// What stands at an entry's path, and what is in it, where that was read.
+/// What the directory at a path holds, in the order in which a walk asks for it.
+///
+/// # Errors
+///
+/// Those of [`FileTree::entries`].
+pub(crate) fn list<R: Files + Drop>(
+    tree: &DiskTree<R>,
+    alloc: Global,
+    path: &str,
+) -> Result<Listing, LookFault> {
+    let mut listing = tree.entries(alloc, path)?;
+    listing.names.sort_unstable();
+    Ok(listing)
+}
+
+/// What stands at an entry's path, and what was read there.
 pub(crate) struct Found {
-    pub(crate) kind: FileKind,
-    pub(crate) content: Content,
+    path: String,
+    kind: FileKind,
+    /// The file, where it is to be read and is small.
+    file: Option<WholeFile>,
+    /// What the directory holds, where it is to be visited.
+    listing: Option<Listing>,
+    ghost is_its_file: { (opened : _) → file ≡ Some opened → opened.path.items ≡ string_bytes path },
 }
 
 impl Drop for Found {
     fn drop(self) {
         let Found {
+            path: _,
             kind: _,
-            content: _,
+            file: _,
+            listing: _,
         } = self;
     }
 }
 
-/// What was read of an entry.
-#[derive(Drop)]
-pub(crate) enum Content {
-    Unread,
-    /// A regular file, to its end.
-    File(WholeFile),
-    /// A directory.
-    Directory(Names),
-}
-
 impl Found {
-    /// What the system says of an entry, if it can be told. A file or directory that the scope leaves out isn't read.
+    /// What the system says of an entry, if it can be told. What the scope leaves out isn't read.
     pub(crate) fn at<R: Files + Drop>(
         rt: R,
         alloc: Global,
         scope: &Scope,
-        path: &str,
+        path: String,
     ) -> Option<Found> {
-        let kind = DiskTree::new(&rt).kind(path, scope.follows).ok()?;
-        let content = match kind {
-            FileKind::Regular => file_at(&rt, alloc, scope, path),
-            FileKind::Directory => directory_at(&rt, alloc, scope, path),
-            FileKind::Link | FileKind::Other => None,
+        let tree = DiskTree::new(&rt);
+        let kind = tree.kind(path.as_str(), scope.follows).ok()?;
+        let is_kept = scope.keeps_entry(path.as_str(), kind);
+        let file = if is_kept && kind == FileKind::Regular {
+            WholeFile::open(&rt, alloc, path.as_str())
+        } else {
+            None
+        };
+        let listing = if is_kept && kind == FileKind::Directory {
+            list(&tree, alloc, path.as_str()).ok()
+        } else {
+            None
         };
         Some(Found {
+            path,
             kind,
-            content: content.unwrap_or(Content::Unread),
+            file,
+            listing,
         })
     }
 
-    pub(crate) fn into_parts(self) -> (FileKind, Content) {
-        let Found { kind, content } = self;
-        (kind, content)
+    /// What stands at a path, if this was found there.
+    pub(crate) fn kind(&self, path: &str) -> Option<FileKind> {
+        if self.path.as_str() == path {
+            Some(self.kind)
+        } else {
+            None
+        }
     }
-}
 
-fn file_at<R: Files + Drop>(rt: R, alloc: Global, scope: &Scope, path: &str) -> Option<Content> {
-    if !scope.reads_entry(path, FileKind::Regular) {
-        return None;
+    /// The file at a path, if this was found there and the file was read.
+    pub(crate) fn into_file(self, path: &str) -> Option<WholeFile>
+        ensures { IfSome result (λ file. file.path.items ≡ path.now) }
+    {
+        let Found {
+            path: own,
+            kind: _,
+            file,
+            listing: _,
+        } = self;
+        if own.as_str() == path { file } else { None }
     }
-    Some(Content::File(WholeFile::open(&rt, alloc, path)?))
-}
 
-fn directory_at<R: Files + Drop>(
-    rt: R,
-    alloc: Global,
-    scope: &Scope,
-    path: &str,
-) -> Option<Content> {
-    if scope.skips_directories || scope.directories.leaves_out(false, path) {
-        return None;
+    /// What the directory at a path holds, if this was found there and the directory was listed.
+    pub(crate) fn into_listing(self, path: &str) -> Option<Listing> {
+        let Found {
+            path: own,
+            kind: _,
+            file: _,
+            listing,
+        } = self;
+        if own.as_str() == path { listing } else { None }
     }
-    Some(Content::Directory(Names::list(rt, alloc, path).ok()?))
 }

@@ -10,7 +10,6 @@
 mod directory;
 mod found;
 mod helper;
-mod names;
 mod prefetcher;
 mod shared;
 mod store;

@@ -1,14 +1,13 @@
 //! What the thread that asks knows of the entries that are looked at ahead.
+ghost use Rattle.std.specs.Prelude.{◌≡◌, IfSome};
 
 use crate::directory::{Directory, WINDOW};
-use crate::found::{Content, Found};
+use crate::found::Found;
 use crate::helper::PrefetchHelper;
-use crate::names::Names;
 use crate::shared::Shared;
 use pg_files::WholeFile;
-use pg_walk::{FileKind, Scope};
+use pg_walk::{FileKind, Listing, Scope};
 use std::alloc::{AllocError, Global};
-use std::mem;
 use std::rt::Files;
 use std::sync::{Arc, Wait};
 
@@ -28,8 +27,8 @@ pub(crate) struct Prefetcher {
     shared: Option<Arc<Shared>>,
     /// From the operand down.
     directories: Vec<Arc<Directory>>,
-    /// What was read of the last entry that was found, until it is asked for.
-    content: Content,
+    /// What was found out about the last entry that was asked for, until it is used.
+    found: Option<Found>,
 }
 
 impl Drop for Prefetcher {
@@ -38,7 +37,7 @@ impl Drop for Prefetcher {
             alloc: _,
             shared: _,
             directories: _,
-            content: _,
+            found: _,
         } = self;
     }
 }
@@ -50,7 +49,7 @@ impl Prefetcher {
             alloc,
             shared: None,
             directories: Vec::new(alloc),
-            content: Content::Unread,
+            found: None,
         }
     }
 
@@ -83,7 +82,7 @@ impl Prefetcher {
         &mut self,
         rt: &R,
         path: &str,
-        names: Names,
+        names: Vec<String>,
     ) -> Result<(), AllocError> {
         let Some(shared) = &self.shared else {
             return Ok(());
@@ -132,7 +131,7 @@ impl Prefetcher {
     /// What stands at a path, if it is an entry that was looked at ahead. What was read of it is kept.
     pub(crate) fn find<R: Wait>(&mut self, rt: &R, path: &str) -> Option<FileKind> {
         self.leave(rt);
-        self.content = Content::Unread;
+        self.found = None;
         let directory = self.directories.last()?;
         let entry = directory.turn();
         if !directory.is_path_of(entry, path) {
@@ -145,37 +144,22 @@ impl Prefetcher {
                 shared.wake(false);
             }
         }
-        let (kind, content) = found?.into_parts();
-        self.content = content;
-        Some(kind)
+        let found = found?;
+        let kind = found.kind(path);
+        self.found = Some(found);
+        kind
     }
 
-    /// What was read at a path, if it is that of the last entry that was found.
-    fn take_content(&mut self, path: &str) -> Option<Content> {
-        let content = mem::replace(&mut self.content, Content::Unread);
-        let directory = self.directories.last()?;
-        let entry = directory.turn().checked_sub(1)?;
-        if directory.is_path_of(entry, path) {
-            Some(content)
-        } else {
-            None
-        }
+    /// The file at a path, if it was the last that was asked for and was read ahead.
+    pub(crate) fn take_file(&mut self, path: &str) -> Option<WholeFile>
+        ensures { IfSome result (λ file. file.path.items ≡ path.now) }
+    {
+        self.found.take()?.into_file(path)
     }
 
-    /// The file at a path, if it was read ahead.
-    pub(crate) fn take_file(&mut self, path: &str) -> Option<WholeFile> {
-        match self.take_content(path)? {
-            Content::File(file) => Some(file),
-            Content::Unread | Content::Directory(_) => None,
-        }
-    }
-
-    /// The names in the directory at a path, if it was listed ahead.
-    pub(crate) fn take_names(&mut self, path: &str) -> Option<Names> {
-        match self.take_content(path)? {
-            Content::Directory(names) => Some(names),
-            Content::Unread | Content::File(_) => None,
-        }
+    /// What the directory at a path holds, if it was the last that was asked for and was listed ahead.
+    pub(crate) fn take_listing(&mut self, path: &str) -> Option<Listing> {
+        self.found.take()?.into_listing(path)
     }
 }
 

@@ -1,8 +1,8 @@
 //! The system's tree of files, of which some answers are found ahead.
-ghost use Rattle.std.specs.Prelude.{None};
+ghost use Rattle.std.specs.Prelude.{◌≡◌, None, IfSome};
 
+use crate::found::list;
 use crate::helper::PrefetchHelper;
-use crate::names::Names;
 use crate::prefetcher::Prefetcher;
 use pg_files::WholeFile;
 use pg_walk::{DiskTree, FileKind, FileTree, Identity, Listing, LookFault, Prefetch, Scope};
@@ -39,7 +39,9 @@ impl<R: Files + Wait + Copy + Drop> PrefetchTree<R> {
     }
 
     /// The file at a path, if it was the last that was looked at and was read ahead.
-    pub(crate) fn take_file(&self, path: &str) -> Option<WholeFile> {
+    pub(crate) fn take_file(&self, path: &str) -> Option<WholeFile>
+        ensures { IfSome result (λ file. file.path.items ≡ path.now) }
+    {
         self.prefetcher.try_lock()?.take_file(path)
     }
 
@@ -70,14 +72,14 @@ impl<R: Files + Wait + Copy + Drop> FileTree for PrefetchTree<R> {
             Some(prefetcher) if prefetcher.expects_walk() => prefetcher,
             _ => return self.disk.entries(alloc, path),
         };
-        let names = match prefetcher.take_names(path) {
-            Some(names) => names,
-            None => Names::list(self.rt, prefetcher.alloc, path)?,
+        let listing = match prefetcher.take_listing(path) {
+            Some(listing) => listing,
+            None => list(&self.disk, prefetcher.alloc, path)?,
         };
-        let listing = names.listing(alloc)?;
+        let copy = listing.copy(alloc)?;
         // Without memory for it nothing is looked at ahead.
-        let _ = prefetcher.enter(&self.rt, path, names);
-        Ok(listing)
+        let _ = prefetcher.enter(&self.rt, path, listing.names);
+        Ok(copy)
     }
 
     fn identity(&self, path: &str) -> Result<Identity, LookFault> {

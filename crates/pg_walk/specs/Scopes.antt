@@ -1,5 +1,5 @@
 -- What a walk is asked for, and what it sees of a tree by that.
-use Rattle.std.specs.Prelude.{ℕ, ◌≡◌, ◌||◌, ◌&&◌, not, Bool, if◌then◌else◌, List, Option, Some, None, Result, Ok, Err}
+use Rattle.std.specs.Prelude.{ℕ, ◌≡◌, ◌||◌, ◌&&◌, Bool, if◌then◌else◌, List, Option, Some, None, Result, Ok, Err}
 use Rattle.pg_glob.specs.Filters.{Rule, leaves_out}
 use Rattle.pg_glob.specs.Views.{rules}
 use Rattle.pg_walk.specs.Answers.{Text, Content, Answers}
@@ -51,13 +51,6 @@ is_left_out scope operand path Regular = leaves_out scope.files operand path
 is_left_out scope operand path Directory = scope.skips_directories || leaves_out scope.directories operand path
 is_left_out scope operand path Link = leaves_out scope.files operand path
 is_left_out scope operand path Other = are_skipped scope.devices || leaves_out scope.files operand path
-
--- something of a kind below an operand gives a regular file at its path
-abbrev pub gives_regular_file : Scope → Text → FileKind → Bool
-gives_regular_file scope path Regular = not (is_left_out scope Bool.false path Regular)
-gives_regular_file scope path Directory = Bool.false
-gives_regular_file scope path Link = Bool.false
-gives_regular_file scope path Other = Bool.false
 
 -- an operand may be left out
 abbrev pub may_leave_out : Scope → Text → Bool

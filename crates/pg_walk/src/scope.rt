@@ -1,6 +1,6 @@
 //! What a walk is asked for.
-ghost use Rattle.std.specs.Prelude.{◌≡◌, IfOk, None, true, false, []};
-ghost use Rattle.pg_walk.specs.Scopes.{are_read, are_skipped, gives_regular_file, is_left_out, may_leave_out, scope_of};
+ghost use Rattle.std.specs.Prelude.{◌≡◌, IfOk, None, true, false, not, []};
+ghost use Rattle.pg_walk.specs.Scopes.{are_read, are_skipped, is_left_out, may_leave_out, scope_of};
 ghost use Rattle.pg_walk.specs.Scopes.{seen_as, sights, TellsSight};
 ghost use Rattle.pg_walk.specs.declared.scope.Devices.TheVariants.{ReadOperands};
 
@@ -109,11 +109,11 @@ impl<A: Allocator> Scope<A> {
         }
     }
 
-    /// Whether an entry of a kind gives a regular file at its path.
-    pub fn reads_entry(&self, path: &str, kind: FileKind) -> bool
-        ensures { result ≡ gives_regular_file (scope_of self.now) path.now kind }
+    /// Whether an entry of a kind is not left out at its path.
+    pub fn keeps_entry(&self, path: &str, kind: FileKind) -> bool
+        ensures { result ≡ not (is_left_out (scope_of self.now) false path.now kind) }
     {
-        kind == FileKind::Regular && !self.leaves_out(false, path, kind)
+        !self.leaves_out(false, path, kind)
     }
 
     /// As what something of a kind is seen: a device that is read wherever it stands as a regular file.
