@@ -7,6 +7,7 @@ pub mod Found
 pub mod Joins
 pub mod Level
 pub mod LongNames
+pub mod Modes
 pub mod Numbers
 pub mod Ours
 pub mod Passes

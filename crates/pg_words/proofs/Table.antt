@@ -200,8 +200,8 @@ all_added (arg ∷ args) old new adds local rules is =
 
 -- ---- the loops over rows
 
-next_row : (rows : List OptionRow) (i : ℕ) (d : OptionRow) → i < length rows → drop i rows ≡ get_or rows i d
-    ∷ drop (i + 1) rows
+pub next_row : {X : Type 0} (rows : List X) (i : ℕ) (d : X) → i < length rows
+    → drop i rows ≡ get_or rows i d ∷ drop (i + 1) rows
 next_row rows i d within = rw (add-one, drop-cons rows i d) refl
 
 pub name_here : (rows : List OptionRow) (i : ℕ) (d : OptionRow) (name : Text) (called valued : Bool) → i < length rows

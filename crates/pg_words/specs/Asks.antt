@@ -1,16 +1,17 @@
 -- What the words of a command line ask for.
-use Rattle.std.specs.Prelude.{ℕ, ◌+◌, ◌||◌, Bool, not, if◌then◌else◌, List, [], ◌∷◌, codes, length, take, drop}
+use Rattle.std.specs.Prelude.{ℕ, ◌+◌, ◌||◌, Bool, not, if◌then◌else◌, List, [], ◌∷◌, codes, length, map, take, drop}
 use Rattle.std.specs.Prelude.{Option, Some, None, is_some, option_and_then, option_map, unwrap_or}
-use Rattle.std.specs.List.{list_any}
+use Rattle.std.specs.List.{filter, list_any}
 use Rattle.std.specs.Str.{bytes_eq, str_eq_ignore_ascii_case}
 use Rattle.std.specs.Str.Parse.{digits_value, without_leading_sign}
 use Rattle.pg_rows.specs.Separator.{separator_for}
+use Rattle.pg_rows.specs.declared.format.Mode.{Mode}
 use Rattle.pg_words.specs.Asked.{Asked, Pace}
 use Rattle.pg_words.specs.Line.{Text, Use, Uses, filters_in, ignores_case, is_given, last_value, operands_of, some_text}
 use Rattle.pg_words.specs.Line.{separator_in, values_of}
 use Rattle.pg_words.specs.Operands.{searched}
 use Rattle.pg_words.specs.Spelled.{uses_in}
-use Rattle.pg_words.specs.Options.{format_of, kind_of, naming_of}
+use Rattle.pg_words.specs.Options.{format_of, given_modes, kind_of, modes, naming_of}
 use Rattle.pg_words.specs.Usage.{usage_fault}
 use Rattle.pg_words.specs.declared.options.DirectoryAction.{DirectoryAction}
 use Rattle.pg_words.specs.declared.options.DirectoryAction.TheVariants.{Read as ReadDirectories}
@@ -21,6 +22,7 @@ use Rattle.pg_words.specs.declared.options.DeviceAction.TheVariants.{Read, Skip}
 use Rattle.pg_words.specs.declared.options.Coloring.{Coloring}
 use Rattle.pg_words.specs.declared.options.Coloring.TheVariants.{Always as AlwaysColored, Never as NeverColored}
 use Rattle.pg_words.specs.declared.options.Coloring.TheVariants.{OnTerminal}
+use Rattle.pg_words.specs.declared.options.GivenModes.{GivenModes}
 use Rattle.pg_words.specs.declared.options.Options.{Options}
 use Rattle.pg_words.specs.declared.usage.UsageFault.{UsageFault}
 
@@ -101,6 +103,14 @@ has_long_separator values = list_any (λ v. not (is_some (separator_for v))) val
 abbrev pub coloring_in : List Use → Coloring
 coloring_in us = unwrap_or (option_and_then coloring_by (last_value (codes "color") us)) NeverColored
 
+-- the modes that options of a table ask for
+abbrev pub modes_given : List (Text × Mode) → List Use → List Mode
+modes_given options us = map (λ option. option.1) (filter (λ option. is_given option.0 us) options)
+
+-- what is given of the options that say what is written of each file
+abbrev pub modes_in : List Use → GivenModes
+modes_in us = given_modes (modes_given modes us)
+
 -- the options that exclude one another, want operands or decide how rows look
 abbrev pub options_in : List Use → Options
 options_in us = record {
@@ -115,10 +125,7 @@ options_in us = record {
   invert = is_given (codes "invert-match") us;
   fold = ignores_case us;
   parts = is_given (codes "only-matching") us;
-  count = is_given (codes "count") us;
-  list = is_given (codes "files-with-matches") us;
-  list_others = is_given (codes "files-without-match") us;
-  quiet = is_given (codes "quiet") us;
+  modes = modes_in us;
   numbers = is_given (codes "line-number") us;
   null = is_given (codes "null") us;
   tabs = is_given (codes "initial-tab") us;

@@ -6,7 +6,7 @@ use Rattle.pg_words.specs.declared.usage.UsageFault.TheVariants.{SeveralModes, E
 use Rattle.pg_words.specs.declared.usage.UsageFault.TheVariants.{ExcludedByParts, NoPattern, NoOperand}
 use Rattle.pg_words.specs.declared.usage.UsageFault.TheVariants.{OtherThanText, PerlExpressions, UnknownDevices}
 use Rattle.pg_words.specs.declared.usage.UsageFault.TheVariants.{LongSeparator, UnknownColoring, UnknownDirectories}
-use Rattle.pg_words.specs.Options.{has_excluded_by_parts, has_several_modes}
+use Rattle.pg_words.specs.Options.{are_several, has_excluded_by_parts}
 
 -- What is wrong with options beside so many texts and files of patterns and so many FILE operands: the first of these.
 abbrev pub usage_fault : Options → ℕ → ℕ → Option UsageFault
@@ -17,7 +17,7 @@ usage_fault options patterns files =
     else (if options.unknown_devices then Some UnknownDevices
     else (if options.unknown_coloring then Some UnknownColoring
     else (if options.long_separator then Some LongSeparator
-    else (if has_several_modes options then Some SeveralModes
+    else (if are_several options.modes then Some SeveralModes
     else (if options.extended && options.fixed then Some ExtendedAndFixed
     else (if options.names && options.no_names then Some NamesAndNoNames
     else (if options.parts && has_excluded_by_parts options then Some ExcludedByParts

@@ -21,7 +21,7 @@ mod usage;
 mod words;
 
 pub use help::{HELP, VERSION};
-pub use options::{Coloring, DeviceAction, DirectoryAction, Naming, Options};
+pub use options::{Coloring, DeviceAction, DirectoryAction, GivenModes, Naming, Options};
 pub use request::{FileFilter, Request};
 pub use split::Words;
 pub use usage::{UsageFault, check_usage};

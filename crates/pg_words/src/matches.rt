@@ -1,19 +1,22 @@
 //! What `clap` found, by the names of options.
 ghost use Rattle.std.specs.Prelude.{◌≡◌, ◌≤◌, ◌<◌, ℕ, List, None, Option, [], codes, map, option_and_then, option_map};
-ghost use Rattle.std.specs.Prelude.{unwrap_or, IfSome};
+ghost use Rattle.std.specs.Prelude.{true, unwrap_or, IfSome};
 ghost use Rattle.std.specs.Str.{str_eq_ignore_ascii_case};
 ghost use Rattle.clap.specs.Words.{found_of, matched_of, raw_values};
 ghost use Rattle.pg_rows.specs.Separator.{separator_for};
 ghost use Rattle.pg_words.specs.Asks.{coloring_by, coloring_in, device_action, directories_in, directory_action};
 ghost use Rattle.pg_words.specs.Asks.{has_long_separator, has_other_action, has_other_coloring};
 ghost use Rattle.pg_words.specs.Asks.{has_other_directory_action};
-ghost use Rattle.pg_words.specs.Asks.{has_other_type, is_word_of, number_in, options_in};
+ghost use Rattle.pg_words.specs.Asks.{has_other_type, is_word_of, modes_given, modes_in, number_in, options_in};
 ghost use Rattle.pg_words.specs.Found.{found_values, value_behind, IsFound};
 ghost use Rattle.pg_words.specs.Gives.{IsNumberUpTo};
+ghost use Rattle.pg_words.specs.Options.{are_flags, given_modes, mode_table};
 ghost use Rattle.pg_words.specs.Line.{ignores_case, is_given, last_of, last_value, separator_in, AnyText, Nothing};
 ghost use Rattle.pg_words.specs.Line.{Number, Use};
 
-use crate::options::{Coloring, DeviceAction, DirectoryAction, Options};
+use crate::options::{
+    Coloring, DeviceAction, DirectoryAction, GivenModes, MODES, ModeOption, Options,
+};
 use clap::ArgMatches;
 use pg_rows::Separator;
 
@@ -39,10 +42,7 @@ pub(crate) fn options_of(
         invert: flag(found, "invert-match"),
         fold,
         parts: flag(found, "only-matching"),
-        count: flag(found, "count"),
-        list: flag(found, "files-with-matches"),
-        list_others: flag(found, "files-without-match"),
-        quiet: flag(found, "quiet"),
+        modes: modes_of(found),
         numbers: flag(found, "line-number"),
         null: flag(found, "null"),
         tabs: flag(found, "initial-tab"),
@@ -55,6 +55,33 @@ pub(crate) fn options_of(
         after: number(found, "after-context"),
         before: small_number(found, "before-context"),
         around: small_number(found, "context"),
+    }
+}
+
+/// What is given of the options that say what is written of each file.
+fn modes_of(found: &ArgMatches<'_>) -> GivenModes
+    ensures { (us : List Use) → IsFound us (found_of found.now) → result ≡ modes_in us }
+{
+    modes_among(found, &MODES)
+}
+
+/// What is given of these options.
+fn modes_among(found: &ArgMatches<'_>, options: &[ModeOption]) -> GivenModes
+    ensures { (us : List Use) → IsFound us (found_of found.now) → are_flags options.now ≡ true
+        → result ≡ given_modes (modes_given (mode_table options.now) us) }
+{
+    let mut only = None;
+    for option in options {
+        if flag(found, option.0) {
+            if only.is_some() {
+                return GivenModes::Several;
+            }
+            only = Some(option.1);
+        }
+    }
+    match only {
+        Some(mode) => GivenModes::One(mode),
+        None => GivenModes::Unset,
     }
 }
 

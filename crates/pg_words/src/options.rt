@@ -76,6 +76,63 @@ pub enum DeviceAction {
     Skip,
 }
 
+/// An option that says what is written of each file: its long name, and the mode that it asks for.
+#[derive(Clone, Copy)]
+pub(crate) struct ModeOption(pub(crate) &'static str, pub(crate) Mode);
+
+/// Those options, which exclude one another.
+pub(crate) static MODES: [ModeOption; 4] = [
+    ModeOption("count", Mode::Count),
+    ModeOption("files-with-matches", Mode::List),
+    ModeOption("files-without-match", Mode::ListOthers),
+    ModeOption("quiet", Mode::Quiet),
+];
+
+/// What is given of the options that say what is written of each file.
+#[derive(Clone, Copy)]
+pub enum GivenModes {
+    /// None of them: lines have rows.
+    Unset,
+    /// One of them.
+    One(Mode),
+    /// More than one, which is a fault.
+    Several,
+}
+
+impl GivenModes {
+    ghost use Rattle.pg_words.specs.Options.{are_several, is_some_mode, mode_by};
+
+    /// What is written, where not several are given.
+    fn mode(self) -> Mode
+        ensures { result ≡ mode_by self }
+    {
+        match self {
+            GivenModes::One(mode) => mode,
+            GivenModes::Unset | GivenModes::Several => Mode::Rows,
+        }
+    }
+
+    /// Whether at least one is given.
+    fn is_some(self) -> bool
+        ensures { result ≡ is_some_mode self }
+    {
+        match self {
+            GivenModes::One(_) | GivenModes::Several => true,
+            GivenModes::Unset => false,
+        }
+    }
+
+    /// Whether more than one is given.
+    pub(crate) fn are_several(self) -> bool
+        ensures { result ≡ are_several self }
+    {
+        match self {
+            GivenModes::Several => true,
+            GivenModes::Unset | GivenModes::One(_) => false,
+        }
+    }
+}
+
 /// The options that exclude one another, want operands or decide how rows look, as they are given.
 #[derive(Clone, Copy)]
 pub struct Options {
@@ -101,14 +158,8 @@ pub struct Options {
     pub fold: bool,
     /// -o: the matched parts of lines.
     pub parts: bool,
-    /// -c: the number of lines.
-    pub count: bool,
-    /// -l: the names of files with a selected line.
-    pub list: bool,
-    /// -L: the names of files without one.
-    pub list_others: bool,
-    /// -q: nothing.
-    pub quiet: bool,
+    /// The options that say what is written of each file.
+    pub modes: GivenModes,
     /// -n: the lines' numbers.
     pub numbers: bool,
     /// -Z: a NUL behind names.
@@ -137,8 +188,7 @@ pub struct Options {
 }
 
 impl Options {
-    ghost use Rattle.pg_words.specs.Options.{format_of, has_context, has_excluded_by_parts};
-    ghost use Rattle.pg_words.specs.Options.{has_several_modes, kind_of, mode_of, naming_of};
+    ghost use Rattle.pg_words.specs.Options.{format_of, has_context, has_excluded_by_parts, kind_of, naming_of};
 
     /// The syntax of the patterns, where not both -E and -F are given.
     pub(crate) fn kind(&self) -> Kind
@@ -167,7 +217,7 @@ impl Options {
             separator: self.separator,
             numbers: self.numbers,
             offsets: self.offsets,
-            mode: self.mode(),
+            mode: self.modes.mode(),
             limit: self.limit.map(|lines| lines.max(1)),
             before: self.before.or(self.around),
             after: self.after.or(self.around.map(u32::from)),
@@ -187,32 +237,6 @@ impl Options {
         }
     }
 
-    /// What is written, where at most one of -c, -l, -L and -q is given.
-    fn mode(&self) -> Mode
-        ensures { result ≡ mode_of self.now }
-    {
-        if self.count {
-            Mode::Count
-        } else if self.list {
-            Mode::List
-        } else if self.list_others {
-            Mode::ListOthers
-        } else if self.quiet {
-            Mode::Quiet
-        } else {
-            Mode::Rows
-        }
-    }
-
-    /// Whether more than one of -c, -l, -L and -q is given.
-    pub(crate) fn has_several_modes(&self) -> bool
-        ensures { result ≡ has_several_modes self.now }
-    {
-        self.count && (self.list || self.list_others || self.quiet)
-            || self.list && (self.list_others || self.quiet)
-            || self.list_others && self.quiet
-    }
-
     /// Whether one of -A, -B and -C is given.
     fn has_context(&self) -> bool
         ensures { result ≡ has_context self.now }
@@ -224,7 +248,6 @@ impl Options {
     pub(crate) fn has_excluded_by_parts(&self) -> bool
         ensures { result ≡ has_excluded_by_parts self.now }
     {
-        let is_listed = self.list || self.list_others;
-        self.invert || self.count || is_listed || self.quiet || self.has_context()
+        self.invert || self.modes.is_some() || self.has_context()
     }
 }

@@ -97,7 +97,7 @@ pub fn check_usage(
     if options.long_separator {
         return Err(UsageFault::LongSeparator);
     }
-    if options.has_several_modes() {
+    if options.modes.are_several() {
         return Err(UsageFault::SeveralModes);
     }
     if options.extended && options.fixed {
