@@ -31,7 +31,7 @@ use Rattle.pg_seq.specs.Coming.{behind, blocks_of, openings}
 use Rattle.pg_seq.specs.Slots.{slot_block, has_result, slot_selects, ready, IsResultOf}
 use Rattle.pg_seq.specs.Buffer.{HasResult}
 use Rattle.pg_seq.specs.Standing.{IsAfter, opening_of}
-use Rattle.pg_seq.specs.Ahead.{HasLookedAhead, IsAtFront, is_over, block_selects}
+use Rattle.pg_seq.specs.Ahead.{HasLookedAhead, IsAtFront, is_over, block_selects, is_enough_by}
 use Rattle.pg_seq.proofs.EnoughLemmas.{suffices_by_cursor}
 use Rattle.pg_seq.proofs.FrontLemmas.{front_all, front_shaped}
 use Rattle.pg_seq.proofs.BeginLemmas.{shape_of}
@@ -382,11 +382,8 @@ module _ {A : Type 0} (s : Assembler A) (past : Past) (h : IsAfter s past) (a : 
 
 -- whether enough was read, by what is told of the front
 pub front_enough : {A : Type 0} (s : Assembler A) (past : Past) → IsAfter s past → (a : Ahead) → IsAtFront past a
-    → (let format = past.format in
-    cond (is_quiet format.mode) a.selected
-    (a.inside
-    && trail_suffices format.mode format (cursor_of past.query format (front_of past)).trail)
-    ≡ is_enough past.query format (entries_of (front_of past)))
+    → is_enough_by past.format a (cursor_of past.query past.format (front_of past)).trail
+    ≡ is_enough past.query past.format (entries_of (front_of past))
 unfolding front_after
 front_enough s past h a f =
     let q = past.query in

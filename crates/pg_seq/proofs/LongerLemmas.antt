@@ -17,7 +17,7 @@ use Rattle.pg_base.specs.Entries.{is_running, is_failed}
 use Rattle.pg_rows.specs.Output.{is_nothing, is_bad, has_selected}
 use Rattle.pg_rows.specs.Output.{file_rows, output}
 use Rattle.pg_rows.specs.Enough.{lines_suffice, is_enough}
-use Rattle.pg_seq.specs.Settled.{AreLeftRightly, MayBeLonger, GiveTheSame}
+use Rattle.pg_seq.specs.Settled.{AreLeftRightly, MayBeLonger, GiveTheSame, ChangeNothing}
 use Rattle.pg_seq.proofs.SettleLemmas.{suffice_settled}
 
 -- a line of whole lines stays selected
@@ -179,7 +179,7 @@ module _ (q : Search) (format : Format) where
   longer_same entries others room h l = alike_same entries others (longer_alike entries others room h l)
 
   -- with -q, once a line is selected, nothing is written and the status is 0, whatever files follow
-  pub quiet_nothing : (entries later : List Entry) → is_quiet format.mode ≡ true
+  quiet_nothing : (entries later : List Entry) → is_quiet format.mode ≡ true
       → list_any (has_selected q) entries ≡ true
       → (output q format (later ++ entries) ≡ []) × (status q format (later ++ entries) ≡ 0)
   quiet_nothing entries later quiet e =
@@ -193,8 +193,8 @@ module _ (q : Search) (format : Format) where
 
   -- so later files change nothing
   pub quiet_later : (entries later : List Entry) → is_quiet format.mode ≡ true
-      → list_any (has_selected q) entries ≡ true → GiveTheSame q format entries (later ++ entries)
+      → list_any (has_selected q) entries ≡ true → ChangeNothing q format entries later
   quiet_later entries later quiet e =
       let one = quiet_nothing entries [] quiet e in
       let all = quiet_nothing entries later quiet e in
-      record { output = one.0 ∙ sym all.0; status = one.1 ∙ sym all.1 }
+      record { nothing = all; same = record { output = one.0 ∙ sym all.0; status = one.1 ∙ sym all.1 } }

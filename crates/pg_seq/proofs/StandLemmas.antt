@@ -38,7 +38,7 @@ use Rattle.pg_seq.specs.Cursor.{at_start, cursor_of}
 use Rattle.pg_seq.specs.Slots.{place_of, at_place, slot_block, has_result, arrival_among, with_result, IsResultOf}
 use Rattle.pg_seq.specs.Slots.{slot_selects, result_selects, ready}
 use Rattle.pg_seq.specs.Ahead.{block_selects}
-use Rattle.pg_seq.specs.Buffer.{SameButRoom, OpensFile, Pushes, Puts, IsArrival}
+use Rattle.pg_seq.specs.Buffer.{IsUnused, SameButRoom, OpensFile, Pushes, Puts, IsArrival}
 use Rattle.pg_seq.specs.Standing.{IsAfter, HasWritten, starts_of, opening_of}
 use Rattle.pg_seq.proofs.SlotLemmas.{all_behind, cond_pos}
 use Rattle.pg_seq.proofs.FrontLemmas.{front_all, front_taken, all_map, ready_all}
@@ -658,15 +658,13 @@ module _ {A : Type 0} where
 
   -- nothing happened yet
   pub new_stands : (s : Assembler A) (q : Search) (format : Format) → q.text ≡ (arc_value s.query).text
-      → HasItsTrees q → s.format ≡ format → HasRoom format → s.running ≡ false → s.bad ≡ false
-      → s.buffer.starts ≡ [] → s.buffer.slots.items ≡ [] → s.buffer.handed ≡ 0 → s.buffer.selected ≡ false
+      → HasItsTrees q → s.format ≡ format → HasRoom format → s.running ≡ false → s.bad ≡ false → IsUnused s.buffer
       → s.waiting.items ≡ [] → s.printing ≡ false → IsAtCursor s.printer q format at_start → s.failed ≡ false
       → IsAfter s (start q format)
-  new_stands s q format text trees format' room running bad starts slots handed' selected waiting printing remembers
-      failed =
+  new_stands s q format text trees format' room running bad unused waiting printing remembers failed =
       record {
         gone = [];
-        given_up = record { count = sym handed'; results = tt };
+        given_up = record { count = sym unused.handed; results = tt };
         query = text;
         trees = trees;
         format = sym format';
@@ -674,17 +672,19 @@ module _ {A : Type 0} where
         lawful = tt;
         running = sym running;
         bad = sym bad;
-        starts = starts;
-        blocks = sym (ap (map slot_block) slots);
-        taken = sym (ap (map has_result) slots);
-        results = (let R : List (Slot A) → Type 0 = λ xs. AllByRecursion (IsResultOf q) xs in subst R (sym slots) tt);
+        starts = unused.starts;
+        blocks = sym (ap (map slot_block) unused.slots);
+        taken = sym (ap (map has_result) unused.slots);
+        results =
+            let R : List (Slot A) → Type 0 = λ xs. AllByRecursion (IsResultOf q) xs in
+            subst R (sym unused.slots) tt;
         failed = sym failed;
-        selected = selected;
+        selected = unused.selected;
         writes = record {
           done = [];
           coming = [];
           split = refl;
-          count = sym handed';
+          count = sym unused.handed;
           printing = sym printing;
           waiting = ap (map opening_of) waiting;
           cursor = remembers;

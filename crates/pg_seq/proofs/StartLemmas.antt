@@ -1,6 +1,6 @@
 -- Where files start by progressions, for `FileStarts`.
 use Rattle.std.proofs.Common.{◌≡◌, ℕ, zero, suc, ◌+◌, ◌-◌, ◌*◌, ◌<◌, ◌≤◌, ◌^◌, nat_le, Bool, true, false, cond}
-use Rattle.std.proofs.Common.{MatchBool, inl, inr, List, [], ◌∷◌, ◌++◌, map, length, get_or, set, take}
+use Rattle.std.proofs.Common.{inl, inr, List, [], ◌∷◌, ◌++◌, map, length, get_or, set, take}
 use Rattle.std.proofs.Common.{refl, sym, ap, ◌∙◌, subst, arith}
 use Rattle.std.specs.List.{All, range_with_len}
 use Rattle.std.specs.List.Sorted.{IsPartitionPoint}
@@ -10,7 +10,8 @@ use Rattle.std.proofs.lemmas.List.{drop_all, set_split, set-get_or, same_from_pu
 use Rattle.std.proofs.lemmas.List.Elements.{All-head, All-tail, All-push, All-weaker}
 use Rattle.std.proofs.lemmas.List.FromFn.{length-map-range_with_len, get_or-map-range_with_len, map-range_with_len_more}
 use Rattle.std.proofs.lemmas.List.Sorted.{IsNonDecreasingBy-push}
-use Rattle.pg_seq.specs.Starts.{start_in, start_by, starts_by, IsFromNought, Cover, TakesIn, Lengthens, alone, Appends}
+use Rattle.pg_seq.specs.Starts.{start_in, start_by, starts_by, IsFromNought, Cover, BecomesIfItCan, TakesIn, Lengthens}
+use Rattle.pg_seq.specs.Starts.{alone, Appends}
 use Rattle.pg_seq.specs.declared.file_starts.Progression.{Progression}
 
 pub length_starts : (ps : List Progression) (files : ℕ) → length (starts_by ps files) ≡ files
@@ -224,18 +225,14 @@ module _ (earlier : List Progression) (last longer : Progression) (files here : 
 -- what the last progression says of the file
 pub lengthens : (goes : Bool) (ps : List Progression) (i file here : ℕ) (last longer : Progression) → i + 1 ≡ length ps
     → last ≡ get_or ps i last
-    → MatchBool goes (TakesIn file here last longer)
-    ((longer ≡ last) × ((p : Progression) → TakesIn file here last p → ⊥))
-    → MatchBool goes (Lengthens file here ps (set ps i longer))
-    ((set ps i longer ≡ ps) × ((qs : List Progression) → Lengthens file here ps qs → ⊥))
+    → BecomesIfItCan (TakesIn file here last) last longer goes
+    → BecomesIfItCan (Lengthens file here ps) ps (set ps i longer) goes
 lengthens goes ps i file here last longer end is =
     let was : ps ≡ take i ps ++ last ∷ [] =
     sym (take_all (i + 1) ps (omega arith)) ∙ (take_more ps i last (omega arith)
     ∙ ap (λ p. take i ps ++ p ∷ []) (sym is)) in
-    elim goes as (λ goes. MatchBool goes (TakesIn file here last longer)
-    ((longer ≡ last) × ((p : Progression) → TakesIn file here last p → ⊥))
-    → MatchBool goes (Lengthens file here ps (set ps i longer))
-    ((set ps i longer ≡ ps) × ((qs : List Progression) → Lengthens file here ps qs → ⊥))) [
+    elim goes as (λ goes. BecomesIfItCan (TakesIn file here last) last longer goes
+    → BecomesIfItCan (Lengthens file here ps) ps (set ps i longer) goes) [
       | true ↦ λ takes. record {
         earlier = take i ps;
         last = last;

@@ -1,22 +1,32 @@
 -- How far the rows of a plan could be written by the results that have come.
-use Rattle.std.specs.Prelude.{◌≡◌, ℕ, ◌+◌, ◌-◌, ◌*◌, Bool, true, if◌then◌else◌, List, length, map, drop}
+use Rattle.std.specs.Prelude.{◌≡◌, ℕ, ◌+◌, ◌-◌, ◌*◌, ◌<◌, Bool, true, ◌&&◌, if◌then◌else◌, List, length, map, drop}
+use Rattle.std.specs.Prelude.{Option, MatchOption, IfSome}
 use Rattle.std.specs.List.{list_any}
 use Rattle.pg_lines.specs.Search.{Search, terminator}
 use Rattle.pg_blocks.specs.Lines.{lines}
 use Rattle.pg_lines.specs.Selection.{selects}
 use Rattle.pg_blocks.specs.Blocks.{BlockData}
+use Rattle.pg_rows.specs.declared.format.Format.{Format}
+use Rattle.pg_rows.specs.Enough.{trail_suffices}
+use Rattle.pg_rows.specs.Modes.{is_quiet}
 use Rattle.pg_rows.specs.Output.{has_selected}
 use Rattle.pg_rows.specs.Progress.{IsOfTrail}
+use Rattle.pg_rows.specs.Trail.{Trail}
 use Rattle.pg_seq.specs.Plan.{Step, announced, is_open, entries_of}
 use Rattle.pg_seq.specs.History.{Past, plan, taken_of, all_taken, front_of}
 use Rattle.pg_seq.specs.Cursor.{cursor_of}
 use Rattle.pg_seq.specs.Coming.{behind, openings}
-use Rattle.pg_seq.specs.Standing.{opening_of, is_last_block}
+use Rattle.pg_seq.specs.Standing.{IsAfter, opening_of, is_last_block}
 use Rattle.pg_seq.specs.declared.ahead.Ahead.{Ahead}
 use Rattle.pg_seq.specs.declared.assembler.Assembler.{Assembler}
 
 abbrev pub block_selects : Search → BlockData → Bool
 block_selects q b = list_any (selects q) (lines (terminator q) b.bytes)
+
+-- whether enough would be read, where this is known of the lines of the file that would be open
+abbrev pub is_enough_by : Format → Ahead → Trail → Bool
+is_enough_by format a t =
+    if is_quiet format.mode then a.selected else (a.inside && trail_suffices format.mode format t)
 
 -- The steps that could be done so far, the newest first, and those behind them, the oldest first.
 pub record HasLookedAhead {A : Type 0} (s : Assembler A) (past : Past) (a : Ahead) : Type 0 where
@@ -45,3 +55,13 @@ is_over s a = is_last_block (drop a.files s.waiting.items) s.running (length s.b
 abbrev pub left_ahead : {A : Type 0} → Assembler A → Ahead → ℕ
 left_ahead s a = 2 * (length s.waiting.items - a.files) + (if a.inside then 1 else 0)
     + (length s.buffer.slots.items - a.blocks)
+
+-- there is a past after which it stands and by which the rows could be written so far
+abbrev pub MayLookFurther : {A : Type 0} → Assembler A → Ahead → Type 0
+MayLookFurther s a = (past : Past) × IsAfter s past × HasLookedAhead s past a
+
+-- one step further, after which fewer are left; or none, where no further step can be done
+pub record LooksOneFurther {A : Type 0} (s : Assembler A) (a : Ahead) (result : Option Ahead) : Type 0 where
+  pub further : (past : Past) → IsAfter s past → HasLookedAhead s past a →
+      MatchOption result (IsAtFront past a) (HasLookedAhead s past)
+  pub fewer : IfSome result (λ next. left_ahead s next < left_ahead s a)

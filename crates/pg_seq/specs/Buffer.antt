@@ -1,5 +1,5 @@
 -- What the calls of a reorder buffer do to it.
-use Rattle.std.specs.Prelude.{◌≡◌, ℕ, ◌+◌, ◌≤◌, true, ◌||◌, Some, None, List, [], ◌∷◌, ◌++◌, length, drop}
+use Rattle.std.specs.Prelude.{◌≡◌, ℕ, ◌+◌, ◌≤◌, true, false, ◌||◌, Some, None, List, [], ◌∷◌, ◌++◌, length, drop}
 use Rattle.std.specs.List.{AllByRecursion}
 use Rattle.pg_lines.specs.Search.{Search, HasItsTrees}
 use Rattle.pg_blocks.specs.Blocks.{BlockData}
@@ -14,6 +14,13 @@ use Rattle.pg_seq.specs.declared.reorder_buffer.ReorderBuffer.{ReorderBuffer}
 pub record AreGone {A : Type 0} (buffer : ReorderBuffer A) (gone : List (Slot A)) : Type 0 where
   pub count : length gone ≡ buffer.handed
   pub results : AllByRecursion (λ slot. has_result slot ≡ true) gone
+
+-- no file and no block has come
+pub record IsUnused {A : Type 0} (buffer : ReorderBuffer A) : Type 0 where
+  pub starts : buffer.starts ≡ []
+  pub slots : buffer.slots.items ≡ []
+  pub handed : buffer.handed ≡ 0
+  pub selected : buffer.selected ≡ false
 
 -- nothing but the room has changed
 pub record SameButRoom {A : Type 0} (old new : ReorderBuffer A) : Type 0 where

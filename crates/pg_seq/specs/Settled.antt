@@ -56,3 +56,8 @@ MayBeLonger (entry ∷ entries) (other ∷ others) = IsLonger entry other × May
 pub record GiveTheSame (q : Search) (format : Format) (entries others : List Entry) : Type 0 where
   pub output : output q format entries ≡ output q format others
   pub status : status q format entries ≡ status q format others
+
+-- nothing is written and the status is 0, as without the later files
+pub record ChangeNothing (q : Search) (format : Format) (entries later : List Entry) : Type 0 where
+  pub nothing : (output q format (later ++ entries) ≡ []) × (status q format (later ++ entries) ≡ 0)
+  pub same : GiveTheSame q format entries (later ++ entries)

@@ -1,22 +1,26 @@
 -- How a sequencer stands after what happened to it.
-use Rattle.std.specs.Prelude.{◌≡◌, ℕ, ◌+◌, ◌*◌, ◌<◌, ◌==◌, Bool, true, false, not, ◌&&◌, ◌||◌, if◌then◌else◌}
-use Rattle.std.specs.Prelude.{Result, Ok, Err}
+use Rattle.std.specs.Prelude.{◌≡◌, ℕ, ◌+◌, ◌*◌, ◌<◌, ◌≤◌, ◌==◌, Bool, true, false, not, ◌&&◌, ◌||◌, if◌then◌else◌}
+use Rattle.std.specs.Prelude.{Result, Ok, Err, MatchResult, IfOk, OnOk, OnErr, IsErrOf, Option, MatchOption, MatchBool}
 use Rattle.std.specs.Prelude.{List, [], ◌∷◌, ◌++◌, map, length}
 use Rattle.std.specs.List.{AllByRecursion, list_any}
-use Rattle.std.specs.Result.{OnOk, OnErr}
 use Rattle.std.specs.Arc.{arc_value}
-use Rattle.pg_lines.specs.Search.{terminator, HasItsTrees}
+use Rattle.pg_lines.specs.Search.{SearchText, Pattern, AreTreesOf, search_of, terminator, HasItsTrees}
+use Rattle.pg_lines.specs.Searched.{Searched}
+use Rattle.pg_rows.specs.declared.format.Format.{Format}
+use Rattle.pg_rows.specs.Enough.{is_enough}
 use Rattle.pg_rows.specs.Output.{HasRoom, is_bad, output}
 use Rattle.pg_rows.specs.Remembered.{IsAtCursor}
 use Rattle.pg_base.specs.Sink.{Stream, WritesAll, IsBeginning}
 use Rattle.pg_seq.specs.Plan.{Step, Opens, Announces, Ends, Misses, announced, IsPlan, MayFollow, is_open, entries_of}
-use Rattle.pg_seq.specs.History.{Past, plan, planned, taken_of, is_taken, handed}
+use Rattle.pg_seq.specs.History.{Past, start, plan, planned, arrived, answer, taken_of, is_taken, front_of, handed}
+use Rattle.pg_seq.specs.History.{IsComplete, status_of}
 use Rattle.pg_seq.specs.Cursor.{cursor_of}
 use Rattle.pg_seq.specs.Coming.{behind, openings}
 use Rattle.pg_seq.specs.Slots.{slot_block, has_result, slot_selects, IsResultOf}
 use Rattle.pg_seq.specs.Buffer.{AreGone}
 use Rattle.pg_seq.specs.declared.opening.Opening.{Opening}
 use Rattle.pg_seq.specs.declared.slot.Slot.{Slot}
+use Rattle.pg_seq.specs.declared.answers.Arrival.TheVariants.{Taken}
 use Rattle.pg_seq.specs.declared.answers.SinkFault.{SinkFault}
 use Rattle.pg_seq.specs.declared.answers.SinkFault.TheVariants.{WriteFailed, Failed}
 use Rattle.pg_seq.specs.declared.assembler.Assembler.{Assembler}
@@ -64,6 +68,15 @@ pub record IsAfter {A : Type 0} (s : Assembler A) (past : Past) : Type 0 where
   pub selected : s.buffer.selected ≡ list_any (slot_selects past.query) gone
   pub writes : HasWritten s past
 
+-- there is a past after which it stands
+abbrev pub HasPast : {A : Type 0} → Assembler A → Type 0
+HasPast s = (past : Past) × IsAfter s past
+
+-- nothing happened to it, and it is for the results of the query with this text
+abbrev pub IsAtStart : {A : Type 0} → SearchText → Format → Assembler A → Type 0
+IsAtStart text format s = (trees : List Pattern) → AreTreesOf text trees →
+    IsAfter s (start (search_of text trees) format)
+
 -- the sequencer stands after this, and the step may follow
 abbrev pub IsReadyFor : {A : Type 0} → Assembler A → Past → Step → Type 0
 IsReadyFor s past step = IsAfter s past × MayFollow (terminator past.query) (plan past) step
@@ -76,9 +89,32 @@ MayPlan s step = (past : Past) × IsReadyFor s past step
 abbrev pub PlansAtOk : {A T E : Type 0} → (old new : Assembler A) → Step → Result T E → Type 0
 PlansAtOk old new step result = (past : Past) → IsAfter old past → OnOk result (IsAfter new (planned past step))
 
+-- the same of each past on which the step may follow
+abbrev pub PlansAtOkWhereItMay : {A T E : Type 0} → (old new : Assembler A) → Step → Result T E → Type 0
+PlansAtOkWhereItMay old new step result = (past : Past) → IsAfter old past →
+    MayFollow (terminator past.query) (plan past) step → OnOk result (IsAfter new (planned past step))
+
 -- at Err it stands after each past after which it stood
 abbrev pub StaysAtErr : {A T E : Type 0} → (old new : Assembler A) → Result T E → Type 0
 StaysAtErr old new result = (past : Past) → IsAfter old past → OnErr result (IsAfter new past)
+
+-- by some past after which it stands the result would be taken
+abbrev pub MayKeep : {A : Type 0} → Assembler A → Searched → Type 0
+MayKeep s found = (past : Past) × IsAfter s past × (answer past found ≡ Taken)
+
+-- the result has arrived behind each past after which it stood and by which the result is taken
+abbrev pub Keeps : {A : Type 0} → (old new : Assembler A) → Searched → Type 0
+Keeps old new found = (past : Past) → IsAfter old past → answer past found ≡ Taken → IsAfter new (arrived past found)
+
+-- whether enough was read, by the files of the front
+abbrev pub TellsEnough : {A : Type 0} → Assembler A → Bool → Type 0
+TellsEnough s enough = (past : Past) → IsAfter s past →
+    enough ≡ is_enough past.query past.format (entries_of (front_of past))
+
+-- the exit status once all is complete, and none before
+abbrev pub TellsStatus : {A : Type 0} → Assembler A → Option ℕ → Type 0
+TellsStatus s told = (past : Past) → IsAfter s past →
+    MatchOption told (IsComplete past → ⊥) (λ status. IsComplete past × (status ≡ status_of past))
 
 -- what a drain did that wrote a text
 abbrev pub Drained : Result (Unit {0}) SinkFault → Past → List ℕ → Type 0
@@ -93,12 +129,15 @@ fails (Err fault) = true
 abbrev pub drained : Past → List ℕ → Result (Unit {0}) SinkFault → Past
 drained past text result = record past { written = past.written ++ text; failed = past.failed || fails result }
 
--- a drain did so, behind each past after which it stood
-abbrev pub Drains : {A : Type 0} → (old new : Assembler A) → (before after : Stream) → Result (Unit {0}) SinkFault
-    → Type 0
-Drains old new before after result = (past : Past) → IsAfter old past →
-    (text : List ℕ) × (after.taken ≡ before.taken ++ text) × Drained result past text
-    × IsAfter new (drained past text result)
+-- A drain did so, behind each past after which it stood. Where it tells of a write that failed in it, the sink has
+-- counted a failure, and where it tells of none, no failure.
+pub record Drains {A : Type 0} (old new : Assembler A) (before after : Stream) (result : Result (Unit {0}) SinkFault)
+    : Type 0 where
+  pub drained : (past : Past) → IsAfter old past → (text : List ℕ) × (after.taken ≡ before.taken ++ text)
+      × Drained result past text × IsAfter new (drained past text result)
+  pub cause : IsErrOf result WriteFailed → before.failures < after.failures
+  pub no_failure : OnOk result (after.failures ≡ before.failures)
+  pub never_falls : before.failures ≤ after.failures
 
 -- more was written
 abbrev pub wrote : Past → List ℕ → Past
@@ -139,3 +178,19 @@ pub record HasNothingToDo {A : Type 0} (new : Assembler A) (past : Past) (before
   pub all : HasWrittenAll past
   pub same : after ≡ before
   pub stands : IsAfter new past
+
+-- A step of the plan was done at true. At false there was none that may be done, and at Err a write failed in it.
+pub record TakesOneStep {A E : Type 0} (old new : Assembler A) (before after : Stream) (result : Result Bool E)
+    : Type 0 where
+  pub goes : (past : Past) → IsAfter old past → old.failed ≡ false → MatchResult result
+      (λ more. MatchBool more (Advances new past before after) (HasNothingToDo new past before after))
+      (λ _. BreaksOffInStep new past before after)
+  pub fewer : IfOk result (λ more. more ≡ true → left new < left old)
+  pub same : new.failed ≡ old.failed
+
+-- The next file was opened in the printer at true. At false none waits, and all was written.
+pub record OpensNext {A : Type 0} (old new : Assembler A) (more : Bool) : Type 0 where
+  pub opened : (past : Past) → IsAfter old past → old.failed ≡ false →
+      MatchBool more (IsAfter new past) (HasWrittenAll past × IsAfter new past)
+  pub fewer : more ≡ true → left new < left old
+  pub same : new.failed ≡ old.failed

@@ -1,5 +1,6 @@
 -- Where files start, by progressions of files.
-use Rattle.std.specs.Prelude.{◌≡◌, ℕ, ◌+◌, ◌-◌, ◌*◌, ◌<◌, ◌^◌, nat_le, ◌⊎◌, List, [], ◌∷◌, ◌++◌, map, if◌then◌else◌}
+use Rattle.std.specs.Prelude.{◌≡◌, ℕ, ◌+◌, ◌-◌, ◌*◌, ◌<◌, ◌^◌, nat_le, ◌⊎◌, Bool, MatchBool}
+use Rattle.std.specs.Prelude.{List, [], ◌∷◌, ◌++◌, map, if◌then◌else◌}
 use Rattle.std.specs.List.{All, range_with_len}
 use Rattle.std.specs.List.Sorted.{IsNonDecreasingBy}
 use Rattle.pg_seq.specs.declared.file_starts.Progression.{Progression}
@@ -47,6 +48,11 @@ pub record Lengthens (file here : ℕ) (old new : List Progression) : Type 0 whe
   pub was : old ≡ earlier ++ last ∷ []
   pub is : new ≡ earlier ++ longer ∷ []
   pub takes : TakesIn file here last longer
+
+-- at true the new value is one that the old may become; at false there is none such, and nothing has changed
+abbrev pub BecomesIfItCan : {X : Type 0} → (X → Type 0) → (old new : X) → Bool → Type 0
+BecomesIfItCan {X} MayBecome old new done = MatchBool done (MayBecome new)
+    ((new ≡ old) × ((other : X) → MayBecome other → ⊥))
 
 -- the progression of a file alone
 abbrev pub alone : ℕ → ℕ → Progression

@@ -1,6 +1,5 @@
 //! How far the rows of a plan could be written.
-ghost use Rattle.std.specs.Prelude.{◌≡◌, ◌&&◌, if◌then◌else◌};
-ghost use Rattle.pg_rows.specs.Modes.{is_quiet};
+ghost use Rattle.std.specs.Prelude.{◌≡◌};
 
 use pg_rows::{Format, Progress};
 
@@ -20,15 +19,13 @@ pub(crate) struct Ahead {
 }
 
 impl Ahead {
-    ghost use Rattle.pg_rows.specs.Enough.{trail_suffices};
     ghost use Rattle.pg_rows.specs.Progress.{IsOfTrail};
     ghost use Rattle.pg_rows.specs.Trail.{Trail};
+    ghost use Rattle.pg_seq.specs.Ahead.{is_enough_by};
 
     /// Whether enough was read.
     pub(crate) fn is_enough(self, format: &Format) -> bool
-        ensures { (t : Trail) → IsOfTrail self.progress format.now t →
-            result ≡ (if is_quiet format.now.mode then self.selected
-            else (self.inside && trail_suffices format.now.mode format.now t)) }
+        ensures { (t : Trail) → IsOfTrail self.progress format.now t → result ≡ is_enough_by format.now self t }
     {
         if format.mode.is_quiet() {
             self.selected

@@ -1,7 +1,5 @@
 //! How results are put in order, and what is known of it.
-ghost use Rattle.std.specs.Prelude.{◌≡◌, ℕ, ◌<◌, ◌≤◌, ◌++◌, ◌↔◌, List, false, IsTrue, IfOk, OnOk, OnErr, IsErrOf};
-ghost use Rattle.std.specs.Prelude.{MatchOption, MatchBool, MatchResult, IfSome, true};
-ghost use Rattle.std.specs.Prelude.{◌&&◌, if◌then◌else◌};
+ghost use Rattle.std.specs.Prelude.{◌≡◌, ◌↔◌, true, false, IsTrue, IfOk, ◌&&◌, if◌then◌else◌};
 ghost use Rattle.std.specs.Arc.{arc_value};
 ghost use Rattle.pg_rows.specs.Modes.{is_quiet};
 
@@ -72,18 +70,13 @@ impl<A: Allocator> Drop for Assembler<A> {
 }
 
 impl<A: Allocator> Assembler<A> {
-    ghost use Rattle.pg_lines.specs.Search.{Pattern, AreTreesOf, search_of, terminator};
-    ghost use Rattle.pg_seq.specs.Plan.{Opens, Announces, Ends, Misses, MayFollow};
-    ghost use Rattle.pg_seq.specs.History.{Past, start, planned, arrived, plan, answer, IsComplete, status_of};
     ghost use Rattle.pg_rows.specs.Output.{HasRoom};
-    ghost use Rattle.pg_seq.specs.Standing.{IsAfter, Drains, MayPlan, PlansAtOk, StaysAtErr, is_at_end, left};
-    ghost use Rattle.pg_seq.specs.Standing.{Advances, BreaksOffInStep, HasNothingToDo, HasWrittenAll};
-    ghost use Rattle.pg_rows.specs.Enough.{is_enough};
-    ghost use Rattle.pg_seq.specs.Plan.{entries_of};
-    ghost use Rattle.pg_seq.specs.History.{front_of};
-    ghost use Rattle.pg_seq.specs.Ahead.{HasLookedAhead, IsAtFront, is_over, left_ahead};
-    ghost use Rattle.pg_seq.specs.declared.answers.Arrival.TheVariants.{Taken};
-    ghost use Rattle.pg_seq.specs.declared.answers.SinkFault.TheVariants.{WriteFailed};
+    ghost use Rattle.pg_seq.specs.Plan.{Opens, Announces, Ends, Misses};
+    ghost use Rattle.pg_seq.specs.History.{Past, planned, arrived, answer, IsComplete};
+    ghost use Rattle.pg_seq.specs.Standing.{IsAfter, HasPast, IsAtStart, MayPlan, PlansAtOk, PlansAtOkWhereItMay};
+    ghost use Rattle.pg_seq.specs.Standing.{StaysAtErr, MayKeep, Keeps, Drains, TellsEnough, TellsStatus};
+    ghost use Rattle.pg_seq.specs.Standing.{is_at_end, TakesOneStep, OpensNext};
+    ghost use Rattle.pg_seq.specs.Ahead.{is_over, MayLookFurther, LooksOneFurther};
 
     /// One to which nothing happened.
     pub(crate) fn new(
@@ -94,8 +87,7 @@ impl<A: Allocator> Assembler<A> {
     where
         A: Copy,
         requires { HasRoom format }
-        ensures { IfOk result (λ s. (trees : List Pattern) → AreTreesOf (arc_value query).text trees →
-            IsAfter s (start (search_of (arc_value query).text trees) format)) }
+        ensures { IfOk result (IsAtStart (arc_value query).text format) }
     {
         let printer = Printer::new(alloc, &query, format)?;
         Ok(Assembler {
@@ -132,9 +124,7 @@ impl<A: Allocator> Assembler<A> {
     /// Announces the open file's next block. A refused request for memory is the only error, and changes nothing.
     pub(crate) fn announce(&mut self, block: Arc<Block<A>, A>) -> Result<(), AllocError>
         requires { MayPlan self.old (Announces (arc_value block)) }
-        ensures ok { (past : Past) → IsAfter self.old past →
-            MayFollow (terminator past.query) (plan past) (Announces (arc_value block)) →
-            OnOk result (IsAfter self.new (planned past (Announces (arc_value block)))) }
+        ensures ok { PlansAtOkWhereItMay self.old self.new (Announces (arc_value block)) result }
         ensures err { StaysAtErr self.old self.new result }
     {
         self.buffer.push(block)
@@ -177,9 +167,8 @@ impl<A: Allocator> Assembler<A> {
 
     /// Takes a result that is the first of its block.
     pub(crate) fn keep(&mut self, found: BlockResult<A>)
-        requires { (past : Past) × IsAfter self.old past × (answer past found ≡ Taken) }
-        ensures { (past : Past) → IsAfter self.old past → answer past found ≡ Taken →
-            IsAfter self.new (arrived past found) }
+        requires { MayKeep self.old found }
+        ensures { Keeps self.old self.new found }
     {
         self.buffer.put(found);
     }
@@ -198,11 +187,8 @@ impl<A: Allocator> Assembler<A> {
 
     /// Writes all that may be handed out and was not yet written.
     pub(crate) fn drain<W: Sink>(&mut self, out: &mut W) -> Result<(), SinkFault>
-        requires { (past : Past) × IsAfter self.old past }
-        ensures drained { Drains self.old self.new (W.stream out.old) (W.stream out.new) result }
-        ensures cause { IsErrOf result WriteFailed → (W.stream out.old).failures < (W.stream out.new).failures }
-        ensures no_failure { OnOk result ((W.stream out.new).failures ≡ (W.stream out.old).failures) }
-        ensures never_falls { (W.stream out.old).failures ≤ (W.stream out.new).failures }
+        requires { HasPast self.old }
+        ensures { Drains self.old self.new (W.stream out.old) (W.stream out.new) result }
     {
         if self.failed {
             return Err(SinkFault::Failed);
@@ -221,13 +207,8 @@ impl<A: Allocator> Assembler<A> {
 
     /// Does the next step of the plan that may be done. `false` says that there is none.
     fn advance<W: Sink>(&mut self, out: &mut W) -> Result<bool, WriteError>
-        requires { (past : Past) × IsAfter self.old past }
-        ensures goes { (past : Past) → IsAfter self.old past → self.old.failed ≡ false → MatchResult result (λ more.
-            MatchBool more (Advances self.new past (W.stream out.old) (W.stream out.new))
-            (HasNothingToDo self.new past (W.stream out.old) (W.stream out.new)))
-            (λ _. BreaksOffInStep self.new past (W.stream out.old) (W.stream out.new)) }
-        ensures fewer { IfOk result (λ more. more ≡ true → left self.new < left self.old) }
-        ensures same { self.new.failed ≡ self.old.failed }
+        requires { HasPast self.old }
+        ensures { TakesOneStep self.old self.new (W.stream out.old) (W.stream out.new) result }
     {
         if !self.printing {
             return Ok(self.open_next());
@@ -243,10 +224,7 @@ impl<A: Allocator> Assembler<A> {
     /// Opens the next file in the printer, where one waits.
     fn open_next(&mut self) -> bool
         requires { self.old.printing ≡ false }
-        ensures opened { (past : Past) → IsAfter self.old past → self.old.failed ≡ false →
-            MatchBool result (IsAfter self.new past) (HasWrittenAll past × IsAfter self.new past) }
-        ensures fewer { result ≡ true → left self.new < left self.old }
-        ensures same { self.new.failed ≡ self.old.failed }
+        ensures { OpensNext self.old self.new result }
     {
         let Some(next) = self.waiting.pop_front() else {
             return false;
@@ -269,14 +247,9 @@ impl<A: Allocator> Assembler<A> {
     /// Writes the rows of the next block of the file that the printer has opened, where its result has
     /// come.
     fn print_next<W: Sink>(&mut self, out: &mut W) -> Result<bool, WriteError>
-        requires stands { (past : Past) × IsAfter self.old past }
+        requires stands { HasPast self.old }
         requires inside { (self.old.printing ≡ true) × (is_at_end self.old ≡ false) }
-        ensures goes { (past : Past) → IsAfter self.old past → self.old.failed ≡ false → MatchResult result (λ more.
-            MatchBool more (Advances self.new past (W.stream out.old) (W.stream out.new))
-            (HasNothingToDo self.new past (W.stream out.old) (W.stream out.new)))
-            (λ _. BreaksOffInStep self.new past (W.stream out.old) (W.stream out.new)) }
-        ensures fewer { IfOk result (λ more. more ≡ true → left self.new < left self.old) }
-        ensures same { self.new.failed ≡ self.old.failed }
+        ensures { TakesOneStep self.old self.new (W.stream out.old) (W.stream out.new) result }
     {
         let Some(found) = self.buffer.result_at(0) else {
             return Ok(false);
@@ -297,9 +270,8 @@ impl<A: Allocator> Assembler<A> {
 
     /// Whether enough was read, by the files that may be handed out.
     pub(crate) fn enough(&self) -> bool
-        requires { (past : Past) × IsAfter self.now past }
-        ensures { (past : Past) → IsAfter self.now past →
-            result ≡ is_enough past.query past.format (entries_of (front_of past)) }
+        requires { HasPast self.now }
+        ensures { TellsEnough self.now result }
     {
         let mut ahead = Ahead {
             blocks: 0,
@@ -316,10 +288,8 @@ impl<A: Allocator> Assembler<A> {
 
     /// One step further, where it could be done.
     fn next_ahead(&self, ahead: Ahead) -> Option<Ahead>
-        requires { (past : Past) × IsAfter self.now past × HasLookedAhead self.now past ahead }
-        ensures further { (past : Past) → IsAfter self.now past → HasLookedAhead self.now past ahead →
-            MatchOption result (IsAtFront past ahead) (HasLookedAhead self.now past) }
-        ensures fewer { IfSome result (λ next. left_ahead self.now next < left_ahead self.now ahead) }
+        requires { MayLookFurther self.now ahead }
+        ensures { LooksOneFurther self.now ahead result }
     {
         if !ahead.inside {
             return self.file_ahead(ahead);
@@ -336,9 +306,7 @@ impl<A: Allocator> Assembler<A> {
     /// Opens the next file.
     fn file_ahead(&self, ahead: Ahead) -> Option<Ahead>
         requires { ahead.inside ≡ false }
-        ensures further { (past : Past) → IsAfter self.now past → HasLookedAhead self.now past ahead →
-            MatchOption result (IsAtFront past ahead) (HasLookedAhead self.now past) }
-        ensures fewer { IfSome result (λ next. left_ahead self.now next < left_ahead self.now ahead) }
+        ensures { LooksOneFurther self.now ahead result }
     {
         if ahead.files >= self.waiting.len() {
             return None;
@@ -363,11 +331,9 @@ impl<A: Allocator> Assembler<A> {
 
     /// Goes past the next block, where its result has come.
     fn block_ahead(&self, ahead: Ahead) -> Option<Ahead>
-        requires stands { (past : Past) × IsAfter self.now past × HasLookedAhead self.now past ahead }
+        requires stands { MayLookFurther self.now ahead }
         requires inside { (ahead.inside ≡ true) × (is_over self.now ahead ≡ false) }
-        ensures further { (past : Past) → IsAfter self.now past → HasLookedAhead self.now past ahead →
-            MatchOption result (IsAtFront past ahead) (HasLookedAhead self.now past) }
-        ensures fewer { IfSome result (λ next. left_ahead self.now next < left_ahead self.now ahead) }
+        ensures { LooksOneFurther self.now ahead result }
     {
         let Some(found) = self.buffer.result_at(ahead.blocks) else {
             return None;
@@ -383,8 +349,7 @@ impl<A: Allocator> Assembler<A> {
 
     /// The exit status, once all is complete.
     pub(crate) fn status(&self) -> Option<u8>
-        ensures { (past : Past) → IsAfter self.now past →
-            MatchOption result (IsComplete past → ⊥) (λ status. IsComplete past × (status ≡ status_of past)) }
+        ensures { TellsStatus self.now result }
     {
         if !self.complete() {
             return None;

@@ -1,8 +1,8 @@
 //! Where each file starts among all announced blocks.
-ghost use Rattle.std.specs.Prelude.{◌≡◌, ◌<◌, ◌≤◌, ◌^◌, ◌++◌, ◌∷◌, [], List, length, slice_get, OnOk, OnErr, MatchBool};
+ghost use Rattle.std.specs.Prelude.{◌≡◌, ◌<◌, ◌≤◌, ◌^◌, ◌++◌, ◌∷◌, [], length, slice_get, OnOk, OnErr};
 ghost use Rattle.std.specs.List.{All};
 ghost use Rattle.std.specs.List.Sorted.{IsNonDecreasingBy, IsPartitionPoint};
-ghost use Rattle.pg_seq.specs.Starts.{start_in, TakesIn, Lengthens, Appends};
+ghost use Rattle.pg_seq.specs.Starts.{start_in, BecomesIfItCan, TakesIn, Lengthens, Appends};
 
 use std::alloc::{AllocError, Allocator, Global};
 use std::marker::Model;
@@ -56,8 +56,7 @@ impl Progression {
     /// ones have to start where that says.
     fn take_in(&mut self, file: usize, start: u128) -> bool
         requires { self.old.first < file }
-        ensures { MatchBool result (TakesIn file start self.old self.new)
-            ((self.new ≡ self.old) × ((p : Progression) → TakesIn file start self.old p → ⊥)) }
+        ensures { BecomesIfItCan (TakesIn file start self.old) self.old self.new result }
     {
         let Some(ahead) = start.checked_sub(self.start) else {
             return false;
@@ -86,9 +85,8 @@ fn count_begun(progressions: &[Progression], file: usize) -> usize
 /// Has the last progression take the file behind it in, where it can.
 fn lengthen<A: Allocator>(progressions: &mut Vec<Progression, A>, file: usize, start: u128) -> bool
     requires { All (λ p. p.first < file) progressions.old.items }
-    ensures { MatchBool result (Lengthens file start progressions.old.items progressions.new.items)
-        ((progressions.new.items ≡ progressions.old.items)
-        × ((ps : List Progression) → Lengthens file start progressions.old.items ps → ⊥)) }
+    ensures { BecomesIfItCan (Lengthens file start progressions.old.items) progressions.old.items progressions.new.items
+        result }
 {
     let count = progressions.len();
     if count == 0 {

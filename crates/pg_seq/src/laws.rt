@@ -1,5 +1,5 @@
 //! Laws of the definitions that contracts cite. They speak of all values, and a call does nothing.
-ghost use Rattle.std.specs.Prelude.{◌≡◌, ◌++◌, ℕ, List, [], false, true};
+ghost use Rattle.std.specs.Prelude.{◌≡◌, ◌++◌, ℕ, List, false, true};
 ghost use Rattle.std.specs.List.{Contains, list_any};
 ghost use Rattle.pg_lines.specs.Search.{Search, terminator};
 ghost use Rattle.pg_blocks.specs.Lines.{AreWhole, lines};
@@ -12,7 +12,7 @@ ghost use Rattle.pg_rows.specs.Enough.{lines_suffice};
 ghost use Rattle.pg_seq.specs.Plan.{IsPlan, Begins, announced, entries_of};
 ghost use Rattle.pg_seq.specs.History.{Past, IsComplete, plan, handed, answer, is_taken, taken_of};
 ghost use Rattle.pg_base.specs.Sink.{IsBeginning};
-ghost use Rattle.pg_seq.specs.Settled.{IsSettled, AreLeftRightly, MayBeLonger, GiveTheSame};
+ghost use Rattle.pg_seq.specs.Settled.{IsSettled, AreLeftRightly, MayBeLonger, GiveTheSame, ChangeNothing};
 ghost use Rattle.pg_seq.specs.Shares.{joined_output, joined_status};
 ghost use Rattle.pg_seq.specs.declared.answers.Arrival.TheVariants.{Taken};
 
@@ -57,12 +57,9 @@ pub fn left_files_may_be_longer()
 /// With -q, once a line is selected, nothing is written and the status is 0, whatever files follow, also
 /// missed and failed ones: later files change nothing.
 pub fn later_files_stay_unread()
-    ensures nothing { (q : Search) (format : Format) (entries : List Entry) (later : List Entry) →
+    ensures { (q : Search) (format : Format) (entries : List Entry) (later : List Entry) →
         is_quiet format.mode ≡ true → list_any (has_selected q) entries ≡ true →
-        (output q format (later ++ entries) ≡ []) × (status q format (later ++ entries) ≡ 0) }
-    ensures same { (q : Search) (format : Format) (entries : List Entry) (later : List Entry) →
-        is_quiet format.mode ≡ true → list_any (has_selected q) entries ≡ true →
-        GiveTheSame q format entries (later ++ entries) }
+        ChangeNothing q format entries later }
 {}
 
 /// The files of a run may be searched in shares, by runs of their own, in this order: their outputs, one behind the

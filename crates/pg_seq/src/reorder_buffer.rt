@@ -1,5 +1,5 @@
 //! Results that wait for those of the blocks before them.
-ghost use Rattle.std.specs.Prelude.{◌≡◌, ◌+◌, ◌<◌, ◌≤◌, ◌^◌, ◌||◌, ◌==◌, [], false, OnOk, OnErr, MatchOption};
+ghost use Rattle.std.specs.Prelude.{◌≡◌, ◌+◌, ◌<◌, ◌≤◌, ◌^◌, ◌||◌, ◌==◌, [], OnOk, OnErr, MatchOption};
 ghost use Rattle.std.specs.Prelude.{length, drop};
 ghost use Rattle.std.specs.List.{AllByRecursion, list_all, list_any};
 ghost use Rattle.std.specs.Arc.{arc_value};
@@ -66,16 +66,14 @@ fn place_in<A: Allocator>(
 impl<A: Allocator> ReorderBuffer<A> {
     ghost use Rattle.pg_lines.specs.Search.{Search, HasItsTrees};
     ghost use Rattle.pg_seq.specs.Slots.{IsResultOf, has_result, slot_selects, ready};
-    ghost use Rattle.pg_seq.specs.Buffer.{SameButRoom, OpensFile, Pushes, IsArrival, Puts, HandsOut, HasResult};
+    ghost use Rattle.pg_seq.specs.Buffer.{IsUnused, SameButRoom, OpensFile, Pushes, IsArrival, Puts, HandsOut};
+    ghost use Rattle.pg_seq.specs.Buffer.{HasResult};
 
     /// A buffer without files and blocks.
     pub(crate) fn new(alloc: A) -> ReorderBuffer<A>
     where
         A: Copy,
-        ensures starts { result.starts ≡ [] }
-        ensures slots { result.slots.items ≡ [] }
-        ensures handed { result.handed ≡ 0 }
-        ensures selected { result.selected ≡ false }
+        ensures { IsUnused result }
     {
         ReorderBuffer {
             starts: FileStarts::new(alloc),

@@ -1,5 +1,5 @@
 //! What a run writes, from results that arrive in any order.
-ghost use Rattle.std.specs.Prelude.{◌≡◌, ℕ, ◌<◌, ◌≤◌, ◌++◌, ◌↔◌, List, IsTrue, IfOk, OnOk, OnErr, IsErrOf, MatchOption};
+ghost use Rattle.std.specs.Prelude.{◌≡◌, ◌↔◌, IsTrue, IfOk};
 ghost use Rattle.std.specs.Arc.{arc_value};
 
 use crate::answers::{Arrival, SinkFault};
@@ -40,15 +40,11 @@ impl<A: Allocator> Model for Sequencer<A> {
 }
 
 impl<A: Allocator> Sequencer<A> {
-    ghost use Rattle.pg_lines.specs.Search.{Pattern, AreTreesOf, search_of, terminator};
     ghost use Rattle.pg_rows.specs.Output.{HasRoom};
-    ghost use Rattle.pg_rows.specs.Enough.{is_enough};
-    ghost use Rattle.pg_seq.specs.Plan.{Opens, Announces, Ends, Misses, MayFollow, entries_of};
-    ghost use Rattle.pg_seq.specs.History.{Past, start, planned, arrived, plan, answer, front_of, IsComplete};
-    ghost use Rattle.pg_seq.specs.History.{status_of};
-    ghost use Rattle.pg_seq.specs.Standing.{IsAfter, Drains, MayPlan, PlansAtOk, StaysAtErr};
-    ghost use Rattle.pg_seq.specs.declared.answers.Arrival.TheVariants.{Taken};
-    ghost use Rattle.pg_seq.specs.declared.answers.SinkFault.TheVariants.{WriteFailed};
+    ghost use Rattle.pg_seq.specs.Plan.{Opens, Announces, Ends, Misses};
+    ghost use Rattle.pg_seq.specs.History.{Past, planned, arrived, answer, IsComplete};
+    ghost use Rattle.pg_seq.specs.Standing.{IsAfter, IsAtStart, MayPlan, PlansAtOk, PlansAtOkWhereItMay, StaysAtErr};
+    ghost use Rattle.pg_seq.specs.Standing.{MayKeep, Keeps, Drains, TellsEnough, TellsStatus};
 
     /// A sequencer to which nothing happened, for the results of a query. It reserves the room for the
     /// lines before a selected one that are shown.
@@ -62,8 +58,7 @@ impl<A: Allocator> Sequencer<A> {
     where
         A: Copy,
         requires { HasRoom format }
-        ensures { IfOk result (λ s. (trees : List Pattern) → AreTreesOf (arc_value query).text trees →
-            IsAfter s (start (search_of (arc_value query).text trees) format)) }
+        ensures { IfOk result (IsAtStart (arc_value query).text format) }
     {
         let compiled: &Query<A> = &query;
         // Its contract says that the patterns have trees.
@@ -93,9 +88,7 @@ impl<A: Allocator> Sequencer<A> {
     /// file at most 2^62. A refused request for memory is the only error, and changes nothing.
     pub fn announce(&mut self, block: Arc<Block<A>, A>) -> Result<(), AllocError>
         requires { MayPlan self.old (Announces (arc_value block)) }
-        ensures ok { (past : Past) → IsAfter self.old past →
-            MayFollow (terminator past.query) (plan past) (Announces (arc_value block)) →
-            OnOk result (IsAfter self.new (planned past (Announces (arc_value block)))) }
+        ensures ok { PlansAtOkWhereItMay self.old self.new (Announces (arc_value block)) result }
         ensures err { StaysAtErr self.old self.new result }
     {
         self.assembler.announce(block)
@@ -133,9 +126,8 @@ impl<A: Allocator> Sequencer<A> {
     /// Takes a result whose arrival would be answered by `Taken`, as that of a block that was just
     /// announced and searched. Neither queries nor blocks are compared. It takes no memory.
     pub fn keep(&mut self, found: BlockResult<A>)
-        requires { (past : Past) × IsAfter self.old past × (answer past found ≡ Taken) }
-        ensures { (past : Past) → IsAfter self.old past → answer past found ≡ Taken →
-            IsAfter self.new (arrived past found) }
+        requires { MayKeep self.old found }
+        ensures { Keeps self.old self.new found }
     {
         self.assembler.keep(found);
     }
@@ -148,10 +140,7 @@ impl<A: Allocator> Sequencer<A> {
     /// a beginning of what was due was written. `Failed` where an earlier call answered
     /// `WriteFailed`; nothing is written.
     pub fn drain<W: Sink>(&mut self, out: &mut W) -> Result<(), SinkFault>
-        ensures drained { Drains self.old self.new (W.stream out.old) (W.stream out.new) result }
-        ensures cause { IsErrOf result WriteFailed → (W.stream out.old).failures < (W.stream out.new).failures }
-        ensures no_failure { OnOk result ((W.stream out.new).failures ≡ (W.stream out.old).failures) }
-        ensures never_falls { (W.stream out.old).failures ≤ (W.stream out.new).failures }
+        ensures { Drains self.old self.new (W.stream out.old) (W.stream out.new) result }
     {
         self.assembler.drain(out)
     }
@@ -169,8 +158,7 @@ impl<A: Allocator> Sequencer<A> {
     ///
     /// While results are missing the open file may be an earlier one than that of the plan.
     pub fn enough(&self) -> bool
-        ensures { (past : Past) → IsAfter self.now past →
-            result ≡ is_enough past.query past.format (entries_of (front_of past)) }
+        ensures { TellsEnough self.now result }
     {
         self.assembler.enough()
     }
@@ -179,8 +167,7 @@ impl<A: Allocator> Sequencer<A> {
     /// or a file whose reading failed, but with -q 0 where a line was selected; else 0 where a line was
     /// selected and 1 where none was.
     pub fn status(&self) -> Option<u8>
-        ensures { (past : Past) → IsAfter self.now past →
-            MatchOption result (IsComplete past → ⊥) (λ status. IsComplete past × (status ≡ status_of past)) }
+        ensures { TellsStatus self.now result }
     {
         self.assembler.status()
     }

@@ -1,7 +1,7 @@
-use Rattle.std.proofs.Common.{◌∙◌, Bool, true, false, [], sym, subst, refl, List, ℕ}
+use Rattle.std.proofs.Common.{◌∙◌, Bool, true, false, [], sym, subst, refl, List, ℕ, rules}
 use Rattle.std.specs.Bool.{MatchBool}
 use Rattle.std.proofs.lemmas.List.{append-nil}
-use Rattle.std.proofs.lemmas.Result.{MatchResult-from_err}
+use Rattle.std.proofs.lemmas.Result.{MatchResult-from_err, IfOk-from_err}
 use Rattle.pg_rows.specs.Remembered.{end_rows}
 use Rattle.pg_base.specs.Sink.{Stream, WritesAll, WritesPart}
 use Rattle.pg_base.proofs.WriteLemmas.{wrote_none}
@@ -24,34 +24,47 @@ opened new past out true h = record {
 }
 opened new past out false h = record { all = h.0; same = refl; stands = h.1 }
 
-pub returns-then-not-self-clause-goes : goal.returns-then-not-self-clause-goes
-returns-then-not-self-clause-goes g c = λ past h f.
-    opened _ past _ c.open_next.result (c.open_next.ensures.opened past h f)
-
-pub returns-in_err-end-clause-goes : goal.returns-in_err-end-clause-goes
-returns-in_err-end-clause-goes g c = λ past h f.
-    let s = c.args.self.now in
-    let e = c.in_err-end.ensures in
-    let P : List ℕ → Type 0 = λ t. WritesPart t (g.W.Sink.stream c.args.out.now) (g.W.Sink.stream c.end.new.out) in
-    let w = subst P (e.2 past.query past.format (here s past h) h.writes.cursor) e.1.err in
-    MatchResult-from_err c.from_residual.result _ _ c.from_residual.ensures.0 (λ _. record {
-      rows = w.part.0;
-      got = w.part.2;
-      failure = w.failure;
-      part = end_part s past h c.if-not-self.false (sym c.is_at_end.ensures ∙ c.if-is_at_end.true) f _ _ w.part;
-      stands = h;
-    })
-
-pub returns-then-is_at_end-clause-goes : goal.returns-then-is_at_end-clause-goes
-returns-then-is_at_end-clause-goes g c = λ past h f.
-    let s = c.args.self.now in
-    let e = c.in_ok-end.ensures in
-    let P : List ℕ → Type 0 = λ t. WritesAll t (g.W.Sink.stream c.args.out.now) (g.W.Sink.stream c.end.new.out) in
+pub returns-then-not-self : goal.returns-then-not-self
+returns-then-not-self g c =
+    let o = c.open_next.ensures in
     record {
-      rows = end_rows past.format (here s past h);
-      got = subst P (e.2 past.query past.format (here s past h) h.writes.cursor) e.1.ok;
-      stands = ended_next s past h _ c.if-not-self.false
-          (sym c.is_at_end.ensures ∙ c.if-is_at_end.true) f
-          (record { query = refl; format = refl; running = refl; bad = refl }) refl refl refl
-          (record { starts = refl; slots = refl; handed = refl; selected = refl }) refl;
+      goes = λ past h f. opened _ past _ c.open_next.result (o.opened past h f);
+      fewer = o.fewer;
+      same = o.same;
     }
+
+pub returns-in_err-end : goal.returns-in_err-end
+returns-in_err-end g c = record {
+  goes = λ past h f.
+      let s = c.args.self.now in
+      let e = c.in_err-end.ensures in
+      let P : List ℕ → Type 0 = λ t. WritesPart t (g.W.Sink.stream c.args.out.now) (g.W.Sink.stream c.end.new.out) in
+      let w = subst P (e.2 past.query past.format (here s past h) h.writes.cursor) e.1.err in
+      MatchResult-from_err c.from_residual.result _ _ c.from_residual.ensures.0 (λ _. record {
+        rows = w.part.0;
+        got = w.part.2;
+        failure = w.failure;
+        part = end_part s past h c.if-not-self.false (sym c.is_at_end.ensures ∙ c.if-is_at_end.true) f _ _ w.part;
+        stands = h;
+      });
+  fewer = IfOk-from_err c.from_residual.result _ c.from_residual.ensures.0;
+  same = refl;
+}
+
+pub returns-then-is_at_end : goal.returns-then-is_at_end
+returns-then-is_at_end g c = record {
+  goes = λ past h f.
+      let s = c.args.self.now in
+      let e = c.in_ok-end.ensures in
+      let P : List ℕ → Type 0 = λ t. WritesAll t (g.W.Sink.stream c.args.out.now) (g.W.Sink.stream c.end.new.out) in
+      record {
+        rows = end_rows past.format (here s past h);
+        got = subst P (e.2 past.query past.format (here s past h) h.writes.cursor) e.1.ok;
+        stands = ended_next s past h _ c.if-not-self.false
+            (sym c.is_at_end.ensures ∙ c.if-is_at_end.true) f
+            (record { query = refl; format = refl; running = refl; bad = refl }) refl refl refl
+            (record { starts = refl; slots = refl; handed = refl; selected = refl }) refl;
+      };
+  fewer = λ e. search rules;
+  same = refl;
+}

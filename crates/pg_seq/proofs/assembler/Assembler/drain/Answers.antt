@@ -65,74 +65,61 @@ loop-self-preserved g c =
       unfailed = c.in-Ok-true.ensures.same ∙ i.unfailed;
     }
 
-pub returns-in-Ok-false-clause-drained : goal.returns-in-Ok-false-clause-drained
-returns-in-Ok-false-clause-drained g c = λ past h.
-    let i = c.loop-self.invariant in
-    let d = i.drains past h in
-    let r = is_false c.in-Ok-false.field-0 _ _ c.in-Ok-false.field-0-test
-    (c.in-Ok-false.ensures.goes (wrote past d.0) d.2 i.unfailed) in
-    let P : Bool → Type 0 =
-    λ f. IsAfter c.advance.new.self (record past { written = past.written ++ d.0; failed = f }) in (
-      d.0,
-      ap (λ s. s.taken) r.same ∙ d.1.taken,
-      (h.failed ∙ c.if-self.false, r.all),
-      subst P (sym (or_false past.failed)) r.stands,
-    )
-
 -- no write failed, by the past that there is
-pub returns-in-Ok-false-clause-no_failure : goal.returns-in-Ok-false-clause-no_failure
-returns-in-Ok-false-clause-no_failure g c =
+pub returns-in-Ok-false : goal.returns-in-Ok-false
+returns-in-Ok-false g c =
     let i = c.loop-self.invariant in
-    let d = i.drains c.requires.0 c.requires.1 in
-    let r = is_false c.in-Ok-false.field-0 _ _ c.in-Ok-false.field-0-test
-    (c.in-Ok-false.ensures.goes (wrote c.requires.0 d.0) d.2 i.unfailed) in
-    ap (λ s. s.failures) r.same ∙ d.1.no_failure
-
-pub returns-in-Ok-false-clause-never_falls : goal.returns-in-Ok-false-clause-never_falls
-returns-in-Ok-false-clause-never_falls g c =
-    let i = c.loop-self.invariant in
-    let d = i.drains c.requires.0 c.requires.1 in
-    let r = is_false c.in-Ok-false.field-0 _ _ c.in-Ok-false.field-0-test
-    (c.in-Ok-false.ensures.goes (wrote c.requires.0 d.0) d.2 i.unfailed) in
-    let same = ap (λ s. s.failures) r.same ∙ d.1.no_failure in
-    omega (arith, same)
-
-pub returns-in-Err-clause-drained : goal.returns-in-Err-clause-drained
-returns-in-Err-clause-drained g c = λ past h.
-    let i = c.loop-self.invariant in
-    let d = i.drains past h in
-    let b = c.in-Err.ensures.goes (wrote past d.0) d.2 i.unfailed in (
-      d.0 ++ b.rows,
-      b.got ∙ (ap (λ w. w ++ b.rows) d.1.taken ∙ append_assoc (g.W.Sink.stream c.args.out.now).taken d.0 b.rows),
-      (
-        h.failed ∙ c.if-self.false,
-        (
-          b.part.0,
-          ap (λ w. w ++ b.part.0) (sym (append_assoc past.written d.0 b.rows))
-              ∙ b.part.1,
-        ),
-      ),
-      more_written _ past d.0 b.rows (past.failed || true)
-          (failed_stands c.advance.new.self _ (wrote past d.0) b.rows (past.failed || true) b.stands
-          (record { query = refl; format = refl; running = refl; bad = refl })
-          (record { handed = refl; printing = refl; printer = refl }) refl
-          (record { starts = refl; slots = refl; handed = refl; selected = refl }) refl (or_true past.failed)),
-    )
+    let p = i.drains c.requires.0 c.requires.1 in
+    let n = is_false c.in-Ok-false.field-0 _ _ c.in-Ok-false.field-0-test
+    (c.in-Ok-false.ensures.goes (wrote c.requires.0 p.0) p.2 i.unfailed) in
+    let none = ap (λ s. s.failures) n.same ∙ p.1.no_failure in
+    record {
+      drained = λ past h.
+          let d = i.drains past h in
+          let r = is_false c.in-Ok-false.field-0 _ _ c.in-Ok-false.field-0-test
+          (c.in-Ok-false.ensures.goes (wrote past d.0) d.2 i.unfailed) in
+          let P : Bool → Type 0 =
+          λ f. IsAfter c.advance.new.self (record past { written = past.written ++ d.0; failed = f }) in (
+            d.0,
+            ap (λ s. s.taken) r.same ∙ d.1.taken,
+            (h.failed ∙ c.if-self.false, r.all),
+            subst P (sym (or_false past.failed)) r.stands,
+          );
+      cause = λ e. absurd (cc);
+      no_failure = none;
+      never_falls = omega (arith, none);
+    }
 
 rises : (before middle after : ℕ) → middle ≡ before → middle < after → before < after
 rises before middle after e h = omega arith
 
-pub returns-in-Err-clause-cause : goal.returns-in-Err-clause-cause
-returns-in-Err-clause-cause g c = λ e.
+pub returns-in-Err : goal.returns-in-Err
+returns-in-Err g c =
     let i = c.loop-self.invariant in
-    let d = i.drains c.requires.0 c.requires.1 in
-    let b = c.in-Err.ensures.goes (wrote c.requires.0 d.0) d.2 i.unfailed in
-    rises _ _ _ d.1.no_failure b.failure
-
-pub returns-in-Err-clause-never_falls : goal.returns-in-Err-clause-never_falls
-returns-in-Err-clause-never_falls g c =
-    let i = c.loop-self.invariant in
-    let d = i.drains c.requires.0 c.requires.1 in
-    let b = c.in-Err.ensures.goes (wrote c.requires.0 d.0) d.2 i.unfailed in
-    let rise = rises _ _ _ d.1.no_failure b.failure in
-    omega (arith, rise)
+    let p = i.drains c.requires.0 c.requires.1 in
+    let failure = (c.in-Err.ensures.goes (wrote c.requires.0 p.0) p.2 i.unfailed).failure in
+    let rise = rises _ _ _ p.1.no_failure failure in
+    record {
+      drained = λ past h.
+          let d = i.drains past h in
+          let b = c.in-Err.ensures.goes (wrote past d.0) d.2 i.unfailed in (
+            d.0 ++ b.rows,
+            b.got ∙ (ap (λ w. w ++ b.rows) d.1.taken ∙ append_assoc (g.W.Sink.stream c.args.out.now).taken d.0 b.rows),
+            (
+              h.failed ∙ c.if-self.false,
+              (
+                b.part.0,
+                ap (λ w. w ++ b.part.0) (sym (append_assoc past.written d.0 b.rows))
+                    ∙ b.part.1,
+              ),
+            ),
+            more_written _ past d.0 b.rows (past.failed || true)
+                (failed_stands c.advance.new.self _ (wrote past d.0) b.rows (past.failed || true) b.stands
+                (record { query = refl; format = refl; running = refl; bad = refl })
+                (record { handed = refl; printing = refl; printer = refl }) refl
+                (record { starts = refl; slots = refl; handed = refl; selected = refl }) refl (or_true past.failed)),
+          );
+      cause = λ e. rise;
+      no_failure = tt;
+      never_falls = omega (arith, rise);
+    }

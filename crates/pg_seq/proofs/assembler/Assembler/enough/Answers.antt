@@ -1,8 +1,7 @@
-use Rattle.std.proofs.Common.{◌∙◌, ◌&&◌, cond, ap, sym, subst, refl}
+use Rattle.std.proofs.Common.{◌∙◌, ap, sym, subst, refl}
 use Rattle.pg_rows.specs.declared.format.Format.{Format}
 use Rattle.pg_rows.specs.Progress.{IsOfTrail}
-use Rattle.pg_rows.specs.Modes.{is_quiet}
-use Rattle.pg_rows.specs.Enough.{trail_suffices}
+use Rattle.pg_seq.specs.Ahead.{is_enough_by}
 use Rattle.pg_seq.specs.Cursor.{cursor_of}
 use Rattle.pg_seq.specs.History.{front_of}
 use Rattle.pg_seq.proofs.AheadLemmas.{at_first, front_enough}
@@ -20,9 +19,7 @@ returns g c = λ past h.
     let trail = (cursor_of past.query past.format (front_of past)).trail in
     let T : Format → Type 0 = λ x. IsOfTrail a.progress x trail in
     c.is_enough.ensures trail (subst T h.format f.progress)
-    ∙ (ap (λ (x : Format). cond (is_quiet x.mode) a.selected (a.inside && trail_suffices x.mode x trail))
-    (sym h.format)
-    ∙ front_enough s past h a f)
+    ∙ (ap (λ (x : Format). is_enough_by x a trail) (sym h.format) ∙ front_enough s past h a f)
 
 pub next_ahead-requires : goal.next_ahead-requires
 next_ahead-requires g c =

@@ -8,6 +8,5 @@ use Rattle.pg_seq.proofs.assembler.Assembler.new.Goals as goal
 pub returns : goal.returns
 returns g c = λ trees are.
     let q = search_of (arc_value c.args.query).text trees in
-    new_stands _ q c.args.format refl are refl c.requires refl refl c.new-2.ensures.starts c.new-2.ensures.slots
-    c.new-2.ensures.handed c.new-2.ensures.selected c.new-3.ensures.items refl
+    new_stands _ q c.args.format refl are refl c.requires refl refl c.new-2.ensures c.new-3.ensures.items refl
     (c.in_ok-printer.ensures q (sym (ap (λ (x : Compiled). x.text) c.deref.ensures))) refl

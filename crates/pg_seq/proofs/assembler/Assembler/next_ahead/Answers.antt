@@ -10,24 +10,22 @@ not_true : (b : Bool) → not b ≡ true → b ≡ false
 not_true true e = sym e
 not_true false e = refl
 
-pub returns-then-is_over-clause-further : goal.returns-then-is_over-clause-further
-returns-then-is_over-clause-further g c = λ past h i.
-    end_next c.args.self.now past h c.args.ahead i (not_false c.args.ahead.inside c.if-not-ahead.false)
-    (sym c.is_over.ensures ∙ c.if-is_over.true) _ refl refl refl refl refl
+pub returns-then-is_over : goal.returns-then-is_over
+returns-then-is_over g c =
+    let a = c.args.ahead in
+    let inside = not_false a.inside c.if-not-ahead.false in
+    record {
+      further = λ past h i.
+          end_next c.args.self.now past h a i inside (sym c.is_over.ensures ∙ c.if-is_over.true) _ refl refl refl refl
+          refl;
+      fewer = (let one = ap {B = ℕ} (λ b. cond b 1 0) inside in omega (arith, one));
+    }
 
 pub file_ahead-requires : goal.file_ahead-requires
 file_ahead-requires g c = not_true c.args.ahead.inside c.if-not-ahead.true
 
-pub returns-then-not-ahead-clause-further : goal.returns-then-not-ahead-clause-further
-returns-then-not-ahead-clause-further g c = c.file_ahead.ensures.further
-
-pub returns-then-not-ahead-clause-fewer : goal.returns-then-not-ahead-clause-fewer
-returns-then-not-ahead-clause-fewer g c = c.file_ahead.ensures.fewer
-
-pub returns-then-is_over-clause-fewer : goal.returns-then-is_over-clause-fewer
-returns-then-is_over-clause-fewer g c =
-    let one = ap {B = ℕ} (λ b. cond b 1 0) (not_false c.args.ahead.inside c.if-not-ahead.false) in
-    omega (arith, one)
+pub returns-then-not-ahead : goal.returns-then-not-ahead
+returns-then-not-ahead g c = c.file_ahead.ensures
 
 pub block_ahead-requires-clause-stands : goal.block_ahead-requires-clause-stands
 block_ahead-requires-clause-stands g c = c.requires
@@ -36,8 +34,5 @@ pub block_ahead-requires-clause-inside : goal.block_ahead-requires-clause-inside
 block_ahead-requires-clause-inside g c =
     (not_false c.args.ahead.inside c.if-not-ahead.false, sym c.is_over.ensures ∙ c.if-is_over.false)
 
-pub returns-clause-further : goal.returns-clause-further
-returns-clause-further g c = c.block_ahead.ensures.further
-
-pub returns-clause-fewer : goal.returns-clause-fewer
-returns-clause-fewer g c = c.block_ahead.ensures.fewer
+pub returns : goal.returns
+returns g c = c.block_ahead.ensures

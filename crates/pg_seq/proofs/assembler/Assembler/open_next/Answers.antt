@@ -7,21 +7,31 @@ nil_of : {X : Type 0} (xs : List X) → length xs ≡ 0 → xs ≡ []
 nil_of [] e = refl
 nil_of (x ∷ xs) e = absurd (omega (arith, e))
 
-pub returns-in_default-clause-opened : goal.returns-in_default-clause-opened
-returns-in_default-clause-opened g c = λ past h f.
+pub returns-in_default : goal.returns-in_default
+returns-in_default g c =
     let none : c.args.self.now.waiting.items ≡ [] =
     nil_of _ (omega (arith, c.in_default.ensures.cases.0, c.args.self.now.waiting.ok.0)) in
-    let after : c.pop_front.new.self.items ≡ [] = c.in_default.ensures.rest ∙ ap (drop 1) none in (
-      none_waits c.args.self.now past h c.requires none f,
-      same_stands c.args.self.now _ past h (record { query = refl; format = refl; running = refl; bad = refl })
-          (record { handed = refl; printing = refl; printer = refl }) (after ∙ sym none)
-          (record { starts = refl; slots = refl; handed = refl; selected = refl }) refl,
-    )
+    let after : c.pop_front.new.self.items ≡ [] = c.in_default.ensures.rest ∙ ap (drop 1) none in
+    record {
+      opened = λ past h f. (
+        none_waits c.args.self.now past h c.requires none f,
+        same_stands c.args.self.now _ past h (record { query = refl; format = refl; running = refl; bad = refl })
+            (record { handed = refl; printing = refl; printer = refl }) (after ∙ sym none)
+            (record { starts = refl; slots = refl; handed = refl; selected = refl }) refl,
+      );
+      fewer = λ e. absurd (cc);
+      same = refl;
+    }
 
-pub returns-clause-opened : goal.returns-clause-opened
-returns-clause-opened g c = λ past h f.
+pub returns : goal.returns
+returns g c =
     let waits : c.args.self.now.waiting.items ≡ c.in-Some.next ∷ c.pop_front.new.self.items = search in
-    opened_next c.args.self.now past h _ c.in-Some.next c.requires waits
-    (record { query = refl; format = refl; running = refl; bad = refl }) refl
-    (record { starts = refl; slots = refl; handed = refl; selected = refl }) refl
-    (c.open.ensures past.query past.format (here c.args.self.now past h) h.writes.cursor)
+    record {
+      opened = λ past h f.
+          opened_next c.args.self.now past h _ c.in-Some.next c.requires waits
+          (record { query = refl; format = refl; running = refl; bad = refl }) refl
+          (record { starts = refl; slots = refl; handed = refl; selected = refl }) refl
+          (c.open.ensures past.query past.format (here c.args.self.now past h) h.writes.cursor);
+      fewer = λ e. omega (arith, ap length waits);
+      same = refl;
+    }

@@ -1,19 +1,57 @@
-use Rattle.std.proofs.Common.{◌≡◌, ◌∙◌, List, ◌∷◌, ap, sym, subst, refl}
-use Rattle.std.proofs.lemmas.Result.{MatchResult-from_err}
+use Rattle.std.proofs.Common.{◌≡◌, ◌∙◌, List, ◌∷◌, ℕ, Some, ap, sym, subst, refl, length, arith}
+use Rattle.std.proofs.lemmas.Result.{MatchResult-from_err, IfOk-from_err}
 use Rattle.pg_blocks.specs.Blocks.{BlockData}
+use Rattle.pg_lines.specs.Searched.{Searched}
+use Rattle.pg_rows.specs.declared.printer.Printed.{Printed}
 use Rattle.pg_rows.specs.declared.printer.Printer.{Printer}
+use Rattle.pg_rows.specs.Cursor.{Cursor}
 use Rattle.pg_rows.specs.Remembered.{IsAtCursor, IsRememberedBehind, behind_block, shown_rows}
+use Rattle.pg_seq.specs.declared.slot.Slot.{Slot}
+use Rattle.pg_seq.specs.declared.reorder_buffer.ReorderBuffer.{ReorderBuffer}
+use Rattle.pg_seq.specs.declared.assembler.Assembler.{Assembler}
+use Rattle.pg_seq.specs.History.{Past}
 use Rattle.pg_seq.specs.Slots.{slot_block}
+use Rattle.pg_seq.specs.Buffer.{HasResult}
+use Rattle.pg_seq.specs.Standing.{IsAfter}
 use Rattle.pg_seq.proofs.StandLemmas.{same_stands}
 use Rattle.pg_seq.proofs.DrainSteps.{here, none_ready, result_is, lines_fit, bytes_fit, printed_next}
 use Rattle.pg_seq.proofs.DrainSteps.{block_part}
 use Rattle.pg_seq.proofs.assembler.Assembler.print_next.Goals as goal
 
-pub returns-in_default-clause-goes : goal.returns-in_default-clause-goes
-returns-in_default-clause-goes g c = λ past h f. record {
-  all = none_ready c.args.self.now past h c.requires.inside.0 c.requires.inside.1 f c.in_default.ensures;
+-- the first slot has the result
+result_of : {A : Type 0} (buffer : ReorderBuffer A) (found : Searched) (slot : Slot A) (rest : List (Slot A))
+    → HasResult buffer 0 found → buffer.slots.items ≡ slot ∷ rest → slot.result ≡ Some found
+result_of buffer found slot rest p e = ap (λ x. x.result) (heads (sym e ∙ p.slots)) ∙ p.result
+  where
+    heads : {X : Type 0} {x y : X} {xs ys : List X} → x ∷ xs ≡ y ∷ ys → x ≡ y
+    heads e = cc
+
+-- what is remembered behind a block, by the printer and the block as they are when it is given up
+passed : {A : Type 0} (s : Assembler A) (past : Past) (h : IsAfter s past) (printer : Printer A) (printed : Printed)
+    (b other : BlockData) → printer ≡ s.printer → b ≡ other
+    → IsRememberedBehind s.printer past.query past.format (behind_block past.query past.format (here s past h) b.bytes)
+    b.bytes printed
+    → IsAtCursor printer past.query past.format (here s past h)
+    × IsRememberedBehind printer past.query past.format
+    (behind_block past.query past.format (here s past h) other.bytes) other.bytes printed
+passed s past h printer printed b other same is r =
+    let q = past.query in
+    let format = past.format in
+    let behind : List ℕ → Cursor = behind_block q format (here s past h) in
+    let R : Printer _ → Type 0 = λ x. IsAtCursor x q format (here s past h) in
+    let F : BlockData → Type 0 = λ x. IsRememberedBehind s.printer q format (behind x.bytes) x.bytes printed in
+    let G : Printer _ → Type 0 = λ x. IsRememberedBehind x q format (behind other.bytes) other.bytes printed in
+    (subst R (sym same) h.writes.cursor, subst G (sym same) (subst F is r))
+
+pub returns-in_default : goal.returns-in_default
+returns-in_default g c = record {
+  goes = λ past h f. record {
+    all = none_ready c.args.self.now past h c.requires.inside.0 c.requires.inside.1 f c.in_default.ensures;
+    same = refl;
+    stands = h;
+  };
+  fewer = λ e. absurd (cc);
   same = refl;
-  stands = h;
 }
 
 pub print-requires : goal.print-requires
@@ -32,22 +70,26 @@ print-requires g c =
       bytes_fit s past h p.slot p.later c.in-Some.found.now c.requires.inside.0 c.requires.inside.1 p.slots p.result,
     )
 
-pub returns-in_err-printed-clause-goes : goal.returns-in_err-printed-clause-goes
-returns-in_err-printed-clause-goes g c = λ past h f.
-    let s = c.args.self.now in
-    let found = c.in-Some.found.now in
-    let p = c.in-Some.ensures in
-    let w = (c.in_err-printed.ensures.writes past.query past.format (here s past h) h.writes.cursor h.trees
-    (result_is s past h p.slot p.later found p.slots p.result).0).err in
-    MatchResult-from_err c.from_residual.result _ _ c.from_residual.ensures.0 (λ _. record {
-      rows = w.part.0;
-      got = w.part.2;
-      failure = w.failure;
-      part = block_part s past h found p c.requires.inside.0 c.requires.inside.1 f _ _ w.part;
-      stands = same_stands s _ past h (record { query = refl; format = refl; running = refl; bad = refl })
-          (record { handed = refl; printing = refl; printer = c.print.ensures.same }) refl
-          (record { starts = refl; slots = refl; handed = refl; selected = refl }) refl;
-    })
+pub returns-in_err-printed : goal.returns-in_err-printed
+returns-in_err-printed g c = record {
+  goes = λ past h f.
+      let s = c.args.self.now in
+      let found = c.in-Some.found.now in
+      let p = c.in-Some.ensures in
+      let w = (c.in_err-printed.ensures.writes past.query past.format (here s past h) h.writes.cursor h.trees
+      (result_is s past h p.slot p.later found p.slots p.result).0).err in
+      MatchResult-from_err c.from_residual.result _ _ c.from_residual.ensures.0 (λ _. record {
+        rows = w.part.0;
+        got = w.part.2;
+        failure = w.failure;
+        part = block_part s past h found p c.requires.inside.0 c.requires.inside.1 f _ _ w.part;
+        stands = same_stands s _ past h (record { query = refl; format = refl; running = refl; bad = refl })
+            (record { handed = refl; printing = refl; printer = c.print.ensures.same }) refl
+            (record { starts = refl; slots = refl; handed = refl; selected = refl }) refl;
+      });
+  fewer = IfOk-from_err c.from_residual.result _ c.from_residual.ensures.0;
+  same = refl;
+}
 
 -- what was printed, by the block that is given up
 pub pass-requires : goal.pass-requires
@@ -56,55 +98,34 @@ pass-requires g c =
     let past = c.requires.stands.0 in
     let h = c.requires.stands.1 in
     let found = c.in-Some.found.now in
-    let p = c.in-Some.ensures in
     let slot = c.in-Some-pop_first.slot in
-    let first : p.slot ≡ slot = heads (sym p.slots ∙ c.in-Some-pop_first.ensures.slots) in
-    let r = result_is s past h p.slot p.later found p.slots p.result in
-    let block : found.block ≡ slot_block slot = r.1 ∙ ap slot_block first in
-    let F : BlockData → Type 0 = λ b. IsRememberedBehind s.printer past.query past.format
-    (behind_block past.query past.format (here s past h) b.bytes) b.bytes c.in_ok-printed.printed in
-    let G : Printer _ → Type 0 = λ x. IsRememberedBehind x past.query past.format
-    (behind_block past.query past.format (here s past h) (slot_block slot).bytes) (slot_block slot).bytes
-    c.in_ok-printed.printed in
-    let R : Printer _ → Type 0 = λ x. IsAtCursor x past.query past.format (here s past h) in (
-      past.query,
-      past.format,
-      here s past h,
-      subst R (sym c.print.ensures.same) h.writes.cursor,
-      subst G (sym c.print.ensures.same) (subst F block
-          (c.in_ok-printed.ensures.follows past.query past.format (here s past h) h.writes.cursor h.trees r.0)),
-    )
-  where
-    heads : {X : Type 0} {x y : X} {xs ys : List X} → x ∷ xs ≡ y ∷ ys → x ≡ y
-    heads e = cc
+    let first = c.in-Some-pop_first.ensures.slots in
+    let r = result_is s past h slot _ found first (result_of s.buffer found slot _ c.in-Some.ensures first) in
+    let m = passed s past h _ c.in_ok-printed.printed found.block (slot_block slot) c.print.ensures.same r.1
+    (c.in_ok-printed.ensures.follows past.query past.format (here s past h) h.writes.cursor h.trees r.0) in
+    (past.query, past.format, here s past h, m.0, m.1)
 
-pub returns-in-Some-pop_first-clause-goes : goal.returns-in-Some-pop_first-clause-goes
-returns-in-Some-pop_first-clause-goes g c = λ past h f.
+pub returns-in-Some-pop_first : goal.returns-in-Some-pop_first
+returns-in-Some-pop_first g c =
     let s = c.args.self.now in
     let found = c.in-Some.found.now in
-    let p = c.in-Some.ensures in
     let slot = c.in-Some-pop_first.slot in
     let o = c.in-Some-pop_first.ensures in
-    let first : p.slot ≡ slot = heads (sym p.slots ∙ o.slots) in
-    let r = result_is s past h p.slot p.later found p.slots p.result in
-    let block : found.block ≡ slot_block slot = r.1 ∙ ap slot_block first in
-    let F : BlockData → Type 0 = λ b. IsRememberedBehind s.printer past.query past.format
-    (behind_block past.query past.format (here s past h) b.bytes) b.bytes c.in_ok-printed.printed in
-    let G : Printer _ → Type 0 = λ x. IsRememberedBehind x past.query past.format
-    (behind_block past.query past.format (here s past h) (slot_block slot).bytes) (slot_block slot).bytes
-    c.in_ok-printed.printed in
-    let R : Printer _ → Type 0 = λ x. IsAtCursor x past.query past.format (here s past h) in
+    let result = result_of s.buffer found slot _ c.in-Some.ensures o.slots in
     record {
-      rows = shown_rows past.query past.format (here s past h) found.block.bytes;
-      got = (c.in_ok-printed.ensures.writes past.query past.format (here s past h) h.writes.cursor h.trees r.0).ok;
-      stands = printed_next s past h _ slot found c.requires.inside.0 c.requires.inside.1 f
-          (ap (λ x. x.result) (sym first) ∙ p.result) o
-          (record { query = refl; format = refl; running = refl; bad = refl }) refl refl refl
-          (c.pass.ensures past.query past.format (here s past h)
-          (subst R (sym c.print.ensures.same) h.writes.cursor)
-          (subst G (sym c.print.ensures.same) (subst F block
-          (c.in_ok-printed.ensures.follows past.query past.format (here s past h) h.writes.cursor h.trees r.0))));
+      goes = λ past h f.
+          let q = past.query in
+          let cursor = here s past h in
+          let r = result_is s past h slot _ found o.slots result in
+          let m = passed s past h _ c.in_ok-printed.printed found.block (slot_block slot) c.print.ensures.same r.1
+          (c.in_ok-printed.ensures.follows q past.format cursor h.writes.cursor h.trees r.0) in
+          record {
+            rows = shown_rows q past.format cursor found.block.bytes;
+            got = (c.in_ok-printed.ensures.writes q past.format cursor h.writes.cursor h.trees r.0).ok;
+            stands = printed_next s past h _ slot found c.requires.inside.0 c.requires.inside.1 f result o
+                (record { query = refl; format = refl; running = refl; bad = refl }) refl refl refl
+                (c.pass.ensures q past.format cursor m.0 m.1);
+          };
+      fewer = λ e. omega (arith, ap length o.slots);
+      same = refl;
     }
-  where
-    heads : {X : Type 0} {x y : X} {xs ys : List X} → x ∷ xs ≡ y ∷ ys → x ≡ y
-    heads e = cc
