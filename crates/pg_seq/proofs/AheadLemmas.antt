@@ -34,6 +34,7 @@ use Rattle.pg_seq.specs.Standing.{IsAfter, opening_of}
 use Rattle.pg_seq.specs.Ahead.{HasLookedAhead, IsAtFront, is_over, block_selects, is_enough_by}
 use Rattle.pg_seq.proofs.EnoughLemmas.{suffices_by_cursor}
 use Rattle.pg_seq.proofs.FrontLemmas.{front_all, front_shaped}
+use Rattle.pg_seq.proofs.ListLemmas.{heads, tails, no_cons, or_none}
 use Rattle.pg_seq.proofs.BeginLemmas.{shape_of}
 use Rattle.pg_seq.proofs.SelectLemmas.{runs_of, some_runs}
 use Rattle.pg_seq.proofs.ComingLemmas.{of_done, all_push, front_stops, announced_behind, rest_same, AreMissed}
@@ -163,15 +164,6 @@ module _ {A : Type 0} (s : Assembler A) (past : Past) (h : IsAfter s past) (a : 
         let whole : all_taken keys (behind done coming) ≡ true = ap (list_all (is_taken keys)) m.all ∙ i.whole in
         front_at (behind done coming) (ap (front keys) i.split ∙ front_all keys (behind done coming) whole) shaped m.all
         m.closed m.cursor
-
-    no_cons : {X : Type 0} (x : X) (xs : List X) → [] ≡ x ∷ xs → ⊥
-    no_cons x xs e = cc
-
-    heads : {X : Type 0} {x y : X} {xs ys : List X} → x ∷ xs ≡ y ∷ ys → x ≡ y
-    heads e = cc
-
-    tails : {X : Type 0} {x y : X} {xs ys : List X} → x ∷ xs ≡ y ∷ ys → xs ≡ ys
-    tails e = cc
 
     -- no file waits
     pub no_file : a.inside ≡ false → drop a.files s.waiting.items ≡ [] → IsAtFront past a
@@ -375,10 +367,6 @@ module _ {A : Type 0} (s : Assembler A) (past : Past) (h : IsAfter s past) (a : 
               (or_none (block_selects q w.block) ∙ sym (some_runs q w.block.bytes runs are))
               ∙ sym selected));
         }
-      where
-        or_none : (b : Bool) → (b || false) ≡ b
-        or_none true = refl
-        or_none false = refl
 
 -- whether enough was read, by what is told of the front
 pub front_enough : {A : Type 0} (s : Assembler A) (past : Past) → IsAfter s past → (a : Ahead) → IsAtFront past a

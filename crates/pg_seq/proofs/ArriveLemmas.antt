@@ -16,17 +16,12 @@ use Rattle.pg_seq.specs.History.{arrival_at, is_taken, if_same}
 use Rattle.pg_seq.specs.Slots.{place_of, at_place, slot_block, has_result, arrival_at_slot}
 use Rattle.pg_seq.specs.Slots.{arrival_among, with_result, IsResultOf}
 use Rattle.pg_seq.proofs.KeyLemmas.{AreApart, is_other}
+use Rattle.pg_seq.proofs.ListLemmas.{heads, tails}
 
 taken_same : (keys : List (ℕ × ℕ)) (a b : BlockData) → a.file ≡ b.file → a.number ≡ b.number
     → is_taken keys a ≡ is_taken keys b
 taken_same keys a b f n = ap (λ x. list_any (λ (key : ℕ × ℕ). eqb x key.0 && eqb a.number key.1) keys) f
     ∙ ap (λ x. list_any (λ (key : ℕ × ℕ). eqb b.file key.0 && eqb x key.1) keys) n
-
-head_same : {x y : Bool} {xs ys : List Bool} → x ∷ xs ≡ y ∷ ys → x ≡ y
-head_same e = cc
-
-tail_same : {x y : Bool} {xs ys : List Bool} → x ∷ xs ≡ y ∷ ys → xs ≡ ys
-tail_same e = cc
 
 double_taken : Double ≡ Taken → ⊥
 double_taken e = cc
@@ -130,8 +125,8 @@ module _ {A : Type 0} where
   at_index keys b (x ∷ slots) zero e f =
       let same = f (slot_block x) refl in
       ap (λ t. cond t Double (if_same (bytes_eq b.bytes (slot_block x).bytes)))
-      (taken_same keys b (slot_block x) (sym same.0) (sym same.1) ∙ head_same e)
-  at_index keys b (x ∷ slots) (suc k) e f = at_index keys b slots k (tail_same e) f
+      (taken_same keys b (slot_block x) (sym same.0) (sym same.1) ∙ heads e)
+  at_index keys b (x ∷ slots) (suc k) e f = at_index keys b slots k (tails e) f
 
   pub at_slot : (keys : List (ℕ × ℕ)) (b : BlockData) (slots : List (Slot A)) (place : Option ℕ)
       → map (is_taken keys) (map slot_block slots) ≡ map has_result slots
@@ -197,7 +192,7 @@ module _ {A : Type 0} where
       let c = slot_block x in
       let more = map (is_taken ((b.file, b.number) ∷ keys)) (map slot_block slots) in
       ap (λ t. (t || is_taken keys c) ∷ more) (is_other b.file b.number c h.0)
-      ∙ (ap (λ t. t ∷ more) (head_same e) ∙ ap (λ ys. has_result x ∷ ys) (taken_none keys slots b (tail_same e) h.1))
+      ∙ (ap (λ t. t ∷ more) (heads e) ∙ ap (λ ys. has_result x ∷ ys) (taken_none keys slots b (tails e) h.1))
 
   apart_at : (b : BlockData) (slots : List (Slot A)) (k : ℕ) (slot : Slot A)
       → AllByRecursion (λ c. c.file ≡ b.file → c.number ≡ b.number → ⊥) (map slot_block slots)
@@ -222,14 +217,14 @@ module _ {A : Type 0} where
       subst P (some_same i)
       (ap (λ t. t ∷ map (is_taken (((slot_block x).file, (slot_block x).number) ∷ keys)) (map slot_block slots))
       (own_key keys (slot_block x))
-      ∙ ap (λ ys. true ∷ ys) (taken_none keys slots (slot_block x) (tail_same e) h.0))
+      ∙ ap (λ ys. true ∷ ys) (taken_none keys slots (slot_block x) (tails e) h.0))
   taken_one keys (x ∷ slots) (suc k) slot r e h i =
       let b = slot_block slot in
       let c = slot_block x in
       let more = map (is_taken ((b.file, b.number) ∷ keys)) (map slot_block slots) in
       ap (λ t. (t || is_taken keys c) ∷ more) (is_other b.file b.number c (apart_at c slots k slot h.0 i))
-      ∙ (ap (λ t. t ∷ more) (head_same e)
-      ∙ ap (λ ys. has_result x ∷ ys) (taken_one keys slots k slot r (tail_same e) h.1 i))
+      ∙ (ap (λ t. t ∷ more) (heads e)
+      ∙ ap (λ ys. has_result x ∷ ys) (taken_one keys slots k slot r (tails e) h.1 i))
 
   -- what a taken block is
   pub record IsTaken (starts : List ℕ) (slots : List (Slot A)) (b : BlockData) : Type 0 where

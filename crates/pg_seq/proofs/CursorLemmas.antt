@@ -20,6 +20,7 @@ use Rattle.pg_seq.specs.Plan.{with_bytes, with_end}
 use Rattle.pg_base.specs.Sink.{IsBeginning}
 use Rattle.pg_rows.specs.Trail.{run, run_rows, run_pieces}
 use Rattle.pg_seq.specs.Cursor.{Cursor, moved, cursor_of, block_rows, counted, named, step_rows}
+use Rattle.pg_seq.proofs.ListLemmas.{or_none}
 use Rattle.pg_rows.proofs.ModeLemmas.{no_end, nothing_in, rows_are}
 use Rattle.pg_rows.proofs.TrailLemmas.{IsTrail, no_trail}
 use Rattle.pg_rows.proofs.FoldLemmas.{trail_more, rows_more, pieces_more, count_by_trail, name_by_trail, something}
@@ -194,10 +195,6 @@ module _ (q : Search) (format : Format) (limited : is_below 0 format.limit ≡ t
         earlier = h.wrote;
       };
     }
-      where
-        or_none : (b : Bool) → (b || false) ≡ b
-        or_none true = refl
-        or_none false = refl
 
     cursor_announce : (b : BlockData) → IsShaped end (Announces b ∷ p)
         → IsCursor (Announces b ∷ p) (moved q format c (Announces b))

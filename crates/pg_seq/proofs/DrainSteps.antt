@@ -30,6 +30,7 @@ use Rattle.pg_seq.specs.Slots.{slot_block, has_result, slot_selects, ready, IsRe
 use Rattle.pg_seq.specs.Buffer.{SameButRoom, HandsOut, HasResult}
 use Rattle.pg_seq.specs.Standing.{IsAfter, HasWrittenAll, wrote, opening_of, is_last_block, is_at_end}
 use Rattle.pg_seq.proofs.FrontLemmas.{all_map, front_all, front_shaped}
+use Rattle.pg_seq.proofs.ListLemmas.{heads, tails, no_cons, or_none}
 use Rattle.pg_seq.proofs.BeginLemmas.{begins_trans, shape_of}
 use Rattle.pg_seq.proofs.CursorLemmas.{cursor_is, output_step, open_rows, plan_begins}
 use Rattle.pg_seq.proofs.ComingLemmas.{of_done, all_push, front_stops, front_has, AreMissed, next_file}
@@ -205,9 +206,6 @@ module _ {A : Type 0} (s : Assembler A) (past : Past) (h : IsAfter s past) where
             absurd (no_cons (s.buffer.handed, o.name) (openings s.buffer.handed o.later)
             (sym (ap (map opening_of) none) ∙ (h.writes.waiting ∙ o.waiting)))
       ]
-    where
-      no_cons : {X : Type 0} (x : X) (xs : List X) → [] ≡ x ∷ xs → ⊥
-      no_cons x xs e = cc
 
   -- the next file was opened in the printer
   pub opened_next : (new : Assembler A) (next : Opening A) → s.printing ≡ false
@@ -223,7 +221,7 @@ module _ {A : Type 0} (s : Assembler A) (past : Past) (h : IsAfter s past) where
             let both : opening_of next ∷ map opening_of new.waiting.items
             ≡ (s.buffer.handed, o.name) ∷ openings s.buffer.handed o.later =
             sym (ap (map opening_of) waits) ∙ (h.writes.waiting ∙ o.waiting) in
-            let name : next.prefix ≡ o.name = ap (λ p. p.1) (cons_head both) in
+            let name : next.prefix ≡ o.name = ap (λ p. p.1) (heads both) in
             let R : Cursor → Type 0 = λ c. IsAtCursor new.printer q past.format c in
             rested s new past past.written past.failed h a k (h.failed ∙ sym f) (record {
               done = Opens o.name ∷ o.misses;
@@ -231,22 +229,13 @@ module _ {A : Type 0} (s : Assembler A) (past : Past) (h : IsAfter s past) where
               split = h.writes.split ∙ o.split;
               count = ap length o.blocks ∙ (h.writes.count ∙ sym k.handed);
               printing = sym printing;
-              waiting = cons_tail both ∙ ap (λ n. openings n o.later) (sym k.handed);
+              waiting = tails both ∙ ap (λ n. openings n o.later) (sym k.handed);
               cursor = subst R (ap (λ c. opened_as c next.prefix) (sym o.cursor)
                   ∙ ap (opened_as (cursor_of q past.format o.misses)) name) remembers;
               written = λ e. h.writes.written (sym f ∙ e)
                   ∙ (sym o.same ∙ sym (open_rows q past.format h.room o.name o.misses));
             })
       ]
-    where
-      no_cons : {X : Type 0} (x : X) (xs : List X) → [] ≡ x ∷ xs → ⊥
-      no_cons x xs e = cc
-
-      cons_head : {X : Type 0} {x y : X} {xs ys : List X} → x ∷ xs ≡ y ∷ ys → x ≡ y
-      cons_head e = cc
-
-      cons_tail : {X : Type 0} {x y : X} {xs ys : List X} → x ∷ xs ≡ y ∷ ys → xs ≡ ys
-      cons_tail e = cc
 
   -- the file's end comes next
   pub ends_next : s.printing ≡ true → is_at_end s ≡ true
@@ -289,9 +278,6 @@ module _ {A : Type 0} (s : Assembler A) (past : Past) (h : IsAfter s past) where
 
   -- A block comes next, and its slot is the first.
 
-  heads : {X : Type 0} {x y : X} {xs ys : List X} → x ∷ xs ≡ y ∷ ys → x ≡ y
-  heads e = cc
-
   -- its block, and what is known of it
   pub record IsNextBlock (slot : Slot A) : Type 0 where
     pub later : List Step
@@ -306,10 +292,8 @@ module _ {A : Type 0} (s : Assembler A) (past : Past) (h : IsAfter s past) where
       blocks = (halves s past h).later ∙ ap (map slot_block) first
 
       go : NextStep coming (is_at_end s) → IsNextBlock slot
-      go (Nothing e none) = absurd (none_first (sym (ap blocks_of e) ∙ blocks))
-        where
-          none_first : [] ≡ slot_block slot ∷ map slot_block rest → ⊥
-          none_first e = cc
+      go (Nothing e none) =
+          absurd (no_cons (slot_block slot) (map slot_block rest) (sym (ap blocks_of e) ∙ blocks))
       go (End failed later e some) = absurd (false≢true (sym over ∙ some))
       go (Block b later e none) =
           let same : b ≡ slot_block slot = heads (sym (ap blocks_of e) ∙ blocks) in
@@ -335,10 +319,8 @@ module _ {A : Type 0} (s : Assembler A) (past : Past) (h : IsAfter s past) where
       at_first : (b : BlockData) (later : List Step) → coming ≡ Announces b ∷ later → (slots : List (Slot A))
           → s.buffer.slots.items ≡ slots → handed past ≡ output q past.format (entries_of done)
       at_first b later e [] first =
-          absurd (none_first (sym (ap blocks_of e) ∙ ((halves s past h).later ∙ ap (map slot_block) first)))
-        where
-          none_first : b ∷ blocks_of later ≡ [] → ⊥
-          none_first e = cc
+          absurd (no_cons b (blocks_of later)
+          (sym (ap (map slot_block) first) ∙ (sym (halves s past h).later ∙ ap blocks_of e)))
       at_first b later e (slot ∷ rest) first =
           let n = block_next slot rest printing over first in
           stops_at_block (slot_block slot) n.later n.is (n.taken ∙ unready slot rest first)
@@ -459,10 +441,6 @@ module _ {A : Type 0} (s : Assembler A) (past : Past) (h : IsAfter s past) where
         };
       }
     where
-      or_none : (b : Bool) → (b || false) ≡ b
-      or_none true = refl
-      or_none false = refl
-
       selected_more : (gone : List (Slot A)) (x : Slot A)
           → (list_any (slot_selects q) gone || slot_selects q x) ≡ list_any (slot_selects q) (gone ++ x ∷ [])
       selected_more gone x = ap (λ b. list_any (slot_selects q) gone || b) (sym (or_none (slot_selects q x)))

@@ -1,9 +1,9 @@
 -- A line is selected where a result has a run.
-use Rattle.std.proofs.Common.{◌≡◌, ◌≢◌, ℕ, ◌<◌, Bool, true, false, not, ◌||◌, ◌==◌, nat_lt, List, [], ◌∷◌, ◌++◌}
+use Rattle.std.proofs.Common.{◌≡◌, ◌≢◌, ℕ, ◌<◌, true, false, not, ◌||◌, ◌==◌, nat_lt, List, [], ◌∷◌, ◌++◌}
 use Rattle.std.proofs.Common.{length, refl}
 use Rattle.std.proofs.Common.{sym, ap, ◌∙◌, subst, arith}
 use Rattle.std.specs.List.{AllByRecursion, list_any}
-use Rattle.std.proofs.lemmas.Bool.{lt-ltb, ne_eqb}
+use Rattle.std.proofs.lemmas.Bool.{lt-ltb, ne_eqb, or_right}
 use Rattle.std.proofs.lemmas.List.Folds.{list_any-append}
 use Rattle.pg_lines.specs.Search.{SearchText, Search, HasItsTrees, terminator}
 use Rattle.pg_blocks.specs.Lines.{lines}
@@ -34,7 +34,7 @@ any_selected q at seen bytes (run ∷ runs) h =
     (list_any-append (selects q) (lines (terminator q) n.text) (lines (terminator q) n.later)
     ∙ ap (λ t. t || list_any (selects q) (lines (terminator q) n.later))
     (all_of (lines (terminator q) n.text) n.text_selected (some_lines n.text n.text_some)))
-    ∙ (or_true (list_any (selects q) (lines (terminator q) n.gap))
+    ∙ (or_right (list_any (selects q) (lines (terminator q) n.gap)) true refl
     ∙ sym (lt-ltb 0 (length (run ∷ runs)) (omega arith)))))
   where
     all_of : (ls : List (List ℕ)) → AllByRecursion (λ l. selects q l ≡ true) ls → 0 < length ls
@@ -45,10 +45,6 @@ any_selected q at seen bytes (run ∷ runs) h =
     some_lines : (xs : List ℕ) → xs ≢ [] → 0 < length (lines (terminator q) xs)
     some_lines [] ne = absurd (ne refl)
     some_lines (x ∷ xs) ne = some_line (terminator q) x xs
-
-    or_true : (b : Bool) → (b || true) ≡ true
-    or_true true = refl
-    or_true false = refl
 
 pub some_runs : (q : Search) (bytes : List ℕ) (runs : List Run) → AreRuns q 0 0 bytes runs
     → not (length runs == 0) ≡ list_any (selects q) (lines (terminator q) bytes)

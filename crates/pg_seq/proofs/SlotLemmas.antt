@@ -2,15 +2,12 @@
 use Rattle.std.proofs.Common.{◌≡◌, ℕ, zero, suc, ◌+◌, ◌<◌, Bool, true, false, ◌&&◌, ◌||◌, cond, List, [], ◌∷◌, ◌++◌}
 use Rattle.std.proofs.Common.{length, drop, map, get_or, refl, sym, ap, ◌∙◌, subst, arith, Option, Some, IfSome}
 use Rattle.std.specs.Bool.{MatchBool}
+use Rattle.std.proofs.lemmas.Bool.{or_right}
 use Rattle.std.specs.List.{list_all, list_any, AllByRecursion, AllWithin, HoldsAt}
 use Rattle.pg_lines.specs.Search.{Search}
 use Rattle.pg_lines.specs.Searched.{Searched}
 use Rattle.pg_seq.specs.declared.slot.Slot.{Slot}
 use Rattle.pg_seq.specs.Slots.{has_result, slot_block, slot_selects, IsResultOf}
-
-or_true : (b : Bool) → (b || true) ≡ true
-or_true true = refl
-or_true false = refl
 
 -- how far the slots are ready
 pub cond_pos : (b : Bool) (n : ℕ) → 0 < cond b (1 + n) 0 → b ≡ true
@@ -48,7 +45,7 @@ module _ {A : Type 0} where
       one [] k are below h = absurd (omega arith)
       one (x ∷ xs) zero are below h = ap (λ b. b || list_any (slot_selects q) xs) (h x are.0)
       one (x ∷ xs) (suc k) are below h = ap (λ b. slot_selects q x || b) (one xs k are.1 (omega arith) h)
-          ∙ or_true (slot_selects q x)
+          ∙ or_right (slot_selects q x) true refl
   any_by_cases q false slots are h = sym (none slots are h)
     where
       none : (xs : List (Slot A)) → AllByRecursion (IsResultOf q) xs

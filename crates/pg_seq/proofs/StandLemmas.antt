@@ -4,7 +4,7 @@ use Rattle.std.proofs.Common.{Some}
 use Rattle.std.proofs.Common.{None, IfSome, List, [], ◌∷◌, ◌++◌, length, map, refl, sym, ap, ◌∙◌, subst, arith}
 use Rattle.std.proofs.Common.{inl, inr, append_assoc, length-append}
 use Rattle.std.specs.List.{find, AllByRecursion, list_any, list_all}
-use Rattle.std.proofs.lemmas.Bool.{false≢true, cases_Bool, eqb-true, and_parts}
+use Rattle.std.proofs.lemmas.Bool.{false≢true, cases_Bool, eqb-true, and_parts, or_right}
 use Rattle.std.proofs.lemmas.List.{append-nil, length-map, map-append, map_push}
 use Rattle.std.proofs.lemmas.List.Folds.{list_any-append}
 use Rattle.pg_lines.specs.Search.{Search, HasItsTrees, terminator}
@@ -48,6 +48,7 @@ use Rattle.pg_seq.proofs.CursorLemmas.{cursor_is, closed_joined}
 use Rattle.pg_seq.proofs.PlaceLemmas.{starts_length, find_place}
 use Rattle.pg_seq.proofs.KeyLemmas.{AreApart, announced_apart, find_passes, next_not_taken}
 use Rattle.pg_seq.proofs.CountLemmas.{few_blocks}
+use Rattle.pg_seq.proofs.ListLemmas.{or_none}
 use Rattle.pg_seq.proofs.ArriveLemmas.{at_slot, taken_means, IsTaken, block_at, piece_same, held_back, taken_one}
 use Rattle.pg_seq.proofs.ArriveLemmas.{same_blocks, results_with, stranger_taken}
 
@@ -58,16 +59,8 @@ bad_ended failed es name bytes rest e = ap (λ xs. list_any is_bad (with_end fai
     ∙ (turn failed (list_any is_bad rest) ∙ sym (ap (λ xs. list_any is_bad xs || failed) e))
   where
     turn : (f r : Bool) → list_any is_bad (Read name bytes (cond f Failed Ended) ∷ rest) ≡ (list_any is_bad rest || f)
-    turn true r = sym (or_right (list_any is_bad rest))
-      where
-        or_right : (b : Bool) → (b || true) ≡ true
-        or_right true = refl
-        or_right false = refl
+    turn true r = sym (or_right (list_any is_bad rest) true refl)
     turn false r = sym (or_none (list_any is_bad rest))
-      where
-        or_none : (b : Bool) → (b || false) ≡ b
-        or_none true = refl
-        or_none false = refl
 
 bad_more : (bytes : List ℕ) (es : List Entry) → list_any is_bad (with_bytes bytes es) ≡ list_any is_bad es
 bad_more bytes [] = refl

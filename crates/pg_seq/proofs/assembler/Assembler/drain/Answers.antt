@@ -1,30 +1,14 @@
-use Rattle.std.proofs.Common.{◌≡◌, ◌∙◌, ◌++◌, ◌||◌, ◌<◌, Bool, true, false, ℕ, List, [], ap, sym, subst, refl, arith}
+use Rattle.std.proofs.Common.{◌≡◌, ◌∙◌, ◌++◌, ◌||◌, ◌<◌, Bool, true, ℕ, List, [], ap, sym, subst, refl, arith}
 use Rattle.std.proofs.Common.{append_assoc}
-use Rattle.std.specs.Bool.{MatchBool}
-use Rattle.std.proofs.lemmas.Bool.{false≢true}
+use Rattle.std.proofs.lemmas.Bool.{MatchBool-at_true, MatchBool-at_false, or_right}
 use Rattle.std.proofs.lemmas.List.{append-nil}
 use Rattle.pg_base.proofs.WriteLemmas.{wrote_none, wrote_more}
 use Rattle.pg_seq.specs.History.{Past}
 use Rattle.pg_seq.specs.declared.assembler.Assembler.{Assembler}
 use Rattle.pg_seq.specs.Standing.{IsAfter, wrote}
+use Rattle.pg_seq.proofs.ListLemmas.{or_none}
 use Rattle.pg_seq.proofs.StandLemmas.{failed_stands}
 use Rattle.pg_seq.proofs.assembler.Assembler.drain.Goals as goal
-
-or_true : (b : Bool) → (b || true) ≡ true
-or_true true = refl
-or_true false = refl
-
-or_false : (b : Bool) → (b || false) ≡ b
-or_false true = refl
-or_false false = refl
-
-is_true : (b : Bool) (P Q : Type 0) → b ≡ true → MatchBool b P Q → P
-is_true true P Q e h = h
-is_true false P Q e h = absurd (false≢true e)
-
-is_false : (b : Bool) (P Q : Type 0) → b ≡ false → MatchBool b P Q → Q
-is_false true P Q e h = absurd (false≢true (sym e))
-is_false false P Q e h = h
 
 -- what was written so far, and one part more
 more_written : {A : Type 0} (s : Assembler A) (past : Past) (first more : List ℕ) (failed : Bool)
@@ -56,7 +40,7 @@ loop-self-preserved g c =
     record {
       drains = λ past h.
           let d = i.drains past h in
-          let a = is_true c.in-Ok-true.field-0 _ _ c.in-Ok-true.field-0-test
+          let a = MatchBool-at_true _ _ c.in-Ok-true.field-0-test
           (c.in-Ok-true.ensures.goes (wrote past d.0) d.2 i.unfailed) in (
             d.0 ++ a.rows,
             wrote_more d.0 a.rows _ _ _ d.1 a.got,
@@ -70,20 +54,20 @@ pub returns-in-Ok-false : goal.returns-in-Ok-false
 returns-in-Ok-false g c =
     let i = c.loop-self.invariant in
     let p = i.drains c.requires.0 c.requires.1 in
-    let n = is_false c.in-Ok-false.field-0 _ _ c.in-Ok-false.field-0-test
+    let n = MatchBool-at_false _ _ c.in-Ok-false.field-0-test
     (c.in-Ok-false.ensures.goes (wrote c.requires.0 p.0) p.2 i.unfailed) in
     let none = ap (λ s. s.failures) n.same ∙ p.1.no_failure in
     record {
       drained = λ past h.
           let d = i.drains past h in
-          let r = is_false c.in-Ok-false.field-0 _ _ c.in-Ok-false.field-0-test
+          let r = MatchBool-at_false _ _ c.in-Ok-false.field-0-test
           (c.in-Ok-false.ensures.goes (wrote past d.0) d.2 i.unfailed) in
           let P : Bool → Type 0 =
           λ f. IsAfter c.advance.new.self (record past { written = past.written ++ d.0; failed = f }) in (
             d.0,
             ap (λ s. s.taken) r.same ∙ d.1.taken,
             (h.failed ∙ c.if-self.false, r.all),
-            subst P (sym (or_false past.failed)) r.stands,
+            subst P (sym (or_none past.failed)) r.stands,
           );
       cause = λ e. absurd (cc);
       no_failure = none;
@@ -117,7 +101,7 @@ returns-in-Err g c =
                 (failed_stands c.advance.new.self _ (wrote past d.0) b.rows (past.failed || true) b.stands
                 (record { query = refl; format = refl; running = refl; bad = refl })
                 (record { handed = refl; printing = refl; printer = refl }) refl
-                (record { starts = refl; slots = refl; handed = refl; selected = refl }) refl (or_true past.failed)),
+                (record { starts = refl; slots = refl; handed = refl; selected = refl }) refl (or_right past.failed true refl)),
           );
       cause = λ e. rise;
       no_failure = tt;

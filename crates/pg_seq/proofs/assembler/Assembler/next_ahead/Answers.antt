@@ -1,19 +1,12 @@
-use Rattle.std.proofs.Common.{◌≡◌, ◌∙◌, ℕ, Bool, true, false, cond, not, sym, ap, refl, arith}
+use Rattle.std.proofs.Common.{◌∙◌, ℕ, cond, sym, ap, refl, arith}
+use Rattle.std.proofs.lemmas.Bool.{not-true, not-false}
 use Rattle.pg_seq.proofs.AheadLemmas.{end_next}
 use Rattle.pg_seq.proofs.assembler.Assembler.next_ahead.Goals as goal
-
-not_false : (b : Bool) → not b ≡ false → b ≡ true
-not_false true e = refl
-not_false false e = sym e
-
-not_true : (b : Bool) → not b ≡ true → b ≡ false
-not_true true e = sym e
-not_true false e = refl
 
 pub returns-then-is_over : goal.returns-then-is_over
 returns-then-is_over g c =
     let a = c.args.ahead in
-    let inside = not_false a.inside c.if-not-ahead.false in
+    let inside = not-false a.inside c.if-not-ahead.false in
     record {
       further = λ past h i.
           end_next c.args.self.now past h a i inside (sym c.is_over.ensures ∙ c.if-is_over.true) _ refl refl refl refl
@@ -22,7 +15,7 @@ returns-then-is_over g c =
     }
 
 pub file_ahead-requires : goal.file_ahead-requires
-file_ahead-requires g c = not_true c.args.ahead.inside c.if-not-ahead.true
+file_ahead-requires g c = not-true c.args.ahead.inside c.if-not-ahead.true
 
 pub returns-then-not-ahead : goal.returns-then-not-ahead
 returns-then-not-ahead g c = c.file_ahead.ensures
@@ -32,7 +25,7 @@ block_ahead-requires-clause-stands g c = c.requires
 
 pub block_ahead-requires-clause-inside : goal.block_ahead-requires-clause-inside
 block_ahead-requires-clause-inside g c =
-    (not_false c.args.ahead.inside c.if-not-ahead.false, sym c.is_over.ensures ∙ c.if-is_over.false)
+    (not-false c.args.ahead.inside c.if-not-ahead.false, sym c.is_over.ensures ∙ c.if-is_over.false)
 
 pub returns : goal.returns
 returns g c = c.block_ahead.ensures

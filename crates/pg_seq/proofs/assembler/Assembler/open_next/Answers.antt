@@ -1,16 +1,13 @@
-use Rattle.std.proofs.Common.{refl, sym, ap, ◌∙◌, arith, ◌≡◌, drop, List, [], ◌∷◌, length}
+use Rattle.std.proofs.Common.{refl, sym, ap, ◌∙◌, arith, ◌≡◌, drop, [], ◌∷◌, length}
+use Rattle.std.proofs.lemmas.List.{nil_from_length}
 use Rattle.pg_seq.proofs.DrainSteps.{none_waits, opened_next, here}
 use Rattle.pg_seq.proofs.StandLemmas.{same_stands}
 use Rattle.pg_seq.proofs.assembler.Assembler.open_next.Goals as goal
 
-nil_of : {X : Type 0} (xs : List X) → length xs ≡ 0 → xs ≡ []
-nil_of [] e = refl
-nil_of (x ∷ xs) e = absurd (omega (arith, e))
-
 pub returns-in_default : goal.returns-in_default
 returns-in_default g c =
     let none : c.args.self.now.waiting.items ≡ [] =
-    nil_of _ (omega (arith, c.in_default.ensures.cases.0, c.args.self.now.waiting.ok.0)) in
+    nil_from_length _ (omega (arith, c.in_default.ensures.cases.0, c.args.self.now.waiting.ok.0)) in
     let after : c.pop_front.new.self.items ≡ [] = c.in_default.ensures.rest ∙ ap (drop 1) none in
     record {
       opened = λ past h f. (

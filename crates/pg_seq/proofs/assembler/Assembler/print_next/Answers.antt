@@ -13,6 +13,7 @@ use Rattle.pg_seq.specs.History.{Past}
 use Rattle.pg_seq.specs.Slots.{slot_block}
 use Rattle.pg_seq.specs.Buffer.{HasResult}
 use Rattle.pg_seq.specs.Standing.{IsAfter}
+use Rattle.pg_seq.proofs.ListLemmas.{heads}
 use Rattle.pg_seq.proofs.StandLemmas.{same_stands}
 use Rattle.pg_seq.proofs.DrainSteps.{here, none_ready, result_is, lines_fit, bytes_fit, printed_next}
 use Rattle.pg_seq.proofs.DrainSteps.{block_part}
@@ -22,9 +23,6 @@ use Rattle.pg_seq.proofs.assembler.Assembler.print_next.Goals as goal
 result_of : {A : Type 0} (buffer : ReorderBuffer A) (found : Searched) (slot : Slot A) (rest : List (Slot A))
     → HasResult buffer 0 found → buffer.slots.items ≡ slot ∷ rest → slot.result ≡ Some found
 result_of buffer found slot rest p e = ap (λ x. x.result) (heads (sym e ∙ p.slots)) ∙ p.result
-  where
-    heads : {X : Type 0} {x y : X} {xs ys : List X} → x ∷ xs ≡ y ∷ ys → x ≡ y
-    heads e = cc
 
 -- what is remembered behind a block, by the printer and the block as they are when it is given up
 passed : {A : Type 0} (s : Assembler A) (past : Past) (h : IsAfter s past) (printer : Printer A) (printed : Printed)
