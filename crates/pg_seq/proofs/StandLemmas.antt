@@ -17,6 +17,7 @@ use Rattle.pg_blocks.proofs.LineLemmas.{lines-append}
 use Rattle.pg_seq.specs.declared.answers.Arrival.{Arrival}
 use Rattle.pg_seq.specs.declared.answers.Arrival.TheVariants.{Taken, Double, Stranger}
 use Rattle.pg_seq.specs.declared.slot.Slot.{Slot}
+use Rattle.pg_seq.specs.declared.reorder_buffer.ReorderBuffer.{ReorderBuffer}
 use Rattle.pg_seq.specs.declared.opening.Opening.{Opening}
 use Rattle.pg_seq.specs.declared.assembler.Assembler.{Assembler}
 use Rattle.pg_rows.specs.declared.format.Format.{Format}
@@ -258,6 +259,9 @@ module _ {A : Type 0} where
         selected = k.selected ∙ h.selected;
         writes = w;
       }
+
+  pub same_buffer : (buffer : ReorderBuffer A) → SameButRoom buffer buffer
+  same_buffer buffer = record { starts = refl; slots = refl; handed = refl; selected = refl }
 
   -- nothing happened
   pub same_stands : (s new : Assembler A) (past : Past) → IsAfter s past → IsAlike s new → IsIdle s new

@@ -72,6 +72,10 @@ pub record IsAfter {A : Type 0} (s : Assembler A) (past : Past) : Type 0 where
 abbrev pub HasPast : {A : Type 0} → Assembler A → Type 0
 HasPast s = (past : Past) × IsAfter s past
 
+-- there is such a past, and no write has failed
+abbrev pub MayWrite : {A : Type 0} → Assembler A → Type 0
+MayWrite s = (past : Past) × IsAfter s past × (s.failed ≡ false)
+
 -- nothing happened to it, and it is for the results of the query with this text
 abbrev pub IsAtStart : {A : Type 0} → SearchText → Format → Assembler A → Type 0
 IsAtStart text format s = (trees : List Pattern) → AreTreesOf text trees →
@@ -182,7 +186,7 @@ pub record HasNothingToDo {A : Type 0} (new : Assembler A) (past : Past) (before
 -- A step of the plan was done at true. At false there was none that may be done, and at Err a write failed in it.
 pub record TakesOneStep {A E : Type 0} (old new : Assembler A) (before after : Stream) (result : Result Bool E)
     : Type 0 where
-  pub goes : (past : Past) → IsAfter old past → old.failed ≡ false → MatchResult result
+  pub goes : (past : Past) → IsAfter old past → MatchResult result
       (λ more. MatchBool more (Advances new past before after) (HasNothingToDo new past before after))
       (λ _. BreaksOffInStep new past before after)
   pub fewer : IfOk result (λ more. more ≡ true → left new < left old)
@@ -190,7 +194,7 @@ pub record TakesOneStep {A E : Type 0} (old new : Assembler A) (before after : S
 
 -- The next file was opened in the printer at true. At false none waits, and all was written.
 pub record OpensNext {A : Type 0} (old new : Assembler A) (more : Bool) : Type 0 where
-  pub opened : (past : Past) → IsAfter old past → old.failed ≡ false →
+  pub opened : (past : Past) → IsAfter old past →
       MatchBool more (IsAfter new past) (HasWrittenAll past × IsAfter new past)
   pub fewer : more ≡ true → left new < left old
   pub same : new.failed ≡ old.failed

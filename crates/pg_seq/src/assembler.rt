@@ -75,7 +75,7 @@ impl<A: Allocator> Assembler<A> {
     ghost use Rattle.pg_seq.specs.History.{Past, planned, arrived, answer, IsComplete};
     ghost use Rattle.pg_seq.specs.Standing.{IsAfter, HasPast, IsAtStart, MayPlan, PlansAtOk, PlansAtOkWhereItMay};
     ghost use Rattle.pg_seq.specs.Standing.{StaysAtErr, MayKeep, Keeps, Drains, TellsEnough, TellsStatus};
-    ghost use Rattle.pg_seq.specs.Standing.{is_at_end, TakesOneStep, OpensNext};
+    ghost use Rattle.pg_seq.specs.Standing.{is_at_end, MayWrite, TakesOneStep, OpensNext};
     ghost use Rattle.pg_seq.specs.Ahead.{is_over, MayLookFurther, LooksOneFurther};
 
     /// One to which nothing happened.
@@ -207,7 +207,7 @@ impl<A: Allocator> Assembler<A> {
 
     /// Does the next step of the plan that may be done. `false` says that there is none.
     fn advance<W: Sink>(&mut self, out: &mut W) -> Result<bool, WriteError>
-        requires { HasPast self.old }
+        requires { MayWrite self.old }
         ensures { TakesOneStep self.old self.new (W.stream out.old) (W.stream out.new) result }
     {
         if !self.printing {
@@ -223,7 +223,7 @@ impl<A: Allocator> Assembler<A> {
 
     /// Opens the next file in the printer, where one waits.
     fn open_next(&mut self) -> bool
-        requires { self.old.printing ≡ false }
+        requires { (self.old.printing ≡ false) × (self.old.failed ≡ false) }
         ensures { OpensNext self.old self.new result }
     {
         let Some(next) = self.waiting.pop_front() else {
@@ -247,7 +247,7 @@ impl<A: Allocator> Assembler<A> {
     /// Writes the rows of the next block of the file that the printer has opened, where its result has
     /// come.
     fn print_next<W: Sink>(&mut self, out: &mut W) -> Result<bool, WriteError>
-        requires stands { HasPast self.old }
+        requires stands { MayWrite self.old }
         requires inside { (self.old.printing ≡ true) × (is_at_end self.old ≡ false) }
         ensures { TakesOneStep self.old self.new (W.stream out.old) (W.stream out.new) result }
     {

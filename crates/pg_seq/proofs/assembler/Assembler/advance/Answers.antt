@@ -8,6 +8,7 @@ use Rattle.pg_base.proofs.WriteLemmas.{wrote_none}
 use Rattle.pg_seq.specs.History.{Past}
 use Rattle.pg_seq.specs.declared.assembler.Assembler.{Assembler}
 use Rattle.pg_seq.specs.Standing.{IsAfter, Advances, HasNothingToDo, HasWrittenAll}
+use Rattle.pg_seq.proofs.StandLemmas.{same_buffer}
 use Rattle.pg_seq.proofs.DrainSteps.{here, ended_next, end_part}
 use Rattle.pg_seq.proofs.assembler.Assembler.advance.Goals as goal
 
@@ -28,14 +29,14 @@ pub returns-then-not-self : goal.returns-then-not-self
 returns-then-not-self g c =
     let o = c.open_next.ensures in
     record {
-      goes = λ past h f. opened _ past _ c.open_next.result (o.opened past h f);
+      goes = λ past h. opened _ past _ c.open_next.result (o.opened past h);
       fewer = o.fewer;
       same = o.same;
     }
 
 pub returns-in_err-end : goal.returns-in_err-end
 returns-in_err-end g c = record {
-  goes = λ past h f.
+  goes = λ past h.
       let s = c.args.self.now in
       let e = c.in_err-end.ensures in
       let P : List ℕ → Type 0 = λ t. WritesPart t (g.W.Sink.stream c.args.out.now) (g.W.Sink.stream c.end.new.out) in
@@ -44,7 +45,8 @@ returns-in_err-end g c = record {
         rows = w.part.0;
         got = w.part.2;
         failure = w.failure;
-        part = end_part s past h c.if-not-self.false (sym c.is_at_end.ensures ∙ c.if-is_at_end.true) f _ _ w.part;
+        part = end_part s past h c.if-not-self.false (sym c.is_at_end.ensures ∙ c.if-is_at_end.true) c.requires.2 _ _
+            w.part;
         stands = h;
       });
   fewer = IfOk-from_err c.from_residual.result _ c.from_residual.ensures.0;
@@ -53,7 +55,7 @@ returns-in_err-end g c = record {
 
 pub returns-then-is_at_end : goal.returns-then-is_at_end
 returns-then-is_at_end g c = record {
-  goes = λ past h f.
+  goes = λ past h.
       let s = c.args.self.now in
       let e = c.in_ok-end.ensures in
       let P : List ℕ → Type 0 = λ t. WritesAll t (g.W.Sink.stream c.args.out.now) (g.W.Sink.stream c.end.new.out) in
@@ -61,9 +63,8 @@ returns-then-is_at_end g c = record {
         rows = end_rows past.format (here s past h);
         got = subst P (e.2 past.query past.format (here s past h) h.writes.cursor) e.1.ok;
         stands = ended_next s past h _ c.if-not-self.false
-            (sym c.is_at_end.ensures ∙ c.if-is_at_end.true) f
-            (record { query = refl; format = refl; running = refl; bad = refl }) refl refl refl
-            (record { starts = refl; slots = refl; handed = refl; selected = refl }) refl;
+            (sym c.is_at_end.ensures ∙ c.if-is_at_end.true) c.requires.2
+            (record { query = refl; format = refl; running = refl; bad = refl }) refl refl refl (same_buffer _) refl;
       };
   fewer = λ e. search rules;
   same = refl;

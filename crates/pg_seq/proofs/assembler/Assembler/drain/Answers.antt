@@ -7,7 +7,7 @@ use Rattle.pg_seq.specs.History.{Past}
 use Rattle.pg_seq.specs.declared.assembler.Assembler.{Assembler}
 use Rattle.pg_seq.specs.Standing.{IsAfter, wrote}
 use Rattle.pg_seq.proofs.ListLemmas.{or_none}
-use Rattle.pg_seq.proofs.StandLemmas.{failed_stands}
+use Rattle.pg_seq.proofs.StandLemmas.{same_buffer, failed_stands}
 use Rattle.pg_seq.proofs.assembler.Assembler.drain.Goals as goal
 
 -- what was written so far, and one part more
@@ -29,7 +29,7 @@ loop-self-init g c = record {
 pub advance-requires : goal.advance-requires
 advance-requires g c =
     let d = c.loop-self.invariant.drains c.requires.0 c.requires.1 in
-    (wrote c.requires.0 d.0, d.2)
+    (wrote c.requires.0 d.0, d.2, c.loop-self.invariant.unfailed)
 
 pub loop-self-smaller : goal.loop-self-smaller
 loop-self-smaller g c = c.in-Ok-true.ensures.fewer c.in-Ok-true.field-0-test
@@ -41,7 +41,7 @@ loop-self-preserved g c =
       drains = λ past h.
           let d = i.drains past h in
           let a = MatchBool-at_true _ _ c.in-Ok-true.field-0-test
-          (c.in-Ok-true.ensures.goes (wrote past d.0) d.2 i.unfailed) in (
+          (c.in-Ok-true.ensures.goes (wrote past d.0) d.2) in (
             d.0 ++ a.rows,
             wrote_more d.0 a.rows _ _ _ d.1 a.got,
             more_written _ past d.0 a.rows past.failed a.stands,
@@ -55,13 +55,13 @@ returns-in-Ok-false g c =
     let i = c.loop-self.invariant in
     let p = i.drains c.requires.0 c.requires.1 in
     let n = MatchBool-at_false _ _ c.in-Ok-false.field-0-test
-    (c.in-Ok-false.ensures.goes (wrote c.requires.0 p.0) p.2 i.unfailed) in
+    (c.in-Ok-false.ensures.goes (wrote c.requires.0 p.0) p.2) in
     let none = ap (λ s. s.failures) n.same ∙ p.1.no_failure in
     record {
       drained = λ past h.
           let d = i.drains past h in
           let r = MatchBool-at_false _ _ c.in-Ok-false.field-0-test
-          (c.in-Ok-false.ensures.goes (wrote past d.0) d.2 i.unfailed) in
+          (c.in-Ok-false.ensures.goes (wrote past d.0) d.2) in
           let P : Bool → Type 0 =
           λ f. IsAfter c.advance.new.self (record past { written = past.written ++ d.0; failed = f }) in (
             d.0,
@@ -81,12 +81,12 @@ pub returns-in-Err : goal.returns-in-Err
 returns-in-Err g c =
     let i = c.loop-self.invariant in
     let p = i.drains c.requires.0 c.requires.1 in
-    let failure = (c.in-Err.ensures.goes (wrote c.requires.0 p.0) p.2 i.unfailed).failure in
+    let failure = (c.in-Err.ensures.goes (wrote c.requires.0 p.0) p.2).failure in
     let rise = rises _ _ _ p.1.no_failure failure in
     record {
       drained = λ past h.
           let d = i.drains past h in
-          let b = c.in-Err.ensures.goes (wrote past d.0) d.2 i.unfailed in (
+          let b = c.in-Err.ensures.goes (wrote past d.0) d.2 in (
             d.0 ++ b.rows,
             b.got ∙ (ap (λ w. w ++ b.rows) d.1.taken ∙ append_assoc (g.W.Sink.stream c.args.out.now).taken d.0 b.rows),
             (
@@ -101,7 +101,7 @@ returns-in-Err g c =
                 (failed_stands c.advance.new.self _ (wrote past d.0) b.rows (past.failed || true) b.stands
                 (record { query = refl; format = refl; running = refl; bad = refl })
                 (record { handed = refl; printing = refl; printer = refl }) refl
-                (record { starts = refl; slots = refl; handed = refl; selected = refl }) refl (or_right past.failed true refl)),
+                (same_buffer _) refl (or_right past.failed true refl)),
           );
       cause = λ e. rise;
       no_failure = tt;

@@ -3,7 +3,7 @@ use Rattle.pg_base.proofs.SinkLemmas.{on_err}
 use Rattle.pg_seq.specs.declared.opening.Opening.{Opening}
 use Rattle.pg_seq.specs.History.{plan}
 use Rattle.pg_seq.proofs.PlaceLemmas.{starts_length}
-use Rattle.pg_seq.proofs.StandLemmas.{may_open, opened_stands, same_stands}
+use Rattle.pg_seq.proofs.StandLemmas.{same_buffer, may_open, opened_stands, same_stands}
 use Rattle.pg_seq.proofs.assembler.Assembler.open.Goals as goal
 
 pub open_file-requires : goal.open_file-requires
@@ -17,8 +17,7 @@ pub returns-in_err-reserve-clause-err : goal.returns-in_err-reserve-clause-err
 returns-in_err-reserve-clause-err g c = λ past h.
     on_err _ c.from_residual-in_err-reserve.result
     (same_stands c.args.self.now _ past h (record { query = refl; format = refl; running = refl; bad = refl })
-    (record { handed = refl; printing = refl; printer = refl }) c.reserve.ensures.items
-    (record { starts = refl; slots = refl; handed = refl; selected = refl }) refl)
+    (record { handed = refl; printing = refl; printer = refl }) c.reserve.ensures.items (same_buffer _) refl)
 
 pub returns-clause-ok : goal.returns-clause-ok
 returns-clause-ok g c = λ past h.

@@ -14,7 +14,7 @@ use Rattle.pg_seq.specs.Slots.{slot_block}
 use Rattle.pg_seq.specs.Buffer.{HasResult}
 use Rattle.pg_seq.specs.Standing.{IsAfter}
 use Rattle.pg_seq.proofs.ListLemmas.{heads}
-use Rattle.pg_seq.proofs.StandLemmas.{same_stands}
+use Rattle.pg_seq.proofs.StandLemmas.{same_buffer, same_stands}
 use Rattle.pg_seq.proofs.DrainSteps.{here, none_ready, result_is, lines_fit, bytes_fit, printed_next}
 use Rattle.pg_seq.proofs.DrainSteps.{block_part}
 use Rattle.pg_seq.proofs.assembler.Assembler.print_next.Goals as goal
@@ -43,8 +43,10 @@ passed s past h printer printed b other same is r =
 
 pub returns-in_default : goal.returns-in_default
 returns-in_default g c = record {
-  goes = λ past h f. record {
-    all = none_ready c.args.self.now past h c.requires.inside.0 c.requires.inside.1 f c.in_default.ensures;
+  goes = λ past h. record {
+    all =
+        let inside = c.requires.inside in
+        none_ready c.args.self.now past h inside.0 inside.1 c.requires.stands.2 c.in_default.ensures;
     same = refl;
     stands = h;
   };
@@ -70,7 +72,7 @@ print-requires g c =
 
 pub returns-in_err-printed : goal.returns-in_err-printed
 returns-in_err-printed g c = record {
-  goes = λ past h f.
+  goes = λ past h.
       let s = c.args.self.now in
       let found = c.in-Some.found.now in
       let p = c.in-Some.ensures in
@@ -80,10 +82,9 @@ returns-in_err-printed g c = record {
         rows = w.part.0;
         got = w.part.2;
         failure = w.failure;
-        part = block_part s past h found p c.requires.inside.0 c.requires.inside.1 f _ _ w.part;
+        part = block_part s past h found p c.requires.inside.0 c.requires.inside.1 c.requires.stands.2 _ _ w.part;
         stands = same_stands s _ past h (record { query = refl; format = refl; running = refl; bad = refl })
-            (record { handed = refl; printing = refl; printer = c.print.ensures.same }) refl
-            (record { starts = refl; slots = refl; handed = refl; selected = refl }) refl;
+            (record { handed = refl; printing = refl; printer = c.print.ensures.same }) refl (same_buffer _) refl;
       });
   fewer = IfOk-from_err c.from_residual.result _ c.from_residual.ensures.0;
   same = refl;
@@ -111,7 +112,7 @@ returns-in-Some-pop_first g c =
     let o = c.in-Some-pop_first.ensures in
     let result = result_of s.buffer found slot _ c.in-Some.ensures o.slots in
     record {
-      goes = λ past h f.
+      goes = λ past h.
           let q = past.query in
           let cursor = here s past h in
           let r = result_is s past h slot _ found o.slots result in
@@ -120,8 +121,8 @@ returns-in-Some-pop_first g c =
           record {
             rows = shown_rows q past.format cursor found.block.bytes;
             got = (c.in_ok-printed.ensures.writes q past.format cursor h.writes.cursor h.trees r.0).ok;
-            stands = printed_next s past h _ slot found c.requires.inside.0 c.requires.inside.1 f result o
-                (record { query = refl; format = refl; running = refl; bad = refl }) refl refl refl
+            stands = printed_next s past h _ slot found c.requires.inside.0 c.requires.inside.1 c.requires.stands.2
+                result o (record { query = refl; format = refl; running = refl; bad = refl }) refl refl refl
                 (c.pass.ensures q past.format cursor m.0 m.1);
           };
       fewer = λ e. omega (arith, ap length o.slots);
