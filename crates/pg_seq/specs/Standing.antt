@@ -94,8 +94,8 @@ abbrev pub PlansAtOk : {A T E : Type 0} → (old new : Assembler A) → Step →
 PlansAtOk old new step result = (past : Past) → IsAfter old past → OnOk result (IsAfter new (planned past step))
 
 -- the same of each past on which the step may follow
-abbrev pub PlansAtOkWhereItMay : {A T E : Type 0} → (old new : Assembler A) → Step → Result T E → Type 0
-PlansAtOkWhereItMay old new step result = (past : Past) → IsAfter old past →
+abbrev pub PlansAtOkIfReady : {A T E : Type 0} → (old new : Assembler A) → Step → Result T E → Type 0
+PlansAtOkIfReady old new step result = (past : Past) → IsAfter old past →
     MayFollow (terminator past.query) (plan past) step → OnOk result (IsAfter new (planned past step))
 
 -- at Err it stands after each past after which it stood

@@ -73,7 +73,7 @@ impl<A: Allocator> Assembler<A> {
     ghost use Rattle.pg_rows.specs.Output.{HasRoom};
     ghost use Rattle.pg_seq.specs.Plan.{Opens, Announces, Ends, Misses};
     ghost use Rattle.pg_seq.specs.History.{Past, planned, arrived, answer, IsComplete};
-    ghost use Rattle.pg_seq.specs.Standing.{IsAfter, HasPast, IsAtStart, MayPlan, PlansAtOk, PlansAtOkWhereItMay};
+    ghost use Rattle.pg_seq.specs.Standing.{IsAfter, HasPast, IsAtStart, MayPlan, PlansAtOk, PlansAtOkIfReady};
     ghost use Rattle.pg_seq.specs.Standing.{StaysAtErr, MayKeep, Keeps, Drains, TellsEnough, TellsStatus};
     ghost use Rattle.pg_seq.specs.Standing.{is_at_end, MayWrite, TakesOneStep, OpensNext};
     ghost use Rattle.pg_seq.specs.Ahead.{is_over, MayLookFurther, LooksOneFurther};
@@ -124,7 +124,7 @@ impl<A: Allocator> Assembler<A> {
     /// Announces the open file's next block. A refused request for memory is the only error, and changes nothing.
     pub(crate) fn announce(&mut self, block: Arc<Block<A>, A>) -> Result<(), AllocError>
         requires { MayPlan self.old (Announces (arc_value block)) }
-        ensures ok { PlansAtOkWhereItMay self.old self.new (Announces (arc_value block)) result }
+        ensures ok { PlansAtOkIfReady self.old self.new (Announces (arc_value block)) result }
         ensures err { StaysAtErr self.old self.new result }
     {
         self.buffer.push(block)

@@ -43,7 +43,7 @@ impl<A: Allocator> Sequencer<A> {
     ghost use Rattle.pg_rows.specs.Output.{HasRoom};
     ghost use Rattle.pg_seq.specs.Plan.{Opens, Announces, Ends, Misses};
     ghost use Rattle.pg_seq.specs.History.{Past, planned, arrived, answer, IsComplete};
-    ghost use Rattle.pg_seq.specs.Standing.{IsAfter, IsAtStart, MayPlan, PlansAtOk, PlansAtOkWhereItMay, StaysAtErr};
+    ghost use Rattle.pg_seq.specs.Standing.{IsAfter, IsAtStart, MayPlan, PlansAtOk, PlansAtOkIfReady, StaysAtErr};
     ghost use Rattle.pg_seq.specs.Standing.{MayKeep, Keeps, Drains, TellsEnough, TellsStatus};
 
     /// A sequencer to which nothing happened, for the results of a query. It reserves the room for the
@@ -88,7 +88,7 @@ impl<A: Allocator> Sequencer<A> {
     /// file at most 2^62. A refused request for memory is the only error, and changes nothing.
     pub fn announce(&mut self, block: Arc<Block<A>, A>) -> Result<(), AllocError>
         requires { MayPlan self.old (Announces (arc_value block)) }
-        ensures ok { PlansAtOkWhereItMay self.old self.new (Announces (arc_value block)) result }
+        ensures ok { PlansAtOkIfReady self.old self.new (Announces (arc_value block)) result }
         ensures err { StaysAtErr self.old self.new result }
     {
         self.assembler.announce(block)
