@@ -12,8 +12,6 @@ use Rattle.pg_lines.specs.Search.{Search, terminator}
 use Rattle.pg_blocks.specs.Lines.{lines}
 use Rattle.pg_lines.specs.Selection.{selects}
 use Rattle.pg_rows.specs.declared.format.Format.{Format}
-use Rattle.pg_rows.specs.declared.format.Mode.{Mode}
-use Rattle.pg_rows.specs.declared.format.Mode.TheVariants.{Rows, Count, List as Names, ListOthers as Others, Quiet}
 use Rattle.pg_rows.specs.Colors.{escape, in_color, name_color, number_color, mark_color, part_color, painted_from}
 use Rattle.pg_rows.specs.Colors.{without_from, without_escapes}
 use Rattle.pg_rows.specs.Modes.{is_named, rows_in}
@@ -23,6 +21,7 @@ use Rattle.pg_rows.specs.Output.{separator, is_shown, is_kept, mark_of, members,
 use Rattle.pg_rows.specs.Output.{name_row}
 use Rattle.pg_rows.specs.Output.{file_rows, name_text, name_end, name_mark, mark_text, has_separators, is_behind}
 use Rattle.pg_rows.specs.Separator.{text_between}
+use Rattle.pg_rows.proofs.ModeLemmas.{rows_in_both}
 use Rattle.pg_rows.proofs.PieceLemmas.{Ascend, told_ascend}
 
 -- Bytes without an ESC.
@@ -353,14 +352,6 @@ module _ (q : Search) (format : Format) where
       go true = zero_clean
       go false = newline_clean
 
-strips_mode : (mode : Mode) (rows count name rows' count' name' : List ℕ) → Strips rows rows' → Strips count count'
-    → Strips name name' → Strips (rows_in mode rows count name) (rows_in mode rows' count' name')
-strips_mode Rows rows count name rows' count' name' r c n = r
-strips_mode Count rows count name rows' count' name' r c n = c
-strips_mode Names rows count name rows' count' name' r c n = n
-strips_mode Others rows count name rows' count' name' r c n = n
-strips_mode Quiet rows count name rows' count' name' r c n = λ ys. refl
-
 pub colors_add : (q : Search) (format : Format) (name bytes : List ℕ) (ended earlier : Bool)
     → (Contains name 27 → ⊥) → (Contains bytes 27 → ⊥) → (Contains (text_between format.separator) 27 → ⊥)
     → without_escapes (file_rows q (record format { colored = true }) name bytes ended earlier)
@@ -376,7 +367,8 @@ colors_add q format name bytes ended earlier clear_name clear_bytes clear_text =
     let listed : Format → List ℕ = λ f. when ended (name_row q f name ls) in
     stripped (rows_in format.mode (rows on) (count on) (listed on))
     (rows_in format.mode (rows off) (count off) (listed off))
-    (strips_mode format.mode (rows on) (count on) (listed on) (rows off) (count off) (listed off) (of_rows format.parts)
+    (rows_in_both Strips (λ ys. refl) format.mode (rows on) (count on) (listed on) (rows off) (count off) (listed off)
+    (of_rows format.parts)
     (strips_when ended (count_row q on name ls) (count_row q off name ls) (strips_count q format name ls h))
     (strips_when ended (name_row q on name ls) (name_row q off name ls) (strips_listed q format name ls h)))
   where

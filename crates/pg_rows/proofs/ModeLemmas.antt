@@ -59,6 +59,23 @@ quiet_rows_in Quiet rows count name e = refl
 pub rows_are : (m : Mode) (rows count name : List ℕ) → shows_rows m ≡ true → rows_in m rows count name ≡ rows
 rows_are m rows count name e = ap (λ shown. cond shown rows (end_row m count name)) e
 
+-- what holds of no rows, and of the rows, the counts and the names of two files, holds of what a mode has of them
+pub rows_in_both : (P : List ℕ → List ℕ → Type 0) → P [] [] → (m : Mode) (rows count name rows' count' name' : List ℕ)
+    → P rows rows' → P count count' → P name name' → P (rows_in m rows count name) (rows_in m rows' count' name')
+rows_in_both P none Rows rows count name rows' count' name' r c n = r
+rows_in_both P none Count rows count name rows' count' name' r c n = c
+rows_in_both P none Names rows count name rows' count' name' r c n = n
+rows_in_both P none Others rows count name rows' count' name' r c n = n
+rows_in_both P none Quiet rows count name rows' count' name' r c n = none
+
+-- where no line has a row these are the rows of the end
+pub end_adds : (m : Mode) (count name : List ℕ) → rows_in m [] count name ≡ end_row m count name
+end_adds Rows count name = refl
+end_adds Count count name = refl
+end_adds Names count name = refl
+end_adds Others count name = refl
+end_adds Quiet count name = refl
+
 pub nothing_in : (m : Mode) → rows_in m [] [] [] ≡ []
 nothing_in m = go (shows_rows m)
   where

@@ -1,5 +1,7 @@
 -- What is asked of a mode (XCU grep, -c, -l and -q; GNU grep, -L).
 use Rattle.std.specs.Prelude.{ℕ, Bool, true, false, not, List, [], if◌then◌else◌}
+use Rattle.pg_rows.specs.declared.format.EndRow.{EndRow}
+use Rattle.pg_rows.specs.declared.format.EndRow.TheVariants.{None as NoRow, Count as CountRow, Name as NameRow}
 use Rattle.pg_rows.specs.declared.format.Mode.{Mode}
 use Rattle.pg_rows.specs.declared.format.Mode.TheVariants.{Rows, Count, List as Names, ListOthers as Others, Quiet}
 
@@ -35,13 +37,23 @@ is_named Names selected = selected
 is_named Others selected = not selected
 is_named Quiet selected = selected
 
+-- which row a file's end adds
+abbrev pub row_at_end : Mode → EndRow
+row_at_end Rows = NoRow
+row_at_end Count = CountRow
+row_at_end Names = NameRow
+row_at_end Others = NameRow
+row_at_end Quiet = NoRow
+
+-- this one of the rows that tell a file's count and its name
+abbrev pub chosen : EndRow → (count name : List ℕ) → List ℕ
+chosen NoRow count name = []
+chosen CountRow count name = count
+chosen NameRow count name = name
+
 -- what a file's end adds, of the rows that tell its count and its name
 abbrev pub end_row : Mode → (count name : List ℕ) → List ℕ
-end_row Rows count name = []
-end_row Count count name = count
-end_row Names count name = name
-end_row Others count name = name
-end_row Quiet count name = []
+end_row mode count name = chosen (row_at_end mode) count name
 
 -- what a mode has of a file's rows
 abbrev pub rows_in : Mode → (rows count name : List ℕ) → List ℕ

@@ -1,6 +1,6 @@
 //! How rows look.
 ghost use Rattle.std.specs.Prelude.{◌≡◌};
-ghost use Rattle.pg_rows.specs.Modes.{shows_rows, settles_at_first, is_quiet, is_named};
+ghost use Rattle.pg_rows.specs.Modes.{shows_rows, settles_at_first, is_quiet, is_named, row_at_end};
 ghost use Rattle.pg_rows.specs.Output.{has_prefix, has_separators, name_mark};
 ghost use Rattle.pg_rows.specs.Separator.{text_between};
 
@@ -19,6 +19,16 @@ pub enum Mode {
     ListOthers,
     /// -q: nothing.
     Quiet,
+}
+
+/// The row that a file's end adds.
+#[derive(Clone, Copy)]
+pub(crate) enum EndRow {
+    None,
+    /// The number of selected lines.
+    Count,
+    /// The file's name, where the mode lists the file.
+    Name,
 }
 
 impl Mode {
@@ -59,6 +69,17 @@ impl Mode {
         match self {
             Mode::ListOthers => !selected,
             Mode::Rows | Mode::Count | Mode::List | Mode::Quiet => selected,
+        }
+    }
+
+    /// Which row a file's end adds.
+    pub(crate) fn row_at_end(self) -> EndRow
+        ensures { result ≡ row_at_end self }
+    {
+        match self {
+            Mode::Rows | Mode::Quiet => EndRow::None,
+            Mode::Count => EndRow::Count,
+            Mode::List | Mode::ListOthers => EndRow::Name,
         }
     }
 }

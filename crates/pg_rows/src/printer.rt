@@ -13,7 +13,7 @@ ghost use Rattle.pg_blocks.specs.Lines.{lines, AreWhole};
 ghost use Rattle.pg_base.specs.Sink.{WritesText, WritesPart};
 
 use crate::colors::end_of_parts;
-use crate::format::{Format, Mode};
+use crate::format::{EndRow, Format};
 use crate::places::{end_of_first, start_of_last};
 use crate::position::Position;
 use crate::prefix::Prefix;
@@ -196,10 +196,10 @@ impl<A: Allocator> Printer<A> {
             × ((q : Search) (format : Format) (c : Cursor) → IsAtCursor self.now q format c → text
             ≡ end_rows format c) }
     {
-        match self.format.mode {
-            Mode::Count => write_count(out, &self.format, &self.prefix, self.progress.kept),
-            Mode::List | Mode::ListOthers => self.write_listed_name(out),
-            Mode::Rows | Mode::Quiet => Ok(()),
+        match self.format.mode.row_at_end() {
+            EndRow::Count => write_count(out, &self.format, &self.prefix, self.progress.kept),
+            EndRow::Name => self.write_listed_name(out),
+            EndRow::None => Ok(()),
         }
     }
 
