@@ -9,16 +9,10 @@ use Rattle.circular_buffer.specs.Buffer.{keep_last}
 use Rattle.pg_blocks.specs.Lines.{lines, AreWhole, IsClear, Stops}
 use Rattle.pg_blocks.proofs.LineLemmas.{lines-append, whole_append}
 use Rattle.pg_blocks.proofs.PlaceLemmas.{line_to_stop}
+use Rattle.pg_rows.specs.Places.{FirstLines}
 use Rattle.pg_rows.proofs.TextLemmas.{last_whole}
 
 -- Several lines at the beginning of a text.
-
--- the bytes up to a place are the first `done` lines
-pub record FirstLines (end : ℕ) (text : List ℕ) (place done : ℕ) : Type 0 where
-  pub within : place ≤ length text
-  pub first : lines end (take place text) ≡ take done (lines end text)
-  pub rest : lines end (drop place text) ≡ drop done (lines end text)
-  pub whole : place < length text → AreWhole end (take place text)
 
 take_to : (text : List ℕ) (start next : ℕ) → start ≤ next
     → take next text ≡ take start text ++ slice_range text start next

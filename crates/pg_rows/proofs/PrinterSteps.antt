@@ -1,16 +1,18 @@
 -- What the printer does at a run of selected lines, and behind the last one.
-use Rattle.std.proofs.Common.{◌≡◌, ℕ, ◌+◌, ◌-◌, ◌<◌, ◌≤◌, ◌⊎◌, inl, inr, min, Bool, true, false, cond, nat_eq}
+use Rattle.std.proofs.Common.{◌≡◌, ℕ, ◌+◌, ◌-◌, ◌^◌, ◌<◌, ◌≤◌, ◌⊎◌, inl, inr, min, Bool, true, false, cond, not, nat_eq}
 use Rattle.std.proofs.Common.{List, [], ◌∷◌, ◌++◌}
 use Rattle.std.proofs.Common.{length, take, drop, slice_range, get_or, refl, sym, ap, ◌∙◌, subst, arith}
 use Rattle.std.proofs.Common.{append_assoc}
 use Rattle.std.proofs.Common.{length-append, length-drop}
 use Rattle.circular_buffer.specs.Buffer.{keep_last}
-use Rattle.std.proofs.lemmas.Bool.{cases_lt, cases_eq, cases_Bool, eq-eqb, false≢true, ne_eqb}
+use Rattle.std.proofs.lemmas.Bool.{and_parts, cases_lt, cases_eq, cases_Bool, eq-eqb, false≢true, ne_eqb, not-true}
 use Rattle.std.proofs.Math.Seq.{take-nil}
 use Rattle.std.proofs.lemmas.List.{drop_more, append-nil, drop-drop, drop-take, length-take-le}
-use Rattle.pg_lines.specs.Search.{Search, terminator}
+use Rattle.pg_lines.specs.Search.{Search, SearchText, terminator, terminator_of, HasItsTrees}
+use Rattle.pg_lines.specs.Searched.{Searched, lines_of}
 use Rattle.pg_blocks.specs.Lines.{lines}
-use Rattle.pg_lines.specs.Runs.{AreRuns}
+use Rattle.pg_lines.specs.Runs.{AreRuns, HasRuns}
+use Rattle.pg_lines.specs.BlockParts.{HasParts}
 use Rattle.pg_lines.specs.declared.run.Run.{Run}
 use Rattle.pg_lines.specs.declared.run.Part.{Part}
 use Rattle.pg_rows.proofs.ModeLemmas.{rows_are}
@@ -23,14 +25,17 @@ use Rattle.pg_rows.specs.Output.{context, is_below, painted, size_of}
 use Rattle.pg_rows.specs.Trail.{run_rows, run_pieces}
 use Rattle.pg_rows.specs.Stretch.{part_rows, AllSelected}
 use Rattle.pg_rows.specs.Pieces.{cut_at, told_of_lines, HasFound}
-use Rattle.pg_rows.specs.Painting.{count_before, AreToldParts}
+use Rattle.pg_rows.specs.Painting.{count_before}
 use Rattle.pg_rows.specs.Cursor.{Cursor}
 use Rattle.pg_rows.specs.Window.{held, IsWindow}
 use Rattle.pg_rows.specs.Progress.{Passes, KeepsLines, kept_of}
 use Rattle.pg_rows.specs.Printing.{leading, rows_of_passed, rows_of_run, IsAt, ComesNext, EndsKept}
 use Rattle.pg_rows.specs.Remembered.{IsAtCursor, HasLines, ComesLast, IsRememberedBehind, shows_lines, behind_block}
 use Rattle.pg_rows.specs.Modes.{shows_rows}
-use Rattle.pg_rows.specs.Remembered.{shown_rows}
+use Rattle.pg_rows.specs.Remembered.{shown_rows, shows_parts}
+use Rattle.pg_rows.specs.Steps.{gap_lines, shown_passed, shown_step, HasLeading, MayStep, StepsOver, TakesParts}
+use Rattle.pg_rows.specs.declared.printer.Step.{Step}
+use Rattle.pg_base.specs.Sink.{Stream}
 use Rattle.pg_rows.proofs.StretchLemmas.{length_keep_last}
 use Rattle.pg_rows.proofs.BlockLemmas.{no_run, stretches, full_none, none_full, kept_few}
 use Rattle.pg_rows.proofs.PrintLemmas.{at_first, at_last, enough_hidden, passed_step, keep_none}
@@ -40,178 +45,125 @@ use Rattle.pg_rows.proofs.RunSteps.{IsBefore, comes_next, gap_step, kept_texts, 
 use Rattle.pg_rows.proofs.SizeLemmas.{run_offset}
 use Rattle.pg_rows.proofs.PaintLemmas.{AreLeft, run_own}
 
+-- the printer stands in a block before these runs, and the parts are left of the lines from there on
+pub record IsAmong {A : Type 0} (s : Printer A) (q : Search) (format : Format) (c : Cursor)
+    (bytes before after : List ℕ) (parts : List Part) (place : Place) (runs : List Run) : Type 0 where
+  pub stands : IsAtCursor s q format c
+  pub here : IsBefore q format c (held (terminator q) s.window) bytes before after place.progress place.at place.seen
+      runs
+  pub left : s.format.colored ≡ true → AreLeft q bytes parts place.used place.at place.seen
+
 -- the printer has written nothing of a block
 pub before_all : {A : Type 0} (s : Printer A) (q : Search) (format : Format) (c : Cursor) (bytes taken : List ℕ)
-    (runs : List Run) (total : ℕ) → IsAtCursor s q format c → shows_lines format ≡ true → HasLines q bytes runs total
-    → IsBefore q format c (held (terminator q) s.window) bytes taken taken s.progress 0 0 runs
-before_all s q format c bytes taken runs total r shows has = record {
-  here = at_first q format c (held (terminator q) s.window) bytes taken s.progress r.told (r.window shows) r.room;
-  ahead = inl has.each;
+    (runs : List Run) (parts : List Part) (total : ℕ) → shows_lines s.format ≡ true → IsAtCursor s q format c
+    → HasFound q bytes runs parts total
+    → IsAmong s q format c bytes taken taken parts (record { progress = s.progress; at = 0; seen = 0; used = 0 }) runs
+before_all s q format c bytes taken runs parts total shows r found = record {
+  stands = r;
+  here = record {
+    here = at_first q format c (held (terminator q) s.window) bytes taken s.progress r.told
+        (r.window (ap shows_lines (sym r.format_is) ∙ shows)) r.room;
+    ahead = inl found.found_lines.each;
+  };
+  left = λ _. found_lines_told q bytes runs parts total found;
 }
 
--- the run that comes next, where a line of it is kept
-is_ahead : (q : Search) (format : Format) (c : Cursor) (hidden : List (List ℕ)) (bytes before after : List ℕ)
-    (p : Progress) (at seen count : ℕ) (here : Run) (runs : List Run)
-    → IsBefore q format c hidden bytes before after p at seen (here ∷ runs)
-    → count ≡ kept_of format.limit p.kept here.count → (count ≡ 0 → ⊥) → AreRuns q at seen (drop at bytes) (here ∷ runs)
-is_ahead q format c hidden bytes before after p at seen count here runs h is some = elim h.ahead [
-  | inl are ↦ are
-  | inr full ↦ absurd (some (is ∙ full_none format.limit p.kept here.count full))
-]
+-- this run comes next, and so many of its lines are kept, at least one
+pub record IsAtRun {A : Type 0} (s : Printer A) (q : Search) (format : Format) (c : Cursor)
+    (bytes before after : List ℕ) (parts : List Part) (place : Place) (here : Run) (more : List Run) (count : ℕ) :
+    Type 0
+  where
+    pub stands : IsAtCursor s q format c
+    pub at : IsAt q format c (held (terminator q) s.window) bytes before after place.progress place.at place.seen
+    pub are : AreRuns q place.at place.seen (drop place.at bytes) (here ∷ more)
+    pub is : count ≡ kept_of format.limit place.progress.kept here.count
+    pub some : 0 < count
+    pub left : s.format.colored ≡ true → AreLeft q bytes parts place.used place.at place.seen
 
--- what the printer may rely on at a run
-pub record CanStep {A : Type 0} (s : Printer A) (bytes : List ℕ) (place : Place) (here : Run) (count total : ℕ) : Type
-    0 where
-  pub next : ComesNext s.end bytes place.at place.seen here
-  pub few : count ≤ here.count
-  pub room : here.first + here.count ≤ total
-  pub enough : leading s.format place.progress ≤ length (held s.end s.window)
-  pub holds : IsWindow s.end s.window
-
-pub can_step : {A : Type 0} (s : Printer A) (q : Search) (format : Format) (c : Cursor) (bytes before after : List ℕ)
-    (place : Place) (runs : List Run) (index total count : ℕ)
-    → IsAtCursor s q format c → HasLines q bytes runs total → IsBefore q format c (held (terminator q) s.window) bytes
-    before after place.progress place.at place.seen (drop index runs) → index < length runs
+pub at_run : {A : Type 0} {s : Printer A} {q : Search} {format : Format} {c : Cursor} {bytes before after : List ℕ}
+    {parts : List Part} {place : Place} (runs : List Run) (index count : ℕ)
+    → IsAmong s q format c bytes before after parts place (drop index runs) → index < length runs
     → count ≡ kept_of s.format.limit place.progress.kept (get_or runs index no_run).count → (count ≡ 0 → ⊥)
-    → CanStep s bytes place (get_or runs index no_run) count total
-can_step s q format c bytes before after place runs index total count r has h below is some =
+    → IsAtRun s q format c bytes before after parts place (get_or runs index no_run) (drop (index + 1) runs) count
+at_run {s = s} {q = q} {format = format} {c = c} {bytes = bytes} {before = before} {after = after} {place = place} runs
+    index count m below is some =
     let here = get_or runs index no_run in
-    let more = drop (index + 1) runs in
-    let hidden = held (terminator q) s.window in
-    let P : List Run → Type 0 = λ rs. IsBefore q format c hidden bytes before after place.progress place.at place.seen
-    rs in
-    let h' = subst P (drop_more runs index no_run below) h in
-    let is' = is ∙ ap (λ f. kept_of f.limit place.progress.kept here.count) r.format_is in
-    let are = is_ahead q format c hidden bytes before after place.progress place.at place.seen count here more h' is'
-    some in
-    let n = (stretches q place.at place.seen (drop place.at bytes) (here ∷ more) are).0 in
-    let long = ap (λ xs. length xs) n.joins ∙ length-append n.gap (n.text ++ n.later) in
-    let tail = length-append n.text n.later in
-    let Q : ℕ → Type 0 = λ e. ComesNext e bytes place.at place.seen here in
-    let R : ℕ → Type 0 = λ e. leading format place.progress ≤ length (held e s.window) in
-    let S : Format → Type 0 = λ f. leading f place.progress ≤ length (held s.end s.window) in
-    let T : ℕ → Type 0 = λ e. IsWindow e s.window in
+    let P : List Run → Type 0 = λ rs. IsBefore q format c (held (terminator q) s.window) bytes before after
+    place.progress place.at place.seen rs in
+    let h = subst P (drop_more runs index no_run below) m.here in
+    let is' = is ∙ ap (λ f. kept_of f.limit place.progress.kept here.count) m.stands.format_is in
     record {
-      next = subst Q (sym r.end_is) (comes_next q place.at place.seen bytes here more are h.here.within);
-      few = let k = kept_few format.limit place.progress.kept here.count in omega (arith, is');
-      room = let a = n.first in let b = n.count in let d = h.here.count in let e = has.total in omega arith;
-      enough = subst S (sym r.format_is) (subst R (sym r.end_is)
-          (enough_hidden q format c hidden bytes before after place.progress place.at place.seen h.here));
-      holds = subst T (sym r.end_is) r.holds;
+      stands = m.stands;
+      at = h.here;
+      are = elim h.ahead [
+        | inl are ↦ are
+        | inr full ↦ absurd (some (is' ∙ full_none format.limit place.progress.kept here.count full))
+      ];
+      is = is';
+      some = omega (arith, some);
+      left = m.left;
     }
 
--- the rows from one place to the next
-abbrev pub step_rows : {A : Type 0} → Search → Format → ℕ → List ℕ → Bool → Window A → (offset : ℕ) → List ℕ
-    → ℕ → ℕ → ℕ → Progress → Progress → List ℕ
-step_rows q format end name earlier window offset bytes at start place p passed =
-    rows_of_run format end name earlier (held end window) p passed (offset + at)
-    (lines end (slice_range bytes at start))
-    (offset + start) (painted q format) (lines end (slice_range bytes start place))
+-- the printer may go over these lines, where the numbers of the block's lines and bytes stay small
+pub may_step : {A : Type 0} {s : Printer A} {q : Search} {format : Format} {c : Cursor} {bytes before after : List ℕ}
+    {parts : List Part} {place : Place} {here : Run} {more : List Run} {count : ℕ} (runs : List Run) (total : ℕ)
+    → IsAtRun s q format c bytes before after parts place here more count → HasLines q bytes runs total
+    → place.progress.number ≡ s.progress.number + place.seen → place.used ≤ length parts
+    → s.progress.number + total < 2 ^ 63 → s.offset + length bytes < 2 ^ 63 → MayStep s bytes parts place here count
+may_step {s = s} {q = q} {format = format} {bytes = bytes} {place = place} {here = here} {more = more} {count = count}
+    runs total n has number used small placed =
+    let d = (stretches q place.at place.seen (drop place.at bytes) (here ∷ more) n.are).0 in
+    let long = ap (λ xs. length xs) d.joins ∙ length-append d.gap (d.text ++ d.later) in
+    let tail = length-append d.text d.later in
+    let kept = kept_few format.limit place.progress.kept here.count in
+    let few : count ≤ here.count = omega (arith, kept, n.is) in
+    let all : here.first + here.count ≤ total = omega (arith, long, tail, d.first, d.count, n.at.count, has.total) in
+    let Q : ℕ → Type 0 = λ e. ComesNext e bytes place.at place.seen here in
+    let next = subst Q (sym n.stands.end_is) (comes_next q place.at place.seen bytes here more n.are n.at.within) in
+    record {
+      next = next;
+      few = few;
+      used = used;
+      room = omega (arith, few, all, small);
+      small = omega (arith, few, all, small, number, next.gap);
+      placed = placed;
+    }
 
-step_same : {A : Type 0} (s : Printer A) (q : Search) (format : Format) (c : Cursor) (bytes : List ℕ)
-    (at start place : ℕ) (p passed : Progress) → IsAtCursor s q format c →
-    step_rows q s.format s.end s.prefix s.earlier s.window s.offset bytes at start place p passed
-    ≡ step_rows q format (terminator q) c.name c.earlier s.window c.trail.offset bytes at start place p passed
-step_same s q format c bytes at start place p passed r =
-    ap (λ f. step_rows q f s.end s.prefix s.earlier s.window s.offset bytes at start place p passed) r.format_is
-    ∙ (ap (λ e. step_rows q format e s.prefix s.earlier s.window s.offset bytes at start place p passed) r.end_is
-    ∙ (ap (λ n. step_rows q format (terminator q) n s.earlier s.window s.offset bytes at start place p passed) r.name_is
-    ∙ (ap (λ b. step_rows q format (terminator q) c.name b s.window s.offset bytes at start place p passed) r.earlier_is
-    ∙ ap (λ o. step_rows q format (terminator q) c.name c.earlier s.window o bytes at start place p passed) r.offset)))
-
--- the step from one place to the next
-pub record IsStep {A : Type 0} (s : Printer A) (bytes : List ℕ) (place : Place) (here : Run) (count : ℕ)
-    (passed : Progress) (next : Place) : Type 0 where
-  pub passes : Passes place.progress (here.first - place.seen) passed
-  pub keeps : KeepsLines passed s.format count next.progress
-  pub ends : EndsKept s.end bytes here count next.at
-  pub seen : next.seen ≡ here.first + count
-
-pub stepped : {A : Type 0} (s : Printer A) (q : Search) (format : Format) (c : Cursor) (bytes before after : List ℕ)
-    (place next : Place) (passed : Progress) (runs : List Run) (index count : ℕ)
-    → IsAtCursor s q format c → IsBefore q format c (held (terminator q) s.window) bytes
-    before after place.progress place.at place.seen (drop index runs) → index < length runs
-    → count ≡ kept_of s.format.limit place.progress.kept (get_or runs index no_run).count → (count ≡ 0 → ⊥)
-    → IsStep s bytes place (get_or runs index no_run) count passed next
-    → IsBefore q format c (held (terminator q) s.window) bytes before (after
-    ++ step_rows q s.format s.end s.prefix s.earlier s.window s.offset bytes place.at
-    (get_or runs index no_run).span.start
-    next.at
-    place.progress passed) next.progress next.at next.seen (drop (index + 1) runs)
-stepped s q format c bytes before after place next passed runs index count r h below is some step =
-    let here = get_or runs index no_run in
-    let more = drop (index + 1) runs in
-    let hidden = held (terminator q) s.window in
-    let P : List Run → Type 0 = λ rs. IsBefore q format c hidden bytes before after place.progress place.at place.seen
-    rs in
-    let h' = subst P (drop_more runs index no_run below) h in
-    let is' = is ∙ ap (λ f. kept_of f.limit place.progress.kept here.count) r.format_is in
-    let are = is_ahead q format c hidden bytes before after place.progress place.at place.seen count here more h' is'
-    some in
-    let K : Format → Type 0 = λ f. KeepsLines passed f count next.progress in
-    let E : ℕ → Type 0 = λ e. EndsKept e bytes here count next.at in
-    let rows = step_rows q format (terminator q) c.name c.earlier s.window c.trail.offset bytes place.at here.span.start
-    next.at place.progress passed in
-    let k = run_step q format c hidden bytes before after place.progress passed next.progress place.at place.seen count
-    next.at here more h.here are step.passes (subst K r.format_is step.keeps) is' (omega (arith, some))
-    (subst E r.end_is step.ends) in
-    let first = rows_of_passed format (terminator q) c.name place.progress (c.trail.offset + place.at)
-    (lines (terminator q) (slice_range bytes place.at here.span.start)) in
-    let same = ap (λ xs. after ++ xs)
-    (sym (step_same s q format c bytes place.at here.span.start next.at place.progress passed r)) in
-    let Q : ℕ → Type 0 = λ n. IsBefore q format c hidden bytes before (after ++ rows) next.progress next.at n more in
-    let R : List ℕ → Type 0 = λ t. IsBefore q format c hidden bytes before t next.progress next.at next.seen more in
-    let S : List ℕ → Type 0 = λ t. IsBefore q format c hidden bytes before t next.progress next.at (here.first + count)
-    more in
-    subst R same (subst Q (sym step.seen) (subst S (append_assoc after first _) k))
-
--- the lines before a run that are shown as its context have no more bytes than the file has before the run
-pub has_room : {A : Type 0} (s : Printer A) (q : Search) (format : Format) (c : Cursor) (bytes before after : List ℕ)
-    (place : Place) (passed : Progress) (runs : List Run) (index count : ℕ)
-    → IsAtCursor s q format c → IsBefore q format c (held (terminator q) s.window) bytes
-    before after place.progress place.at place.seen (drop index runs) → index < length runs
-    → count ≡ kept_of s.format.limit place.progress.kept (get_or runs index no_run).count → (count ≡ 0 → ⊥)
-    → Passes place.progress ((get_or runs index no_run).first - place.seen) passed
-    → size_of (keep_last (leading s.format passed) (held s.end s.window ++ drop place.progress.countdown
-    (lines s.end (slice_range bytes place.at (get_or runs index no_run).span.start))))
-    ≤ s.offset + (get_or runs index no_run).span.start
-has_room s q format c bytes before after place passed runs index count r h below is some passes =
-    let here = get_or runs index no_run in
-    let more = drop (index + 1) runs in
-    let hidden = held (terminator q) s.window in
-    let P : List Run → Type 0 = λ rs. IsBefore q format c hidden bytes before after place.progress place.at place.seen
-    rs in
-    let h' = subst P (drop_more runs index no_run below) h in
-    let is' = is ∙ ap (λ f. kept_of f.limit place.progress.kept here.count) r.format_is in
-    let are = is_ahead q format c hidden bytes before after place.progress place.at place.seen count here more h' is'
-    some in
-    let n = are.0 in
-    let k = gap_step q format c hidden bytes before after place.progress passed place.at place.seen here h.here n
-    (next_texts q place.at place.seen bytes here n h.here.within) passes in
-    let gap = slice_range bytes place.at here.span.start in
-    let shown : Format → ℕ → List (List ℕ) = λ f e.
-    keep_last (leading f passed) (held e s.window ++ drop place.progress.countdown (lines e gap)) in
+-- what stands before the kept lines is known, and has no more bytes than the file before them
+pub has_leading : {A : Type 0} {s : Printer A} {q : Search} {format : Format} {c : Cursor}
+    {bytes before after : List ℕ} {parts : List Part} {place : Place} {here : Run} {more : List Run} {count : ℕ}
+    (passed : Progress) → IsAtRun s q format c bytes before after parts place here more count
+    → Passes place.progress (here.first - place.seen) passed
+    → HasLeading s passed (drop place.progress.countdown (gap_lines s bytes place here)) (s.offset + here.span.start)
+has_leading {s = s} {q = q} {format = format} {c = c} {bytes = bytes} {before = before} {after = after} {place = place}
+    {here = here} passed n passes =
+    let r = n.stands in
+    let d = n.are.0 in
+    let texts = next_texts q place.at place.seen bytes here d n.at.within in
+    let k = gap_step q format c (held (terminator q) s.window) bytes before after place.progress passed place.at
+    place.seen here n.at d texts passes in
+    let near : ℕ → List (List ℕ) = λ e.
+    drop place.progress.countdown (lines e (slice_range bytes place.at here.span.start)) in
+    let shown : Format → ℕ → List (List ℕ) = λ f e. keep_last (leading f passed) (held e s.window ++ near e) in
     let same : size_of (shown s.format s.end) ≡ size_of k.trail.window =
     ap (λ f. size_of (shown f s.end)) r.format_is
     ∙ (ap (λ e. size_of (shown format e)) r.end_is ∙ sym (ap size_of k.window)) in
-    let room = k.room in
-    let offset = r.offset in
-    elim k.offset [
-      | inl place_is ↦ omega (arith, same, room, offset, place_is)
-      | inr none ↦
-          let texts = next_texts q place.at place.seen bytes here n h.here.within in
-          absurd (n.text_some (sym texts.text
-          ∙ (ap (take (here.span.end - here.span.start)) none ∙ take-nil (here.span.end - here.span.start))))
-    ]
-
--- what a step takes of the parts
-pub record TakesParts {A : Type 0} (s : Printer A) (q : Search) (bytes : List ℕ) (parts : List Part)
-    (place next : Place) (here : Run) : Type 0 where
-  pub told : AreToldParts q s.format.colored s.end (take next.at bytes) here.span.start here.first
-      (slice_range parts place.used next.used)
-  pub ordered : place.used ≤ next.used
-  pub within : next.used ≤ length parts
-  pub left : s.format.colored ≡ true → AreLeft q bytes parts next.used next.at next.seen
+    let fits = enough_hidden q format c (held (terminator q) s.window ++ near (terminator q)) bytes before _ passed
+    here.span.start here.first k in
+    let both = length-append (held (terminator q) s.window) (near (terminator q)) in
+    let E : Format → ℕ → Type 0 = λ f e. leading f passed ≤ length (held e s.window) + length (near e) in
+    let F : ℕ → Type 0 = λ e. E format e in
+    let G : Format → Type 0 = λ f. E f s.end in
+    let W : ℕ → Type 0 = λ e. IsWindow e s.window in
+    record {
+      window = subst W (sym r.end_is) r.holds;
+      enough = subst G (sym r.format_is) (subst F (sym r.end_is) (omega (arith, fits, both)));
+      low = elim k.offset [
+        | inl place_is ↦ omega (arith, same, k.room, r.offset, place_is)
+        | inr none ↦ absurd (d.text_some (sym texts.text
+            ∙ (ap (take (here.span.end - here.span.start)) none ∙ take-nil (here.span.end - here.span.start))))
+      ];
+    }
 
 -- the lines that are kept of a run stand alone where the bytes are cut behind them
 pub cut_bytes : (bytes : List ℕ) (start place : ℕ) → start ≤ place
@@ -220,115 +172,87 @@ cut_bytes bytes start place low =
     let sum : start + (place - start) ≡ place = omega arith in
     ap (λ n. drop start (take n bytes)) (sym sum) ∙ drop-take start (place - start) bytes
 
-pub takes_parts : {A : Type 0} (s : Printer A) (q : Search) (format : Format) (c : Cursor)
-    (bytes before after : List ℕ) (parts : List Part) (place next : Place) (runs : List Run) (index count : ℕ)
-    → IsAtCursor s q format c → IsBefore q format c (held (terminator q) s.window) bytes
-    before after place.progress place.at place.seen (drop index runs) → index < length runs
-    → count ≡ kept_of s.format.limit place.progress.kept (get_or runs index no_run).count → (count ≡ 0 → ⊥)
-    → EndsKept s.end bytes (get_or runs index no_run) count next.at
-    → next.seen ≡ (get_or runs index no_run).first + count
-    → next.used ≡ cond s.format.colored
-    (place.used + count_before ((get_or runs index no_run).first + count) (drop place.used parts)) place.used
-    → place.used ≤ length parts
-    → (s.format.colored ≡ true → AreLeft q bytes parts place.used place.at place.seen)
-    → TakesParts s q bytes parts place next (get_or runs index no_run)
-takes_parts s q format c bytes before after parts place next runs index count r h below is some ends seen used fits left
-    =
-    let here = get_or runs index no_run in
-    let more = drop (index + 1) runs in
-    let P : List Run → Type 0 = λ rs. IsBefore q format c (held (terminator q) s.window) bytes before after
-    place.progress place.at place.seen rs in
-    let h' = subst P (drop_more runs index no_run below) h in
-    let is' = is ∙ ap (λ f. kept_of f.limit place.progress.kept here.count) r.format_is in
-    let are = is_ahead q format c (held (terminator q) s.window) bytes before after place.progress place.at place.seen
-    count here more h' is' some in
+-- what a step takes of the parts, and what it leaves
+record PartsLead {A : Type 0} (s : Printer A) (q : Search) (bytes : List ℕ) (parts : List Part) (place : Place)
+    (here : Run) (next : Place) : Type 0 where
+  takes : TakesParts q s bytes parts place here next
+  left : s.format.colored ≡ true → AreLeft q bytes parts next.used next.at next.seen
+
+parts_lead : {A : Type 0} {s : Printer A} {q : Search} {format : Format} {c : Cursor} {bytes before after : List ℕ}
+    {parts : List Part} {place : Place} {here : Run} {more : List Run} {count : ℕ} (next : Step)
+    → IsAtRun s q format c bytes before after parts place here more count
+    → StepsOver s bytes parts place here count next → place.used ≤ length parts
+    → PartsLead s q bytes parts place here next.place
+parts_lead {s = s} {q = q} {format = format} {bytes = bytes} {parts = parts} {place = place} {here = here}
+    {count = count} step n steps fits =
+    let next = step.place in
     let few = kept_few format.limit place.progress.kept here.count in
     let E : ℕ → Type 0 = λ e. EndsKept e bytes here count next.at in
-    let kept = kept_texts q place.at place.seen bytes here count next.at are.0 h.here.within (omega (arith, is'))
-    (subst E r.end_is ends) in
+    let kept = kept_texts q place.at place.seen bytes here count next.at n.are.0 n.at.within
+    (omega (arith, few, n.is)) (subst E n.stands.end_is steps.ends) in
     let own = told_of_lines q here.span.start here.first in
     let cut : lines s.end (drop here.span.start (take next.at bytes))
     ≡ lines (terminator q) (slice_range bytes here.span.start next.at) =
-    ap (λ e. lines e (drop here.span.start (take next.at bytes))) r.end_is
-    ∙ ap (lines (terminator q)) (cut_bytes bytes here.span.start next.at ends.low) in
+    ap (λ e. lines e (drop here.span.start (take next.at bytes))) n.stands.end_is
+    ∙ ap (lines (terminator q)) (cut_bytes bytes here.span.start next.at steps.ends.low) in
     let S : List (List ℕ) → Type 0 = λ ls. AllSelected q true ls in
     let selected = subst S (sym cut) kept.selected in
+    let used : Bool → ℕ = λ b.
+    cond b (place.used + count_before (here.first + count) (drop place.used parts)) place.used in
     elim (cases_Bool s.format.colored) [
       | inl on ↦
-          let a = run_own q bytes parts place.used next.used place.at place.seen count next.at here are.0 h.here.within
-          kept ends.low fits (left on) (used ∙ ap (λ b. cond b (place.used
-          + count_before (here.first + count) (drop place.used parts)) place.used) on) in
+          let a = run_own q bytes parts place.used next.used place.at place.seen count next.at here n.are.0
+          n.at.within kept steps.ends.low fits (n.left on) (steps.used ∙ ap used on) in
           record {
-            told = record {
-              end_is = r.end_is;
-              selected = selected;
-              parts_are = λ _. a.own_is ∙ sym (ap own cut);
+            takes = record {
+              told = record {
+                end_is = n.stands.end_is;
+                selected = selected;
+                parts_are = λ _. a.own_is ∙ sym (ap own cut);
+              };
+              ordered = a.ordered;
+              within = a.within;
             };
-            ordered = a.ordered;
-            within = a.within;
-            left = λ _. a.later_is ∙ ap (λ n. told_of_lines q next.at n (lines (terminator q) (drop next.at bytes)))
-                (sym seen);
+            left = λ _. a.later_is ∙ ap (λ k. told_of_lines q next.at k (lines (terminator q) (drop next.at bytes)))
+                (sym steps.seen);
           }
       | inr off ↦
-          let same : next.used ≡ place.used = used ∙ ap (λ b. cond b (place.used
-          + count_before (here.first + count) (drop place.used parts)) place.used) off in
+          let same : next.used ≡ place.used = steps.used ∙ ap used off in
           record {
-            told = record {
-              end_is = r.end_is;
-              selected = selected;
-              parts_are = λ on. absurd (false≢true (sym off ∙ on));
+            takes = record {
+              told = record {
+                end_is = n.stands.end_is;
+                selected = selected;
+                parts_are = λ on. absurd (false≢true (sym off ∙ on));
+              };
+              ordered = omega (arith, same);
+              within = omega (arith, same);
             };
-            ordered = omega (arith, same);
-            within = omega (arith, same);
             left = λ on. absurd (false≢true (sym off ∙ on));
           }
     ]
 
--- Behind the last line that is kept.
+-- the rows of a step, said of the place in the output
+abbrev step_rows : {A : Type 0} → Search → Format → ℕ → List ℕ → Bool → Window A → (offset : ℕ) → List ℕ → Place → Run
+    → Step → List ℕ
+step_rows q format end name earlier window offset bytes place here next =
+    rows_of_run format end name earlier (held end window) place.progress next.passed (offset + place.at)
+    (lines end (slice_range bytes place.at here.span.start)) (offset + here.span.start) (painted q format)
+    (lines end (slice_range bytes here.span.start next.place.at))
 
-pub comes_last : {A : Type 0} (s : Printer A) (q : Search) (format : Format) (c : Cursor) (bytes before after : List ℕ)
-    (place : Place) (runs : List Run) → IsBefore q format c (held (terminator q) s.window) bytes before after
-    place.progress place.at place.seen runs → (runs ≡ []) ⊎ (is_below place.progress.kept format.limit ≡ false)
-    → (place.at ≡ 0 → place.progress ≡ s.progress) → (0 < place.at → place.progress.behind ≡ 0)
-    → ComesLast q format c (held (terminator q) s.window) bytes before after s.progress place
-comes_last s q format c bytes before after place runs h none fresh kept = record {
-  here = h.here;
-  rest = elim none [
-    | inr full ↦ inr full
-    | inl last ↦ elim h.ahead [
-      | inl are ↦ let P : List Run → Type 0 = λ rs. AreRuns q place.at place.seen (drop place.at bytes) rs in
-          inl (subst P last are)
-      | inr full ↦ inr full
-    ]
-  ];
-  fresh = fresh;
-  kept = kept;
-}
-
--- no line of the next run is kept
-pub stops : {A : Type 0} (s : Printer A) (q : Search) (format : Format) (c : Cursor) (bytes before after : List ℕ)
-    (place : Place) (runs : List Run) (index count : ℕ)
-    → IsAtCursor s q format c → IsBefore q format c (held (terminator q) s.window) bytes
-    before after place.progress place.at place.seen (drop index runs) → index < length runs
-    → count ≡ kept_of s.format.limit place.progress.kept (get_or runs index no_run).count → count ≡ 0
-    → is_below place.progress.kept format.limit ≡ false
-stops s q format c bytes before after place runs index count r h below is none =
-    let here = get_or runs index no_run in
-    let more = drop (index + 1) runs in
-    let P : List Run → Type 0 = λ rs. IsBefore q format c (held (terminator q) s.window) bytes before after
-    place.progress
-    place.at place.seen rs in
-    let h' = subst P (drop_more runs index no_run below) h in
-    let is' = is ∙ ap (λ f. kept_of f.limit place.progress.kept here.count) r.format_is in
-    elim h'.ahead [
-      | inr full ↦ full
-      | inl are ↦
-          let n = (stretches q place.at place.seen (drop place.at bytes) (here ∷ more) are).0 in
-          none_full format.limit place.progress.kept here.count (sym is' ∙ none) (omega (arith, n.count, n.text_some))
-    ]
+step_same : {A : Type 0} (s : Printer A) (q : Search) (format : Format) (c : Cursor) (bytes : List ℕ) (place : Place)
+    (here : Run) (next : Step) → IsAtCursor s q format c →
+    shown_step q s bytes place here next
+    ≡ step_rows q format (terminator q) c.name c.earlier s.window c.trail.offset bytes place here next
+step_same s q format c bytes place here next r =
+    ap (λ f. step_rows q f s.end s.prefix s.earlier s.window s.offset bytes place here next) r.format_is
+    ∙ (ap (λ e. step_rows q format e s.prefix s.earlier s.window s.offset bytes place here next) r.end_is
+    ∙ (ap (λ n. step_rows q format (terminator q) n s.earlier s.window s.offset bytes place here next) r.name_is
+    ∙ (ap (λ b. step_rows q format (terminator q) c.name b s.window s.offset bytes place here next) r.earlier_is
+    ∙ ap (λ o. step_rows q format (terminator q) c.name c.earlier s.window o bytes place here next) r.offset)))
 
 -- a line was kept before the place
-pub ends_some : (end : ℕ) (bytes : List ℕ) (here : Run) (count at : ℕ) → EndsKept end bytes here count at
+ends_some : (end : ℕ) (bytes : List ℕ) (here : Run) (count at : ℕ) → EndsKept end bytes here count at
     → here.count ≡ length (lines end (slice_range bytes here.span.start here.span.end)) → count ≤ here.count → 0 < count
     → 0 < at
 ends_some end bytes here count at ends long few some = elim (cases_lt 0 at) [
@@ -342,23 +266,121 @@ ends_some end bytes here count at ends long few some = elim (cases_lt 0 at) [
       absurd (omega arith)
 ]
 
+-- what a step leads to
+pub record LeadsOn {A : Type 0} (s : Printer A) (q : Search) (format : Format) (c : Cursor)
+    (bytes before after : List ℕ) (parts : List Part) (place : Place) (here : Run) (more : List Run) (next : Step) :
+    Type 0
+  where
+    pub some : 0 < next.place.at
+    pub takes : TakesParts q s bytes parts place here next.place
+    pub among : IsAmong s q format c bytes before (after ++ shown_step q s bytes place here next) parts next.place more
+
+pub leads_on : {A : Type 0} {s : Printer A} {q : Search} {format : Format} {c : Cursor} {bytes before after : List ℕ}
+    {parts : List Part} {place : Place} {here : Run} {more : List Run} {count : ℕ} (next : Step)
+    → IsAtRun s q format c bytes before after parts place here more count
+    → StepsOver s bytes parts place here count next → place.used ≤ length parts
+    → LeadsOn s q format c bytes before after parts place here more next
+leads_on {s = s} {q = q} {format = format} {c = c} {bytes = bytes} {before = before} {after = after} {place = place}
+    {here = here} {more = more} {count = count} next n steps fits =
+    let r = n.stands in
+    let to = next.place in
+    let hidden = held (terminator q) s.window in
+    let K : Format → Type 0 = λ f. KeepsLines next.passed f count to.progress in
+    let E : ℕ → Type 0 = λ e. EndsKept e bytes here count to.at in
+    let rows = step_rows q format (terminator q) c.name c.earlier s.window c.trail.offset bytes place here next in
+    let k = run_step q format c hidden bytes before after place.progress next.passed to.progress place.at place.seen
+    count to.at here more n.at n.are steps.passes (subst K r.format_is steps.keeps) n.is n.some
+    (subst E r.end_is steps.ends) in
+    let first = rows_of_passed format (terminator q) c.name place.progress (c.trail.offset + place.at)
+    (lines (terminator q) (slice_range bytes place.at here.span.start)) in
+    let same = ap (λ xs. after ++ xs) (sym (step_same s q format c bytes place here next r)) in
+    let Q : ℕ → Type 0 = λ m. IsBefore q format c hidden bytes before (after ++ rows) to.progress to.at m more in
+    let R : List ℕ → Type 0 = λ t. IsBefore q format c hidden bytes before t to.progress to.at to.seen more in
+    let S : List ℕ → Type 0 = λ t. IsBefore q format c hidden bytes before t to.progress to.at (here.first + count) more
+    in
+    let p = parts_lead next n steps fits in
+    let kept = kept_few format.limit place.progress.kept here.count in
+    record {
+      some = ends_some (terminator q) bytes here count to.at (subst E r.end_is steps.ends)
+          (comes_next q place.at place.seen bytes here more n.are n.at.within).count (omega (arith, kept, n.is)) n.some;
+      takes = p.takes;
+      among = record {
+        stands = r;
+        here = subst R same (subst Q (sym steps.seen) (subst S (append_assoc after first _) k));
+        left = p.left;
+      };
+    }
+
+-- Behind the last line that is kept.
+
+-- no line of the next run is kept
+pub stops : {A : Type 0} {s : Printer A} {q : Search} {format : Format} {c : Cursor} {bytes before after : List ℕ}
+    {parts : List Part} {place : Place} (runs : List Run) (index count : ℕ)
+    → IsAmong s q format c bytes before after parts place (drop index runs) → index < length runs
+    → count ≡ kept_of s.format.limit place.progress.kept (get_or runs index no_run).count → count ≡ 0
+    → is_below place.progress.kept format.limit ≡ false
+stops {s = s} {q = q} {format = format} {c = c} {bytes = bytes} {before = before} {after = after} {place = place} runs
+    index count m below is none =
+    let here = get_or runs index no_run in
+    let more = drop (index + 1) runs in
+    let P : List Run → Type 0 = λ rs. IsBefore q format c (held (terminator q) s.window) bytes before after
+    place.progress place.at place.seen rs in
+    let h = subst P (drop_more runs index no_run below) m.here in
+    let is' = is ∙ ap (λ f. kept_of f.limit place.progress.kept here.count) m.stands.format_is in
+    elim h.ahead [
+      | inr full ↦ full
+      | inl are ↦
+          let n = (stretches q place.at place.seen (drop place.at bytes) (here ∷ more) are).0 in
+          none_full format.limit place.progress.kept here.count (sym is' ∙ none) (omega (arith, n.count, n.text_some))
+    ]
+
+-- no run is left, or none of its lines is kept
+pub comes_last : {A : Type 0} {s : Printer A} {q : Search} {format : Format} {c : Cursor} {bytes : List ℕ}
+    {parts : List Part} {place : Place} {runs : List Run} (t : Printer A) (block : List ℕ) (before after : Stream)
+    → s ≡ t → bytes ≡ block → IsAmong s q format c bytes before.taken after.taken parts place runs
+    → (runs ≡ []) ⊎ (is_below place.progress.kept format.limit ≡ false) → after.failures ≡ before.failures
+    → place.progress.number ≡ s.progress.number + place.seen → (place.at ≡ 0 → place.progress ≡ s.progress)
+    → (0 < place.at → place.progress.behind ≡ 0)
+    → ComesLast q format c (held (terminator q) t.window) block before after t.progress place
+comes_last {s = s} {q = q} {format = format} {c = c} {bytes = bytes} {place = place} t block before after same
+    same_bytes m none no_failure number fresh kept =
+    let P : Printer _ → Type 0 = λ p. ComesLast q format c (held (terminator q) p.window) bytes before after p.progress
+    place in
+    let Q : List ℕ → Type 0 = λ bs. ComesLast q format c (held (terminator q) t.window) bs before after t.progress place
+    in
+    subst Q same_bytes (subst P same (record {
+      here = m.here.here;
+      no_failure = no_failure;
+      number = number;
+      rest = elim none [
+        | inr full ↦ inr full
+        | inl last ↦ elim m.here.ahead [
+          | inl are ↦ let R : List Run → Type 0 = λ rs. AreRuns q place.at place.seen (drop place.at bytes) rs in
+              inl (subst R last are)
+          | inr full ↦ inr full
+        ]
+      ];
+      fresh = fresh;
+      kept = kept;
+    }))
+
 -- the lines behind the last one that is kept were passed
-pub behind_last : {A : Type 0} (s : Printer A) (q : Search) (format : Format) (c : Cursor) (bytes before after : List ℕ)
-    (place : Place) (last : Progress) (count : ℕ) → IsAtCursor s q format c
+pub behind_last : {A : Type 0} (s : Printer A) (q : Search) (format : Format) (c : Cursor) (bytes : List ℕ)
+    (before after : Stream) (place : Place) (last : Progress) (count : ℕ) → IsAtCursor s q format c
     → ComesLast q format c (held (terminator q) s.window) bytes before after s.progress place
     → Passes place.progress count last → count ≡ length (lines s.end (drop place.at bytes)) →
     IsAt q format c
     (held (terminator q) s.window ++ drop place.progress.countdown (lines (terminator q) (drop place.at bytes))) bytes
-    before (after ++ rows_of_passed s.format s.end s.prefix place.progress (s.offset + place.at)
-    (lines s.end (drop place.at bytes))) last
-    (length bytes) (place.seen + length (lines (terminator q) (drop place.at bytes)))
+    before.taken (after.taken ++ shown_passed s place.progress (s.offset + place.at)
+    (lines s.end (drop place.at bytes))) last (length bytes) (place.seen + length (lines (terminator q) (drop place.at bytes)))
 behind_last s q format c bytes before after place last count r h passes is =
     let end = terminator q in
     let front = drop place.at bytes in
     let ls = lines end front in
     let P : ℕ → Type 0 = λ k. Passes place.progress k last in
     let hidden = held end s.window in
-    let k = passed_step q format c hidden bytes before after place.progress last place.at place.seen h.here front []
+    let k = passed_step q format c hidden bytes before.taken after.taken place.progress last place.at place.seen h.here
+    front []
     (sym (append-nil front)) (inr refl) h.rest
     (subst P (is ∙ ap (λ e. length (lines e front)) r.end_is) passes) in
     let long = length-drop place.at bytes in
@@ -368,10 +390,10 @@ behind_last s q format c bytes before after place last count r h passes is =
     let same : rows format end c.name c.trail.offset ≡ rows s.format s.end s.prefix s.offset =
     sym (ap (λ f. rows f s.end s.prefix s.offset) r.format_is ∙ (ap (λ e. rows format e s.prefix s.offset) r.end_is
     ∙ (ap (λ n. rows format end n s.offset) r.name_is ∙ ap (rows format end c.name) r.offset))) in
-    let Q : ℕ → Type 0 = λ n. IsAt q format c (hidden ++ drop place.progress.countdown ls) bytes before
-    (after ++ rows format end c.name c.trail.offset) last n (place.seen + length ls) in
-    let R : List ℕ → Type 0 = λ t. IsAt q format c (hidden ++ drop place.progress.countdown ls) bytes before
-    (after ++ t) last (length bytes) (place.seen + length ls) in
+    let Q : ℕ → Type 0 = λ n. IsAt q format c (hidden ++ drop place.progress.countdown ls) bytes before.taken
+    (after.taken ++ rows format end c.name c.trail.offset) last n (place.seen + length ls) in
+    let R : List ℕ → Type 0 = λ t. IsAt q format c (hidden ++ drop place.progress.countdown ls) bytes before.taken
+    (after.taken ++ t) last (length bytes) (place.seen + length ls) in
     subst R same (subst Q whole k)
 
 -- which lines may still be shown, where no line was kept and where one was
@@ -403,8 +425,8 @@ offset_follows s q format c bytes r =
     ∙ (ap (λ o. o + size_of (lines (terminator q) bytes)) r.offset
     ∙ sym (run_offset q format c.trail (lines (terminator q) bytes)))
 
-pub follows : {A : Type 0} (s : Printer A) (q : Search) (format : Format) (c : Cursor) (bytes before after : List ℕ)
-    (place : Place) (last : Progress) (count stop left offset : ℕ) → IsAtCursor s q format c
+pub follows : {A : Type 0} (s : Printer A) (q : Search) (format : Format) (c : Cursor) (bytes : List ℕ)
+    (before after : Stream) (place : Place) (last : Progress) (count stop left offset : ℕ) → IsAtCursor s q format c
     → shows_lines format ≡ true
     → ComesLast q format c (held (terminator q) s.window) bytes before after s.progress place
     → Passes place.progress count last → count ≡ length (lines s.end (drop place.at bytes))
@@ -427,9 +449,8 @@ follows s q format c bytes before after place last count stop left offset r show
     let others = drop place.progress.countdown ls in
     let ctx = context format.before in
     let k = behind_last s q format c bytes before after place last count r h passes is in
-    let done = at_last q format c (hidden ++ others) bytes before
-    (after ++ rows_of_passed s.format s.end s.prefix place.progress (s.offset + place.at)
-    (lines s.end (drop place.at bytes))) last
+    let done = at_last q format c (hidden ++ others) bytes before.taken
+    (after.taken ++ shown_passed s place.progress (s.offset + place.at) (lines s.end (drop place.at bytes))) last
     (length bytes) (place.seen + length ls) k refl in
     let P : ℕ → Type 0 = λ e. lines e (drop stop (drop place.at bytes))
     ≡ drop place.progress.countdown (lines e (drop place.at bytes)) in
@@ -464,25 +485,58 @@ follows s q format c bytes before after place last count stop left offset r show
           ∙ ap (λ xs. keep_last ctx (cond (nat_eq place.at 0) hidden [] ++ xs)) (sym tail));
     }
 
+-- What is known of a result.
+
+pub has_lines : (q : Search) (found : Searched) (runs : List Run) → HasItsTrees q → found.query ≡ q.text
+    → HasRuns found.query found.block.bytes runs → HasLines q found.block.bytes runs (length (lines_of found))
+has_lines q found runs trees query has =
+    let P : SearchText → Type 0 = λ t. HasRuns t found.block.bytes runs in
+    record {
+      each = subst P query has q.trees trees;
+      total = ap (λ t. length (lines (terminator_of t) found.block.bytes)) query;
+    }
+
+pub has_found : (q : Search) (found : Searched) (bytes : List ℕ) (runs : List Run) (parts : List Part) → HasItsTrees q
+    → found.query ≡ q.text → bytes ≡ found.block.bytes → HasRuns found.query found.block.bytes runs
+    → HasParts found.query found.block.bytes parts → HasFound q bytes runs parts (length (lines_of found))
+has_found q found bytes runs parts trees query same has_runs has_parts =
+    let P : List ℕ → Type 0 = λ bs. HasFound q bs runs parts (length (lines_of found)) in
+    let Q : SearchText → Type 0 = λ t. HasParts t found.block.bytes parts in
+    subst P (sym same) (record {
+      found_lines = has_lines q found runs trees query has_runs;
+      found_parts = subst Q query has_parts q.trees trees;
+    })
+
+-- the numbers of a block's lines and bytes stay small
+pub lines_small : {A : Type 0} {s : Printer A} {q : Search} {format : Format} {c : Cursor} (total : ℕ)
+    → IsAtCursor s q format c → c.trail.number + total < 2 ^ 63 → s.progress.number + total < 2 ^ 63
+lines_small total r small = omega (arith, r.told.number, small)
+
+pub bytes_small : {A : Type 0} {s : Printer A} {q : Search} {format : Format} {c : Cursor} (bytes block : List ℕ)
+    → IsAtCursor s q format c → bytes ≡ block → c.trail.offset + length block < 2 ^ 63
+    → s.offset + length bytes < 2 ^ 63
+bytes_small bytes block r same small = omega (arith, r.offset, ap (λ bs. length bs) same, small)
+
 -- What a block adds, by the kind of rows.
 
-pub shown_pieces : (q : Search) (format : Format) (c : Cursor) (bytes : List ℕ) → shows_rows format.mode ≡ true
-    → format.parts ≡ true
+pub shown_pieces : (q : Search) (format : Format) (c : Cursor) (bytes : List ℕ) → shows_parts format ≡ true
     → shown_rows q format c bytes ≡ run_pieces q format c.name c.trail (lines (terminator q) bytes)
-shown_pieces q format c bytes rows pieces =
+shown_pieces q format c bytes shows =
     let ls = lines (terminator q) bytes in
     let parts = run_pieces q format c.name c.trail ls in
     let whole = run_rows q format c.name c.earlier c.trail ls in
-    rows_are format.mode (cond format.parts parts whole) [] [] rows ∙ ap (λ b. cond b parts whole) pieces
+    let both = and_parts (shows_rows format.mode) format.parts shows in
+    rows_are format.mode (cond format.parts parts whole) [] [] both.0 ∙ ap (λ b. cond b parts whole) both.1
 
-pub shown_lines : (q : Search) (format : Format) (c : Cursor) (bytes : List ℕ) → shows_rows format.mode ≡ true
-    → format.parts ≡ false
+pub shown_lines : (q : Search) (format : Format) (c : Cursor) (bytes : List ℕ) → shows_lines format ≡ true
     → shown_rows q format c bytes ≡ run_rows q format c.name c.earlier c.trail (lines (terminator q) bytes)
-shown_lines q format c bytes rows pieces =
+shown_lines q format c bytes shows =
     let ls = lines (terminator q) bytes in
     let parts = run_pieces q format c.name c.trail ls in
     let whole = run_rows q format c.name c.earlier c.trail ls in
-    rows_are format.mode (cond format.parts parts whole) [] [] rows ∙ ap (λ b. cond b parts whole) pieces
+    let both = and_parts (shows_rows format.mode) (not format.parts) shows in
+    rows_are format.mode (cond format.parts parts whole) [] [] both.0
+    ∙ ap (λ b. cond b parts whole) (not-true format.parts both.1)
 
 -- the rows of the parts, as the printer writes them
 pub pieces_same : {A : Type 0} (s : Printer A) (q : Search) (format : Format) (c : Cursor) (bytes : List ℕ)

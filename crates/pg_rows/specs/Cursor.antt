@@ -1,12 +1,10 @@
 -- Where the rows of a run stand: what is remembered of what was written, and what a block and a file's end add.
-use Rattle.std.specs.Prelude.{ℕ, nat_lt, Bool, false, if◌then◌else◌, List, [], ◌∷◌, ◌++◌}
-use Rattle.std.specs.Fmt.{decimal}
+use Rattle.std.specs.Prelude.{ℕ, nat_lt, Bool, false, if◌then◌else◌, List, []}
 use Rattle.pg_lines.specs.Search.{Search, terminator}
 use Rattle.pg_blocks.specs.Lines.{lines}
-use Rattle.pg_rows.specs.Marks.{colon, newline}
 use Rattle.pg_rows.specs.declared.format.Format.{Format}
 use Rattle.pg_rows.specs.Modes.{is_named}
-use Rattle.pg_rows.specs.Output.{name_end, name_mark, name_text, when}
+use Rattle.pg_rows.specs.Output.{count_text, listed_text, when}
 use Rattle.pg_rows.specs.Trail.{Trail, no_lines, trail_of, run_rows, run_pieces}
 
 -- whether the run had a row before the file, the file's name, and what is remembered of its lines
@@ -30,9 +28,7 @@ block_rows q format c bytes =
 
 -- the rows at a file's end
 abbrev pub counted : Format → Cursor → List ℕ
-counted format c =
-    when format.names (name_text format c.name ++ name_end format colon) ++ decimal c.trail.kept ++ newline ∷ []
+counted format c = count_text format c.name c.trail.kept
 
 abbrev pub named : Format → Cursor → List ℕ
-named format c =
-    when (is_named format.mode (nat_lt 0 c.trail.kept)) (name_text format c.name ++ name_mark format newline ∷ [])
+named format c = when (is_named format.mode (nat_lt 0 c.trail.kept)) (listed_text format c.name)

@@ -5,11 +5,14 @@ pub mod Separator
 pub mod Output
 pub mod Trail
 pub mod Stretch
+pub mod Places
 pub mod Progress
 pub mod Cursor
 pub mod Printing
 pub mod Window
 pub mod Remembered
+pub mod Results
 pub mod Pieces
 pub mod Painting
+pub mod Steps
 pub mod Enough

@@ -75,6 +75,22 @@ mark_text format mark = in_color format.colored mark_color (mark ∷ [])
 abbrev pub name_end : Format → ℕ → List ℕ
 name_end format mark = if format.null then 0 ∷ [] else mark_text format mark
 
+-- a name and what follows it
+abbrev pub marked_name : Format → List ℕ → ℕ → List ℕ
+marked_name format name mark = name_text format name ++ name_end format mark
+
+-- the row of a count, and that of a name, which end with a newline whatever the terminator, but for a name with a NUL
+-- behind it
+abbrev pub count_text : Format → List ℕ → ℕ → List ℕ
+count_text format name count = when format.names (marked_name format name colon) ++ decimal count ++ newline ∷ []
+
+abbrev pub listed_text : Format → List ℕ → List ℕ
+listed_text format name = name_text format name ++ name_mark format newline ∷ []
+
+-- a matched part, in its color where rows have colors
+abbrev pub part_text : Format → List ℕ → List ℕ
+part_text format text = in_color format.colored part_color text
+
 abbrev pub is_nothing : List ℕ → Bool
 is_nothing [] = true
 is_nothing (b ∷ bytes) = false
@@ -95,7 +111,7 @@ number_text format mark number = in_color format.colored number_color (decimal n
 -- tab; the text; the terminator
 abbrev pub row : Format → ℕ → List ℕ → (number offset mark : ℕ) → List ℕ → List ℕ
 row format end name number offset mark text =
-    when format.names (name_text format name ++ name_end format mark)
+    when format.names (marked_name format name mark)
     ++ when format.numbers (number_text format mark number)
     ++ when format.offsets (number_text format mark offset)
     ++ tab_before format (not (is_nothing text)) ++ text ++ end ∷ []
@@ -144,19 +160,16 @@ line_rows q format name ls earlier =
 abbrev pub piece_rows : Search → Format → List ℕ → List (List ℕ) → List ℕ
 piece_rows q format name ls =
     flat_map (λ i. flat_map (λ p. row format (terminator q) name (i + 1) (line_start ls i + p.0) colon
-    (in_color format.colored part_color (slice_range (line_at ls i) p.0 p.1)))
+    (part_text format (slice_range (line_at ls i) p.0 p.1)))
     (told_parts q (line_at ls i)))
     (members (is_kept q format.limit ls) ls)
 
--- the rows of -c, -l and -L, which end with a newline whatever the terminator, but for a name with a NUL behind it
+-- the rows of -c, -l and -L
 abbrev pub count_row : Search → Format → List ℕ → List (List ℕ) → List ℕ
-count_row q format name ls =
-    when format.names (name_text format name ++ name_end format colon)
-    ++ decimal (length (members (is_kept q format.limit ls) ls)) ++ newline ∷ []
+count_row q format name ls = count_text format name (length (members (is_kept q format.limit ls) ls))
 
 abbrev pub name_row : Search → Format → List ℕ → List (List ℕ) → List ℕ
-name_row q format name ls =
-    when (is_named format.mode (list_any (selects q) ls)) (name_text format name ++ name_mark format newline ∷ [])
+name_row q format name ls = when (is_named format.mode (list_any (selects q) ls)) (listed_text format name)
 
 -- what one file gives; `earlier` says that the run has an earlier row
 unfoldable pub file_rows : Search → Format → List ℕ → List ℕ → Bool → Bool → List ℕ

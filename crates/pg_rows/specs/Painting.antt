@@ -1,5 +1,5 @@
 -- How lines are written with their matched parts in color.
-use Rattle.std.specs.Prelude.{◌≡◌, ℕ, ◌+◌, ◌≤◌, nat_lt, true, Bool, if◌then◌else◌, List, [], ◌∷◌, ◌++◌, drop}
+use Rattle.std.specs.Prelude.{◌≡◌, ℕ, ◌+◌, ◌≤◌, nat_lt, true, Bool, if◌then◌else◌, List, [], ◌∷◌, ◌++◌, drop, length}
 use Rattle.std.specs.Prelude.{slice_range}
 use Rattle.pg_lines.specs.Search.{Search, terminator}
 use Rattle.pg_blocks.specs.Lines.{lines}
@@ -28,6 +28,11 @@ abbrev pub AreAscending : ℕ → ℕ → List Part → Type 0
 AreAscending from to [] = from ≤ to
 AreAscending from to (p ∷ ps) =
     (from ≤ p.span.start) × (p.span.start ≤ p.span.end) × (p.span.end ≤ to) × AreAscending p.span.end to ps
+
+-- the same of places in these bytes
+pub record AreWithin (bytes : List ℕ) (from to : ℕ) (parts : List Part) : Type 0 where
+  pub within : to ≤ length bytes
+  pub ascend : AreAscending from to parts
 
 -- how many of the first parts stand in the first `limit` lines
 abbrev pub count_before : ℕ → List Part → ℕ

@@ -1,7 +1,8 @@
 -- How a printer stands in the output of a run, and what its calls write.
-use Rattle.std.specs.Prelude.{◌≡◌, ℕ, ◌<◌, ◌≤◌, ◌⊎◌, Bool, true, false, not, ◌||◌, ◌&&◌, if◌then◌else◌, List, []}
+use Rattle.std.specs.Prelude.{◌≡◌, ℕ, ◌+◌, ◌<◌, ◌≤◌, ◌⊎◌, Bool, true, false, not, ◌||◌, ◌&&◌, if◌then◌else◌, List, []}
 use Rattle.std.specs.Prelude.{◌++◌, length, drop}
 use Rattle.circular_buffer.specs.Buffer.{keep_last}
+use Rattle.pg_base.specs.Sink.{Stream}
 use Rattle.pg_lines.specs.Search.{Search, terminator}
 use Rattle.pg_blocks.specs.Lines.{lines}
 use Rattle.pg_lines.specs.Runs.{AreRuns}
@@ -25,6 +26,10 @@ use Rattle.pg_rows.specs.Window.{held, IsWindow}
 abbrev pub shows_lines : Format → Bool
 shows_lines format = shows_rows format.mode && not format.parts
 
+-- rows are those of matched parts
+abbrev pub shows_parts : Format → Bool
+shows_parts format = shows_rows format.mode && format.parts
+
 -- The printer, made for a query and a format, stands at this place of the output.
 pub record IsAtCursor {A : Type 0} (p : Printer A) (q : Search) (format : Format) (c : Cursor) : Type 0 where
   pub format_is : p.format ≡ format
@@ -46,9 +51,11 @@ pub record HasLines (q : Search) (bytes : List ℕ) (runs : List Run) (count : �
 
 -- The printer has come to a place behind which no line is kept: it still remembers what it did before the block, or a
 -- line was kept right before the place.
-pub record ComesLast (q : Search) (format : Format) (c : Cursor) (hidden : List (List ℕ)) (bytes before after : List ℕ)
-    (start : Progress) (place : Place) : Type 0 where
-  pub here : IsAt q format c hidden bytes before after place.progress place.at place.seen
+pub record ComesLast (q : Search) (format : Format) (c : Cursor) (hidden : List (List ℕ)) (bytes : List ℕ)
+    (before after : Stream) (start : Progress) (place : Place) : Type 0 where
+  pub here : IsAt q format c hidden bytes before.taken after.taken place.progress place.at place.seen
+  pub no_failure : after.failures ≡ before.failures
+  pub number : place.progress.number ≡ start.number + place.seen
   pub rest : AllSelected q false (lines (terminator q) (drop place.at bytes))
       ⊎ (is_below place.progress.kept format.limit ≡ false)
   pub fresh : place.at ≡ 0 → place.progress ≡ start

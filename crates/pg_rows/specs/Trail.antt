@@ -7,9 +7,8 @@ use Rattle.pg_lines.specs.Search.{Search, terminator}
 use Rattle.pg_lines.specs.Selection.{selects}
 use Rattle.pg_rows.specs.Marks.{colon, hyphen}
 use Rattle.pg_rows.specs.declared.format.Format.{Format}
-use Rattle.pg_rows.specs.Colors.{in_color, part_color}
 use Rattle.pg_rows.specs.Output.{is_below, context, size_of, when, row, gap_text, has_separators}
-use Rattle.pg_rows.specs.Output.{told_parts, painted}
+use Rattle.pg_rows.specs.Output.{part_text, told_parts, painted}
 
 -- what is remembered of the lines so far: their number, their bytes with the terminators, how many are kept, how many
 -- more are shown as context, whether one was shown, and of those behind the last shown one the last `before` ones and
@@ -114,7 +113,7 @@ run_rows q format name earlier t (l ∷ ls) =
 abbrev pub pieces_in : Search → Format → List ℕ → (number offset : ℕ) → List ℕ → List ℕ
 pieces_in q format name number offset l =
     flat_map (λ p. row format (terminator q) name number (offset + p.0) colon
-    (in_color format.colored part_color (slice_range l p.0 p.1)))
+    (part_text format (slice_range l p.0 p.1)))
     (told_parts q l)
 
 abbrev pub added_pieces : Search → Format → List ℕ → Trail → List ℕ → List ℕ

@@ -2,6 +2,7 @@
 use Rattle.std.specs.Prelude.{◌≡◌, ℕ, ◌+◌, ◌<◌, ◌≤◌, ◌^◌, ◌⊎◌, List, [], ◌++◌, length, drop}
 use Rattle.std.specs.List.{AllByRecursion, flat_map}
 use Rattle.std.specs.Arc.{arc_value}
+use Rattle.circular_buffer.specs.Buffer.{keep_last}
 use Rattle.pg_blocks.specs.Blocks.{BlockData}
 use Rattle.pg_blocks.specs.Lines.{lines}
 use Rattle.pg_rows.specs.declared.window.Tail.{Tail}
@@ -39,6 +40,17 @@ pub record AreHeld {A : Type 0} (end : ℕ) (tails : List (Tail A)) (count size 
 abbrev pub IsWindow : {A : Type 0} → ℕ → Window A → Type 0
 IsWindow end window = AreHeld end window.tails.items window.lines window.tails.capacity
 
+-- nothing is held, in a window for so many lines
+pub record IsEmptyWindow {A : Type 0} (w : Window A) (most : ℕ) : Type 0 where
+  pub size : w.tails.capacity ≡ most
+  pub nothing : w.tails.items ≡ []
+  pub window : (end : ℕ) → IsWindow end w
+
+-- the window holds so many lines, and may be asked for its last ones
+pub record HoldsLast {A : Type 0} (end : ℕ) (w : Window A) (count : ℕ) : Type 0 where
+  pub window : IsWindow end w
+  pub within : count ≤ length (held end w)
+
 -- some first lines were given up, if any, and those that are left are `size` lines with the ones to come
 pub record GivesUp (size more : ℕ) (before after : List (List ℕ)) : Type 0 where
   pub gone : List (List ℕ)
@@ -49,3 +61,23 @@ pub record GivesUp (size more : ℕ) (before after : List (List ℕ)) : Type 0 w
 abbrev pub HasRoomFor : {A : Type 0} → ℕ → ℕ → Window A → Type 0
 HasRoomFor end more window =
     (length (lines_in end (drop 1 window.tails.items)) + more < window.tails.capacity) ⊎ (window.tails.items ≡ [])
+
+-- first tails were given up, and so many lines to come have room behind the others
+pub record MakesRoom {A : Type 0} (end more : ℕ) (old new : Window A) : Type 0 where
+  pub size : new.tails.capacity ≡ old.tails.capacity
+  pub window : IsWindow end new
+  pub room : HasRoomFor end more new
+  pub gives_up : GivesUp old.tails.capacity more (held end old) (held end new)
+
+-- the window may take the lines of a block from a place on, so many
+pub record MayTake {A : Type 0} (end : ℕ) (w : Window A) (block : BlockData) (start count : ℕ) : Type 0 where
+  pub window : IsWindow end w
+  pub within : start ≤ length block.bytes
+  pub counted : count ≡ length (lines_from end block start)
+
+-- lines were taken behind the others, and first ones given up that aren't among the last ones for which there is room
+pub record TakesLines {A : Type 0} (end : ℕ) (old new : Window A) (more : List (List ℕ)) : Type 0 where
+  pub size : new.tails.capacity ≡ old.tails.capacity
+  pub window : IsWindow end new
+  pub last : keep_last old.tails.capacity (held end new) ≡ keep_last old.tails.capacity (held end old ++ more)
+  pub enough : (old.tails.capacity ≤ length (held end new)) ⊎ (held end new ≡ held end old ++ more)

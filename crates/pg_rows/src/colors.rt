@@ -1,8 +1,8 @@
 //! Texts in colors.
-ghost use Rattle.std.specs.Prelude.{◌≡◌, ◌+◌, ◌≤◌, ◌++◌, OnOk, OnErr, length, drop, slice_range, true};
+ghost use Rattle.std.specs.Prelude.{◌≡◌, ◌+◌, ◌≤◌, ◌++◌, length, drop, slice_range, true};
 ghost use Rattle.pg_rows.specs.Colors.{escape, in_color, part_color};
-ghost use Rattle.pg_rows.specs.Output.{name_end, name_text};
-ghost use Rattle.pg_rows.specs.Painting.{code_of, count_before, painted_bytes, AreAscending};
+ghost use Rattle.pg_rows.specs.Output.{marked_name, name_end};
+ghost use Rattle.pg_rows.specs.Painting.{code_of, count_before, painted_bytes, AreWithin};
 ghost use Rattle.pg_rows.specs.Stretch.{IsPartOf};
 ghost use Rattle.pg_base.specs.Sink.{WritesText};
 
@@ -95,8 +95,7 @@ pub(crate) fn write_marked_name<W: Sink>(
     name: &[u8],
     mark: u8,
 ) -> Result<(), WriteError>
-    ensures { WritesText (name_text format.now name.now ++ name_end format.now mark)
-        (W.stream out.old) (W.stream out.new) result }
+    ensures { WritesText (marked_name format.now name.now mark) (W.stream out.old) (W.stream out.new) result }
 {
     write_text(out, format, Color::Name, name)?;
     write_name_end(out, format, mark)
@@ -128,8 +127,7 @@ pub(crate) fn write_painted<W: Sink>(
     to: usize,
     parts: &[Part],
 ) -> Result<(), WriteError>
-    requires within { to ≤ length bytes.now }
-    requires ascend { AreAscending from to parts.now }
+    requires { AreWithin bytes.now from to parts.now }
     ensures { WritesText (painted_bytes bytes.now from to parts.now) (W.stream out.old) (W.stream out.new) result }
 {
     let mut at = from;

@@ -1,12 +1,12 @@
 //! The rows of kept lines.
-ghost use Rattle.std.specs.Prelude.{◌≡◌, ◌+◌, ◌-◌, ◌<◌, ◌≤◌, ◌^◌, OnOk, OnErr, length, drop, slice_range, true};
+ghost use Rattle.std.specs.Prelude.{◌≡◌, ◌≤◌, length, drop, true};
 ghost use Rattle.pg_blocks.specs.Lines.{lines};
 ghost use Rattle.pg_lines.specs.Search.{Search};
 ghost use Rattle.pg_rows.specs.Marks.{colon};
-ghost use Rattle.pg_rows.specs.Output.{painted, row};
-ghost use Rattle.pg_rows.specs.Painting.{painted_bytes, AreAscending, AreToldParts};
+ghost use Rattle.pg_rows.specs.Painting.{painted_bytes, AreToldParts, AreWithin};
+ghost use Rattle.pg_rows.specs.Steps.{shown_kept, AreKeptParts, CanNumberRun};
 ghost use Rattle.pg_base.specs.Sink.{WritesText};
-ghost use Rattle.pg_rows.specs.Stretch.{marked_rows};
+ghost use Rattle.pg_rows.specs.Stretch.{row_at};
 
 use crate::colors::end_of_parts;
 use crate::position::Position;
@@ -31,10 +31,9 @@ impl<A: Allocator> Printer<A> {
         to: usize,
         parts: &[Part],
     ) -> Result<(), WriteError>
-        requires within { to ≤ length bytes.now }
-        requires ascend { AreAscending from to parts.now }
+        requires { AreWithin bytes.now from to parts.now }
         ensures same { self.new ≡ self.old }
-        ensures writes { WritesText (row self.old.format self.old.end self.old.prefix at.number at.offset colon
+        ensures writes { WritesText (row_at self.old.format self.old.end self.old.prefix at colon
             (painted_bytes bytes.now from to parts.now)) (W.stream out.old) (W.stream out.new) result }
     {
         let has_text = has_painted_text(from, to, parts);
@@ -55,14 +54,11 @@ impl<A: Allocator> Printer<A> {
         parts: &[Part],
     ) -> Result<(), WriteError>
         requires colored { self.old.format.colored ≡ true }
-        requires small { first.number + length (lines self.old.end (drop from bytes.now)) < 2 ^ 64 }
-        requires placed { first.offset + length bytes.now < 2 ^ 64 }
-        requires few { line + length (lines self.old.end (drop from bytes.now)) < 2 ^ 64 }
+        requires fits { CanNumberRun first line (length (lines self.old.end (drop from bytes.now))) (length bytes.now) }
         requires told { (q : Search) × AreToldParts q true self.old.end bytes.now from line parts.now }
         ensures same { self.new ≡ self.old }
         ensures writes { (q : Search) → AreToldParts q true self.old.end bytes.now from line parts.now →
-            WritesText (marked_rows self.old.format self.old.end self.old.prefix colon (painted q self.old.format)
-            first.number first.offset (lines self.old.end (drop from bytes.now)))
+            WritesText (shown_kept q self.old first (lines self.old.end (drop from bytes.now)))
             (W.stream out.old) (W.stream out.new) result }
     {
         let mut at = from;
@@ -96,16 +92,11 @@ impl<A: Allocator> Printer<A> {
         parts: &[Part],
     ) -> Result<(), WriteError>
         requires within { from ≤ length bytes.now }
-        requires small { first.number + length (lines self.old.end (drop from bytes.now)) < 2 ^ 64 }
-        requires placed { first.offset + length bytes.now < 2 ^ 64 }
-        requires few { line + length (lines self.old.end (drop from bytes.now)) < 2 ^ 64 }
-        requires told { (q : Search) × AreToldParts q self.old.format.colored self.old.end bytes.now from line
-            parts.now }
+        requires fits { CanNumberRun first line (length (lines self.old.end (drop from bytes.now))) (length bytes.now) }
+        requires told { (q : Search) × AreKeptParts q self.old bytes.now from line parts.now }
         ensures same { self.new ≡ self.old }
-        ensures writes { (q : Search) →
-            AreToldParts q self.old.format.colored self.old.end bytes.now from line parts.now →
-            WritesText (marked_rows self.old.format self.old.end self.old.prefix colon (painted q self.old.format)
-            first.number first.offset (lines self.old.end (drop from bytes.now)))
+        ensures writes { (q : Search) → AreKeptParts q self.old bytes.now from line parts.now →
+            WritesText (shown_kept q self.old first (lines self.old.end (drop from bytes.now)))
             (W.stream out.old) (W.stream out.new) result }
     {
         if self.format.colored {

@@ -1,16 +1,14 @@
 //! Where several lines of a text begin and end. The byte that ends them is `end`.
-ghost use Rattle.std.specs.Prelude.{◌≡◌, ◌<◌, ◌≤◌, length, take, drop};
+ghost use Rattle.std.specs.Prelude.{◌≡◌, ◌≤◌, length, take, drop};
 ghost use Rattle.circular_buffer.specs.Buffer.{keep_last};
 ghost use Rattle.pg_blocks.specs.Lines.{lines, AreWhole};
+ghost use Rattle.pg_rows.specs.Places.{FirstLines};
 
 use pg_blocks::{begin_of_line, end_of_line};
 
 /// Where the first `count` lines of a text end, or the text, if it has fewer.
 pub(crate) fn end_of_first(end: u8, text: &[u8], count: usize) -> usize
-    ensures within { result ≤ length text.now }
-    ensures first { lines end (take result text.now) ≡ take count (lines end text.now) }
-    ensures rest { lines end (drop result text.now) ≡ drop count (lines end text.now) }
-    ensures whole { result < length text.now → AreWhole end (take result text.now) }
+    ensures { FirstLines end text.now result count }
 {
     let mut at = 0;
     let mut left = count;

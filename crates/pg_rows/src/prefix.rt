@@ -1,9 +1,8 @@
 //! What a row has before its text.
-ghost use Rattle.std.specs.Prelude.{◌≡◌, ◌+◌, ◌<◌, ◌≤◌, ◌++◌, [], ◌∷◌, IfOk, OnOk, OnErr};
-ghost use Rattle.std.specs.Prelude.{length, vec_len, vec_capacity};
+ghost use Rattle.std.specs.Prelude.{◌≡◌, ◌+◌, ◌≤◌, ◌++◌, [], ◌∷◌, IfOk, vec_len, vec_capacity};
 ghost use Rattle.std.specs.Fmt.{decimal};
-ghost use Rattle.pg_rows.specs.Output.{when, name_mark, name_text, name_end, number_text, tab_before};
-ghost use Rattle.pg_rows.specs.Stretch.{prefix_text, plain_prefix_text};
+ghost use Rattle.pg_rows.specs.Output.{when, marked_name, number_text, tab_before};
+ghost use Rattle.pg_rows.specs.Stretch.{marks_text, prefix_text, plain_prefix_text, Appends};
 ghost use Rattle.pg_base.specs.Sink.{WritesText};
 
 use crate::colors::{Color, write_marked_name, write_text};
@@ -130,7 +129,7 @@ fn write_name<W: Sink>(
     name: &[u8],
     mark: u8,
 ) -> Result<(), WriteError>
-    ensures { WritesText (when format.now.names (name_text format.now name.now ++ name_end format.now mark))
+    ensures { WritesText (when format.now.names (marked_name format.now name.now mark))
         (W.stream out.old) (W.stream out.new) result }
 {
     if format.names {
@@ -186,10 +185,7 @@ fn write_tab<W: Sink>(out: &mut W, format: &Format, has_text: bool) -> Result<()
 /// Puts a number and its mark behind a text, where it is shown.
 fn append_number<A: Allocator>(buffer: &mut Vec<u8, A>, shown: bool, number: u64, mark: u8)
     requires { vec_len buffer.old + 21 ≤ vec_capacity buffer.old }
-    ensures items { buffer.new.items ≡ buffer.old.items ++ when shown (decimal number ++ mark ∷ []) }
-    ensures low { vec_len buffer.old ≤ vec_len buffer.new }
-    ensures high { vec_len buffer.new ≤ vec_len buffer.old + 21 }
-    ensures capacity { vec_capacity buffer.old ≤ vec_capacity buffer.new }
+    ensures { Appends buffer.old buffer.new (when shown (decimal number ++ mark ∷ [])) 21 }
 {
     if shown {
         let mut digits = Buffer::new();
@@ -209,13 +205,7 @@ fn append_marks<A: Allocator>(
     has_text: bool,
 )
     requires { vec_len buffer.old + 44 ≤ vec_capacity buffer.old }
-    ensures items { buffer.new.items ≡ buffer.old.items
-        ++ (when format.now.names (name_mark format.now mark ∷ [])
-        ++ when format.now.numbers (decimal at.number ++ mark ∷ [])
-        ++ when format.now.offsets (decimal at.offset ++ mark ∷ [])
-        ++ tab_before format.now has_text) }
-    ensures len { vec_len buffer.old ≤ vec_len buffer.new }
-    ensures capacity { vec_capacity buffer.old ≤ vec_capacity buffer.new }
+    ensures { Appends buffer.old buffer.new (marks_text format.now at mark has_text) 44 }
 {
     if format.names {
         buffer.push(format.name_mark(mark)).unwrap();

@@ -1,16 +1,16 @@
 //! The rows of files, block by block.
-ghost use Rattle.std.specs.Prelude.{◌≡◌, ℕ, ◌+◌, ◌-◌, ◌<◌, ◌≤◌, ◌^◌, ◌++◌, List, OnOk, OnErr, IfOk};
-ghost use Rattle.std.specs.Prelude.{length, take, drop, if◌then◌else◌};
-ghost use Rattle.std.specs.Prelude.{slice_range, true, false, nat_lt, [], ◌∷◌};
+ghost use Rattle.std.specs.Prelude.{◌≡◌, ℕ, ◌+◌, ◌-◌, ◌<◌, ◌≤◌, ◌^◌, ◌++◌, List, IfOk};
+ghost use Rattle.std.specs.Prelude.{length, drop, if◌then◌else◌};
+ghost use Rattle.std.specs.Prelude.{true, false, nat_lt};
 ghost use Rattle.std.specs.Prelude.{Some};
 ghost use Rattle.std.specs.Arc.{arc_value};
 ghost use Rattle.pg_lines.specs.Search.{Search, terminator};
-ghost use Rattle.pg_rows.specs.Marks.{newline};
 ghost use Rattle.pg_rows.specs.Pieces.{cut_at};
+ghost use Rattle.pg_rows.specs.Places.{FirstLines};
 ghost use Rattle.pg_rows.specs.Remembered.{HasLines};
-ghost use Rattle.pg_rows.specs.Output.{name_mark, name_text, painted, size_of, when};
+ghost use Rattle.pg_rows.specs.Output.{listed_text, size_of, when};
 ghost use Rattle.pg_blocks.specs.Lines.{lines, AreWhole};
-ghost use Rattle.pg_base.specs.Sink.{WritesText, WritesPart};
+ghost use Rattle.pg_base.specs.Sink.{WritesText};
 
 use crate::colors::end_of_parts;
 use crate::format::{EndRow, Format};
@@ -79,6 +79,14 @@ fn line_beyond(runs: &[Run], room: u64, total: usize) -> usize
     total
 }
 
+/// The bytes of the block of a result.
+fn bytes_of<A: Allocator>(found: &BlockResult<A>) -> &[u8]
+    ensures { result.now ≡ found.now.block.bytes }
+{
+    let block: &Block<A> = found.block();
+    block.bytes.as_slice()
+}
+
 /// The rows of files, one file after another.
 ///
 /// It remembers of the open file how many lines and bytes it had and how many were kept, and holds the last
@@ -111,20 +119,18 @@ impl<A: Allocator> Drop for Printer<A> {
 
 impl<A: Allocator> Printer<A> {
     ghost use Rattle.pg_lines.specs.Search.{HasItsTrees};
-    ghost use Rattle.pg_lines.specs.Searched.{lines_of};
-    ghost use Rattle.pg_rows.specs.Pieces.{HasFound};
+    ghost use Rattle.pg_rows.specs.Results.{MayPrint, WritesResult, IsRemembered, RemembersResult};
+    ghost use Rattle.pg_rows.specs.Results.{ComesToLast, StopsWithin};
     ghost use Rattle.pg_rows.specs.Cursor.{Cursor, at_start};
-    ghost use Rattle.pg_rows.specs.Remembered.{IsAtCursor, ComesLast, IsRememberedBehind, shows_lines, behind_block};
+    ghost use Rattle.pg_rows.specs.Remembered.{IsAtCursor, shows_lines, shows_parts, behind_block};
     ghost use Rattle.pg_rows.specs.Modes.{is_named};
-    ghost use Rattle.pg_rows.specs.Remembered.{opened_as, end_rows, shown_rows};
-    ghost use Rattle.pg_rows.specs.Trail.{run_rows, run_pieces};
-    ghost use Rattle.pg_rows.specs.Window.{held, IsWindow};
-    ghost use Rattle.circular_buffer.specs.Buffer.{keep_last};
-    ghost use Rattle.pg_rows.specs.Progress.{Passes, KeepsLines};
+    ghost use Rattle.pg_rows.specs.Remembered.{opened_as, end_rows};
+    ghost use Rattle.pg_rows.specs.Progress.{Passes};
     ghost use Rattle.pg_rows.specs.Printing.{ComesNext, EndsKept};
-    ghost use Rattle.pg_rows.specs.Printing.{has_gap, gap_of, leading, rows_of_run, rows_before, rows_of_leading};
-    ghost use Rattle.pg_rows.specs.Painting.{AreToldParts, count_before};
-    ghost use Rattle.pg_rows.specs.Printing.{rows_of_passed};
+    ghost use Rattle.pg_rows.specs.Printing.{has_gap, gap_of, leading};
+    ghost use Rattle.pg_rows.specs.Painting.{count_before};
+    ghost use Rattle.pg_rows.specs.Steps.{gap_lines, shown_before, shown_leading, shown_passed, shown_step};
+    ghost use Rattle.pg_rows.specs.Steps.{ComesBehind, HasLeading, MayStep, StepsOver, TakesParts};
 
     /// A printer to which nothing was given, for the rows of a query. It reserves the room of its window.
     ///
@@ -172,11 +178,9 @@ impl<A: Allocator> Printer<A> {
     /// answered. The block is held as long as its last lines may still be shown.
     pub fn pass(&mut self, block: Arc<Block<A>, A>, printed: Printed)
         requires { (q : Search) × (format : Format) × (c : Cursor) × IsAtCursor self.old q format c
-            × IsRememberedBehind self.old q format (behind_block q format c (arc_value block).bytes)
-            (arc_value block).bytes printed }
+            × IsRemembered self.old q format c (arc_value block).bytes printed }
         ensures { (q : Search) (format : Format) (c : Cursor) → IsAtCursor self.old q format c →
-            IsRememberedBehind self.old q format (behind_block q format c (arc_value block).bytes)
-            (arc_value block).bytes printed →
+            IsRemembered self.old q format c (arc_value block).bytes printed →
             IsAtCursor self.new q format (behind_block q format c (arc_value block).bytes) }
     {
         self.progress = printed.progress;
@@ -206,8 +210,7 @@ impl<A: Allocator> Printer<A> {
     /// Writes the file's name as a row, where the mode lists the file.
     fn write_listed_name<W: Sink>(&self, out: &mut W) -> Result<(), WriteError>
         ensures { WritesText (when (is_named self.now.format.mode (nat_lt 0 self.now.progress.kept))
-            (name_text self.now.format self.now.prefix ++ name_mark self.now.format newline ∷ []))
-            (W.stream out.old) (W.stream out.new) result }
+            (listed_text self.now.format self.now.prefix)) (W.stream out.old) (W.stream out.new) result }
     {
         if self.format.mode.is_named(self.progress.kept > 0) {
             write_name(out, &self.format, &self.prefix)
@@ -217,15 +220,16 @@ impl<A: Allocator> Printer<A> {
     }
 
     /// Goes past a block of which no line is held, by its runs of selected lines. Nothing looks at a line.
-    fn passed(&self, bytes: &[u8], runs: &[Run], total: usize) -> Printed
-        requires small { self.now.progress.number + total < 2 ^ 63 }
-        requires placed { self.now.offset + length bytes.now < 2 ^ 63 }
-        ensures { (q : Search) (format : Format) (c : Cursor) → IsAtCursor self.now q format c →
-            shows_lines format ≡ false → HasLines q bytes.now runs.now total →
-            IsRememberedBehind self.now q format (behind_block q format c bytes.now) bytes.now result }
+    fn passed(&self, found: &BlockResult<A>) -> Printed
+        requires may { MayPrint self.now found.now }
+        requires hides { shows_lines self.now.format ≡ false }
+        ensures { (q : Search) (format : Format) (c : Cursor) → IsAtCursor self.now q format c → HasItsTrees q →
+            found.now.query ≡ q.text → IsRemembered self.now q format c found.now.block.bytes result }
     {
+        let bytes = bytes_of(found);
+        let total = found.lines() as u64;
         Printed {
-            progress: self.progress.after(&self.format, runs, total as u64),
+            progress: self.progress.after(&self.format, found.runs(), total),
             offset: self.behind(bytes),
             fresh: true,
             start: bytes.len(),
@@ -258,31 +262,20 @@ impl<A: Allocator> Printer<A> {
     fn print_parts<W: Sink>(
         &mut self,
         out: &mut W,
-        bytes: &[u8],
-        runs: &[Run],
-        parts: &[Part],
-        total: usize,
+        found: &BlockResult<A>,
     ) -> Result<Printed, WriteError>
-        requires stands { (q : Search) × (format : Format) × (c : Cursor) × IsAtCursor self.old q format c
-            × (format.parts ≡ true) × HasFound q bytes.now runs.now parts.now total }
-        requires small { self.old.progress.number + total < 2 ^ 63 }
-        requires placed { self.old.offset + length bytes.now < 2 ^ 63 }
+        requires may { MayPrint self.old found.now }
+        requires shows { shows_parts self.old.format ≡ true }
         ensures same { self.new ≡ self.old }
-        ensures writes { (q : Search) (format : Format) (c : Cursor) → IsAtCursor self.old q format c →
-            format.parts ≡ true → HasFound q bytes.now runs.now parts.now total →
-            WritesText (run_pieces q format c.name c.trail (lines (terminator q) bytes.now))
-            (W.stream out.old) (W.stream out.new) result }
-        ensures follows { (q : Search) (format : Format) (c : Cursor) → IsAtCursor self.old q format c →
-            format.parts ≡ true → HasFound q bytes.now runs.now parts.now total →
-            IfOk result (λ printed. IsRememberedBehind self.old q format (behind_block q format c bytes.now) bytes.now
-            printed) }
+        ensures writes { WritesResult self.old found.now (W.stream out.old) (W.stream out.new) result }
+        ensures follows { RemembersResult self.old found.now result }
     {
-        let cut = self.cut(runs, total);
+        let cut = self.cut(found.runs(), found.lines());
         let first = Position {
             number: self.progress.number + 1,
             offset: self.offset,
         };
-        let printed = self.passed(bytes, runs, total);
+        let printed = self.passed(found);
         write_parts(
             out,
             &self.format,
@@ -290,41 +283,10 @@ impl<A: Allocator> Printer<A> {
             &mut self.prefix,
             first,
             cut,
-            bytes,
-            parts,
+            bytes_of(found),
+            found.parts(),
         )?;
         Ok(printed)
-    }
-
-    /// Writes the rows of a block in which these runs of selected lines and these parts were found.
-    fn print_found<W: Sink>(
-        &mut self,
-        out: &mut W,
-        bytes: &[u8],
-        runs: &[Run],
-        parts: &[Part],
-        total: usize,
-    ) -> Result<Printed, WriteError>
-        requires stands { (q : Search) × (format : Format) × (c : Cursor) × IsAtCursor self.old q format c
-            × HasFound q bytes.now runs.now parts.now total }
-        requires small { self.old.progress.number + total < 2 ^ 63 }
-        requires placed { self.old.offset + length bytes.now < 2 ^ 63 }
-        ensures same { self.new ≡ self.old }
-        ensures writes { (q : Search) (format : Format) (c : Cursor) → IsAtCursor self.old q format c →
-            HasFound q bytes.now runs.now parts.now total →
-            WritesText (shown_rows q format c bytes.now) (W.stream out.old) (W.stream out.new) result }
-        ensures follows { (q : Search) (format : Format) (c : Cursor) → IsAtCursor self.old q format c →
-            HasFound q bytes.now runs.now parts.now total →
-            IfOk result (λ printed. IsRememberedBehind self.old q format (behind_block q format c bytes.now) bytes.now
-            printed) }
-    {
-        if !self.format.mode.shows_rows() {
-            return Ok(self.passed(bytes, runs, total));
-        }
-        if self.format.parts {
-            return self.print_parts(out, bytes, runs, parts, total);
-        }
-        self.print_lines(out, bytes, runs, parts, total)
     }
 
     /// Writes the rows that a block adds: the open file's next one, by its result under the query that the
@@ -339,26 +301,18 @@ impl<A: Allocator> Printer<A> {
         out: &mut W,
         found: &BlockResult<A>,
     ) -> Result<Printed, WriteError>
-        requires { (q : Search) × (format : Format) × (c : Cursor) × IsAtCursor self.old q format c × HasItsTrees q
-            × (found.now.query ≡ q.text) × (c.trail.number + length (lines_of found.now) < 2 ^ 63)
-            × (c.trail.offset + length found.now.block.bytes < 2 ^ 63) }
+        requires { MayPrint self.old found.now }
         ensures same { self.new ≡ self.old }
-        ensures writes { (q : Search) (format : Format) (c : Cursor) → IsAtCursor self.old q format c → HasItsTrees q →
-            found.now.query ≡ q.text → WritesText (shown_rows q format c found.now.block.bytes)
-            (W.stream out.old) (W.stream out.new) result }
-        ensures follows { (q : Search) (format : Format) (c : Cursor) → IsAtCursor self.old q format c → HasItsTrees q →
-            found.now.query ≡ q.text → IfOk result (λ printed. IsRememberedBehind self.old q format
-            (behind_block q format c found.now.block.bytes) found.now.block.bytes printed) }
+        ensures writes { WritesResult self.old found.now (W.stream out.old) (W.stream out.new) result }
+        ensures follows { RemembersResult self.old found.now result }
     {
-        let block: &Block<A> = found.block();
-        let total = found.lines();
-        self.print_found(
-            out,
-            block.bytes.as_slice(),
-            found.runs(),
-            found.parts(),
-            total,
-        )
+        if !self.format.mode.shows_rows() {
+            return Ok(self.passed(found));
+        }
+        if self.format.parts {
+            return self.print_parts(out, found);
+        }
+        self.print_lines(out, found)
     }
 
     /// Whether a separator stands before the next kept line and its context.
@@ -404,16 +358,11 @@ impl<A: Allocator> Printer<A> {
         text: &[u8],
         count: usize,
     ) -> Result<usize, WriteError>
-        requires count { count ≡ length (lines self.old.end text.now) }
-        requires small { progress.number + count < 2 ^ 63 }
-        requires placed { offset + length text.now < 2 ^ 63 }
+        requires { ComesBehind self.old.end progress offset text.now count }
         ensures same { self.new ≡ self.old }
-        ensures writes { WritesText
-            (rows_of_passed self.old.format self.old.end self.old.prefix progress offset (lines self.old.end text.now))
+        ensures writes { WritesText (shown_passed self.old progress offset (lines self.old.end text.now))
             (W.stream out.old) (W.stream out.new) result }
-        ensures within { IfOk result (λ stop. stop ≤ length text.now) }
-        ensures rest { IfOk result (λ stop. lines self.old.end (drop stop text.now)
-            ≡ drop progress.countdown (lines self.old.end text.now)) }
+        ensures stops { IfOk result (λ stop. FirstLines self.old.end text.now stop progress.countdown) }
     {
         let stop = self.end_of_passed(progress, text, count);
         let first = Position {
@@ -437,11 +386,7 @@ impl<A: Allocator> Printer<A> {
     /// Where the lines end that are shown as trailing context, where none is kept.
     fn end_of_passed(&self, progress: Progress, text: &[u8], count: usize) -> usize
         requires { count ≡ length (lines self.now.end text.now) }
-        ensures within { result ≤ length text.now }
-        ensures first { lines self.now.end (take result text.now)
-            ≡ take progress.countdown (lines self.now.end text.now) }
-        ensures rest { lines self.now.end (drop result text.now)
-            ≡ drop progress.countdown (lines self.now.end text.now) }
+        ensures { FirstLines self.now.end text.now result progress.countdown }
     {
         if progress.countdown >= count as u64 {
             return text.len();
@@ -459,16 +404,12 @@ impl<A: Allocator> Printer<A> {
         near: &[u8],
         count: usize,
     ) -> Result<(), WriteError>
-        requires window { IsWindow self.old.end self.old.window }
         requires whole { AreWhole self.old.end near.now }
         requires count { count ≡ length (lines self.old.end near.now) }
-        requires enough { leading self.old.format progress ≤ length (held self.old.end self.old.window) + count }
+        requires leading { HasLeading self.old progress (lines self.old.end near.now) offset }
         requires small { progress.number < 2 ^ 63 }
-        requires low { size_of (keep_last (leading self.old.format progress)
-            (held self.old.end self.old.window ++ lines self.old.end near.now)) ≤ offset }
         ensures same { self.new ≡ self.old }
-        ensures writes { WritesText (rows_of_leading self.old.format self.old.end self.old.prefix
-            (held self.old.end self.old.window ++ lines self.old.end near.now) progress offset)
+        ensures writes { WritesText (shown_leading self.old (lines self.old.end near.now) progress offset)
             (W.stream out.old) (W.stream out.new) result }
     {
         let leading = self.leading(progress);
@@ -515,16 +456,12 @@ impl<A: Allocator> Printer<A> {
         near: &[u8],
         count: usize,
     ) -> Result<(), WriteError>
-        requires window { IsWindow self.old.end self.old.window }
         requires whole { AreWhole self.old.end near.now }
         requires count { count ≡ length (lines self.old.end near.now) }
-        requires enough { leading self.old.format progress ≤ length (held self.old.end self.old.window) + count }
+        requires leading { HasLeading self.old progress (lines self.old.end near.now) offset }
         requires small { progress.number < 2 ^ 63 }
-        requires low { size_of (keep_last (leading self.old.format progress)
-            (held self.old.end self.old.window ++ lines self.old.end near.now)) ≤ offset }
         ensures same { self.new ≡ self.old }
-        ensures writes { WritesText (rows_before self.old.format self.old.end self.old.prefix self.old.earlier
-            (held self.old.end self.old.window ++ lines self.old.end near.now) progress offset)
+        ensures writes { WritesText (shown_before self.old (lines self.old.end near.now) progress offset)
             (W.stream out.old) (W.stream out.new) result }
     {
         self.print_gap(out, progress)?;
@@ -542,21 +479,14 @@ impl<A: Allocator> Printer<A> {
         gap: &[u8],
         count: usize,
     ) -> Result<(), WriteError>
-        requires window { IsWindow self.old.end self.old.window }
         requires whole { AreWhole self.old.end gap.now }
-        requires count { count ≡ length (lines self.old.end gap.now) }
+        requires comes { ComesBehind self.old.end progress offset gap.now count }
         requires passes { Passes progress count passed }
-        requires enough { leading self.old.format progress ≤ length (held self.old.end self.old.window) }
-        requires small { passed.number < 2 ^ 63 }
-        requires placed { offset + length gap.now < 2 ^ 63 }
-        requires low { size_of (keep_last (leading self.old.format passed)
-            (held self.old.end self.old.window ++ drop progress.countdown (lines self.old.end gap.now)))
-            ≤ offset + length gap.now }
+        requires leading { HasLeading self.old passed (drop progress.countdown (lines self.old.end gap.now))
+            (offset + length gap.now) }
         ensures same { self.new ≡ self.old }
-        ensures writes { WritesText (rows_of_passed self.old.format self.old.end self.old.prefix progress offset
-            (lines self.old.end gap.now) ++ rows_before self.old.format self.old.end self.old.prefix self.old.earlier
-            (held self.old.end self.old.window ++ drop progress.countdown (lines self.old.end gap.now)) passed
-            (offset + length gap.now))
+        ensures writes { WritesText (shown_passed self.old progress offset (lines self.old.end gap.now) ++ shown_before
+            self.old (drop progress.countdown (lines self.old.end gap.now)) passed (offset + length gap.now))
             (W.stream out.old) (W.stream out.new) result }
     {
         let stop = self.print_passed(out, progress, offset, gap, count)?;
@@ -567,9 +497,7 @@ impl<A: Allocator> Printer<A> {
 
     /// Where the first lines of a run end, so many.
     fn end_of_kept(&self, bytes: &[u8], run: Run, count: usize) -> usize
-        requires order { run.span.start ≤ run.span.end }
-        requires within { run.span.end ≤ length bytes.now }
-        requires lines { run.count ≡ length (lines self.now.end (slice_range bytes.now run.span.start run.span.end)) }
+        requires { (at : ℕ) × (seen : ℕ) × ComesNext self.now.end bytes.now at seen run }
         ensures { EndsKept self.now.end bytes.now run count result }
     {
         if count >= run.count {
@@ -593,17 +521,8 @@ impl<A: Allocator> Printer<A> {
 
     /// Goes from a place to the place behind the first lines of a run, so many.
     fn step(&self, place: Place, bytes: &[u8], run: Run, count: usize, parts: &[Part]) -> Step
-        requires used { place.used ≤ length parts.now }
-        requires next { ComesNext self.now.end bytes.now place.at place.seen run }
-        requires few { count ≤ run.count }
-        requires room { run.first + count < 2 ^ 64 }
-        requires small { place.progress.number + ((run.first - place.seen) + count) < 2 ^ 63 }
-        ensures passed { Passes place.progress (run.first - place.seen) result.passed }
-        ensures kept { KeepsLines result.passed self.now.format count result.place.progress }
-        ensures ends { EndsKept self.now.end bytes.now run count result.place.at }
-        ensures seen { result.place.seen ≡ run.first + count }
-        ensures used { result.place.used ≡ (if self.now.format.colored
-            then place.used + count_before (run.first + count) (drop place.used parts.now) else place.used) }
+        requires { MayStep self.now bytes.now parts.now place run count }
+        ensures { StepsOver self.now bytes.now parts.now place run count result }
     {
         let passed = place.progress.pass((run.first - place.seen) as u64);
         Step {
@@ -625,42 +544,24 @@ impl<A: Allocator> Printer<A> {
         place: Place,
         bytes: &[u8],
         run: Run,
+        count: usize,
         next: Step,
         parts: &[Part],
     ) -> Result<(), WriteError>
-        requires window { IsWindow self.old.end self.old.window }
-        requires next { ComesNext self.old.end bytes.now place.at place.seen run }
-        requires passes { Passes place.progress (run.first - place.seen) next.passed }
-        requires low { run.span.start ≤ next.place.at }
-        requires high { next.place.at ≤ run.span.end }
-        requires enough { leading self.old.format place.progress ≤ length (held self.old.end self.old.window) }
-        requires small { next.passed.number
-            + length (lines self.old.end (slice_range bytes.now run.span.start next.place.at)) < 2 ^ 63 }
-        requires few { run.first
-            + length (lines self.old.end (slice_range bytes.now run.span.start next.place.at)) < 2 ^ 64 }
-        requires placed { self.old.offset + length bytes.now < 2 ^ 63 }
-        requires room { size_of (keep_last (leading self.old.format next.passed) (held self.old.end self.old.window
-            ++ drop place.progress.countdown (lines self.old.end (slice_range bytes.now place.at run.span.start))))
-            ≤ self.old.offset + run.span.start }
-        requires used { place.used ≤ next.place.used }
-        requires parts { next.place.used ≤ length parts.now }
-        requires told { (q : Search) × AreToldParts q self.old.format.colored self.old.end (take next.place.at
-            bytes.now)
-            run.span.start run.first (slice_range parts.now place.used next.place.used) }
+        requires may { MayStep self.old bytes.now parts.now place run count }
+        requires steps { StepsOver self.old bytes.now parts.now place run count next }
+        requires leading { HasLeading self.old next.passed
+            (drop place.progress.countdown (gap_lines self.old bytes.now place run))
+            (self.old.offset + run.span.start) }
+        requires takes { (q : Search) × TakesParts q self.old bytes.now parts.now place run next.place }
         ensures same { self.new ≡ self.old }
-        ensures writes { (q : Search) → AreToldParts q self.old.format.colored self.old.end (take next.place.at
-            bytes.now)
-            run.span.start run.first (slice_range parts.now place.used next.place.used) →
-            WritesText (rows_of_run self.old.format self.old.end self.old.prefix self.old.earlier
-            (held self.old.end self.old.window) place.progress next.passed (self.old.offset + place.at)
-            (lines self.old.end (slice_range bytes.now place.at run.span.start)) (self.old.offset + run.span.start)
-            (painted q self.old.format) (lines self.old.end (slice_range bytes.now run.span.start next.place.at)))
-            (W.stream out.old) (W.stream out.new) result }
+        ensures writes { (q : Search) → TakesParts q self.old bytes.now parts.now place run next.place →
+            WritesText (shown_step q self.old bytes.now place run next) (W.stream out.old) (W.stream out.new) result }
     {
         let gap = &bytes[place.at..run.span.start];
-        let count = run.first - place.seen;
+        let hidden = run.first - place.seen;
         let offset = self.offset + place.at as u64;
-        self.print_unkept(out, place.progress, next.passed, offset, gap, count)?;
+        self.print_unkept(out, place.progress, next.passed, offset, gap, hidden)?;
         let kept = &bytes[..next.place.at];
         let own = &parts[place.used..next.place.used];
         let first = Position {
@@ -675,27 +576,17 @@ impl<A: Allocator> Printer<A> {
     fn print_runs<W: Sink>(
         &mut self,
         out: &mut W,
-        bytes: &[u8],
-        runs: &[Run],
-        parts: &[Part],
-        total: usize,
+        found: &BlockResult<A>,
     ) -> Result<Place, WriteError>
-        requires stands { (q : Search) × (format : Format) × (c : Cursor) × IsAtCursor self.old q format c
-            × (shows_lines format ≡ true) × HasFound q bytes.now runs.now parts.now total }
-        requires small { self.old.progress.number + total < 2 ^ 63 }
-        requires placed { self.old.offset + length bytes.now < 2 ^ 63 }
+        requires may { MayPrint self.old found.now }
+        requires shows { shows_lines self.old.format ≡ true }
         ensures same { self.new ≡ self.old }
-        ensures comes { (q : Search) (format : Format) (c : Cursor) → IsAtCursor self.old q format c →
-            shows_lines format ≡ true → HasFound q bytes.now runs.now parts.now total →
-            IfOk result (λ place. ComesLast q format c (held (terminator q) self.old.window) bytes.now
-            (W.stream out.old).taken (W.stream out.new).taken self.old.progress place) }
-        ensures number { IfOk result (λ place. place.progress.number ≡ self.old.progress.number + place.seen) }
-        ensures stops { (q : Search) (format : Format) (c : Cursor) → IsAtCursor self.old q format c →
-            shows_lines format ≡ true → HasFound q bytes.now runs.now parts.now total →
-            OnErr result (WritesPart (run_rows q format c.name c.earlier c.trail (lines (terminator q) bytes.now))
-            (W.stream out.old) (W.stream out.new)) }
-        ensures no_failure { OnOk result ((W.stream out.new).failures ≡ (W.stream out.old).failures) }
+        ensures comes { ComesToLast self.old found.now (W.stream out.old) (W.stream out.new) result }
+        ensures stops { StopsWithin self.old found.now (W.stream out.old) (W.stream out.new) result }
     {
+        let bytes = bytes_of(found);
+        let runs = found.runs();
+        let parts = found.parts();
         let mut place = Place {
             progress: self.progress,
             at: 0,
@@ -708,7 +599,7 @@ impl<A: Allocator> Printer<A> {
                 return Ok(place);
             }
             let next = self.step(place, bytes, *run, count, parts);
-            self.print_step(out, place, bytes, *run, next, parts)?;
+            self.print_step(out, place, bytes, *run, count, next, parts)?;
             place = next.place;
         }
         Ok(place)
@@ -718,27 +609,17 @@ impl<A: Allocator> Printer<A> {
     fn print_lines<W: Sink>(
         &mut self,
         out: &mut W,
-        bytes: &[u8],
-        runs: &[Run],
-        parts: &[Part],
-        total: usize,
+        found: &BlockResult<A>,
     ) -> Result<Printed, WriteError>
-        requires stands { (q : Search) × (format : Format) × (c : Cursor) × IsAtCursor self.old q format c
-            × (shows_lines format ≡ true) × HasFound q bytes.now runs.now parts.now total }
-        requires small { self.old.progress.number + total < 2 ^ 63 }
-        requires placed { self.old.offset + length bytes.now < 2 ^ 63 }
+        requires may { MayPrint self.old found.now }
+        requires shows { shows_lines self.old.format ≡ true }
         ensures same { self.new ≡ self.old }
-        ensures writes { (q : Search) (format : Format) (c : Cursor) → IsAtCursor self.old q format c →
-            shows_lines format ≡ true → HasFound q bytes.now runs.now parts.now total →
-            WritesText (run_rows q format c.name c.earlier c.trail (lines (terminator q) bytes.now))
-            (W.stream out.old) (W.stream out.new) result }
-        ensures follows { (q : Search) (format : Format) (c : Cursor) → IsAtCursor self.old q format c →
-            shows_lines format ≡ true → HasFound q bytes.now runs.now parts.now total →
-            IfOk result (λ printed. IsRememberedBehind self.old q format (behind_block q format c bytes.now) bytes.now
-            printed) }
+        ensures writes { WritesResult self.old found.now (W.stream out.old) (W.stream out.new) result }
+        ensures follows { RemembersResult self.old found.now result }
     {
-        let place = self.print_runs(out, bytes, runs, parts, total)?;
-        let left = total - place.seen;
+        let place = self.print_runs(out, found)?;
+        let bytes = bytes_of(found);
+        let left = found.lines() - place.seen;
         let last = place.progress.pass(left as u64);
         let next = self.behind(bytes);
         let offset = self.offset + place.at as u64;

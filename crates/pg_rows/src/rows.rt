@@ -1,13 +1,11 @@
 //! Rows as they are written.
-ghost use Rattle.std.specs.Prelude.{◌≡◌, ◌+◌, ◌<◌, ◌≤◌, ◌^◌, ◌++◌, [], ◌∷◌, OnOk, OnErr, if◌then◌else◌};
+ghost use Rattle.std.specs.Prelude.{◌≡◌, ◌++◌, [], ◌∷◌, if◌then◌else◌};
 ghost use Rattle.std.specs.Prelude.{length, nat_lt, not, ◌||◌, ◌==◌, EachIndex, get_or};
-ghost use Rattle.std.specs.Fmt.{decimal};
 ghost use Rattle.pg_blocks.specs.Lines.{lines, terminated};
-ghost use Rattle.pg_rows.specs.Marks.{colon, newline};
-ghost use Rattle.pg_rows.specs.Colors.{in_color, part_color};
-ghost use Rattle.pg_rows.specs.Output.{is_nothing, size_of, when, gap_text, name_end, name_mark, name_text, row};
-ghost use Rattle.pg_rows.specs.Painting.{painted_bytes, AreAscending};
-ghost use Rattle.pg_rows.specs.Stretch.{has_text, marked_rows, part_row, part_rows, plain, IsPartOf, no_part};
+ghost use Rattle.pg_rows.specs.Output.{count_text, is_nothing, size_of, gap_text, listed_text, part_text};
+ghost use Rattle.pg_rows.specs.Painting.{painted_bytes, AreWithin};
+ghost use Rattle.pg_rows.specs.Stretch.{has_text, part_row_within, part_rows, plain_rows, row_at};
+ghost use Rattle.pg_rows.specs.Stretch.{CanNumber, IsPartOf, no_part};
 ghost use Rattle.pg_base.specs.Sink.{WritesText};
 
 use crate::colors::{Color, write_both, write_marked_name, write_painted, write_text};
@@ -44,8 +42,7 @@ pub(crate) fn size_of_lines(end: u8, text: &[u8]) -> u64
 ///
 /// `WriteError` where a write failed. A beginning of the lines was taken then.
 pub(crate) fn write_bare_lines<W: Sink>(out: &mut W, end: u8, text: &[u8]) -> Result<(), WriteError>
-    ensures { WritesText (terminated end (lines end text.now))
-        (W.stream out.old) (W.stream out.new) result }
+    ensures { WritesText (terminated end (lines end text.now)) (W.stream out.old) (W.stream out.new) result }
 {
     write_all(out, text)?;
     if is_incomplete(end, text) {
@@ -77,8 +74,7 @@ fn write_line<W: Sink, A: Allocator>(
 ) -> Result<(), WriteError>
     requires { length (lines end line.now) ≡ 1 }
     ensures same { prefix.new ≡ prefix.old }
-    ensures writes { WritesText
-        (marked_rows format.now end prefix.old mark plain at.number at.offset (lines end line.now))
+    ensures writes { WritesText (plain_rows format.now end prefix.old mark at (lines end line.now))
         (W.stream out.old) (W.stream out.new) result }
 {
     prefix.write(out, format, at, mark, has_text(end, line))?;
@@ -95,11 +91,9 @@ fn write_line_by_line<W: Sink, A: Allocator>(
     first: Position,
     text: &[u8],
 ) -> Result<(), WriteError>
-    requires small { first.number + length (lines end text.now) < 2 ^ 64 }
-    requires placed { first.offset + length text.now < 2 ^ 64 }
+    requires { CanNumber first (length (lines end text.now)) (length text.now) }
     ensures same { prefix.new ≡ prefix.old }
-    ensures writes { WritesText
-        (marked_rows format.now end prefix.old mark plain first.number first.offset (lines end text.now))
+    ensures writes { WritesText (plain_rows format.now end prefix.old mark first (lines end text.now))
         (W.stream out.old) (W.stream out.new) result }
 {
     let mut at = first;
@@ -129,11 +123,9 @@ pub(crate) fn write_lines<W: Sink, A: Allocator>(
     first: Position,
     text: &[u8],
 ) -> Result<(), WriteError>
-    requires small { first.number + length (lines end text.now) < 2 ^ 64 }
-    requires placed { first.offset + length text.now < 2 ^ 64 }
+    requires { CanNumber first (length (lines end text.now)) (length text.now) }
     ensures same { prefix.new ≡ prefix.old }
-    ensures writes { WritesText
-        (marked_rows format.now end prefix.old mark plain first.number first.offset (lines end text.now))
+    ensures writes { WritesText (plain_rows format.now end prefix.old mark first (lines end text.now))
         (W.stream out.old) (W.stream out.new) result }
 {
     if format.has_prefix() {
@@ -145,7 +137,7 @@ pub(crate) fn write_lines<W: Sink, A: Allocator>(
 
 /// Whether a part is written as something: escapes count.
 fn has_part_text(format: &Format, text: &[u8]) -> bool
-    ensures { result ≡ not (is_nothing (in_color format.now.colored part_color text.now)) }
+    ensures { result ≡ not (is_nothing (part_text format.now text.now)) }
 {
     format.colored || !text.is_empty()
 }
@@ -164,8 +156,7 @@ fn write_part_text<W: Sink>(
     end: u8,
     text: &[u8],
 ) -> Result<(), WriteError>
-    ensures { WritesText (in_color format.now.colored part_color text.now ++ end ∷ [])
-        (W.stream out.old) (W.stream out.new) result }
+    ensures { WritesText (part_text format.now text.now ++ end ∷ []) (W.stream out.old) (W.stream out.new) result }
 {
     write_text(out, format, Color::Part, text)?;
     write_all(out, &[end])
@@ -182,8 +173,7 @@ fn write_row<W: Sink, A: Allocator>(
     text: &[u8],
 ) -> Result<(), WriteError>
     ensures same { prefix.new ≡ prefix.old }
-    ensures writes { WritesText
-        (row format.now end prefix.old at.number at.offset mark (in_color format.now.colored part_color text.now))
+    ensures writes { WritesText (row_at format.now end prefix.old at mark (part_text format.now text.now))
         (W.stream out.old) (W.stream out.new) result }
 {
     prefix.write(out, format, at, mark, has_part_text(format, text))?;
@@ -203,11 +193,9 @@ fn write_part<W: Sink, A: Allocator>(
     part: Part,
 ) -> Result<(), WriteError>
     requires within { IsPartOf bytes.now part }
-    requires small { first.number + cut < 2 ^ 64 }
-    requires placed { first.offset + length bytes.now < 2 ^ 64 }
+    requires fits { CanNumber first cut (length bytes.now) }
     ensures same { prefix.new ≡ prefix.old }
-    ensures writes { WritesText
-        (when (nat_lt part.line cut) (part_row format.now end prefix.old first.number first.offset bytes.now part))
+    ensures writes { WritesText (part_row_within format.now end prefix.old first cut bytes.now part)
         (W.stream out.old) (W.stream out.new) result }
 {
     if part.line >= cut {
@@ -237,8 +225,7 @@ pub(crate) fn write_parts<W: Sink, A: Allocator>(
     parts: &[Part],
 ) -> Result<(), WriteError>
     requires within { EachIndex parts.now (λ k. IsPartOf bytes.now (get_or parts.now k no_part)) }
-    requires small { first.number + cut < 2 ^ 64 }
-    requires placed { first.offset + length bytes.now < 2 ^ 64 }
+    requires fits { CanNumber first cut (length bytes.now) }
     ensures same { prefix.new ≡ prefix.old }
     ensures writes { WritesText (part_rows format.now end prefix.old first.number first.offset cut bytes.now parts.now)
         (W.stream out.old) (W.stream out.new) result }
@@ -258,8 +245,7 @@ pub(crate) fn write_painted_text<W: Sink>(
     to: usize,
     parts: &[Part],
 ) -> Result<(), WriteError>
-    requires within { to ≤ length bytes.now }
-    requires ascend { AreAscending from to parts.now }
+    requires { AreWithin bytes.now from to parts.now }
     ensures { WritesText (painted_bytes bytes.now from to parts.now ++ end ∷ [])
         (W.stream out.old) (W.stream out.new) result }
 {
@@ -278,10 +264,7 @@ pub(crate) fn write_count<W: Sink, A: Allocator>(
     prefix: &Prefix<A>,
     count: u64,
 ) -> Result<(), WriteError>
-    ensures { WritesText
-        (when format.now.names (name_text format.now prefix.now ++ name_end format.now colon)
-        ++ decimal count ++ newline ∷ [])
-        (W.stream out.old) (W.stream out.new) result }
+    ensures { WritesText (count_text format.now prefix.now count) (W.stream out.old) (W.stream out.new) result }
 {
     let mut digits = Buffer::new();
     let text = digits.format(count).as_bytes();
@@ -302,8 +285,7 @@ pub(crate) fn write_name<W: Sink, A: Allocator>(
     format: &Format,
     prefix: &Prefix<A>,
 ) -> Result<(), WriteError>
-    ensures { WritesText (name_text format.now prefix.now ++ name_mark format.now newline ∷ [])
-        (W.stream out.old) (W.stream out.new) result }
+    ensures { WritesText (listed_text format.now prefix.now) (W.stream out.old) (W.stream out.new) result }
 {
     write_text(out, format, Color::Name, prefix.name())?;
     write_all(out, &[format.name_mark(b'\n')])

@@ -1,14 +1,15 @@
 //! Lines that may still be shown.
-ghost use Rattle.std.specs.Prelude.{◌≡◌, ℕ, ◌+◌, ◌-◌, ◌<◌, ◌≤◌, ◌^◌, ◌⊎◌, ◌++◌, [], length};
-ghost use Rattle.std.specs.Prelude.{drop, IfOk, OnOk, OnErr, if◌then◌else◌};
+ghost use Rattle.std.specs.Prelude.{◌≡◌, ℕ, ◌-◌, ◌<◌, ◌≤◌, ◌^◌, [], length};
+ghost use Rattle.std.specs.Prelude.{drop, IfOk, if◌then◌else◌};
 ghost use Rattle.std.specs.Arc.{arc_value};
 ghost use Rattle.circular_buffer.specs.Buffer.{keep_last};
 ghost use Rattle.pg_base.specs.Sink.{WritesText};
 ghost use Rattle.pg_blocks.specs.Lines.{lines};
 ghost use Rattle.pg_rows.specs.Marks.{hyphen};
 ghost use Rattle.pg_rows.specs.Output.{size_of};
-ghost use Rattle.pg_rows.specs.Stretch.{marked_rows, plain};
-ghost use Rattle.pg_rows.specs.Window.{lines_from, tail_lines, held, IsTail, IsWindow, GivesUp, HasRoomFor};
+ghost use Rattle.pg_rows.specs.Stretch.{plain_rows, CanNumber};
+ghost use Rattle.pg_rows.specs.Window.{lines_from, tail_lines, held, IsTail, IsWindow, IsEmptyWindow, HoldsLast};
+ghost use Rattle.pg_rows.specs.Window.{MakesRoom, MayTake, TakesLines};
 
 use crate::format::Format;
 use crate::places::end_of_first;
@@ -75,13 +76,10 @@ impl<A: Allocator> Tail<A> {
         skip: usize,
     ) -> Result<u64, WriteError>
         requires tail { IsTail end self.now }
-        requires small { first.number + length (drop skip (tail_lines end self.now)) < 2 ^ 64 }
-        requires placed { first.offset + size_of (drop skip (tail_lines end self.now)) < 2 ^ 64 }
+        requires fits { let ls = drop skip (tail_lines end self.now) in CanNumber first (length ls) (size_of ls) }
         ensures same { prefix.new ≡ prefix.old }
-        ensures writes { WritesText
-            (marked_rows format.now end prefix.old hyphen plain first.number first.offset
-            (drop skip (tail_lines end self.now)))
-            (W.stream out.old) (W.stream out.new) result }
+        ensures writes { WritesText (plain_rows format.now end prefix.old hyphen first
+            (drop skip (tail_lines end self.now))) (W.stream out.old) (W.stream out.new) result }
         ensures size { IfOk result (λ size. size ≡ size_of (drop skip (tail_lines end self.now))) }
     {
         let text = self.text_from(end, skip);
@@ -110,9 +108,7 @@ impl<A: Allocator> Window<A> {
     ///
     /// `AllocError` where the memory for `size` places is refused.
     pub(crate) fn new(alloc: A, size: usize) -> Result<Window<A>, AllocError>
-        ensures size { IfOk result (λ window. window.tails.capacity ≡ size) }
-        ensures nothing { IfOk result (λ window. window.tails.items ≡ []) }
-        ensures window { (end : ℕ) → IfOk result (λ window. IsWindow end window) }
+        ensures { IfOk result (λ window. IsEmptyWindow window size) }
     {
         let tails = HeapCircularBuffer::with_capacity(alloc, size)?;
         Ok(Window { tails, lines: 0 })
@@ -120,9 +116,7 @@ impl<A: Allocator> Window<A> {
 
     /// Gives up all lines.
     pub(crate) fn clear(&mut self)
-        ensures size { self.new.tails.capacity ≡ self.old.tails.capacity }
-        ensures nothing { self.new.tails.items ≡ [] }
-        ensures window { (end : ℕ) → IsWindow end self.new }
+        ensures { IsEmptyWindow self.new self.old.tails.capacity }
     {
         self.tails.clear();
         self.lines = 0;
@@ -144,10 +138,7 @@ impl<A: Allocator> Window<A> {
     fn make_room(&mut self, end: u8, lines: usize)
         requires window { IsWindow end self.old }
         requires small { lines < 2 ^ 63 }
-        ensures size { self.new.tails.capacity ≡ self.old.tails.capacity }
-        ensures window { IsWindow end self.new }
-        ensures room { HasRoomFor end lines self.new }
-        ensures gives_up { GivesUp self.old.tails.capacity lines (held end self.old) (held end self.new) }
+        ensures { MakesRoom end lines self.old self.new }
     {
         let size = self.tails.capacity();
         while let Some(first) = self.tails.front() {
@@ -163,16 +154,9 @@ impl<A: Allocator> Window<A> {
     /// Takes the lines of a block from `start` on, behind the others. Blocks are given up as soon as
     /// the others have as many lines as may be shown.
     pub(crate) fn push(&mut self, end: u8, block: Arc<Block<A>, A>, start: usize, lines: usize)
-        requires window { IsWindow end self.old }
-        requires within { start ≤ length (arc_value block).bytes }
-        requires counted { lines ≡ length (lines_from end (arc_value block) start) }
+        requires takes { MayTake end self.old (arc_value block) start lines }
         requires some { 0 < lines }
-        ensures size { self.new.tails.capacity ≡ self.old.tails.capacity }
-        ensures window { IsWindow end self.new }
-        ensures last { keep_last self.old.tails.capacity (held end self.new)
-            ≡ keep_last self.old.tails.capacity (held end self.old ++ lines_from end (arc_value block) start) }
-        ensures enough { (self.old.tails.capacity ≤ length (held end self.new))
-            ⊎ (held end self.new ≡ held end self.old ++ lines_from end (arc_value block) start) }
+        ensures takes { TakesLines end self.old self.new (lines_from end (arc_value block) start) }
         ensures nothing { self.old.tails.capacity ≡ 0 → self.new.tails.items ≡ [] }
     {
         if self.tails.capacity() == 0 {
@@ -192,13 +176,8 @@ impl<A: Allocator> Window<A> {
 
     /// Takes the lines of a block from `start` on, if there are any, as `push` does.
     pub(crate) fn push_some(&mut self, end: u8, block: Arc<Block<A>, A>, start: usize, lines: usize)
-        requires window { IsWindow end self.old }
-        requires within { start ≤ length (arc_value block).bytes }
-        requires counted { lines ≡ length (lines_from end (arc_value block) start) }
-        ensures size { self.new.tails.capacity ≡ self.old.tails.capacity }
-        ensures window { IsWindow end self.new }
-        ensures last { keep_last self.old.tails.capacity (held end self.new)
-            ≡ keep_last self.old.tails.capacity (held end self.old ++ lines_from end (arc_value block) start) }
+        requires { MayTake end self.old (arc_value block) start lines }
+        ensures { TakesLines end self.old self.new (lines_from end (arc_value block) start) }
     {
         if lines > 0 {
             self.push(end, block, start, lines);
@@ -207,8 +186,7 @@ impl<A: Allocator> Window<A> {
 
     /// How many bytes the last `count` lines have, each with its terminator.
     fn size_of_last(&self, end: u8, count: usize) -> u64
-        requires window { IsWindow end self.now }
-        requires within { count ≤ length (held end self.now) }
+        requires holds { HoldsLast end self.now count }
         requires small { size_of (keep_last count (held end self.now)) < 2 ^ 64 }
         ensures { result ≡ size_of (keep_last count (held end self.now)) }
     {
@@ -224,8 +202,7 @@ impl<A: Allocator> Window<A> {
     /// Where the last `count` lines begin, which end at this offset: 0 where rows have no offsets, which alone ask for
     /// it.
     pub(crate) fn offset_of_last(&self, format: &Format, end: u8, offset: u64, count: usize) -> u64
-        requires window { IsWindow end self.now }
-        requires within { count ≤ length (held end self.now) }
+        requires holds { HoldsLast end self.now count }
         requires low { size_of (keep_last count (held end self.now)) ≤ offset }
         ensures { result ≡ (if format.now.offsets then offset - size_of (keep_last count (held end self.now)) else 0) }
     {
@@ -250,15 +227,11 @@ impl<A: Allocator> Window<A> {
         first: Position,
         count: usize,
     ) -> Result<(), WriteError>
-        requires window { IsWindow end self.now }
-        requires within { count ≤ length (held end self.now) }
-        requires small { first.number + count < 2 ^ 64 }
-        requires placed { first.offset + size_of (keep_last count (held end self.now)) < 2 ^ 64 }
+        requires holds { HoldsLast end self.now count }
+        requires fits { CanNumber first count (size_of (keep_last count (held end self.now))) }
         ensures same { prefix.new ≡ prefix.old }
-        ensures writes { WritesText
-            (marked_rows format.now end prefix.old hyphen plain first.number first.offset
-            (keep_last count (held end self.now)))
-            (W.stream out.old) (W.stream out.new) result }
+        ensures writes { WritesText (plain_rows format.now end prefix.old hyphen first
+            (keep_last count (held end self.now))) (W.stream out.old) (W.stream out.new) result }
     {
         let mut skip = self.lines - count;
         let mut at = first;

@@ -1,5 +1,6 @@
 use Rattle.std.proofs.Common.{◌≡◌, ◌+◌, ◌-◌, ℕ, arith, subst}
-use Rattle.pg_rows.proofs.PlaceLemmas.{FirstLines, first_more}
+use Rattle.pg_rows.specs.Places.{FirstLines}
+use Rattle.pg_rows.proofs.PlaceLemmas.{first_more}
 use Rattle.pg_rows.proofs.places.end_of_first.Goals as goal
 
 pub loop-left-preserved : goal.loop-left-preserved

@@ -1,5 +1,5 @@
 use Rattle.std.proofs.Common.{◌-◌, ◌≤◌}
-use Rattle.pg_rows.proofs.PlaceLemmas.{FirstLines}
+use Rattle.pg_rows.specs.Places.{FirstLines}
 use Rattle.pg_rows.proofs.places.end_of_first.Given as goal
 
 abbrev pub invariant-loop-left : goal.invariant-loop-left

@@ -4,11 +4,15 @@ use Rattle.std.proofs.Common.{◌∙◌, arith, subst}
 use Rattle.std.proofs.lemmas.List.{take_rest}
 use Rattle.circular_buffer.specs.Buffer.{keep_last}
 use Rattle.pg_blocks.specs.Lines.{lines, AreWhole}
+use Rattle.pg_rows.specs.declared.printer.Printer.{Printer}
+use Rattle.pg_rows.specs.declared.progress.Progress.{Progress}
 use Rattle.pg_rows.specs.Output.{size_of}
 use Rattle.pg_base.specs.Sink.{WritesAll, WritesPart}
 use Rattle.pg_rows.specs.Stretch.{marked_rows, plain}
 use Rattle.pg_rows.specs.Window.{held}
 use Rattle.pg_rows.specs.Printing.{leading, rows_of_leading}
+use Rattle.pg_rows.specs.Steps.{HasLeading}
+use Rattle.pg_rows.proofs.StretchLemmas.{length_keep_last}
 use Rattle.pg_rows.proofs.LeadLemmas.{leading_rows, no_leading, held_start, last_of_both}
 use Rattle.pg_rows.proofs.SizeLemmas.{size_append, size_whole, whole_drop}
 use Rattle.pg_base.proofs.WriteLemmas.{wrote_none, part_of_first, writes_part, writes_then, writes_as}
@@ -64,25 +68,27 @@ record IsLeading (end : ℕ) (xs : List (List ℕ)) (near last : List ℕ) (n fa
   fits : n ≤ length xs + length (lines end near)
   lines_are : lines end last ≡ keep_last close (lines end near)
   size : size_of (keep_last close (lines end near)) ≡ length last
+  few : length (lines end last) ≤ close
   room : size_of (keep_last far xs) + length last ≤ offset
 
-is_leading : (end : ℕ) (xs : List (List ℕ)) (near : List ℕ) (from n lead close count offset : ℕ) → AreWhole end near
-    → lines end (drop from near) ≡ keep_last close (lines end near) → n ≡ lead → lead ≤ length xs + count
-    → count ≡ length (lines end near) → close ≡ min n count
-    → size_of (keep_last lead (xs ++ lines end near)) ≤ offset
-    → IsLeading end xs near (take (length near - from) (drop from near)) n (n - close) close offset
-is_leading end xs near from n lead close count offset whole last is enough counted closes low =
-    let k = are_close end near from close whole last in
-    let close_is : close ≡ min n (length (lines end near)) = omega arith in
-    let fits : n ≤ length xs + length (lines end near) = omega arith in
-    let P : ℕ → Type 0 = λ m. size_of (keep_last m (xs ++ lines end near)) ≤ offset in
-    let both = room_of_both (n - close) close n offset xs (lines end near) (omega arith) close_is fits
-    (subst P (sym is) low) in
+leads : {A : Type 0} (s : Printer A) (p : Progress) (near : List ℕ) (from n close count offset : ℕ)
+    → AreWhole s.end near → count ≡ length (lines s.end near) → HasLeading s p (lines s.end near) offset
+    → lines s.end (drop from near) ≡ keep_last close (lines s.end near) → n ≡ leading s.format p → close ≡ min n count
+    → IsLeading s.end (held s.end s.window) near (take (length near - from) (drop from near)) n (n - close) close offset
+leads s p near from n close count offset whole counted has last is closes =
+    let xs = held s.end s.window in
+    let ys = lines s.end near in
+    let k = are_close s.end near from close whole last in
+    let close_is : close ≡ min n (length ys) = omega (arith, closes, counted) in
+    let fits : n ≤ length xs + length ys = omega (arith, is, has.enough) in
+    let P : ℕ → Type 0 = λ m. size_of (keep_last m (xs ++ ys)) ≤ offset in
+    let both = room_of_both (n - close) close n offset xs ys (omega arith) close_is fits (subst P (sym is) has.low) in
     record {
       close_is = close_is;
       fits = fits;
       lines_are = k.lines_are;
       size = k.size;
+      few = let a = ap (λ ls. length ls) k.lines_are in let b = length_keep_last close ys in omega (arith, a, b);
       room = omega (arith, both, k.size);
     }
 
@@ -90,48 +96,48 @@ pub overflow_sub-start : goal.overflow_sub-start
 overflow_sub-start g c =
     let a = c.args in
     let s = a.self.now in
-    let k = is_leading s.end (held s.end s.window) a.near.now c.start_of_last-from.result c.leading-leading.result
-    (leading s.format a.progress) c.min-close.result a.count a.offset c.requires.whole
-    c.start_of_last-from.ensures.last c.leading-leading.ensures c.requires.enough c.requires.count c.min-close.ensures
-    c.requires.low in
+    let k = leads s a.progress a.near.now c.start_of_last-from.result c.leading-leading.result c.min-close.result
+    a.count a.offset c.requires.whole c.requires.count c.requires.leading c.start_of_last-from.ensures.last
+    c.leading-leading.ensures c.min-close.ensures in
     omega (arith, k.room)
 
 pub offset_of_last-begin-requires-clause-low : goal.offset_of_last-begin-requires-clause-low
 offset_of_last-begin-requires-clause-low g c =
     let a = c.args in
     let s = a.self.now in
-    let k = is_leading s.end (held s.end s.window) a.near.now c.start_of_last-from.result c.leading-leading.result
-    (leading s.format a.progress) c.min-close.result a.count a.offset c.requires.whole
-    c.start_of_last-from.ensures.last c.leading-leading.ensures c.requires.enough c.requires.count c.min-close.ensures
-    c.requires.low in
+    let k = leads s a.progress a.near.now c.start_of_last-from.result c.leading-leading.result c.min-close.result
+    a.count a.offset c.requires.whole c.requires.count c.requires.leading c.start_of_last-from.ensures.last
+    c.leading-leading.ensures c.min-close.ensures in
     omega (arith, k.room)
 
-pub write_last-requires-clause-placed : goal.write_last-requires-clause-placed
-write_last-requires-clause-placed g c =
+pub write_last-requires-clause-fits : goal.write_last-requires-clause-fits
+write_last-requires-clause-fits g c =
     let a = c.args in
     let s = a.self.now in
-    let k = is_leading s.end (held s.end s.window) a.near.now c.start_of_last-from.result c.leading-leading.result
-    (leading s.format a.progress) c.min-close.result a.count a.offset c.requires.whole
-    c.start_of_last-from.ensures.last c.leading-leading.ensures c.requires.enough c.requires.count c.min-close.ensures
-    c.requires.low in
+    let k = leads s a.progress a.near.now c.start_of_last-from.result c.leading-leading.result c.min-close.result
+    a.count a.offset c.requires.whole c.requires.count c.requires.leading c.start_of_last-from.ensures.last
+    c.leading-leading.ensures c.min-close.ensures in
     let far = size_of (keep_last (c.leading-leading.result - c.min-close.result) (held s.end s.window)) in
     let start : ℕ = a.offset
     - length (take (length a.near.now - c.start_of_last-from.result) (drop c.start_of_last-from.result a.near.now)) in
     let fits = begin_fits s.format.offsets start far c.offset_of_last-begin.result c.offset_of_last-begin.ensures
     (omega (arith, k.room)) in
-    let range = c.ranges.offset.fits in
-    omega (arith, fits, range)
+    record {
+      small = omega (arith, c.requires.small);
+      placed = omega (arith, fits, c.ranges.offset.fits);
+    }
 
-pub write_lines-requires-clause-placed : goal.write_lines-requires-clause-placed
-write_lines-requires-clause-placed g c =
+pub write_lines-requires : goal.write_lines-requires
+write_lines-requires g c =
     let a = c.args in
     let s = a.self.now in
-    let k = is_leading s.end (held s.end s.window) a.near.now c.start_of_last-from.result c.leading-leading.result
-    (leading s.format a.progress) c.min-close.result a.count a.offset c.requires.whole
-    c.start_of_last-from.ensures.last c.leading-leading.ensures c.requires.enough c.requires.count c.min-close.ensures
-    c.requires.low in
-    let range = c.ranges.offset.fits in
-    omega (arith, k.room, range)
+    let k = leads s a.progress a.near.now c.start_of_last-from.result c.leading-leading.result c.min-close.result
+    a.count a.offset c.requires.whole c.requires.count c.requires.leading c.start_of_last-from.ensures.last
+    c.leading-leading.ensures c.min-close.ensures in
+    record {
+      small = omega (arith, k.few, k.close_is, c.leading-leading.ensures, a.progress.few_behind, c.requires.small);
+      placed = omega (arith, k.room, c.ranges.offset.fits);
+    }
 
 pub returns-in_err-write_last-clause-writes : goal.returns-in_err-write_last-clause-writes
 returns-in_err-write_last-clause-writes g c =
@@ -142,9 +148,8 @@ returns-in_err-write_last-clause-writes g c =
     let from = c.start_of_last-from.result in
     let xs = held s.end s.window in
     let ys = lines s.end a.near.now in
-    let k = is_leading s.end xs a.near.now from n (leading s.format a.progress) close a.count a.offset c.requires.whole
-    c.start_of_last-from.ensures.last c.leading-leading.ensures c.requires.enough c.requires.count c.min-close.ensures
-    c.requires.low in
+    let k = leads s a.progress a.near.now from n close a.count a.offset c.requires.whole c.requires.count
+    c.requires.leading c.start_of_last-from.ensures.last c.leading-leading.ensures c.min-close.ensures in
     let start : ℕ = a.offset - length (take (length a.near.now - from) (drop from a.near.now)) in
     let first : ℕ = (a.progress.number + 1) - n in
     let rows = λ (number o : ℕ) (ls : List (List ℕ)). marked_rows s.format s.end s.prefix 45 plain number o ls in
@@ -152,7 +157,7 @@ returns-in_err-write_last-clause-writes g c =
     let rest = rows ((a.progress.number + 1) - close) start (keep_last close ys) in
     let few : n ≤ a.progress.number = omega (arith, c.leading-leading.ensures, a.progress.few_behind) in
     let whole = leading_rows s.format s.end s.prefix a.progress xs ys n close a.offset start c.leading-leading.ensures
-    k.close_is k.fits few (omega (arith, k.size)) c.requires.low in
+    k.close_is k.fits few (omega (arith, k.size)) c.requires.leading.low in
     let held_rows = held_start s.format s.end s.prefix first start c.offset_of_last-begin.result
     (keep_last (n - close) xs) c.offset_of_last-begin.ensures in
     let P : List ℕ → Type 0 = λ t. WritesPart t (g.W.Sink.stream a.out.now) (g.W.Sink.stream c.write_last.new.out) in
@@ -169,9 +174,8 @@ returns-clause-writes g c =
     let from = c.start_of_last-from.result in
     let xs = held s.end s.window in
     let ys = lines s.end a.near.now in
-    let k = is_leading s.end xs a.near.now from n (leading s.format a.progress) close a.count a.offset c.requires.whole
-    c.start_of_last-from.ensures.last c.leading-leading.ensures c.requires.enough c.requires.count c.min-close.ensures
-    c.requires.low in
+    let k = leads s a.progress a.near.now from n close a.count a.offset c.requires.whole c.requires.count
+    c.requires.leading c.start_of_last-from.ensures.last c.leading-leading.ensures c.min-close.ensures in
     let last = take (length a.near.now - from) (drop from a.near.now) in
     let start : ℕ = a.offset - length last in
     let first : ℕ = (a.progress.number + 1) - n in
@@ -181,7 +185,7 @@ returns-clause-writes g c =
     let rest = rows s.prefix number start (keep_last close ys) in
     let few : n ≤ a.progress.number = omega (arith, c.leading-leading.ensures, a.progress.few_behind) in
     let whole = leading_rows s.format s.end s.prefix a.progress xs ys n close a.offset start c.leading-leading.ensures
-    k.close_is k.fits few (omega (arith, k.size)) c.requires.low in
+    k.close_is k.fits few (omega (arith, k.size)) c.requires.leading.low in
     let held_rows = held_start s.format s.end s.prefix first start c.offset_of_last-begin.result
     (keep_last (n - close) xs) c.offset_of_last-begin.ensures in
     let P : List ℕ → Type 0 = λ t. WritesAll t (g.W.Sink.stream a.out.now) (g.W.Sink.stream c.write_last.new.out) in

@@ -30,8 +30,8 @@ slice_bounds-own-end g c =
     let ordered = h.ordered in
     omega arith
 
-pub print_painted_line-requires-clause-ascend : goal.print_painted_line-requires-clause-ascend
-print_painted_line-requires-clause-ascend g c =
+pub print_painted_line-requires : goal.print_painted_line-requires
+print_painted_line-requires g c =
     let a = c.args in
     let s = a.self.now in
     let l = c.loop-at in
@@ -47,7 +47,7 @@ print_painted_line-requires-clause-ascend g c =
     next (g.W.Sink.stream a.out.now) (g.W.Sink.stream l.out) (l.invariant.left w.0 w.1) l.invariant.begun
     c.requires.colored
     l.invariant.fits c.line_end-stop.ensures.low c.line_end-stop.ensures.high is c.end_of_parts-next.ensures in
-    h.ascend
+    record { within = c.line_end-stop.ensures.high; ascend = h.ascend }
 
 pub returns-in_err-print_painted_line-clause-writes : goal.returns-in_err-print_painted_line-clause-writes
 returns-in_err-print_painted_line-clause-writes g c q told =

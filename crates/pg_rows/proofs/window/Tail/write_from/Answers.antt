@@ -1,4 +1,4 @@
-use Rattle.std.proofs.Common.{List, ℕ, drop, ap, arith}
+use Rattle.std.proofs.Common.{List, ℕ, drop, length, ap, arith}
 use Rattle.pg_rows.specs.Output.{size_of}
 use Rattle.pg_rows.specs.Stretch.{marked_rows, plain}
 use Rattle.pg_rows.specs.Window.{tail_lines}
@@ -14,8 +14,13 @@ returns-clause-writes g c =
     writes_as _ (rows (drop a.skip (tail_lines a.end a.self.now))) _ _ _ (ap rows c.text_from-text.ensures)
     (record { ok = c.in_ok-write_lines.ensures.writes.ok; err = tt })
 
-pub write_lines-requires-clause-placed : goal.write_lines-requires-clause-placed
-write_lines-requires-clause-placed g c =
-    let enough = size_enough c.args.end c.text_from-text.result.now in
-    let same = ap size_of c.text_from-text.ensures in
-    omega (arith, enough, same, c.requires.placed)
+pub write_lines-requires : goal.write_lines-requires
+write_lines-requires g c =
+    let text = c.text_from-text in
+    let count = ap (λ ls. length ls) text.ensures in
+    let enough = size_enough c.args.end text.result.now in
+    let same = ap size_of text.ensures in
+    record {
+      small = omega (arith, count, c.requires.fits.small);
+      placed = omega (arith, enough, same, c.requires.fits.placed);
+    }

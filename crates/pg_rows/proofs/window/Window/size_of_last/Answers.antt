@@ -14,13 +14,13 @@ loop-tail-init g c =
     let items = c.into_iter-tail-iterator.ensures.into_iter_gives ∙ c.iter-tail-items.ensures.rest in
     let all = held a.end w in
     let skip = w.lines - a.count in
-    let same = ap (λ n. size_of (drop (n - a.count) all)) c.requires.window.counted in
+    let same = ap (λ n. size_of (drop (n - a.count) all)) c.requires.holds.window.counted in
     let given = ap (λ ts. size_of (drop skip (lines_in a.end ts))) items in
     let Q : List (Tail g.row.A.Denot) → Type 0 = λ ts. AllByRecursion (IsTail a.end) ts in
     record {
       can_next = tt;
       is_finite = tt;
-      each = subst Q (sym items) c.requires.window.each;
+      each = subst Q (sym items) c.requires.holds.window.each;
       left = omega (arith, same, given);
     }
 
@@ -44,7 +44,7 @@ loop-tail-preserved g c =
     }
 
 pub overflow_sub-skip : goal.overflow_sub-skip
-overflow_sub-skip g c = omega (arith, c.requires.window.counted, c.requires.within)
+overflow_sub-skip g c = omega (arith, c.requires.holds.window.counted, c.requires.holds.within)
 
 pub overflow_add-size : goal.overflow_add-size
 overflow_add-size g c =

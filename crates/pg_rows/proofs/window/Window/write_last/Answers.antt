@@ -19,9 +19,9 @@ loop-tail-init g c =
     let items = c.into_iter-tail-iterator.ensures.into_iter_gives ∙ c.iter-tail-items.ensures.rest in
     let all = held a.end w in
     let skip = w.lines - a.count in
-    let same : length all - a.count ≡ skip = ap (λ n. n - a.count) (sym c.requires.window.counted) in
+    let same : length all - a.count ≡ skip = ap (λ n. n - a.count) (sym c.requires.holds.window.counted) in
     let left : length (drop skip all) ≡ a.count =
-    omega (arith, length-drop skip all, c.requires.window.counted, c.requires.within) in
+    omega (arith, length-drop skip all, c.requires.holds.window.counted, c.requires.holds.within) in
     let start = g.W.Sink.stream a.out.now in
     let rows = marked_rows a.format.now a.end a.prefix.now 45 plain a.first.number a.first.offset in
     let whole = rows (keep_last a.count all) in
@@ -36,9 +36,9 @@ loop-tail-init g c =
     record {
       can_next = tt;
       is_finite = tt;
-      each = subst Q (sym items) c.requires.window.each;
-      small = subst R (sym items) (omega (arith, left, c.requires.small));
-      placed = subst S (sym items) (subst T same c.requires.placed);
+      each = subst Q (sym items) c.requires.holds.window.each;
+      small = subst R (sym items) (omega (arith, left, c.requires.fits.small));
+      placed = subst S (sym items) (subst T same c.requires.fits.placed);
       prefix = refl;
       left = subst P to (left_whole whole start);
     }
@@ -124,25 +124,30 @@ shown_fits : (at skip lines shown later all : ℕ) → all ≡ (lines - skip) + 
 shown_fits at skip lines shown later all a s small = omega arith
 
 pub overflow_sub-skip : goal.overflow_sub-skip
-overflow_sub-skip g c = omega (arith, c.requires.window.counted, c.requires.within)
+overflow_sub-skip g c = omega (arith, c.requires.holds.window.counted, c.requires.holds.within)
 
 pub write_from-requires-clause-tail : goal.write_from-requires-clause-tail
 write_from-requires-clause-tail g c =
     let Q : List (Tail g.row.A.Denot) → Type 0 = λ xs. AllByRecursion (IsTail c.args.end) xs in
     (subst Q c.in-Some.ensures.steps c.loop-tail.invariant.each).0
 
-pub write_from-requires-clause-small : goal.write_from-requires-clause-small
-write_from-requires-clause-small g c =
+pub write_from-requires-clause-fits : goal.write_from-requires-clause-fits
+write_from-requires-clause-fits g c =
     let a = c.args in
     let l = c.loop-tail in
     let t = c.in-Some.tail.now in
     let ts = c.next.new.self in
     let Q : List (Tail g.row.A.Denot) → Type 0 = λ xs. AllByRecursion (IsTail a.end) xs in
     let each = subst Q c.in-Some.ensures.steps l.invariant.each in
+    let sized = ap (λ xs. size_of (drop l.skip (lines_in a.end xs))) c.in-Some.ensures.steps
+    ∙ shown_size a.end l.skip t ts each.0 in
     let counted = ap (λ xs. length (drop l.skip (lines_in a.end xs))) c.in-Some.ensures.steps
     ∙ shown_count a.end l.skip t ts each.0 in
     let shown = length-drop l.skip (tail_lines a.end t) ∙ ap (λ n. n - l.skip) (sym each.0.counted) in
-    shown_fits l.at.number l.skip t.lines _ _ _ counted shown l.invariant.small
+    record {
+      small = shown_fits l.at.number l.skip t.lines _ _ _ counted shown l.invariant.small;
+      placed = omega (arith, sized, l.invariant.placed);
+    }
 
 pub returns-in_err-size-clause-same : goal.returns-in_err-size-clause-same
 returns-in_err-size-clause-same g c = c.in_err-size.ensures.same ∙ c.loop-tail.invariant.prefix
@@ -180,19 +185,6 @@ returns-clause-writes g c =
           (g.W.Sink.stream l.out) none l.invariant.left;
       err = tt;
     }
-
--- how many bytes are left, without those of the first tail
-pub write_from-requires-clause-placed : goal.write_from-requires-clause-placed
-write_from-requires-clause-placed g c =
-    let a = c.args in
-    let l = c.loop-tail in
-    let t = c.in-Some.tail.now in
-    let ts = c.next.new.self in
-    let Q : List (Tail g.row.A.Denot) → Type 0 = λ xs. AllByRecursion (IsTail a.end) xs in
-    let each = subst Q c.in-Some.ensures.steps l.invariant.each in
-    let sized = ap (λ xs. size_of (drop l.skip (lines_in a.end xs))) c.in-Some.ensures.steps
-    ∙ shown_size a.end l.skip t ts each.0 in
-    omega (arith, sized, l.invariant.placed)
 
 pub overflow_add-at-in-loop-tail : goal.overflow_add-at-in-loop-tail
 overflow_add-at-in-loop-tail g c =
