@@ -29,7 +29,7 @@ AreAscending from to [] = from ≤ to
 AreAscending from to (p ∷ ps) =
     (from ≤ p.span.start) × (p.span.start ≤ p.span.end) × (p.span.end ≤ to) × AreAscending p.span.end to ps
 
--- the same of places in these bytes
+-- the parts stand between two places of these bytes, one behind the other
 pub record AreWithin (bytes : List ℕ) (from to : ℕ) (parts : List Part) : Type 0 where
   pub within : to ≤ length bytes
   pub ascend : AreAscending from to parts

@@ -49,8 +49,8 @@ pub record HasLines (q : Search) (bytes : List ℕ) (runs : List Run) (count : �
   pub each : AreRuns q 0 0 bytes runs
   pub total : count ≡ length (lines (terminator q) bytes)
 
--- The printer has come to a place behind which no line is kept: it still remembers what it did before the block, or a
--- line was kept right before the place.
+-- The printer has come to a place behind which no line is kept, and no write failed: it still remembers what it did
+-- before the block, or a line was kept right before the place.
 pub record ComesLast (q : Search) (format : Format) (c : Cursor) (hidden : List (List ℕ)) (bytes : List ℕ)
     (before after : Stream) (start : Progress) (place : Place) : Type 0 where
   pub here : IsAt q format c hidden bytes before.taken after.taken place.progress place.at place.seen

@@ -24,6 +24,7 @@ pub enum Mode {
 /// The row that a file's end adds.
 #[derive(Clone, Copy)]
 pub(crate) enum EndRow {
+    /// No row.
     None,
     /// The number of selected lines.
     Count,

@@ -536,8 +536,8 @@ impl<A: Allocator> Printer<A> {
         }
     }
 
-    /// Writes the rows of the lines between two places: those before a run of selected lines, none of
-    /// which is kept, and those of the run that are kept.
+    /// Writes the rows of the lines between two places: those before a run of selected lines, none of which is kept,
+    /// and the first lines of the run, so many, which are kept.
     fn print_step<W: Sink>(
         &mut self,
         out: &mut W,
