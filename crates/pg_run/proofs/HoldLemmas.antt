@@ -30,7 +30,6 @@ use Rattle.pg_seq.proofs.KeyLemmas.{next_not_taken}
 use Rattle.pg_run.specs.Holding.{Aim, HasPlan, MayStep, BreaksOffInSearch, AllIsWritten, past_of, format_of, output_of}
 use Rattle.pg_run.specs.Holding.{waiting}
 use Rattle.pg_run.specs.declared.engine.Engine.{Engine}
-use Rattle.pg_run.specs.declared.fault.RunFault.{RunFault}
 use Rattle.pg_run.specs.declared.fault.RunFault.TheVariants.{OutOfMemory, Sink}
 
 -- Keys of blocks that were taken.
@@ -152,20 +151,6 @@ module _ {A : Type 0} {engine : Engine A} {aim : Aim} {steps : List Step} {out :
   -- or for one more step
   pub broke_step : (s : Step) → MayStep aim steps s → BreaksOffInSearch aim (s ∷ steps) out OutOfMemory
   broke_step s m = record { cause = tt; part = (h.written, safe_step s m, h.got); calm = h.calm }
-
-  -- what breaks off a plan breaks off one with a step more
-  pub broke_before : (s : Step) → MayStep aim steps s → (out' : Stream) (fault : RunFault)
-      → BreaksOffInSearch aim steps out' fault
-      → BreaksOffInSearch aim (s ∷ steps) out' fault
-  broke_before s m out' fault k = record {
-    cause = k.cause;
-    part = (
-      k.part.0,
-      begins_trans _ _ _ k.part.1 (plan_begins aim.query (format_of aim) room_of steps (s ∷ []) (m.0, shaped_of)),
-      k.part.2,
-    );
-    calm = k.calm;
-  }
 
   -- a step that gives no result
   pub holds_step : (engine' : Engine A) (s : Step) → MayStep aim steps s → (arc_value engine'.query).text

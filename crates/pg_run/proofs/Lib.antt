@@ -1,6 +1,7 @@
 pub mod BlockLemmas
 pub mod CoverLemmas
 pub mod EndlessLemmas
+pub mod GivenLemmas
 pub mod HoldLemmas
 pub mod ReadingLemmas
 pub mod RoundLemmas

@@ -1,7 +1,7 @@
 -- An open file, one call further.
-use Rattle.std.proofs.Common.{◌≡◌, ◌⊎◌, inl, inr, ℕ, zero, suc, ◌+◌, ◌<◌, ◌≤◌, ◌^◌, Bool, true, false, Some, None}
+use Rattle.std.proofs.Common.{◌≡◌, ◌⊎◌, inl, inr, ℕ, ◌+◌, ◌<◌, ◌≤◌, ◌^◌, Bool, true, false, Some, None}
 use Rattle.std.proofs.Common.{Result, Ok, Err}
-use Rattle.std.proofs.Common.{List, [], ◌∷◌, ◌++◌, length, take, drop, refl, sym, ap, ◌∙◌, subst, arith}
+use Rattle.std.proofs.Common.{List, [], ◌∷◌, ◌++◌, length, drop, refl, sym, ap, ◌∙◌, subst, arith}
 use Rattle.std.proofs.Common.{append_assoc, length-append}
 use Rattle.std.specs.List.{Any}
 use Rattle.std.specs.Result.{IfOk}
@@ -16,19 +16,16 @@ use Rattle.pg_blocks.specs.declared.cutter.CutFault.{CutFault}
 use Rattle.pg_blocks.specs.declared.cutter.CutFault.TheVariants.{OutOfMemory as NoMemory, LineTooLong, FileTooLong}
 use Rattle.pg_blocks.proofs.EarlyLemmas.{AllEnd, all_are_cutting}
 use Rattle.pg_base.specs.declared.cause.Cause.TheVariants.{ReadFailed}
-use Rattle.pg_base.specs.Entries.{Entry, Read, Ending, Running, Ended, Failed, Left, is_failed}
+use Rattle.pg_base.specs.Entries.{Entry, Read, Ending, Running, Left, is_failed}
 use Rattle.pg_rows.specs.Output.{HasRoom, output, when}
 use Rattle.pg_rows.specs.Enough.{is_enough}
 use Rattle.pg_base.specs.Sink.{Stream, IsBeginning, TakesPart}
 use Rattle.pg_base.proofs.SinkLemmas.{takes_longer}
 use Rattle.pg_seq.specs.Plan.{Step, Announces, Ends, entries_of}
 use Rattle.pg_seq.proofs.CursorLemmas.{joined_push}
-use Rattle.pg_files.specs.Given.{Given, NoFile, File, FilesPast, entries_given, files_given}
-use Rattle.pg_files.specs.Given.{gave_bytes, gave_end, is_reading}
-use Rattle.pg_files.specs.Given.{newest_name}
+use Rattle.pg_files.specs.Given.{Given, FilesPast, entries_given, gave_bytes, gave_end, newest_name}
 use Rattle.pg_run.specs.Lengths.{IsTooLong}
 use Rattle.pg_run.specs.Told.{faults_of, fault_line}
-use Rattle.pg_files.specs.Asking.{read_given}
 use Rattle.pg_run.specs.Faults.{fault_of_cut}
 use Rattle.pg_run.specs.Outcome.{IsContinuation, GotWholeLines, IsOfAFile, NoneFailed}
 use Rattle.pg_run.specs.Cover.{is_left, HasOpenFile}
@@ -36,7 +33,7 @@ use Rattle.pg_run.specs.Holding.{Aim, HasPlan, MayStep, BreaksOffInSearch, Searc
 use Rattle.pg_run.specs.Holding.{format_of, output_of}
 use Rattle.pg_run.specs.Reading.{IsInsideFile, HasCut, IsLost, CutCause, MayEndFile, IsBetweenFiles, BreaksOffInFile}
 use Rattle.pg_run.specs.Reading.{IsCommonBeginning, ReadCause}
-use Rattle.pg_run.specs.Reading.{HasReadOn, ending_of, ending_after}
+use Rattle.pg_run.specs.Reading.{OnlyReadsOn, HasReadOn, ending_of, ending_after}
 use Rattle.pg_run.specs.declared.engine.Engine.{Engine}
 use Rattle.pg_run.specs.declared.reader.FileReader.{FileReader}
 use Rattle.pg_run.specs.declared.reader.ReadOutcome.{ReadOutcome}
@@ -45,80 +42,11 @@ use Rattle.pg_run.specs.declared.fault.RunFault.{RunFault}
 use Rattle.pg_run.specs.declared.fault.RunFault.TheVariants.{Query, OutOfMemory, Sink, TooManyFiles, TooLong}
 use Rattle.pg_seq.proofs.LongerLemmas.{alike_more}
 use Rattle.pg_run.proofs.CoverLemmas.{follows_begins, covers_alike}
+use Rattle.pg_run.proofs.GivenLemmas.{files_more, files_end, newest_told, too_long_given, bytes_before, end_before}
 use Rattle.pg_run.proofs.StepLemmas.{reads, read_ends, leaves, announces, ends, bytes_given, end_given, closed_left}
 use Rattle.pg_run.proofs.StepLemmas.{left_whole}
 use Rattle.pg_run.proofs.HoldLemmas.{room_of}
 use Rattle.pg_run.proofs.BlockLemmas.{Gives, GivesLines, given_end, gives_last, numbered_last, short_part}
-
--- What was given.
-
-pub files_more : (more : List ℕ) (given : List Given) → files_given (gave_bytes more given) ≡ files_given given
-files_more more [] = refl
-files_more more (NoFile name cause ∷ given) = refl
-files_more more (File name bytes ending ∷ given) = refl
-
-pub files_end : (failed : Bool) (given : List Given) → files_given (gave_end failed given) ≡ files_given given
-files_end failed [] = refl
-files_end failed (NoFile name cause ∷ given) = refl
-files_end failed (File name bytes ending ∷ given) = refl
-
-still_reading : (given : List Given) (name bytes : List ℕ) (before : List Entry)
-    → entries_given given ≡ Read name bytes Left ∷ before → is_reading given ≡ true
-still_reading [] name bytes before e = absurd (cc)
-still_reading (NoFile n cause ∷ given) name bytes before e = absurd (cc)
-still_reading (File n bs Running ∷ given) name bytes before e = absurd (cc)
-still_reading (File n bs Ended ∷ given) name bytes before e = absurd (cc)
-still_reading (File n bs Failed ∷ given) name bytes before e = absurd (cc)
-still_reading (File n bs Left ∷ given) name bytes before e = refl
-
--- what was told of the newest file, by how it stands
-pub newest_told : (given : List Given) (name bytes : List ℕ) (ending : Ending) (before : List Entry)
-    → entries_given given ≡ Read name bytes ending ∷ before
-    → faults_of given
-    ≡ faults_of (drop 1 given) ++ when (is_failed ending) (fault_line (newest_name given) ReadFailed)
-newest_told [] name bytes ending before e = absurd (cc)
-newest_told (NoFile n cause ∷ given) name bytes ending before e = absurd (cc)
-newest_told (File n bs was ∷ given) name bytes ending before e =
-    let same : was ≡ ending = cc in
-    ap (λ x. faults_of given ++ when (is_failed x) (fault_line n ReadFailed)) same
-
--- a piece that makes the file too long
-too_long_given : (end longest : ℕ) (given : List Given) (name bytes piece : List ℕ) (before : List Entry)
-    → entries_given given ≡ Read name bytes Left ∷ before
-    → Any (λ line. longest < length line) (lines end (bytes ++ piece)) ⊎ (2 ^ 62 < length (bytes ++ piece))
-    → IsTooLong end longest (gave_bytes piece given)
-too_long_given end longest [] name bytes piece before e h = absurd (cc)
-too_long_given end longest (NoFile n cause ∷ given) name bytes piece before e h = absurd (cc)
-too_long_given end longest (File n bs was ∷ given) name bytes piece before e h =
-    let same : bytes ≡ bs = cc in
-    let P : List ℕ → Type 0 =
-    λ xs. Any (λ line. longest < length line) (lines end (xs ++ piece)) ⊎ (2 ^ 62 < length (xs ++ piece)) in
-    subst P same h
-
--- What a read gave.
-
-pub read_some : (into : List ℕ) (count : ℕ) (given : List Given) → (count ≡ 0 → ⊥)
-    → read_given into count given ≡ gave_bytes (take count into) given
-read_some into zero given n = absurd (n refl)
-read_some into (suc n) given h = refl
-
-pub read_none : (into : List ℕ) (count : ℕ) (given : List Given) → count ≡ 0
-    → read_given into count given ≡ gave_end false given
-read_none into count given e = ap (λ n. read_given into n given) e
-
-bytes_before : (more : List ℕ) (given : List Given) → drop 1 (gave_bytes more given) ≡ drop 1 given
-bytes_before more [] = refl
-bytes_before more (NoFile name cause ∷ given) = refl
-bytes_before more (File name bytes ending ∷ given) = refl
-
-pub end_before : (failed : Bool) (given : List Given) → drop 1 (gave_end failed given) ≡ drop 1 given
-end_before failed [] = refl
-end_before failed (NoFile name cause ∷ given) = refl
-end_before failed (File name bytes ending ∷ given) = refl
-
-pub read_before : (into : List ℕ) (count : ℕ) (given : List Given) → drop 1 (read_given into count given) ≡ drop 1 given
-read_before into zero given = end_before false given
-read_before into (suc n) given = bytes_before (take (suc n) into) given
 
 -- What was written is safe.
 
@@ -509,10 +437,6 @@ module _ {A : Type 0} {reader : FileReader A} {aim : Aim} {given : List Given} {
       let none : h.lost ≡ [] = subst L more h.cause in
       sym (append-nil h.fed.bytes) ∙ (ap (λ xs. h.fed.bytes ++ xs) (sym none) ∙ h.whole)
 
-  -- a read may follow
-  pub may_read : is_reading given ≡ true
-  may_read = still_reading given h.name (joined h.fed.taken ++ h.rest) open_yet.before open_yet.given_is
-
   reads_more : (piece : List ℕ) → HasOpenFile aim.query (format_of aim) h.name (joined h.fed.taken) (h.rest ++ piece)
       Left
       (entries_of steps) (entries_given (gave_bytes piece given))
@@ -653,9 +577,26 @@ module _ {A : Type 0} {reader : FileReader A} {aim : Aim} {given : List Given} {
 
 -- What one read came to.
 
+pub reads_none : {F L : Type 0} {past : F → FilesPast} {list : F → L} {files : F} → OnlyReadsOn past list files files
+reads_none = record { done = refl; before = refl; same_list = refl }
+
+pub then_reads : {F L : Type 0} {past : F → FilesPast} {list : F → L} {files files' files'' : F}
+    → OnlyReadsOn past list files files' → OnlyReadsOn past list files' files'' → OnlyReadsOn past list files files''
+then_reads on more = record {
+  done = more.done ∙ on.done;
+  before = more.before ∙ on.before;
+  same_list = more.same_list ∙ on.same_list;
+}
+
+read_by : {F L : Type 0} {past : F → FilesPast} {list : F → L} {files files' : F}
+    → (past files').done ≡ (past files).done → list files' ≡ list files → (given : List Given)
+    → (past files').given ≡ given → drop 1 given ≡ drop 1 (past files).given → OnlyReadsOn past list files files'
+read_by done same given is before =
+    record { done = done; before = ap (λ gs. drop 1 gs) is ∙ before; same_list = same }
+
 pub nothing_read : {A F L : Type 0} {past : F → FilesPast} {list : F → L} {reader : FileReader A} {files : F}
     → HasReadOn past list reader files reader files
-nothing_read = record { done = refl; before = refl; same_list = refl; cuts = λ aim steps h. h }
+nothing_read = record { reads_on = reads_none; cuts = λ aim steps h. h }
 
 module _ {A F L : Type 0} {past : F → FilesPast} {list : F → L} {reader reader' : FileReader A} {files files' : F}
     (more : reader.came ≡ More) (done : (past files').done ≡ (past files).done) (same : list files' ≡ list files) where
@@ -666,9 +607,7 @@ module _ {A F L : Type 0} {past : F → FilesPast} {list : F → L} {reader read
       → ((fed : Fed) → IsCutterAfter reader.cutter fed → IsCutterAfter reader'.cutter fed)
       → HasReadOn past list reader files reader' files'
   read_stopped failed is stops none stands = record {
-    done = done;
-    before = ap (λ gs. drop 1 gs) is ∙ end_before failed (past files).given;
-    same_list = same;
+    reads_on = read_by done same _ is (end_before failed (past files).given);
     cuts = λ aim steps h.
         let P : List Given → Type 0 = λ gs. HasCut reader' aim gs steps in
         let L : List ℕ → Type 0 = λ lost. IsLost reader'.came aim (gave_end failed (past files).given) lost in
@@ -681,9 +620,7 @@ module _ {A F L : Type 0} {past : F → FilesPast} {list : F → L} {reader read
       → ((fed : Fed) → IsCutterAfter reader.cutter fed → IsCutterAfter reader'.cutter fed)
       → HasReadOn past list reader files reader' files'
   read_unread is came stands = record {
-    done = done;
-    before = ap (λ gs. drop 1 gs) is;
-    same_list = same;
+    reads_on = read_by done same _ is refl;
     cuts = λ aim steps h.
         let P : List Given → Type 0 = λ gs. HasCut reader' aim gs steps in
         subst P (sym is) (file_unread h more reader' came (stands h.fed h.cut));
@@ -694,9 +631,7 @@ module _ {A F L : Type 0} {past : F → FilesPast} {list : F → L} {reader read
       → ((fed : Fed) → IsCutterAfter reader.cutter fed → IsCutterAfter reader'.cutter (fed_after fed piece))
       → HasReadOn past list reader files reader' files'
   read_cut piece is came cut = record {
-    done = done;
-    before = ap (λ gs. drop 1 gs) is ∙ bytes_before piece (past files).given;
-    same_list = same;
+    reads_on = read_by done same _ is (bytes_before piece (past files).given);
     cuts = λ aim steps h.
         let P : List Given → Type 0 = λ gs. HasCut reader' aim gs steps in
         subst P (sym is) (piece_cut h more reader' piece came (cut h.fed h.cut));
@@ -711,9 +646,7 @@ module _ {A F L : Type 0} {past : F → FilesPast} {list : F → L} {reader read
       → 2 ^ 62 < length fed.bytes + length piece)
       → HasReadOn past list reader files reader' files'
   read_refused piece cut is came stands line file = record {
-    done = done;
-    before = ap (λ gs. drop 1 gs) is ∙ bytes_before piece (past files).given;
-    same_list = same;
+    reads_on = read_by done same _ is (bytes_before piece (past files).given);
     cuts = λ aim steps h.
         let P : List Given → Type 0 = λ gs. HasCut reader' aim gs steps in
         subst P (sym is) (piece_refused h more reader' piece cut came (stands h.fed h.cut) (line h.fed h.cut)
@@ -780,23 +713,30 @@ pub flushed : {A : Type 0} {reader : FileReader A} {engine : Engine A} {aim : Ai
     → IsInsideFile reader engine' aim given out'
 flushed h engine' out' k = record { steps = h.steps; holds = k; cuts = h.cuts }
 
--- what is told of a file once it was read further
+-- what holds at a value holds of an answer that is this value
+ok_by : {T E : Type 0} (r : Result T E) (P : T → Type 0) (x : T) → IfOk r (λ y. y ≡ x) → P x → IfOk r P
+ok_by (Ok y) P x h p = subst P (sym h) p
+ok_by (Err e) P x h p = tt
+
+-- what is told of a file once it was read further, by an answer that says whether that failed
 pub told_more : {A : Type 0} {reader reader' : FileReader A} {aim aim' : Aim} {given given' : List Given}
     {steps steps' : List Step} (h : HasCut reader aim given steps) (h' : HasCut reader' aim' given' steps')
     (failed : Bool)
     → reader.came ≡ More → is_failed (ending_after reader'.came) ≡ failed → drop 1 given' ≡ drop 1 given
-    → faults_of given' ≡ faults_of given ++ when failed (fault_line (newest_name given') ReadFailed)
-told_more {reader = reader} {reader' = reader'} {given = given} {given' = given'} h h' failed more e before =
+    → {E : Type 0} (r : Result Bool E) → IfOk r (λ answer. answer ≡ failed)
+    → IfOk r (λ answer. faults_of given' ≡ faults_of given ++ when answer (fault_line (newest_name given') ReadFailed))
+told_more {reader = reader} {reader' = reader'} {given = given} {given' = given'} h h' failed more e before r is =
     let line : Bool → List ℕ = λ f. when f (fault_line (newest_name given') ReadFailed) in
     let none : faults_of given ≡ faults_of (drop 1 given) =
     told_of_file h
     ∙ (ap (λ came. faults_of (drop 1 given) ++ when (is_failed (ending_after came))
     (fault_line (newest_name given) ReadFailed)) more
     ∙ append-nil (faults_of (drop 1 given))) in
-    told_of_file h'
+    ok_by r (λ answer. faults_of given' ≡ faults_of given ++ line answer) failed is
+    (told_of_file h'
     ∙ (ap (λ gs. faults_of gs ++ line (is_failed (ending_after reader'.came))) before
     ∙ (ap (λ xs. xs ++ line (is_failed (ending_after reader'.came))) (sym none)
-    ∙ ap (λ f. faults_of given ++ line f) e))
+    ∙ ap (λ f. faults_of given ++ line f) e)))
 
 -- The file may end, and does.
 module _ {A : Type 0} {engine : Engine A} {aim : Aim} {given : List Given} {out : Stream} (failed : Bool)
@@ -822,8 +762,3 @@ module _ {A : Type 0} {engine : Engine A} {aim : Aim} {given : List Given} {out 
     lines = λ of. absurd (none_at_fault fault aim out' k.cause of);
     calm = k.calm;
   }
-
--- what holds at a value holds of an answer that is this value
-pub ok_by : {T E : Type 0} (r : Result T E) (P : T → Type 0) (x : T) → IfOk r (λ y. y ≡ x) → P x → IfOk r P
-ok_by (Ok y) P x h p = subst P (sym h) p
-ok_by (Err e) P x h p = tt

@@ -15,7 +15,7 @@ use Rattle.pg_rows.specs.declared.format.Format.{Format}
 use Rattle.pg_rows.specs.Modes.{is_quiet, rows_in}
 use Rattle.pg_rows.proofs.ModeLemmas.{nothing_in}
 use Rattle.pg_base.specs.Entries.{Entry, Missed, Read, Running, Ended, Failed, Left}
-use Rattle.pg_rows.specs.Output.{output, status, when}
+use Rattle.pg_rows.specs.Output.{output, when}
 use Rattle.pg_rows.specs.Output.{has_selected}
 use Rattle.pg_rows.specs.Output.{file_rows, line_rows, piece_rows, is_nothing}
 use Rattle.pg_rows.specs.Enough.{is_enough, file_suffices}
@@ -27,7 +27,8 @@ use Rattle.pg_files.specs.Given.{Given, NoFile, File, FilesPast, entries_given, 
 use Rattle.pg_run.specs.Told.{faults_of, fault_of, fault_line, told_of}
 use Rattle.pg_run.specs.Outcome.{IsSearchFor, EndsAtSelected, RunFinishes, BreaksOff, HasCause, GotWholeLines}
 use Rattle.pg_run.specs.Outcome.{IsOfAFile}
-use Rattle.pg_run.specs.Holding.{Aim, HasPlan, BreaksOffInSearch, AllIsWritten, IsWrittenFirst, format_of, output_of}
+use Rattle.pg_run.specs.Holding.{Aim, HasPlan, BreaksOffInSearch, AllIsWritten, IsFinished, IsWrittenFirst}
+use Rattle.pg_run.specs.Holding.{format_of, output_of}
 use Rattle.pg_run.specs.Cover.{HasOpenFile}
 use Rattle.pg_run.specs.Reading.{IsInsideFile, IsLost, IsBetweenFiles, AllIsTold, BreaksOffInFile, IsCommonBeginning}
 use Rattle.pg_run.specs.Reading.{ReadCause, StopCause, BreaksOffTold, IsDone}
@@ -464,21 +465,20 @@ read_rightly {aim = aim} {given = given} b quiet none given' (inr e) =
 
 module _ {A : Type 0} {engine : Engine A} {aim : Aim} {finds : List (List ℕ) → Type 0} {past : FilesPast}
     {out told : Stream} (d : IsDone engine aim finds past out told) where
-  pub done_finishes : (out' : Stream) (answer : ℕ) → AllIsWritten aim d.rests.0.steps out'
-      → answer ≡ status aim.query (format_of aim) (entries_of d.rests.0.steps) → out'.failures ≡ aim.out.failures
+  pub done_finishes : (out' : Stream) (answer : ℕ) → IsFinished aim d.rests.0.steps out' answer
       → RunFinishes aim.query aim.setup finds past aim.out out' aim.told told answer
-  done_finishes out' answer written answered calm =
+  done_finishes out' answer k =
       let b = d.rests.0 in
       let room = room_of b.holds in
       let same = covers_same aim.query (format_of aim) (entries_of b.steps) (entries_given past.given) room b.covers in
       record {
-        written = written ∙ ap (λ xs. aim.out.taken ++ xs) same.output;
+        written = k.written ∙ ap (λ xs. aim.out.taken ++ xs) same.output;
         faults = d.rests.1.all;
-        answered = answered ∙ same.status;
+        answered = k.answered ∙ same.status;
         asked = d.asked;
         quiet = d.quiet;
         left = covers_left aim.query (format_of aim) (entries_of b.steps) (entries_given past.given) room b.covers;
-        no_failure = (calm, d.rests.1.calm);
+        no_failure = (k.calm, d.rests.1.calm);
       }
 
   pub done_breaks : (out' : Stream) (fault : RunFault) → BreaksOffInSearch aim d.rests.0.steps out' fault

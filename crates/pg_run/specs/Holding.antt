@@ -1,14 +1,16 @@
 -- How an engine holds its sequencer between two calls.
-use Rattle.std.specs.Prelude.{◌≡◌, ◌⊎◌, ℕ, ◌<◌, true, false, List, ◌∷◌, ◌++◌, map, Result}
+use Rattle.std.specs.Prelude.{◌≡◌, ◌⊎◌, ℕ, ◌<◌, true, false, List, [], ◌∷◌, ◌++◌, length, map, Result}
 use Rattle.std.specs.List.{list_all}
-use Rattle.std.specs.Result.{MatchResult, OnOk}
+use Rattle.std.specs.Result.{IfOk, MatchResult, OnOk}
 use Rattle.std.specs.Arc.{arc_value}
-use Rattle.pg_lines.specs.Search.{Search, terminator}
+use Rattle.pg_lines.specs.Search.{Search, SearchText, HasItsTrees, terminator}
 use Rattle.pg_blocks.specs.Blocks.{BlockData}
+use Rattle.pg_blocks.specs.Cutter.{IsCutterAfter, IsDrained, unfed}
+use Rattle.pg_blocks.specs.declared.cutter.Cutter.{Cutter}
 use Rattle.pg_rows.specs.declared.format.Format.{Format}
-use Rattle.pg_rows.specs.Output.{output}
+use Rattle.pg_rows.specs.Output.{output, status}
 use Rattle.pg_base.specs.Sink.{Stream, IsBeginning, TakesPart}
-use Rattle.pg_seq.specs.Plan.{Step, MayFollow, opened, announced, entries_of}
+use Rattle.pg_seq.specs.Plan.{Step, Opens, MayFollow, opened, announced, entries_of}
 use Rattle.pg_seq.specs.History.{Past, Event, plan_of, taken_of, is_taken}
 use Rattle.pg_seq.specs.Standing.{IsAfter}
 use Rattle.pg_run.specs.Outcome.{NoneFailed}
@@ -20,6 +22,14 @@ use Rattle.pg_run.specs.declared.fault.RunFault.TheVariants.{Query, OutOfMemory,
 -- the blocks that wait to be searched
 abbrev pub waiting : {A : Type 0} → Engine A → List BlockData
 waiting engine = map arc_value engine.round.items
+
+-- where blocks wait for a round, one more has room in it
+abbrev pub HasRoomInRound : {A : Type 0} → Engine A → Type 0
+HasRoomInRound engine = engine.spread ≡ true → length engine.round.items < engine.setup.round
+
+-- blocks wait, or are searched at once, as before
+abbrev pub SearchesAsBefore : {A : Type 0} → (old new : Engine A) → Type 0
+SearchesAsBefore old new = (new.spread ≡ old.spread) × (new.setup ≡ old.setup)
 
 -- nothing failed so far
 abbrev pub past_of : Search → Format → List Event → List ℕ → Past
@@ -60,7 +70,12 @@ pub record HasPlan {A : Type 0} (engine : Engine A) (aim : Aim) (steps : List St
   pub got : out.taken ≡ aim.out.taken ++ written
   pub calm : out.failures ≡ aim.out.failures
 
--- it is so, and the step may follow
+-- it has no step yet, for each run by this text and setup
+abbrev pub IsNewEngine : {A : Type 0} → SearchText → Setup → Engine A → Type 0
+IsNewEngine text setup engine = (aim : Aim) → HasItsTrees aim.query → aim.query.text ≡ text → aim.setup ≡ setup
+    → HasPlan engine aim [] aim.out
+
+-- it has this plan, and the step may follow
 abbrev pub IsReady : {A : Type 0} → Engine A → Aim → List Step → Stream → Step → Type 0
 IsReady engine aim steps out step = HasPlan engine aim steps out × MayStep aim steps step
 
@@ -76,6 +91,14 @@ MayTakeStep engine step = (aim : Aim) × (steps : List Step) × (out : Stream) �
 abbrev pub TakesStep : {A T E : Type 0} → (old new : Engine A) → Step → Result T E → Type 0
 TakesStep old new step result = (aim : Aim) → (steps : List Step) → (out : Stream) → IsReady old aim steps out step
     → OnOk result (HasPlan new aim (step ∷ steps) out)
+
+-- at Ok it opened this file on each plan on which that may follow, and answers a new cutter for it
+abbrev pub OpensFile : {A E : Type 0} → (old new : Engine A) → (name : List ℕ) → Result (Cutter A) E → Type 0
+OpensFile old new name result = (aim : Aim) → (steps : List Step) → (out : Stream)
+    → IsReady old aim steps out (Opens name)
+    → IfOk result (λ cutter. HasPlan new aim (Opens name ∷ steps) out
+    × IsCutterAfter cutter (unfed (terminator aim.query) old.files aim.setup.block aim.setup.line)
+    × IsDrained cutter)
 
 -- each plan that it had it has still
 abbrev pub PlansStay : {A : Type 0} → (old new : Engine A) → Type 0
@@ -100,6 +123,14 @@ pub record BreaksOffInSearch (aim : Aim) (steps : List Step) (out : Stream) (fau
   pub part : TakesPart (output_of aim steps) aim.out.taken out.taken
   pub calm : NoneFailed fault aim.out out
 
+-- At Ok the step was added to each plan on which it may follow, and all was written unless blocks wait for a round.
+-- At Err the search broke off.
+abbrev pub SearchesStep : {A T : Type 0} → (old new : Engine A) → Step → (before after : Stream) → Result T RunFault
+    → Type 0
+SearchesStep old new step before after result = (aim : Aim) → (steps : List Step) → IsReady old aim steps before step
+    → MatchResult result (λ _. HasPlan new aim (step ∷ steps) after
+    × (old.spread ≡ false → AllIsWritten aim (step ∷ steps) after)) (BreaksOffInSearch aim (step ∷ steps) after)
+
 -- each plan that it had it has at Ok still; at Err the search broke off
 abbrev pub KeepsPlan : {A T : Type 0} → (old new : Engine A) → (before after : Stream) → Result T RunFault → Type 0
 KeepsPlan old new before after result = (aim : Aim) → (steps : List Step) → HasPlan old aim steps before
@@ -110,6 +141,19 @@ abbrev pub WritesPlan : {A T : Type 0} → (old new : Engine A) → (before afte
 WritesPlan old new before after result = (aim : Aim) → (steps : List Step) → HasPlan old aim steps before
     → MatchResult result (λ _. HasPlan new aim steps after × AllIsWritten aim steps after)
     (BreaksOffInSearch aim steps after)
+
+-- At Ok no block waits any more, and all that the plan gives is written.
+pub record EmptiesRound {A T : Type 0} (old new : Engine A) (before after : Stream) (result : Result T RunFault)
+    : Type 0 where
+  pub kept : SearchesAsBefore old new
+  pub none : OnOk result (new.round.items ≡ [])
+  pub outcome : WritesPlan old new before after result
+
+-- the plan came to its end: all is written, its status is answered, and no write failed
+pub record IsFinished (aim : Aim) (steps : List Step) (out : Stream) (answer : ℕ) : Type 0 where
+  pub written : AllIsWritten aim steps out
+  pub answered : answer ≡ status aim.query (format_of aim) (entries_of steps)
+  pub calm : out.failures ≡ aim.out.failures
 
 -- all was written, no write failed and the fault is answered; or that broke off
 abbrev pub IsWrittenFirst : Aim → List Step → Stream → (fault answer : RunFault) → Type 0

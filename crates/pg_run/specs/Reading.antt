@@ -1,9 +1,10 @@
 -- How an engine stands inside a file and between files.
 use Rattle.std.specs.Prelude.{◌≡◌, ◌⊎◌, ℕ, ◌+◌, ◌-◌, ◌<◌, ◌^◌, Bool, true, false, if◌then◌else◌, List, [], ◌∷◌, ◌++◌}
-use Rattle.std.specs.Prelude.{drop}
+use Rattle.std.specs.Prelude.{drop, Result}
+use Rattle.std.specs.Result.{MatchResult}
 use Rattle.pg_lines.specs.Search.{terminator}
 use Rattle.pg_blocks.specs.Blocks.{joined}
-use Rattle.pg_blocks.specs.Cutter.{Fed, IsCutterAfter}
+use Rattle.pg_blocks.specs.Cutter.{Fed, IsCutterAfter, IsDrained}
 use Rattle.pg_blocks.specs.declared.cutter.CutFault.{CutFault}
 use Rattle.pg_blocks.specs.declared.cutter.CutFault.TheVariants.{OutOfMemory as NoMemory, LineTooLong, FileTooLong}
 use Rattle.pg_rows.specs.Modes.{is_quiet}
@@ -11,13 +12,13 @@ use Rattle.pg_base.specs.Entries.{Entry, Ending, Ended, Failed, Left}
 use Rattle.pg_rows.specs.Output.{output}
 use Rattle.pg_base.specs.Sink.{Stream, TakesPart}
 use Rattle.pg_seq.specs.Plan.{Step, Ends, is_open, opened, last_blocks, entries_of}
-use Rattle.pg_files.specs.Given.{Given, FilesPast, entries_given, files_given}
+use Rattle.pg_files.specs.Given.{Given, File, FilesPast, AllGiven, entries_given, files_given}
 use Rattle.pg_run.specs.Lengths.{IsTooLong}
 use Rattle.pg_run.specs.Told.{told_of}
 use Rattle.pg_run.specs.Outcome.{IsContinuation, EndsAtSelected, AsksToTheEnd, GotWholeLines, IsOfAFile, NoneFailed}
 use Rattle.pg_seq.specs.Settled.{AreLeftRightly}
 use Rattle.pg_run.specs.Cover.{Covers, HasOpenFile}
-use Rattle.pg_run.specs.Holding.{Aim, HasPlan, format_of}
+use Rattle.pg_run.specs.Holding.{Aim, HasPlan, HasRoomInRound, format_of}
 use Rattle.pg_run.specs.declared.engine.Engine.{Engine}
 use Rattle.pg_run.specs.declared.fault.RunFault.{RunFault}
 use Rattle.pg_run.specs.declared.fault.RunFault.TheVariants.{Query, OutOfMemory, Sink, TooManyFiles, TooLong}
@@ -31,6 +32,10 @@ ending_after More = Left
 ending_after End = Ended
 ending_after Failure = Failed
 ending_after (Refused fault) = Left
+
+-- how it stands once it can't go on
+abbrev pub ending_of : Bool → Ending
+ending_of failed = if failed then Failed else Ended
 
 -- why the cutter takes no more of the newest file
 abbrev pub CutCause : CutFault → Aim → List Given → Type 0
@@ -65,6 +70,23 @@ pub record HasCut {A : Type 0} (reader : FileReader A) (aim : Aim) (given : List
   pub reads : HasOpenFile aim.query (format_of aim) name (joined fed.taken) rest (ending_after reader.came)
       (entries_of steps) (entries_given given)
 
+-- for some run it is so
+abbrev pub HasCutSome : {A : Type 0} → FileReader A → List Given → Type 0
+HasCutSome reader given = (aim : Aim) × (steps : List Step) × HasCut reader aim given steps
+
+-- and the file may be read further
+pub record MayBeRead {A : Type 0} (reader : FileReader A) (given : List Given) : Type 0 where
+  pub more : reader.came ≡ More
+  pub cut : HasCutSome reader given
+
+-- the file may be read further, and all blocks that are cut were taken
+abbrev pub AwaitsMore : {A : Type 0} → FileReader A → Type 0
+AwaitsMore reader = (reader.came ≡ More) × IsDrained reader.cutter
+
+-- all blocks that are cut were taken, and a last one has room where it would wait
+abbrev pub AwaitsLast : {A : Type 0} → FileReader A → Engine A → Type 0
+AwaitsLast reader engine = IsDrained reader.cutter × HasRoomInRound engine
+
 -- A file is open, and the engine has the blocks that were taken of it.
 pub record IsInsideFile {A : Type 0} (reader : FileReader A) (engine : Engine A) (aim : Aim) (given : List Given)
     (out : Stream) : Type 0 where
@@ -76,16 +98,28 @@ pub record IsInsideFile {A : Type 0} (reader : FileReader A) (engine : Engine A)
 abbrev pub IsInSomeFile : {A : Type 0} → FileReader A → Engine A → List Given → Stream → Type 0
 IsInSomeFile reader engine given out = (aim : Aim) × IsInsideFile reader engine aim given out
 
--- for some run and whatever was given it is so
+-- for some run and whatever was given it is so, and all blocks that are cut were taken
 abbrev pub IsReadingSomeFile : {A : Type 0} → FileReader A → Engine A → Stream → Type 0
-IsReadingSomeFile reader engine out = (aim : Aim) × (given : List Given) × IsInsideFile reader engine aim given out
+IsReadingSomeFile reader engine out =
+    (aim : Aim) × (given : List Given) × IsDrained reader.cutter × IsInsideFile reader engine aim given out
 
--- The reader read on: what was given before stands, and what was cut is cut.
-pub record HasReadOn {A F L : Type 0} (past : F → FilesPast) (list : F → L) (reader : FileReader A) (files : F)
-    (reader' : FileReader A) (files' : F) : Type 0 where
+-- and the file can't go on: its reading failed or came to its end
+pub record IsAtLastBlock {A : Type 0} (reader : FileReader A) (engine : Engine A) (failed : Bool) (out : Stream)
+    : Type 0 where
+  pub ended : ending_after reader.came ≡ ending_of failed
+  pub room : HasRoomInRound engine
+  pub in_file : IsReadingSomeFile reader engine out
+
+-- At most the newest file was read further. What was given before, and what is listed, stands.
+pub record OnlyReadsOn {F L : Type 0} (past : F → FilesPast) (list : F → L) (files files' : F) : Type 0 where
   pub done : (past files').done ≡ (past files).done
   pub before : drop 1 (past files').given ≡ drop 1 (past files).given
   pub same_list : list files' ≡ list files
+
+-- The reader read on, and what was cut is cut.
+pub record HasReadOn {A F L : Type 0} (past : F → FilesPast) (list : F → L) (reader : FileReader A) (files : F)
+    (reader' : FileReader A) (files' : F) : Type 0 where
+  pub reads_on : OnlyReadsOn past list files files'
   pub cuts : (aim : Aim) (steps : List Step) → HasCut reader aim (past files).given steps
       → HasCut reader' aim (past files').given steps
 
@@ -116,8 +150,9 @@ pub record AllIsTold (aim : Aim) (given : List Given) (told : Stream) : Type 0 w
 abbrev pub HasToldAll : {A : Type 0} → Engine A → Aim → List Given → (out told : Stream) → Type 0
 HasToldAll engine aim given out told = IsBetweenFiles engine aim given out × AllIsTold aim given told
 
-abbrev pub ending_of : Bool → Ending
-ending_of failed = if failed then Failed else Ended
+-- for some run it is so
+abbrev pub HasToldSome : {A : Type 0} → Engine A → List Given → (out told : Stream) → Type 0
+HasToldSome engine given out told = (aim : Aim) × HasToldAll engine aim given out told
 
 -- what the writer took is a beginning of the output of all that goes on from what was given
 abbrev pub IsCommonBeginning : Aim → List Given → List ℕ → Type 0
@@ -139,6 +174,18 @@ pub record BreaksOffInFile (aim : Aim) (given : List Given) (out : Stream) (faul
   pub lines : IsOfAFile fault → GotWholeLines aim.query (format_of aim) (entries_given given) aim.out out
   pub calm : NoneFailed fault aim.out out
 
+-- at Ok no file is open any more; at Err the reading broke off
+abbrev pub EndsFile : {A T : Type 0} → Engine A → Aim → List Given → Stream → Result T RunFault → Type 0
+EndsFile engine aim given out result =
+    MatchResult result (λ _. IsBetweenFiles engine aim given out) (BreaksOffInFile aim given out)
+
+-- whatever the run is for, at Ok the open file is open still; at Err its reading broke off
+abbrev pub StaysInFile : {A T : Type 0} → (reader reader' : FileReader A) → (engine engine' : Engine A)
+    → (given given' : List Given) → (out out' : Stream) → Result T RunFault → Type 0
+StaysInFile reader reader' engine engine' given given' out out' result =
+    (aim : Aim) → IsInsideFile reader engine aim given out
+    → MatchResult result (λ _. IsInsideFile reader' engine' aim given' out') (BreaksOffInFile aim given' out')
+
 -- why a run broke off
 abbrev pub StopCause : RunFault → Aim → List Given → (out told : Stream) → Type 0
 StopCause (Query why) aim given out told = ⊥
@@ -155,6 +202,13 @@ pub record BreaksOffTold (aim : Aim) (given : List Given) (out told : Stream) (f
   pub faults : TakesPart (told_of aim.setup.silent given) aim.told.taken told.taken
   pub calm : NoneFailed fault aim.out out × NoneFailed fault aim.told told
 
+-- whatever the run is for, at Ok all that was given by now was told; at Err the run broke off
+abbrev pub TellsOn : {A T : Type 0} → (engine engine' : Engine A) → (given given' : List Given)
+    → (out out' told told' : Stream) → Result T RunFault → Type 0
+TellsOn engine engine' given given' out out' told told' result =
+    (aim : Aim) → HasToldAll engine aim given out told
+    → MatchResult result (λ _. HasToldAll engine' aim given' out' told') (BreaksOffTold aim given' out' told')
+
 -- each file before the newest was read as far as was needed, and with -q no line of these was selected
 pub record AreReadRightly (aim : Aim) (given : List Given) : Type 0 where
   pub left : AreLeftRightly aim.query (format_of aim) (entries_given (drop 1 given))
@@ -168,10 +222,15 @@ BreaksOffBehind aim given out told fault = BreaksOffTold aim given out told faul
 abbrev pub GaveOneAtMost : List Given → List Given → Type 0
 GaveOneAtMost given given' = (given' ≡ given) ⊎ (drop 1 given' ≡ given)
 
--- one more name or file was given, or there is no more
-abbrev pub GivesNext : Bool → FilesPast → FilesPast → Type 0
-GivesNext true past past' = (drop 1 past'.given ≡ past.given) × (past'.done ≡ past.done)
-GivesNext false past past' = (past'.given ≡ past.given) × (past'.done ≡ true)
+-- a file was given behind these, and nothing of it is read yet
+abbrev pub GaveFile : (given given' : List Given) → Type 0
+GaveFile given given' = (name : List ℕ) × (given' ≡ File name [] Left ∷ given)
+
+-- one more name or file was given; or there is no more, and all that may be found was given
+abbrev pub GivesNext : (finds : List (List ℕ) → Type 0) → (past past' : FilesPast) → Bool → Type 0
+GivesNext finds past past' true = (drop 1 past'.given ≡ past.given) × (past'.done ≡ past.done)
+GivesNext finds past past' false =
+    (past'.given ≡ past.given) × (past'.done ≡ true) × AllGiven finds past'.given
 
 -- all that is needed was given, searched and told
 pub record IsDone {A : Type 0} (engine : Engine A) (aim : Aim) (finds : List (List ℕ) → Type 0) (past : FilesPast)

@@ -1,11 +1,10 @@
 //! Searches blocks, one after another or in rounds.
-ghost use Rattle.std.specs.Prelude.{◌≡◌, ◌+◌, ◌-◌, ◌<◌, ◌≤◌, ◌∷◌, ◌^◌, List, [], All, true, false, length};
+ghost use Rattle.std.specs.Prelude.{◌≡◌, ◌+◌, ◌-◌, ◌<◌, ◌≤◌, ◌∷◌, ◌^◌, List, [], true, false, length};
 ghost use Rattle.std.specs.Prelude.{IfOk, MatchResult, OnOk};
 ghost use Rattle.std.specs.Arc.{arc_value};
 ghost use Rattle.pg_match.specs.Machines.{Fits};
-ghost use Rattle.pg_lines.specs.Search.{HasItsTrees, terminator};
-ghost use Rattle.pg_rows.specs.Output.{status};
 ghost use Rattle.pg_run.specs.Endless.{is_endless};
+ghost use Rattle.pg_run.specs.Scratches.{AreScratches};
 
 use crate::fault::RunFault;
 use crate::pace::{Pace, time};
@@ -62,8 +61,7 @@ pub(crate) struct Engine<A: Allocator + Copy = Global> {
     /// Memory that blocks don't take while they wait. It is given back when they are searched, which needs some too.
     reserve: Option<Vec<u8, A>>,
     ghost fits: { Fits scratch (arc_value query).machine },
-    ghost all_fit: { All (λ s. Fits s (arc_value query).machine) scratches.items },
-    ghost few_scratches: { length scratches.items ≤ 65 },
+    ghost scratches_fit: { AreScratches 65 (arc_value query).machine scratches.items },
     ghost endless: { spread ≡ true → is_endless setup.format ≡ true },
     ghost at_once: { spread ≡ false → round.items ≡ [] },
     ghost few: { length round.items ≤ setup.round },
@@ -134,11 +132,9 @@ fn add_scratch<A: Allocator + Copy>(
     query: &Query<A>,
     scratches: &mut Vec<Scratch<A>, A>,
 ) -> Result<(), AllocError>
-    requires few { length scratches.old.items < 65 }
-    requires fits { All (λ s. Fits s query.now.machine) scratches.old.items }
+    requires { AreScratches 64 query.now.machine scratches.old.items }
     ensures more { OnOk result (length scratches.new.items ≡ length scratches.old.items + 1) }
-    ensures few { length scratches.new.items ≤ 65 }
-    ensures fits { All (λ s. Fits s query.now.machine) scratches.new.items }
+    ensures scratches { AreScratches 65 query.now.machine scratches.new.items }
 {
     let scratch = scratch_for(alloc, query)?;
     scratches.push(scratch)?;
@@ -153,11 +149,10 @@ fn equip<A: Allocator + Copy>(
     scratches: &mut Vec<Scratch<A>, A>,
     count: usize,
 ) -> Result<(), AllocError>
-    requires few { (0 < count) × (count ≤ 65) × (length scratches.old.items ≤ 65) }
-    requires fits { All (λ s. Fits s query.now.machine) scratches.old.items }
+    requires count { (0 < count) × (count ≤ 65) }
+    requires scratches { AreScratches 65 query.now.machine scratches.old.items }
     ensures some { OnOk result (0 < length scratches.new.items) }
-    ensures few { length scratches.new.items ≤ 65 }
-    ensures fits { All (λ s. Fits s query.now.machine) scratches.new.items }
+    ensures scratches { AreScratches 65 query.now.machine scratches.new.items }
 {
     while scratches.len() < count {
         if let Err(refusal) = add_scratch(alloc, query, scratches) {
@@ -180,17 +175,16 @@ fn memory_of<A: Allocator>(block: Arc<Block<A>, A>) -> Option<Vec<u8, A>> {
 }
 
 impl<A: Allocator + Copy> Engine<A> {
-    ghost use Rattle.pg_blocks.specs.Cutter.{IsCutterAfter, IsDrained, unfed};
     ghost use Rattle.pg_rows.specs.Enough.{is_enough};
-    ghost use Rattle.pg_seq.specs.Plan.{Step, Opens, Announces, Ends, Misses, entries_of, is_open};
+    ghost use Rattle.pg_seq.specs.Plan.{Step, Opens, Announces, Ends, Misses, entries_of};
     ghost use Rattle.pg_base.specs.Sink.{Stream};
-    ghost use Rattle.pg_run.specs.Holding.{KeepsPlan, MayTakeStep, PlansStay, TakesStep, WritesPlan};
-    ghost use Rattle.pg_run.specs.Holding.{Aim, HasPlan, IsReady, AllIsWritten, BreaksOffInSearch, format_of};
+    ghost use Rattle.pg_run.specs.Holding.{Aim, HasPlan, HasRoomInRound, IsNewEngine, IsReady, format_of};
+    ghost use Rattle.pg_run.specs.Holding.{EmptiesRound, KeepsPlan, MayTakeStep, OpensFile, PlansStay};
+    ghost use Rattle.pg_run.specs.Holding.{SearchesAsBefore, SearchesStep, TakesStep};
 
     /// An engine that has no file yet.
     pub(crate) fn new(alloc: A, query: Query<A>, setup: Setup) -> Result<Engine<A>, AllocError>
-        ensures { IfOk result (λ engine. (aim : Aim) → HasItsTrees aim.query → aim.query.text ≡ query.text →
-            aim.setup ≡ setup → HasPlan engine aim [] aim.out) }
+        ensures { IfOk result (IsNewEngine query.text setup) }
     {
         let query = Arc::new(alloc, query)?;
         let pace = Pace::new();
@@ -252,9 +246,8 @@ impl<A: Allocator + Copy> Engine<A> {
     /// Writes all that may be written. No block waits.
     fn drain<W: Sink>(&mut self, out: &mut W) -> Result<(), RunFault>
         requires none { self.old.round.items ≡ [] }
-        ensures kept { (self.new.spread ≡ self.old.spread) × (self.new.setup ≡ self.old.setup) }
         ensures none { self.new.round.items ≡ [] }
-        ensures outcome { WritesPlan self.old self.new (W.stream out.old) (W.stream out.new) result }
+        ensures empties { EmptiesRound self.old self.new (W.stream out.old) (W.stream out.new) result }
     {
         self.sequencer.drain(out)?;
         self.written = self.files;
@@ -283,17 +276,9 @@ impl<A: Allocator + Copy> Engine<A> {
         block: Block<A>,
         out: &mut W,
     ) -> Result<(), RunFault>
-        requires room { self.old.spread ≡ true → length self.old.round.items < self.old.setup.round }
-        requires ready { (aim : Aim) × (steps : List Step)
-            × IsReady self.old aim steps (W.stream out.old) (Announces block) }
-        ensures outcome { (aim : Aim) → (steps : List Step) →
-            IsReady self.old aim steps (W.stream out.old) (Announces block) →
-            MatchResult result (λ _. HasPlan self.new aim (Announces block ∷ steps) (W.stream out.new))
-            (BreaksOffInSearch aim (Announces block ∷ steps) (W.stream out.new)) }
-        ensures written { (aim : Aim) → (steps : List Step) →
-            IsReady self.old aim steps (W.stream out.old) (Announces block) →
-            self.old.spread ≡ false →
-            OnOk result (AllIsWritten aim (Announces block ∷ steps) (W.stream out.new)) }
+        requires room { HasRoomInRound self.old }
+        requires ready { MayTakeStep self.old (Announces block) }
+        ensures { SearchesStep self.old self.new (Announces block) (W.stream out.old) (W.stream out.new) result }
     {
         if self.spread {
             self.add(block)?;
@@ -311,7 +296,7 @@ impl<A: Allocator + Copy> Engine<A> {
 
     /// Whether the blocks that wait are as many as a round has.
     pub(crate) fn is_full(&self) -> bool
-        ensures { result ≡ false → self.now.spread ≡ true → length self.now.round.items < self.now.setup.round }
+        ensures { result ≡ false → HasRoomInRound self.now }
     {
         self.spread && self.round.len() >= self.setup.round as usize
     }
@@ -323,7 +308,7 @@ impl<A: Allocator + Copy> Engine<A> {
 
     /// The memory of the block that was searched last, if nothing holds that any more.
     pub(crate) fn take_spare(&mut self) -> Option<Vec<u8, A>>
-        ensures kept { (self.new.spread ≡ self.old.spread) × (self.new.setup ≡ self.old.setup) }
+        ensures kept { SearchesAsBefore self.old self.new }
         ensures round { self.new.round ≡ self.old.round }
         ensures holds { PlansStay self.old self.new }
     {
@@ -365,11 +350,7 @@ impl<A: Allocator + Copy> Engine<A> {
     pub(crate) fn open(&mut self, name: &[u8]) -> Result<Cutter<A>, AllocError>
         requires few { self.old.files < 2 ^ 32 - 1 }
         requires ready { MayTakeStep self.old (Opens name.now) }
-        ensures ok { TakesStep self.old self.new (Opens name.now) result }
-        ensures cutter { (aim : Aim) → (steps : List Step) → (out : Stream) →
-            IsReady self.old aim steps out (Opens name.now) → IfOk result (λ cutter. IsCutterAfter cutter
-            (unfed (terminator aim.query) self.old.files aim.setup.block aim.setup.line)) }
-        ensures drained { IfOk result (λ cutter. IsDrained cutter) }
+        ensures { OpensFile self.old self.new name.now result }
     {
         self.sequencer.open(name)?;
         let file = self.files;
@@ -422,12 +403,9 @@ impl<A: Allocator + Copy> Engine<A> {
 }
 
 impl<A: Allocator + Copy + Send + Sync> Engine<A> {
-    ghost use Rattle.pg_blocks.specs.Cutter.{IsCutterAfter, IsDrained, unfed};
-    ghost use Rattle.pg_rows.specs.Enough.{is_enough};
-    ghost use Rattle.pg_seq.specs.Plan.{Step, Opens, Announces, Ends, Misses, entries_of, is_open};
-    ghost use Rattle.pg_run.specs.Holding.{HasSomePlan, KeepsPlan, WritesPlan};
-    ghost use Rattle.pg_run.specs.Holding.{Aim, HasPlan, IsReady, AllIsWritten, IsWrittenFirst, BreaksOffInSearch};
-    ghost use Rattle.pg_run.specs.Holding.{format_of};
+    ghost use Rattle.pg_seq.specs.Plan.{Step, is_open};
+    ghost use Rattle.pg_run.specs.Holding.{Aim, HasPlan, HasRoomInRound, HasSomePlan, BreaksOffInSearch};
+    ghost use Rattle.pg_run.specs.Holding.{EmptiesRound, IsFinished, IsWrittenFirst, KeepsPlan};
 
     /// Searches the blocks that wait, by several threads where that pays, and writes all that may be written. Meanwhile
     /// the reader reads on.
@@ -449,9 +427,7 @@ impl<A: Allocator + Copy + Send + Sync> Engine<A> {
         requires holds { HasSomePlan self.old (W.stream out.old) }
         ensures ready { D.ready reader.new from.new }
         ensures read { (r : D) → (f : X) → D.reaches r f reader.old from.old → D.reaches r f reader.new from.new }
-        ensures kept { (self.new.spread ≡ self.old.spread) × (self.new.setup ≡ self.old.setup) }
-        ensures none { OnOk result (self.new.round.items ≡ []) }
-        ensures outcome { WritesPlan self.old self.new (W.stream out.old) (W.stream out.new) result }
+        ensures empties { EmptiesRound self.old self.new (W.stream out.old) (W.stream out.new) result }
     {
         self.reserve = None;
         let bytes = self.waiting();
@@ -492,9 +468,7 @@ impl<A: Allocator + Copy + Send + Sync> Engine<A> {
         out: &mut W,
     ) -> Result<(), RunFault>
         requires holds { HasSomePlan self.old (W.stream out.old) }
-        ensures kept { (self.new.spread ≡ self.old.spread) × (self.new.setup ≡ self.old.setup) }
-        ensures none { OnOk result (self.new.round.items ≡ []) }
-        ensures outcome { WritesPlan self.old self.new (W.stream out.old) (W.stream out.new) result }
+        ensures { EmptiesRound self.old self.new (W.stream out.old) (W.stream out.new) result }
     {
         if self.round.is_empty() {
             return self.drain(out);
@@ -510,7 +484,7 @@ impl<A: Allocator + Copy + Send + Sync> Engine<A> {
         out: &mut W,
     ) -> Result<(), RunFault>
         requires holds { HasSomePlan self.old (W.stream out.old) }
-        ensures room { OnOk result (self.new.spread ≡ true → length self.new.round.items < self.new.setup.round) }
+        ensures room { OnOk result (HasRoomInRound self.new) }
         ensures outcome { KeepsPlan self.old self.new (W.stream out.old) (W.stream out.new) result }
     {
         if !self.is_full() {
@@ -562,8 +536,7 @@ impl<A: Allocator + Copy + Send + Sync> Engine<A> {
         out: &mut W,
     ) -> RunFault
         requires holds { HasSomePlan self.old (W.stream out.old) }
-        ensures { (aim : Aim) → (steps : List Step) →
-            HasPlan self.old aim steps (W.stream out.old) →
+        ensures { (aim : Aim) → (steps : List Step) → HasPlan self.old aim steps (W.stream out.old) →
             IsWrittenFirst aim steps (W.stream out.new) fault result }
     {
         match self.flush(rt, gate, out) {
@@ -581,11 +554,8 @@ impl<A: Allocator + Copy + Send + Sync> Engine<A> {
     ) -> Result<u8, RunFault>
         requires holds { (aim : Aim) × (steps : List Step)
             × HasPlan self.old aim steps (W.stream out.old) × (is_open steps ≡ false) }
-        ensures { (aim : Aim) → (steps : List Step) →
-            HasPlan self.old aim steps (W.stream out.old) →
-            MatchResult result (λ answer. AllIsWritten aim steps (W.stream out.new)
-            × (answer ≡ status aim.query (format_of aim) (entries_of steps))
-            × ((W.stream out.new).failures ≡ aim.out.failures))
+        ensures { (aim : Aim) → (steps : List Step) → HasPlan self.old aim steps (W.stream out.old) →
+            MatchResult result (IsFinished aim steps (W.stream out.new))
             (BreaksOffInSearch aim steps (W.stream out.new)) }
     {
         self.flush(rt, gate, out)?;

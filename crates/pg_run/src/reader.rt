@@ -1,5 +1,5 @@
 //! Reads the open file, and cuts what comes into blocks.
-ghost use Rattle.std.specs.Prelude.{◌≡◌, ◌<◌, List, vec_len, length, IfSome, IfNone, OnOk};
+ghost use Rattle.std.specs.Prelude.{◌≡◌, ◌<◌, vec_len, length, IfSome, IfNone, OnOk};
 ghost use Rattle.pg_blocks.specs.Cutter.{IsCutterAfter, Fed, IsDrained, IsNextBlock, AreAllBlocks};
 ghost use Rattle.pg_blocks.specs.Cutter.{handed};
 ghost use Rattle.pg_blocks.specs.Cutter.{KeepsCutter, room_of, handed_early, HasLinesLeft};
@@ -78,9 +78,7 @@ fn buffer_of<A: Allocator + Copy>(alloc: A, len: usize) -> Vec<u8, A> {
 }
 
 impl<A: Allocator + Copy> FileReader<A> {
-    ghost use Rattle.pg_seq.specs.Plan.{Step};
-    ghost use Rattle.pg_run.specs.Holding.{Aim};
-    ghost use Rattle.pg_run.specs.Reading.{HasCut, HasReadOn};
+    ghost use Rattle.pg_run.specs.Reading.{HasReadOn, MayBeRead};
     ghost use Rattle.pg_run.specs.declared.reader.ReadOutcome.TheVariants.{More};
 
     /// A reader of no file, for blocks of so many bytes.
@@ -136,8 +134,7 @@ impl<A: Allocator + Copy> FileReader<A> {
     /// Reads once, into the buffer, and cuts what came. The file may be read further.
     fn read_copied<F: Files>(&mut self, files: &mut F)
         requires room { 0 < vec_len self.old.buffer }
-        requires more { self.old.came ≡ More }
-        requires cut { (aim : Aim) × (steps : List Step) × HasCut self.old aim (F.past files.old).given steps }
+        requires reading { MayBeRead self.old (F.past files.old).given }
         ensures { HasReadOn F.past F.list self.old files.old self.new files.new }
     {
         let Ok(len) = files.read(self.buffer.as_mut_slice()) else {
@@ -155,8 +152,7 @@ impl<A: Allocator + Copy> FileReader<A> {
 
     /// Reads once, into the cutter's own room, and cuts what came. The file may be read further.
     fn read_in_place<F: Files>(&mut self, files: &mut F)
-        requires more { self.old.came ≡ More }
-        requires cut { (aim : Aim) × (steps : List Step) × HasCut self.old aim (F.past files.old).given steps }
+        requires { MayBeRead self.old (F.past files.old).given }
         ensures { HasReadOn F.past F.list self.old files.old self.new files.new }
     {
         if self.make_room().is_err() {
@@ -178,8 +174,7 @@ impl<A: Allocator + Copy> FileReader<A> {
 
     /// Reads once, and cuts what came. The file may be read further.
     pub(crate) fn read<F: Files>(&mut self, files: &mut F)
-        requires more { self.old.came ≡ More }
-        requires cut { (aim : Aim) × (steps : List Step) × HasCut self.old aim (F.past files.old).given steps }
+        requires { MayBeRead self.old (F.past files.old).given }
         ensures { HasReadOn F.past F.list self.old files.old self.new files.new }
     {
         if self.copied_reads == 0 || self.buffer.is_empty() {
@@ -230,12 +225,9 @@ impl<A: Allocator + Copy> FileReader<A> {
 }
 
 impl<A: Allocator + Copy, F: Files> Reader<F> for FileReader<A> {
-    ghost use Rattle.std.specs.Prelude.{List};
-    ghost use Rattle.pg_seq.specs.Plan.{Step};
-    ghost use Rattle.pg_run.specs.Holding.{Aim};
-    ghost use Rattle.pg_run.specs.Reading.{HasCut, HasReadOn};
+    ghost use Rattle.pg_run.specs.Reading.{HasCutSome, HasReadOn};
 
-    ghost ready = { λ reader files. (aim : Aim) × (steps : List Step) × HasCut reader aim (F.past files).given steps };
+    ghost ready = { λ reader files. HasCutSome reader (F.past files).given };
 
     ghost reaches = { λ reader files reader' files'. HasReadOn F.past F.list reader files reader' files' };
 

@@ -1,15 +1,15 @@
 //! Reads one file, as far as that is needed.
-ghost use Rattle.std.specs.Prelude.{◌≡◌, ◌<◌, ◌++◌, List, true, false, length, drop, IfOk, MatchResult, OnOk};
+ghost use Rattle.std.specs.Prelude.{◌≡◌, ◌++◌, List, IfOk, MatchResult, OnOk};
 ghost use Rattle.pg_blocks.specs.Cutter.{IsDrained};
 ghost use Rattle.pg_rows.specs.Output.{when};
 ghost use Rattle.pg_base.specs.declared.cause.Cause.TheVariants.{ReadFailed};
 ghost use Rattle.pg_files.specs.Given.{Given, newest_name};
 ghost use Rattle.pg_base.specs.Sink.{Stream};
 ghost use Rattle.pg_run.specs.Told.{faults_of, fault_line};
-ghost use Rattle.pg_run.specs.Holding.{Aim};
-ghost use Rattle.pg_run.specs.Reading.{IsInSomeFile, IsReadingSomeFile};
-ghost use Rattle.pg_run.specs.Reading.{IsInsideFile, MayEndFile, IsBetweenFiles, BreaksOffInFile, ending_of};
-ghost use Rattle.pg_run.specs.Reading.{ending_after};
+ghost use Rattle.pg_run.specs.Holding.{Aim, HasRoomInRound};
+ghost use Rattle.pg_run.specs.Reading.{AwaitsLast, AwaitsMore, IsAtLastBlock, IsInSomeFile, IsReadingSomeFile};
+ghost use Rattle.pg_run.specs.Reading.{IsInsideFile, MayEndFile, BreaksOffInFile};
+ghost use Rattle.pg_run.specs.Reading.{EndsFile, OnlyReadsOn, StaysInFile};
 ghost use Rattle.pg_run.specs.declared.reader.ReadOutcome.TheVariants.{More};
 
 use crate::engine::{Engine, is_endless};
@@ -40,14 +40,10 @@ fn make_room<
     out: &mut W,
 ) -> Result<(), RunFault>
     requires in_file { IsInSomeFile reader.old engine.old (F.past files.old).given (W.stream out.old) }
-    ensures done { (F.past files.new).done ≡ (F.past files.old).done }
-    ensures before { drop 1 (F.past files.new).given ≡ drop 1 (F.past files.old).given }
-    ensures same_list { F.list files.new ≡ F.list files.old }
-    ensures room { OnOk result (engine.new.spread ≡ true → length engine.new.round.items < engine.new.setup.round) }
-    ensures outcome { (aim : Aim) →
-        IsInsideFile reader.old engine.old aim (F.past files.old).given (W.stream out.old) →
-        MatchResult result (λ _. IsInsideFile reader.new engine.new aim (F.past files.new).given
-        (W.stream out.new)) (BreaksOffInFile aim (F.past files.new).given (W.stream out.new)) }
+    ensures reads_on { OnlyReadsOn F.past F.list files.old files.new }
+    ensures room { OnOk result (HasRoomInRound engine.new) }
+    ensures outcome { StaysInFile reader.old reader.new engine.old engine.new
+        (F.past files.old).given (F.past files.new).given (W.stream out.old) (W.stream out.new) result }
 {
     if !engine.is_full() {
         return Ok(());
@@ -77,15 +73,10 @@ fn search_ready<
     out: &mut W,
 ) -> Result<(), RunFault>
     requires in_file { IsInSomeFile reader.old engine.old (F.past files.old).given (W.stream out.old) }
-    ensures done { (F.past files.new).done ≡ (F.past files.old).done }
-    ensures before { drop 1 (F.past files.new).given ≡ drop 1 (F.past files.old).given }
-    ensures same_list { F.list files.new ≡ F.list files.old }
-    ensures drained { OnOk result (IsDrained reader.new.cutter) }
-    ensures room { OnOk result (engine.new.spread ≡ true → length engine.new.round.items < engine.new.setup.round) }
-    ensures outcome { (aim : Aim) →
-        IsInsideFile reader.old engine.old aim (F.past files.old).given (W.stream out.old) →
-        MatchResult result (λ _. IsInsideFile reader.new engine.new aim (F.past files.new).given
-        (W.stream out.new)) (BreaksOffInFile aim (F.past files.new).given (W.stream out.new)) }
+    ensures reads_on { OnlyReadsOn F.past F.list files.old files.new }
+    ensures taken { OnOk result (AwaitsLast reader.new engine.new) }
+    ensures outcome { StaysInFile reader.old reader.new engine.old engine.new
+        (F.past files.old).given (F.past files.new).given (W.stream out.old) (W.stream out.new) result }
 {
     for _ in rt.forever() {
         make_room(rt, gate, reader, engine, files, out)?;
@@ -111,14 +102,11 @@ fn search_lines<
     engine: &mut Engine<A>,
     out: &mut W,
 ) -> Result<(), RunFault>
-    requires drained { IsDrained reader.old.cutter }
     requires in_file { IsReadingSomeFile reader.old engine.old (W.stream out.old) }
     ensures came { reader.new.came ≡ reader.old.came }
     ensures drained { IsDrained reader.new.cutter }
-    ensures outcome { (aim : Aim) → (given : List Given) →
-        IsInsideFile reader.old engine.old aim given (W.stream out.old) →
-        MatchResult result (λ _. IsInsideFile reader.new engine.new aim given (W.stream out.new))
-        (BreaksOffInFile aim given (W.stream out.new)) }
+    ensures outcome { (given : List Given) → StaysInFile reader.old reader.new engine.old engine.new
+        given given (W.stream out.old) (W.stream out.new) result }
 {
     engine.make_room(rt, gate, out)?;
     match reader.take_lines() {
@@ -153,13 +141,10 @@ fn settle<
     files: &F,
     out: &mut W,
 ) -> Result<(), RunFault>
-    requires drained { IsDrained reader.old.cutter }
     requires in_file { IsReadingSomeFile reader.old engine.old (W.stream out.old) }
     ensures came { reader.new.came ≡ reader.old.came }
-    ensures outcome { (aim : Aim) → (given : List Given) →
-        IsInsideFile reader.old engine.old aim given (W.stream out.old) →
-        MatchResult result (λ _. IsInsideFile reader.new engine.new aim given (W.stream out.new))
-        (BreaksOffInFile aim given (W.stream out.new)) }
+    ensures outcome { (given : List Given) → StaysInFile reader.old reader.new engine.old engine.new
+        given given (W.stream out.old) (W.stream out.new) result }
 {
     if engine.enough() || !is_due(reader, engine, files) {
         return Ok(());
@@ -198,15 +183,10 @@ fn read_once<
 ) -> Result<(), RunFault>
     requires more { reader.old.came ≡ More }
     requires in_file { IsInSomeFile reader.old engine.old (F.past files.old).given (W.stream out.old) }
-    ensures done { (F.past files.new).done ≡ (F.past files.old).done }
-    ensures before { drop 1 (F.past files.new).given ≡ drop 1 (F.past files.old).given }
-    ensures same_list { F.list files.new ≡ F.list files.old }
-    ensures drained { OnOk result (IsDrained reader.new.cutter) }
-    ensures room { OnOk result (engine.new.spread ≡ true → length engine.new.round.items < engine.new.setup.round) }
-    ensures outcome { (aim : Aim) →
-        IsInsideFile reader.old engine.old aim (F.past files.old).given (W.stream out.old) →
-        MatchResult result (λ _. IsInsideFile reader.new engine.new aim (F.past files.new).given
-        (W.stream out.new)) (BreaksOffInFile aim (F.past files.new).given (W.stream out.new)) }
+    ensures reads_on { OnlyReadsOn F.past F.list files.old files.new }
+    ensures taken { OnOk result (AwaitsLast reader.new engine.new) }
+    ensures outcome { StaysInFile reader.old reader.new engine.old engine.new
+        (F.past files.old).given (F.past files.new).given (W.stream out.old) (W.stream out.new) result }
 {
     recycle(reader, engine);
     reader.read(files);
@@ -223,10 +203,7 @@ fn search_last<R: Clock, A: Allocator + Copy + Send + Sync, W: Sink, G: Gate>(
     failed: bool,
     out: &mut W,
 ) -> Result<(), RunFault>
-    requires ended { ending_after reader.old.came ≡ ending_of failed }
-    requires room { engine.old.spread ≡ true → length engine.old.round.items < engine.old.setup.round }
-    requires in_file { (aim : Aim) × (given : List Given) × IsDrained reader.old.cutter
-        × IsInsideFile reader.old engine.old aim given (W.stream out.old) }
+    requires last { IsAtLastBlock reader.old engine.old failed (W.stream out.old) }
     ensures { (aim : Aim) → (given : List Given) →
         IsInsideFile reader.old engine.old aim given (W.stream out.old) →
         MatchResult result (λ _. MayEndFile engine.new aim failed given (W.stream out.new))
@@ -246,13 +223,11 @@ fn end_file<
     W: Sink,
     G: Gate + Sync,
 >(rt: &R, gate: &G, engine: &mut Engine<A>, failed: bool, out: &mut W) -> Result<bool, RunFault>
-    requires may_end { (aim : Aim) × (given : List Given)
-        × MayEndFile engine.old aim failed given (W.stream out.old) }
+    requires may_end { (aim : Aim) × (given : List Given) × MayEndFile engine.old aim failed given (W.stream out.old) }
     ensures failed { IfOk result (λ answer. answer ≡ failed) }
     ensures outcome { (aim : Aim) → (given : List Given) →
         MayEndFile engine.old aim failed given (W.stream out.old) →
-        MatchResult result (λ _. IsBetweenFiles engine.new aim given (W.stream out.new))
-        (BreaksOffInFile aim given (W.stream out.new)) }
+        EndsFile engine.new aim given (W.stream out.new) result }
 {
     engine.end(failed);
     engine.flush_ended(rt, gate, out)?;
@@ -275,15 +250,11 @@ fn finish_file<
     failed: bool,
     out: &mut W,
 ) -> Result<bool, RunFault>
-    requires ended { ending_after reader.old.came ≡ ending_of failed }
-    requires room { engine.old.spread ≡ true → length engine.old.round.items < engine.old.setup.round }
-    requires in_file { (aim : Aim) × (given : List Given) × IsDrained reader.old.cutter
-        × IsInsideFile reader.old engine.old aim given (W.stream out.old) }
+    requires last { IsAtLastBlock reader.old engine.old failed (W.stream out.old) }
     ensures failed { IfOk result (λ answer. answer ≡ failed) }
     ensures outcome { (aim : Aim) → (given : List Given) →
         IsInsideFile reader.old engine.old aim given (W.stream out.old) →
-        MatchResult result (λ _. IsBetweenFiles engine.new aim given (W.stream out.new))
-        (BreaksOffInFile aim given (W.stream out.new)) }
+        EndsFile engine.new aim given (W.stream out.new) result }
 {
     search_last(rt, gate, reader, engine, failed, out)?;
     end_file(rt, gate, engine, failed, out)
@@ -305,18 +276,14 @@ pub(crate) fn read_file<
     files: &mut F,
     out: &mut W,
 ) -> Result<bool, RunFault>
-    requires more { reader.old.came ≡ More }
-    requires drained { IsDrained reader.old.cutter }
+    requires awaits { AwaitsMore reader.old }
     requires in_file { IsInSomeFile reader.old engine.old (F.past files.old).given (W.stream out.old) }
-    ensures done { (F.past files.new).done ≡ (F.past files.old).done }
-    ensures before { drop 1 (F.past files.new).given ≡ drop 1 (F.past files.old).given }
-    ensures same_list { F.list files.new ≡ F.list files.old }
+    ensures reads_on { OnlyReadsOn F.past F.list files.old files.new }
     ensures told { IfOk result (λ failed. faults_of (F.past files.new).given ≡ faults_of (F.past files.old).given
         ++ when failed (fault_line (newest_name (F.past files.new).given) ReadFailed)) }
     ensures outcome { (aim : Aim) →
         IsInsideFile reader.old engine.old aim (F.past files.old).given (W.stream out.old) →
-        MatchResult result (λ _. IsBetweenFiles engine.new aim (F.past files.new).given (W.stream out.new))
-        (BreaksOffInFile aim (F.past files.new).given (W.stream out.new)) }
+        EndsFile engine.new aim (F.past files.new).given (W.stream out.new) result }
 {
     for _ in rt.forever() {
         settle(rt, gate, reader, engine, files, out)?;

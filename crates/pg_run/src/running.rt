@@ -1,19 +1,18 @@
 //! The run over all files.
-ghost use Rattle.std.specs.Prelude.{◌≡◌, ◌-◌, ◌^◌, ◌<◌, ◌∷◌, ◌++◌, ℕ, List, [], not, true, false, drop};
+ghost use Rattle.std.specs.Prelude.{◌≡◌, ◌-◌, ◌^◌, ◌<◌, ◌∷◌, ◌++◌, List, [], not, false};
 ghost use Rattle.std.specs.Prelude.{IfOk, MatchResult, OnOk, IfErr, OnErr};
 ghost use Rattle.std.specs.List.{flat_map};
-ghost use Rattle.pg_lines.specs.Search.{Search, Pattern, AreTreesOf, HasItsTrees};
-ghost use Rattle.pg_blocks.specs.Cutter.{IsDrained};
+ghost use Rattle.pg_lines.specs.Search.{Search, Pattern, AreTreesOf};
 ghost use Rattle.pg_base.specs.Entries.{Left};
 ghost use Rattle.pg_rows.specs.Output.{when};
 ghost use Rattle.pg_base.specs.Sink.{Stream, WritesText};
-ghost use Rattle.pg_files.specs.Given.{AllGiven, Given, NoFile, File, nothing_given};
+ghost use Rattle.pg_files.specs.Given.{Given, NoFile, File, nothing_given};
 ghost use Rattle.pg_run.specs.Told.{fault_line};
 ghost use Rattle.pg_run.specs.Outcome.{IsSearchFor, RunFinishes, BreaksOff, HasCause};
-ghost use Rattle.pg_run.specs.Holding.{Aim, HasPlan};
-ghost use Rattle.pg_run.specs.Reading.{IsInsideFile, IsBetweenFiles, HasToldAll, BreaksOffTold, BreaksOffBehind};
-ghost use Rattle.pg_run.specs.Reading.{GivesNext, GaveOneAtMost, IsDone};
-ghost use Rattle.pg_run.specs.declared.reader.ReadOutcome.TheVariants.{More};
+ghost use Rattle.pg_run.specs.Holding.{Aim, IsNewEngine};
+ghost use Rattle.pg_run.specs.Reading.{AwaitsMore, IsInsideFile, IsBetweenFiles, HasToldAll, HasToldSome};
+ghost use Rattle.pg_run.specs.Reading.{GaveFile, GaveOneAtMost, GivesNext, IsDone, OnlyReadsOn, TellsOn};
+ghost use Rattle.pg_run.specs.Reading.{BreaksOffBehind};
 ghost use Rattle.pg_run.specs.declared.fault.RunFault.TheVariants.{Sink as SinkFailed};
 
 use crate::engine::Engine;
@@ -40,8 +39,7 @@ fn begin<A: Allocator + Copy + Send + Sync>(
     text: QueryText<A>,
     setup: Setup,
 ) -> Result<Engine<A>, RunFault>
-    ensures holds { IfOk result (λ engine. (aim : Aim) → HasItsTrees aim.query → aim.query.text ≡ text →
-        aim.setup ≡ setup → HasPlan engine aim [] aim.out) }
+    ensures holds { IfOk result (IsNewEngine text setup) }
     ensures trees { OnOk result ((trees : List Pattern) × AreTreesOf text trees) }
     ensures err { IfErr result (λ fault. (out : Stream) → (told : Stream) →
         HasCause fault text setup nothing_given out out told told) }
@@ -100,13 +98,9 @@ fn miss<A: Allocator + Copy + Send + Sync, W: Sink, E: Sink>(
     out: &mut W,
     faults: &mut E,
 ) -> Result<(), RunFault>
-    requires { (aim : Aim) × (given : List Given)
-        × HasToldAll engine.old aim given (W.stream out.old) (E.stream faults.old) }
-    ensures { (aim : Aim) → (given : List Given) →
-        HasToldAll engine.old aim given (W.stream out.old) (E.stream faults.old) →
-        MatchResult result (λ _. HasToldAll engine.new aim (NoFile name.now cause ∷ given) (W.stream out.new)
-        (E.stream faults.new))
-        (BreaksOffTold aim (NoFile name.now cause ∷ given) (W.stream out.new) (E.stream faults.new)) }
+    requires { (given : List Given) × HasToldSome engine.old given (W.stream out.old) (E.stream faults.old) }
+    ensures { (given : List Given) → TellsOn engine.old engine.new given (NoFile name.now cause ∷ given)
+        (W.stream out.old) (W.stream out.new) (E.stream faults.old) (E.stream faults.new) result }
 {
     engine.send_on(!engine.setup.silent, out)?;
     tell_fault(engine.alloc, engine.setup.silent, name, cause, faults)?;
@@ -122,8 +116,7 @@ fn open_file<A: Allocator + Copy>(
 ) -> Result<(), AllocError>
     requires few { engine.old.files < 2 ^ 32 - 1 }
     requires between { (aim : Aim) × (given : List Given) × (out : Stream) × IsBetweenFiles engine.old aim given out }
-    ensures more { OnOk result (reader.new.came ≡ More) }
-    ensures drained { OnOk result (IsDrained reader.new.cutter) }
+    ensures awaits { OnOk result (AwaitsMore reader.new) }
     ensures ok { (aim : Aim) → (given : List Given) → (out : Stream) → IsBetweenFiles engine.old aim given out →
         OnOk result (IsInsideFile reader.new engine.new aim (File name.now [] Left ∷ given) out) }
 {
@@ -149,18 +142,12 @@ fn one_file<
     out: &mut W,
     faults: &mut E,
 ) -> Result<(), RunFault>
-    requires rests { (aim : Aim) × (given : List Given) × (name : List ℕ)
-        × ((F.past files.old).given ≡ File name [] Left ∷ given)
-        × HasToldAll engine.old aim given (W.stream out.old) (E.stream faults.old) }
-    ensures done { (F.past files.new).done ≡ (F.past files.old).done }
-    ensures before { drop 1 (F.past files.new).given ≡ drop 1 (F.past files.old).given }
-    ensures same_list { F.list files.new ≡ F.list files.old }
-    ensures outcome { (aim : Aim) → (given : List Given) → (name : List ℕ) →
-        (F.past files.old).given ≡ File name [] Left ∷ given →
-        HasToldAll engine.old aim given (W.stream out.old) (E.stream faults.old) →
-        MatchResult result (λ _. HasToldAll engine.new aim (F.past files.new).given (W.stream out.new)
-        (E.stream faults.new))
-        (BreaksOffTold aim (F.past files.new).given (W.stream out.new) (E.stream faults.new)) }
+    requires rests { (given : List Given) × GaveFile given (F.past files.old).given
+        × HasToldSome engine.old given (W.stream out.old) (E.stream faults.old) }
+    ensures reads_on { OnlyReadsOn F.past F.list files.old files.new }
+    ensures outcome { (given : List Given) → GaveFile given (F.past files.old).given →
+        TellsOn engine.old engine.new given (F.past files.new).given
+        (W.stream out.old) (W.stream out.new) (E.stream faults.old) (E.stream faults.new) result }
 {
     if engine.files >= MOST_FILES {
         return Err(engine.break_off(rt, gate, RunFault::TooManyFiles, out));
@@ -198,18 +185,12 @@ fn take_next<
     faults: &mut E,
 ) -> Result<bool, RunFault>
     requires done { (F.past files.old).done ≡ false }
-    requires rests { (aim : Aim) × HasToldAll engine.old aim (F.past files.old).given
-        (W.stream out.old) (E.stream faults.old) }
-    ensures goes { IfOk result (λ more. GivesNext more (F.past files.old) (F.past files.new)) }
-    ensures all { IfOk result (λ more. more ≡ false
-        → AllGiven (F.finds (F.list files.new)) (F.past files.new).given) }
+    requires rests { HasToldSome engine.old (F.past files.old).given (W.stream out.old) (E.stream faults.old) }
+    ensures goes { IfOk result (GivesNext (F.finds (F.list files.new)) (F.past files.old) (F.past files.new)) }
     ensures went { OnErr result (GaveOneAtMost (F.past files.old).given (F.past files.new).given) }
     ensures same_list { F.list files.new ≡ F.list files.old }
-    ensures outcome { (aim : Aim) →
-        HasToldAll engine.old aim (F.past files.old).given (W.stream out.old) (E.stream faults.old) →
-        MatchResult result (λ _. HasToldAll engine.new aim (F.past files.new).given (W.stream out.new)
-        (E.stream faults.new))
-        (BreaksOffTold aim (F.past files.new).given (W.stream out.new) (E.stream faults.new)) }
+    ensures outcome { TellsOn engine.old engine.new (F.past files.old).given (F.past files.new).given
+        (W.stream out.old) (W.stream out.new) (E.stream faults.old) (E.stream faults.new) result }
 {
     match files.next()? {
         Step::Done => Ok(false),
@@ -242,7 +223,7 @@ fn all_files<
     faults: &mut E,
 ) -> Result<(), RunFault>
     requires new { F.past files.old ≡ nothing_given }
-    requires rests { (aim : Aim) × HasToldAll engine.old aim [] (W.stream out.old) (E.stream faults.old) }
+    requires rests { HasToldSome engine.old [] (W.stream out.old) (E.stream faults.old) }
     ensures same_list { F.list files.new ≡ F.list files.old }
     ensures outcome { (aim : Aim) → HasToldAll engine.old aim [] (W.stream out.old) (E.stream faults.old) →
         MatchResult result (λ _. IsDone engine.new aim (F.finds (F.list files.new)) (F.past files.new)
@@ -277,7 +258,7 @@ fn search_files<
     faults: &mut E,
 ) -> Result<u8, RunFault>
     requires new { F.past files.old ≡ nothing_given }
-    requires rests { (aim : Aim) × HasToldAll engine.old aim [] (W.stream out.old) (E.stream faults.old) }
+    requires rests { HasToldSome engine.old [] (W.stream out.old) (E.stream faults.old) }
     ensures same_list { F.list files.new ≡ F.list files.old }
     ensures outcome { (aim : Aim) → HasToldAll engine.old aim [] (W.stream out.old) (E.stream faults.old) →
         MatchResult result (RunFinishes aim.query aim.setup (F.finds (F.list files.new)) (F.past files.new)

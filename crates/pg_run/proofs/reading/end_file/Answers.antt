@@ -8,16 +8,15 @@ use Rattle.pg_run.proofs.reading.end_file.Goals as goal
 
 pub end-requires : goal.end-requires
 end-requires g c =
-    let k = c.requires.may_end.2 in
-    (c.requires.may_end.0, k.steps, _, (k.holds, (k.running, tt)))
+    let r = c.requires.may_end in
+    let k = r.2 in
+    (r.0, k.steps, _, (k.holds, (k.running, tt)))
 
 pub flush_ended-requires-clause-holds : goal.flush_ended-requires-clause-holds
 flush_ended-requires-clause-holds g c κs within =
-    let k = c.requires.may_end.2 in (
-      c.requires.may_end.0,
-      Ends c.args.failed ∷ k.steps,
-      c.end.ensures c.requires.may_end.0 k.steps _ (k.holds, (k.running, tt)),
-    )
+    let r = c.requires.may_end in
+    let k = r.2 in
+    (r.0, Ends c.args.failed ∷ k.steps, c.end.ensures r.0 k.steps _ (k.holds, (k.running, tt)))
 
 pub returns-in_err-flush_ended-clause-failed : goal.returns-in_err-flush_ended-clause-failed
 returns-in_err-flush_ended-clause-failed g c = IfOk-from_err c.from_residual.result _ c.from_residual.ensures.0

@@ -3,14 +3,8 @@ use Rattle.pg_run.specs.Reading.{BreaksOffInFile}
 use Rattle.pg_run.proofs.HoldLemmas.{fails_by}
 use Rattle.pg_run.proofs.reading.finish_file.Goals as goal
 
-pub search_last-requires-clause-ended : goal.search_last-requires-clause-ended
-search_last-requires-clause-ended g c κs within = c.requires.ended
-
-pub search_last-requires-clause-room : goal.search_last-requires-clause-room
-search_last-requires-clause-room g c κs within = c.requires.room
-
-pub search_last-requires-clause-in_file : goal.search_last-requires-clause-in_file
-search_last-requires-clause-in_file g c κs within = c.requires.in_file
+pub search_last-requires-clause-last : goal.search_last-requires-clause-last
+search_last-requires-clause-last g c κs within = c.requires.last
 
 pub returns-in_err-search_last-clause-failed : goal.returns-in_err-search_last-clause-failed
 returns-in_err-search_last-clause-failed g c = IfOk-from_err c.from_residual.result _ c.from_residual.ensures.0
@@ -24,7 +18,7 @@ returns-in_err-search_last-clause-outcome g c = λ aim given h.
 
 pub end_file-requires-clause-may_end : goal.end_file-requires-clause-may_end
 end_file-requires-clause-may_end g c κs within =
-    let r = c.requires.in_file in
+    let r = c.requires.last.in_file in
     (r.0, r.1, c.in_ok-search_last.ensures r.0 r.1 r.3)
 
 pub returns-clause-failed : goal.returns-clause-failed

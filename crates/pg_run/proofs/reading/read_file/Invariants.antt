@@ -1,8 +1,5 @@
-use Rattle.std.proofs.Common.{◌≡◌, drop}
-use Rattle.pg_blocks.specs.Cutter.{IsDrained}
 use Rattle.pg_run.specs.Holding.{Aim}
-use Rattle.pg_run.specs.Reading.{IsInsideFile}
-use Rattle.pg_run.specs.declared.reader.ReadOutcome.TheVariants.{More}
+use Rattle.pg_run.specs.Reading.{AwaitsMore, IsInsideFile, OnlyReadsOn}
 use Rattle.pg_run.proofs.reading.read_file.Given as goal
 
 abbrev pub invariant-loop : goal.invariant-loop
@@ -14,11 +11,8 @@ invariant-loop g l =
     record {
       can_next : (goal.iterator-loop g).can_next l.iterator';
       is_finite : (goal.iterator-loop g).is_finite l.iterator';
-      more : l.reader.came ≡ More;
-      drained : IsDrained l.reader.cutter;
-      done : past.done ≡ past'.done;
-      before : drop 1 past.given ≡ drop 1 past'.given;
-      same_list : g.F.Files.list l.files ≡ g.F.Files.list l.initial.files;
+      awaits : AwaitsMore l.reader;
+      reads_on : OnlyReadsOn g.F.Files.past g.F.Files.list l.initial.files l.files;
       reads : (aim : Aim) → IsInsideFile l.initial.reader l.initial.engine aim past'.given start
           → IsInsideFile l.reader l.engine aim past.given now;
     }

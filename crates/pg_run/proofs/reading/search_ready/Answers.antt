@@ -1,8 +1,7 @@
-use Rattle.std.proofs.Common.{◌∙◌}
 use Rattle.pg_run.specs.Reading.{BreaksOffInFile}
 use Rattle.pg_run.proofs.HoldLemmas.{ok_of_err, fails_by}
 use Rattle.pg_run.proofs.BlockLemmas.{gives_next}
-use Rattle.pg_run.proofs.ReadingLemmas.{next_may, next_breaks, next_taken, none_taken}
+use Rattle.pg_run.proofs.ReadingLemmas.{next_may, next_breaks, next_taken, none_taken, then_reads}
 use Rattle.pg_run.proofs.reading.search_ready.Goals as goal
 
 pub make_room-requires-clause-in_file : goal.make_room-requires-clause-in_file
@@ -23,7 +22,7 @@ search-requires-clause-ready g c =
     let h = c.in_ok-make_room.ensures.outcome r.0 (c.loop.invariant.reads r.0 r.1) in
     let block = c.in-Some-take.block in
     let n = gives_next h.cuts.fed block (c.in-Some-take.ensures.next h.cuts.fed h.cuts.cut) in
-    (r.0, h.steps, (h.holds, next_may h.cuts block n))
+    (r.0, h.steps, _, (h.holds, next_may h.cuts block n))
 
 pub returns-in_err-search-clause-outcome : goal.returns-in_err-search-clause-outcome
 returns-in_err-search-clause-outcome g c = λ aim start.
@@ -35,7 +34,7 @@ returns-in_err-search-clause-outcome g c = λ aim start.
     out') fault
     c.from_residual-in_err-search.ensures.1
     (next_breaks h c.in-Some-take.block out' fault n
-    (c.in_err-search.ensures.outcome aim h.steps (h.holds, next_may h.cuts c.in-Some-take.block n)))
+    (c.in_err-search.ensures aim h.steps (h.holds, next_may h.cuts c.in-Some-take.block n)))
 
 pub returns-in_default-clause-outcome : goal.returns-in_default-clause-outcome
 returns-in_default-clause-outcome g c = λ aim start.
@@ -50,86 +49,46 @@ loop-preserved g c =
     record {
       can_next = tt;
       is_finite = tt;
-      done = ok.done ∙ i.done;
-      before = ok.before ∙ i.before;
-      same_list = ok.same_list ∙ i.same_list;
+      reads_on = then_reads i.reads_on ok.reads_on;
       reads = λ aim start.
           let h = ok.outcome aim (i.reads aim start) in
           let e = c.in-Some-take.ensures in
           let n = gives_next h.cuts.fed c.in-Some-take.block (e.next h.cuts.fed h.cuts.cut) in
-          let k = c.in_ok-search.ensures.outcome aim h.steps (h.holds, next_may h.cuts c.in-Some-take.block n) in
+          let k = c.in_ok-search.ensures aim h.steps (h.holds, next_may h.cuts c.in-Some-take.block n) in
           record {
             steps = _;
-            holds = c.in_ok-send_on.ensures aim _ k;
+            holds = c.in_ok-send_on.ensures aim _ k.0;
             cuts = next_taken h.cuts _ c.in-Some-take.block h.cuts.fed.early e.came n (e.stands h.cuts.fed h.cuts.cut);
           };
     }
 
-pub returns-in_err-make_room-clause-done : goal.returns-in_err-make_room-clause-done
-returns-in_err-make_room-clause-done g c = c.in_err-make_room.ensures.done ∙ c.loop.invariant.done
+pub returns-in_err-make_room-clause-reads_on : goal.returns-in_err-make_room-clause-reads_on
+returns-in_err-make_room-clause-reads_on g c = then_reads c.loop.invariant.reads_on c.in_err-make_room.ensures.reads_on
 
-pub returns-in_err-make_room-clause-before : goal.returns-in_err-make_room-clause-before
-returns-in_err-make_room-clause-before g c = c.in_err-make_room.ensures.before ∙ c.loop.invariant.before
-
-pub returns-in_err-make_room-clause-same_list : goal.returns-in_err-make_room-clause-same_list
-returns-in_err-make_room-clause-same_list g c = c.in_err-make_room.ensures.same_list ∙ c.loop.invariant.same_list
-
-pub returns-in_err-make_room-clause-drained : goal.returns-in_err-make_room-clause-drained
-returns-in_err-make_room-clause-drained g c = ok_of_err c.from_residual.result _ c.from_residual.ensures.0
-
-pub returns-in_err-make_room-clause-room : goal.returns-in_err-make_room-clause-room
-returns-in_err-make_room-clause-room g c = ok_of_err c.from_residual.result _ c.from_residual.ensures.0
+pub returns-in_err-make_room-clause-taken : goal.returns-in_err-make_room-clause-taken
+returns-in_err-make_room-clause-taken g c = ok_of_err c.from_residual.result _ c.from_residual.ensures.0
 
 pub search-requires-clause-room : goal.search-requires-clause-room
 search-requires-clause-room g c = c.in_ok-make_room.ensures.room
 
-pub returns-in_err-search-clause-done : goal.returns-in_err-search-clause-done
-returns-in_err-search-clause-done g c = c.in_ok-make_room.ensures.done ∙ c.loop.invariant.done
+pub returns-in_err-search-clause-reads_on : goal.returns-in_err-search-clause-reads_on
+returns-in_err-search-clause-reads_on g c = then_reads c.loop.invariant.reads_on c.in_ok-make_room.ensures.reads_on
 
-pub returns-in_err-search-clause-before : goal.returns-in_err-search-clause-before
-returns-in_err-search-clause-before g c = c.in_ok-make_room.ensures.before ∙ c.loop.invariant.before
-
-pub returns-in_err-search-clause-same_list : goal.returns-in_err-search-clause-same_list
-returns-in_err-search-clause-same_list g c = c.in_ok-make_room.ensures.same_list ∙ c.loop.invariant.same_list
-
-pub returns-in_err-search-clause-drained : goal.returns-in_err-search-clause-drained
-returns-in_err-search-clause-drained g c =
+pub returns-in_err-search-clause-taken : goal.returns-in_err-search-clause-taken
+returns-in_err-search-clause-taken g c =
     ok_of_err c.from_residual-in_err-search.result _ c.from_residual-in_err-search.ensures.0
 
-pub returns-in_err-search-clause-room : goal.returns-in_err-search-clause-room
-returns-in_err-search-clause-room g c =
-    ok_of_err c.from_residual-in_err-search.result _ c.from_residual-in_err-search.ensures.0
+pub returns-in_default-clause-reads_on : goal.returns-in_default-clause-reads_on
+returns-in_default-clause-reads_on g c = then_reads c.loop.invariant.reads_on c.in_ok-make_room.ensures.reads_on
 
-pub returns-in_default-clause-done : goal.returns-in_default-clause-done
-returns-in_default-clause-done g c = c.in_ok-make_room.ensures.done ∙ c.loop.invariant.done
+pub returns-in_default-clause-taken : goal.returns-in_default-clause-taken
+returns-in_default-clause-taken g c = (c.in_default.ensures.none, c.in_ok-make_room.ensures.room)
 
-pub returns-in_default-clause-before : goal.returns-in_default-clause-before
-returns-in_default-clause-before g c = c.in_ok-make_room.ensures.before ∙ c.loop.invariant.before
+pub returns-in_err-send_on-clause-reads_on : goal.returns-in_err-send_on-clause-reads_on
+returns-in_err-send_on-clause-reads_on g c = then_reads c.loop.invariant.reads_on c.in_ok-make_room.ensures.reads_on
 
-pub returns-in_default-clause-same_list : goal.returns-in_default-clause-same_list
-returns-in_default-clause-same_list g c = c.in_ok-make_room.ensures.same_list ∙ c.loop.invariant.same_list
-
-pub returns-in_default-clause-drained : goal.returns-in_default-clause-drained
-returns-in_default-clause-drained g c = c.in_default.ensures.none
-
-pub returns-in_default-clause-room : goal.returns-in_default-clause-room
-returns-in_default-clause-room g c = c.in_ok-make_room.ensures.room
-
-pub returns-in_err-send_on-clause-done : goal.returns-in_err-send_on-clause-done
-returns-in_err-send_on-clause-done g c = c.in_ok-make_room.ensures.done ∙ c.loop.invariant.done
-
-pub returns-in_err-send_on-clause-before : goal.returns-in_err-send_on-clause-before
-returns-in_err-send_on-clause-before g c = c.in_ok-make_room.ensures.before ∙ c.loop.invariant.before
-
-pub returns-in_err-send_on-clause-same_list : goal.returns-in_err-send_on-clause-same_list
-returns-in_err-send_on-clause-same_list g c = c.in_ok-make_room.ensures.same_list ∙ c.loop.invariant.same_list
-
-pub returns-in_err-send_on-clause-drained : goal.returns-in_err-send_on-clause-drained
-returns-in_err-send_on-clause-drained g c =
-    ok_of_err c.from_residual-in_err-send_on.result _ c.from_residual-in_err-send_on.ensures.0
-
-pub returns-in_err-send_on-clause-room : goal.returns-in_err-send_on-clause-room
-returns-in_err-send_on-clause-room g c =
+pub returns-in_err-send_on-clause-taken : goal.returns-in_err-send_on-clause-taken
+returns-in_err-send_on-clause-taken g c =
     ok_of_err c.from_residual-in_err-send_on.result _ c.from_residual-in_err-send_on.ensures.0
 
 pub returns-in_err-send_on-clause-outcome : goal.returns-in_err-send_on-clause-outcome
@@ -144,4 +103,4 @@ returns-in_err-send_on-clause-outcome g c = λ aim start.
     fault c.from_residual-in_err-send_on.ensures.1
     (next_breaks h block out' fault n
     (c.in_err-send_on.ensures aim _
-    (c.in_ok-search.ensures.outcome aim h.steps (h.holds, next_may h.cuts block n))))
+    (c.in_ok-search.ensures aim h.steps (h.holds, next_may h.cuts block n)).0))

@@ -3,9 +3,6 @@ use Rattle.pg_run.proofs.HoldLemmas.{fails_by}
 use Rattle.pg_run.proofs.ReadingLemmas.{flushed, rest_breaks}
 use Rattle.pg_run.proofs.reading.settle.Goals as goal
 
-pub search_lines-requires-clause-drained : goal.search_lines-requires-clause-drained
-search_lines-requires-clause-drained g c κs within = c.requires.drained
-
 pub search_lines-requires-clause-in_file : goal.search_lines-requires-clause-in_file
 search_lines-requires-clause-in_file g c κs within = c.requires.in_file
 
@@ -13,25 +10,25 @@ pub returns-in_err-search_lines-clause-came : goal.returns-in_err-search_lines-c
 returns-in_err-search_lines-clause-came g c = c.in_err-search_lines.ensures.came
 
 pub returns-in_err-search_lines-clause-outcome : goal.returns-in_err-search_lines-clause-outcome
-returns-in_err-search_lines-clause-outcome g c = λ aim given h.
+returns-in_err-search_lines-clause-outcome g c = λ given aim h.
     let out' = g.W.Sink.stream c.search_lines.new.out in
     fails_by c.from_residual.result _ (BreaksOffInFile aim given out') c.in_err-search_lines.field-0.0
     c.from_residual.ensures.1
-    (c.in_err-search_lines.ensures.outcome aim given h)
+    (c.in_err-search_lines.ensures.outcome given aim h)
 
 pub flush_waiting-requires-clause-holds : goal.flush_waiting-requires-clause-holds
 flush_waiting-requires-clause-holds g c κs within =
     let r = c.requires.in_file in
-    let k = c.in_ok-search_lines.ensures.outcome r.0 r.1 r.2 in
+    let k = c.in_ok-search_lines.ensures.outcome r.1 r.0 r.3 in
     (r.0, k.steps, k.holds)
 
 pub returns-in_err-flush_waiting-clause-came : goal.returns-in_err-flush_waiting-clause-came
 returns-in_err-flush_waiting-clause-came g c = c.in_ok-search_lines.ensures.came
 
 pub returns-in_err-flush_waiting-clause-outcome : goal.returns-in_err-flush_waiting-clause-outcome
-returns-in_err-flush_waiting-clause-outcome g c = λ aim given h.
+returns-in_err-flush_waiting-clause-outcome g c = λ given aim h.
     let out' = g.W.Sink.stream c.flush_waiting.new.out in
-    let k = c.in_ok-search_lines.ensures.outcome aim given h in
+    let k = c.in_ok-search_lines.ensures.outcome given aim h in
     let fault = c.in_err-flush_waiting.field-0.0 in
     fails_by c.from_residual-in_err-flush_waiting.result _ (BreaksOffInFile aim given out') fault
     c.from_residual-in_err-flush_waiting.ensures.1
@@ -41,9 +38,9 @@ pub returns-in_err-send_on-clause-came : goal.returns-in_err-send_on-clause-came
 returns-in_err-send_on-clause-came g c = c.in_ok-search_lines.ensures.came
 
 pub returns-in_err-send_on-clause-outcome : goal.returns-in_err-send_on-clause-outcome
-returns-in_err-send_on-clause-outcome g c = λ aim given h.
+returns-in_err-send_on-clause-outcome g c = λ given aim h.
     let out' = g.W.Sink.stream c.send_on.new.out in
-    let k = c.in_ok-search_lines.ensures.outcome aim given h in
+    let k = c.in_ok-search_lines.ensures.outcome given aim h in
     let holds = c.in_ok-flush_waiting.ensures aim k.steps k.holds in
     let fault = c.in_err-send_on.field-0.0 in
     fails_by c.from_residual-in_err-send_on.result _ (BreaksOffInFile aim given out') fault
@@ -54,7 +51,7 @@ pub returns-clause-came : goal.returns-clause-came
 returns-clause-came g c = c.in_ok-search_lines.ensures.came
 
 pub returns-clause-outcome : goal.returns-clause-outcome
-returns-clause-outcome g c = λ aim given h.
-    let k = c.in_ok-search_lines.ensures.outcome aim given h in
+returns-clause-outcome g c = λ given aim h.
+    let k = c.in_ok-search_lines.ensures.outcome given aim h in
     flushed k _ _
     (c.in_ok-send_on.ensures aim k.steps (c.in_ok-flush_waiting.ensures aim k.steps k.holds))

@@ -41,13 +41,14 @@ returns-in_err-take_next-clause-outcome g c = λ aim start.
 pub returns-then-not-branch-clause-outcome : goal.returns-then-not-branch-clause-outcome
 returns-then-not-branch-clause-outcome g c = λ aim start.
     let r = c.loop.invariant.rests aim start in
-    let G : Bool → Type 0 = λ more. GivesNext more (g.F.Files.past c.loop.files) (g.F.Files.past c.take_next.new.files)
-    in
+    let past' = g.F.Files.past c.take_next.new.files in
+    let G : Bool → Type 0 =
+    GivesNext (g.F.Files.finds (g.F.Files.list c.take_next.new.files)) (g.F.Files.past c.loop.files) past' in
     let goes = subst G c.if-not-branch.true c.in_ok-take_next.ensures.goes in
     let Q : List Given → Type 0 = λ gs. EndsAtSelected aim.query (entries_given gs) in
     record {
       rests = c.in_ok-take_next.ensures.outcome aim r.0;
-      asked = inl (goes.1, c.in_ok-take_next.ensures.all c.if-not-branch.true);
+      asked = inl (goes.1, goes.2);
       quiet = λ m. subst Q (sym goes.0) (r.1 m);
     }
 
@@ -57,8 +58,9 @@ loop-preserved g c =
     let ok = c.in_ok-take_next.ensures in
     let given = (g.F.Files.past c.loop.files).given in
     let given' = (g.F.Files.past c.take_next.new.files).given in
-    let G : Bool → Type 0 = λ more. GivesNext more (g.F.Files.past c.loop.files) (g.F.Files.past c.take_next.new.files)
-    in
+    let past' = g.F.Files.past c.take_next.new.files in
+    let G : Bool → Type 0 =
+    GivesNext (g.F.Files.finds (g.F.Files.list c.take_next.new.files)) (g.F.Files.past c.loop.files) past' in
     let goes = subst G c.if-not-branch.false ok.goes in
     record {
       can_next = tt;

@@ -9,7 +9,7 @@ use Rattle.pg_run.proofs.RunLemmas.{taken_part, unmissed_safe, unsent_breaks, na
 use Rattle.pg_run.proofs.running.miss.Goals as goal
 
 pub returns-in_err-send_on : goal.returns-in_err-send_on
-returns-in_err-send_on g c = λ aim given rests.
+returns-in_err-send_on g c = λ given aim rests.
     let told = g.E.Sink.stream c.args.faults.now in
     let out' = g.W.Sink.stream c.send_on.new.out in
     let more = NoFile c.args.name.now c.args.cause ∷ given in
@@ -20,7 +20,7 @@ returns-in_err-send_on g c = λ aim given rests.
     rests.1 refl)
 
 pub returns-in_err-tell_fault : goal.returns-in_err-tell_fault
-returns-in_err-tell_fault g c = λ aim given rests.
+returns-in_err-tell_fault g c = λ given aim rests.
     let told = g.E.Sink.stream c.args.faults.now in
     let told' = g.E.Sink.stream c.tell_fault.new.faults in
     let out' = g.W.Sink.stream c.send_on.new.out in
@@ -37,12 +37,12 @@ returns-in_err-tell_fault g c = λ aim given rests.
 
 pub miss-requires : goal.miss-requires
 miss-requires g c =
-    let aim = c.requires.0 in
-    let b = c.requires.2.0 in
+    let aim = c.requires.1.0 in
+    let b = c.requires.1.1.0 in
     (aim, b.steps, _, (c.in_ok-send_on.ensures aim b.steps b.holds, (b.closed, tt)))
 
 pub returns-in_err-miss : goal.returns-in_err-miss
-returns-in_err-miss g c = λ aim given rests.
+returns-in_err-miss g c = λ given aim rests.
     let told = g.E.Sink.stream c.args.faults.now in
     let told' = g.E.Sink.stream c.tell_fault.new.faults in
     let out' = g.W.Sink.stream c.send_on.new.out in
@@ -57,7 +57,7 @@ returns-in_err-miss g c = λ aim given rests.
     (ap (λ s. s.silent) b.holds.set) rests.1 refl ok.writes.ok))
 
 pub returns : goal.returns
-returns g c = λ aim given rests.
+returns g c = λ given aim rests.
     let told = g.E.Sink.stream c.args.faults.now in
     let told' = g.E.Sink.stream c.tell_fault.new.faults in
     let out' = g.W.Sink.stream c.send_on.new.out in

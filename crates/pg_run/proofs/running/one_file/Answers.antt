@@ -6,12 +6,15 @@ use Rattle.pg_run.specs.Told.{fault_line, faults_of}
 use Rattle.pg_run.specs.Reading.{BreaksOffTold}
 use Rattle.pg_run.specs.declared.fault.RunFault.TheVariants.{OutOfMemory}
 use Rattle.pg_run.proofs.HoldLemmas.{fails_by}
+use Rattle.pg_run.proofs.ReadingLemmas.{reads_none}
 use Rattle.pg_run.proofs.RunLemmas.{told_by, told_same, told_failed, told_unfailed, stops_telling, stops_memory}
 use Rattle.pg_run.proofs.RunLemmas.{stops_reading, unnumbered, unopened_safe, taken_part, between_safe, file_started}
 use Rattle.pg_run.proofs.running.one_file.Goals as goal
 
 pub returns-then-engine-ge-MOST_FILES-clause-outcome : goal.returns-then-engine-ge-MOST_FILES-clause-outcome
-returns-then-engine-ge-MOST_FILES-clause-outcome g c = λ aim given name is rests.
+returns-then-engine-ge-MOST_FILES-clause-outcome g c = λ given new aim rests.
+    let name = new.0 in
+    let is = new.1 in
     let out' = g.W.Sink.stream c.break_off.new.out in
     let told = g.E.Sink.stream c.args.faults.now in
     let more = File name [] Left ∷ given in
@@ -22,16 +25,18 @@ returns-then-engine-ge-MOST_FILES-clause-outcome g c = λ aim given name is rest
 
 pub break_off-requires-clause-holds : goal.break_off-requires-clause-holds
 break_off-requires-clause-holds g c κs within =
-    let r = c.requires.rests in
-    (r.0, r.4.0.steps, r.4.0.holds)
+    let r = c.requires.rests.2 in
+    (r.0, r.1.0.steps, r.1.0.holds)
 
 pub open_file-requires-clause-between : goal.open_file-requires-clause-between
 open_file-requires-clause-between g c =
     let r = c.requires.rests in
-    (r.0, r.1, g.W.Sink.stream c.args.out.now, r.4.0)
+    (r.2.0, r.0, g.W.Sink.stream c.args.out.now, r.2.1.0)
 
 pub returns-in_err-open_file-clause-outcome : goal.returns-in_err-open_file-clause-outcome
-returns-in_err-open_file-clause-outcome g c = λ aim given name is rests.
+returns-in_err-open_file-clause-outcome g c = λ given new aim rests.
+    let name = new.0 in
+    let is = new.1 in
     let out = g.W.Sink.stream c.args.out.now in
     let told = g.E.Sink.stream c.args.faults.now in
     let P : List Given → Type 0 = λ gs. BreaksOffTold aim gs out told OutOfMemory in
@@ -46,13 +51,15 @@ pub read_file-requires-clause-in_file : goal.read_file-requires-clause-in_file
 read_file-requires-clause-in_file g c κs within =
     let r = c.requires.rests in
     let out = g.W.Sink.stream c.args.out.now in (
-      r.0,
-      file_started (g.F.Files.past c.args.files.now).given r.2 c.name.result.now r.3 c.name.ensures
-          (c.in_ok-open_file.ensures.ok r.0 r.1 out r.4.0),
+      r.2.0,
+      file_started (g.F.Files.past c.args.files.now).given r.1.0 c.name.result.now r.1.1 c.name.ensures
+          (c.in_ok-open_file.ensures.ok r.2.0 r.0 out r.2.1.0),
     )
 
 pub returns-in_err-failed-clause-outcome : goal.returns-in_err-failed-clause-outcome
-returns-in_err-failed-clause-outcome g c = λ aim given name is rests.
+returns-in_err-failed-clause-outcome g c = λ given new aim rests.
+    let name = new.0 in
+    let is = new.1 in
     let out = g.W.Sink.stream c.args.out.now in
     let start = file_started (g.F.Files.past c.args.files.now).given name c.name.result.now is c.name.ensures
     (c.in_ok-open_file.ensures.ok aim given out rests.0) in
@@ -64,10 +71,12 @@ returns-in_err-failed-clause-outcome g c = λ aim given name is rests.
     fails_by c.from_residual-in_err-failed.result _ (BreaksOffTold aim given' out' told) fault
     c.from_residual-in_err-failed.ensures.1
     (stops_reading aim given given' out' told fault (c.in_err-failed.ensures.outcome aim start) rests.1
-    (c.in_err-failed.ensures.before ∙ ap (λ gs. drop 1 gs) is))
+    (c.in_err-failed.ensures.reads_on.before ∙ ap (λ gs. drop 1 gs) is))
 
 pub returns-in_err-tell_fault-clause-outcome : goal.returns-in_err-tell_fault-clause-outcome
-returns-in_err-tell_fault-clause-outcome g c = λ aim given name is rests.
+returns-in_err-tell_fault-clause-outcome g c = λ given new aim rests.
+    let name = new.0 in
+    let is = new.1 in
     let out = g.W.Sink.stream c.args.out.now in
     let start = file_started (g.F.Files.past c.args.files.now).given name c.name.result.now is c.name.ensures
     (c.in_ok-open_file.ensures.ok aim given out rests.0) in
@@ -91,7 +100,9 @@ returns-in_err-tell_fault-clause-outcome g c = λ aim given name is rests.
     rests.1 more err.writes.err))
 
 pub returns-in_ok-tell_fault-clause-outcome : goal.returns-in_ok-tell_fault-clause-outcome
-returns-in_ok-tell_fault-clause-outcome g c = λ aim given name is rests.
+returns-in_ok-tell_fault-clause-outcome g c = λ given new aim rests.
+    let name = new.0 in
+    let is = new.1 in
     let out = g.W.Sink.stream c.args.out.now in
     let start = file_started (g.F.Files.past c.args.files.now).given name c.name.result.now is c.name.ensures
     (c.in_ok-open_file.ensures.ok aim given out rests.0) in
@@ -111,7 +122,9 @@ returns-in_ok-tell_fault-clause-outcome g c = λ aim given name is rests.
     )
 
 pub returns-else-failed-clause-outcome : goal.returns-else-failed-clause-outcome
-returns-else-failed-clause-outcome g c = λ aim given name is rests.
+returns-else-failed-clause-outcome g c = λ given new aim rests.
+    let name = new.0 in
+    let is = new.1 in
     let out = g.W.Sink.stream c.args.out.now in
     let start = file_started (g.F.Files.past c.args.files.now).given name c.name.result.now is c.name.ensures
     (c.in_ok-open_file.ensures.ok aim given out rests.0) in
@@ -124,62 +137,23 @@ returns-else-failed-clause-outcome g c = λ aim given name is rests.
           c.if-failed.false),
     )
 
-pub returns-then-engine-ge-MOST_FILES-clause-done : goal.returns-then-engine-ge-MOST_FILES-clause-done
-returns-then-engine-ge-MOST_FILES-clause-done g c = refl
+pub returns-then-engine-ge-MOST_FILES-clause-reads_on : goal.returns-then-engine-ge-MOST_FILES-clause-reads_on
+returns-then-engine-ge-MOST_FILES-clause-reads_on g c = reads_none
 
-pub returns-then-engine-ge-MOST_FILES-clause-before : goal.returns-then-engine-ge-MOST_FILES-clause-before
-returns-then-engine-ge-MOST_FILES-clause-before g c = refl
+pub returns-in_err-open_file-clause-reads_on : goal.returns-in_err-open_file-clause-reads_on
+returns-in_err-open_file-clause-reads_on g c = reads_none
 
-pub returns-then-engine-ge-MOST_FILES-clause-same_list : goal.returns-then-engine-ge-MOST_FILES-clause-same_list
-returns-then-engine-ge-MOST_FILES-clause-same_list g c = refl
+pub read_file-requires-clause-awaits : goal.read_file-requires-clause-awaits
+read_file-requires-clause-awaits g c κs within = c.in_ok-open_file.ensures.awaits
 
-pub returns-in_err-open_file-clause-done : goal.returns-in_err-open_file-clause-done
-returns-in_err-open_file-clause-done g c = refl
+pub returns-in_err-failed-clause-reads_on : goal.returns-in_err-failed-clause-reads_on
+returns-in_err-failed-clause-reads_on g c = c.in_err-failed.ensures.reads_on
 
-pub returns-in_err-open_file-clause-before : goal.returns-in_err-open_file-clause-before
-returns-in_err-open_file-clause-before g c = refl
+pub returns-in_err-tell_fault-clause-reads_on : goal.returns-in_err-tell_fault-clause-reads_on
+returns-in_err-tell_fault-clause-reads_on g c = c.in_ok-failed.ensures.reads_on
 
-pub returns-in_err-open_file-clause-same_list : goal.returns-in_err-open_file-clause-same_list
-returns-in_err-open_file-clause-same_list g c = refl
+pub returns-in_ok-tell_fault-clause-reads_on : goal.returns-in_ok-tell_fault-clause-reads_on
+returns-in_ok-tell_fault-clause-reads_on g c = c.in_ok-failed.ensures.reads_on
 
-pub read_file-requires-clause-more : goal.read_file-requires-clause-more
-read_file-requires-clause-more g c κs within = c.in_ok-open_file.ensures.more
-
-pub returns-in_err-failed-clause-done : goal.returns-in_err-failed-clause-done
-returns-in_err-failed-clause-done g c = c.in_err-failed.ensures.done
-
-pub returns-in_err-failed-clause-before : goal.returns-in_err-failed-clause-before
-returns-in_err-failed-clause-before g c = c.in_err-failed.ensures.before
-
-pub returns-in_err-failed-clause-same_list : goal.returns-in_err-failed-clause-same_list
-returns-in_err-failed-clause-same_list g c = c.in_err-failed.ensures.same_list
-
-pub returns-in_err-tell_fault-clause-done : goal.returns-in_err-tell_fault-clause-done
-returns-in_err-tell_fault-clause-done g c = c.in_ok-failed.ensures.done
-
-pub returns-in_err-tell_fault-clause-before : goal.returns-in_err-tell_fault-clause-before
-returns-in_err-tell_fault-clause-before g c = c.in_ok-failed.ensures.before
-
-pub returns-in_err-tell_fault-clause-same_list : goal.returns-in_err-tell_fault-clause-same_list
-returns-in_err-tell_fault-clause-same_list g c = c.in_ok-failed.ensures.same_list
-
-pub returns-in_ok-tell_fault-clause-done : goal.returns-in_ok-tell_fault-clause-done
-returns-in_ok-tell_fault-clause-done g c = c.in_ok-failed.ensures.done
-
-pub returns-in_ok-tell_fault-clause-before : goal.returns-in_ok-tell_fault-clause-before
-returns-in_ok-tell_fault-clause-before g c = c.in_ok-failed.ensures.before
-
-pub returns-in_ok-tell_fault-clause-same_list : goal.returns-in_ok-tell_fault-clause-same_list
-returns-in_ok-tell_fault-clause-same_list g c = c.in_ok-failed.ensures.same_list
-
-pub returns-else-failed-clause-done : goal.returns-else-failed-clause-done
-returns-else-failed-clause-done g c = c.in_ok-failed.ensures.done
-
-pub returns-else-failed-clause-before : goal.returns-else-failed-clause-before
-returns-else-failed-clause-before g c = c.in_ok-failed.ensures.before
-
-pub returns-else-failed-clause-same_list : goal.returns-else-failed-clause-same_list
-returns-else-failed-clause-same_list g c = c.in_ok-failed.ensures.same_list
-
-pub read_file-requires-clause-drained : goal.read_file-requires-clause-drained
-read_file-requires-clause-drained g c κs within = c.in_ok-open_file.ensures.drained
+pub returns-else-failed-clause-reads_on : goal.returns-else-failed-clause-reads_on
+returns-else-failed-clause-reads_on g c = c.in_ok-failed.ensures.reads_on

@@ -47,5 +47,4 @@ returns-clause-outcome g c = λ aim start.
     let out' = g.W.Sink.stream c.finish.new.out in
     let d = c.in_ok-all_files.ensures.outcome aim start in
     let b = d.rests.0 in
-    let ok = c.in_ok-status.ensures aim b.steps b.holds in
-    done_finishes d out' c.in_ok-status.status ok.0 ok.1 ok.2
+    done_finishes d out' c.in_ok-status.status (c.in_ok-status.ensures aim b.steps b.holds)

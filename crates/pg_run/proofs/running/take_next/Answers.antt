@@ -31,14 +31,14 @@ returns-in_ok-miss-in-Miss-clause-outcome g c = λ aim rests.
     let named : c.name.result.now ≡ e.0 = c.name.ensures ∙ ap newest_name is in
     let P : List Given → Type 0 = λ gs. HasToldAll c.miss.new.engine aim gs out told' in
     subst P (sym (is ∙ ap (λ n. NoFile n c.in-Miss.cause ∷ given) (sym named)))
-    (c.in_ok-miss-in-Miss.ensures aim given rests)
+    (c.in_ok-miss-in-Miss.ensures given aim rests)
 
 pub one_file-requires-clause-rests : goal.one_file-requires-clause-rests
 one_file-requires-clause-rests g c κs within =
     let r = c.requires.rests in
     let S : Step → Type 0 = λ s. NextGives s (g.F.Files.past c.args.files.now) (g.F.Files.past c.next.new.self) in
     let e = subst S c.in-File.is c.in_ok-next.ensures.ok in
-    (r.0, (g.F.Files.past c.args.files.now).given, e.0, ap (λ p. p.given) e.1, r.1)
+    ((g.F.Files.past c.args.files.now).given, (e.0, ap (λ p. p.given) e.1), r)
 
 pub returns-in_err-one_file-in-File-clause-outcome : goal.returns-in_err-one_file-in-File-clause-outcome
 returns-in_err-one_file-in-File-clause-outcome g c = λ aim rests.
@@ -49,14 +49,14 @@ returns-in_err-one_file-in-File-clause-outcome g c = λ aim rests.
     fails_by c.from_residual-in_err-one_file-in-File.result _
     (BreaksOffTold aim (g.F.Files.past c.one_file.new.files).given out' told') c.in_err-one_file-in-File.field-0.0
     c.from_residual-in_err-one_file-in-File.ensures.1
-    (c.in_err-one_file-in-File.ensures.outcome aim (g.F.Files.past c.args.files.now).given e.0 (ap (λ p. p.given) e.1)
+    (c.in_err-one_file-in-File.ensures.outcome (g.F.Files.past c.args.files.now).given (e.0, ap (λ p. p.given) e.1) aim
     rests)
 
 pub returns-in_ok-one_file-in-File-clause-outcome : goal.returns-in_ok-one_file-in-File-clause-outcome
 returns-in_ok-one_file-in-File-clause-outcome g c = λ aim rests.
     let S : Step → Type 0 = λ s. NextGives s (g.F.Files.past c.args.files.now) (g.F.Files.past c.next.new.self) in
     let e = subst S c.in-File.is c.in_ok-next.ensures.ok in
-    c.in_ok-one_file-in-File.ensures.outcome aim (g.F.Files.past c.args.files.now).given e.0 (ap (λ p. p.given) e.1)
+    c.in_ok-one_file-in-File.ensures.outcome (g.F.Files.past c.args.files.now).given (e.0, ap (λ p. p.given) e.1) aim
     rests
 
 pub returns-in_err-next-clause-goes : goal.returns-in_err-next-clause-goes
@@ -84,17 +84,17 @@ returns-in_err-one_file-in-File-clause-goes g c =
 
 pub returns-in_err-one_file-in-File-clause-same_list : goal.returns-in_err-one_file-in-File-clause-same_list
 returns-in_err-one_file-in-File-clause-same_list g c =
-    c.in_err-one_file-in-File.ensures.same_list ∙ c.in_ok-next.ensures.same_list
+    c.in_err-one_file-in-File.ensures.reads_on.same_list ∙ c.in_ok-next.ensures.same_list
 
 pub returns-in_ok-one_file-in-File-clause-same_list : goal.returns-in_ok-one_file-in-File-clause-same_list
 returns-in_ok-one_file-in-File-clause-same_list g c =
-    c.in_ok-one_file-in-File.ensures.same_list ∙ c.in_ok-next.ensures.same_list
+    c.in_ok-one_file-in-File.ensures.reads_on.same_list ∙ c.in_ok-next.ensures.same_list
 
 pub returns-in-Done-clause-goes : goal.returns-in-Done-clause-goes
 returns-in-Done-clause-goes g c =
     let S : Step → Type 0 = λ s. NextGives s (g.F.Files.past c.args.files.now) (g.F.Files.past c.next.new.self) in
     let e = subst S c.in-Done.is c.in_ok-next.ensures.ok in
-    (ap (λ p. p.given) e, ap (λ p. p.done) e)
+    (ap (λ p. p.given) e, ap (λ p. p.done) e, c.in_ok-next.ensures.all c.in-Done.is)
 
 pub returns-in-Done-clause-outcome : goal.returns-in-Done-clause-outcome
 returns-in-Done-clause-outcome g c = λ aim rests.
@@ -114,7 +114,7 @@ pub returns-in_ok-one_file-in-File-clause-goes : goal.returns-in_ok-one_file-in-
 returns-in_ok-one_file-in-File-clause-goes g c =
     let S : Step → Type 0 = λ s. NextGives s (g.F.Files.past c.args.files.now) (g.F.Files.past c.next.new.self) in
     let e = subst S c.in-File.is c.in_ok-next.ensures.ok in
-    let ok = c.in_ok-one_file-in-File.ensures in
+    let ok = c.in_ok-one_file-in-File.ensures.reads_on in
     (ok.before ∙ ap (λ p. drop 1 p.given) e.1, ok.done ∙ ap (λ p. p.done) e.1)
 
 pub returns-in_err-miss-in-Miss-clause-outcome : goal.returns-in_err-miss-in-Miss-clause-outcome
@@ -132,24 +132,14 @@ returns-in_err-miss-in-Miss-clause-outcome g c = λ aim rests.
     told')
     fault c.from_residual-in_err-miss-in-Miss.ensures.1
     (subst P (sym (is ∙ ap (λ n. NoFile n c.in-Miss.cause ∷ given) (sym named)))
-    (c.in_err-miss-in-Miss.ensures aim given rests))
+    (c.in_err-miss-in-Miss.ensures given aim rests))
 
 pub next-requires : goal.next-requires
 next-requires g c = c.requires.done
 
-pub returns-in_err-next-clause-all : goal.returns-in_err-next-clause-all
-returns-in_err-next-clause-all g c = IfOk-from_err c.from_residual.result _ c.from_residual.ensures.0
-
 pub returns-in_err-next-clause-went : goal.returns-in_err-next-clause-went
 returns-in_err-next-clause-went g c =
     on_err_of c.from_residual.result _ (inl (ap (λ p. p.given) c.in_err-next.ensures.err))
-
-pub returns-in-Done-clause-all : goal.returns-in-Done-clause-all
-returns-in-Done-clause-all g c = λ _. c.in_ok-next.ensures.all c.in-Done.is
-
-pub returns-in_err-miss-in-Miss-clause-all : goal.returns-in_err-miss-in-Miss-clause-all
-returns-in_err-miss-in-Miss-clause-all g c =
-    IfOk-from_err c.from_residual-in_err-miss-in-Miss.result _ c.from_residual-in_err-miss-in-Miss.ensures.0
 
 pub returns-in_err-miss-in-Miss-clause-went : goal.returns-in_err-miss-in-Miss-clause-went
 returns-in_err-miss-in-Miss-clause-went g c =
@@ -157,13 +147,9 @@ returns-in_err-miss-in-Miss-clause-went g c =
     let e = subst S c.in-Miss.is c.in_ok-next.ensures.ok in
     on_err_of c.from_residual-in_err-miss-in-Miss.result _ (inr (ap (λ p. drop 1 p.given) e.1))
 
-pub returns-in_err-one_file-in-File-clause-all : goal.returns-in_err-one_file-in-File-clause-all
-returns-in_err-one_file-in-File-clause-all g c =
-    IfOk-from_err c.from_residual-in_err-one_file-in-File.result _ c.from_residual-in_err-one_file-in-File.ensures.0
-
 pub returns-in_err-one_file-in-File-clause-went : goal.returns-in_err-one_file-in-File-clause-went
 returns-in_err-one_file-in-File-clause-went g c =
     let S : Step → Type 0 = λ s. NextGives s (g.F.Files.past c.args.files.now) (g.F.Files.past c.next.new.self) in
     let e = subst S c.in-File.is c.in_ok-next.ensures.ok in
     on_err_of c.from_residual-in_err-one_file-in-File.result _
-    (inr (c.in_err-one_file-in-File.ensures.before ∙ ap (λ p. drop 1 p.given) e.1))
+    (inr (c.in_err-one_file-in-File.ensures.reads_on.before ∙ ap (λ p. drop 1 p.given) e.1))

@@ -47,8 +47,7 @@ returns-in_err-push g c =
 pub invariant_of-self : goal.invariant_of-self
 invariant_of-self g c = let s = c.args.self.now in record {
   fits = s.fits;
-  all_fit = s.all_fit;
-  few_scratches = s.few_scratches;
+  scratches_fit = s.scratches_fit;
   endless = s.endless;
   at_once = s.at_once;
   few = s.few;
@@ -57,8 +56,7 @@ invariant_of-self g c = let s = c.args.self.now in record {
 pub invariant_of-self-in-Break-branch-3 : goal.invariant_of-self-in-Break-branch-3
 invariant_of-self-in-Break-branch-3 g c = let s = c.args.self.now in record {
   fits = s.fits;
-  all_fit = s.all_fit;
-  few_scratches = s.few_scratches;
+  scratches_fit = s.scratches_fit;
   endless = s.endless;
   at_once = s.at_once;
   few = s.few;

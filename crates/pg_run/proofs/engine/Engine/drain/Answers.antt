@@ -2,42 +2,43 @@ use Rattle.std.proofs.Common.{ap, map, refl}
 use Rattle.std.specs.Arc.{arc_value}
 use Rattle.pg_run.specs.Holding.{BreaksOffInSearch, past_of, format_of}
 use Rattle.pg_run.specs.declared.fault.RunFault.TheVariants.{Sink}
-use Rattle.pg_run.proofs.HoldLemmas.{holds_drained, broke_drained, fails_by}
+use Rattle.pg_run.proofs.HoldLemmas.{holds_drained, broke_drained, fails_by, ok_of_err}
 use Rattle.pg_run.proofs.engine.Engine.drain.Goals as goal
 
-pub returns-clause-outcome : goal.returns-clause-outcome
-returns-clause-outcome g c = λ aim steps h.
-    let d = c.in_ok-drain.ensures.drained (past_of aim.query (format_of aim) h.events h.written) h.stands in
-    let out' = g.W.Sink.stream c.drain.new.out in
-    let none = ap (λ xs. map arc_value xs) c.requires.none in
-    holds_drained h none _ d.0 out' h.same h.set h.count none d.1 c.in_ok-drain.ensures.no_failure d.2 d.3
+pub returns-clause-empties : goal.returns-clause-empties
+returns-clause-empties g c = record {
+  kept = (refl, refl);
+  none = c.requires.none;
+  outcome = λ aim steps h.
+      let d = c.in_ok-drain.ensures.drained (past_of aim.query (format_of aim) h.events h.written) h.stands in
+      let out' = g.W.Sink.stream c.drain.new.out in
+      let none = ap (λ xs. map arc_value xs) c.requires.none in
+      holds_drained h none _ d.0 out' h.same h.set h.count none d.1 c.in_ok-drain.ensures.no_failure d.2 d.3;
+}
 
-pub returns-in_err-drain-clause-outcome : goal.returns-in_err-drain-clause-outcome
-returns-in_err-drain-clause-outcome g c = λ aim steps h.
-    let d = c.in_err-drain.ensures.drained (past_of aim.query (format_of aim) h.events h.written) h.stands in
-    let out' = g.W.Sink.stream c.drain.new.out in
-    fails_by c.from_residual.result _ (BreaksOffInSearch aim steps out') Sink c.from_residual.ensures.1
-    (broke_drained h (ap (λ xs. map arc_value xs) c.requires.none) d.0 out' c.in_err-drain.field-0.0 d.1 d.2
-    c.in_err-drain.ensures.cause)
+pub returns-in_err-drain-clause-empties : goal.returns-in_err-drain-clause-empties
+returns-in_err-drain-clause-empties g c = record {
+  kept = (refl, refl);
+  none = ok_of_err c.from_residual.result _ c.from_residual.ensures.0;
+  outcome = λ aim steps h.
+      let d = c.in_err-drain.ensures.drained (past_of aim.query (format_of aim) h.events h.written) h.stands in
+      let out' = g.W.Sink.stream c.drain.new.out in
+      fails_by c.from_residual.result _ (BreaksOffInSearch aim steps out') Sink c.from_residual.ensures.1
+      (broke_drained h (ap (λ xs. map arc_value xs) c.requires.none) d.0 out' c.in_err-drain.field-0.0 d.1 d.2
+      c.in_err-drain.ensures.cause);
+}
 
 pub invariant_of-self : goal.invariant_of-self
 invariant_of-self g c = let s = c.args.self.now in record {
   fits = s.fits;
-  all_fit = s.all_fit;
-  few_scratches = s.few_scratches;
+  scratches_fit = s.scratches_fit;
   endless = s.endless;
   at_once = s.at_once;
   few = s.few;
 }
 
-pub returns-in_err-drain-clause-kept : goal.returns-in_err-drain-clause-kept
-returns-in_err-drain-clause-kept g c = (refl, refl)
-
 pub returns-in_err-drain-clause-none : goal.returns-in_err-drain-clause-none
 returns-in_err-drain-clause-none g c = c.requires.none
-
-pub returns-clause-kept : goal.returns-clause-kept
-returns-clause-kept g c = (refl, refl)
 
 pub returns-clause-none : goal.returns-clause-none
 returns-clause-none g c = c.requires.none

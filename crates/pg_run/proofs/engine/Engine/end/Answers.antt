@@ -12,8 +12,7 @@ returns g c = λ aim steps out ready.
 pub invariant_of-self : goal.invariant_of-self
 invariant_of-self g c = let s = c.args.self.now in record {
   fits = s.fits;
-  all_fit = s.all_fit;
-  few_scratches = s.few_scratches;
+  scratches_fit = s.scratches_fit;
   endless = s.endless;
   at_once = s.at_once;
   few = s.few;

@@ -21,11 +21,12 @@ returns g c = λ aim steps h.
     let none = ap (λ xs. map arc_value xs) c.in_ok-flush.ensures.none in
     let past = past_of aim.query (format_of aim) k.events k.written in
     let P : Option ℕ → Type 0 =
-    λ r. MatchOption r (IsComplete past → ⊥) (λ s. IsComplete past × (s ≡ status_of past)) in (
-      both.1,
-      (subst P c.unwrap.ensures (c.status.ensures past k.stands)).1 ∙ status_is k none,
-      k.calm,
-    )
+    λ r. MatchOption r (IsComplete past → ⊥) (λ s. IsComplete past × (s ≡ status_of past)) in
+    record {
+      written = both.1;
+      answered = (subst P c.unwrap.ensures (c.status.ensures past k.stands)).1 ∙ status_is k none;
+      calm = k.calm;
+    }
 
 pub returns-in_err-flush : goal.returns-in_err-flush
 returns-in_err-flush g c =

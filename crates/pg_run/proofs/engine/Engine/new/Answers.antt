@@ -22,8 +22,10 @@ returns g c = λ aim trees text set.
     holds_new _ aim own (sym set) refl (ap (λ xs. map arc_value xs) c.new-4.ensures.items)
     (subst F (ap (λ s. s.format) (sym set)) stands)
 
-pub invariant_of-result-clause-all_fit : goal.invariant_of-result-clause-all_fit
-invariant_of-result-clause-all_fit g c = λ k d below. absurd (omega (arith, ap length c.new-3.ensures.items, below))
+pub invariant_of-result-clause-scratches_fit : goal.invariant_of-result-clause-scratches_fit
+invariant_of-result-clause-scratches_fit g c =
+    let none = ap length c.new-3.ensures.items in
+    (omega (arith, none), λ k d below. absurd (omega (arith, none, below)))
 
 pub returns-in_err-query : goal.returns-in_err-query
 returns-in_err-query g c = IfOk-from_err c.from_residual.result _ c.from_residual.ensures.0

@@ -3,41 +3,21 @@ use Rattle.std.proofs.lemmas.Bool.{false≢true}
 use Rattle.pg_seq.specs.Plan.{Announces}
 use Rattle.pg_run.specs.Holding.{BreaksOffInSearch}
 use Rattle.pg_run.specs.declared.fault.RunFault.TheVariants.{OutOfMemory}
-use Rattle.pg_run.proofs.HoldLemmas.{broke_step, ok_of_err, fails_by}
+use Rattle.pg_run.proofs.HoldLemmas.{broke_step, fails_by}
 use Rattle.pg_run.proofs.engine.Engine.search.Goals as goal
 
-pub returns-in_err-add-clause-outcome : goal.returns-in_err-add-clause-outcome
-returns-in_err-add-clause-outcome g c = λ aim steps ready.
+pub returns-in_err-add : goal.returns-in_err-add
+returns-in_err-add g c = λ aim steps ready.
     let out = g.W.Sink.stream c.args.out.now in
     fails_by c.from_residual.result _ (BreaksOffInSearch aim (Announces c.args.block ∷ steps) out) OutOfMemory
     c.from_residual.ensures.1 (broke_step ready.0 (Announces c.args.block) ready.1)
 
-pub returns-in_err-kept-clause-outcome : goal.returns-in_err-kept-clause-outcome
-returns-in_err-kept-clause-outcome g c = λ aim steps ready.
+pub returns-in_err-kept : goal.returns-in_err-kept
+returns-in_err-kept g c = λ aim steps ready.
     let out = g.W.Sink.stream c.args.out.now in
     fails_by c.from_residual-in_err-kept.result _
     (BreaksOffInSearch aim (Announces c.args.block ∷ steps) out) OutOfMemory c.from_residual-in_err-kept.ensures.1
     (broke_step ready.0 (Announces c.args.block) ready.1)
-
-pub returns-clause-written : goal.returns-clause-written
-returns-clause-written g c = λ aim steps ready at_once.
-    (c.in_ok-drain.ensures.outcome aim (Announces c.args.block ∷ steps) (c.in_ok-kept.ensures.ok aim steps
-    (g.W.Sink.stream c.args.out.now) ready)).1
-
-pub returns-in_err-add-clause-written : goal.returns-in_err-add-clause-written
-returns-in_err-add-clause-written g c =
-    λ aim steps ready at_once.
-    ok_of_err c.from_residual.result _ c.from_residual.ensures.0
-
-pub returns-in_err-kept-clause-written : goal.returns-in_err-kept-clause-written
-returns-in_err-kept-clause-written g c =
-    λ aim steps ready at_once.
-    ok_of_err c.from_residual-in_err-kept.result _ c.from_residual-in_err-kept.ensures.0
-
-pub returns-in_err-drain-clause-written : goal.returns-in_err-drain-clause-written
-returns-in_err-drain-clause-written g c =
-    λ aim steps ready at_once.
-    ok_of_err c.from_residual-in_err-drain.result _ c.from_residual-in_err-drain.ensures.0
 
 pub add-requires-clause-spread : goal.add-requires-clause-spread
 add-requires-clause-spread g c = c.if-self.true
@@ -46,53 +26,51 @@ pub add-requires-clause-room : goal.add-requires-clause-room
 add-requires-clause-room g c = c.requires.room c.if-self.true
 
 pub add-requires-clause-ready : goal.add-requires-clause-ready
-add-requires-clause-ready g c =
-    let r = c.requires.ready in
-    (r.0, r.1, g.W.Sink.stream c.args.out.now, r.2)
+add-requires-clause-ready g c = c.requires.ready
 
 pub take-requires-clause-at_once : goal.take-requires-clause-at_once
 take-requires-clause-at_once g c = c.if-self.false
 
 pub take-requires-clause-ready : goal.take-requires-clause-ready
-take-requires-clause-ready g c =
-    let r = c.requires.ready in
-    (r.0, r.1, g.W.Sink.stream c.args.out.now, r.2)
+take-requires-clause-ready g c = c.requires.ready
 
 pub drain-requires : goal.drain-requires
 drain-requires g c = record { none = c.in_ok-kept.ensures.none }
 
-pub returns-then-self-clause-outcome : goal.returns-then-self-clause-outcome
-returns-then-self-clause-outcome g c = λ aim steps ready.
-    c.in_ok-add.ensures aim steps (g.W.Sink.stream c.args.out.now) ready
+pub returns-then-self : goal.returns-then-self
+returns-then-self g c = λ aim steps ready. (
+  c.in_ok-add.ensures aim steps (g.W.Sink.stream c.args.out.now) ready,
+  λ at_once. absurd (false≢true (sym at_once ∙ c.if-self.true)),
+)
 
-pub returns-then-self-clause-written : goal.returns-then-self-clause-written
-returns-then-self-clause-written g c = λ aim steps ready at_once. absurd (false≢true (sym at_once ∙ c.if-self.true))
-
-pub returns-in_err-drain-clause-outcome : goal.returns-in_err-drain-clause-outcome
-returns-in_err-drain-clause-outcome g c = λ aim steps ready.
+pub returns-in_err-drain : goal.returns-in_err-drain
+returns-in_err-drain g c = λ aim steps ready.
     let out = g.W.Sink.stream c.args.out.now in
     let out' = g.W.Sink.stream c.drain.new.out in
     let next = Announces c.args.block ∷ steps in
     fails_by c.from_residual-in_err-drain.result _ (BreaksOffInSearch aim next out') c.in_err-drain.field-0.0
     c.from_residual-in_err-drain.ensures.1
-    (c.in_err-drain.ensures.outcome aim next (c.in_ok-kept.ensures.ok aim steps out ready))
+    (c.in_err-drain.ensures.empties.outcome aim next (c.in_ok-kept.ensures.ok aim steps out ready))
 
-pub returns-clause-outcome : goal.returns-clause-outcome
-returns-clause-outcome g c = λ aim steps ready.
-    let h = (c.in_ok-drain.ensures.outcome aim (Announces c.args.block ∷ steps) (c.in_ok-kept.ensures.ok aim steps
-    (g.W.Sink.stream c.args.out.now) ready)).0 in
-    record {
-      same = h.same;
-      set = h.set;
-      count = h.count;
-      events = h.events;
-      written = h.written;
-      stands = h.stands;
-      planned = h.planned;
-      taken = h.taken;
-      blocks = h.blocks;
-      all = h.all;
-      safe = h.safe;
-      got = h.got;
-      calm = h.calm;
-    }
+pub returns : goal.returns
+returns g c = λ aim steps ready.
+    let both = c.in_ok-drain.ensures.empties.outcome aim (Announces c.args.block ∷ steps)
+    (c.in_ok-kept.ensures.ok aim steps (g.W.Sink.stream c.args.out.now) ready) in
+    let h = both.0 in (
+      record {
+        same = h.same;
+        set = h.set;
+        count = h.count;
+        events = h.events;
+        written = h.written;
+        stands = h.stands;
+        planned = h.planned;
+        taken = h.taken;
+        blocks = h.blocks;
+        all = h.all;
+        safe = h.safe;
+        got = h.got;
+        calm = h.calm;
+      },
+      λ at_once. both.1,
+    )

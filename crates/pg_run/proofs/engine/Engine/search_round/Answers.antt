@@ -2,10 +2,11 @@ use Rattle.std.proofs.Common.{◌≡◌, ◌<◌, ◌≤◌, ◌∙◌, ℕ, ap,
 use Rattle.std.specs.List.{All}
 use Rattle.std.specs.Arc.{arc_value}
 use Rattle.std.specs.declared.sync.Arc.{Arc}
-use Rattle.pg_match.specs.Machines.{Room, Fits}
+use Rattle.pg_match.specs.Machines.{Room}
 use Rattle.pg_blocks.specs.Blocks.{BlockData}
 use Rattle.pg_seq.specs.Standing.{IsAfter}
 use Rattle.pg_run.specs.Faults.{fault_of_round}
+use Rattle.pg_run.specs.Scratches.{AreScratches}
 use Rattle.pg_run.specs.Holding.{BreaksOffInSearch, past_of, format_of}
 use Rattle.pg_round.specs.Results.{HasShortLines}
 use Rattle.pg_round.specs.Receipts.{HasRound}
@@ -21,44 +22,56 @@ search_round-requires-clause-short g c κs within =
     let S : List (Arc BlockData g.row.A.Denot) → Type 0 = λ xs. All (HasShortLines text) xs in
     subst S (sym c.deref-2.ensures.value) (short_round h text h.same)
 
-pub returns-in_err-equip-clause-outcome : goal.returns-in_err-equip-clause-outcome
-returns-in_err-equip-clause-outcome g c = λ aim steps h.
-    let out = g.W.Sink.stream c.args.out.now in
-    fails_by c.from_residual.result _ (BreaksOffInSearch aim steps out) OutOfMemory c.from_residual.ensures.1
-    (broke_now h)
+pub returns-in_err-equip-clause-empties : goal.returns-in_err-equip-clause-empties
+returns-in_err-equip-clause-empties g c = record {
+  kept = (refl, refl);
+  none = ok_of_err c.from_residual.result _ c.from_residual.ensures.0;
+  outcome = λ aim steps h.
+      let out = g.W.Sink.stream c.args.out.now in
+      fails_by c.from_residual.result _ (BreaksOffInSearch aim steps out) OutOfMemory c.from_residual.ensures.1
+      (broke_now h);
+}
 
-pub returns-in_err-search_round-clause-outcome : goal.returns-in_err-search_round-clause-outcome
-returns-in_err-search_round-clause-outcome g c = λ aim steps h.
-    let out' = g.W.Sink.stream c.search_round.new.out in
-    let past = past_of aim.query (format_of aim) h.events h.written in
-    let fault = c.in_err-search_round.field-0.0 in
-    fails_by c.from_residual-in_err-search_round.result _ (BreaksOffInSearch aim steps out') (fault_of_round fault)
-    c.from_residual-in_err-search_round.ensures.1
-    (round_failed h out' fault (c.in_err-search_round.ensures.err past h.stands refl (safe_now h))
-    (c.in_err-search_round.ensures.cause past h.stands refl (safe_now h)) c.in_err-search_round.ensures.memory)
+pub returns-in_err-search_round-clause-empties : goal.returns-in_err-search_round-clause-empties
+returns-in_err-search_round-clause-empties g c =
+    let failed = c.from_residual-in_err-search_round in
+    let err = c.in_err-search_round.ensures in
+    record {
+      kept = (refl, refl);
+      none = ok_of_err failed.result _ failed.ensures.0;
+      outcome = λ aim steps h.
+          let out' = g.W.Sink.stream c.search_round.new.out in
+          let past = past_of aim.query (format_of aim) h.events h.written in
+          let fault = c.in_err-search_round.field-0.0 in
+          fails_by failed.result _ (BreaksOffInSearch aim steps out') (fault_of_round fault) failed.ensures.1
+          (round_failed h out' fault (err.err past h.stands refl (safe_now h))
+          (err.cause past h.stands refl (safe_now h)) err.memory);
+    }
 
-pub returns-clause-outcome : goal.returns-clause-outcome
-returns-clause-outcome g c = λ aim steps h.
-    let out' =
-    g.W.Sink.stream c.search_round.new.out in
-    let past = past_of aim.query (format_of aim) h.events h.written in
-    let text = (arc_value c.args.self.now.query).text in
-    let R : List (Arc BlockData g.row.A.Denot) → Type 0 =
-    λ xs. HasRound (IsAfter c.search_round.new.collector) past text xs
-    (g.W.Sink.stream c.args.out.now).taken (g.W.Sink.stream c.search_round.new.out).taken in
-    round_done h _ out' h.same h.set h.count (ap (λ xs. map arc_value xs) c.clear.ensures.items) text h.same
-    (subst R c.deref-2.ensures.value (c.in_ok-search_round.ensures.ok past h.stands refl (safe_now h)))
-    c.in_ok-search_round.ensures.calm
+pub returns-clause-empties : goal.returns-clause-empties
+returns-clause-empties g c = record {
+  kept = (refl, refl);
+  none = c.clear.ensures.items;
+  outcome = λ aim steps h.
+      let out' = g.W.Sink.stream c.search_round.new.out in
+      let past = past_of aim.query (format_of aim) h.events h.written in
+      let text = (arc_value c.args.self.now.query).text in
+      let R : List (Arc BlockData g.row.A.Denot) → Type 0 =
+      λ xs. HasRound (IsAfter c.search_round.new.collector) past text xs (g.W.Sink.stream c.args.out.now).taken
+      out'.taken in
+      round_done h _ out' h.same h.set h.count (ap (λ xs. map arc_value xs) c.clear.ensures.items) text h.same
+      (subst R c.deref-2.ensures.value (c.in_ok-search_round.ensures.ok past h.stands refl (safe_now h)))
+      c.in_ok-search_round.ensures.calm;
+}
 
 pub search_round-requires-clause-fits : goal.search_round-requires-clause-fits
 search_round-requires-clause-fits g c κs within = λ k d below.
-    c.in_ok-equip.ensures.fits k d below ∙ ap (λ q. q.machine) c.deref.ensures
+    c.in_ok-equip.ensures.scratches.1 k d below ∙ ap (λ q. q.machine) c.deref.ensures
 
 pub invariant_of-self : goal.invariant_of-self
 invariant_of-self g c = let engine = c.args.self.now in record {
   fits = engine.fits;
-  all_fit = engine.all_fit;
-  few_scratches = engine.few_scratches;
+  scratches_fit = engine.scratches_fit;
   endless = engine.endless;
   at_once = engine.at_once;
   few = engine.few;
@@ -70,8 +83,7 @@ invariant_of-self-in-Break-1 g c =
     let none = ap (λ v. v.items) c.replace-scratches.ensures.after ∙ c.new.ensures.items in
     record {
       fits = engine.fits;
-      all_fit = λ k d below. absurd (omega (arith, ap length none, below));
-      few_scratches = omega (arith, ap length none);
+      scratches_fit = (omega (arith, ap length none), λ k d below. absurd (omega (arith, ap length none, below)));
       endless = engine.endless;
       at_once = engine.at_once;
       few = engine.few;
@@ -83,8 +95,7 @@ invariant_of-self-in-Break-branch-2 g c =
     let none = ap (λ v. v.items) c.replace-scratches.ensures.after ∙ c.new.ensures.items in
     record {
       fits = engine.fits;
-      all_fit = λ k d below. absurd (omega (arith, ap length none, below));
-      few_scratches = omega (arith, ap length none);
+      scratches_fit = (omega (arith, ap length none), λ k d below. absurd (omega (arith, ap length none, below)));
       endless = engine.endless;
       at_once = engine.at_once;
       few = engine.few;
@@ -96,8 +107,7 @@ invariant_of-self-2 g c =
     let back = c.in_ok-search_round.ensures.scratches in
     record {
       fits = engine.fits;
-      all_fit = back.1;
-      few_scratches = omega (arith, back.0, c.in_ok-equip.ensures.few);
+      scratches_fit = (omega (arith, back.0, c.in_ok-equip.ensures.scratches.0), back.1);
       endless = engine.endless;
       at_once = λ e. c.clear.ensures.items;
       few = omega (arith, ap length c.clear.ensures.items);
@@ -112,18 +122,18 @@ some_scratch len scratches same some = omega arith
 few_scratches : (len scratches : ℕ) → len ≡ scratches → scratches ≤ 65 → len ≤ 65
 few_scratches len scratches same few = omega arith
 
-pub equip-requires-clause-fits : goal.equip-requires-clause-fits
-equip-requires-clause-fits g c = λ k d below.
-    let F : List Room → Type 0 = λ xs. All (λ s. Fits s (arc_value c.args.self.now.query).machine) xs in
-    subst F (sym (ap (λ v. v.items) c.replace-scratches.ensures.value)) c.args.self.now.all_fit k d below
-    ∙ sym (ap (λ q. q.machine) c.deref.ensures)
+pub equip-requires-clause-scratches : goal.equip-requires-clause-scratches
+equip-requires-clause-scratches g c =
+    let F : List Room → Type 0 = λ xs. AreScratches 65 (arc_value c.args.self.now.query).machine xs in
+    let held = subst F (sym (ap (λ v. v.items) c.replace-scratches.ensures.value)) c.args.self.now.scratches_fit in
+    (held.0, λ k d below. held.1 k d below ∙ sym (ap (λ q. q.machine) c.deref.ensures))
 
 pub search_round-requires-clause-few : goal.search_round-requires-clause-few
 search_round-requires-clause-few g c κs within =
     let engine = c.args.self.now in
     let scratches = c.equip.new.scratches in (
       some_scratch _ _ scratches.ok.0 c.in_ok-equip.ensures.some,
-      few_scratches _ _ scratches.ok.0 c.in_ok-equip.ensures.few,
+      few_scratches _ _ scratches.ok.0 c.in_ok-equip.ensures.scratches.0,
       few_blocks _ _ engine.setup.round (ap length c.deref-2.ensures.value) engine.few engine.setup.round_in_range.1,
       c.workers-workers.ensures,
     )
@@ -140,33 +150,14 @@ returns-in_err-equip-clause-ready g c = c.requires.ready
 pub returns-in_err-equip-clause-read : goal.returns-in_err-equip-clause-read
 returns-in_err-equip-clause-read g c = λ r f before. before
 
-pub returns-in_err-equip-clause-kept : goal.returns-in_err-equip-clause-kept
-returns-in_err-equip-clause-kept g c = (refl, refl)
-
-pub returns-in_err-equip-clause-none : goal.returns-in_err-equip-clause-none
-returns-in_err-equip-clause-none g c = ok_of_err c.from_residual.result _ c.from_residual.ensures.0
-
 pub returns-in_err-search_round-clause-ready : goal.returns-in_err-search_round-clause-ready
 returns-in_err-search_round-clause-ready g c = c.in_err-search_round.ensures.ready
 
 pub returns-in_err-search_round-clause-read : goal.returns-in_err-search_round-clause-read
 returns-in_err-search_round-clause-read g c = c.in_err-search_round.ensures.read
 
-pub returns-in_err-search_round-clause-kept : goal.returns-in_err-search_round-clause-kept
-returns-in_err-search_round-clause-kept g c = (refl, refl)
-
-pub returns-in_err-search_round-clause-none : goal.returns-in_err-search_round-clause-none
-returns-in_err-search_round-clause-none g c =
-    ok_of_err c.from_residual-in_err-search_round.result _ c.from_residual-in_err-search_round.ensures.0
-
 pub returns-clause-ready : goal.returns-clause-ready
 returns-clause-ready g c = c.in_ok-search_round.ensures.ready
 
 pub returns-clause-read : goal.returns-clause-read
 returns-clause-read g c = c.in_ok-search_round.ensures.read
-
-pub returns-clause-kept : goal.returns-clause-kept
-returns-clause-kept g c = (refl, refl)
-
-pub returns-clause-none : goal.returns-clause-none
-returns-clause-none g c = c.clear.ensures.items

@@ -86,8 +86,7 @@ returns-clause-none g c = c.args.self.now.at_once c.requires.at_once
 pub invariant_of-self : goal.invariant_of-self
 invariant_of-self g c = let s = c.args.self.now in record {
   fits = c.search_block-answer.ensures.fits;
-  all_fit = s.all_fit;
-  few_scratches = s.few_scratches;
+  scratches_fit = s.scratches_fit;
   endless = s.endless;
   at_once = s.at_once;
   few = s.few;
@@ -96,8 +95,7 @@ invariant_of-self g c = let s = c.args.self.now in record {
 pub invariant_of-self-in-Break-branch-4 : goal.invariant_of-self-in-Break-branch-4
 invariant_of-self-in-Break-branch-4 g c = let s = c.args.self.now in record {
   fits = c.search_block-answer.ensures.fits;
-  all_fit = s.all_fit;
-  few_scratches = s.few_scratches;
+  scratches_fit = s.scratches_fit;
   endless = s.endless;
   at_once = s.at_once;
   few = s.few;
@@ -106,8 +104,7 @@ invariant_of-self-in-Break-branch-4 g c = let s = c.args.self.now in record {
 pub invariant_of-self-in-Break-branch-5 : goal.invariant_of-self-in-Break-branch-5
 invariant_of-self-in-Break-branch-5 g c = let s = c.args.self.now in record {
   fits = c.search_block-answer.ensures.fits;
-  all_fit = s.all_fit;
-  few_scratches = s.few_scratches;
+  scratches_fit = s.scratches_fit;
   endless = s.endless;
   at_once = s.at_once;
   few = s.few;
@@ -116,8 +113,7 @@ invariant_of-self-in-Break-branch-5 g c = let s = c.args.self.now in record {
 pub invariant_of-self-2 : goal.invariant_of-self-2
 invariant_of-self-2 g c = let s = c.args.self.now in record {
   fits = c.search_block-answer.ensures.fits;
-  all_fit = s.all_fit;
-  few_scratches = s.few_scratches;
+  scratches_fit = s.scratches_fit;
   endless = s.endless;
   at_once = s.at_once;
   few = s.few;

@@ -4,8 +4,7 @@ use Rattle.pg_run.proofs.engine.Engine.take_spare.Goals as goal
 pub invariant_of-self : goal.invariant_of-self
 invariant_of-self g c = let s = c.args.self.now in record {
   fits = s.fits;
-  all_fit = s.all_fit;
-  few_scratches = s.few_scratches;
+  scratches_fit = s.scratches_fit;
   endless = s.endless;
   at_once = s.at_once;
   few = s.few;

@@ -3,7 +3,8 @@ use Rattle.pg_blocks.specs.Cutter.{room_of}
 use Rattle.pg_blocks.specs.Lending.{with_room}
 use Rattle.pg_blocks.proofs.RoomLemmas.{written_room}
 use Rattle.pg_files.specs.Given.{gave_bytes}
-use Rattle.pg_run.proofs.ReadingLemmas.{read_some, read_none, read_stopped, read_cut, read_refused, read_unread}
+use Rattle.pg_run.proofs.GivenLemmas.{read_some, read_none}
+use Rattle.pg_run.proofs.ReadingLemmas.{read_stopped, read_cut, read_refused, read_unread}
 use Rattle.pg_run.proofs.reader.FileReader.read_in_place.Goals as goal
 
 pub returns-then-is_err : goal.returns-then-is_err

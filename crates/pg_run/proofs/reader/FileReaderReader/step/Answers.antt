@@ -1,12 +1,12 @@
-use Rattle.std.proofs.Common.{◌∙◌}
-use Rattle.pg_run.proofs.ReadingLemmas.{recut_by}
+use Rattle.std.proofs.Common.{rules}
+use Rattle.pg_run.proofs.ReadingLemmas.{recut_by, then_reads}
 use Rattle.pg_run.proofs.reader.FileReaderReader.step.Goals as goal
 
-pub read-requires-clause-cut : goal.read-requires-clause-cut
-read-requires-clause-cut g c =
+pub read-requires : goal.read-requires
+read-requires g c =
     let r = c.requires in
     let room = c.make_room.ensures in
-    (r.0, r.1, recut_by r.2 _ (room.keeps.stands r.2.fed r.2.cut) room.came)
+    record { more = search rules; cut = (r.0, r.1, recut_by r.2 _ (room.keeps.stands r.2.fed r.2.cut) room.came) }
 
 pub returns-clause-ready : goal.returns-clause-ready
 returns-clause-ready g c =
@@ -19,9 +19,7 @@ returns-clause-reaches g c = λ reader files before.
     let on = c.read.ensures in
     let room = c.make_room.ensures in
     record {
-      done = on.done ∙ before.done;
-      before = on.before ∙ before.before;
-      same_list = on.same_list ∙ before.same_list;
+      reads_on = then_reads before.reads_on on.reads_on;
       cuts = λ aim steps h.
           let k = before.cuts aim steps h in
           on.cuts aim steps (recut_by k _ (room.keeps.stands k.fed k.cut) room.came);
@@ -37,9 +35,7 @@ pub returns-then-is_err-clause-reaches : goal.returns-then-is_err-clause-reaches
 returns-then-is_err-clause-reaches g c = λ reader files before.
     let room = c.make_room.ensures in
     record {
-      done = before.done;
-      before = before.before;
-      same_list = before.same_list;
+      reads_on = before.reads_on;
       cuts = λ aim steps h.
           let k = before.cuts aim steps h in
           recut_by k _ (room.keeps.stands k.fed k.cut) room.came;
