@@ -324,10 +324,10 @@ err_by (Ok x) P e h p = tt
 err_by (Err x) P e h p = subst P (sym h) p
 
 -- what stands at an error, where nothing is said of Ok but by another's fault
-pub fails_by : {T E : Type 0} (r : Result T E) (P : T → Type 0) (Q : E → Type 0) (e : E) → IsErrAnd r (λ x. x ≡ e)
+pub fails_by : {T E : Type 0} (r : Result T E) (P : T → Type 0) (Q : E → Type 0) {e : E} → IsErrAnd r (λ x. x ≡ e)
     → Q e → MatchResult r P Q
-fails_by (Ok x) P Q e h q = absurd (h)
-fails_by (Err x) P Q e h q = subst Q (sym h) q
+fails_by (Ok x) P Q h q = absurd h
+fails_by (Err x) P Q h q = subst Q (sym h) q
 
 -- nothing is said of the Ok of an error
 pub ok_of_err : {T E : Type 0} (r : Result T E) (P : Type 0) → IsErr r → OnOk r P

@@ -679,32 +679,8 @@ pub recycled : {A : Type 0} {reader : FileReader A} {engine : Engine A} {aim : A
     (h : IsInsideFile reader engine aim given out) (reader' : FileReader A) (engine' : Engine A)
     → reader'.cutter ≡ reader.cutter → reader'.came ≡ reader.came → HasPlan engine' aim h.steps out
     → IsInsideFile reader' engine' aim given out
-recycled {aim = aim} {given = given} h reader' engine' cutter came holds =
-    let cuts = h.cuts in
-    let R : ReadOutcome → Type 0 =
-    λ came. HasOpenFile aim.query (format_of aim) cuts.name (joined cuts.fed.taken) cuts.rest (ending_after came)
-    (entries_of h.steps) (entries_given given) in
-    let L : ReadOutcome → Type 0 = λ came. IsLost came aim given cuts.lost in
-    record {
-      steps = h.steps;
-      holds = holds;
-      cuts = record {
-        fed = cuts.fed;
-        cut = stands_by cuts.fed cutter cuts.cut;
-        ends = cuts.ends;
-        longest = cuts.longest;
-        running = cuts.running;
-        file = cuts.file;
-        number = cuts.number;
-        last = cuts.last;
-        name = cuts.name;
-        rest = cuts.rest;
-        lost = cuts.lost;
-        whole = cuts.whole;
-        cause = subst L (sym came) cuts.cause;
-        reads = subst R (sym came) cuts.reads;
-      };
-    }
+recycled h reader' engine' cutter came holds =
+    record { steps = h.steps; holds = holds; cuts = recut h.cuts reader' cutter came }
 
 -- the blocks that wait were searched
 pub flushed : {A : Type 0} {reader : FileReader A} {engine : Engine A} {aim : Aim} {given : List Given} {out : Stream}

@@ -32,7 +32,7 @@ use Rattle.pg_run.specs.Holding.{format_of, output_of}
 use Rattle.pg_run.specs.Cover.{HasOpenFile}
 use Rattle.pg_run.specs.Reading.{IsInsideFile, IsLost, IsBetweenFiles, AllIsTold, BreaksOffInFile, IsCommonBeginning}
 use Rattle.pg_run.specs.Reading.{ReadCause, StopCause, BreaksOffTold, IsDone}
-use Rattle.pg_run.specs.Reading.{AreReadRightly, BreaksOffBehind, GaveOneAtMost}
+use Rattle.pg_run.specs.Reading.{AreReadRightly, BreaksOffBehind, GaveFile, GaveOneAtMost}
 use Rattle.pg_seq.specs.Settled.{AreLeftRightly}
 use Rattle.pg_run.specs.Reading.{ending_after}
 use Rattle.pg_run.specs.declared.engine.Engine.{Engine}
@@ -119,26 +119,24 @@ faults_grow given [] e = ([], ap (λ gs. faults_of gs ++ []) e)
 faults_grow given (g ∷ given') e = (fault_of g, ap (λ gs. faults_of gs ++ fault_of g) e)
 
 -- a file that was read further, by whether its reading failed
-told_read : (given before given' : List Given) (name line : List ℕ) (failed : Bool) → before ≡ File name [] Left ∷ given
+told_read : (given before given' : List Given) (line : List ℕ) (failed : Bool) → GaveFile given before
     → faults_of given' ≡ faults_of before ++ when failed line → faults_of given' ≡ faults_of given ++ when failed line
-told_read given before given' name line failed is e =
-    e ∙ ap (λ xs. xs ++ when failed line) (ap faults_of is ∙ append-nil (faults_of given))
+told_read given before given' line failed new e =
+    e ∙ ap (λ xs. xs ++ when failed line) (ap faults_of new.1 ∙ append-nil (faults_of given))
 
-pub told_failed : (given before given' : List Given) (name name' : List ℕ) (failed : Bool)
-    → before ≡ File name [] Left ∷ given
+pub told_failed : (given before given' : List Given) (name' : List ℕ) (failed : Bool) → GaveFile given before
     → faults_of given' ≡ faults_of before ++ when failed (fault_line (newest_name given') ReadFailed)
     → failed ≡ true → name' ≡ newest_name given' → faults_of given' ≡ faults_of given ++ fault_line name' ReadFailed
-told_failed given before given' name name' failed is e t named =
-    told_read given before given' name (fault_line (newest_name given') ReadFailed) failed is e
+told_failed given before given' name' failed new e t named =
+    told_read given before given' (fault_line (newest_name given') ReadFailed) failed new e
     ∙ (ap (λ b. faults_of given ++ when b (fault_line (newest_name given') ReadFailed)) t
     ∙ ap (λ n. faults_of given ++ fault_line n ReadFailed) (sym named))
 
-pub told_unfailed : (given before given' : List Given) (name : List ℕ) (failed : Bool)
-    → before ≡ File name [] Left ∷ given
+pub told_unfailed : (given before given' : List Given) (failed : Bool) → GaveFile given before
     → faults_of given' ≡ faults_of before ++ when failed (fault_line (newest_name given') ReadFailed)
     → failed ≡ false → faults_of given' ≡ faults_of given ++ []
-told_unfailed given before given' name failed is e t =
-    told_read given before given' name (fault_line (newest_name given') ReadFailed) failed is e
+told_unfailed given before given' failed new e t =
+    told_read given before given' (fault_line (newest_name given') ReadFailed) failed new e
     ∙ ap (λ b. faults_of given ++ when b (fault_line (newest_name given') ReadFailed)) t
 
 -- Why a run breaks off.
@@ -393,13 +391,12 @@ module _ {A : Type 0} {engine : Engine A} {aim : Aim} {given : List Given} {out 
 
 -- a file was opened, by the name that is told of what was given
 pub file_started : {A : Type 0} {reader : FileReader A} {engine : Engine A} {aim : Aim} {given : List Given}
-    {out : Stream}
-    (now : List Given) (name name' : List ℕ) → now ≡ File name [] Left ∷ given → name' ≡ newest_name now
+    {out : Stream} (now : List Given) (name' : List ℕ) → GaveFile given now → name' ≡ newest_name now
     → IsInsideFile reader engine aim (File name' [] Left ∷ given) out → IsInsideFile reader engine aim now out
-file_started {reader = reader} {engine = engine} {aim = aim} {given = given} {out = out} now name name' is named h =
+file_started {reader = reader} {engine = engine} {aim = aim} {given = given} {out = out} now name' new named h =
     let P : List Given → Type 0 = λ gs. IsInsideFile reader engine aim gs out in
-    let same : name' ≡ name = named ∙ ap newest_name is in
-    subst P (sym (is ∙ ap (λ n. File n [] Left ∷ given) (sym same))) h
+    let same : name' ≡ new.0 = named ∙ ap newest_name new.1 in
+    subst P (sym (new.1 ∙ ap (λ n. File n [] Left ∷ given) (sym same))) h
 
 -- no name was asked for behind a selected line
 pub ends_at : (aim : Aim) (given before : List Given) → drop 1 given ≡ before

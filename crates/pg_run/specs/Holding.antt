@@ -27,7 +27,7 @@ waiting engine = map arc_value engine.round.items
 abbrev pub HasRoomInRound : {A : Type 0} → Engine A → Type 0
 HasRoomInRound engine = engine.spread ≡ true → length engine.round.items < engine.setup.round
 
--- blocks wait, or are searched at once, as before
+-- blocks are searched as before: at once, or by rounds
 abbrev pub SearchesAsBefore : {A : Type 0} → (old new : Engine A) → Type 0
 SearchesAsBefore old new = (new.spread ≡ old.spread) × (new.setup ≡ old.setup)
 
@@ -70,7 +70,7 @@ pub record HasPlan {A : Type 0} (engine : Engine A) (aim : Aim) (steps : List St
   pub got : out.taken ≡ aim.out.taken ++ written
   pub calm : out.failures ≡ aim.out.failures
 
--- it has no step yet, for each run by this text and setup
+-- its plan has no step yet, in each run for this text and setup
 abbrev pub IsNewEngine : {A : Type 0} → SearchText → Setup → Engine A → Type 0
 IsNewEngine text setup engine = (aim : Aim) → HasItsTrees aim.query → aim.query.text ≡ text → aim.setup ≡ setup
     → HasPlan engine aim [] aim.out
@@ -92,7 +92,7 @@ abbrev pub TakesStep : {A T E : Type 0} → (old new : Engine A) → Step → Re
 TakesStep old new step result = (aim : Aim) → (steps : List Step) → (out : Stream) → IsReady old aim steps out step
     → OnOk result (HasPlan new aim (step ∷ steps) out)
 
--- at Ok it opened this file on each plan on which that may follow, and answers a new cutter for it
+-- At Ok this file was opened on each plan on which that may follow, and the answer is a new cutter for it.
 abbrev pub OpensFile : {A E : Type 0} → (old new : Engine A) → (name : List ℕ) → Result (Cutter A) E → Type 0
 OpensFile old new name result = (aim : Aim) → (steps : List Step) → (out : Stream)
     → IsReady old aim steps out (Opens name)
@@ -142,14 +142,14 @@ WritesPlan old new before after result = (aim : Aim) → (steps : List Step) →
     → MatchResult result (λ _. HasPlan new aim steps after × AllIsWritten aim steps after)
     (BreaksOffInSearch aim steps after)
 
--- At Ok no block waits any more, and all that the plan gives is written.
+-- Blocks are searched as before. At Ok none waits any more, and all that the plan gives is written.
 pub record EmptiesRound {A T : Type 0} (old new : Engine A) (before after : Stream) (result : Result T RunFault)
     : Type 0 where
   pub kept : SearchesAsBefore old new
   pub none : OnOk result (new.round.items ≡ [])
   pub outcome : WritesPlan old new before after result
 
--- the plan came to its end: all is written, its status is answered, and no write failed
+-- all that the plan gives is written, its status is answered, and no write failed
 pub record IsFinished (aim : Aim) (steps : List Step) (out : Stream) (answer : ℕ) : Type 0 where
   pub written : AllIsWritten aim steps out
   pub answered : answer ≡ status aim.query (format_of aim) (entries_of steps)

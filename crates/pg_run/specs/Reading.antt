@@ -83,7 +83,7 @@ pub record MayBeRead {A : Type 0} (reader : FileReader A) (given : List Given) :
 abbrev pub AwaitsMore : {A : Type 0} → FileReader A → Type 0
 AwaitsMore reader = (reader.came ≡ More) × IsDrained reader.cutter
 
--- all blocks that are cut were taken, and a last one has room where it would wait
+-- all blocks that are cut were taken, and there is room for the last one
 abbrev pub AwaitsLast : {A : Type 0} → FileReader A → Engine A → Type 0
 AwaitsLast reader engine = IsDrained reader.cutter × HasRoomInRound engine
 
@@ -103,7 +103,7 @@ abbrev pub IsReadingSomeFile : {A : Type 0} → FileReader A → Engine A → St
 IsReadingSomeFile reader engine out =
     (aim : Aim) × (given : List Given) × IsDrained reader.cutter × IsInsideFile reader engine aim given out
 
--- and the file can't go on: its reading failed or came to its end
+-- and the file can't go on, for its end or a failure, with room for its last block
 pub record IsAtLastBlock {A : Type 0} (reader : FileReader A) (engine : Engine A) (failed : Bool) (out : Stream)
     : Type 0 where
   pub ended : ending_after reader.came ≡ ending_of failed

@@ -1,7 +1,6 @@
 use Rattle.std.proofs.Common.{◌∷◌, refl}
 use Rattle.std.proofs.lemmas.Result.{IfOk-from_err}
 use Rattle.pg_seq.specs.Plan.{Ends}
-use Rattle.pg_run.specs.Reading.{BreaksOffInFile}
 use Rattle.pg_run.proofs.HoldLemmas.{fails_by}
 use Rattle.pg_run.proofs.ReadingLemmas.{file_ended, ended_breaks}
 use Rattle.pg_run.proofs.reading.end_file.Goals as goal
@@ -26,7 +25,7 @@ returns-in_err-flush_ended-clause-outcome g c = λ aim given k.
     let out' = g.W.Sink.stream c.flush_ended.new.out in
     let fault = c.in_err-flush_ended.field-0.0 in
     let ended = c.end.ensures aim k.steps _ (k.holds, (k.running, tt)) in
-    fails_by c.from_residual.result _ (BreaksOffInFile aim given out') fault c.from_residual.ensures.1
+    fails_by c.from_residual.result _ _ c.from_residual.ensures.1
     (ended_breaks c.args.failed k out' fault (c.in_err-flush_ended.ensures aim _ ended))
 
 pub returns-in_err-send_on-clause-failed : goal.returns-in_err-send_on-clause-failed
@@ -38,8 +37,7 @@ returns-in_err-send_on-clause-outcome g c = λ aim given k.
     let out' = g.W.Sink.stream c.send_on.new.out in
     let fault = c.in_err-send_on.field-0.0 in
     let ended = c.end.ensures aim k.steps _ (k.holds, (k.running, tt)) in
-    fails_by c.from_residual-in_err-send_on.result _ (BreaksOffInFile aim given out') fault
-    c.from_residual-in_err-send_on.ensures.1
+    fails_by c.from_residual-in_err-send_on.result _ _ c.from_residual-in_err-send_on.ensures.1
     (ended_breaks c.args.failed k out' fault
     (c.in_err-send_on.ensures aim _ (c.in_ok-flush_ended.ensures aim _ ended)))
 

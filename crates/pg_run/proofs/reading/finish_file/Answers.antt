@@ -1,5 +1,4 @@
 use Rattle.std.proofs.lemmas.Result.{IfOk-from_err}
-use Rattle.pg_run.specs.Reading.{BreaksOffInFile}
 use Rattle.pg_run.proofs.HoldLemmas.{fails_by}
 use Rattle.pg_run.proofs.reading.finish_file.Goals as goal
 
@@ -11,10 +10,7 @@ returns-in_err-search_last-clause-failed g c = IfOk-from_err c.from_residual.res
 
 pub returns-in_err-search_last-clause-outcome : goal.returns-in_err-search_last-clause-outcome
 returns-in_err-search_last-clause-outcome g c = λ aim given h.
-    let out' = g.W.Sink.stream c.search_last.new.out in
-    fails_by c.from_residual.result _ (BreaksOffInFile aim given out') c.in_err-search_last.field-0.0
-    c.from_residual.ensures.1
-    (c.in_err-search_last.ensures aim given h)
+    fails_by c.from_residual.result _ _ c.from_residual.ensures.1 (c.in_err-search_last.ensures aim given h)
 
 pub end_file-requires-clause-may_end : goal.end_file-requires-clause-may_end
 end_file-requires-clause-may_end g c κs within =

@@ -1,7 +1,7 @@
 use Rattle.std.proofs.Common.{◌∙◌, false, true, ap, sym}
 use Rattle.std.proofs.lemmas.Result.{IfOk-from_err}
 use Rattle.pg_base.specs.Entries.{is_failed}
-use Rattle.pg_run.specs.Reading.{BreaksOffInFile, ending_after}
+use Rattle.pg_run.specs.Reading.{ending_after}
 use Rattle.pg_run.proofs.HoldLemmas.{fails_by}
 use Rattle.pg_run.proofs.ReadingLemmas.{may_leave, told_more, refused_last, then_reads}
 use Rattle.pg_run.proofs.reading.read_file.Goals as goal
@@ -51,10 +51,7 @@ returns-in_err-read_once-clause-told g c =
 
 pub returns-in_err-read_once-clause-outcome : goal.returns-in_err-read_once-clause-outcome
 returns-in_err-read_once-clause-outcome g c = λ aim start.
-    let out' = g.W.Sink.stream c.read_once.new.out in
-    fails_by c.from_residual-in_err-read_once.result _ (BreaksOffInFile aim (g.F.Files.past
-    c.read_once.new.files).given out')
-    c.in_err-read_once.field-0.0 c.from_residual-in_err-read_once.ensures.1
+    fails_by c.from_residual-in_err-read_once.result _ _ c.from_residual-in_err-read_once.ensures.1
     (c.in_err-read_once.ensures.outcome aim (c.in_ok-settle.ensures.outcome _ aim (c.loop.invariant.reads aim start)))
 
 pub loop-preserved : goal.loop-preserved
@@ -150,6 +147,5 @@ returns-in_err-settle-clause-told g c = IfOk-from_err c.from_residual.result _ c
 
 pub returns-in_err-settle-clause-outcome : goal.returns-in_err-settle-clause-outcome
 returns-in_err-settle-clause-outcome g c = λ aim start.
-    let out' = g.W.Sink.stream c.settle.new.out in
-    fails_by c.from_residual.result _ (BreaksOffInFile aim _ out') c.in_err-settle.field-0.0 c.from_residual.ensures.1
+    fails_by c.from_residual.result _ _ c.from_residual.ensures.1
     (c.in_err-settle.ensures.outcome _ aim (c.loop.invariant.reads aim start))

@@ -1,5 +1,4 @@
 use Rattle.std.proofs.Common.{◌∙◌}
-use Rattle.pg_run.specs.Reading.{BreaksOffInFile}
 use Rattle.pg_run.proofs.HoldLemmas.{ok_of_err, fails_by}
 use Rattle.pg_run.proofs.ReadingLemmas.{read_on, then_reads}
 use Rattle.pg_run.proofs.reading.read_once.Goals as goal
@@ -20,13 +19,10 @@ search_ready-requires-clause-in_file g c κs within =
 
 pub returns-in_err-search_ready-clause-outcome : goal.returns-in_err-search_ready-clause-outcome
 returns-in_err-search_ready-clause-outcome g c = λ aim start.
-    let out' = g.W.Sink.stream c.search_ready.new.out in
     let given = (g.F.Files.past c.args.files.now).given in
     let out = g.W.Sink.stream c.args.out.now in
     let h = c.recycle.ensures.in_file aim given out start in
-    fails_by c.from_residual.result _
-    (BreaksOffInFile aim (g.F.Files.past c.search_ready.new.files).given out') c.in_err-search_ready.field-0.0
-    c.from_residual.ensures.1
+    fails_by c.from_residual.result _ _ c.from_residual.ensures.1
     (c.in_err-search_ready.ensures.outcome aim (read_on h c.read.ensures))
 
 pub returns-clause-outcome : goal.returns-clause-outcome

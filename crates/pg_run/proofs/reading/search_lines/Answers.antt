@@ -1,5 +1,4 @@
 use Rattle.std.proofs.lemmas.Result.{MatchResult-weaker}
-use Rattle.pg_run.specs.Reading.{BreaksOffInFile}
 use Rattle.pg_run.proofs.HoldLemmas.{fails_by}
 use Rattle.pg_run.proofs.BlockLemmas.{gives_early}
 use Rattle.pg_run.proofs.ReadingLemmas.{rest_breaks, next_may, next_breaks, next_taken, recut_by}
@@ -14,7 +13,7 @@ pub returns-in_err-make_room-clause-outcome : goal.returns-in_err-make_room-clau
 returns-in_err-make_room-clause-outcome g c = λ given aim h.
     let out' = g.W.Sink.stream c.make_room.new.out in
     let fault = c.in_err-make_room.field-0.0 in
-    fails_by c.from_residual.result _ (BreaksOffInFile aim given out') fault c.from_residual.ensures.1
+    fails_by c.from_residual.result _ _ c.from_residual.ensures.1
     (rest_breaks h c.args.reader.now given out' fault h.cuts (c.in_err-make_room.ensures.outcome aim h.steps h.holds))
 
 pub search-requires-clause-room : goal.search-requires-clause-room

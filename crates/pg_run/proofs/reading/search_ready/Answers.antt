@@ -1,4 +1,3 @@
-use Rattle.pg_run.specs.Reading.{BreaksOffInFile}
 use Rattle.pg_run.proofs.HoldLemmas.{ok_of_err, fails_by}
 use Rattle.pg_run.proofs.BlockLemmas.{gives_next}
 use Rattle.pg_run.proofs.ReadingLemmas.{next_may, next_breaks, next_taken, none_taken, then_reads}
@@ -11,9 +10,7 @@ make_room-requires-clause-in_file g c κs within =
 
 pub returns-in_err-make_room-clause-outcome : goal.returns-in_err-make_room-clause-outcome
 returns-in_err-make_room-clause-outcome g c = λ aim start.
-    let out' = g.W.Sink.stream c.make_room.new.out in
-    fails_by c.from_residual.result _ (BreaksOffInFile aim (g.F.Files.past c.make_room.new.files).given out')
-    c.in_err-make_room.field-0.0 c.from_residual.ensures.1
+    fails_by c.from_residual.result _ _ c.from_residual.ensures.1
     (c.in_err-make_room.ensures.outcome aim (c.loop.invariant.reads aim start))
 
 pub search-requires-clause-ready : goal.search-requires-clause-ready
@@ -30,9 +27,7 @@ returns-in_err-search-clause-outcome g c = λ aim start.
     let n = gives_next h.cuts.fed c.in-Some-take.block (c.in-Some-take.ensures.next h.cuts.fed h.cuts.cut) in
     let out' = g.W.Sink.stream c.search.new.out in
     let fault = c.in_err-search.field-0.0 in
-    fails_by c.from_residual-in_err-search.result _ (BreaksOffInFile aim (g.F.Files.past c.make_room.new.files).given
-    out') fault
-    c.from_residual-in_err-search.ensures.1
+    fails_by c.from_residual-in_err-search.result _ _ c.from_residual-in_err-search.ensures.1
     (next_breaks h c.in-Some-take.block out' fault n
     (c.in_err-search.ensures aim h.steps (h.holds, next_may h.cuts c.in-Some-take.block n)))
 
@@ -98,9 +93,7 @@ returns-in_err-send_on-clause-outcome g c = λ aim start.
     let n = gives_next h.cuts.fed block (c.in-Some-take.ensures.next h.cuts.fed h.cuts.cut) in
     let out' = g.W.Sink.stream c.send_on.new.out in
     let fault = c.in_err-send_on.field-0.0 in
-    fails_by c.from_residual-in_err-send_on.result _ (BreaksOffInFile aim (g.F.Files.past c.make_room.new.files).given
-    out')
-    fault c.from_residual-in_err-send_on.ensures.1
+    fails_by c.from_residual-in_err-send_on.result _ _ c.from_residual-in_err-send_on.ensures.1
     (next_breaks h block out' fault n
     (c.in_err-send_on.ensures aim _
     (c.in_ok-search.ensures aim h.steps (h.holds, next_may h.cuts block n)).0))

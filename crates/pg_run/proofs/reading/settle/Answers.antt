@@ -1,4 +1,3 @@
-use Rattle.pg_run.specs.Reading.{BreaksOffInFile}
 use Rattle.pg_run.proofs.HoldLemmas.{fails_by}
 use Rattle.pg_run.proofs.ReadingLemmas.{flushed, rest_breaks}
 use Rattle.pg_run.proofs.reading.settle.Goals as goal
@@ -11,10 +10,7 @@ returns-in_err-search_lines-clause-came g c = c.in_err-search_lines.ensures.came
 
 pub returns-in_err-search_lines-clause-outcome : goal.returns-in_err-search_lines-clause-outcome
 returns-in_err-search_lines-clause-outcome g c = λ given aim h.
-    let out' = g.W.Sink.stream c.search_lines.new.out in
-    fails_by c.from_residual.result _ (BreaksOffInFile aim given out') c.in_err-search_lines.field-0.0
-    c.from_residual.ensures.1
-    (c.in_err-search_lines.ensures.outcome given aim h)
+    fails_by c.from_residual.result _ _ c.from_residual.ensures.1 (c.in_err-search_lines.ensures.outcome given aim h)
 
 pub flush_waiting-requires-clause-holds : goal.flush_waiting-requires-clause-holds
 flush_waiting-requires-clause-holds g c κs within =
@@ -30,8 +26,7 @@ returns-in_err-flush_waiting-clause-outcome g c = λ given aim h.
     let out' = g.W.Sink.stream c.flush_waiting.new.out in
     let k = c.in_ok-search_lines.ensures.outcome given aim h in
     let fault = c.in_err-flush_waiting.field-0.0 in
-    fails_by c.from_residual-in_err-flush_waiting.result _ (BreaksOffInFile aim given out') fault
-    c.from_residual-in_err-flush_waiting.ensures.1
+    fails_by c.from_residual-in_err-flush_waiting.result _ _ c.from_residual-in_err-flush_waiting.ensures.1
     (rest_breaks k _ given out' fault k.cuts (c.in_err-flush_waiting.ensures aim k.steps k.holds))
 
 pub returns-in_err-send_on-clause-came : goal.returns-in_err-send_on-clause-came
@@ -43,8 +38,7 @@ returns-in_err-send_on-clause-outcome g c = λ given aim h.
     let k = c.in_ok-search_lines.ensures.outcome given aim h in
     let holds = c.in_ok-flush_waiting.ensures aim k.steps k.holds in
     let fault = c.in_err-send_on.field-0.0 in
-    fails_by c.from_residual-in_err-send_on.result _ (BreaksOffInFile aim given out') fault
-    c.from_residual-in_err-send_on.ensures.1
+    fails_by c.from_residual-in_err-send_on.result _ _ c.from_residual-in_err-send_on.ensures.1
     (rest_breaks k _ given out' fault k.cuts (c.in_err-send_on.ensures aim k.steps holds))
 
 pub returns-clause-came : goal.returns-clause-came

@@ -1,7 +1,7 @@
 use Rattle.std.proofs.Common.{◌∙◌, Bool, List, inl, inr, sym, subst}
 use Rattle.pg_files.specs.Given.{Given, entries_given}
 use Rattle.pg_run.specs.Outcome.{EndsAtSelected}
-use Rattle.pg_run.specs.Reading.{GivesNext, BreaksOffBehind}
+use Rattle.pg_run.specs.Reading.{GivesNext}
 use Rattle.pg_run.proofs.HoldLemmas.{fails_by}
 use Rattle.pg_run.proofs.RunLemmas.{between_enough, between_more, ends_at, read_rightly}
 use Rattle.pg_run.proofs.running.all_files.Goals as goal
@@ -26,13 +26,10 @@ take_next-requires-clause-rests g c κs within =
 
 pub returns-in_err-take_next-clause-outcome : goal.returns-in_err-take_next-clause-outcome
 returns-in_err-take_next-clause-outcome g c = λ aim start.
-    let out' = g.W.Sink.stream c.take_next.new.out in
-    let told' = g.E.Sink.stream c.take_next.new.faults in
     let r = c.loop.invariant.rests aim start in
     let b = r.0.0 in
     let few = sym (c.enough.ensures aim b.steps _ b.holds) ∙ c.if-enough.false in
-    fails_by c.from_residual.result _ (BreaksOffBehind aim (g.F.Files.past c.take_next.new.files).given out' told')
-    c.in_err-take_next.field-0.0 c.from_residual.ensures.1 (
+    fails_by c.from_residual.result _ _ c.from_residual.ensures.1 (
       c.in_err-take_next.ensures.outcome aim r.0,
       read_rightly b r.1 (between_more b few)
           (g.F.Files.past c.take_next.new.files).given c.in_err-take_next.ensures.went,

@@ -2,7 +2,6 @@ use Rattle.std.proofs.Common.{◌∷◌, ap, refl, subst, sym}
 use Rattle.pg_files.specs.Given.{NoFile}
 use Rattle.pg_run.specs.Told.{fault_line}
 use Rattle.pg_run.specs.Reading.{BreaksOffTold}
-use Rattle.pg_run.specs.declared.fault.RunFault.TheVariants.{OutOfMemory}
 use Rattle.pg_run.proofs.HoldLemmas.{fails_by}
 use Rattle.pg_run.proofs.RunLemmas.{told_by, stops_telling, stops_reading, stops_memory, rows_sent}
 use Rattle.pg_run.proofs.RunLemmas.{taken_part, unmissed_safe, unsent_breaks, name_missed}
@@ -15,7 +14,7 @@ returns-in_err-send_on g c = λ given aim rests.
     let more = NoFile c.args.name.now c.args.cause ∷ given in
     let fault = c.in_err-send_on.field-0.0 in
     let broke = c.in_err-send_on.ensures aim rests.0.steps rests.0.holds in
-    fails_by c.from_residual.result _ (BreaksOffTold aim more out' told) fault c.from_residual.ensures.1
+    fails_by c.from_residual.result _ _ c.from_residual.ensures.1
     (stops_reading aim given more out' told fault (unsent_breaks rests.0 c.args.name.now c.args.cause out' fault broke)
     rests.1 refl)
 
@@ -27,9 +26,7 @@ returns-in_err-tell_fault g c = λ given aim rests.
     let more = NoFile c.args.name.now c.args.cause ∷ given in
     let err = c.in_err-tell_fault.ensures in
     let b = rows_sent rests.0 _ out' (c.in_ok-send_on.ensures aim rests.0.steps rests.0.holds) in
-    fails_by c.from_residual-in_err-tell_fault.result _ (BreaksOffTold aim more out' told')
-    c.in_err-tell_fault.field-0.0
-    c.from_residual-in_err-tell_fault.ensures.1
+    fails_by c.from_residual-in_err-tell_fault.result _ _ c.from_residual-in_err-tell_fault.ensures.1
     (subst (BreaksOffTold aim more out' told') (sym err.fault)
     (stops_telling aim given more out' told told' c.args.engine.now.setup.silent
     (fault_line c.args.name.now c.args.cause) (ap (λ s. s.silent) b.holds.set)
@@ -49,8 +46,7 @@ returns-in_err-miss g c = λ given aim rests.
     let more = NoFile c.args.name.now c.args.cause ∷ given in
     let ok = c.in_ok-tell_fault.ensures in
     let b = rows_sent rests.0 _ out' (c.in_ok-send_on.ensures aim rests.0.steps rests.0.holds) in
-    fails_by c.from_residual-in_err-miss.result _ (BreaksOffTold aim more out' told') OutOfMemory
-    c.from_residual-in_err-miss.ensures.1
+    fails_by c.from_residual-in_err-miss.result _ _ c.from_residual-in_err-miss.ensures.1
     (stops_memory aim more out' told' (unmissed_safe b c.args.name.now c.args.cause out'.taken (taken_part b))
     b.holds.calm
     (told_by aim given more told told' c.args.engine.now.setup.silent (fault_line c.args.name.now c.args.cause)

@@ -13,14 +13,12 @@ use Rattle.pg_run.proofs.running.one_file.Goals as goal
 
 pub returns-then-engine-ge-MOST_FILES-clause-outcome : goal.returns-then-engine-ge-MOST_FILES-clause-outcome
 returns-then-engine-ge-MOST_FILES-clause-outcome g c = λ given new aim rests.
-    let name = new.0 in
-    let is = new.1 in
     let out' = g.W.Sink.stream c.break_off.new.out in
     let told = g.E.Sink.stream c.args.faults.now in
-    let more = File name [] Left ∷ given in
+    let more = File new.0 [] Left ∷ given in
     let P : List Given → Type 0 = λ gs. BreaksOffTold aim gs out' told c.break_off.result in
-    subst P (sym is) (stops_reading aim given more out' told c.break_off.result
-    (unnumbered rests.0 out' name c.break_off.result c.if-engine-ge-MOST_FILES.true
+    subst P (sym new.1) (stops_reading aim given more out' told c.break_off.result
+    (unnumbered rests.0 out' new.0 c.break_off.result c.if-engine-ge-MOST_FILES.true
     (c.break_off.ensures aim rests.0.steps rests.0.holds)) rests.1 refl)
 
 pub break_off-requires-clause-holds : goal.break_off-requires-clause-holds
@@ -35,16 +33,13 @@ open_file-requires-clause-between g c =
 
 pub returns-in_err-open_file-clause-outcome : goal.returns-in_err-open_file-clause-outcome
 returns-in_err-open_file-clause-outcome g c = λ given new aim rests.
-    let name = new.0 in
-    let is = new.1 in
     let out = g.W.Sink.stream c.args.out.now in
     let told = g.E.Sink.stream c.args.faults.now in
     let P : List Given → Type 0 = λ gs. BreaksOffTold aim gs out told OutOfMemory in
-    let more = File name [] Left ∷ given in
-    fails_by c.from_residual.result _ (BreaksOffTold aim (g.F.Files.past c.args.files.now).given out told) OutOfMemory
-    c.from_residual.ensures.1
-    (subst P (sym is)
-    (stops_memory aim more out told (unopened_safe rests.0 name out.taken (taken_part rests.0)) rests.0.holds.calm
+    let more = File new.0 [] Left ∷ given in
+    fails_by c.from_residual.result _ _ c.from_residual.ensures.1
+    (subst P (sym new.1)
+    (stops_memory aim more out told (unopened_safe rests.0 new.0 out.taken (taken_part rests.0)) rests.0.holds.calm
     (told_same aim given more told rests.1 refl)))
 
 pub read_file-requires-clause-in_file : goal.read_file-requires-clause-in_file
@@ -52,33 +47,27 @@ read_file-requires-clause-in_file g c κs within =
     let r = c.requires.rests in
     let out = g.W.Sink.stream c.args.out.now in (
       r.2.0,
-      file_started (g.F.Files.past c.args.files.now).given r.1.0 c.name.result.now r.1.1 c.name.ensures
+      file_started (g.F.Files.past c.args.files.now).given c.name.result.now r.1 c.name.ensures
           (c.in_ok-open_file.ensures.ok r.2.0 r.0 out r.2.1.0),
     )
 
 pub returns-in_err-failed-clause-outcome : goal.returns-in_err-failed-clause-outcome
 returns-in_err-failed-clause-outcome g c = λ given new aim rests.
-    let name = new.0 in
-    let is = new.1 in
     let out = g.W.Sink.stream c.args.out.now in
-    let start = file_started (g.F.Files.past c.args.files.now).given name c.name.result.now is c.name.ensures
+    let start = file_started (g.F.Files.past c.args.files.now).given c.name.result.now new c.name.ensures
     (c.in_ok-open_file.ensures.ok aim given out rests.0) in
     let told = g.E.Sink.stream c.args.faults.now in
-    let before = (g.F.Files.past c.args.files.now).given in
     let given' = (g.F.Files.past c.read_file.new.files).given in
     let out' = g.W.Sink.stream c.read_file.new.out in
     let fault = c.in_err-failed.field-0.0 in
-    fails_by c.from_residual-in_err-failed.result _ (BreaksOffTold aim given' out' told) fault
-    c.from_residual-in_err-failed.ensures.1
+    fails_by c.from_residual-in_err-failed.result _ _ c.from_residual-in_err-failed.ensures.1
     (stops_reading aim given given' out' told fault (c.in_err-failed.ensures.outcome aim start) rests.1
-    (c.in_err-failed.ensures.reads_on.before ∙ ap (λ gs. drop 1 gs) is))
+    (c.in_err-failed.ensures.reads_on.before ∙ ap (λ gs. drop 1 gs) new.1))
 
 pub returns-in_err-tell_fault-clause-outcome : goal.returns-in_err-tell_fault-clause-outcome
 returns-in_err-tell_fault-clause-outcome g c = λ given new aim rests.
-    let name = new.0 in
-    let is = new.1 in
     let out = g.W.Sink.stream c.args.out.now in
-    let start = file_started (g.F.Files.past c.args.files.now).given name c.name.result.now is c.name.ensures
+    let start = file_started (g.F.Files.past c.args.files.now).given c.name.result.now new c.name.ensures
     (c.in_ok-open_file.ensures.ok aim given out rests.0) in
     let told = g.E.Sink.stream c.args.faults.now in
     let before = (g.F.Files.past c.args.files.now).given in
@@ -88,23 +77,19 @@ returns-in_err-tell_fault-clause-outcome g c = λ given new aim rests.
     let after = c.in_ok-failed.ensures.outcome aim start in
     let line = fault_line c.name-then-failed.result.now ReadFailed in
     let more : faults_of given' ≡ faults_of given ++ line =
-    told_failed given before given' name c.name-then-failed.result.now c.in_ok-failed.failed is
+    told_failed given before given' c.name-then-failed.result.now c.in_ok-failed.failed new
     c.in_ok-failed.ensures.told c.if-failed.true c.name-then-failed.ensures in
     let set = ap (λ s. s.silent) after.holds.set in
     let err = c.in_err-tell_fault.ensures in
-    fails_by c.from_residual-in_err-tell_fault.result _ (BreaksOffTold aim given' out' told')
-    c.in_err-tell_fault.field-0.0
-    c.from_residual-in_err-tell_fault.ensures.1
+    fails_by c.from_residual-in_err-tell_fault.result _ _ c.from_residual-in_err-tell_fault.ensures.1
     (subst (BreaksOffTold aim given' out' told') (sym err.fault)
     (stops_telling aim given given' out' told told' c.read_file.new.engine.setup.silent line set (between_safe after)
     rests.1 more err.writes.err))
 
 pub returns-in_ok-tell_fault-clause-outcome : goal.returns-in_ok-tell_fault-clause-outcome
 returns-in_ok-tell_fault-clause-outcome g c = λ given new aim rests.
-    let name = new.0 in
-    let is = new.1 in
     let out = g.W.Sink.stream c.args.out.now in
-    let start = file_started (g.F.Files.past c.args.files.now).given name c.name.result.now is c.name.ensures
+    let start = file_started (g.F.Files.past c.args.files.now).given c.name.result.now new c.name.ensures
     (c.in_ok-open_file.ensures.ok aim given out rests.0) in
     let told = g.E.Sink.stream c.args.faults.now in
     let before = (g.F.Files.past c.args.files.now).given in
@@ -113,7 +98,7 @@ returns-in_ok-tell_fault-clause-outcome g c = λ given new aim rests.
     let after = c.in_ok-failed.ensures.outcome aim start in
     let line = fault_line c.name-then-failed.result.now ReadFailed in
     let more : faults_of given' ≡ faults_of given ++ line =
-    told_failed given before given' name c.name-then-failed.result.now c.in_ok-failed.failed is
+    told_failed given before given' c.name-then-failed.result.now c.in_ok-failed.failed new
     c.in_ok-failed.ensures.told c.if-failed.true c.name-then-failed.ensures in
     let set = ap (λ s. s.silent) after.holds.set in
     let ok = c.in_ok-tell_fault.ensures in (
@@ -123,17 +108,15 @@ returns-in_ok-tell_fault-clause-outcome g c = λ given new aim rests.
 
 pub returns-else-failed-clause-outcome : goal.returns-else-failed-clause-outcome
 returns-else-failed-clause-outcome g c = λ given new aim rests.
-    let name = new.0 in
-    let is = new.1 in
     let out = g.W.Sink.stream c.args.out.now in
-    let start = file_started (g.F.Files.past c.args.files.now).given name c.name.result.now is c.name.ensures
+    let start = file_started (g.F.Files.past c.args.files.now).given c.name.result.now new c.name.ensures
     (c.in_ok-open_file.ensures.ok aim given out rests.0) in
     let told = g.E.Sink.stream c.args.faults.now in
     let before = (g.F.Files.past c.args.files.now).given in
     let given' = (g.F.Files.past c.read_file.new.files).given in (
       c.in_ok-failed.ensures.outcome aim start,
       told_same aim given given' told rests.1
-          (told_unfailed given before given' name c.in_ok-failed.failed is c.in_ok-failed.ensures.told
+          (told_unfailed given before given' c.in_ok-failed.failed new c.in_ok-failed.ensures.told
           c.if-failed.false),
     )
 

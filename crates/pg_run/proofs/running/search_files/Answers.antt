@@ -1,4 +1,3 @@
-use Rattle.pg_run.specs.Reading.{BreaksOffBehind}
 use Rattle.pg_run.proofs.HoldLemmas.{fails_by}
 use Rattle.pg_run.proofs.RunLemmas.{done_breaks, done_finishes}
 use Rattle.pg_run.proofs.running.search_files.Goals as goal
@@ -14,10 +13,7 @@ returns-in_err-all_files-clause-same_list g c = c.in_err-all_files.ensures.same_
 
 pub returns-in_err-all_files-clause-outcome : goal.returns-in_err-all_files-clause-outcome
 returns-in_err-all_files-clause-outcome g c = λ aim start.
-    let out' = g.W.Sink.stream c.all_files.new.out in
-    let told' = g.E.Sink.stream c.all_files.new.faults in
-    fails_by c.from_residual.result _ (BreaksOffBehind aim (g.F.Files.past c.all_files.new.files).given out' told')
-    c.in_err-all_files.field-0.0 c.from_residual.ensures.1 (c.in_err-all_files.ensures.outcome aim start)
+    fails_by c.from_residual.result _ _ c.from_residual.ensures.1 (c.in_err-all_files.ensures.outcome aim start)
 
 pub finish-requires-clause-holds : goal.finish-requires-clause-holds
 finish-requires-clause-holds g c κs within =
@@ -31,12 +27,9 @@ returns-in_err-status-clause-same_list g c = c.in_ok-all_files.ensures.same_list
 pub returns-in_err-status-clause-outcome : goal.returns-in_err-status-clause-outcome
 returns-in_err-status-clause-outcome g c = λ aim start.
     let out' = g.W.Sink.stream c.finish.new.out in
-    let told' = g.E.Sink.stream c.all_files.new.faults in
     let d = c.in_ok-all_files.ensures.outcome aim start in
-    let given = (g.F.Files.past c.all_files.new.files).given in
     let fault = c.in_err-status.field-0.0 in
-    fails_by c.from_residual-in_err-status.result _ (BreaksOffBehind aim given out' told') fault
-    c.from_residual-in_err-status.ensures.1
+    fails_by c.from_residual-in_err-status.result _ _ c.from_residual-in_err-status.ensures.1
     (done_breaks d out' fault (c.in_err-status.ensures aim d.rests.0.steps d.rests.0.holds))
 
 pub returns-clause-same_list : goal.returns-clause-same_list

@@ -15,8 +15,7 @@ returns-in_err-next-clause-outcome g c = λ aim rests.
     let told = g.E.Sink.stream c.args.faults.now in
     let given = (g.F.Files.past c.args.files.now).given in
     let P : FilesPast → Type 0 = λ p. BreaksOffTold aim p.given out told OutOfMemory in
-    fails_by c.from_residual.result _ (BreaksOffTold aim (g.F.Files.past c.next.new.self).given out told) OutOfMemory
-    c.from_residual.ensures.1
+    fails_by c.from_residual.result _ _ c.from_residual.ensures.1
     (subst P (sym c.in_err-next.ensures.err)
     (stops_memory aim given out told (between_safe rests.0) rests.0.holds.calm rests.1))
 
@@ -42,13 +41,9 @@ one_file-requires-clause-rests g c κs within =
 
 pub returns-in_err-one_file-in-File-clause-outcome : goal.returns-in_err-one_file-in-File-clause-outcome
 returns-in_err-one_file-in-File-clause-outcome g c = λ aim rests.
-    let out' = g.W.Sink.stream c.one_file.new.out in
-    let told' = g.E.Sink.stream c.one_file.new.faults in
     let S : Step → Type 0 = λ s. NextGives s (g.F.Files.past c.args.files.now) (g.F.Files.past c.next.new.self) in
     let e = subst S c.in-File.is c.in_ok-next.ensures.ok in
-    fails_by c.from_residual-in_err-one_file-in-File.result _
-    (BreaksOffTold aim (g.F.Files.past c.one_file.new.files).given out' told') c.in_err-one_file-in-File.field-0.0
-    c.from_residual-in_err-one_file-in-File.ensures.1
+    fails_by c.from_residual-in_err-one_file-in-File.result _ _ c.from_residual-in_err-one_file-in-File.ensures.1
     (c.in_err-one_file-in-File.ensures.outcome (g.F.Files.past c.args.files.now).given (e.0, ap (λ p. p.given) e.1) aim
     rests)
 
@@ -128,9 +123,7 @@ returns-in_err-miss-in-Miss-clause-outcome g c = λ aim rests.
     let named : c.name.result.now ≡ e.0 = c.name.ensures ∙ ap newest_name is in
     let fault = c.in_err-miss-in-Miss.field-0.0 in
     let P : List Given → Type 0 = λ gs. BreaksOffTold aim gs out told' fault in
-    fails_by c.from_residual-in_err-miss-in-Miss.result _ (BreaksOffTold aim (g.F.Files.past c.next.new.self).given out
-    told')
-    fault c.from_residual-in_err-miss-in-Miss.ensures.1
+    fails_by c.from_residual-in_err-miss-in-Miss.result _ _ c.from_residual-in_err-miss-in-Miss.ensures.1
     (subst P (sym (is ∙ ap (λ n. NoFile n c.in-Miss.cause ∷ given) (sym named)))
     (c.in_err-miss-in-Miss.ensures given aim rests))
 

@@ -45,19 +45,11 @@ returns-in_err-push g c =
     ok_of_err c.from_residual-in_err-push.result _ c.from_residual-in_err-push.ensures.0
 
 pub invariant_of-self : goal.invariant_of-self
-invariant_of-self g c = let s = c.args.self.now in record {
-  fits = s.fits;
-  scratches_fit = s.scratches_fit;
-  endless = s.endless;
-  at_once = s.at_once;
-  few = s.few;
-}
+invariant_of-self g c =
+    let s = c.args.self.now in
+    record { fits = s.fits; scratches_fit = s.scratches_fit; endless = s.endless; at_once = s.at_once; few = s.few }
 
 pub invariant_of-self-in-Break-branch-3 : goal.invariant_of-self-in-Break-branch-3
-invariant_of-self-in-Break-branch-3 g c = let s = c.args.self.now in record {
-  fits = s.fits;
-  scratches_fit = s.scratches_fit;
-  endless = s.endless;
-  at_once = s.at_once;
-  few = s.few;
-}
+invariant_of-self-in-Break-branch-3 g c =
+    let s = c.args.self.now in
+    record { fits = s.fits; scratches_fit = s.scratches_fit; endless = s.endless; at_once = s.at_once; few = s.few }

@@ -1,7 +1,6 @@
 use Rattle.std.proofs.Common.{ap, map, refl}
 use Rattle.std.specs.Arc.{arc_value}
-use Rattle.pg_run.specs.Holding.{BreaksOffInSearch, past_of, format_of}
-use Rattle.pg_run.specs.declared.fault.RunFault.TheVariants.{Sink}
+use Rattle.pg_run.specs.Holding.{past_of, format_of}
 use Rattle.pg_run.proofs.HoldLemmas.{holds_drained, broke_drained, fails_by, ok_of_err}
 use Rattle.pg_run.proofs.engine.Engine.drain.Goals as goal
 
@@ -23,19 +22,15 @@ returns-in_err-drain-clause-empties g c = record {
   outcome = λ aim steps h.
       let d = c.in_err-drain.ensures.drained (past_of aim.query (format_of aim) h.events h.written) h.stands in
       let out' = g.W.Sink.stream c.drain.new.out in
-      fails_by c.from_residual.result _ (BreaksOffInSearch aim steps out') Sink c.from_residual.ensures.1
+      fails_by c.from_residual.result _ _ c.from_residual.ensures.1
       (broke_drained h (ap (λ xs. map arc_value xs) c.requires.none) d.0 out' c.in_err-drain.field-0.0 d.1 d.2
       c.in_err-drain.ensures.cause);
 }
 
 pub invariant_of-self : goal.invariant_of-self
-invariant_of-self g c = let s = c.args.self.now in record {
-  fits = s.fits;
-  scratches_fit = s.scratches_fit;
-  endless = s.endless;
-  at_once = s.at_once;
-  few = s.few;
-}
+invariant_of-self g c =
+    let s = c.args.self.now in
+    record { fits = s.fits; scratches_fit = s.scratches_fit; endless = s.endless; at_once = s.at_once; few = s.few }
 
 pub returns-in_err-drain-clause-none : goal.returns-in_err-drain-clause-none
 returns-in_err-drain-clause-none g c = c.requires.none

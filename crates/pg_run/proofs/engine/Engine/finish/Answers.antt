@@ -2,7 +2,7 @@ use Rattle.std.proofs.Common.{◌≡◌, ◌∙◌, ap, map, subst, Option, ℕ}
 use Rattle.std.specs.Arc.{arc_value}
 use Rattle.std.specs.Option.{MatchOption}
 use Rattle.pg_seq.specs.History.{IsComplete, status_of}
-use Rattle.pg_run.specs.Holding.{BreaksOffInSearch, past_of, format_of}
+use Rattle.pg_run.specs.Holding.{past_of, format_of}
 use Rattle.pg_run.proofs.HoldLemmas.{complete_is, status_is, some_status, fails_by}
 use Rattle.pg_run.proofs.engine.Engine.finish.Goals as goal
 
@@ -31,10 +31,7 @@ returns g c = λ aim steps h.
 pub returns-in_err-flush : goal.returns-in_err-flush
 returns-in_err-flush g c =
     λ aim steps h.
-    let out' = g.W.Sink.stream c.flush.new.out in
-    fails_by c.from_residual.result _ (BreaksOffInSearch aim steps out') c.in_err-flush.field-0.0
-    c.from_residual.ensures.1
-    (c.in_err-flush.ensures.outcome aim steps h)
+    fails_by c.from_residual.result _ _ c.from_residual.ensures.1 (c.in_err-flush.ensures.outcome aim steps h)
 
 pub flush-requires-clause-holds : goal.flush-requires-clause-holds
 flush-requires-clause-holds g c κs within = let h = c.requires.holds in (h.0, h.1, h.2)

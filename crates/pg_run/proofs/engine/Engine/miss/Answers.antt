@@ -11,10 +11,6 @@ returns g c = λ aim steps out ready.
     (c.miss.ensures.ok (past_of aim.query (format_of aim) h.events h.written) h.stands)
 
 pub invariant_of-self : goal.invariant_of-self
-invariant_of-self g c = let s = c.args.self.now in record {
-  fits = s.fits;
-  scratches_fit = s.scratches_fit;
-  endless = s.endless;
-  at_once = s.at_once;
-  few = s.few;
-}
+invariant_of-self g c =
+    let s = c.args.self.now in
+    record { fits = s.fits; scratches_fit = s.scratches_fit; endless = s.endless; at_once = s.at_once; few = s.few }

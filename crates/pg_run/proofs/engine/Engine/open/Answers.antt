@@ -18,19 +18,11 @@ pub returns-in_err-open : goal.returns-in_err-open
 returns-in_err-open g c = λ aim steps out ready. IfOk-from_err c.from_residual.result _ c.from_residual.ensures.0
 
 pub invariant_of-self : goal.invariant_of-self
-invariant_of-self g c = let s = c.args.self.now in record {
-  fits = s.fits;
-  scratches_fit = s.scratches_fit;
-  endless = s.endless;
-  at_once = s.at_once;
-  few = s.few;
-}
+invariant_of-self g c =
+    let s = c.args.self.now in
+    record { fits = s.fits; scratches_fit = s.scratches_fit; endless = s.endless; at_once = s.at_once; few = s.few }
 
 pub invariant_of-self-2 : goal.invariant_of-self-2
-invariant_of-self-2 g c = let s = c.args.self.now in record {
-  fits = s.fits;
-  scratches_fit = s.scratches_fit;
-  endless = s.endless;
-  at_once = s.at_once;
-  few = s.few;
-}
+invariant_of-self-2 g c =
+    let s = c.args.self.now in
+    record { fits = s.fits; scratches_fit = s.scratches_fit; endless = s.endless; at_once = s.at_once; few = s.few }

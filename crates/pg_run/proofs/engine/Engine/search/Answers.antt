@@ -1,22 +1,16 @@
 use Rattle.std.proofs.Common.{◌∙◌, ◌∷◌, sym}
 use Rattle.std.proofs.lemmas.Bool.{false≢true}
 use Rattle.pg_seq.specs.Plan.{Announces}
-use Rattle.pg_run.specs.Holding.{BreaksOffInSearch}
-use Rattle.pg_run.specs.declared.fault.RunFault.TheVariants.{OutOfMemory}
 use Rattle.pg_run.proofs.HoldLemmas.{broke_step, fails_by}
 use Rattle.pg_run.proofs.engine.Engine.search.Goals as goal
 
 pub returns-in_err-add : goal.returns-in_err-add
 returns-in_err-add g c = λ aim steps ready.
-    let out = g.W.Sink.stream c.args.out.now in
-    fails_by c.from_residual.result _ (BreaksOffInSearch aim (Announces c.args.block ∷ steps) out) OutOfMemory
-    c.from_residual.ensures.1 (broke_step ready.0 (Announces c.args.block) ready.1)
+    fails_by c.from_residual.result _ _ c.from_residual.ensures.1 (broke_step ready.0 (Announces c.args.block) ready.1)
 
 pub returns-in_err-kept : goal.returns-in_err-kept
 returns-in_err-kept g c = λ aim steps ready.
-    let out = g.W.Sink.stream c.args.out.now in
-    fails_by c.from_residual-in_err-kept.result _
-    (BreaksOffInSearch aim (Announces c.args.block ∷ steps) out) OutOfMemory c.from_residual-in_err-kept.ensures.1
+    fails_by c.from_residual-in_err-kept.result _ _ c.from_residual-in_err-kept.ensures.1
     (broke_step ready.0 (Announces c.args.block) ready.1)
 
 pub add-requires-clause-spread : goal.add-requires-clause-spread
@@ -46,10 +40,8 @@ returns-then-self g c = λ aim steps ready. (
 pub returns-in_err-drain : goal.returns-in_err-drain
 returns-in_err-drain g c = λ aim steps ready.
     let out = g.W.Sink.stream c.args.out.now in
-    let out' = g.W.Sink.stream c.drain.new.out in
     let next = Announces c.args.block ∷ steps in
-    fails_by c.from_residual-in_err-drain.result _ (BreaksOffInSearch aim next out') c.in_err-drain.field-0.0
-    c.from_residual-in_err-drain.ensures.1
+    fails_by c.from_residual-in_err-drain.result _ _ c.from_residual-in_err-drain.ensures.1
     (c.in_err-drain.ensures.empties.outcome aim next (c.in_ok-kept.ensures.ok aim steps out ready))
 
 pub returns : goal.returns

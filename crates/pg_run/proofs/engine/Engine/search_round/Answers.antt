@@ -5,12 +5,10 @@ use Rattle.std.specs.declared.sync.Arc.{Arc}
 use Rattle.pg_match.specs.Machines.{Room}
 use Rattle.pg_blocks.specs.Blocks.{BlockData}
 use Rattle.pg_seq.specs.Standing.{IsAfter}
-use Rattle.pg_run.specs.Faults.{fault_of_round}
 use Rattle.pg_run.specs.Scratches.{AreScratches}
-use Rattle.pg_run.specs.Holding.{BreaksOffInSearch, past_of, format_of}
+use Rattle.pg_run.specs.Holding.{past_of, format_of}
 use Rattle.pg_round.specs.Results.{HasShortLines}
 use Rattle.pg_round.specs.Receipts.{HasRound}
-use Rattle.pg_run.specs.declared.fault.RunFault.TheVariants.{OutOfMemory}
 use Rattle.pg_run.proofs.HoldLemmas.{broke_now, ok_of_err, fails_by}
 use Rattle.pg_run.proofs.RoundLemmas.{short_round, safe_now, round_done, round_failed}
 use Rattle.pg_run.proofs.engine.Engine.search_round.Goals as goal
@@ -27,9 +25,7 @@ returns-in_err-equip-clause-empties g c = record {
   kept = (refl, refl);
   none = ok_of_err c.from_residual.result _ c.from_residual.ensures.0;
   outcome = λ aim steps h.
-      let out = g.W.Sink.stream c.args.out.now in
-      fails_by c.from_residual.result _ (BreaksOffInSearch aim steps out) OutOfMemory c.from_residual.ensures.1
-      (broke_now h);
+      fails_by c.from_residual.result _ _ c.from_residual.ensures.1 (broke_now h);
 }
 
 pub returns-in_err-search_round-clause-empties : goal.returns-in_err-search_round-clause-empties
@@ -43,7 +39,7 @@ returns-in_err-search_round-clause-empties g c =
           let out' = g.W.Sink.stream c.search_round.new.out in
           let past = past_of aim.query (format_of aim) h.events h.written in
           let fault = c.in_err-search_round.field-0.0 in
-          fails_by failed.result _ (BreaksOffInSearch aim steps out') (fault_of_round fault) failed.ensures.1
+          fails_by failed.result _ _ failed.ensures.1
           (round_failed h out' fault (err.err past h.stands refl (safe_now h))
           (err.cause past h.stands refl (safe_now h)) err.memory);
     }
@@ -69,13 +65,9 @@ search_round-requires-clause-fits g c κs within = λ k d below.
     c.in_ok-equip.ensures.scratches.1 k d below ∙ ap (λ q. q.machine) c.deref.ensures
 
 pub invariant_of-self : goal.invariant_of-self
-invariant_of-self g c = let engine = c.args.self.now in record {
-  fits = engine.fits;
-  scratches_fit = engine.scratches_fit;
-  endless = engine.endless;
-  at_once = engine.at_once;
-  few = engine.few;
-}
+invariant_of-self g c =
+    let s = c.args.self.now in
+    record { fits = s.fits; scratches_fit = s.scratches_fit; endless = s.endless; at_once = s.at_once; few = s.few }
 
 pub invariant_of-self-in-Break-1 : goal.invariant_of-self-in-Break-1
 invariant_of-self-in-Break-1 g c =

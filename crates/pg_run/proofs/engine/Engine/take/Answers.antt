@@ -84,40 +84,28 @@ pub returns-clause-none : goal.returns-clause-none
 returns-clause-none g c = c.args.self.now.at_once c.requires.at_once
 
 pub invariant_of-self : goal.invariant_of-self
-invariant_of-self g c = let s = c.args.self.now in record {
-  fits = c.search_block-answer.ensures.fits;
-  scratches_fit = s.scratches_fit;
-  endless = s.endless;
-  at_once = s.at_once;
-  few = s.few;
-}
+invariant_of-self g c =
+    let s = c.args.self.now in
+    let fits = c.search_block-answer.ensures.fits in
+    record { fits = fits; scratches_fit = s.scratches_fit; endless = s.endless; at_once = s.at_once; few = s.few }
 
 pub invariant_of-self-in-Break-branch-4 : goal.invariant_of-self-in-Break-branch-4
-invariant_of-self-in-Break-branch-4 g c = let s = c.args.self.now in record {
-  fits = c.search_block-answer.ensures.fits;
-  scratches_fit = s.scratches_fit;
-  endless = s.endless;
-  at_once = s.at_once;
-  few = s.few;
-}
+invariant_of-self-in-Break-branch-4 g c =
+    let s = c.args.self.now in
+    let fits = c.search_block-answer.ensures.fits in
+    record { fits = fits; scratches_fit = s.scratches_fit; endless = s.endless; at_once = s.at_once; few = s.few }
 
 pub invariant_of-self-in-Break-branch-5 : goal.invariant_of-self-in-Break-branch-5
-invariant_of-self-in-Break-branch-5 g c = let s = c.args.self.now in record {
-  fits = c.search_block-answer.ensures.fits;
-  scratches_fit = s.scratches_fit;
-  endless = s.endless;
-  at_once = s.at_once;
-  few = s.few;
-}
+invariant_of-self-in-Break-branch-5 g c =
+    let s = c.args.self.now in
+    let fits = c.search_block-answer.ensures.fits in
+    record { fits = fits; scratches_fit = s.scratches_fit; endless = s.endless; at_once = s.at_once; few = s.few }
 
 pub invariant_of-self-2 : goal.invariant_of-self-2
-invariant_of-self-2 g c = let s = c.args.self.now in record {
-  fits = c.search_block-answer.ensures.fits;
-  scratches_fit = s.scratches_fit;
-  endless = s.endless;
-  at_once = s.at_once;
-  few = s.few;
-}
+invariant_of-self-2 g c =
+    let s = c.args.self.now in
+    let fits = c.search_block-answer.ensures.fits in
+    record { fits = fits; scratches_fit = s.scratches_fit; endless = s.endless; at_once = s.at_once; few = s.few }
 
 pub search_block-answer-requires-clause-fits : goal.search_block-answer-requires-clause-fits
 search_block-answer-requires-clause-fits g c = c.args.self.now.fits
