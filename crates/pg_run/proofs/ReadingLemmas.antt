@@ -23,7 +23,8 @@ use Rattle.pg_base.specs.Sink.{Stream, IsBeginning, TakesPart}
 use Rattle.pg_base.proofs.SinkLemmas.{takes_longer}
 use Rattle.pg_seq.specs.Plan.{Step, Announces, Ends, entries_of}
 use Rattle.pg_seq.proofs.CursorLemmas.{joined_push}
-use Rattle.pg_files.specs.Given.{Given, FilesPast, entries_given, gave_bytes, gave_end, newest_name}
+use Rattle.pg_files.specs.Given.{Given, FilesPast, entries_given, files_given, gave_bytes, gave_end}
+use Rattle.pg_files.specs.Given.{newest_name}
 use Rattle.pg_run.specs.Lengths.{IsTooLong}
 use Rattle.pg_run.specs.Told.{faults_of, fault_line}
 use Rattle.pg_run.specs.Faults.{fault_of_cut}
@@ -240,6 +241,30 @@ module _ {A : Type 0} {reader : FileReader A} {aim : Aim} {given : List Given} {
             (subst (R (joined h.fed.taken ++ b.bytes)) (sym same) (reads_block b g.0 g.1 (inl (whole_lines b g))));
       }
 
+  -- more was read, or the file can't go on, and no block was taken
+  same_taken : (reader' : FileReader A) (given' : List Given) (bytes rest lost : List ℕ)
+      → IsCutterAfter reader'.cutter (record h.fed { bytes = bytes }) → files_given given' ≡ files_given given
+      → bytes ++ lost ≡ joined h.fed.taken ++ rest → IsLost reader'.came aim given' lost
+      → HasOpenFile aim.query (format_of aim) h.name (joined h.fed.taken) rest (ending_after reader'.came)
+      (entries_of steps) (entries_given given')
+      → HasCut reader' aim given' steps
+  same_taken reader' given' bytes rest lost cut number whole cause reads = record {
+    fed = record h.fed { bytes = bytes };
+    cut = cut;
+    ends = h.ends;
+    longest = h.longest;
+    running = h.running;
+    file = h.file;
+    number = h.number ∙ sym number;
+    last = h.last;
+    name = h.name;
+    rest = rest;
+    lost = lost;
+    whole = whole;
+    cause = cause;
+    reads = reads;
+  }
+
   pub none_taken : (reader' : FileReader A) → reader'.came ≡ reader.came
       → IsCutterAfter reader'.cutter (handed_out h.fed None) → HasCut reader' aim given steps
   none_taken reader' same cut =
@@ -248,22 +273,8 @@ module _ {A : Type 0} {reader : FileReader A} {aim : Aim} {given : List Given} {
       λ came. HasOpenFile aim.query (format_of aim) h.name (joined h.fed.taken) h.rest (ending_after came)
       (entries_of steps) (entries_given given) in
       let L : ReadOutcome → Type 0 = λ came. IsLost came aim given h.lost in
-      record {
-        fed = h.fed;
-        cut = subst F (append-nil h.fed.taken) cut;
-        ends = h.ends;
-        longest = h.longest;
-        running = h.running;
-        file = h.file;
-        number = h.number;
-        last = h.last;
-        name = h.name;
-        rest = h.rest;
-        lost = h.lost;
-        whole = h.whole;
-        cause = subst L (sym same) h.cause;
-        reads = subst R (sym same) h.reads;
-      }
+      same_taken reader' given h.fed.bytes h.rest h.lost (subst F (append-nil h.fed.taken) cut) refl h.whole
+      (subst L (sym same) h.cause) (subst R (sym same) h.reads)
 
   -- nothing was read or taken
   pub recut_by : (reader' : FileReader A) → IsCutterAfter reader'.cutter h.fed → reader'.came ≡ reader.came
@@ -437,6 +448,9 @@ module _ {A : Type 0} {reader : FileReader A} {aim : Aim} {given : List Given} {
       let none : h.lost ≡ [] = subst L more h.cause in
       sym (append-nil h.fed.bytes) ∙ (ap (λ xs. h.fed.bytes ++ xs) (sym none) ∙ h.whole)
 
+  whole_more : (piece : List ℕ) → h.fed.bytes ++ piece ≡ joined h.fed.taken ++ (h.rest ++ piece)
+  whole_more piece = ap (λ xs. xs ++ piece) cut_whole ∙ append_assoc (joined h.fed.taken) h.rest piece
+
   reads_more : (piece : List ℕ) → HasOpenFile aim.query (format_of aim) h.name (joined h.fed.taken) (h.rest ++ piece)
       Left
       (entries_of steps) (entries_given (gave_bytes piece given))
@@ -475,24 +489,9 @@ module _ {A : Type 0} {reader : FileReader A} {aim : Aim} {given : List Given} {
       λ came. HasOpenFile aim.query (format_of aim) h.name (joined h.fed.taken) (h.rest ++ piece) (ending_after came)
       (entries_of steps) (entries_given (gave_bytes piece given)) in
       let L : ReadOutcome → Type 0 = λ came. IsLost came aim (gave_bytes piece given) [] in
-      record {
-        fed = fed_after h.fed piece;
-        cut = cut;
-        ends = h.ends;
-        longest = h.longest;
-        running = h.running;
-        file = h.file;
-        number = h.number ∙ sym (files_more piece given);
-        last = h.last;
-        name = h.name;
-        rest = h.rest ++ piece;
-        lost = [];
-        whole =
-            append-nil (h.fed.bytes ++ piece)
-            ∙ (ap (λ xs. xs ++ piece) cut_whole ∙ append_assoc (joined h.fed.taken) h.rest piece);
-        cause = subst L (sym came) refl;
-        reads = subst R (sym came) (reads_more piece);
-      }
+      same_taken h reader' (gave_bytes piece given) (h.fed.bytes ++ piece) (h.rest ++ piece) [] cut
+      (files_more piece given) (append-nil (h.fed.bytes ++ piece) ∙ whole_more piece) (subst L (sym came) refl)
+      (subst R (sym came) (reads_more piece))
 
   -- or wasn't
   pub piece_refused : (reader' : FileReader A) (piece : List ℕ) (cut : CutFault) → reader'.came ≡ Refused cut
@@ -504,22 +503,9 @@ module _ {A : Type 0} {reader : FileReader A} {aim : Aim} {given : List Given} {
       λ came. HasOpenFile aim.query (format_of aim) h.name (joined h.fed.taken) (h.rest ++ piece) (ending_after came)
       (entries_of steps) (entries_given (gave_bytes piece given)) in
       let L : ReadOutcome → Type 0 = λ came. IsLost came aim (gave_bytes piece given) piece in
-      record {
-        fed = h.fed;
-        cut = stands;
-        ends = h.ends;
-        longest = h.longest;
-        running = h.running;
-        file = h.file;
-        number = h.number ∙ sym (files_more piece given);
-        last = h.last;
-        name = h.name;
-        rest = h.rest ++ piece;
-        lost = piece;
-        whole = ap (λ xs. xs ++ piece) cut_whole ∙ append_assoc (joined h.fed.taken) h.rest piece;
-        cause = subst L (sym came) (long_cause piece cut line file);
-        reads = subst R (sym came) (reads_more piece);
-      }
+      same_taken h reader' (gave_bytes piece given) h.fed.bytes (h.rest ++ piece) piece stands (files_more piece given)
+      (whole_more piece) (subst L (sym came) (long_cause piece cut line file))
+      (subst R (sym came) (reads_more piece))
 
   -- it wasn't read, for want of memory
   pub file_unread : (reader' : FileReader A) → reader'.came ≡ Refused NoMemory → IsCutterAfter reader'.cutter h.fed
@@ -529,22 +515,8 @@ module _ {A : Type 0} {reader : FileReader A} {aim : Aim} {given : List Given} {
       λ came. HasOpenFile aim.query (format_of aim) h.name (joined h.fed.taken) h.rest (ending_after came)
       (entries_of steps) (entries_given given) in
       let L : ReadOutcome → Type 0 = λ came. IsLost came aim given h.lost in
-      record {
-        fed = h.fed;
-        cut = stands;
-        ends = h.ends;
-        longest = h.longest;
-        running = h.running;
-        file = h.file;
-        number = h.number;
-        last = h.last;
-        name = h.name;
-        rest = h.rest;
-        lost = h.lost;
-        whole = h.whole;
-        cause = subst L (sym came) tt;
-        reads = subst R (sym came) (subst R more h.reads);
-      }
+      same_taken h reader' given h.fed.bytes h.rest h.lost stands refl h.whole (subst L (sym came) tt)
+      (subst R (sym came) (subst R more h.reads))
 
   -- it met the end, or failed
   pub file_stopped : (reader' : FileReader A) (failed : Bool) → ending_after reader'.came ≡ ending_of failed
@@ -554,26 +526,12 @@ module _ {A : Type 0} {reader : FileReader A} {aim : Aim} {given : List Given} {
       let R : List Entry → Ending → Type 0 =
       λ es ending. HasOpenFile aim.query (format_of aim) h.name (joined h.fed.taken) h.rest ending
       (entries_of steps) es in
-      record {
-        fed = h.fed;
-        cut = stands;
-        ends = h.ends;
-        longest = h.longest;
-        running = h.running;
-        file = h.file;
-        number = h.number ∙ sym (files_end failed given);
-        last = h.last;
-        name = h.name;
-        rest = h.rest;
-        lost = [];
-        whole = append-nil h.fed.bytes ∙ cut_whole;
-        cause = none [] refl;
-        reads =
-            subst (R (entries_given (gave_end failed given))) (sym stops)
-            (subst (λ es. R es (ending_of failed)) (sym (end_given failed given))
-            (read_ends aim.query (format_of aim) h.name (joined h.fed.taken) h.rest (entries_of steps)
-            (entries_given given) failed open_yet));
-      }
+      same_taken h reader' (gave_end failed given) h.fed.bytes h.rest [] stands (files_end failed given)
+      (append-nil h.fed.bytes ∙ cut_whole) (none [] refl)
+      (subst (R (entries_given (gave_end failed given))) (sym stops)
+      (subst (λ es. R es (ending_of failed)) (sym (end_given failed given))
+      (read_ends aim.query (format_of aim) h.name (joined h.fed.taken) h.rest (entries_of steps)
+      (entries_given given) failed open_yet)))
 
 -- What one read came to.
 

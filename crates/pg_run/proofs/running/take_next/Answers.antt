@@ -1,8 +1,6 @@
 use Rattle.std.proofs.Common.{◌≡◌, ◌∙◌, List, ◌∷◌, ap, drop, inl, inr, subst, sym}
 use Rattle.pg_files.specs.Given.{Given, NoFile, FilesPast, newest_name}
-use Rattle.pg_files.specs.Asking.{NextGives}
 use Rattle.pg_run.specs.Reading.{HasToldAll, BreaksOffTold}
-use Rattle.pg_files.specs.declared.files.Step.{Step}
 use Rattle.pg_run.specs.declared.fault.RunFault.TheVariants.{OutOfMemory}
 use Rattle.pg_run.proofs.HoldLemmas.{on_err_of, fails_by}
 use Rattle.pg_run.proofs.RunLemmas.{between_safe, stops_memory}
@@ -24,8 +22,7 @@ returns-in_ok-miss-in-Miss-clause-outcome g c = λ aim rests.
     let out = g.W.Sink.stream c.miss.new.out in
     let told' = g.E.Sink.stream c.miss.new.faults in
     let given = (g.F.Files.past c.args.files.now).given in
-    let S : Step → Type 0 = λ s. NextGives s (g.F.Files.past c.args.files.now) (g.F.Files.past c.next.new.self) in
-    let e = subst S c.in-Miss.is c.in_ok-next.ensures.ok in
+    let e = rw c.in-Miss.is at c.in_ok-next.ensures.ok in
     let is : (g.F.Files.past c.next.new.self).given ≡ NoFile e.0 c.in-Miss.cause ∷ given = ap (λ p. p.given) e.1 in
     let named : c.name.result.now ≡ e.0 = c.name.ensures ∙ ap newest_name is in
     let P : List Given → Type 0 = λ gs. HasToldAll c.miss.new.engine aim gs out told' in
@@ -35,22 +32,19 @@ returns-in_ok-miss-in-Miss-clause-outcome g c = λ aim rests.
 pub one_file-requires-clause-rests : goal.one_file-requires-clause-rests
 one_file-requires-clause-rests g c κs within =
     let r = c.requires.rests in
-    let S : Step → Type 0 = λ s. NextGives s (g.F.Files.past c.args.files.now) (g.F.Files.past c.next.new.self) in
-    let e = subst S c.in-File.is c.in_ok-next.ensures.ok in
+    let e = rw c.in-File.is at c.in_ok-next.ensures.ok in
     ((g.F.Files.past c.args.files.now).given, (e.0, ap (λ p. p.given) e.1), r)
 
 pub returns-in_err-one_file-in-File-clause-outcome : goal.returns-in_err-one_file-in-File-clause-outcome
 returns-in_err-one_file-in-File-clause-outcome g c = λ aim rests.
-    let S : Step → Type 0 = λ s. NextGives s (g.F.Files.past c.args.files.now) (g.F.Files.past c.next.new.self) in
-    let e = subst S c.in-File.is c.in_ok-next.ensures.ok in
+    let e = rw c.in-File.is at c.in_ok-next.ensures.ok in
     fails_by c.from_residual-in_err-one_file-in-File.result _ _ c.from_residual-in_err-one_file-in-File.ensures.1
     (c.in_err-one_file-in-File.ensures.outcome (g.F.Files.past c.args.files.now).given (e.0, ap (λ p. p.given) e.1) aim
     rests)
 
 pub returns-in_ok-one_file-in-File-clause-outcome : goal.returns-in_ok-one_file-in-File-clause-outcome
 returns-in_ok-one_file-in-File-clause-outcome g c = λ aim rests.
-    let S : Step → Type 0 = λ s. NextGives s (g.F.Files.past c.args.files.now) (g.F.Files.past c.next.new.self) in
-    let e = subst S c.in-File.is c.in_ok-next.ensures.ok in
+    let e = rw c.in-File.is at c.in_ok-next.ensures.ok in
     c.in_ok-one_file-in-File.ensures.outcome (g.F.Files.past c.args.files.now).given (e.0, ap (λ p. p.given) e.1) aim
     rests
 
@@ -87,28 +81,25 @@ returns-in_ok-one_file-in-File-clause-same_list g c =
 
 pub returns-in-Done-clause-goes : goal.returns-in-Done-clause-goes
 returns-in-Done-clause-goes g c =
-    let S : Step → Type 0 = λ s. NextGives s (g.F.Files.past c.args.files.now) (g.F.Files.past c.next.new.self) in
-    let e = subst S c.in-Done.is c.in_ok-next.ensures.ok in
+    let e = rw c.in-Done.is at c.in_ok-next.ensures.ok in
     (ap (λ p. p.given) e, ap (λ p. p.done) e, c.in_ok-next.ensures.all c.in-Done.is)
 
 pub returns-in-Done-clause-outcome : goal.returns-in-Done-clause-outcome
 returns-in-Done-clause-outcome g c = λ aim rests.
-    let S : Step → Type 0 = λ s. NextGives s (g.F.Files.past c.args.files.now) (g.F.Files.past c.next.new.self) in
     let out = g.W.Sink.stream c.args.out.now in
     let told = g.E.Sink.stream c.args.faults.now in
     let P : FilesPast → Type 0 = λ p. HasToldAll c.args.engine.now aim p.given out told in
-    subst P (sym (subst S c.in-Done.is c.in_ok-next.ensures.ok)) rests
+    let e = rw c.in-Done.is at c.in_ok-next.ensures.ok in
+    subst P (sym e) rests
 
 pub returns-in_ok-miss-in-Miss-clause-goes : goal.returns-in_ok-miss-in-Miss-clause-goes
 returns-in_ok-miss-in-Miss-clause-goes g c =
-    let S : Step → Type 0 = λ s. NextGives s (g.F.Files.past c.args.files.now) (g.F.Files.past c.next.new.self) in
-    let e = subst S c.in-Miss.is c.in_ok-next.ensures.ok in
+    let e = rw c.in-Miss.is at c.in_ok-next.ensures.ok in
     (ap (λ p. drop 1 p.given) e.1, ap (λ p. p.done) e.1)
 
 pub returns-in_ok-one_file-in-File-clause-goes : goal.returns-in_ok-one_file-in-File-clause-goes
 returns-in_ok-one_file-in-File-clause-goes g c =
-    let S : Step → Type 0 = λ s. NextGives s (g.F.Files.past c.args.files.now) (g.F.Files.past c.next.new.self) in
-    let e = subst S c.in-File.is c.in_ok-next.ensures.ok in
+    let e = rw c.in-File.is at c.in_ok-next.ensures.ok in
     let ok = c.in_ok-one_file-in-File.ensures.reads_on in
     (ok.before ∙ ap (λ p. drop 1 p.given) e.1, ok.done ∙ ap (λ p. p.done) e.1)
 
@@ -117,8 +108,7 @@ returns-in_err-miss-in-Miss-clause-outcome g c = λ aim rests.
     let out = g.W.Sink.stream c.miss.new.out in
     let told' = g.E.Sink.stream c.miss.new.faults in
     let given = (g.F.Files.past c.args.files.now).given in
-    let S : Step → Type 0 = λ s. NextGives s (g.F.Files.past c.args.files.now) (g.F.Files.past c.next.new.self) in
-    let e = subst S c.in-Miss.is c.in_ok-next.ensures.ok in
+    let e = rw c.in-Miss.is at c.in_ok-next.ensures.ok in
     let is : (g.F.Files.past c.next.new.self).given ≡ NoFile e.0 c.in-Miss.cause ∷ given = ap (λ p. p.given) e.1 in
     let named : c.name.result.now ≡ e.0 = c.name.ensures ∙ ap newest_name is in
     let fault = c.in_err-miss-in-Miss.field-0.0 in
@@ -136,13 +126,11 @@ returns-in_err-next-clause-went g c =
 
 pub returns-in_err-miss-in-Miss-clause-went : goal.returns-in_err-miss-in-Miss-clause-went
 returns-in_err-miss-in-Miss-clause-went g c =
-    let S : Step → Type 0 = λ s. NextGives s (g.F.Files.past c.args.files.now) (g.F.Files.past c.next.new.self) in
-    let e = subst S c.in-Miss.is c.in_ok-next.ensures.ok in
+    let e = rw c.in-Miss.is at c.in_ok-next.ensures.ok in
     on_err_of c.from_residual-in_err-miss-in-Miss.result _ (inr (ap (λ p. drop 1 p.given) e.1))
 
 pub returns-in_err-one_file-in-File-clause-went : goal.returns-in_err-one_file-in-File-clause-went
 returns-in_err-one_file-in-File-clause-went g c =
-    let S : Step → Type 0 = λ s. NextGives s (g.F.Files.past c.args.files.now) (g.F.Files.past c.next.new.self) in
-    let e = subst S c.in-File.is c.in_ok-next.ensures.ok in
+    let e = rw c.in-File.is at c.in_ok-next.ensures.ok in
     on_err_of c.from_residual-in_err-one_file-in-File.result _
     (inr (c.in_err-one_file-in-File.ensures.reads_on.before ∙ ap (λ p. drop 1 p.given) e.1))
