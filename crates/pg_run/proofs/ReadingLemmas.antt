@@ -26,7 +26,7 @@ use Rattle.pg_seq.proofs.CursorLemmas.{joined_push}
 use Rattle.pg_files.specs.Given.{Given, FilesPast, entries_given, files_given, gave_bytes, gave_end}
 use Rattle.pg_files.specs.Given.{newest_name}
 use Rattle.pg_run.specs.Lengths.{IsTooLong}
-use Rattle.pg_run.specs.Told.{faults_of, fault_line}
+use Rattle.pg_run.specs.Told.{AddsFailure, faults_of, fault_line}
 use Rattle.pg_run.specs.Faults.{fault_of_cut}
 use Rattle.pg_run.specs.Outcome.{IsContinuation, GotWholeLines, IsOfAFile, NoneFailed}
 use Rattle.pg_run.specs.Cover.{is_left, HasOpenFile}
@@ -658,7 +658,7 @@ pub told_more : {A : Type 0} {reader reader' : FileReader A} {aim aim' : Aim} {g
     (failed : Bool)
     → reader.came ≡ More → is_failed (ending_after reader'.came) ≡ failed → drop 1 given' ≡ drop 1 given
     → {E : Type 0} (r : Result Bool E) → IfOk r (λ answer. answer ≡ failed)
-    → IfOk r (λ answer. faults_of given' ≡ faults_of given ++ when answer (fault_line (newest_name given') ReadFailed))
+    → IfOk r (AddsFailure given given')
 told_more {reader = reader} {reader' = reader'} {given = given} {given' = given'} h h' failed more e before r is =
     let line : Bool → List ℕ = λ f. when f (fault_line (newest_name given') ReadFailed) in
     let none : faults_of given ≡ faults_of (drop 1 given) =
@@ -666,7 +666,7 @@ told_more {reader = reader} {reader' = reader'} {given = given} {given' = given'
     ∙ (ap (λ came. faults_of (drop 1 given) ++ when (is_failed (ending_after came))
     (fault_line (newest_name given) ReadFailed)) more
     ∙ append-nil (faults_of (drop 1 given))) in
-    ok_by r (λ answer. faults_of given' ≡ faults_of given ++ line answer) failed is
+    ok_by r (AddsFailure given given') failed is
     (told_of_file h'
     ∙ (ap (λ gs. faults_of gs ++ line (is_failed (ending_after reader'.came))) before
     ∙ (ap (λ xs. xs ++ line (is_failed (ending_after reader'.came))) (sym none)

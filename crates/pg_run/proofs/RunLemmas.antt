@@ -24,7 +24,7 @@ use Rattle.pg_base.proofs.WriteLemmas.{wrote_none}
 use Rattle.pg_seq.specs.Plan.{Step, Opens, Announces, Ends, Misses, IsShaped, is_open, entries_of, with_end}
 use Rattle.pg_seq.proofs.BeginLemmas.{begins_trans}
 use Rattle.pg_files.specs.Given.{Given, NoFile, File, FilesPast, entries_given, newest_name, nothing_given}
-use Rattle.pg_run.specs.Told.{faults_of, fault_of, fault_line, told_of}
+use Rattle.pg_run.specs.Told.{AddsFailure, faults_of, fault_of, fault_line, told_of}
 use Rattle.pg_run.specs.Outcome.{IsSearchFor, EndsAtSelected, RunFinishes, BreaksOff, HasCause, GotWholeLines}
 use Rattle.pg_run.specs.Outcome.{IsOfAFile}
 use Rattle.pg_run.specs.Holding.{Aim, HasPlan, BreaksOffInSearch, AllIsWritten, IsFinished, IsWrittenFirst}
@@ -119,24 +119,24 @@ faults_grow given [] e = ([], ap (λ gs. faults_of gs ++ []) e)
 faults_grow given (g ∷ given') e = (fault_of g, ap (λ gs. faults_of gs ++ fault_of g) e)
 
 -- a file that was read further, by whether its reading failed
-told_read : (given before given' : List Given) (line : List ℕ) (failed : Bool) → GaveFile given before
-    → faults_of given' ≡ faults_of before ++ when failed line → faults_of given' ≡ faults_of given ++ when failed line
-told_read given before given' line failed new e =
-    e ∙ ap (λ xs. xs ++ when failed line) (ap faults_of new.1 ∙ append-nil (faults_of given))
+told_read : (given before given' : List Given) (failed : Bool) → GaveFile given before
+    → AddsFailure before given' failed → AddsFailure given given' failed
+told_read given before given' failed new e =
+    let line = when failed (fault_line (newest_name given') ReadFailed) in
+    e ∙ ap (λ xs. xs ++ line) (ap faults_of new.1 ∙ append-nil (faults_of given))
 
 pub told_failed : (given before given' : List Given) (name' : List ℕ) (failed : Bool) → GaveFile given before
-    → faults_of given' ≡ faults_of before ++ when failed (fault_line (newest_name given') ReadFailed)
-    → failed ≡ true → name' ≡ newest_name given' → faults_of given' ≡ faults_of given ++ fault_line name' ReadFailed
+    → AddsFailure before given' failed → failed ≡ true
+    → name' ≡ newest_name given' → faults_of given' ≡ faults_of given ++ fault_line name' ReadFailed
 told_failed given before given' name' failed new e t named =
-    told_read given before given' (fault_line (newest_name given') ReadFailed) failed new e
+    told_read given before given' failed new e
     ∙ (ap (λ b. faults_of given ++ when b (fault_line (newest_name given') ReadFailed)) t
     ∙ ap (λ n. faults_of given ++ fault_line n ReadFailed) (sym named))
 
 pub told_unfailed : (given before given' : List Given) (failed : Bool) → GaveFile given before
-    → faults_of given' ≡ faults_of before ++ when failed (fault_line (newest_name given') ReadFailed)
-    → failed ≡ false → faults_of given' ≡ faults_of given ++ []
+    → AddsFailure before given' failed → failed ≡ false → faults_of given' ≡ faults_of given ++ []
 told_unfailed given before given' failed new e t =
-    told_read given before given' (fault_line (newest_name given') ReadFailed) failed new e
+    told_read given before given' failed new e
     ∙ ap (λ b. faults_of given ++ when b (fault_line (newest_name given') ReadFailed)) t
 
 -- Why a run breaks off.

@@ -1,11 +1,11 @@
 -- The lines that are told of files.
-use Rattle.std.specs.Prelude.{ℕ, Bool, not, List, [], ◌∷◌, ◌++◌, codes}
+use Rattle.std.specs.Prelude.{◌≡◌, ℕ, Bool, not, List, [], ◌∷◌, ◌++◌, codes}
 use Rattle.pg_base.specs.Causes.{cause_text}
 use Rattle.pg_base.specs.declared.cause.Cause.{Cause}
 use Rattle.pg_base.specs.declared.cause.Cause.TheVariants.{ReadFailed}
 use Rattle.pg_base.specs.Entries.{is_failed}
 use Rattle.pg_rows.specs.Output.{when}
-use Rattle.pg_files.specs.Given.{Given, NoFile, File}
+use Rattle.pg_files.specs.Given.{Given, NoFile, File, newest_name}
 
 abbrev pub fault_line : List ℕ → Cause → List ℕ
 fault_line name cause = codes "pargrep: " ++ name ++ codes ": " ++ cause_text cause ++ codes "\n"
@@ -19,6 +19,11 @@ fault_of (File name bytes ending) = when (is_failed ending) (fault_line name Rea
 abbrev pub faults_of : List Given → List ℕ
 faults_of [] = []
 faults_of (g ∷ given) = faults_of given ++ fault_of g
+
+-- the reading of the newest file added a line where it failed, and else none
+abbrev pub AddsFailure : (given given' : List Given) → (failed : Bool) → Type 0
+AddsFailure given given' failed =
+    faults_of given' ≡ faults_of given ++ when failed (fault_line (newest_name given') ReadFailed)
 
 -- none where the run is silent
 abbrev pub told_of : (silent : Bool) → List Given → List ℕ

@@ -1,11 +1,9 @@
 //! Reads one file, as far as that is needed.
-ghost use Rattle.std.specs.Prelude.{◌≡◌, ◌++◌, List, IfOk, MatchResult, OnOk};
+ghost use Rattle.std.specs.Prelude.{◌≡◌, List, IfOk, MatchResult, OnOk};
 ghost use Rattle.pg_blocks.specs.Cutter.{IsDrained};
-ghost use Rattle.pg_rows.specs.Output.{when};
-ghost use Rattle.pg_base.specs.declared.cause.Cause.TheVariants.{ReadFailed};
-ghost use Rattle.pg_files.specs.Given.{Given, newest_name};
+ghost use Rattle.pg_files.specs.Given.{Given};
 ghost use Rattle.pg_base.specs.Sink.{Stream};
-ghost use Rattle.pg_run.specs.Told.{faults_of, fault_line};
+ghost use Rattle.pg_run.specs.Told.{AddsFailure};
 ghost use Rattle.pg_run.specs.Holding.{Aim, HasRoomInRound};
 ghost use Rattle.pg_run.specs.Reading.{AwaitsLast, AwaitsMore, IsAtLastBlock, IsInSomeFile, IsReadingSomeFile};
 ghost use Rattle.pg_run.specs.Reading.{IsInsideFile, MayEndFile, BreaksOffInFile};
@@ -279,8 +277,7 @@ pub(crate) fn read_file<
     requires awaits { AwaitsMore reader.old }
     requires in_file { IsInSomeFile reader.old engine.old (F.past files.old).given (W.stream out.old) }
     ensures reads_on { OnlyReadsOn F.past F.list files.old files.new }
-    ensures told { IfOk result (λ failed. faults_of (F.past files.new).given ≡ faults_of (F.past files.old).given
-        ++ when failed (fault_line (newest_name (F.past files.new).given) ReadFailed)) }
+    ensures told { IfOk result (AddsFailure (F.past files.old).given (F.past files.new).given) }
     ensures outcome { (aim : Aim) →
         IsInsideFile reader.old engine.old aim (F.past files.old).given (W.stream out.old) →
         EndsFile engine.new aim (F.past files.new).given (W.stream out.new) result }
