@@ -44,11 +44,12 @@ behind o os (x ∷ rows) none each =
 first : (o : Opt) (os : List Opt) → is_fit o ≡ true → IsRow (o ∷ os) o
 first o os fit =
     let ascii = option_map_or (λ letter. nat_lt letter 128) o.letter true in
-    let parts = both (not (bytes_eq (codes "operands") o.name)) (not (bytes_eq o.name (codes "operands")) && ascii) fit in
-    let rest = both (not (bytes_eq o.name (codes "operands"))) ascii parts.1 in (
+    let operands = codes "operands" in
+    let parts = both (not (bytes_eq operands o.name)) (not (bytes_eq o.name operands) && ascii) fit in
+    let rest = both (not (bytes_eq o.name operands)) ascii parts.1 in (
       ap (λ (b : Bool). cond b (Some o) (own os o.name)) ((bytes_eq-Decides o.name o.name).1 refl),
-      is_false (bytes_eq (codes "operands") o.name) parts.0,
-      is_false (bytes_eq o.name (codes "operands")) rest.0,
+      is_false (bytes_eq operands o.name) parts.0,
+      is_false (bytes_eq o.name operands) rest.0,
       rest.1,
     )
 
