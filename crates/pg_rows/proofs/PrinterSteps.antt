@@ -372,7 +372,8 @@ pub behind_last : {A : Type 0} (s : Printer A) (q : Search) (format : Format) (c
     IsAt q format c
     (held (terminator q) s.window ++ drop place.progress.countdown (lines (terminator q) (drop place.at bytes))) bytes
     before.taken (after.taken ++ shown_passed s place.progress (s.offset + place.at)
-    (lines s.end (drop place.at bytes))) last (length bytes) (place.seen + length (lines (terminator q) (drop place.at bytes)))
+    (lines s.end (drop place.at bytes))) last (length bytes)
+    (place.seen + length (lines (terminator q) (drop place.at bytes)))
 behind_last s q format c bytes before after place last count r h passes is =
     let end = terminator q in
     let front = drop place.at bytes in

@@ -1,5 +1,6 @@
 -- What a printer relies on and writes on its way from one place of a block to the next.
-use Rattle.std.specs.Prelude.{◌≡◌, ℕ, ◌+◌, ◌-◌, ◌<◌, ◌≤◌, ◌^◌, if◌then◌else◌, List, ◌++◌, length, take, drop, slice_range}
+use Rattle.std.specs.Prelude.{◌≡◌, ℕ, ◌+◌, ◌-◌, ◌<◌, ◌≤◌, ◌^◌, if◌then◌else◌, List, ◌++◌, length, take, drop}
+use Rattle.std.specs.Prelude.{slice_range}
 use Rattle.circular_buffer.specs.Buffer.{keep_last}
 use Rattle.pg_lines.specs.Search.{Search}
 use Rattle.pg_blocks.specs.Lines.{lines}
@@ -16,7 +17,8 @@ use Rattle.pg_rows.specs.Progress.{Passes, KeepsLines}
 use Rattle.pg_rows.specs.Stretch.{marked_rows}
 use Rattle.pg_rows.specs.Window.{held, IsWindow}
 use Rattle.pg_rows.specs.Painting.{count_before, AreToldParts}
-use Rattle.pg_rows.specs.Printing.{leading, rows_of_leading, rows_before, rows_of_passed, rows_of_run, ComesNext, EndsKept}
+use Rattle.pg_rows.specs.Printing.{leading, rows_of_leading, rows_before, rows_of_passed, rows_of_run}
+use Rattle.pg_rows.specs.Printing.{ComesNext, EndsKept}
 
 -- a text of so many lines stands at this offset behind the lines so far: a file with them has fewer than 2^63 lines and
 -- bytes
