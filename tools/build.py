@@ -13,6 +13,7 @@ are as many as there are processors and memory for.
 import hashlib
 import re
 import shutil
+import signal
 import subprocess
 import sys
 import tempfile
@@ -74,6 +75,7 @@ def build(rt):
 
 
 if __name__ == "__main__":
+    signal.signal(signal.SIGTERM, lambda number, _: sys.exit(128 + number))
     try:
         build(sys.argv[1] if len(sys.argv) > 1 else "rt")
     except KeyboardInterrupt:
