@@ -88,7 +88,8 @@ impl<R: Files + Input + Drop> DiskStore<R> {
         self.output.is_some() && self.output == id
     }
 
-    /// Makes a file that was opened under a path and read ahead the one that `read` gives, as [`Store::open`] does.
+    /// Makes a file that was read ahead the one that `read` gives, as [`Store::open`] does. It has to be one that was
+    /// opened under this path.
     ///
     /// # Errors
     ///
