@@ -1,14 +1,15 @@
 #!/usr/bin/env python3
-"""Tries wrong bodies in groups: `tests/refuse.py [--gate | --all] [--jobs N] [--keep FOLDER] [--read] [NAME..]`
+"""Tries wrong bodies in groups: `tests/refuse.py [--gate | --all] [--jobs N] [--read | --unturned] [NAME..]`
 
 An edit, `crates/CRATE/must-fail/NAME.edit` or `crates/CRATE/refused/NAME.edit`, turns a function into a wrong one, in
 the toolchain's own format for such edits. It may mend the proof of that function too, so that what refuses it is a
 promise, and not that an answer names what the function has no more. The edits of a crate that touch different functions
-are applied at once to a copy of the crate, of which these functions alone are checked. Callers of a wrong function see
-its contract alone, so each wrong function must be refused by a message of its own: an open goal on one of its lines, or
-an answer of its proof that doesn't fit its goal. A proof that only misses a name refuses nothing. An edit that touches
-anything but bodies is in no group with others. For one without a refusal of its own the whole crate is checked, and any
-open goal counts.
+are applied at once to a copy of the crate, of which these functions alone are checked. The others are stubs there:
+bodies that never return, with a hole for a proof. A caller sees a function's contract alone, so it misses nothing; and
+each wrong function must be refused by a message of its own: an open goal on one of its lines, or an answer of its proof
+that doesn't fit its goal. A proof that only misses a name refuses nothing. An edit that touches anything but bodies is
+in no group with others; one that turns no function names that which has to refuse it, by a line `refused by: NAME`. For
+an edit without a refusal of its own the whole crate is checked, without stubs, and any open goal counts.
 
 A NAME is a crate or an edit, `late-double-taken` or `pg_seq/late-double-taken`; none: all. Those of `refused/` are
 tried, with --gate those of `must-fail/`, and with --all both. So many checks run at once as --jobs says, one without
@@ -20,6 +21,8 @@ of the crates that are wanted and of those below them. So the functions are know
 line is `N passed, M failed`; the status is 0 only where M is 0 and N is not.
 
 With --read nothing is checked: each edit is only looked up in the code, which tells those that a change has made stale.
+With --unturned the functions are checked as they are, among the same stubs: each has to pass, which shows that what is
+refused is the edit.
 """
 
 import argparse
@@ -39,6 +42,7 @@ from dataclasses import dataclass, field
 sys.path.append(str(pathlib.Path(__file__).resolve().parent.parent / "tools"))
 
 from crates import ROOT, copy_crates, read_crates  # noqa: E402
+from functions import functions_of, leave_stubs  # noqa: E402
 
 RT = os.environ.get("RT", "rt")
 PARTS = ["src", "specs", "proofs"]
@@ -59,27 +63,6 @@ class Pair:
     file: str
     old: str
     new: str
-
-
-@dataclass(frozen=True)
-class Function:
-    """A function of a file: its lines, counted from 1, where its body begins, and its name below its module."""
-
-    file: str
-    first: int
-    body: int
-    last: int
-    name: str
-
-    def path(self):
-        """The function's path as it stands in those of its proof files, `cutter/Cutter/feed`."""
-        module = self.file.removeprefix("src/").removesuffix(".rt").removesuffix("/mod")
-        return "/".join(filter(None, ["" if module in ("lib", "main") else module, self.name]))
-
-    def shown(self):
-        """The end of the function's name as a check prints it. The methods of a type may stand in several files, and
-        are named by that of the type alone."""
-        return (self.name if "/" in self.name else self.path()).replace("/", "::")
 
 
 @dataclass
@@ -131,90 +114,8 @@ def applied(pairs, texts, folder):
     return texts, places
 
 
-def type_name(text):
-    """The name of a type without its path and its arguments."""
-    return re.sub(r"<.*", "", text.strip().lstrip("&")).split("::")[-1].strip()
-
-
-def split_arguments(text):
-    """The arguments of a type, as they stand between its outermost brackets."""
-    found, depth = [""], 0
-    for letter in text:
-        depth += {"<": 1, "(": 1, ">": -1, ")": -1}.get(letter, 0)
-        if letter == "," and depth == 0:
-            found.append("")
-        else:
-            found[-1] += letter
-    return [it.strip() for it in found if it.strip()]
-
-
-def impl_name(header):
-    """How a check names an impl: that of `Sink for Out` is `OutSink`, of `From<A> for B` it is `BFromA`. What the impl
-    itself is generic in has no part in it."""
-    generics = re.match(r"impl(<(?:[^<>]|<[^<>]*>)*>)?\s*", header)
-    own = {re.split(r"[\s:]", it)[0] for it in split_arguments((generics[1] or "<>")[1:-1])}
-    made, _, on = header[generics.end() :].removesuffix("{").strip().partition(" for ")
-    if not on:
-        return type_name(made)
-    of = re.fullmatch(r"[\w:]+<(.*)>", made.strip())
-    arguments = [it for it in split_arguments(of[1]) if it not in own] if of else []
-    return type_name(on) + type_name(made) + "".join(map(type_name, arguments))
-
-
-def functions_of(file, text):
-    """The functions of a file in the layout of `rt fmt`, where each ends with a brace at its own indentation."""
-    lines = text.split("\n")
-    inside, found = "", []
-    for number, line in enumerate(lines, start=1):
-        if re.match(r"(impl|trait|pub trait)\b", line):
-            header = re.sub(r"^(pub )?trait ", "", line)
-            inside = impl_name(header) if header.startswith("impl") else type_name(re.split(r"[\s:{<]", header)[0])
-        elif line == "}":
-            inside = ""
-        made = re.match(r"(\s*)(?:pub(?:\([^)]*\))? )?(?:const |unsafe )*fn (\w+)", line)
-        if made:
-            name = f"{inside}/{made[2]}" if inside and made[1] else made[2]
-            last = last_line(lines, number, made[1])
-            found.append(Function(file, first_line(lines, number), body_line(lines, number, made[1]), last, name))
-    return found
-
-
-def first_line(lines, number):
-    """The first line of the function that begins at a line, with its attributes, where a check may point."""
-    while number > 1 and lines[number - 2].strip() and not lines[number - 2].endswith(("{", "}", ";")):
-        number -= 1
-    return number
-
-
-def last_line(lines, number, indent):
-    """The last line of the function that begins at a line: its brace, or what stands before its trait's next item."""
-    if lines[number - 1].endswith("}"):
-        return number
-    for at in range(number, len(lines)):
-        line = lines[at]
-        if line in (indent + "}", indent + "{}"):
-            return at + 1
-        # A method of a trait has no body, and ends where the next one or the trait itself does.
-        if line == "}" or re.match(rf"{indent}(pub )?fn ", line):
-            return at
-    return len(lines)
-
-
-def body_line(lines, number, indent):
-    """The line at which the body of the function that begins at a line opens; behind all lines for one without."""
-    if lines[number - 1].endswith(("{", "{}")):
-        return number
-    for at in range(number, len(lines)):
-        line = lines[at]
-        if line in (indent + "{", indent + "{}") or line.startswith(indent + ")") and line.endswith("{"):
-            return at + 1
-        if line == "}" or re.match(rf"{indent}(pub )?fn ", line):
-            break
-    return len(lines) + 1
-
-
 def place_edit(edit, folder):
-    """Reads the edit, and finds the functions that it touches."""
+    """Reads the edit, and finds the functions that it touches, and those that it names."""
     edit.pairs = read_pairs(edit.path)
     _, places = applied(edit.pairs, {}, folder)
     for file, line in places:
@@ -224,6 +125,17 @@ def place_edit(edit, folder):
         around = [it for it in found if it.first <= line <= it.last]
         edit.is_wider |= not any(it.body <= line for it in around)
         edit.functions += [it for it in around if it not in edit.functions]
+    for name in re.findall(r"(?m)^refused by: (\S+)$", edit.path.read_text(encoding="utf-8")):
+        edit.functions.append(function_named(name, folder))
+
+
+def function_named(name, folder):
+    """The one function of a crate that a check shows under this name."""
+    files = [(str(it.relative_to(folder)), it.read_text(encoding="utf-8")) for it in (folder / "src").rglob("*.rt")]
+    found = [it for file, text in files for it in functions_of(file, text) if it.shown() == name]
+    if len(found) != 1:
+        raise BadEdit(f"{len(found)} functions are shown as {name}, and not one")
+    return found[0]
 
 
 def groups_of(edits, folder):
@@ -287,9 +199,9 @@ class Prover:
         words += ["--antt-project", f"{self.home}/rattle/logic/antt-project.json"]
         return [*words, "--logic-built", f"{self.home}/logic_built", "--jobs", "1"]
 
-    def check(self, crate, room, edits, is_whole):
-        """Checks a fresh copy of the crate with the edits: the functions that they turn alone, or the whole crate. What
-        was proved in the room before isn't proved again."""
+    def check(self, crate, room, edits, real):
+        """Checks a fresh copy of the crate with the edits: some functions among stubs of all others, or the whole crate
+        where none are given. What was checked in the room before isn't checked again."""
         texts, _ = applied([pair for it in edits for pair in it.pairs], {}, crate.folder())
         for part in PARTS:
             shutil.rmtree(room / part, ignore_errors=True)
@@ -298,8 +210,11 @@ class Prover:
         for file, text in texts.items():
             (room / file).write_text(text, encoding="utf-8")
         (room / "kept").mkdir(exist_ok=True)
-        turned = [] if is_whole else [f"--only={it.shown()}" for edit in edits for it in edit.functions]
-        return Said(ended([*self.words(crate), "--incremental", "kept", *turned], room))
+        words = [*self.words(crate), "--incremental", "kept"]
+        if real:
+            leave_stubs(room, crate.name, real)
+            words += ["--allow-holes", *sorted({f"--only={it.shown()}" for it in real})]
+        return Said(ended(words, room))
 
 
 @contextlib.contextmanager
@@ -368,6 +283,12 @@ class Said:
                 return it
         return None
 
+    def lacks(self, function):
+        """What the check said of a function that isn't proved, but for its callees' holes; None of one that is."""
+        told = re.findall(rf"(?m)^fn \S+::{re.escape(function.shown())}: (.*)", self.output)
+        left = [it for it in told if not it.startswith(("no holes", "depends on a hole in "))]
+        return left[0] if left else None if told else "the check said nothing of it"
+
     def unread(self):
         """The first message that the edited code can't be read."""
         return next((it for it in self.messages if it.file.startswith(("src/", "specs/")) and not it.is_refusal), None)
@@ -402,20 +323,35 @@ def verdict_alone(said):
     return True, f"refused: {found.shown()}"
 
 
+def turned_by(group):
+    """The functions that a group turns; none where one of its edits turns no function."""
+    return {function for it in group for function in it.functions} if all(it.functions for it in group) else set()
+
+
 def try_group(group, checked):
     """Tries a group, and alone each edit without a refusal of its own; yields each edit with its verdict."""
-    said = checked(group, False) if all(it.functions for it in group) else None
+    said = checked(group, turned_by(group)) if turned_by(group) else None
     for edit in group:
         found = said.refusal(edit.functions) if said and said.has_verdict else None
         if found:
             yield edit, True, f"refused: {found.shown()}"
             continue
-        well, text = verdict_alone(checked([edit], True))
+        well, text = verdict_alone(checked([edit], set()))
         yield edit, well, f"{text} (the whole crate was checked)"
 
 
-def try_crate(crate, edits, checked):
-    """Tries the edits of a crate; yields each with whether it was refused, and what to print of it."""
+def leave_group(group, checked):
+    """Checks the functions that a group turns as they are; yields each edit with whether its own are proved."""
+    said = checked([], turned_by(group)) if turned_by(group) else None
+    for edit in group:
+        lacking = [f"{it.shown()}: {said.lacks(it)}" for it in edit.functions if said.lacks(it)]
+        as_it_is = "proved as it is" if said else "it turns no function"
+        text = f"NOT PROVED AS IT IS: {lacking[0]}" if lacking else as_it_is
+        yield edit, not lacking, text
+
+
+def try_crate(crate, edits, try_each, checked):
+    """Tries the edits of a crate; yields each with whether that went as it should, and what to print of it."""
     good = []
     for edit in edits:
         try:
@@ -424,16 +360,17 @@ def try_crate(crate, edits, checked):
         except (BadEdit, OSError, UnicodeDecodeError) as error:
             yield edit, False, f"BAD EDIT: {error}"
     for group in groups_of(good, crate.folder()):
-        yield from try_group(group, checked)
+        yield from try_each(group, checked)
 
 
 class Run:
     """A run over the edits of some crates: those of one crate are tried one group after another, over what the groups
     before have proved of it."""
 
-    def __init__(self, crates, prover, keep):
+    def __init__(self, crates, prover, try_each, keep):
         self.crates = crates
         self.prover = prover
+        self.try_each = try_each
         self.keep = keep
         self.printing = threading.Lock()
 
@@ -442,25 +379,25 @@ class Run:
             print(text, flush=True)
 
     def tried(self, name, edits):
-        """Tries the edits of a crate, and answers how many were refused."""
-        crate, spent, refused = self.crates[name], [], 0
+        """Tries the edits of a crate, and answers how many went as they should."""
+        crate, spent, passed = self.crates[name], [], 0
         with tempfile.TemporaryDirectory(prefix="refuse-") as room:
 
-            def checked(group, is_whole):
-                said = self.prover.check(crate, pathlib.Path(room), group, is_whole)
+            def checked(applied, real):
+                said = self.prover.check(crate, pathlib.Path(room), applied, real)
                 with self.printing:
-                    self.keep(crate, group, said)
+                    self.keep(crate, applied, said)
                 spent.append(said.seconds)
                 return said
 
-            for edit, well, text in try_crate(crate, edits, checked):
+            for edit, well, text in try_crate(crate, edits, self.try_each, checked):
                 self.say(f"{edit.label()}: {text}")
-                refused += well
+                passed += well
         self.say(f"{name}: {len(edits)} edits in {len(spent)} checks, {sum(spent):.0f} processor seconds")
-        return refused
+        return passed
 
     def all_tried(self, wanted, jobs):
-        """Tries all edits, so many checks at once, and answers how many were refused."""
+        """Tries all edits, so many checks at once, and answers how many went as they should."""
         with ThreadPoolExecutor(jobs) as pool:
             most_first = sorted(wanted.items(), key=lambda it: -len(it[1]))
             return sum(it.result() for it in [pool.submit(self.tried, *it) for it in most_first])
@@ -526,6 +463,7 @@ def main():
     reader.add_argument("--over", type=pathlib.Path, metavar="FOLDER", help="where `rt ci` has passed")
     reader.add_argument("--keep", metavar="FOLDER", help="keeps what each check said in FOLDER")
     reader.add_argument("--read", action="store_true", help="only looks the edits up in the code")
+    reader.add_argument("--unturned", action="store_true", help="checks the functions as they are: each has to pass")
     reader.add_argument("names", nargs="*", metavar="NAME", help="a crate or an edit")
     words = reader.parse_args()
     crates = read_crates()
@@ -533,14 +471,16 @@ def main():
     wanted = wanted_edits(words.names, folders)
     count = sum(map(len, wanted.values()))
     if words.read:
-        refused = count - sum(read_edits(crates[name], edits) for name, edits in wanted.items())
+        passed = count - sum(read_edits(crates[name], edits) for name, edits in wanted.items())
     else:
         jobs = max(1, words.jobs)
+        try_each = leave_group if words.unturned else try_group
         with contextlib.nullcontext(words.over) if words.over else built(crates, wanted, jobs) as over:
-            refused = Run(crates, Prover(over.absolute()), keeper(words.keep)).all_tried(wanted, jobs)
+            run = Run(crates, Prover(over.absolute()), try_each, keeper(words.keep))
+            passed = run.all_tried(wanted, jobs)
         print(f"refuse: {processor_seconds():.0f} processor seconds")
-    print(f"{refused} passed, {count - refused} failed")
-    return 0 if refused and refused == count else 1
+    print(f"{passed} passed, {count - passed} failed")
+    return 0 if passed and passed == count else 1
 
 
 if __name__ == "__main__":
