@@ -67,8 +67,8 @@ def functions_of(file, text):
     lines = text.split("\n")
     inside, found = "", []
     for number, line in enumerate(lines, start=1):
-        if re.match(r"(impl|trait|pub trait)\b", line):
-            header = re.sub(r"^(pub )?trait ", "", line)
+        if re.match(r"(unsafe )?impl\b|(pub )?trait\b", line):
+            header = re.sub(r"^unsafe |^(pub )?trait ", "", line)
             inside = impl_name(header) if header.startswith("impl") else type_name(re.split(r"[\s:{<]", header)[0])
         elif line == "}":
             inside = ""
@@ -151,8 +151,9 @@ def leave_hole(proofs, crate, function, homes):
     """Puts a hole in place of the function's proof."""
     inside, _, name = function.name.rpartition("/")
     path = "/".join(filter(None, [homes.get(inside, module_of(function.file)), inside, name]))
-    # One that calls itself has a folder with a `+`, and no longer calls itself.
-    for old in (path, f"{path.removesuffix(name)}+{name}"):
+    # One that calls itself has a folder with a `+`, and no longer calls itself; its closures have theirs below `fn`.
+    closures = "/".join(filter(None, [module_of(function.file), "fn", function.name]))
+    for old in (path, f"{path.removesuffix(name)}+{name}", closures):
         shutil.rmtree(proofs / old, ignore_errors=True)
     (proofs / path).mkdir(parents=True)
     module = path.replace("/", ".")

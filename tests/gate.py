@@ -25,6 +25,10 @@ from pathlib import Path
 
 HERE = Path(__file__).resolve().parent
 ROOT = HERE.parent
+sys.path.append(str(ROOT / "tools"))
+
+from jobs import jobs_at_once, keep_memory  # noqa: E402
+
 PROGRAM = "crates/pargrep/out/pargrep"
 FIGURES = re.compile(r"([0-9]+) passed, ([0-9]+) failed")
 # What runs behind the proofs, each a script of this folder.
@@ -38,8 +42,6 @@ SCRIPTS = (
     ("the runs without memory", "memory.py"),
     ("the runs over an open input", "live.py"),
 )
-# What the largest proof takes, with a third to spare.
-MEMORY_OF_A_PROOF = 4_000_000_000
 
 
 def say(text):
@@ -117,29 +119,6 @@ def proved(rt, room, jobs):
     os.environ["TMPDIR"] = room
     words = ["--gate", "--jobs", str(jobs), "--over", str(copy)]
     return [("rt ci", ci), ("the wrong bodies", figures_of("the wrong bodies", "refuse.py", *words))]
-
-
-def free_memory():
-    """The bytes that processes may still take, or 0 where the system doesn't tell."""
-    try:
-        found = re.search(r"MemAvailable: *([0-9]+) kB", Path("/proc/meminfo").read_text())
-    except OSError:
-        found = None
-    return 1024 * int(found[1]) if found else 0
-
-
-def jobs_at_once():
-    """How many proofs run at once: as many as there are processors, and memory for them, or what RT_JOBS says. By
-    itself the toolchain gives several processors to one proof, which takes two fifths more of their time."""
-    if os.environ.get("RT_JOBS", "").isdigit():
-        return max(1, int(os.environ["RT_JOBS"]))
-    return max(1, min(len(os.sched_getaffinity(0)), free_memory() // MEMORY_OF_A_PROOF))
-
-
-def keep_memory():
-    """Has the toolchain keep the memory that it gave up for what it needs next, in place of giving it back to the
-    system and asking for it anew: a fortieth of a proof's time."""
-    os.environ.setdefault("MIMALLOC_PURGE_DELAY", "-1")
 
 
 def minutes(since):

@@ -6,11 +6,12 @@ Usage: tools/build.py [RT]
 The toolchain proves them from nothing, those that don't need one another side by side, in a copy that goes when it is
 done, so that an interrupted build leaves nothing behind. A line is printed for each crate as it is proved. Some
 versions of the toolchain keep on the machine what they have proved, and then only what changed is proved again; where
-nothing changed since the program was built, nothing is done. RT_JOBS says how many proofs run at once; without it there
-are as many as there are processors and memory for.
+nothing changed since the program was built, nothing is done. RT_JOBS says how many proofs run at once, each on one
+processor; without it there are as many as there are processors and memory for.
 """
 
 import hashlib
+import os
 import re
 import shutil
 import signal
@@ -21,6 +22,7 @@ import time
 from pathlib import Path
 
 from crates import ROOT, copy_crates, read_crates
+from jobs import jobs_at_once, keep_memory
 
 PROGRAM = "pargrep"
 BUILT = ROOT / "crates" / PROGRAM / "out" / PROGRAM
@@ -41,6 +43,8 @@ def sum_of(rt, folder):
 def proved(rt, folder, count):
     """Has all in a folder proved and built; shows each crate as it is done."""
     began, done, said = time.monotonic(), 0, []
+    os.environ["RT_JOBS"] = str(jobs_at_once())
+    keep_memory()
     with subprocess.Popen([rt, "ci"], cwd=folder, stdout=subprocess.PIPE, stderr=subprocess.STDOUT, text=True) as ci:
         try:
             for line in ci.stdout:
