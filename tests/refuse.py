@@ -31,8 +31,6 @@ import os
 import pathlib
 import re
 import resource
-import shutil
-import subprocess
 import sys
 import tempfile
 import threading
@@ -41,11 +39,10 @@ from dataclasses import dataclass, field
 
 sys.path.append(str(pathlib.Path(__file__).resolve().parent.parent / "tools"))
 
-from crates import ROOT, copy_crates, read_crates  # noqa: E402
-from functions import functions_of, leave_stubs  # noqa: E402
+from crates import ROOT, read_crates  # noqa: E402
+from functions import functions_of, functions_shown_as  # noqa: E402
+from prover import Prover, built, lacks  # noqa: E402
 
-RT = os.environ.get("RT", "rt")
-PARTS = ["src", "specs", "proofs"]
 # What a check says of a goal of a contract, or of a type's invariant, that stays open.
 OPEN_GOAL = re.compile(r"it is not proved that |`search` found no proof ")
 # What a check says where a proof file names what the edited function has no more. It says nothing of a contract.
@@ -126,16 +123,10 @@ def place_edit(edit, folder):
         edit.is_wider |= not any(it.body <= line for it in around)
         edit.functions += [it for it in around if it not in edit.functions]
     for name in re.findall(r"(?m)^refused by: (\S+)$", edit.path.read_text(encoding="utf-8")):
-        edit.functions.append(function_named(name, folder))
-
-
-def function_named(name, folder):
-    """The one function of a crate that a check shows under this name."""
-    files = [(str(it.relative_to(folder)), it.read_text(encoding="utf-8")) for it in (folder / "src").rglob("*.rt")]
-    found = [it for file, text in files for it in functions_of(file, text) if it.shown() == name]
-    if len(found) != 1:
-        raise BadEdit(f"{len(found)} functions are shown as {name}, and not one")
-    return found[0]
+        found = functions_shown_as(name, folder)
+        if len(found) != 1:
+            raise BadEdit(f"{len(found)} functions are shown as {name}, and not one")
+        edit.functions += found
 
 
 def groups_of(edits, folder):
@@ -154,82 +145,6 @@ def groups_of(edits, folder):
         else:
             groups.append([edit])
     return groups
-
-
-@dataclass(frozen=True)
-class Ended:
-    """How a command ended: its status, what it wrote, and the processor seconds that it took."""
-
-    status: int
-    output: str
-    seconds: float
-
-
-def ended(command, folder):
-    """Runs a command in a folder."""
-    with tempfile.TemporaryFile() as told:
-        process = subprocess.Popen(command, cwd=folder, stdin=subprocess.DEVNULL, stdout=told, stderr=subprocess.STDOUT)
-        _, status, used = os.wait4(process.pid, 0)
-        process.returncode = os.waitstatus_to_exitcode(status)
-        told.seek(0)
-        return Ended(process.returncode, told.read().decode(errors="replace"), used.ru_utime + used.ru_stime)
-
-
-class Prover:
-    """The toolchain's prover, over the libraries of the repository that `rt ci` has built in a folder."""
-
-    def __init__(self, over):
-        self.over = over
-        # Its first page stands at the top of the toolchain's folder.
-        page = subprocess.run([RT, "doc"], stdout=subprocess.PIPE, check=True).stdout.decode().strip()
-        self.home = pathlib.Path(page).parent
-
-    def library(self, name):
-        return self.over / "crates" / name / "out/rlib" / f"{name}.rlib"
-
-    def words(self, crate):
-        """The command that checks a crate. One job takes the least processor time."""
-        words = [f"{self.home}/bin/rattle", "check", "--crate-name", crate.name, crate.root()]
-        for name in ["std", *crate.of_toolchain]:
-            words += ["--extern", f"{name}={self.home}/rlibs/{name}.rlib"]
-        for name in crate.uses:
-            words += ["--extern", f"{name}={self.library(name)}"]
-        for folder in [self.home / "rlibs", *[self.library(it).parent for it in crate.below]]:
-            words += ["-L", f"dependency={folder}"]
-        words += ["--antt-project", f"{self.home}/rattle/logic/antt-project.json"]
-        return [*words, "--logic-built", f"{self.home}/logic_built", "--jobs", "1"]
-
-    def check(self, crate, room, edits, real):
-        """Checks a fresh copy of the crate with the edits: some functions among stubs of all others, or the whole crate
-        where none are given. What was checked in the room before isn't checked again."""
-        texts, _ = applied([pair for it in edits for pair in it.pairs], {}, crate.folder())
-        for part in PARTS:
-            shutil.rmtree(room / part, ignore_errors=True)
-            if (crate.folder() / part).is_dir():
-                shutil.copytree(crate.folder() / part, room / part)
-        for file, text in texts.items():
-            (room / file).write_text(text, encoding="utf-8")
-        (room / "kept").mkdir(exist_ok=True)
-        words = [*self.words(crate), "--incremental", "kept"]
-        if real:
-            leave_stubs(room, crate.name, real)
-            words += ["--allow-holes", *sorted({f"--only={it.shown()}" for it in real})]
-        return Said(ended(words, room))
-
-
-@contextlib.contextmanager
-def built(crates, wanted, jobs):
-    """Gives a folder in which `rt ci` has proved and built the wanted crates and those below them, for as long as it is
-    used."""
-    needed = {it for name in wanted for it in [name, *crates[name].below]}
-    with tempfile.TemporaryDirectory(prefix="refuse-") as room:
-        over = pathlib.Path(room)
-        copy_crates(needed, over)
-        os.environ["RT_JOBS"] = str(jobs)
-        ci = ended([RT, "ci"], over)
-        if ci.status:
-            sys.exit(f"{ci.output}refuse: the crates themselves aren't proved: what rt ci said stands above")
-        yield over
 
 
 @dataclass(frozen=True)
@@ -282,12 +197,6 @@ class Said:
             if it.is_refusal and (functions is None or any(map(it.is_of, functions))):
                 return it
         return None
-
-    def lacks(self, function):
-        """What the check said of a function that isn't proved, but for its callees' holes; None of one that is."""
-        told = re.findall(rf"(?m)^fn \S+::{re.escape(function.shown())}: (.*)", self.output)
-        left = [it for it in told if not it.startswith(("no holes", "depends on a hole in "))]
-        return left[0] if left else None if told else "the check said nothing of it"
 
     def unread(self):
         """The first message that the edited code can't be read."""
@@ -344,7 +253,7 @@ def leave_group(group, checked):
     """Checks the functions that a group turns as they are; yields each edit with whether its own are proved."""
     said = checked([], turned_by(group)) if turned_by(group) else None
     for edit in group:
-        lacking = [f"{it.shown()}: {said.lacks(it)}" for it in edit.functions if said.lacks(it)]
+        lacking = [f"{it.shown()}: {lacks(it, said.output)}" for it in edit.functions if lacks(it, said.output)]
         as_it_is = "proved as it is" if said else "it turns no function"
         text = f"NOT PROVED AS IT IS: {lacking[0]}" if lacking else as_it_is
         yield edit, not lacking, text
@@ -383,10 +292,11 @@ class Run:
         crate, spent, passed = self.crates[name], [], 0
         with tempfile.TemporaryDirectory(prefix="refuse-") as room:
 
-            def checked(applied, real):
-                said = self.prover.check(crate, pathlib.Path(room), applied, real)
+            def checked(group, real):
+                texts, _ = applied([pair for it in group for pair in it.pairs], {}, crate.folder())
+                said = Said(self.prover.check(crate, pathlib.Path(room), texts, real))
                 with self.printing:
-                    self.keep(crate, applied, said)
+                    self.keep(crate, group, said)
                 spent.append(said.seconds)
                 return said
 
@@ -475,7 +385,8 @@ def main():
     else:
         jobs = max(1, words.jobs)
         try_each = leave_group if words.unturned else try_group
-        with contextlib.nullcontext(words.over) if words.over else built(crates, wanted, jobs) as over:
+        needed = {it for name in wanted for it in [name, *crates[name].below]}
+        with contextlib.nullcontext(words.over) if words.over else built(needed, jobs) as over:
             run = Run(crates, Prover(over.absolute()), try_each, keeper(words.keep))
             passed = run.all_tried(wanted, jobs)
         print(f"refuse: {processor_seconds():.0f} processor seconds")

@@ -1,5 +1,5 @@
 """The functions of a crate's files in the layout of `rt fmt`: where each stands, how a check names it, and copies of a
-crate in which all but some are stubs."""
+crate in which all others than some are stubs."""
 
 import re
 import shutil
@@ -78,6 +78,12 @@ def functions_of(file, text):
             last = last_line(lines, number, made[1])
             found.append(Function(file, first_line(lines, number), body_line(lines, number, made[1]), last, name))
     return found
+
+
+def functions_shown_as(name, folder):
+    """The functions of a crate that a check shows under this name."""
+    files = [(str(it.relative_to(folder)), it.read_text(encoding="utf-8")) for it in (folder / "src").rglob("*.rt")]
+    return [it for file, text in files for it in functions_of(file, text) if it.shown() == name]
 
 
 def first_line(lines, number):

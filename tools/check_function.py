@@ -1,0 +1,61 @@
+#!/usr/bin/env python3
+"""Checks some functions of a crate by themselves: `tools/check_function.py CRATE FUNCTION..`
+
+A FUNCTION is named as a check shows it below its crate, `Cutter::feed` or `cutter::cut_open`. All other functions of the
+crate are stubs, of which only contracts are seen, so it takes half a minute where `rt check --only`, which proves what
+they call too, may take as long as the whole crate. It gives no verdict on the crate: `rt check` does. The crates below
+are proved first where the toolchain hasn't kept them. What is printed is what the check says, without the stubs' holes;
+the status is 0 only where each function is proved but for these.
+"""
+
+import re
+import sys
+from pathlib import Path
+
+from crates import read_crates
+from functions import functions_shown_as
+from jobs import jobs_at_once
+from prover import Prover, built, lacks
+
+# What a check says of a stub, and of itself.
+NOISE = re.compile(
+    r"\./proofs/\S+/Proof\.antt:\d+:\d+: (goal \? in |`\w+_spec` is not admitted)"
+    r"|fn \S+: (no holes|depends on a hole in )|(statements|crate|logic|only=|so far|by-macro|struct|enum|trait)\b"
+)
+
+
+def functions_of(crate, names):
+    """The functions of the crate that the names mean."""
+    found = []
+    for name in names:
+        shown = functions_shown_as(name, crate.folder())
+        if not shown:
+            sys.exit(f"check_function: {crate.name} has no function {name}")
+        found += shown
+    return set(found)
+
+
+def main():
+    if len(sys.argv) < 3:
+        sys.exit(__doc__)
+    crates = read_crates()
+    if sys.argv[1] not in crates:
+        sys.exit(f"check_function: there is no crate {sys.argv[1]}")
+    crate = crates[sys.argv[1]]
+    functions = functions_of(crate, sys.argv[2:])
+    room = crate.folder() / "out" / "among-stubs"
+    room.mkdir(parents=True, exist_ok=True)
+    with built(crate.below, jobs_at_once()) as over:
+        said = Prover(Path(over)).check(crate, room, {}, functions)
+    # A message goes on in the indented lines below it.
+    for message in filter(None, re.split(r"\n(?! )", said.output)):
+        if not NOISE.match(message):
+            print(message)
+    left = {it.shown(): lacks(it, said.output) for it in functions}
+    for name, why in sorted(left.items()):
+        print(f"{crate.name}::{name}: {why or 'proved, if what it calls is'}")
+    return 1 if any(left.values()) else 0
+
+
+if __name__ == "__main__":
+    sys.exit(main())
