@@ -1,11 +1,11 @@
 #!/usr/bin/env python3
 """Checks some functions of a crate by themselves: `tools/check_function.py CRATE FUNCTION..`
 
-A FUNCTION is named as a check shows it below its crate, `Cutter::feed` or `cutter::cut_open`. All other functions of the
-crate are stubs, of which only contracts are seen, so it takes half a minute where `rt check --only`, which proves what
-they call too, may take as long as the whole crate. It gives no verdict on the crate: `rt check` does. The crates below
-are proved first where the toolchain hasn't kept them. What is printed is what the check says, without the stubs' holes;
-the status is 0 only where each function is proved but for these.
+A FUNCTION is named as a check shows it below its crate, `Cutter::feed` or `cutter::cut_open`. All other functions of
+the crate are stubs, of which only contracts are seen, so it takes half a minute where `rt check --only`, which proves
+what they call too, may take as long as the whole crate. It gives no verdict on the crate: `rt check` does. The crates
+below are proved first where the toolchain hasn't kept them. What is printed is what the check says, without the stubs'
+holes; the status is 0 only where each function is proved but for these.
 """
 
 import re
