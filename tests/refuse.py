@@ -12,8 +12,9 @@ in no group with others; one that turns no function names that which has to refu
 an edit without a refusal of its own the whole crate is checked, without stubs, and any open goal counts.
 
 A NAME is a crate or an edit, `late-double-taken` or `pg_seq/late-double-taken`; none: all. Those of `refused/` are
-tried, with --gate those of `must-fail/`, and with --all both. So many checks run at once as --jobs says, one without
-it. With --keep what each check said is kept in FOLDER. The command of the toolchain is `rt`, or what RT names.
+tried, with --gate those of `must-fail/`, and with --all both. So many checks run at once as --jobs says, and without it
+as many as there are processors and memory for. With --keep what each check said is kept in FOLDER. The command of the
+toolchain is `rt`, or what RT names.
 
 The edits are checked over the libraries that `rt ci` has built, which hold statements and no proofs. They are those of
 the folder that --over names, a copy of the repository in which `rt ci` has passed; without it `rt ci` is run on a copy
@@ -41,6 +42,7 @@ sys.path.append(str(pathlib.Path(__file__).resolve().parent.parent / "tools"))
 
 from crates import ROOT, read_crates  # noqa: E402
 from functions import functions_of, functions_shown_as  # noqa: E402
+from jobs import jobs_at_once  # noqa: E402
 from prover import Prover, built, lacks  # noqa: E402
 
 # What a check says of a goal of a contract, or of a type's invariant, that stays open.
@@ -369,7 +371,7 @@ def main():
     which = reader.add_mutually_exclusive_group()
     which.add_argument("--gate", action="store_true", help="the edits of must-fail/")
     which.add_argument("--all", action="store_true", help="the edits of must-fail/ too")
-    reader.add_argument("--jobs", type=int, default=1, metavar="N", help="so many checks at once")
+    reader.add_argument("--jobs", type=int, default=jobs_at_once(), metavar="N", help="so many checks at once")
     reader.add_argument("--over", type=pathlib.Path, metavar="FOLDER", help="where `rt ci` has passed")
     reader.add_argument("--keep", metavar="FOLDER", help="keeps what each check said in FOLDER")
     reader.add_argument("--read", action="store_true", help="only looks the edits up in the code")
