@@ -8,8 +8,9 @@ are applied at once to a copy of the crate, of which these functions alone are c
 bodies that never return, with a hole for a proof. A caller sees a function's contract alone, so it misses nothing; and
 each wrong function must be refused by a message of its own: an open goal on one of its lines, or an answer of its proof
 that doesn't fit its goal. A proof that only misses a name refuses nothing. An edit that touches anything but bodies is
-in no group with others; one that turns no function names that which has to refuse it, by a line `refused by: NAME`. For
-an edit without a refusal of its own the whole crate is checked, without stubs, and any open goal counts.
+in no group with others; one that turns no function names that which has to refuse it, by a line `refused by: NAME`. An
+edit without a refusal of its own is tried by itself, and if it has none then either its whole crate is checked, without
+stubs, and any open goal counts.
 
 A NAME is a crate or an edit, `late-double-taken` or `pg_seq/late-double-taken`; none: all. Those of `refused/` are
 tried, with --gate those of `must-fail/`, and with --all both. So many checks run at once as --jobs says, and without it
@@ -240,15 +241,23 @@ def turned_by(group):
 
 
 def try_group(group, checked):
-    """Tries a group, and alone each edit without a refusal of its own; yields each edit with its verdict."""
-    said = checked(group, turned_by(group)) if turned_by(group) else None
+    """Tries a group, and by itself each edit without a refusal of its own, first among stubs; yields each edit with its
+    verdict."""
+    together = refusals(group, checked)
     for edit in group:
-        found = said.refusal(edit.functions) if said and said.has_verdict else None
+        found = together.get(edit.label()) or len(group) > 1 and refusals([edit], checked).get(edit.label())
         if found:
             yield edit, True, f"refused: {found.shown()}"
             continue
         well, text = verdict_alone(checked([edit], set()))
         yield edit, well, f"{text} (the whole crate was checked)"
+
+
+def refusals(group, checked):
+    """The refusal of each edit of a group in the functions that it turns, by its label, where it has one."""
+    said = checked(group, turned_by(group)) if turned_by(group) else None
+    found = {it.label(): said.refusal(it.functions) for it in group} if said and said.has_verdict else {}
+    return {label: refusal for label, refusal in found.items() if refusal}
 
 
 def leave_group(group, checked):
@@ -292,11 +301,11 @@ class Run:
     def tried(self, name, edits):
         """Tries the edits of a crate, and answers how many went as they should."""
         crate, spent, passed = self.crates[name], [], 0
-        with tempfile.TemporaryDirectory(prefix="refuse-") as room:
+        with tempfile.TemporaryDirectory(prefix="refuse-") as kept:
 
             def checked(group, real):
                 texts, _ = applied([pair for it in group for pair in it.pairs], {}, crate.folder())
-                said = Said(self.prover.check(crate, pathlib.Path(room), texts, real))
+                said = Said(self.prover.check(crate, pathlib.Path(kept), texts, real))
                 with self.printing:
                     self.keep(crate, group, said)
                 spent.append(said.seconds)

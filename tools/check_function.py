@@ -24,13 +24,13 @@ NOISE = re.compile(
 )
 
 
-def functions_of(crate, names):
+def named_functions(crate, names):
     """The functions of the crate that the names mean."""
     found = []
     for name in names:
         shown = functions_shown_as(name, crate.folder())
         if not shown:
-            sys.exit(f"check_function: {crate.name} has no function {name}")
+            sys.exit(f"check_function: {crate.name} has no {name}; name it Type::method or module::function")
         found += shown
     return set(found)
 
@@ -42,11 +42,12 @@ def main():
     if sys.argv[1] not in crates:
         sys.exit(f"check_function: there is no crate {sys.argv[1]}")
     crate = crates[sys.argv[1]]
-    functions = functions_of(crate, sys.argv[2:])
-    room = crate.folder() / "out" / "among-stubs"
-    room.mkdir(parents=True, exist_ok=True)
+    functions = named_functions(crate, sys.argv[2:])
+    # Checked modules alone, and no text, so that nothing with a hole stays in the checkout.
+    kept = crate.folder() / "out" / "among-stubs"
+    kept.mkdir(parents=True, exist_ok=True)
     with built(crate.below, jobs_at_once()) as over:
-        said = Prover(Path(over)).check(crate, room, {}, functions)
+        said = Prover(Path(over)).check(crate, kept, {}, functions)
     # A message goes on in the indented lines below it.
     for message in filter(None, re.split(r"\n(?! )", said.output)):
         if not NOISE.match(message):

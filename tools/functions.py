@@ -31,6 +31,10 @@ class Function:
         are named by that of the type alone."""
         return (self.name if "/" in self.name else self.path()).replace("/", "::")
 
+    def hole(self):
+        """The end of the name by which a check tells of the hole that stands for the function's proof in a stub."""
+        return f"{self.shown().replace('::', '.')}.Proof.{self.name.split('/')[-1]}_spec"
+
 
 def type_name(text):
     """The name of a type without its path and its arguments."""

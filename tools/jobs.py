@@ -19,8 +19,8 @@ def free_memory():
 
 def jobs_at_once():
     """How many proofs run at once: as many as there are processors, and memory for them, or what RT_JOBS says. By
-    itself the toolchain gives two or more processors to a proof that is alone, which takes up to 1.8 times the
-    processor time then and is done no sooner."""
+    itself the toolchain gives two or more processors to a proof that is alone, which takes more of their time and
+    spares none."""
     if os.environ.get("RT_JOBS", "").isdigit():
         return max(1, int(os.environ["RT_JOBS"]))
     return max(1, min(len(os.sched_getaffinity(0)), free_memory() // MEMORY_OF_A_PROOF))

@@ -60,27 +60,30 @@ class Prover:
         words += ["--antt-project", f"{self.home}/rattle/logic/antt-project.json"]
         return [*words, "--logic-built", f"{self.home}/logic_built", "--jobs", "1"]
 
-    def check(self, crate, room, texts, real):
-        """Checks a fresh copy of the crate with these texts in place of its own: some functions among stubs of all
-        others, or the whole crate where none are given. What was checked in the room before isn't checked again."""
-        for part in PARTS:
-            shutil.rmtree(room / part, ignore_errors=True)
-            if (crate.folder() / part).is_dir():
-                shutil.copytree(crate.folder() / part, room / part)
-        for file, text in texts.items():
-            (room / file).write_text(text, encoding="utf-8")
-        (room / "kept").mkdir(exist_ok=True)
-        words = [*self.words(crate), "--incremental", "kept"]
-        if real:
-            leave_stubs(room, crate.name, real)
-            words += ["--allow-holes", *sorted({f"--only={it.shown()}" for it in real})]
-        return ended(words, room)
+    def check(self, crate, kept, texts, real):
+        """Checks a copy of the crate with these texts in place of its own: some functions among stubs of all others, or
+        the whole crate where none are given. The copy goes when that is done. What earlier checks left in the folder
+        `kept` isn't checked again."""
+        words = [*self.words(crate), "--incremental", str(kept.absolute())]
+        with tempfile.TemporaryDirectory(prefix="check-") as room:
+            folder = Path(room)
+            for part in PARTS:
+                if (crate.folder() / part).is_dir():
+                    shutil.copytree(crate.folder() / part, folder / part)
+            for file, text in texts.items():
+                (folder / file).write_text(text, encoding="utf-8")
+            if real:
+                leave_stubs(folder, crate.name, real)
+                words += ["--allow-holes", *sorted({f"--only={it.shown()}" for it in real})]
+            return ended(words, folder)
 
 
 def lacks(function, output):
-    """What the check said of a function that isn't proved, but for its callees' holes; None of one that is."""
+    """What a check said of a function that isn't proved, but for its callees' holes; None of one that is."""
     told = re.findall(rf"(?m)^fn \S+::{re.escape(function.shown())}: (.*)", output)
     left = [it for it in told if not it.startswith(("no holes", "depends on a hole in "))]
+    if any(f".{function.hole()}`" in it for it in told):
+        return "it is a stub itself, which is a fault of tools/functions.py"
     return left[0] if left else None if told else "the check said nothing of it"
 
 
@@ -93,5 +96,5 @@ def built(names, jobs):
         os.environ["RT_JOBS"] = str(jobs)
         ci = ended([RT, "ci"], over) if names else None
         if ci and ci.status:
-            sys.exit(f"{ci.output}crates aren't proved as they are: what rt ci said stands above")
+            sys.exit(f"{ci.output}{' '.join(sorted(names))}: not all proved as they are, see above; mend that first")
         yield over
