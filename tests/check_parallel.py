@@ -168,7 +168,8 @@ class Hosts:
                  "/dev/null", *(word for key, value in options.items() for word in ("-o", f"{key}={value}"))]
         self.daemons.append(subprocess.Popen(words, stdout=subprocess.DEVNULL, stderr=subprocess.DEVNULL))
         for _ in range(100):
-            if subprocess.run([*self.ssh(), f"root@{address}", "true"], capture_output=True, check=False).returncode == 0:
+            words = [*self.ssh(), f"root@{address}", "true"]
+            if subprocess.run(words, capture_output=True, check=False).returncode == 0:
                 return
             time.sleep(0.1)
         raise RuntimeError(f"no sshd answers at {address}")
@@ -212,7 +213,8 @@ def on_hosts(program, folder, names):
 
 def lacking():
     """What shares on other hosts need and this machine lacks."""
-    lacks = [it for it in ("sshd", "ssh", "ssh-keygen", "ip") if not shutil.which(it, path=os.defpath + ":/usr/sbin:/sbin")]
+    path = f"{os.defpath}:/usr/sbin:/sbin"
+    lacks = [it for it in ("sshd", "ssh", "ssh-keygen", "ip") if not shutil.which(it, path=path)]
     return lacks if os.geteuid() == 0 else [*lacks, "root"]
 
 

@@ -109,8 +109,8 @@ def faults_of(wanted, found):
     """What a place lacks, has too many, or names with a value or without it where that is wrong."""
     faults = [f"lacks {name}" for name in wanted if name not in found]
     faults += [f"has {name}, which is no option" for name in found if name not in wanted]
-    both = [name for name in wanted if name in found]
-    return faults + [f"has {name} {'without' if wanted[name] else 'with'} a value" for name in both if found[name] != wanted[name]]
+    differ = [name for name in wanted if name in found and found[name] != wanted[name]]
+    return faults + [f"has {name} {'without' if wanted[name] else 'with'} a value" for name in differ]
 
 
 def main():

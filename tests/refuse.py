@@ -7,9 +7,10 @@ promise, and not that an answer names what the function has no more. The edits o
 are applied at once to a copy of the crate, of which these functions alone are checked. The others are stubs there:
 bodies that never return, with a hole for a proof. A caller sees a function's contract alone, so it misses nothing; and
 each wrong function must be refused by a message of its own: an open goal on one of its lines, or an answer of its proof
-that doesn't fit its goal. A proof that only misses a name refuses nothing. An edit that touches anything but bodies is
-in no group with others; one that turns no function names that which has to refuse it, by a line `refused by: NAME`. An
-edit without a refusal of its own is tried by itself, and if it has none then either its whole crate is checked, without
+that doesn't fit its goal. A proof that only misses a name refuses nothing. An edit of a law, whose contract it turns, is
+in no group with a function that may call it, and one that touches what functions share, as a type or a constant, in
+none with others; one that turns no function names that which has to refuse it, by a line `refused by: NAME`. An edit
+without a refusal of its own is tried by itself, and if it has none then either its whole crate is checked, without
 stubs, and any open goal counts.
 
 A NAME is a crate or an edit, `late-double-taken` or `pg_seq/late-double-taken`; none: all. Those of `refused/` are
@@ -71,7 +72,10 @@ class Edit:
     path: pathlib.Path
     pairs: list = field(default_factory=list)
     functions: list = field(default_factory=list)
-    # The edit touches a line outside of every body: of a type, a constant or a contract.
+    # Those of the functions whose contracts it touches.
+    stated: list = field(default_factory=list)
+    # The edit touches what functions share: a type, a constant, or the contract of a method, which a loop, an operator
+    # or a value that is dropped may call without its name.
     is_wider: bool = False
 
     def label(self):
@@ -121,10 +125,12 @@ def place_edit(edit, folder):
     for file, line in places:
         if file.startswith("proofs/"):
             continue
-        found = functions_of(file, (folder / file).read_text(encoding="utf-8"))
-        around = [it for it in found if it.first <= line <= it.last]
-        edit.is_wider |= not any(it.body <= line for it in around)
+        text = (folder / file).read_text(encoding="utf-8")
+        around = [it for it in functions_of(file, text) if it.first <= line <= it.last]
+        stated = [it for it in around if line < it.body]
+        edit.is_wider |= not around and not is_imported(text, line) or any("/" in it.name for it in stated)
         edit.functions += [it for it in around if it not in edit.functions]
+        edit.stated += [it for it in stated if it not in edit.stated]
     for name in re.findall(r"(?m)^refused by: (\S+)$", edit.path.read_text(encoding="utf-8")):
         found = functions_shown_as(name, folder)
         if len(found) != 1:
@@ -132,12 +138,34 @@ def place_edit(edit, folder):
         edit.functions += found
 
 
+def is_imported(text, line):
+    """Whether a line, counted from 1, belongs to an item of imports. Further names there change no function."""
+    lines = text.split("\n")
+    while line > 1 and lines[line - 2].startswith((" ", "use ", "ghost use ")) and not lines[line - 2].endswith(";"):
+        line -= 1
+    return lines[line - 1].startswith(("use ", "ghost use "))
+
+
+def is_named(function, by, folder):
+    """Whether the code of another function has a function's name, so that it may be a caller."""
+    lines = (folder / by.file).read_text(encoding="utf-8").split("\n")[by.first - 1 : by.last]
+    return any(re.search(rf"\b{function.name}\b", it.partition("//")[0]) for it in lines)
+
+
+def are_apart(one, other, folder):
+    """Whether two edits may be applied at once: what refuses the one has nothing to do with the other."""
+    if one.is_wider or other.is_wider or set(one.functions) & set(other.functions):
+        return False
+    pairs = [(it, by) for first, then in ((one, other), (other, one)) for it in first.stated for by in then.functions]
+    return not any(is_named(it, by, folder) for it, by in pairs)
+
+
 def groups_of(edits, folder):
-    """Packs the edits into groups in which no two touch the same function and each can be applied over the others."""
+    """Packs the edits into groups of such as are apart, in which each can be applied over the others."""
     groups = []
     for edit in edits:
-        for group in [] if edit.is_wider else groups:
-            if any(it.is_wider or set(it.functions) & set(edit.functions) for it in group):
+        for group in groups:
+            if not all(are_apart(it, edit, folder) for it in group):
                 continue
             try:
                 applied([pair for it in [*group, edit] for pair in it.pairs], {}, folder)

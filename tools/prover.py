@@ -79,12 +79,26 @@ class Prover:
 
 
 def lacks(function, output):
-    """What a check said of a function that isn't proved, but for its callees' holes; None of one that is."""
-    told = re.findall(rf"(?m)^fn \S+::{re.escape(function.shown())}: (.*)", output)
-    left = [it for it in told if not it.startswith(("no holes", "depends on a hole in "))]
+    """What a check said of a function that isn't proved, but for the holes of stubs; None of one that is."""
+    lines = re.findall(r"(?m)^fn (\S+): (.*)", output)
+    told = [it for name, it in lines if name.endswith(f"::{function.shown()}")]
     if any(f".{function.hole()}`" in it for it in told):
         return "it is a stub itself, which is a fault of tools/functions.py"
+    left = [it for it in told if not is_but_for_stubs(it, dict(lines))]
     return left[0] if left else None if told else "the check said nothing of it"
+
+
+def is_but_for_stubs(said, lines):
+    """Whether what a check said of a function names no hole but those of stubs. An answer, an invariant or a lemma may
+    have one too, which someone has left. Where it names those of another function, `lines` has that one's."""
+    if said.startswith("no holes"):
+        return True
+    named, _, other = said.partition(" declarations as ")
+    if not said.startswith("depends on a hole in "):
+        return False
+    holes = re.findall(r"`([^`]+)`", named)
+    shared = not other or is_but_for_stubs(lines.get(other.strip("`"), ""), lines)
+    return shared and all(re.search(r"\.Proof\.\w+_spec$", it) for it in holes)
 
 
 @contextlib.contextmanager
