@@ -2,7 +2,8 @@
 use crate::machine::bounds_of;
 use crate::rows::{Question, assert_rows, bytes_of, show_bytes};
 use pg_literal::Literal;
-use pg_syntax::{Tree, parse_ere};
+use pg_pattern::Tree;
+use pg_syntax::parse_ere;
 use std::alloc::{AllocError, Global};
 
 /// Bounds, with `fold-` before them where case is folded, extended expressions, which `;` parts, and their literals,

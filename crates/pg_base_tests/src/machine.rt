@@ -1,13 +1,14 @@
 //! Machines of patterns: what a search visits, and the matched parts that it finds.
 ghost use Rattle.std.specs.Prelude.{◌≤◌, ◌^◌, All, map, length};
-ghost use Rattle.pg_syntax.specs.Patterns.{IsProper};
-ghost use Rattle.pg_syntax.specs.Trees.{pattern};
+ghost use Rattle.pg_pattern.specs.Patterns.{IsProper};
+ghost use Rattle.pg_pattern.specs.Trees.{pattern};
 ghost use Rattle.pg_match.specs.Machines.{Fits};
 
 use crate::rows::{Question, assert_rows, repeated};
-use pg_match::laws::next_piece_is_one;
-use pg_match::{Bounds, BuildFault, Machine, Scratch};
-use pg_syntax::{Tree, fixed, parse_ere};
+use pg_match::{BuildFault, Machine, Scratch};
+use pg_pattern::laws::next_piece_is_one;
+use pg_pattern::{Bounds, Tree};
+use pg_syntax::{fixed, parse_ere};
 use refusing::Refusing;
 use std::alloc::{AllocError, Allocator, Global};
 

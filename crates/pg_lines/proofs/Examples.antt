@@ -1,8 +1,8 @@
 -- Worked examples of the definitions.
 use Rattle.std.specs.Prelude.{◌≡◌, ◌==◌, ℕ, true, false, List, [], ◌∷◌, ◌++◌, codes, refl}
-use Rattle.pg_syntax.specs.Patterns.{Pattern, Empty, Set, Cat}
-use Rattle.pg_match.specs.Tests.{has_hit}
-use Rattle.pg_match.specs.Parts.{parts_from}
+use Rattle.pg_pattern.specs.Patterns.{Pattern, Empty, Set, Cat}
+use Rattle.pg_pattern.specs.Tests.{has_hit}
+use Rattle.pg_pattern.specs.Parts.{parts_from}
 use Rattle.pg_lines.specs.Search.{SearchText, Search, Patterns, Split, ByLine, patterns, Kind, Fixed, Basic, Whole}
 use Rattle.pg_lines.specs.Search.{AreTreesOf, search_of, bounds_of, terminator_of}
 use Rattle.pg_lines.specs.Selection.{selects, parts}

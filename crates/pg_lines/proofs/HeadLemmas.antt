@@ -5,9 +5,9 @@ use Rattle.std.specs.Option.{IfSome, MatchOption, is_some}
 use Rattle.std.specs.List.{All}
 use Rattle.std.proofs.lemmas.List.{drop-drop}
 use Rattle.memchr.specs.Find.{OccursAt, FindsNeedle}
-use Rattle.pg_match.specs.Tests.{has_hit}
+use Rattle.pg_pattern.specs.Tests.{has_hit}
 use Rattle.pg_lines.proofs.HitLemmas.{hit_found, hit_missed}
-use Rattle.pg_match.specs.Hits.{Hit, IsNext, HasNoNext}
+use Rattle.pg_pattern.specs.Hits.{Hit, IsNext, HasNoNext}
 use Rattle.pg_literal.specs.Literals as P
 use Rattle.pg_literal.specs.Literals.{as_searched}
 use Rattle.pg_literal.specs.declared.literal.Literal.{Literal}

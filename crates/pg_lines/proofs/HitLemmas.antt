@@ -6,9 +6,9 @@ use Rattle.std.specs.Bool.{MatchBool, Decides}
 use Rattle.std.specs.List.{list_any, range_with_len, Any}
 use Rattle.std.proofs.lemmas.Bool.{false≢true, cases_Bool, cases_eq}
 use Rattle.std.proofs.lemmas.List.Elements.{All-contains}
-use Rattle.pg_match.specs.Hits.{Hit}
-use Rattle.pg_match.specs.Tests.{has_hit as patterns_have_hit}
-use Rattle.pg_match.proofs.TestLemmas.{hits_decided}
+use Rattle.pg_pattern.specs.Hits.{Hit}
+use Rattle.pg_pattern.specs.Tests.{has_hit as patterns_have_hit}
+use Rattle.pg_pattern.proofs.TestLemmas.{hits_decided}
 use Rattle.pg_lines.specs.Search.{SearchText, Search, Pattern, Bounds, AreTreesOf, search_of, uninverted, bounds_of}
 use Rattle.pg_literal.specs.Literals.{Holds}
 use Rattle.pg_lines.specs.Literals.{LiteralData, HoldsOne, IsEnough, AreLiterals}

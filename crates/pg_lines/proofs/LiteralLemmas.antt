@@ -6,7 +6,7 @@ use Rattle.std.proofs.lemmas.List.Elements.{All-map, All-weaker}
 use Rattle.pg_literal.specs.Literals as P
 use Rattle.pg_literal.specs.Literals.{Holds}
 use Rattle.pg_literal.specs.declared.literal.Literal.{Literal}
-use Rattle.pg_match.specs.Hits.{HasHit as PatternsHaveHit}
+use Rattle.pg_pattern.specs.Hits.{HasHit as PatternsHaveHit}
 use Rattle.pg_blocks.specs.Lines.{IsLine}
 use Rattle.pg_lines.specs.Search.{SearchText, Pattern, AreTreesOf, bounds_of, terminator_of}
 use Rattle.pg_lines.specs.Same.{same_trees}

@@ -9,10 +9,10 @@ use Rattle.std.proofs.lemmas.Bool.{false≢true}
 use Rattle.std.proofs.lemmas.List.{append-nil, take_at, map-append}
 use Rattle.pg_match.specs.Automata.{Nfa}
 use Rattle.pg_match.specs.Machines.{IsMachineOf}
-use Rattle.pg_match.specs.Hits.{HasNoNext, IsNext}
-use Rattle.pg_match.specs.Parts.{AreParts, none, more}
-use Rattle.pg_match.proofs.PartLaws.{parts_are_one}
-use Rattle.pg_match.proofs.TestLemmas.{hits_decided}
+use Rattle.pg_pattern.specs.Hits.{HasNoNext, IsNext}
+use Rattle.pg_pattern.specs.Parts.{AreParts, none, more}
+use Rattle.pg_pattern.proofs.PartLaws.{parts_are_one}
+use Rattle.pg_pattern.proofs.TestLemmas.{hits_decided}
 use Rattle.pg_blocks.specs.Lines.{lines, AreWhole, AreShort, terminated}
 use Rattle.pg_lines.specs.Search.{SearchText, Search, Pattern, Bounds, AreTreesOf, search_of, terminator, bounds_of}
 use Rattle.pg_lines.specs.Selection.{selects, parts, has_hit}

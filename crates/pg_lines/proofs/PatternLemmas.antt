@@ -3,7 +3,7 @@ use Rattle.std.proofs.Common.{◌≡◌, ◌<◌, ◌==◌, ◌||◌, get_or, in
 use Rattle.std.proofs.Common.{List, [], ◌∷◌, sym, ap, ◌∙◌, arith}
 use Rattle.std.specs.List.{Contains, list_any}
 use Rattle.std.proofs.lemmas.Bool.{eq-eqb, cases_Bool, false≢true}
-use Rattle.pg_syntax.specs.Patterns.{Pattern, IsProper}
+use Rattle.pg_pattern.specs.Patterns.{Pattern, IsProper}
 use Rattle.pg_syntax.specs.ListResults.{AreSpelled}
 use Rattle.pg_lines.specs.Search.{Kind}
 

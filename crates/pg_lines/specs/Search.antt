@@ -3,10 +3,10 @@ use Rattle.std.specs.Prelude.{ℕ, Bool, false, if◌then◌else◌, List}
 pub use Rattle.pg_syntax.specs.declared.pattern_list.Kind.{Kind}
 pub use Rattle.pg_syntax.specs.declared.pattern_list.Kind.TheVariants.{Basic, Extended, Fixed}
 pub use Rattle.pg_syntax.specs.PatternLists.{Patterns, Split, ByLine, patterns}
-pub use Rattle.pg_syntax.specs.Patterns.{Pattern}
+pub use Rattle.pg_pattern.specs.Patterns.{Pattern}
 use Rattle.pg_syntax.specs.ListResults.{AreSpelled}
-pub use Rattle.pg_match.specs.declared.bounds.Bounds.{Bounds}
-pub use Rattle.pg_match.specs.declared.bounds.Bounds.TheVariants.{Any, Word, Whole}
+pub use Rattle.pg_pattern.specs.declared.bounds.Bounds.{Bounds}
+pub use Rattle.pg_pattern.specs.declared.bounds.Bounds.TheVariants.{Any, Word, Whole}
 
 -- the kind of the patterns, the lists, and the options -i, -x, -w, -v, -o and -z
 pub record SearchText : Type 0 where

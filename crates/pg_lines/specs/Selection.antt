@@ -1,9 +1,9 @@
 -- Which lines a query selects, and the parts of them that -o shows (XCU grep, DESCRIPTION, -v; GNU grep, -o).
 use Rattle.std.specs.Prelude.{ℕ, Bool, not, if◌then◌else◌, List}
 use Rattle.std.specs.Bool.{MatchBool, Decides}
-use Rattle.pg_match.specs.Hits.{HasHit as PatternsHaveHit}
-use Rattle.pg_match.specs.Tests.{has_hit as patterns_have_hit}
-use Rattle.pg_match.specs.Parts.{parts as parts_of_patterns}
+use Rattle.pg_pattern.specs.Hits.{HasHit as PatternsHaveHit}
+use Rattle.pg_pattern.specs.Tests.{has_hit as patterns_have_hit}
+use Rattle.pg_pattern.specs.Parts.{parts as parts_of_patterns}
 use Rattle.pg_lines.specs.Search.{Search, bounds_of}
 
 -- some span of the line is matched

@@ -3,8 +3,8 @@ use Rattle.std.specs.Prelude.{◌≡◌, ℕ, ◌+◌, ◌<◌, ◌≤◌, List,
 use Rattle.std.specs.Prelude.{Option, MatchOption, IsTrue}
 use Rattle.std.specs.List.{Any}
 use Rattle.memchr.specs.Find.{OccursAt}
-use Rattle.pg_match.specs.Bounds.{MayBegin, MayEnd}
-use Rattle.pg_match.specs.Hits.{Hit, IsNext}
+use Rattle.pg_pattern.specs.Bounds.{MayBegin, MayEnd}
+use Rattle.pg_pattern.specs.Hits.{Hit, IsNext}
 use Rattle.pg_literal.specs.Literals.{as_searched}
 use Rattle.pg_strings.specs.Outcomes.{strings_of}
 use Rattle.pg_lines.specs.Search.{SearchText, Pattern, Bounds, Fixed, AreTreesOf, bounds_of, patterns}

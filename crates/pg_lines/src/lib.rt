@@ -21,7 +21,8 @@ mod strings;
 
 pub use laws::{selection_is_decided, trees_are_one};
 pub use pg_literal::Literal;
-pub use pg_match::{Bounds, Machine, Scratch};
+pub use pg_match::{Machine, Scratch};
+pub use pg_pattern::Bounds;
 pub use pg_syntax::{Kind, ListFault, PatternList};
 pub use query::{Query, QueryFault, QueryText};
 pub use result::BlockResult;

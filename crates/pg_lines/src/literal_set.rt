@@ -5,7 +5,7 @@ ghost use Rattle.pg_strings.specs.Keys.{items_of};
 ghost use Rattle.pg_strings.specs.Outcomes.{strings_of};
 
 use pg_literal::Literal;
-use pg_match::Bounds;
+use pg_pattern::Bounds;
 use pg_strings::StringSet;
 use std::alloc::{AllocError, Allocator, Global};
 

@@ -1,7 +1,7 @@
 //! The matched parts of selected lines.
 ghost use Rattle.std.specs.Prelude.{◌≡◌, ◌+◌, ◌<◌, ◌≤◌, ◌^◌, ◌++◌, ◌∷◌, [], OnOk, List, ℕ, length, map, true};
 ghost use Rattle.std.specs.Prelude.{if◌then◌else◌, slice_range, IfSome, MatchOption};
-ghost use Rattle.pg_match.specs.Hits.{HasNoNext, IsNext};
+ghost use Rattle.pg_pattern.specs.Hits.{HasNoNext, IsNext};
 ghost use Rattle.pg_match.specs.Machines.{Fits};
 ghost use Rattle.pg_blocks.specs.Lines.{lines};
 ghost use Rattle.pg_lines.specs.Search.{Pattern, AreTreesOf, bounds_of, search_of, terminator_of};

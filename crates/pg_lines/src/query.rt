@@ -1,7 +1,7 @@
 //! What is searched for.
 ghost use Rattle.std.specs.Prelude.{◌≡◌, ◌<◌, length, map, All, IfOk, IfErr, IfSome, IsTrue};
-ghost use Rattle.pg_syntax.specs.Patterns.{IsProper};
-ghost use Rattle.pg_syntax.specs.Trees.{pattern};
+ghost use Rattle.pg_pattern.specs.Patterns.{IsProper};
+ghost use Rattle.pg_pattern.specs.Trees.{pattern};
 ghost use Rattle.pg_lines.specs.Search.{AreTreesOf, Fixed, bounds_of, patterns, terminator_of};
 ghost use Rattle.pg_blocks.specs.Lines.{IsLine};
 ghost use Rattle.pg_literal.specs.Literals.{as_searched};
@@ -13,8 +13,9 @@ ghost use Rattle.pg_lines.specs.declared.query.QueryFault.TheVariants.{OutOfMemo
 use crate::literal_set::{LiteralSet, few_of};
 use pg_blocks::NEWLINE;
 use pg_literal::Literal;
-use pg_match::{Bounds, BuildFault, Machine};
-use pg_syntax::{FaultKind, Kind, ListFault, PatternList, Tree, parse_list};
+use pg_match::{BuildFault, Machine};
+use pg_pattern::{Bounds, Tree};
+use pg_syntax::{FaultKind, Kind, ListFault, PatternList, parse_list};
 use std::alloc::{AllocError, Allocator, Global};
 use std::marker::Model;
 use thiserror::Error;

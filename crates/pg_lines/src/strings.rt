@@ -10,7 +10,7 @@ use crate::query::Query;
 use memchr::memmem::Finder;
 use pg_blocks::Span;
 use pg_literal::Literal;
-use pg_match::Bounds;
+use pg_pattern::Bounds;
 use pg_strings::{Budget, Outcome, StringSet};
 use std::alloc::Allocator;
 

@@ -10,7 +10,7 @@ use Rattle.std.proofs.lemmas.Option.{slice_get-map, none-some, same_Some}
 use Rattle.pg_bytes.specs.declared.byte_set.ByteSet.{ByteSet}
 use Rattle.pg_bytes.specs.ByteSets.{bytes}
 use Rattle.pg_bytes.specs.Sets.{Bytes, one, closed, lower_case}
-use Rattle.pg_syntax.specs.Patterns.{folded}
+use Rattle.pg_pattern.specs.Patterns.{folded}
 use Rattle.pg_literal.specs.Literals.{as_searched}
 use Rattle.pg_literal.specs.Rows.{byte_as_searched, IsAlone}
 

@@ -3,11 +3,11 @@ use Rattle.std.proofs.Common.{ℕ, Bool, zero, suc, ◌≡◌, ◌<◌, ◌≤�
 use Rattle.std.proofs.Common.{Option, refl, sym, ap, ◌∙◌, subst, arith}
 use Rattle.std.specs.List.{Any as AnyOf, All}
 use Rattle.std.proofs.lemmas.Bool.{false≢true}
-use Rattle.pg_syntax.specs.Patterns.{Pattern, Cat, Alt, Rep}
-use Rattle.pg_match.specs.Matches.{Match, Chain}
-use Rattle.pg_match.specs.Hits.{HasHit}
-use Rattle.pg_match.specs.declared.bounds.Bounds.{Bounds}
-use Rattle.pg_match.specs.declared.bounds.Bounds.TheVariants.{Any}
+use Rattle.pg_pattern.specs.Patterns.{Pattern, Cat, Alt, Rep}
+use Rattle.pg_pattern.specs.Matches.{Match, Chain}
+use Rattle.pg_pattern.specs.Hits.{HasHit}
+use Rattle.pg_pattern.specs.declared.bounds.Bounds.{Bounds}
+use Rattle.pg_pattern.specs.declared.bounds.Bounds.TheVariants.{Any}
 use Rattle.pg_literal.specs.Literals.{Holds, AreNeeded}
 use Rattle.pg_literal.specs.Added.{Adds}
 use Rattle.pg_literal.specs.Inner.{text_of, AreWithin, IsPart, IsPlain}

@@ -8,11 +8,11 @@ use Rattle.std.proofs.lemmas.List.{reverse-append, length_push, map-append, leng
 use Rattle.pg_bytes.specs.ByteSets.{bytes}
 use Rattle.pg_bytes.specs.Sets.{one}
 use Rattle.pg_bytes.specs.declared.byte_set.ByteSet.{ByteSet}
-use Rattle.pg_syntax.specs.Patterns.{Pattern, Empty, Set, Begin, End, Cat, Alt, Rep, folded}
+use Rattle.pg_pattern.specs.Patterns.{Pattern, Empty, Set, Begin, End, Cat, Alt, Rep, folded}
 use Rattle.pg_syntax.specs.Grammar as G
 use Rattle.pg_syntax.specs.Grammar.{Literal, Spells}
 use Rattle.pg_syntax.specs.declared.pattern_list.Kind.TheVariants.{Fixed}
-use Rattle.pg_match.specs.Matches.{Match, Chain}
+use Rattle.pg_pattern.specs.Matches.{Match, Chain}
 use Rattle.pg_literal.proofs.RowLemmas.{stands_within}
 use Rattle.pg_literal.specs.Rows.{StandsAt, row_of}
 use Rattle.pg_literal.specs.Known.{head_of, sets_of, HasRows, IsSureAt, MatchesEmpty, Extends, Hides, HidesOthers}

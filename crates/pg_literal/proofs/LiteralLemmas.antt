@@ -14,13 +14,13 @@ use Rattle.std.proofs.Common.{length-append, length-drop}
 use Rattle.std.proofs.lemmas.List.Elements.{All-append, All-weaker, All-cons, All-nil}
 use Rattle.std.proofs.lemmas.List.Elements.{Contains-append_left, Contains-append_right}
 use Rattle.memchr.specs.Find.{OccursAt}
-use Rattle.pg_syntax.specs.Patterns.{Pattern, Alt}
+use Rattle.pg_pattern.specs.Patterns.{Pattern, Alt}
 use Rattle.pg_syntax.specs.Grammar.{Spells}
 use Rattle.pg_syntax.specs.declared.pattern_list.Kind.TheVariants.{Fixed}
-use Rattle.pg_match.specs.Matches.{Match}
-use Rattle.pg_match.specs.Hits.{Hit, HasHit}
-use Rattle.pg_match.specs.declared.bounds.Bounds.{Bounds}
-use Rattle.pg_match.specs.declared.bounds.Bounds.TheVariants.{Any}
+use Rattle.pg_pattern.specs.Matches.{Match}
+use Rattle.pg_pattern.specs.Hits.{Hit, HasHit}
+use Rattle.pg_pattern.specs.declared.bounds.Bounds.{Bounds}
+use Rattle.pg_pattern.specs.declared.bounds.Bounds.TheVariants.{Any}
 use Rattle.pg_bytes.specs.ByteSets.{bytes}
 use Rattle.pg_bytes.specs.Sets.{Bytes}
 use Rattle.pg_literal.specs.Literals.{as_searched, Holds, IsEnough, AreEnough, AreHeads, AreTexts}

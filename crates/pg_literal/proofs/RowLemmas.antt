@@ -16,7 +16,7 @@ use Rattle.pg_bytes.specs.declared.byte_set.ByteSet.{ByteSet}
 use Rattle.std.proofs.lemmas.Option.{slice_get-get_or, get_or_from_slice_get}
 use Rattle.memchr.specs.Find.{OccursAt}
 use Rattle.pg_bytes.specs.Sets.{Bytes, one}
-use Rattle.pg_syntax.specs.Patterns.{folded}
+use Rattle.pg_pattern.specs.Patterns.{folded}
 use Rattle.pg_literal.proofs.FoldLemmas.{searched_byte, byte_of_searched, length_searched, searched_again}
 use Rattle.pg_literal.proofs.FoldLemmas.{searched_one, searched_append, folded_alone, alone_once}
 use Rattle.pg_literal.specs.Literals.{as_searched}

@@ -3,12 +3,12 @@ use Rattle.std.specs.Prelude.{◌≡◌, ◌⊎◌, ◌≤◌, ◌<◌, ℕ, zer
 use Rattle.std.specs.Prelude.{Option, Some, IfSome, true}
 use Rattle.std.specs.Prelude.{IsTrue}
 use Rattle.pg_bytes.specs.Sets.{Bytes, one}
-use Rattle.pg_syntax.specs.Patterns.{Pattern, Rep, folded}
+use Rattle.pg_pattern.specs.Patterns.{Pattern, Rep, folded}
 use Rattle.pg_syntax.specs.Grammar.{Spells}
 use Rattle.pg_syntax.specs.declared.pattern_list.Kind.TheVariants.{Fixed}
-use Rattle.pg_match.specs.Matches.{Match}
-use Rattle.pg_match.specs.declared.bounds.Bounds.{Bounds}
-use Rattle.pg_match.specs.declared.bounds.Bounds.TheVariants.{Any}
+use Rattle.pg_pattern.specs.Matches.{Match}
+use Rattle.pg_pattern.specs.declared.bounds.Bounds.{Bounds}
+use Rattle.pg_pattern.specs.declared.bounds.Bounds.TheVariants.{Any}
 use Rattle.pg_literal.specs.Rows.{StandsAt, row_of}
 use Rattle.pg_literal.specs.declared.known.Known.{Known}
 use Rattle.pg_literal.specs.declared.known.Chosen.{Chosen}

@@ -3,9 +3,9 @@ use Rattle.std.specs.Prelude.{◌≡◌, ◌<◌, ℕ, Bool, List, map, IsTrue, 
 use Rattle.std.specs.List.{All, Any}
 use Rattle.memchr.specs.Find.{OccursAt}
 use Rattle.pg_bytes.specs.Sets.{lower_case}
-use Rattle.pg_syntax.specs.Patterns.{Pattern}
-use Rattle.pg_match.specs.Hits.{HasHit, Hit}
-use Rattle.pg_match.specs.declared.bounds.Bounds.{Bounds}
+use Rattle.pg_pattern.specs.Patterns.{Pattern}
+use Rattle.pg_pattern.specs.Hits.{HasHit, Hit}
+use Rattle.pg_pattern.specs.declared.bounds.Bounds.{Bounds}
 use Rattle.pg_literal.specs.declared.literal.Literal.{Literal}
 
 -- the line as texts are searched for in it: itself, or where case is folded, in lower case (XCU grep, -i)

@@ -1,15 +1,14 @@
 //! The texts of alternations within a tree.
 ghost use Rattle.std.specs.Prelude.{◌≡◌, ◌⊎◌, ◌<◌, ℕ, List, [], ◌∷◌, length, map, false, IfOk, IsTrue};
 ghost use Rattle.std.specs.List.{All};
-ghost use Rattle.pg_syntax.specs.Patterns.{Pattern};
-ghost use Rattle.pg_syntax.specs.Trees.{pattern};
-ghost use Rattle.pg_match.specs.declared.bounds.Bounds.TheVariants.{Any};
+ghost use Rattle.pg_pattern.specs.Patterns.{Pattern};
+ghost use Rattle.pg_pattern.specs.Trees.{pattern};
+ghost use Rattle.pg_pattern.specs.declared.bounds.Bounds.TheVariants.{Any};
 ghost use Rattle.pg_literal.specs.Literals.{AreNeeded};
 ghost use Rattle.pg_literal.specs.Inner.{text_of, AreWithin, IsPart, IsPlain};
 
 use crate::literal::{Literal, cost_of, push_literals, single};
-use pg_match::Bounds;
-use pg_syntax::Tree;
+use pg_pattern::{Bounds, Tree};
 use std::alloc::{AllocError, Allocator};
 
 /// Forgets what a literal would tell of the alternation alone.

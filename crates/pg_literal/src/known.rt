@@ -1,8 +1,8 @@
 //! What is known of the matches of trees in a row.
 ghost use Rattle.std.specs.Prelude.{◌≡◌, ◌≤◌, ℕ, Bool, List, [], ◌∷◌, map, reverse, IsTrue, IfOk, IfSome, IsSomeAnd};
 ghost use Rattle.pg_bytes.specs.ByteSets.{bytes};
-ghost use Rattle.pg_syntax.specs.Patterns.{Begin, End, Set};
-ghost use Rattle.pg_syntax.specs.Trees.{pattern};
+ghost use Rattle.pg_pattern.specs.Patterns.{Begin, End, Set};
+ghost use Rattle.pg_pattern.specs.Trees.{pattern};
 ghost use Rattle.pg_literal.specs.Literals.{as_searched};
 ghost use Rattle.pg_literal.specs.Rows.{AreProduct};
 ghost use Rattle.pg_literal.specs.Known.{head_of, sets_of, IsNothing, Extends, Hides, HidesOthers, MatchesEmpty};
@@ -10,8 +10,7 @@ ghost use Rattle.pg_literal.specs.Known.{IsChosen, LacksFirst, Repeats};
 
 use crate::row::{Expansion, Window, Worth, only_text, widest, widest_or_whole};
 use pg_bytes::ByteSet;
-use pg_match::Bounds;
-use pg_syntax::Tree;
+use pg_pattern::{Bounds, Tree};
 use std::alloc::{AllocError, Allocator};
 
 /// Of a repeated set so many rounds are looked at.

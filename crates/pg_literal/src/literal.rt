@@ -3,9 +3,9 @@ ghost use Rattle.std.specs.Prelude.{◌≡◌, ◌⊎◌, ◌<◌, ◌≤◌, �
 ghost use Rattle.std.specs.Prelude.{IsTrue, IfOk, IfErr, IfSome, IsSome, OnOk};
 ghost use Rattle.std.specs.List.{All, AllZip};
 ghost use Rattle.pg_syntax.specs.Grammar.{Spells};
-ghost use Rattle.pg_syntax.specs.Trees.{pattern};
+ghost use Rattle.pg_pattern.specs.Trees.{pattern};
 ghost use Rattle.pg_syntax.specs.declared.pattern_list.Kind.TheVariants.{Fixed};
-ghost use Rattle.pg_match.specs.declared.bounds.Bounds.TheVariants.{Any};
+ghost use Rattle.pg_pattern.specs.declared.bounds.Bounds.TheVariants.{Any};
 ghost use Rattle.pg_literal.specs.Literals.{as_searched, AreNeeded, AreHeads, AreEnough, AreTexts};
 ghost use Rattle.pg_literal.specs.Rows.{row_of, AreProduct, Multiplies};
 ghost use Rattle.pg_literal.specs.Added.{Adds, AddsOnly};
@@ -15,8 +15,7 @@ use crate::inner::inner_of;
 use crate::known::{Known, with_tree};
 use crate::row::{Expansion, WIDE, texts_of};
 use pg_bytes::ByteSet;
-use pg_match::Bounds;
-use pg_syntax::Tree;
+use pg_pattern::{Bounds, Tree};
 use std::alloc::{AllocError, Allocator, Global};
 
 /// Texts of so many bytes are long enough where there are at most 8.

@@ -9,7 +9,7 @@ use Rattle.std.proofs.lemmas.Bool.{cases_eq, cases_lt}
 use Rattle.pg_match.specs.Anchored.{StandsFrom, GoesAlone, ToldAlone, IsAnchoredMemoryOf, start_row}
 use Rattle.pg_match.specs.Anchored.{NothingBefore, TellsBegun, begun_of}
 use Rattle.pg_match.specs.Automata.{Nfa, Edge, Runs, IsRunnable}
-use Rattle.pg_match.specs.Bounds.{MayBegin, MayEnd}
+use Rattle.pg_pattern.specs.Bounds.{MayBegin, MayEnd}
 use Rattle.pg_match.specs.Memories.{Remembered, ended, fresh_at, In, Same, IsShape, IsBlank, Keeps}
 use Rattle.pg_match.specs.Memories.{Grown, Marked, MarkedEnd, IsAtRow}
 use Rattle.pg_match.specs.Searches.{IsBest}

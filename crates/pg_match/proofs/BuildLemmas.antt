@@ -6,9 +6,9 @@ use Rattle.std.specs.Prelude.{slice_get}
 use Rattle.std.proofs.lemmas.Bool.{cases_eq}
 use Rattle.std.proofs.lemmas.List.Sums.{sum_by_more, sum_by-take-le}
 use Rattle.std.proofs.lemmas.Option.{slice_get_within, slice_get-get_or, get_or_from_slice_get}
-use Rattle.pg_match.specs.Matches.{Match}
-use Rattle.pg_match.specs.declared.bounds.Bounds.{Bounds}
-use Rattle.pg_syntax.specs.Patterns.{IsProper, Pattern}
+use Rattle.pg_pattern.specs.Matches.{Match}
+use Rattle.pg_pattern.specs.declared.bounds.Bounds.{Bounds}
+use Rattle.pg_pattern.specs.Patterns.{IsProper, Pattern}
 use Rattle.pg_match.specs.Sizes.{size_of, list_size}
 use Rattle.pg_match.specs.Automata.{Runs, target_below, Nfa, IsRunnable}
 use Rattle.pg_match.specs.Tables.{Alternatives, Keeps, Pushed, Added, HasFirst}

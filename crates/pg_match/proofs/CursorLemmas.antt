@@ -3,7 +3,7 @@ use Rattle.std.proofs.Common.{◌≡◌, ◌≢◌, ℕ, ◌-◌, ◌<◌, ◌�
 use Rattle.std.specs.Prelude.{slice_get}
 use Rattle.std.proofs.lemmas.Bool.{cases_lt}
 use Rattle.pg_match.specs.Automata.{Nfa, Edge, Runs}
-use Rattle.pg_match.specs.Bounds.{MayBegin}
+use Rattle.pg_pattern.specs.Bounds.{MayBegin}
 use Rattle.pg_match.specs.Closures.{Leads, AreSeeds}
 use Rattle.pg_match.specs.Memories.{Remembered, IsMemoryOf, IsCursor, Crosses}
 use Rattle.pg_match.specs.Stands.{HasRun, NoneBefore}

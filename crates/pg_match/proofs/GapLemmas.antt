@@ -5,8 +5,8 @@ use Rattle.std.specs.Prelude.{slice_get, All, Result, IfOk}
 use Rattle.std.proofs.lemmas.List.Elements.{All-set}
 use Rattle.std.proofs.lemmas.Option.{slice_get_within}
 use Rattle.std.proofs.lemmas.Result.{IfOk-weaker}
-use Rattle.pg_match.specs.Matches.{Chain}
-use Rattle.pg_syntax.specs.Patterns.{IsProper, Pattern, Cat, Alt, Rep}
+use Rattle.pg_pattern.specs.Matches.{Chain}
+use Rattle.pg_pattern.specs.Patterns.{IsProper, Pattern, Cat, Alt, Rep}
 use Rattle.pg_match.specs.Sizes.{size_of}
 use Rattle.pg_match.specs.Automata.{target_below, IsTidy}
 use Rattle.pg_match.specs.Tables.{Optional, Implements, Keeps, NoAccept, KeepsWritten, Pushed, Added, AddedCopies}

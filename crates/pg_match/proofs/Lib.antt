@@ -12,9 +12,4 @@ pub mod SkimLemmas
 pub mod CursorLemmas
 pub mod AnchoredLemmas
 pub mod BuildLemmas
-pub mod HitLaws
-pub mod TestLemmas
-pub mod PartLaws
-pub mod Examples
-pub mod PatternLemmas
 pub mod SizeLemmas

@@ -2,8 +2,8 @@
 use Rattle.std.proofs.Common.{◌≡◌, ◌≢◌, ℕ, zero, suc, ◌+◌, ◌-◌, ◌≤◌, inl, inr, List, Option, Some, None, refl, sym, ap}
 use Rattle.std.proofs.Common.{◌∙◌, subst, arith}
 use Rattle.std.specs.Prelude.{slice_get, IfSome}
-use Rattle.pg_match.specs.Matches.{Chain, Match}
-use Rattle.pg_syntax.specs.Patterns.{IsProper, Pattern, Empty, Set, Begin, End, Cat, Alt, Rep}
+use Rattle.pg_pattern.specs.Matches.{Chain, Match}
+use Rattle.pg_pattern.specs.Patterns.{IsProper, Pattern, Empty, Set, Begin, End, Cat, Alt, Rep}
 use Rattle.pg_match.specs.Automata.{Edge, Runs}
 use Rattle.pg_match.specs.Tables.{Optional, Loop, AfterCopies, Implements}
 use Rattle.pg_match.specs.declared.state.State.{State}

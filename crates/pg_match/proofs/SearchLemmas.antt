@@ -8,10 +8,10 @@ use Rattle.std.proofs.lemmas.Bool.{cases_eq, cases_lt, leb-true, leb-false, ltb-
 use Rattle.pg_match.specs.Automata.{Edge, Runs, Nfa, IsRunnable}
 use Rattle.pg_match.specs.StateSets.{Members, mark, IsGood, IsEmpty, Buffers, HaveRoom}
 use Rattle.pg_match.specs.Closures.{IsClosed, Stepped, Reached}
-use Rattle.pg_match.specs.Bounds.{MayBegin, MayEnd, may_end}
-use Rattle.pg_match.proofs.TestLemmas.{end_decided}
-use Rattle.pg_match.specs.Hits.{Hit, HasNoNext, IsNext}
-use Rattle.pg_syntax.specs.Patterns.{Pattern}
+use Rattle.pg_pattern.specs.Bounds.{MayBegin, MayEnd, may_end}
+use Rattle.pg_pattern.proofs.TestLemmas.{end_decided}
+use Rattle.pg_pattern.specs.Hits.{Hit, HasNoNext, IsNext}
+use Rattle.pg_pattern.specs.Patterns.{Pattern}
 use Rattle.pg_match.specs.Machines.{Agrees}
 use Rattle.pg_match.specs.Searches.{Early, RunsFrom, IsBest, Alive, Seeded, Advanced, start_bound, winner}
 use Rattle.pg_match.specs.Searches.{judged, limit_of, ending}

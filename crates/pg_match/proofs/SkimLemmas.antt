@@ -7,7 +7,7 @@ use Rattle.std.proofs.lemmas.Bool.{cases_lt}
 use Rattle.std.proofs.lemmas.List.{get_or_read}
 use Rattle.std.proofs.lemmas.Option.{slice_get-get_or}
 use Rattle.pg_match.specs.Automata.{Nfa, Runs, Edge, IsRunnable}
-use Rattle.pg_match.specs.Bounds.{MayBegin, MayEnd}
+use Rattle.pg_pattern.specs.Bounds.{MayBegin, MayEnd}
 use Rattle.pg_match.specs.Closures.{AreSeeds}
 use Rattle.pg_match.specs.Searches.{IsBest}
 use Rattle.pg_match.specs.Steps.{Goes, Reads, ReadsNone, HitBefore, EndsBehind}

@@ -6,9 +6,9 @@ use Rattle.std.proofs.lemmas.Bool.{cases_eq, cases_lt}
 use Rattle.std.proofs.lemmas.Option.{get_or_from_slice_get}
 use Rattle.pg_bytes.specs.ByteSets.{bytes}
 use Rattle.pg_match.specs.Automata.{Nfa, Edge, Runs, IsRunnable}
-use Rattle.pg_match.specs.Bounds.{MayBegin, MayEnd, is_word_byte}
+use Rattle.pg_pattern.specs.Bounds.{MayBegin, MayEnd, is_word_byte}
 use Rattle.pg_match.specs.Closures.{Leads}
-use Rattle.pg_match.specs.Hits.{HasHit}
+use Rattle.pg_pattern.specs.Hits.{HasHit}
 use Rattle.pg_match.specs.Machines.{Agrees}
 use Rattle.pg_match.specs.Searches.{RunsFrom}
 use Rattle.pg_match.specs.StateSets.{Members, mark}
@@ -18,11 +18,11 @@ use Rattle.pg_match.specs.Memories.{IsHopeless}
 use Rattle.pg_match.specs.Stands.{Stands, HasRun}
 use Rattle.pg_match.proofs.SearchLemmas.{edge_moves, runs_forward}
 use Rattle.pg_match.proofs.StepLemmas.{edge_still}
-use Rattle.pg_match.specs.declared.bounds.Bounds.{Bounds}
-use Rattle.pg_match.specs.declared.bounds.Bounds.TheVariants.{Any, Word, Whole}
+use Rattle.pg_pattern.specs.declared.bounds.Bounds.{Bounds}
+use Rattle.pg_pattern.specs.declared.bounds.Bounds.TheVariants.{Any, Word, Whole}
 use Rattle.pg_match.specs.declared.state.State.{State}
 use Rattle.pg_match.specs.declared.state.State.TheVariants.{Fail, Accept, Jump, Read, AtBegin, AtEnd, Split}
-use Rattle.pg_syntax.specs.Patterns.{Pattern}
+use Rattle.pg_pattern.specs.Patterns.{Pattern}
 
 pub reads_edge : (o : Option State) (l : List ℕ) (p b r : ℕ) → slice_get l p ≡ Some b → Reads o b r
     → Edge o l p r (p + 1)

@@ -10,7 +10,7 @@ use Rattle.std.proofs.Math.Seq.{get_or-append_seam}
 use Rattle.pg_bytes.specs.ByteSets.{bytes}
 use Rattle.pg_bytes.specs.declared.byte_set.ByteSet.{ByteSet}
 use Rattle.pg_match.specs.Automata.{Nfa, Edge, Runs, IsTidy, target_below}
-use Rattle.pg_match.specs.Bounds.{MayBegin}
+use Rattle.pg_pattern.specs.Bounds.{MayBegin}
 use Rattle.pg_match.specs.Closures.{Leads, IsClosed, IsOrdered, AllBelow, AreSeeds, Reached}
 use Rattle.pg_match.specs.Memories.{Same}
 use Rattle.pg_match.specs.Searches.{Seeded}

@@ -8,8 +8,8 @@ use Rattle.std.proofs.lemmas.Bool.{cases_eq}
 use Rattle.std.proofs.lemmas.List.{get_or_append_left}
 use Rattle.std.proofs.lemmas.List.Elements.{All-weaker, All-push, All-same}
 use Rattle.std.proofs.lemmas.Option.{slice_get_within, slice_get-get_or, get_or_from_slice_get}
-use Rattle.pg_match.specs.Matches.{Chain}
-use Rattle.pg_syntax.specs.Patterns.{IsProper, Pattern, Empty, Set, Begin, End, Cat, Alt, Rep}
+use Rattle.pg_pattern.specs.Matches.{Chain}
+use Rattle.pg_pattern.specs.Patterns.{IsProper, Pattern, Empty, Set, Begin, End, Cat, Alt, Rep}
 use Rattle.pg_match.specs.Sizes.{size_of}
 use Rattle.pg_match.specs.Automata.{target_below, IsTidy}
 use Rattle.pg_match.specs.Tables.{Optional, Loop, AfterCopies, Implements, Keeps, NoAccept, KeepsWritten, Pushed, Added}

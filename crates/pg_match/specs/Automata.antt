@@ -2,7 +2,7 @@
 use Rattle.std.specs.Prelude.{◌≡◌, ℕ, zero, suc, ◌+◌, ◌<◌, true, ◌⊎◌, Bool, List}
 use Rattle.std.specs.Prelude.{length, Option, Some, None, All, slice_get}
 use Rattle.pg_bytes.specs.ByteSets.{bytes}
-use Rattle.pg_match.specs.declared.bounds.Bounds.{Bounds}
+use Rattle.pg_pattern.specs.declared.bounds.Bounds.{Bounds}
 use Rattle.pg_match.specs.declared.state.State.{State}
 use Rattle.pg_match.specs.declared.state.State.TheVariants.{Fail, Accept, Jump, Read, AtBegin, AtEnd, Split}
 

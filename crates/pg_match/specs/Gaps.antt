@@ -1,6 +1,6 @@
 -- Tables that still lack the states of one part of a pattern.
 use Rattle.std.specs.Prelude.{◌≡◌, ℕ, ◌+◌, ◌<◌, ◌≤◌, List, length, Option, Some, None, slice_get, slice_set}
-use Rattle.pg_syntax.specs.Patterns.{Pattern}
+use Rattle.pg_pattern.specs.Patterns.{Pattern}
 use Rattle.pg_match.specs.Sizes.{size_of}
 use Rattle.pg_match.specs.Automata.{IsTidy}
 use Rattle.pg_match.specs.Tables.{Implements, Keeps, NoAccept, KeepsWritten, Pushed}

@@ -1,10 +1,5 @@
-pub use Rattle.pg_syntax.specs.Patterns
-pub use Rattle.pg_syntax.specs.Trees
-pub mod Matches
-pub mod Bounds
-pub mod Hits
-pub mod Tests
-pub mod Parts
+pub use Rattle.pg_pattern.specs.Patterns
+pub use Rattle.pg_pattern.specs.Trees
 pub mod Sizes
 pub mod Automata
 pub mod Machines

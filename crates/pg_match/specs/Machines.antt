@@ -1,10 +1,10 @@
 -- What a machine was built from.
 use Rattle.std.specs.Prelude.{◌≡◌, ℕ, ◌<◌, ◌⊎◌, List, length, IsTrue}
-use Rattle.pg_syntax.specs.Patterns.{Pattern}
-use Rattle.pg_match.specs.Hits.{Matched}
+use Rattle.pg_pattern.specs.Patterns.{Pattern}
+use Rattle.pg_pattern.specs.Hits.{Matched}
 use Rattle.pg_match.specs.Sizes.{list_size}
 use Rattle.pg_match.specs.Automata.{Nfa, Runs}
-use Rattle.pg_match.specs.declared.bounds.Bounds.{Bounds}
+use Rattle.pg_pattern.specs.declared.bounds.Bounds.{Bounds}
 
 -- The automaton runs along the spans that some pattern matches, and along no others. Without any pattern it may run
 -- along empty spans.

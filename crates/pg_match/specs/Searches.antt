@@ -1,7 +1,7 @@
 -- What a search has found so far, and what it may still find.
 use Rattle.std.specs.Prelude.{◌≡◌, ℕ, zero, suc, ◌+◌, ◌-◌, ◌^◌, ◌<◌, ◌≤◌, ◌⊎◌, Bool, List, length}
 use Rattle.std.specs.Prelude.{Option, Some, None, nat_lt, nat_le, if◌then◌else◌, IsTrue}
-use Rattle.pg_match.specs.Bounds.{may_end}
+use Rattle.pg_pattern.specs.Bounds.{may_end}
 use Rattle.pg_match.specs.Automata.{Nfa, Runs}
 use Rattle.pg_match.specs.StateSets.{Members, mark, IsGood}
 use Rattle.pg_match.specs.Closures.{Leads, IsClosed, IsOrdered, Stepped}

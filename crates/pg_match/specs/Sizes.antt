@@ -1,6 +1,6 @@
 -- How many states an automaton has for a list of patterns.
 use Rattle.std.specs.Prelude.{ℕ, ◌+◌, ◌-◌, ◌*◌, List, length, sum_by, Option, Some, None}
-use Rattle.pg_syntax.specs.Patterns.{Pattern, Empty, Set, Begin, End, Cat, Alt, Rep}
+use Rattle.pg_pattern.specs.Patterns.{Pattern, Empty, Set, Begin, End, Cat, Alt, Rep}
 
 -- a repetition of a pattern of a size: its copies, and a state for each of them that may be left out, or one for the
 -- loop

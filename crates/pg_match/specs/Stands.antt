@@ -1,7 +1,7 @@
 -- What the set of a place holds.
 use Rattle.std.specs.Prelude.{ℕ, ◌<◌, ◌≤◌, List, length, slice_get}
 use Rattle.pg_match.specs.Automata.{Nfa, Edge, Runs}
-use Rattle.pg_match.specs.Bounds.{MayBegin, MayEnd}
+use Rattle.pg_pattern.specs.Bounds.{MayBegin, MayEnd}
 use Rattle.pg_match.specs.Closures.{Leads}
 use Rattle.pg_match.specs.Searches.{RunsFrom}
 

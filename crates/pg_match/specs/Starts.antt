@@ -2,7 +2,7 @@
 use Rattle.std.specs.Prelude.{◌≡◌, ℕ, ◌+◌, ◌<◌, ◌≤◌, ◌⊎◌, ◌↔◌, Bool, false, IsTrue, List, length, slice_get}
 use Rattle.std.specs.Prelude.{slice_index, Option, Some, None}
 use Rattle.pg_match.specs.Automata.{Nfa, Edge}
-use Rattle.pg_match.specs.Bounds.{MayBegin}
+use Rattle.pg_pattern.specs.Bounds.{MayBegin}
 use Rattle.pg_match.specs.Closures.{Leads, IsClosed, IsOrdered}
 use Rattle.pg_match.specs.StateSets.{Members, mark, IsGood, Counted}
 use Rattle.pg_match.specs.Stands.{Stands, HasRun}

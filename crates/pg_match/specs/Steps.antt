@@ -3,11 +3,11 @@ use Rattle.std.specs.Prelude.{◌≡◌, ℕ, ◌<◌, ◌≤◌, ◌⊎◌, Boo
 use Rattle.std.specs.Prelude.{List, length, Option, Some, None, slice_get, slice_index}
 use Rattle.pg_bytes.specs.ByteSets.{bytes}
 use Rattle.pg_match.specs.Automata.{Nfa, Runs}
-use Rattle.pg_match.specs.Bounds.{is_word_byte}
+use Rattle.pg_pattern.specs.Bounds.{is_word_byte}
 use Rattle.pg_match.specs.Closures.{Leads}
 use Rattle.pg_match.specs.StateSets.{Members, mark, listed, IsGood, Counted}
-use Rattle.pg_match.specs.declared.bounds.Bounds.{Bounds}
-use Rattle.pg_match.specs.declared.bounds.Bounds.TheVariants.{Any, Word, Whole}
+use Rattle.pg_pattern.specs.declared.bounds.Bounds.{Bounds}
+use Rattle.pg_pattern.specs.declared.bounds.Bounds.TheVariants.{Any, Word, Whole}
 use Rattle.pg_match.specs.declared.state.State.{State}
 use Rattle.pg_match.specs.declared.state.State.TheVariants.{Fail, Accept, Jump, Read, AtBegin, AtEnd, Split}
 

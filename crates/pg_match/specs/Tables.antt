@@ -3,8 +3,8 @@ use Rattle.std.specs.Prelude.{◌≡◌, ◌≢◌, ℕ, zero, suc, ◌+◌, ◌
 use Rattle.std.specs.Prelude.{List, length, take, sum_by, Option, Some, None, slice_get}
 use Rattle.pg_bytes.specs.ByteSets.{bytes}
 use Rattle.pg_bytes.specs.declared.byte_set.ByteSet.{ByteSet}
-use Rattle.pg_syntax.specs.Patterns.{Pattern, Empty, Set, Begin, End, Cat, Alt, Rep}
-use Rattle.pg_match.specs.Matches.{Chain}
+use Rattle.pg_pattern.specs.Patterns.{Pattern, Empty, Set, Begin, End, Cat, Alt, Rep}
+use Rattle.pg_pattern.specs.Matches.{Chain}
 use Rattle.pg_match.specs.Sizes.{size_of}
 use Rattle.pg_match.specs.Automata.{IsTidy}
 use Rattle.pg_match.specs.declared.state.State.{State}

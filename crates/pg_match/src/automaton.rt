@@ -1,9 +1,9 @@
 //! The automaton of some patterns.
 ghost use Rattle.std.specs.Prelude.{◌≡◌, ◌↔◌, IsTrue};
 
-use crate::bounds::Bounds;
 use crate::starts::Starts;
 use crate::state::{State, is_same_table};
+use pg_pattern::Bounds;
 use std::alloc::{Allocator, Global};
 
 /// The states of some patterns. State 0 is the one where a match ends.

@@ -1,7 +1,7 @@
 //! How the states of trees are made.
 ghost use Rattle.std.specs.Prelude.{◌≡◌, ◌+◌, ◌*◌, ◌<◌, ◌≤◌, All, IfOk, IfSome, IsTrue, length, map, false};
-ghost use Rattle.pg_syntax.specs.Patterns.{Pattern, IsProper, Alt, Rep};
-ghost use Rattle.pg_syntax.specs.Trees.{pattern};
+ghost use Rattle.pg_pattern.specs.Patterns.{Pattern, IsProper, Alt, Rep};
+ghost use Rattle.pg_pattern.specs.Trees.{pattern};
 ghost use Rattle.pg_match.specs.Sizes.{size_of, list_size};
 ghost use Rattle.pg_match.specs.Automata.{IsTidy, IsRunnable, target_below};
 ghost use Rattle.pg_match.specs.Tables.{Pushed, Added, AddedCopies, AddedOptional};
@@ -10,12 +10,11 @@ ghost use Rattle.pg_match.specs.Machines.{IsMachineOf};
 ghost use Rattle.pg_match.specs.Views.{nfa, HasSeeds, HasStarts};
 
 use crate::automaton::Automaton;
-use crate::bounds::Bounds;
 use crate::closure::seeds;
 use crate::size::size;
 use crate::starts::starts_of;
 use crate::state::State;
-use pg_syntax::Tree;
+use pg_pattern::{Bounds, Tree};
 use std::alloc::{AllocError, Allocator};
 
 /// A state that is to be a `Split`. It is `Fail` until the first of the states that it leads to is there.

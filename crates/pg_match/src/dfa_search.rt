@@ -1,11 +1,11 @@
 //! The search for any match at all, by remembered sets.
 ghost use Rattle.std.specs.Prelude.{◌≡◌, ℕ, ◌+◌, ◌*◌, ◌/◌, ◌<◌, ◌≤◌, ◌^◌, ◌↔◌, ◌⊎◌};
 ghost use Rattle.std.specs.Prelude.{length, IsTrue, IfSome, List, true, false, slice_get};
-ghost use Rattle.pg_syntax.specs.Patterns.{Pattern};
+ghost use Rattle.pg_pattern.specs.Patterns.{Pattern};
 ghost use Rattle.pg_match.specs.Automata.{IsRunnable};
-ghost use Rattle.pg_match.specs.Hits.{HasHit};
+ghost use Rattle.pg_pattern.specs.Hits.{HasHit};
 ghost use Rattle.pg_match.specs.Machines.{Agrees};
-ghost use Rattle.pg_match.specs.declared.bounds.Bounds.TheVariants.{Whole};
+ghost use Rattle.pg_pattern.specs.declared.bounds.Bounds.TheVariants.{Whole};
 ghost use Rattle.pg_match.specs.StateSets.{IsGood, HaveRoom};
 ghost use Rattle.pg_match.specs.Stands.{HasRun};
 ghost use Rattle.pg_match.specs.Steps.{Has, Starts, IsQuiet, IsSpent};
@@ -13,12 +13,12 @@ ghost use Rattle.pg_match.specs.Memories.{IsMemoryOf, In, fresh_at, Same, Keeps,
 ghost use Rattle.pg_match.specs.Views.{nfa, members, buffers, remembered, added, HasSeeds, HasStarts, Remembers, Tells};
 
 use crate::automaton::Automaton;
-use crate::bounds::Bounds;
 use crate::dfa_cache::{Cache, DEAD, HIT, LOST};
 use crate::dfa_cursor::{Crossed, Cursor};
 use crate::search::StateSets;
 use crate::sparse_set::StateSet;
 use crate::state::State;
+use pg_pattern::Bounds;
 use std::alloc::Allocator;
 
 /// What a byte does to a remembered set.

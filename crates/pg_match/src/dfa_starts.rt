@@ -1,9 +1,9 @@
 //! What remembered sets tell of the hits of a line from a place on, before any marks are set.
 ghost use Rattle.std.specs.Prelude.{◌≡◌, ◌+◌, ◌*◌, ◌/◌, ◌<◌, ◌≤◌, ◌^◌, length, IfSome, IsTrue, List, MatchOption, Some};
-ghost use Rattle.pg_syntax.specs.Patterns.{Pattern};
+ghost use Rattle.pg_pattern.specs.Patterns.{Pattern};
 ghost use Rattle.pg_match.specs.Automata.{IsRunnable};
-ghost use Rattle.pg_match.specs.Bounds.{MayBegin, MayEnd};
-ghost use Rattle.pg_match.specs.Hits.{HasNoNext, IsNext};
+ghost use Rattle.pg_pattern.specs.Bounds.{MayBegin, MayEnd};
+ghost use Rattle.pg_pattern.specs.Hits.{HasNoNext, IsNext};
 ghost use Rattle.pg_match.specs.Machines.{Agrees};
 ghost use Rattle.pg_match.specs.StateSets.{HaveRoom};
 ghost use Rattle.pg_match.specs.Searches.{IsBest};

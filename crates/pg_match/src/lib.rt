@@ -14,7 +14,6 @@
 #![tactic(auto)]
 
 mod automaton;
-mod bounds;
 mod build;
 mod closure;
 mod dfa_anchored;
@@ -22,7 +21,6 @@ mod dfa_cache;
 mod dfa_cursor;
 mod dfa_search;
 mod dfa_starts;
-pub mod laws;
 mod machine;
 mod nfa_search;
 mod search;
@@ -31,5 +29,4 @@ mod sparse_set;
 mod starts;
 mod state;
 
-pub use bounds::Bounds;
 pub use machine::{BuildFault, Machine, Scratch};

@@ -1,22 +1,21 @@
 //! Machines, and what a search needs.
 ghost use Rattle.std.specs.Prelude.{◌≡◌, ◌+◌, ◌*◌, ◌^◌, ◌<◌, ◌≤◌, ◌↔◌, List, All};
 ghost use Rattle.std.specs.Prelude.{length, map, IsTrue, IfOk, IfSome, IsErrOf, MatchOption};
-ghost use Rattle.pg_syntax.specs.Patterns.{Pattern, IsProper};
-ghost use Rattle.pg_syntax.specs.Trees.{pattern};
+ghost use Rattle.pg_pattern.specs.Patterns.{Pattern, IsProper};
+ghost use Rattle.pg_pattern.specs.Trees.{pattern};
 ghost use Rattle.pg_match.specs.Sizes.{list_size};
-ghost use Rattle.pg_match.specs.Hits.{HasHit, HasNoNext, IsNext};
+ghost use Rattle.pg_pattern.specs.Hits.{HasHit, HasNoNext, IsNext};
 ghost use Rattle.pg_match.specs.Machines.{IsMachineOf, IsOfSome, Fits};
 ghost use Rattle.pg_match.specs.Memories.{IsBlank};
 ghost use Rattle.pg_match.specs.Views.{remembered};
-ghost use Rattle.pg_match.specs.declared.bounds.Bounds.{Bounds};
+ghost use Rattle.pg_pattern.specs.declared.bounds.Bounds.{Bounds};
 
 use crate::automaton::Automaton;
-use crate::bounds::Bounds;
 use crate::build::assemble;
 use crate::dfa_cache::Cache;
 use crate::search::StateSets;
 use crate::size::{MAX_STATES, list_size};
-use pg_syntax::Tree;
+use pg_pattern::{Bounds, Tree};
 use std::alloc::{AllocError, Allocator, Global};
 use std::marker::Model;
 use std::sync::Arc;

@@ -9,10 +9,10 @@ ghost use Rattle.pg_match.specs.Starts.{WithSeeds, Planted, GoesOn, StandsUnseed
 ghost use Rattle.pg_match.specs.Views.{nfa, members, buffers, HasSeeds, HasStarts, Tells};
 
 use crate::automaton::Automaton;
-use crate::bounds::{Bounds, is_word_byte};
 use crate::search::StateSets;
 use crate::sparse_set::StateSet;
 use crate::state::State;
+use pg_pattern::{Bounds, is_word_byte};
 use std::alloc::Allocator;
 use std::mem;
 
@@ -87,27 +87,25 @@ fn aim<A: Allocator>(states: &[State], byte: u8, current: &StateSet<A>, next: &m
     }
 }
 
-impl Bounds {
-    /// Whether a match may begin right behind a byte.
-    fn begins_after(self, byte: u8) -> bool
-        ensures { result ≡ begins_after self byte }
-    {
-        match self {
-            Bounds::Any => true,
-            Bounds::Word => !is_word_byte(byte),
-            Bounds::Whole => false,
-        }
+/// Whether a match may begin right behind a byte.
+fn begins_after(bounds: Bounds, byte: u8) -> bool
+    ensures { result ≡ begins_after bounds byte }
+{
+    match bounds {
+        Bounds::Any => true,
+        Bounds::Word => !is_word_byte(byte),
+        Bounds::Whole => false,
     }
+}
 
-    /// Whether a match may end right before a byte.
-    fn ends_before(self, byte: u8) -> bool
-        ensures { result ≡ ends_before self byte }
-    {
-        match self {
-            Bounds::Any => true,
-            Bounds::Word => !is_word_byte(byte),
-            Bounds::Whole => false,
-        }
+/// Whether a match may end right before a byte.
+fn ends_before(bounds: Bounds, byte: u8) -> bool
+    ensures { result ≡ ends_before bounds byte }
+{
+    match bounds {
+        Bounds::Any => true,
+        Bounds::Word => !is_word_byte(byte),
+        Bounds::Whole => false,
     }
 }
 
@@ -143,7 +141,7 @@ impl<A: Allocator> Automaton<A> {
         aim(&self.states, byte, &sets.current, &mut sets.next);
         let is_fresh = sets.next.len == 0;
         mem::swap(&mut sets.current, &mut sets.next);
-        if self.bounds.begins_after(byte) {
+        if begins_after(self.bounds, byte) {
             sets.current.insert(self.start, 1);
         }
         close(&self.states, &mut sets.current, false, false);
@@ -157,7 +155,7 @@ impl<A: Allocator> Automaton<A> {
         requires size { length set.now.marks.items ≡ length self.now.states.items }
         ensures { IsTrue result ↔ HitBefore (nfa self.now) byte (Has (members set.now)) }
     {
-        self.bounds.ends_before(byte) && set.marks[0] != 0
+        ends_before(self.bounds, byte) && set.marks[0] != 0
     }
 
     /// Whether a match ends where the line does. The set gets what needs the line's end.
@@ -224,7 +222,7 @@ impl<A: Allocator> Automaton<A> {
         ensures { IsTrue result ↔ HitBefore (nfa self.now) byte
             (WithSeeds self.now.seeds.items (IsTrue begins) (Has (members set.now))) }
     {
-        self.bounds.ends_before(byte) && (set.marks[0] != 0 || begins && self.starts.accepts)
+        ends_before(self.bounds, byte) && (set.marks[0] != 0 || begins && self.starts.accepts)
     }
 
     /// Whether a match ends where a line does that isn't empty, of the runs in a set or of one that starts there, if a

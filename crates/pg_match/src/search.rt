@@ -1,10 +1,10 @@
 //! The search of a line, one place after the other.
 ghost use Rattle.std.specs.Prelude.{◌≡◌, ◌+◌, ◌*◌, ◌^◌, ◌<◌, ◌≤◌, ◌↔◌, List};
 ghost use Rattle.std.specs.Prelude.{length, is_none, IsTrue, MatchOption, IfOk, None};
-ghost use Rattle.pg_syntax.specs.Patterns.{Pattern};
+ghost use Rattle.pg_pattern.specs.Patterns.{Pattern};
 ghost use Rattle.pg_match.specs.Automata.{IsRunnable};
-ghost use Rattle.pg_match.specs.Bounds.{MayBegin, MayEnd};
-ghost use Rattle.pg_match.specs.Hits.{HasHit, HasNoNext, IsNext};
+ghost use Rattle.pg_pattern.specs.Bounds.{MayBegin, MayEnd};
+ghost use Rattle.pg_pattern.specs.Hits.{HasHit, HasNoNext, IsNext};
 ghost use Rattle.pg_match.specs.Machines.{Agrees};
 ghost use Rattle.pg_match.specs.StateSets.{IsGood, HaveRoom};
 ghost use Rattle.pg_match.specs.Closures.{IsClosed, IsOrdered, AllBelow, Stepped};

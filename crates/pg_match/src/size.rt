@@ -1,10 +1,10 @@
 //! How many states trees take.
 ghost use Rattle.std.specs.Prelude.{◌≡◌, ◌+◌, ◌≤◌, ◌*◌, min, All, take, sum_by, map};
-ghost use Rattle.pg_syntax.specs.Patterns.{IsProper};
-ghost use Rattle.pg_syntax.specs.Trees.{pattern};
+ghost use Rattle.pg_pattern.specs.Patterns.{IsProper};
+ghost use Rattle.pg_pattern.specs.Trees.{pattern};
 ghost use Rattle.pg_match.specs.Sizes.{size_of, list_size};
 
-use pg_syntax::Tree;
+use pg_pattern::Tree;
 use std::alloc::Allocator;
 
 /// The most states of an automaton.

@@ -10,8 +10,8 @@ use Rattle.std.proofs.lemmas.List.{append-nil}
 use Rattle.std.proofs.lemmas.List.Concat.{flat_map-append}
 use Rattle.std.proofs.lemmas.List.Elements.{filter-append}
 use Rattle.std.proofs.Math.Seq.{drop-append_seam}
-use Rattle.pg_match.specs.Parts.{AreParts, none, more}
-use Rattle.pg_match.proofs.PartLaws.{parts_are_parts}
+use Rattle.pg_pattern.specs.Parts.{AreParts, none, more}
+use Rattle.pg_pattern.proofs.PartLaws.{parts_are_parts}
 use Rattle.pg_lines.specs.Search.{Search, terminator, bounds_of}
 use Rattle.pg_lines.specs.Selection.{selects, parts}
 use Rattle.pg_blocks.specs.Lines.{lines, terminated}

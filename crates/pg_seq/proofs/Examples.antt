@@ -1,9 +1,9 @@
 -- Worked examples of what is written, and of the exit status.
 use Rattle.std.proofs.Common.{◌≡◌, ℕ, true, false, Some, None, List, [], ◌∷◌, ◌++◌, refl, codes}
 use Rattle.pg_bytes.specs.Sets.{one}
-use Rattle.pg_syntax.specs.Patterns.{Set}
-use Rattle.pg_match.specs.Tests.{has_hit}
-use Rattle.pg_match.specs.Parts.{parts_from}
+use Rattle.pg_pattern.specs.Patterns.{Set}
+use Rattle.pg_pattern.specs.Tests.{has_hit}
+use Rattle.pg_pattern.specs.Parts.{parts_from}
 use Rattle.pg_lines.specs.Search.{SearchText, Search, Split, Fixed, search_of}
 use Rattle.std.specs.Fmt.{digits}
 use Rattle.pg_blocks.specs.Blocks.{BlockData}

@@ -1,6 +1,6 @@
 -- What is spelled is what is read, and a text spells one pattern.
 use Rattle.std.proofs.Common.{ℕ, ◌≡◌, ◌≢◌, ◌≤◌, Bool, List, [], length, Option, Some, None, refl, sym, ap, ◌∙◌, subst}
-use Rattle.pg_syntax.specs.Patterns.{Pattern}
+use Rattle.pg_pattern.specs.Patterns.{Pattern}
 use Rattle.pg_syntax.specs.Grammar as G
 use Rattle.pg_syntax.specs.Grammar.{Body, Expression, Spells}
 use Rattle.pg_syntax.specs.Expressions.{kind_of}

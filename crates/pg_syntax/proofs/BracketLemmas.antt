@@ -5,7 +5,7 @@ use Rattle.std.proofs.Common.{subst, append_assoc, length-append, arith}
 use Rattle.std.proofs.lemmas.Bool.{eqb-true, eq-eqb, ne_eqb, leb-true, false≢true}
 use Rattle.std.proofs.lemmas.Bool.Decides.{nat_tests}
 use Rattle.pg_bytes.specs.Sets.{Bytes, empty, union, between, complement}
-use Rattle.pg_syntax.specs.Patterns.{folded}
+use Rattle.pg_pattern.specs.Patterns.{folded}
 use Rattle.pg_syntax.specs.Brackets.{Element, Single, Enclosed, opens, has_end, Inside, member, end_point, is_dash}
 use Rattle.pg_syntax.specs.Brackets.{ranges, Members, negates, IsBracket}
 use Rattle.pg_syntax.specs.BracketReading.{Content, with_byte, until, enclosed_in, enclosed_at, Elements, with_element}

@@ -6,7 +6,7 @@ use Rattle.pg_bytes.specs.Sets.{Bytes, empty, complement}
 use Rattle.pg_syntax.specs.Brackets.{negates}
 use Rattle.pg_syntax.specs.BracketReading.{Elements, Fresh, members_of, inside_at, set_of, same, unite, bracket, shape}
 use Rattle.pg_syntax.specs.BracketReading.{unread, rest_of, elements_from}
-use Rattle.pg_syntax.specs.Patterns.{folded}
+use Rattle.pg_pattern.specs.Patterns.{folded}
 use Rattle.pg_syntax.proofs.BracketRuns.{nothing}
 
 abbrev pub shaped_by : Bool → Bool → Option (Bytes × List ℕ) → Option (Bytes × List ℕ)

@@ -5,12 +5,12 @@ use Rattle.std.proofs.Common.{subst, append_assoc, append-nil, arith}
 use Rattle.std.proofs.lemmas.Bool.{eqb-true, eq-eqb, ne_eqb, false≢true}
 use Rattle.std.proofs.lemmas.Bool.Decides.{nat_tests}
 use Rattle.pg_bytes.specs.Sets.{Bytes, one, all}
-use Rattle.pg_syntax.specs.Patterns.{folded}
+use Rattle.pg_pattern.specs.Patterns.{folded}
 use Rattle.pg_syntax.specs.Brackets.{IsBracket}
 use Rattle.pg_syntax.specs.BracketReading.{bracket}
 use Rattle.pg_syntax.specs.Intervals.{IsBounds}
 use Rattle.pg_syntax.specs.IntervalReading.{bounds}
-use Rattle.pg_syntax.specs.Patterns.{Pattern, Set, Begin, End}
+use Rattle.pg_pattern.specs.Patterns.{Pattern, Set, Begin, End}
 use Rattle.pg_syntax.proofs.BracketLemmas.{bracket_again, bracket_front}
 use Rattle.pg_syntax.proofs.IntervalLemmas.{bounds_again}
 use Rattle.pg_syntax.specs.Grammar as G

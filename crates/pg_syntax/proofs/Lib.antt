@@ -12,7 +12,6 @@ pub mod Proper
 pub mod SplitLemmas
 pub mod ListLemmas
 pub mod Braces
-pub mod TreeLemmas
 pub mod Literals
 pub mod Onward
 pub mod TokenLoop

@@ -8,9 +8,9 @@ use Rattle.std.proofs.lemmas.List.{take_rest, drop-drop, take_more, take-append-
 use Rattle.pg_syntax.specs.PatternLists.{Patterns, split, patterns_in, patterns}
 use Rattle.pg_syntax.specs.Lines.{lines}
 use Rattle.pg_syntax.specs.Slices.{bytes_of, last_line}
-use Rattle.pg_syntax.specs.Patterns.{Pattern}
-use Rattle.pg_syntax.specs.Trees.{pattern}
-use Rattle.pg_syntax.specs.declared.tree.Tree.{Tree}
+use Rattle.pg_pattern.specs.Patterns.{Pattern}
+use Rattle.pg_pattern.specs.Trees.{pattern}
+use Rattle.pg_pattern.specs.declared.tree.Tree.{Tree}
 use Rattle.pg_syntax.specs.Places.{Place}
 use Rattle.pg_syntax.specs.Results.{IsSpelled, IsFault, out_of_memory}
 use Rattle.pg_syntax.specs.ListResults.{AreSpelled, IsListFault}

@@ -3,7 +3,7 @@ use Rattle.std.proofs.Common.{ℕ, ◌≡◌, ◌≢◌, ◌<◌, ◌≤◌, ◌
 use Rattle.std.proofs.Common.{ap, ◌∙◌, subst, arith}
 use Rattle.std.proofs.lemmas.List.{take_more}
 use Rattle.pg_bytes.specs.Sets.{Bytes, one}
-use Rattle.pg_syntax.specs.Patterns.{Pattern, Empty, Set, Cat, folded}
+use Rattle.pg_pattern.specs.Patterns.{Pattern, Empty, Set, Cat, folded}
 use Rattle.pg_syntax.specs.Grammar as G
 use Rattle.pg_syntax.specs.Grammar.{Literal, Spells}
 use Rattle.pg_syntax.specs.Results.{IsSpelled}

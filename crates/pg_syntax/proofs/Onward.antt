@@ -4,7 +4,7 @@ use Rattle.std.proofs.Common.{◌∷◌, ◌++◌, length, Option, Some, None, i
 use Rattle.std.proofs.Common.{◌∙◌, subst, append_assoc, arith}
 use Rattle.std.proofs.lemmas.Bool.{eqb-true, false≢true}
 use Rattle.pg_bytes.specs.Sets.{Bytes, one, all}
-use Rattle.pg_syntax.specs.Patterns.{Pattern, Set, Begin, End, folded}
+use Rattle.pg_pattern.specs.Patterns.{Pattern, Set, Begin, End, folded}
 use Rattle.pg_syntax.specs.BracketReading.{bracket}
 use Rattle.pg_syntax.specs.IntervalReading.{bounds}
 use Rattle.pg_syntax.specs.Grammar.{Body, is_escaped, unbrace}

@@ -1,7 +1,7 @@
 -- What is spelled is proper.
 use Rattle.std.proofs.Common.{ℕ, ◌≤◌, Bool, List, Option, arith}
 use Rattle.std.specs.Prelude.{IfSome}
-use Rattle.pg_syntax.specs.Patterns.{Pattern, IsProper}
+use Rattle.pg_pattern.specs.Patterns.{Pattern, IsProper}
 use Rattle.pg_syntax.specs.Intervals as I
 use Rattle.pg_syntax.specs.Intervals.{IsBounds}
 use Rattle.pg_syntax.specs.Grammar as G

@@ -4,10 +4,10 @@ use Rattle.std.proofs.Common.{Option, Some, None, is_some, is_none, option_and_t
 use Rattle.std.proofs.Common.{subst, append_assoc, append-nil}
 use Rattle.std.proofs.lemmas.Bool.{eqb-true, ltb-true, eq-eqb, false≢true}
 use Rattle.pg_bytes.specs.Sets.{Bytes, one, all}
-use Rattle.pg_syntax.specs.Patterns.{folded}
+use Rattle.pg_pattern.specs.Patterns.{folded}
 use Rattle.pg_syntax.specs.BracketReading.{bracket}
 use Rattle.pg_syntax.specs.IntervalReading.{bounds}
-use Rattle.pg_syntax.specs.Patterns.{Pattern, Set, Begin, End, Cat, Alt, Rep}
+use Rattle.pg_pattern.specs.Patterns.{Pattern, Set, Begin, End, Cat, Alt, Rep}
 use Rattle.pg_syntax.proofs.BracketLemmas.{bracket_front, bracket_takes}
 use Rattle.pg_syntax.proofs.IntervalLemmas.{chosen, both, bounds_take}
 use Rattle.pg_syntax.specs.Grammar as G

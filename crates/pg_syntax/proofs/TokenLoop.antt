@@ -2,7 +2,7 @@
 use Rattle.std.proofs.Common.{ℕ, ◌≡◌, ◌≢◌, ◌<◌, ◌≤◌, ◌↔◌, inl, inr, Bool, true, false, List, [], ◌∷◌, ◌++◌, length}
 use Rattle.std.proofs.Common.{drop, Option, Some, None, Err, refl, sym, ap, subst, arith, length-drop}
 use Rattle.std.proofs.lemmas.Bool.{false≢true}
-use Rattle.pg_syntax.specs.Patterns.{Pattern, Empty}
+use Rattle.pg_pattern.specs.Patterns.{Pattern, Empty}
 use Rattle.pg_syntax.specs.Grammar as G
 use Rattle.pg_syntax.specs.Grammar.{Spells, Expression, Body, Mark, opening, closing, brace, unbrace}
 use Rattle.pg_syntax.specs.Machine as M

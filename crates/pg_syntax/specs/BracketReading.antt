@@ -3,7 +3,7 @@
 use Rattle.std.specs.Prelude.{ℕ, zero, suc, ◌+◌, ◌-◌, ◌≡◌, ◌<◌, Bool, true, false, not, ◌&&◌, ◌==◌, nat_le, List, []}
 use Rattle.std.specs.Prelude.{◌∷◌, length, drop, slice_index, ◌⊎◌, Option, Some, None, option_and_then, if◌then◌else◌}
 use Rattle.pg_bytes.specs.Sets.{Bytes, empty, between, union, complement}
-use Rattle.pg_syntax.specs.Patterns.{folded}
+use Rattle.pg_pattern.specs.Patterns.{folded}
 use Rattle.pg_syntax.specs.Brackets.{Element, Single, Enclosed, opens, member, end_point, is_dash}
 
 -- what stands before an end, and after it

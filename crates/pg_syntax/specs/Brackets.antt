@@ -3,7 +3,7 @@ use Rattle.std.specs.Prelude.{ℕ, ◌≡◌, ◌≢◌, ◌≤◌, ◌<◌, ◌
 use Rattle.std.specs.Prelude.{◌∷◌, ◌++◌, Option, Some, None, option_and_then, if◌then◌else◌}
 use Rattle.pg_bytes.specs.Sets.{Bytes, empty, one, between, union, complement}
 use Rattle.pg_bytes.specs.Classes.{class}
-use Rattle.pg_syntax.specs.Patterns.{folded}
+use Rattle.pg_pattern.specs.Patterns.{folded}
 
 -- one byte, or what stands in `[: :]`, `[= =]` or `[. .]`, told by its mark `:`, `=` or `.`
 pub data Element : Type 0 where

@@ -5,7 +5,7 @@ use Rattle.std.specs.Prelude.{◌++◌, length, Option, Some, None, IsTrue, ◌�
 use Rattle.std.specs.List.{list_any}
 use Prim.Native.String.{String}
 use Rattle.pg_bytes.specs.Sets.{Bytes, one, all}
-use Rattle.pg_syntax.specs.Patterns.{Pattern, Empty, Set, Begin, End, Cat, Alt, Rep, folded}
+use Rattle.pg_pattern.specs.Patterns.{Pattern, Empty, Set, Begin, End, Cat, Alt, Rep, folded}
 use Rattle.pg_syntax.specs.Brackets.{IsBracket}
 use Rattle.pg_syntax.specs.Intervals.{IsBounds}
 use Rattle.pg_syntax.specs.declared.token.Syntax.{Syntax}

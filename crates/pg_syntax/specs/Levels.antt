@@ -1,6 +1,6 @@
 -- A level of the builder as plain data.
 use Rattle.pg_syntax.specs.Machine as M
-use Rattle.pg_syntax.specs.Trees.{pattern_of}
+use Rattle.pg_pattern.specs.Trees.{pattern_of}
 use Rattle.pg_syntax.specs.declared.builder.Level.{Level}
 
 -- the level without where its trees lie in memory

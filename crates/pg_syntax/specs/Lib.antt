@@ -1,9 +1,7 @@
-pub mod Patterns
 pub mod Brackets
 pub mod Intervals
 pub mod Grammar
 pub mod Places
-pub mod Trees
 pub mod Results
 pub mod Lines
 pub mod PatternLists

@@ -1,6 +1,6 @@
 -- What the parser of pattern lists answers.
 use Rattle.std.specs.Prelude.{ℕ, ◌+◌, ◌≡◌, ◌⊎◌, Bool, List, [], ◌∷◌, ◌++◌, length}
-use Rattle.pg_syntax.specs.Patterns.{Pattern}
+use Rattle.pg_pattern.specs.Patterns.{Pattern}
 use Rattle.pg_syntax.specs.Results.{IsSpelled, IsRefused, out_of_memory}
 use Rattle.pg_syntax.specs.declared.pattern_list.Kind.{Kind}
 use Rattle.pg_syntax.specs.declared.fault.ListFault.{ListFault}

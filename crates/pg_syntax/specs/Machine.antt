@@ -3,7 +3,7 @@
 use Rattle.std.specs.Prelude.{ℕ, ◌≡◌, Bool, true, false, ◌&&◌, ◌==◌, nat_lt, List, [], ◌∷◌, length}
 use Rattle.std.specs.Prelude.{Option, Some, None, is_some, is_none, option_and_then, if◌then◌else◌}
 use Rattle.pg_bytes.specs.Sets.{Bytes, one, all}
-use Rattle.pg_syntax.specs.Patterns.{Pattern, Set, Begin, End, Cat, Alt, Rep, folded}
+use Rattle.pg_pattern.specs.Patterns.{Pattern, Set, Begin, End, Cat, Alt, Rep, folded}
 use Rattle.pg_syntax.specs.BracketReading.{bracket}
 use Rattle.pg_syntax.specs.IntervalReading.{bounds}
 use Rattle.pg_syntax.specs.Grammar.{is_escaped, unbrace}

@@ -1,6 +1,6 @@
 -- What stands where a fault is found.
 use Rattle.std.specs.Prelude.{ℕ, zero, suc, ◌≡◌, ◌≢◌, ◌≤◌, ◌<◌, Bool, true, List, [], ◌∷◌, ◌++◌, length, drop, ◌⊎◌}
-use Rattle.pg_syntax.specs.Patterns.{Pattern}
+use Rattle.pg_pattern.specs.Patterns.{Pattern}
 use Rattle.pg_syntax.specs.Grammar.{opening, closing, brace, Body}
 use Rattle.pg_syntax.specs.Brackets.{Element, Single, IsFront, HaveNoRange, OpensBracket, ReadsUpTo}
 use Rattle.pg_syntax.specs.declared.token.Syntax.{Syntax}

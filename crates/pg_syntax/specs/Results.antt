@@ -1,6 +1,6 @@
 -- What the parsers answer.
 use Rattle.std.specs.Prelude.{ℕ, ◌≡◌, ◌<◌, ◌⊎◌, Bool, List, length}
-use Rattle.pg_syntax.specs.Patterns.{Pattern, IsProper}
+use Rattle.pg_pattern.specs.Patterns.{Pattern, IsProper}
 use Rattle.pg_syntax.specs.Grammar.{Spells}
 use Rattle.pg_syntax.specs.Places.{Place}
 use Rattle.pg_syntax.specs.declared.pattern_list.Kind.{Kind}

@@ -3,7 +3,7 @@ use Rattle.std.specs.Prelude.{ℕ, ◌≡◌, ◌≤◌, ◌<◌, ◌⊎◌, Lis
 use Rattle.pg_bytes.specs.Sets.{Bytes}
 use Rattle.pg_bytes.specs.ByteSets.{bytes}
 use Rattle.pg_bytes.specs.declared.byte_set.ByteSet.{ByteSet}
-use Rattle.pg_syntax.specs.Patterns as P
+use Rattle.pg_pattern.specs.Patterns as P
 use Rattle.pg_syntax.specs.Machine as M
 use Rattle.pg_syntax.specs.Places.{PlaceIn}
 use Rattle.pg_syntax.specs.BracketPlaces.{BracketPlace}

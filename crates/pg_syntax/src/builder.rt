@@ -2,10 +2,10 @@
 ghost use Rattle.std.specs.Prelude.{◌≡◌, IfOk, OnOk, Some, None, is_some, is_none};
 ghost use Rattle.pg_syntax.specs.Machine.{fresh, last, cat, whole, with_item, start, grouped};
 ghost use Rattle.pg_syntax.specs.Machine.{add, anchored, after, Repeat, Open, Close, Bar};
-ghost use Rattle.pg_syntax.specs.Trees.{pattern, pattern_of};
+ghost use Rattle.pg_pattern.specs.Trees.{pattern, pattern_of};
 ghost use Rattle.pg_syntax.specs.Levels.{level_of};
 
-use crate::tree::Tree;
+use pg_pattern::Tree;
 use std::alloc::{AllocError, Allocator};
 use std::mem;
 

@@ -16,10 +16,8 @@ mod pattern_list;
 mod sets;
 mod source;
 mod token;
-mod tree;
 
 pub use fault::{FaultKind, ListFault, SyntaxFault};
 pub use list::parse_list;
 pub use parser::{fixed, parse_bre, parse_ere};
 pub use pattern_list::{Kind, PatternList};
-pub use tree::Tree;

@@ -1,6 +1,6 @@
 //! The trees of all patterns of some lists.
 ghost use Rattle.std.specs.Prelude.{◌≡◌, ◌++◌, [], ◌∷◌, ◌==◌, map, position, IfOk, IfErr, OnOk};
-ghost use Rattle.pg_syntax.specs.Trees.{pattern};
+ghost use Rattle.pg_pattern.specs.Trees.{pattern};
 ghost use Rattle.pg_syntax.specs.Memory.{patterns_of};
 ghost use Rattle.pg_syntax.specs.PatternLists.{patterns, patterns_in, split};
 ghost use Rattle.pg_syntax.specs.Lines.{lines};
@@ -11,7 +11,7 @@ ghost use Rattle.pg_syntax.specs.ListResults.{AreSpelled, IsListFault, no_memory
 use crate::fault::{FaultKind, ListFault, SyntaxFault};
 use crate::parser::{fixed, parse_bre, parse_ere};
 use crate::pattern_list::{Kind, PatternList};
-use crate::tree::Tree;
+use pg_pattern::Tree;
 use std::alloc::{AllocError, Allocator};
 
 /// The trees of all patterns, in their order, each as the parser of its kind answers it.

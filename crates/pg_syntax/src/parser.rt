@@ -1,6 +1,6 @@
 //! From a text to its tree.
 ghost use Rattle.std.specs.Prelude.{◌≡◌, ◌↔◌, ◌≤◌, ◌<◌, length, ◌≢◌, [], IfOk, IfErr, IsErrOf};
-ghost use Rattle.pg_syntax.specs.Trees.{pattern};
+ghost use Rattle.pg_pattern.specs.Trees.{pattern};
 ghost use Rattle.pg_syntax.specs.Results.{IsSpelled, IsFault, too_long};
 ghost use Rattle.pg_syntax.specs.Expressions.{kind_of};
 ghost use Rattle.pg_syntax.specs.declared.pattern_list.Kind.TheVariants.{Basic, Extended, Fixed};
@@ -14,7 +14,7 @@ use crate::fault::{FaultKind, SyntaxFault};
 use crate::sets::{folded, one};
 use crate::source::Source;
 use crate::token::{Syntax, Token};
-use crate::tree::Tree;
+use pg_pattern::Tree;
 use std::alloc::{AllocError, Allocator};
 
 /// How many bytes a text may have.

@@ -2,7 +2,7 @@
 ghost use Rattle.std.specs.Prelude.{◌≡◌};
 ghost use Rattle.pg_bytes.specs.Sets.{all, one};
 ghost use Rattle.pg_bytes.specs.ByteSets.{bytes};
-ghost use Rattle.pg_syntax.specs.Patterns.{folded};
+ghost use Rattle.pg_pattern.specs.Patterns.{folded};
 
 use pg_bytes::ByteSet;
 

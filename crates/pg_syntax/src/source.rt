@@ -2,7 +2,7 @@
 ghost use Rattle.std.specs.Prelude.{ℕ, List, ◌≡◌, ◌==◌, ◌+◌, ◌<◌, ◌≤◌, [], ◌∷◌, length, drop, MatchOption, Some, None};
 ghost use Rattle.std.specs.List.{list_any};
 ghost use Rattle.pg_bytes.specs.Sets.{one};
-ghost use Rattle.pg_syntax.specs.Patterns.{Set, folded};
+ghost use Rattle.pg_pattern.specs.Patterns.{Set, folded};
 ghost use Rattle.pg_syntax.specs.Grammar.{is_escaped, brace, unbrace};
 ghost use Rattle.pg_syntax.specs.Places.{PlaceIn, Stands};
 ghost use Rattle.pg_syntax.specs.IntervalReading.{bounds};

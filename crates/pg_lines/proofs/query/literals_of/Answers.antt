@@ -3,7 +3,7 @@ use Rattle.std.proofs.Common.{◌≡◌, ◌<◌, Bool, List, length, map, sym, 
 use Rattle.std.specs.Bool.{IsTrue}
 use Rattle.pg_lines.proofs.HeadLemmas.{heads_are}
 use Rattle.std.specs.List.{All, AllZip}
-use Rattle.pg_syntax.specs.Trees.{pattern}
+use Rattle.pg_pattern.specs.Trees.{pattern}
 use Rattle.pg_literal.specs.Literals as P
 use Rattle.pg_literal.specs.declared.literal.Literal.{Literal}
 use Rattle.pg_lines.specs.Literals.{AreLiterals, data_of}

@@ -1,5 +1,5 @@
 use Rattle.std.proofs.Common.{map}
-use Rattle.pg_syntax.specs.Trees.{pattern}
+use Rattle.pg_pattern.specs.Trees.{pattern}
 use Rattle.pg_lines.proofs.PatternLemmas.{all_proper}
 use Rattle.pg_lines.proofs.query.trees_of.Goals as goal
 

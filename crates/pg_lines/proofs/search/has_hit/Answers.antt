@@ -2,8 +2,8 @@ use Rattle.std.proofs.Common.{List, refl, sym, ◌∙◌, subst}
 use Rattle.std.specs.Bool.{one_answer}
 use Rattle.pg_match.specs.Automata.{Nfa}
 use Rattle.pg_match.specs.Machines.{IsMachineOf}
-use Rattle.pg_match.specs.Tests.{has_hit}
-use Rattle.pg_match.proofs.TestLemmas.{hits_decided}
+use Rattle.pg_pattern.specs.Tests.{has_hit}
+use Rattle.pg_pattern.proofs.TestLemmas.{hits_decided}
 use Rattle.pg_lines.specs.Search.{Pattern, bounds_of}
 use Rattle.pg_lines.specs.Same.{same_trees}
 use Rattle.pg_lines.proofs.HeadLemmas.{piece_tells}

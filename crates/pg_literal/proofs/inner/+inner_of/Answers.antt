@@ -1,6 +1,6 @@
 use Rattle.std.proofs.Common.{inl, inr, arith, rules, sym, subst, ◌<◌, length}
-use Rattle.pg_syntax.specs.declared.tree.Tree.{the_lemmas}
-use Rattle.pg_match.proofs.PatternLemmas.{pattern-cat, pattern-alt, pattern-rep}
+use Rattle.pg_pattern.specs.declared.tree.Tree.{the_lemmas}
+use Rattle.pg_pattern.proofs.PatternLemmas.{pattern-cat, pattern-alt, pattern-rep}
 use Rattle.pg_literal.specs.Inner.{AreWithin}
 use Rattle.pg_literal.proofs.InnerLemmas.{part_first, part_second, part_round, within_alt}
 use Rattle.pg_literal.proofs.inner.+inner_of.Goals as goal

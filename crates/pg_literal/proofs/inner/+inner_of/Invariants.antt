@@ -1,7 +1,7 @@
 use Rattle.std.proofs.Common.{◌≤◌, ◌<◌, length}
-use Rattle.pg_syntax.specs.Patterns.{Pattern}
-use Rattle.pg_syntax.specs.Trees.{pattern}
-use Rattle.pg_syntax.specs.declared.tree.Tree.{size-Tree}
+use Rattle.pg_pattern.specs.Patterns.{Pattern}
+use Rattle.pg_pattern.specs.Trees.{pattern}
+use Rattle.pg_pattern.specs.declared.tree.Tree.{size-Tree}
 use Rattle.pg_literal.specs.Inner.{AreWithin, IsPart}
 use Rattle.pg_literal.proofs.inner.+inner_of.Given as goal
 

@@ -1,6 +1,6 @@
 use Rattle.std.proofs.Common.{inr, List, subst}
-use Rattle.pg_syntax.specs.Trees.{pattern}
-use Rattle.pg_match.specs.declared.bounds.Bounds.TheVariants.{Any}
+use Rattle.pg_pattern.specs.Trees.{pattern}
+use Rattle.pg_pattern.specs.declared.bounds.Bounds.TheVariants.{Any}
 use Rattle.pg_literal.specs.Added.{Adds}
 use Rattle.pg_literal.specs.declared.literal.Literal.{Literal}
 use Rattle.pg_literal.proofs.InnerLemmas.{needed_texts, needed_added}

@@ -1,6 +1,6 @@
 use Rattle.std.proofs.Common.{refl, rules}
-use Rattle.pg_syntax.specs.declared.tree.Tree.{the_lemmas}
-use Rattle.pg_match.proofs.PatternLemmas.{pattern-empty, pattern-cat, pattern-alt, pattern-rep}
+use Rattle.pg_pattern.specs.declared.tree.Tree.{the_lemmas}
+use Rattle.pg_pattern.proofs.PatternLemmas.{pattern-empty, pattern-cat, pattern-alt, pattern-rep}
 use Rattle.pg_literal.proofs.KnownLemmas.{no_rounds, both_empty, first_empty, second_empty}
 use Rattle.pg_literal.proofs.known.+matches_empty.Goals as goal
 

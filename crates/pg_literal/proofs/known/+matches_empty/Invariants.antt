@@ -1,6 +1,6 @@
 use Rattle.std.proofs.Common.{◌≤◌}
-use Rattle.pg_syntax.specs.Trees.{pattern}
-use Rattle.pg_syntax.specs.declared.tree.Tree.{size-Tree}
+use Rattle.pg_pattern.specs.Trees.{pattern}
+use Rattle.pg_pattern.specs.declared.tree.Tree.{size-Tree}
 use Rattle.pg_literal.specs.Known.{MatchesEmpty}
 use Rattle.pg_literal.proofs.known.+matches_empty.Given as goal
 

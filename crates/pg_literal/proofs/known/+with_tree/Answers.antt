@@ -1,7 +1,7 @@
 use Rattle.std.proofs.Common.{inl, inr, rules}
-use Rattle.pg_syntax.specs.declared.tree.Tree.{the_lemmas}
-use Rattle.pg_match.proofs.PatternLemmas.{pattern-empty, pattern-set, pattern-begin, pattern-end}
-use Rattle.pg_match.proofs.PatternLemmas.{pattern-cat, pattern-alt, pattern-rep}
+use Rattle.pg_pattern.specs.declared.tree.Tree.{the_lemmas}
+use Rattle.pg_pattern.proofs.PatternLemmas.{pattern-empty, pattern-set, pattern-begin, pattern-end}
+use Rattle.pg_pattern.proofs.PatternLemmas.{pattern-cat, pattern-alt, pattern-rep}
 use Rattle.pg_literal.proofs.KnownLemmas.{extends_empty, extends_cat, extends_alt, extends_rep}
 use Rattle.pg_literal.proofs.known.+with_tree.Goals as goal
 

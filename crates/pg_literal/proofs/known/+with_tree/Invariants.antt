@@ -1,6 +1,6 @@
 use Rattle.std.proofs.Common.{◌≤◌, Bool}
-use Rattle.pg_syntax.specs.Trees.{pattern}
-use Rattle.pg_syntax.specs.declared.tree.Tree.{size-Tree}
+use Rattle.pg_pattern.specs.Trees.{pattern}
+use Rattle.pg_pattern.specs.declared.tree.Tree.{size-Tree}
 use Rattle.pg_literal.specs.Known.{Extends}
 use Rattle.pg_literal.specs.declared.known.Known.{Known}
 use Rattle.pg_literal.proofs.known.+with_tree.Given as goal

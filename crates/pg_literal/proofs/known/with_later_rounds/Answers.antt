@@ -1,5 +1,5 @@
 use Rattle.std.proofs.Common.{◌-◌, arith, rules, refl}
-use Rattle.pg_match.proofs.PatternLemmas.{pattern-set}
+use Rattle.pg_pattern.proofs.PatternLemmas.{pattern-set}
 use Rattle.pg_literal.proofs.KnownLemmas.{extends_rounds}
 use Rattle.pg_literal.proofs.known.with_later_rounds.Goals as goal
 

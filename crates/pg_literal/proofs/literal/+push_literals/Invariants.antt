@@ -1,7 +1,7 @@
 use Rattle.std.proofs.Common.{◌≡◌, ◌≤◌, ℕ, List}
 use Rattle.pg_syntax.specs.Grammar.{Spells}
-use Rattle.pg_syntax.specs.Trees.{pattern}
-use Rattle.pg_syntax.specs.declared.tree.Tree.{size-Tree}
+use Rattle.pg_pattern.specs.Trees.{pattern}
+use Rattle.pg_pattern.specs.declared.tree.Tree.{size-Tree}
 use Rattle.pg_syntax.specs.declared.pattern_list.Kind.TheVariants.{Fixed}
 use Rattle.pg_literal.specs.Added.{Adds}
 use Rattle.pg_literal.specs.declared.literal.Literal.{Literal}

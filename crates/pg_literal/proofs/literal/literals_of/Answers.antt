@@ -1,6 +1,6 @@
 use Rattle.std.proofs.Common.{◌≡◌, ◌<◌, ℕ, List, [], length, get_or, map, subst, arith, rules}
 use Rattle.std.proofs.lemmas.List.{length-map, take_all}
-use Rattle.pg_syntax.specs.Trees.{pattern}
+use Rattle.pg_pattern.specs.Trees.{pattern}
 use Rattle.pg_literal.specs.Literals.{as_searched, AreTexts}
 use Rattle.pg_literal.proofs.LiteralLemmas.{hit_alone, hit_alone_at, pattern_among, text_spells, zip_length}
 use Rattle.pg_literal.proofs.LiteralLemmas.{needed_more, heads_more, enough_more, exact_more, texts_more}

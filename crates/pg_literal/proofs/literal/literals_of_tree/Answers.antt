@@ -1,5 +1,5 @@
 use Rattle.std.proofs.Common.{List, subst, arith, rules}
-use Rattle.pg_syntax.specs.Trees.{pattern}
+use Rattle.pg_pattern.specs.Trees.{pattern}
 use Rattle.pg_literal.specs.Added.{Adds}
 use Rattle.pg_literal.specs.declared.literal.Literal.{Literal}
 use Rattle.pg_literal.proofs.InnerLemmas.{part_self, adds_within}

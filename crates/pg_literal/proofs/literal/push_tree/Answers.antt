@@ -1,6 +1,6 @@
 use Rattle.std.proofs.Common.{List, ◌-◌, take, drop, subst}
 use Rattle.pg_bytes.specs.declared.byte_set.ByteSet.{ByteSet}
-use Rattle.pg_syntax.specs.Trees.{pattern}
+use Rattle.pg_pattern.specs.Trees.{pattern}
 use Rattle.pg_literal.specs.Rows.{row_of, Multiplies}
 use Rattle.pg_literal.proofs.LiteralLemmas.{adds_row, adds_text, chosen_serves, unspelled}
 use Rattle.pg_literal.proofs.literal.push_tree.Goals as goal

@@ -1,13 +1,13 @@
 use Rattle.std.proofs.lemmas.Result.{IfOk-from_err}
 use Rattle.std.proofs.Common.{◌≡◌, ◌≢◌, ℕ, ◌+◌, ◌-◌, ◌*◌, ◌<◌, ◌≤◌, length, arith, refl, rules}
 use Rattle.pg_bytes.specs.declared.byte_set.ByteSet.{ByteSet}
-use Rattle.pg_syntax.specs.Patterns.{Empty, Set, Begin, End, Rep}
-use Rattle.pg_syntax.specs.Trees.{pattern}
-use Rattle.pg_syntax.specs.declared.tree.Tree.{the_lemmas}
+use Rattle.pg_pattern.specs.Patterns.{Empty, Set, Begin, End, Rep}
+use Rattle.pg_pattern.specs.Trees.{pattern}
+use Rattle.pg_pattern.specs.declared.tree.Tree.{the_lemmas}
 use Rattle.pg_match.specs.Sizes.{size_of}
 use Rattle.pg_match.specs.declared.state.State.TheVariants.{Accept, Jump, Read, AtBegin, AtEnd}
-use Rattle.pg_match.proofs.PatternLemmas.{pattern-empty, pattern-set, pattern-begin, pattern-end, pattern-cat}
-use Rattle.pg_match.proofs.PatternLemmas.{pattern-alt, pattern-rep}
+use Rattle.pg_pattern.proofs.PatternLemmas.{pattern-empty, pattern-set, pattern-begin, pattern-end, pattern-cat}
+use Rattle.pg_pattern.proofs.PatternLemmas.{pattern-alt, pattern-rep}
 use Rattle.pg_match.proofs.TableLemmas.{pushed_length, pushed_keeps, pushed_tidy, copy_added, option_added, rest_added}
 use Rattle.pg_match.proofs.GapLemmas.{hole_kept, hole_any, gap_any, has_cat, completes_cat, completes_narrowed}
 use Rattle.pg_match.proofs.GapLemmas.{finished, finished_leaf, nothing_added, narrowed_at, choice_narrowed}

@@ -1,5 +1,5 @@
 use Rattle.std.proofs.Common.{map}
-use Rattle.pg_syntax.specs.Trees.{pattern}
+use Rattle.pg_pattern.specs.Trees.{pattern}
 use Rattle.pg_match.specs.Tables.{HasFirst}
 use Rattle.pg_match.proofs.build.assemble.Given as goal
 

@@ -1,9 +1,9 @@
 use Rattle.std.proofs.Common.{◌+◌, ◌*◌, min, sym, ap, ◌∙◌, arith, rules}
-use Rattle.pg_syntax.specs.Trees.{pattern}
-use Rattle.pg_syntax.specs.Patterns.{Rep}
-use Rattle.pg_syntax.specs.declared.tree.Tree.{the_lemmas}
+use Rattle.pg_pattern.specs.Trees.{pattern}
+use Rattle.pg_pattern.specs.Patterns.{Rep}
+use Rattle.pg_pattern.specs.declared.tree.Tree.{the_lemmas}
 use Rattle.pg_match.specs.Sizes.{size_of}
-use Rattle.pg_match.proofs.PatternLemmas.{pattern-cat, pattern-alt, pattern-rep}
+use Rattle.pg_pattern.proofs.PatternLemmas.{pattern-cat, pattern-alt, pattern-rep}
 use Rattle.pg_match.proofs.SizeLemmas.{cut_part, cut_choice, cut_loop, cut_copies}
 use Rattle.pg_match.proofs.size.+size.Goals as goal
 

@@ -1,7 +1,7 @@
 use Rattle.std.proofs.Common.{◌≡◌, ◌+◌, ◌*◌, ◌≤◌, min}
-use Rattle.pg_syntax.specs.Patterns.{IsProper}
-use Rattle.pg_syntax.specs.Trees.{pattern}
-use Rattle.pg_syntax.specs.declared.tree.Tree.{size-Tree}
+use Rattle.pg_pattern.specs.Patterns.{IsProper}
+use Rattle.pg_pattern.specs.Trees.{pattern}
+use Rattle.pg_pattern.specs.declared.tree.Tree.{size-Tree}
 use Rattle.pg_match.specs.Sizes.{size_of}
 use Rattle.pg_match.proofs.size.+size.Given as goal
 

@@ -1,7 +1,7 @@
 use Rattle.std.proofs.Common.{length, map, arith, refl, ap, ◌∙◌}
 use Rattle.std.specs.Prelude.{option_map}
 use Rattle.std.proofs.lemmas.Option.{slice_get_read, slice_get-map}
-use Rattle.pg_syntax.specs.Trees.{pattern}
+use Rattle.pg_pattern.specs.Trees.{pattern}
 use Rattle.pg_match.proofs.BuildLemmas.{each_proper, more_size}
 use Rattle.pg_match.proofs.size.list_size.Goals as goal
 use Rattle.pg_match.proofs.size.list_size.Goals.{then-i-eq0, else-i-eq0}

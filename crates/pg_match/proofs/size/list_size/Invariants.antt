@@ -1,5 +1,5 @@
 use Rattle.std.proofs.Common.{◌≡◌, ◌+◌, ◌-◌, min, take, sum_by, map}
-use Rattle.pg_syntax.specs.Trees.{pattern}
+use Rattle.pg_pattern.specs.Trees.{pattern}
 use Rattle.pg_match.specs.Sizes.{size_of}
 use Rattle.pg_match.proofs.size.list_size.Given as goal
 

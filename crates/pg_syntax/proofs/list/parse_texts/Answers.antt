@@ -1,5 +1,5 @@
 use Rattle.std.proofs.Common.{◌≡◌, ◌+◌, length, map, arith}
-use Rattle.pg_syntax.specs.Trees.{pattern}
+use Rattle.pg_pattern.specs.Trees.{pattern}
 use Rattle.pg_syntax.specs.Slices.{bytes_of}
 use Rattle.pg_syntax.proofs.ListLemmas.{trees-more, memory-refused, first-refused}
 use Rattle.std.proofs.lemmas.List.{length-map}

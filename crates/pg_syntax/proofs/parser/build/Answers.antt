@@ -1,7 +1,7 @@
 use Rattle.std.proofs.Common.{drop, refl, arith, subst, ◌∙◌, sym, ap, inr}
 use Rattle.std.proofs.lemmas.List.{drop_all}
 use Rattle.std.proofs.lemmas.Result.{err_from_is_err_and}
-use Rattle.pg_syntax.specs.Trees.{pattern_of}
+use Rattle.pg_pattern.specs.Trees.{pattern_of}
 use Rattle.pg_syntax.proofs.Onward.{Leads, begin}
 use Rattle.pg_syntax.specs.States.{state_of}
 use Rattle.pg_syntax.specs.Tokens.{token_of}

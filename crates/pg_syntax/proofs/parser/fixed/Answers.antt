@@ -1,7 +1,7 @@
-use Rattle.std.proofs.Common.{◌≡◌, length, arith, subst, ◌∙◌, sym}
+use Rattle.std.proofs.Common.{◌≡◌, length, arith, subst, ◌∙◌, sym, refl}
 use Rattle.pg_syntax.specs.Results.{IsSpelled}
 use Rattle.pg_syntax.specs.declared.pattern_list.Kind.TheVariants.{Fixed}
-use Rattle.pg_syntax.proofs.TreeLemmas.{pattern-empty}
+use Rattle.pg_pattern.proofs.PatternLemmas.{pattern-empty}
 use Rattle.std.proofs.lemmas.Bool.{eqb-true}
 use Rattle.pg_syntax.proofs.Literals.{empty_spelled, literal_spelled}
 use Rattle.pg_syntax.proofs.TokenLoop.{empty_text}
@@ -11,7 +11,7 @@ pub returns-then-is_empty-clause-spelled : goal.returns-then-is_empty-clause-spe
 returns-then-is_empty-clause-spelled g c =
     let text = c.args.text.now in
     let none : length text ≡ 0 = eqb-true _ _ (sym c.is_empty.ensures ∙ c.if-is_empty.true) in
-    subst (IsSpelled Fixed c.args.fold text) (sym (pattern-empty _))
+    subst (IsSpelled Fixed c.args.fold text) (sym (pattern-empty _ refl))
     (empty_spelled c.args.fold text (empty_text text none))
 
 pub returns-clause-spelled : goal.returns-clause-spelled

@@ -1,6 +1,6 @@
 use Rattle.std.proofs.Common.{take}
 use Rattle.pg_syntax.specs.Grammar.{Literal}
-use Rattle.pg_syntax.specs.Trees.{pattern}
+use Rattle.pg_pattern.specs.Trees.{pattern}
 use Rattle.pg_syntax.proofs.parser.literal.Given as goal
 
 abbrev pub invariant-loop-at : goal.invariant-loop-at

@@ -1,12 +1,12 @@
-use Rattle.std.proofs.Common.{subst, sym}
+use Rattle.std.proofs.Common.{subst, sym, refl}
 use Rattle.pg_syntax.specs.Results.{IsSpelled}
 use Rattle.pg_syntax.specs.Expressions.{kind_of}
-use Rattle.pg_syntax.proofs.TreeLemmas.{pattern-empty}
+use Rattle.pg_pattern.proofs.PatternLemmas.{pattern-empty}
 use Rattle.pg_syntax.proofs.TokenLoop.{empty_spelled, empty_text}
 use Rattle.pg_syntax.proofs.parser.parse.Goals as goal
 
 pub returns-then-len-eq0-clause-spelled : goal.returns-then-len-eq0-clause-spelled
 returns-then-len-eq0-clause-spelled g c =
     let source = c.args.source in
-    subst (IsSpelled (kind_of source.syntax) source.fold source.text.now) (sym (pattern-empty _))
+    subst (IsSpelled (kind_of source.syntax) source.fold source.text.now) (sym (pattern-empty _ refl))
     (empty_spelled _ _ source.text.now (empty_text source.text.now c.if-len-eq0.true))

@@ -1,6 +1,6 @@
 use Rattle.std.proofs.Common.{Bool}
 use Rattle.pg_bytes.specs.ByteSets.{bytes}
-use Rattle.pg_syntax.specs.Patterns.{Set}
+use Rattle.pg_pattern.specs.Patterns.{Set}
 use Rattle.pg_literal.specs.Known.{Repeats}
 use Rattle.pg_literal.proofs.known.Known.with_sets.Given as goal
 

@@ -1,7 +1,7 @@
 use Rattle.std.proofs.Common.{◌≡◌, ℕ, Bool, not, Option, None, Some, false, ◌<◌, ◌∙◌, ap, arith, inl, inr, refl, sym}
 use Rattle.std.proofs.Common.{true≢false}
 use Rattle.std.specs.Prelude.{is_none, is_some}
-use Rattle.pg_match.specs.Bounds.{MayBegin}
+use Rattle.pg_pattern.specs.Bounds.{MayBegin}
 use Rattle.pg_match.specs.Views.{nfa, members}
 use Rattle.pg_match.proofs.StartLemmas.{seeded, unseeded}
 use Rattle.pg_match.proofs.automaton.Automaton.advance.Goals as goal

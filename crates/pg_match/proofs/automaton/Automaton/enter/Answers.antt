@@ -1,6 +1,6 @@
 use Rattle.std.proofs.Common.{◌∙◌, ◌<◌, arith, refl, sym, subst}
 use Rattle.std.specs.Prelude.{None}
-use Rattle.pg_match.specs.Bounds.{MayBegin, MayEnd}
+use Rattle.pg_pattern.specs.Bounds.{MayBegin, MayEnd}
 use Rattle.pg_match.specs.Searches.{Alive, start_bound}
 use Rattle.pg_match.specs.Views.{nfa, members}
 use Rattle.pg_match.proofs.SearchLemmas.{alive_first, alive_begun, start_later}

@@ -1,6 +1,6 @@
 use Rattle.std.proofs.Common.{◌+◌, ℕ, Some, length, subst, arith}
 use Rattle.std.specs.Option.{IfSome}
-use Rattle.pg_match.specs.Bounds.{MayBegin, MayEnd}
+use Rattle.pg_pattern.specs.Bounds.{MayBegin, MayEnd}
 use Rattle.pg_match.specs.Searches.{IsBest}
 use Rattle.pg_match.specs.Views.{nfa}
 use Rattle.pg_match.proofs.AnchoredLemmas.{best_behind}

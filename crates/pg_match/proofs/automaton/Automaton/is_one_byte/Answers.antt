@@ -1,6 +1,6 @@
 use Rattle.std.proofs.Common.{◌∙◌, ◌+◌, get_or, arith, sym, true≢false}
 use Rattle.std.proofs.lemmas.Option.{slice_get-get_or}
-use Rattle.pg_match.specs.Bounds.{MayBegin, MayEnd}
+use Rattle.pg_pattern.specs.Bounds.{MayBegin, MayEnd}
 use Rattle.pg_match.specs.Views.{nfa}
 use Rattle.pg_match.proofs.SkimLemmas.{best_one}
 use Rattle.pg_match.proofs.automaton.Automaton.is_one_byte.Goals as goal

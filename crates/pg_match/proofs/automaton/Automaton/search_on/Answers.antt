@@ -3,7 +3,7 @@ use Rattle.std.proofs.Common.{false, true≢false, IsTrue}
 use Rattle.std.specs.Prelude.{slice_get}
 use Rattle.std.proofs.lemmas.Option.{slice_get-get_or}
 use Rattle.pg_match.specs.Automata.{Nfa, IsRunnable}
-use Rattle.pg_match.specs.Bounds.{MayBegin}
+use Rattle.pg_pattern.specs.Bounds.{MayBegin}
 use Rattle.pg_match.specs.Closures.{AreSeeds}
 use Rattle.pg_match.specs.Stands.{Stands}
 use Rattle.pg_match.specs.Starts.{WithSeeds, GoesOn, StandsUnseeded}

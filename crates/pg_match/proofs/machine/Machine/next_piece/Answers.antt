@@ -1,10 +1,10 @@
 use Rattle.std.proofs.Common.{ap, ◌∙◌, subst}
 use Rattle.std.specs.Prelude.{MatchOption}
 use Rattle.pg_match.specs.Automata.{Nfa}
-use Rattle.pg_match.specs.Hits.{HasNoNext, IsNext}
+use Rattle.pg_pattern.specs.Hits.{HasNoNext, IsNext}
 use Rattle.pg_match.specs.Machines.{Agrees}
 use Rattle.pg_match.specs.Views.{nfa}
-use Rattle.pg_match.specs.declared.bounds.Bounds.{Bounds}
+use Rattle.pg_pattern.specs.declared.bounds.Bounds.{Bounds}
 use Rattle.pg_match.proofs.machine.Machine.next_piece.Goals as goal
 
 pub next_piece-requires-clause-short : goal.next_piece-requires-clause-short

@@ -1,9 +1,9 @@
 use Rattle.std.proofs.Common.{◌↔◌, ap, ◌∙◌, subst, IsTrue}
 use Rattle.pg_match.specs.Automata.{Nfa}
-use Rattle.pg_match.specs.Hits.{HasHit}
+use Rattle.pg_pattern.specs.Hits.{HasHit}
 use Rattle.pg_match.specs.Machines.{Agrees}
 use Rattle.pg_match.specs.Views.{nfa}
-use Rattle.pg_match.specs.declared.bounds.Bounds.{Bounds}
+use Rattle.pg_pattern.specs.declared.bounds.Bounds.{Bounds}
 use Rattle.pg_match.proofs.machine.Machine.selects.Goals as goal
 
 pub returns-clause-exact : goal.returns-clause-exact

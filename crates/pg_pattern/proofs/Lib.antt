@@ -1,0 +1,5 @@
+pub mod HitLaws
+pub mod TestLemmas
+pub mod PartLaws
+pub mod Examples
+pub mod PatternLemmas

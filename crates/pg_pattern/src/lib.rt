@@ -1,0 +1,13 @@
+//! Patterns as trees, and which spans of a line they match.
+//!
+//! The definitions say which spans a tree matches (XBD 9.3 and 9.4), which of these are hits where -w or -x is given
+//! (XCU grep), and which parts of a line -o shows (GNU grep). `pg_syntax` reads texts to trees, and `pg_match` finds
+//! hits; neither needs the other.
+#![tactic(auto)]
+
+mod bounds;
+pub mod laws;
+mod tree;
+
+pub use bounds::{Bounds, is_word_byte};
+pub use tree::Tree;
