@@ -8,7 +8,7 @@ are applied at once to a copy of the crate, of which these functions alone are c
 bodies that never return, with a hole for a proof. A caller sees a function's contract alone, so it misses nothing; and
 each wrong function must be refused by a message of its own: an open goal on one of its lines, or an answer of its proof
 that doesn't fit its goal. A proof that only misses a name refuses nothing. An edit of a law, whose contract it turns, is
-in no group with a function that may call it, and one that touches what functions share, as a type or a constant, in
+in no group with one that has its name, as a caller has, and one that touches what functions share, as a type or a constant, in
 none with others; one that turns no function names that which has to refuse it, by a line `refused by: NAME`. An edit
 without a refusal of its own is tried by itself, and if it has none then either its whole crate is checked, without
 stubs, and any open goal counts.
@@ -72,8 +72,8 @@ class Edit:
     path: pathlib.Path
     pairs: list = field(default_factory=list)
     functions: list = field(default_factory=list)
-    # Those of the functions whose contracts it touches.
-    stated: list = field(default_factory=list)
+    # Names that say something else with it: of functions whose contracts it touches, and those that it imports.
+    changed: set = field(default_factory=set)
     # The edit touches what functions share: a type, a constant, or the contract of a method, which a loop, an operator
     # or a value that is dropped may call without its name.
     is_wider: bool = False
@@ -122,15 +122,16 @@ def place_edit(edit, folder):
     """Reads the edit, and finds the functions that it touches, and those that it names."""
     edit.pairs = read_pairs(edit.path)
     _, places = applied(edit.pairs, {}, folder)
-    for file, line in places:
+    for pair, (file, line) in zip(edit.pairs, places):
         if file.startswith("proofs/"):
             continue
         text = (folder / file).read_text(encoding="utf-8")
         around = [it for it in functions_of(file, text) if it.first <= line <= it.last]
-        stated = [it for it in around if line < it.body]
-        edit.is_wider |= not around and not is_imported(text, line) or any("/" in it.name for it in stated)
+        stated = [it.name for it in around if line < it.body]
+        imported = set() if around else names_imported(text, line, pair)
+        edit.is_wider |= not around and not imported or any("/" in it for it in stated)
         edit.functions += [it for it in around if it not in edit.functions]
-        edit.stated += [it for it in stated if it not in edit.stated]
+        edit.changed |= {*stated, *imported}
     for name in re.findall(r"(?m)^refused by: (\S+)$", edit.path.read_text(encoding="utf-8")):
         found = functions_shown_as(name, folder)
         if len(found) != 1:
@@ -138,26 +139,29 @@ def place_edit(edit, folder):
         edit.functions += found
 
 
-def is_imported(text, line):
-    """Whether a line, counted from 1, belongs to an item of imports. Further names there change no function."""
-    lines = text.split("\n")
-    while line > 1 and lines[line - 2].startswith((" ", "use ", "ghost use ")) and not lines[line - 2].endswith(";"):
-        line -= 1
-    return lines[line - 1].startswith(("use ", "ghost use "))
+def names_imported(text, line, pair):
+    """The names that an edit adds to the imports of definitions at a line, counted from 1; none where it is no such
+    line, or where it takes names away."""
+    old, new = (re.findall(r"[^\s.,{};]+", it) for it in (pair.old, pair.new))
+    is_import = text.split("\n")[line - 1].startswith("ghost use ")
+    return set(new) - set(old) if is_import and set(old) <= set(new) else set()
 
 
-def is_named(function, by, folder):
-    """Whether the code of another function has a function's name, so that it may be a caller."""
-    lines = (folder / by.file).read_text(encoding="utf-8").split("\n")[by.first - 1 : by.last]
-    return any(re.search(rf"\b{function.name}\b", it.partition("//")[0]) for it in lines)
+def words_of(edit, folder):
+    """The words of the functions that an edit turns, as they are and as it turns them, without comments."""
+    code = [it.new for it in edit.pairs if it.file.startswith("src/")]
+    for function in edit.functions:
+        code += (folder / function.file).read_text(encoding="utf-8").split("\n")[function.first - 1 : function.last]
+    return {word for line in code for word in re.findall(r"\w+|[^\s\w]+", line.partition("//")[0])}
 
 
 def are_apart(one, other, folder):
-    """Whether two edits may be applied at once: what refuses the one has nothing to do with the other."""
+    """Whether two edits may be applied at once: what refuses the one has nothing to do with the other, which neither
+    turns the same function nor has a name that says something else with the first, as a caller has."""
     if one.is_wider or other.is_wider or set(one.functions) & set(other.functions):
         return False
-    pairs = [(it, by) for first, then in ((one, other), (other, one)) for it in first.stated for by in then.functions]
-    return not any(is_named(it, by, folder) for it, by in pairs)
+    pairs = ((one, other), (other, one))
+    return not any(first.changed and first.changed & words_of(then, folder) for first, then in pairs)
 
 
 def groups_of(edits, folder):

@@ -82,7 +82,7 @@ fn is_above(least: u8, most: Option<u8>) -> bool
 }
 
 impl<A: Allocator + Copy> Tree<A> {
-    /// The first, followed by the second.
+    /// The first, followed by the second. `AllocError` where a request for memory is refused; both are dropped then.
     pub fn cat(alloc: A, first: Tree<A>, second: Tree<A>) -> Result<Tree<A>, AllocError>
         ensures { IfOk result (λ tree. pattern tree ≡ Cat (pattern first) (pattern second)) }
     {
@@ -91,7 +91,7 @@ impl<A: Allocator + Copy> Tree<A> {
         Ok(Tree::Cat(first, second))
     }
 
-    /// One of the two.
+    /// One of the two. `AllocError` where a request for memory is refused; both are dropped then.
     pub fn alt(alloc: A, first: Tree<A>, second: Tree<A>) -> Result<Tree<A>, AllocError>
         ensures { IfOk result (λ tree. pattern tree ≡ Alt (pattern first) (pattern second)) }
     {
